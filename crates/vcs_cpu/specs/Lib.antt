@@ -1,0 +1,10 @@
+pub mod Device
+pub mod Status
+pub mod Rows
+pub mod BitFields
+pub mod Operands
+pub mod Arithmetic
+pub mod Effects
+pub mod Steps
+pub mod Cycles
+pub mod Lines
