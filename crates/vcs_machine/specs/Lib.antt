@@ -1,0 +1,9 @@
+pub mod Bus
+pub mod Cart
+pub mod Equality
+pub mod Frame
+pub mod Input
+pub mod Machine
+pub mod Step
+pub mod TraceText
+pub mod Sending

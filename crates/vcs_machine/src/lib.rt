@@ -1,0 +1,19 @@
+//! The console: a cartridge, the 6507, the RIOT and the TIA on one bus, played frame by frame.
+#![tactic(auto)]
+
+mod bus;
+mod cart;
+mod frame;
+mod input;
+mod meter;
+mod outbox;
+mod playback;
+mod state;
+mod tracing;
+
+pub use cart::{Cart, CartError};
+pub use input::{Input, Stick};
+pub use meter::Meter;
+pub use playback::play;
+pub use state::State;
+pub use tracing::trace;

@@ -1,0 +1,10 @@
+pub mod Traces
+pub mod Pixels
+pub mod Writes
+pub mod Collisions
+pub mod Lists
+pub mod Bits
+pub mod Playfields
+pub mod Spans
+pub mod Parts
+pub mod Images

@@ -1,0 +1,14 @@
+pub mod Units
+pub mod Objects
+pub mod Playfield
+pub mod Beam
+pub mod Register
+pub mod Tia
+pub mod Collisions
+pub mod Picture
+pub mod Trace
+pub mod Image
+pub mod Rows
+pub mod RowsBack
+pub mod Words
+pub mod Spans
