@@ -6,16 +6,30 @@ mod words;
 use crate::words::{Task, read_words};
 use clap::error::ErrorKind;
 use std::alloc::Global;
-use std::io;
+use std::fs::File;
 use std::process::ExitCode;
-use tas_tool::{ToolFault, trace_run};
+use std::{fs, io};
+use tas_tool::{ToolFault, check_run, shot_run, trace_run};
+
+/// Opens the file of a cartridge.
+fn open(rt: &HostRuntime, path: &str) -> Result<File, ToolFault> {
+    fs::open(rt, path).map_err(|_| ToolFault::Read)
+}
 
 /// Does what the words ask for.
-fn run_task(rt: &HostRuntime, alloc: Global, task: Task) -> Result<(), ToolFault> {
+fn run_task(rt: &HostRuntime, alloc: Global, task: Task<'_>) -> Result<(), ToolFault> {
     let mut input = rt.stdin();
     let mut output = rt.stdout();
     match task {
         Task::Trace { instructions } => trace_run(alloc, instructions, &mut input, &mut output),
+        Task::Check { cart } => {
+            let mut file = open(rt, cart)?;
+            check_run(alloc, &mut file, &mut input, &mut output)
+        }
+        Task::Shot { cart, frame } => {
+            let mut file = open(rt, cart)?;
+            shot_run(alloc, frame as usize, &mut file, &mut input, &mut output)
+        }
     }
 }
 

@@ -10,13 +10,28 @@ use std::alloc::{AllocError, Global};
 /// The most instructions of one trace.
 const MAX_INSTRUCTIONS: u32 = 1_000_000;
 
+/// The greatest number of a frame.
+const MAX_FRAME: u32 = 9_999_999;
+
 /// What the program is to do.
 #[derive(Clone, Copy, Debug, PartialEq, Eq)]
-pub(crate) enum Task {
+pub(crate) enum Task<'a> {
     /// Trace the first instructions of the cartridge on standard input.
     Trace {
         /// How many, 0 to 1,000,000.
         instructions: u32,
+    },
+    /// Tell the length of the movie on standard input.
+    Check {
+        /// The name of the cartridge's file.
+        cart: &'a str,
+    },
+    /// Draw a frame of the movie on standard input.
+    Shot {
+        /// The name of the cartridge's file.
+        cart: &'a str,
+        /// The frame, counted from 0, up to 9,999,999.
+        frame: u32,
     },
 }
 
@@ -29,6 +44,14 @@ fn number<'a>(alloc: Global, name: &'a str, help: &'a str, least: u32, most: u32
         .help(help)
 }
 
+/// The required word that names the cartridge's file.
+fn cartridge<'a>(alloc: Global) -> Arg<'a> {
+    Arg::new(alloc, "CART")
+        .required(true)
+        .action(ArgAction::Set)
+        .help("The cartridge's file: its image of 4096 bytes")
+}
+
 static TRACE_HELP: &str = "\
 Standard input is the cartridge: its image of 4096 bytes, as an assembler writes it.
 Standard output has one line for each instruction from power-on, with nothing pressed:
@@ -36,7 +59,26 @@ its address, its opcode, the registers A X Y S P after it, and its CPU cycles.
 A byte that is no documented opcode ends the trace with a line such as 'F006 02 halt'.
 
 Example:
-  tas trace 3 < examples/counter.bin";
+  examples/cart counter | tas trace 3";
+
+static CHECK_HELP: &str = "\
+Standard input is the movie text: a line 'a26movie 1', a line 'cart ' with the SHA-256 of the
+cartridge, and a line for each frame such as 'R.... ..... .....'.
+Standard output is 'ok F frames', where the text is one of a movie of F frames with this cartridge.
+Otherwise the first line at fault is told.
+
+Example:
+  examples/cart joystick > joystick.bin
+  tas check joystick.bin < examples/joystick.movie";
+
+static SHOT_HELP: &str = "\
+Standard input is the movie text, as for 'tas check'.
+Standard output is the picture of frame K, 160 by 210 pixels as a binary portable pixmap (P6),
+replayed from power-on.
+
+Example:
+  examples/cart joystick > joystick.bin
+  tas shot joystick.bin 60 < examples/joystick.movie > frame60.ppm";
 
 static TAS_HELP: &str = "\
 Each command reads standard input whole before it writes anything to standard output.
@@ -56,15 +98,34 @@ fn trace_command<'a>(alloc: Global) -> Result<Command<'a>, AllocError> {
         ))
 }
 
+/// `tas check`.
+fn check_command<'a>(alloc: Global) -> Result<Command<'a>, AllocError> {
+    Command::new(alloc, "check")
+        .about("Checks a movie text and tells its length")
+        .after_help(CHECK_HELP)
+        .arg(cartridge(alloc))
+}
+
+/// `tas shot`.
+fn shot_command<'a>(alloc: Global) -> Result<Command<'a>, AllocError> {
+    Command::new(alloc, "shot")
+        .about("Writes the picture of one frame of a movie")
+        .after_help(SHOT_HELP)
+        .arg(cartridge(alloc))?
+        .arg(number(alloc, "K", "The frame, counted from 0", 0, MAX_FRAME))
+}
+
 /// The program's command line.
 fn command<'a>(alloc: Global) -> Result<Command<'a>, AllocError> {
     Command::new(alloc, "tas")
         .bin_name("tas")?
-        .about("Replays cartridges of the Atari 2600, exactly and from power-on")
+        .about("Replays movies of Atari 2600 cartridges, exactly and from power-on")
         .after_help(TAS_HELP)
         .subcommand_required(true)
         .disable_help_subcommand(true)
-        .subcommand(trace_command(alloc)?)
+        .subcommand(trace_command(alloc)?)?
+        .subcommand(check_command(alloc)?)?
+        .subcommand(shot_command(alloc)?)
 }
 
 /// A number that the command line has checked.
@@ -79,20 +140,33 @@ fn number_of(matches: &ArgMatches<'_>, name: &str, least: u32, most: u32) -> u32
     }
 }
 
+/// The name of the cartridge's file.
+fn cartridge_of<'a>(matches: &ArgMatches<'a>) -> &'a str {
+    matches.get_str("CART").unwrap_or("")
+}
+
 /// What matched words ask for.
-fn task_of(matches: &ArgMatches<'_>) -> Task
+fn task_of<'a>(matches: &ArgMatches<'a>) -> Task<'a>
     ensures { IsInRange result }
 {
-    let instructions = match matches.subcommand() {
-        Some(("trace", rest)) => number_of(rest, "N", 0, MAX_INSTRUCTIONS),
-        _ => 0,
-    };
-    Task::Trace { instructions }
+    match matches.subcommand() {
+        Some(("check", rest)) => Task::Check {
+            cart: cartridge_of(rest),
+        },
+        Some(("shot", rest)) => Task::Shot {
+            cart: cartridge_of(rest),
+            frame: number_of(rest, "K", 0, MAX_FRAME),
+        },
+        Some((_, rest)) => Task::Trace {
+            instructions: number_of(rest, "N", 0, MAX_INSTRUCTIONS),
+        },
+        None => Task::Trace { instructions: 0 },
+    }
 }
 
 /// What the words ask for. An error is clap's: help that was asked for, or words that aren't
 /// understood, or no memory.
-pub(crate) fn read_words(alloc: Global, words: &[String]) -> Result<Task, Error>
+pub(crate) fn read_words<'a>(alloc: Global, words: &'a [String]) -> Result<Task<'a>, Error>
     ensures { IfOk result IsInRange }
 {
     let matches = command(alloc)?.try_get_matches_from(words)?;

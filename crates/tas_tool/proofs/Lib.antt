@@ -1,1 +1,2 @@
 pub mod ReadLengths
+pub mod EngineEnds

@@ -1,3 +1,4 @@
 pub mod Input
+pub mod Movies
 pub mod Output
 pub mod Tracing

@@ -4,14 +4,18 @@ use Rattle.std.specs.Io.KnownBytes.{Appends, Keeps}
 use Rattle.tas_tool.specs.declared.fault.ToolFault.{ToolFault}
 use Rattle.tas_tool.specs.declared.fault.ToolFault.TheVariants.{Write}
 
--- a write failed: the bytes are an answer, only the first ones went out, and the fault tells how many
-pub record BreaksOff (answers : Result (List ℕ) ToolFault → Type 0) (old new : Option (List ℕ)) (fault : ToolFault) : Type 0 where
-  pub bytes : List ℕ
-  pub answer : answers (Ok bytes)
+-- a write failed: only the first bytes went out, and the fault tells how many
+pub record StopsWriting (old new : Option (List ℕ)) (bytes : List ℕ) (fault : ToolFault) : Type 0 where
   pub written : ℕ
   pub is_write : fault ≡ Write written
   pub rest_is_missing : written < length bytes
   pub front : Appends old new (take written bytes)
+
+-- a write of an answer failed
+pub record BreaksOff (answers : Result (List ℕ) ToolFault → Type 0) (old new : Option (List ℕ)) (fault : ToolFault) : Type 0 where
+  pub bytes : List ℕ
+  pub answer : answers (Ok bytes)
+  pub stops : StopsWriting old new bytes fault
 
 -- how an engine ends: its answer is written; or a fault is its answer, and nothing is written; or a write failed
 abbrev pub Ends : (Result (List ℕ) ToolFault → Type 0) → Option (List ℕ) → Option (List ℕ) → Result (Unit {0}) ToolFault → Type 0

@@ -1,6 +1,7 @@
 //! Why an engine ended without its answer.
 #![tactic(auto)]
 
+use tas_movie::TextError;
 use thiserror::Error;
 
 /// Why an engine ended without its answer. Its text is the line, without the newline, that the
@@ -22,6 +23,25 @@ pub enum ToolFault {
     /// The cartridge hasn't 4,096 bytes, but so many. Nothing was written.
     #[error("fault: cartridge has {0} bytes")]
     Size(usize),
+    /// The bytes aren't the text of a movie with the cartridge. Nothing was written.
+    #[error("fault: {0}")]
+    Text(TextError),
+    /// The movie has no such frame. Nothing was written.
+    #[error("fault: no frame {frame} of {len}")]
+    NoFrame {
+        /// The frame that was asked for, counted from 0.
+        frame: usize,
+        /// The movie's length in frames.
+        len: usize,
+    },
+    /// The machine is halted in the frame that was asked for. Nothing was written.
+    #[error("fault: halted at {at:04X} by {opcode:02X}")]
+    Halted {
+        /// The address of the undocumented byte.
+        at: u16,
+        /// The byte.
+        opcode: u8,
+    },
     /// Memory was refused. Nothing was written.
     #[error("fault: out of memory")]
     Memory,

@@ -6,12 +6,20 @@
 //! it read, or it ends with a [`ToolFault`] whose cause holds.
 #![tactic(auto)]
 
+mod checking;
 mod fault;
+mod movies;
 mod reading;
+mod shooting;
 #[cfg(test)]
 mod tests;
 mod tracing;
+mod writing;
 
+pub use checking::check_run;
 pub use fault::ToolFault;
+pub use movies::read_movie;
 pub use reading::{INPUT_LIMIT, read_input};
+pub use shooting::shot_run;
 pub use tracing::trace_run;
+pub use writing::write_all;

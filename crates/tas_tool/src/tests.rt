@@ -6,6 +6,7 @@ use std::alloc::Global;
 use std::io;
 use std::io::{Error, ErrorKind, Read, Write};
 use std::test::Fail;
+use tas_movie::{TextError, TextErrorKind};
 
 /// A reader of so many zeros that fails at one of its reads, and counts them all.
 #[derive(Drop)]
@@ -87,6 +88,42 @@ fn image(alloc: Global) -> Result<Vec<u8>, Fail> {
         *cell = 0xf0;
     }
     Ok(bytes)
+}
+
+fn text_fault(line: usize, kind: TextErrorKind) -> ToolFault {
+    ToolFault::Text(TextError { line, kind })
+}
+
+/// A cartridge with these bytes at its start and at the start vector; all others are 0.
+fn image_of(alloc: Global, program: &[u8], start: &[u8]) -> Result<Vec<u8>, Fail> {
+    let mut bytes = Vec::new(alloc);
+    bytes.extend_from_slice(program)?;
+    for _ in 0..4096u32 {
+        if bytes.len() < 0xffc {
+            bytes.push(0)?;
+        }
+    }
+    bytes.extend_from_slice(start)?;
+    bytes.push(0)?;
+    bytes.push(0)?;
+    Ok(bytes)
+}
+
+/// A playfield at the left edge of each half, drawn for ever: PF0 is 10 and COLUPF 1E.
+static PLAYFIELD: [u8; 11] = [0xa9, 0x10, 0x85, 0x0d, 0xa9, 0x1e, 0x85, 0x08, 0x4c, 0x08, 0xf0];
+
+/// Ends three frames by vertical sync, and halts at F00D in the fourth.
+static HALTING: [u8; 14] = [
+    0xa2, 0x03, 0xa9, 0x02, 0x85, 0x00, 0xa9, 0x00, 0x85, 0x00, 0xca, 0xd0, 0xf5, 0x02,
+];
+
+/// The movie text for a cartridge whose SHA-256 is given, with so many frames of nothing pressed.
+fn movie_text(alloc: Global, digest: &str, frames: usize) -> Result<String, Fail> {
+    let mut text = format!(in alloc; "a26movie 1\ncart {digest}\n")?;
+    for _ in 0..frames {
+        text.push_str("..... ..... .....\n")?;
+    }
+    Ok(text)
 }
 
 static TRACE: &[u8] = b"F000 A9 42 00 00 FD 34 2\nF002 85 42 00 00 FD 34 3\nF004 4C 42 00 00 FD 34 3\n";
@@ -174,10 +211,108 @@ fn faults_read_as_their_lines(rt: HostRuntime) -> Result<(), Fail> {
         (ToolFault::Read, "fault: read failed"),
         (ToolFault::Write { written: 20 }, "fault: write failed after 20 bytes"),
         (ToolFault::Size(7), "fault: cartridge has 7 bytes"),
+        (ToolFault::NoFrame { frame: 1, len: 1 }, "fault: no frame 1 of 1"),
+        (ToolFault::Halted { at: 0xf00d, opcode: 2 }, "fault: halted at F00D by 02"),
+        (text_fault(3, TextErrorKind::End), "fault: movie line 3: end"),
+        (text_fault(2, TextErrorKind::Digest), "fault: movie line 2: digest"),
+        (text_fault(1, TextErrorKind::Head), "fault: movie line 1: head"),
+        (text_fault(4, TextErrorKind::Frame), "fault: movie line 4: frame"),
+        (text_fault(65539, TextErrorKind::TooMany), "fault: movie line 65539: too many"),
         (ToolFault::Memory, "fault: out of memory"),
     ] {
         let text = format!(in alloc; "{fault}")?;
         assert_eq!(rt; text.as_str(), line);
+    }
+    Ok(())
+}
+
+/// The SHA-256 of the cartridges, by another program.
+static PLAYFIELD_DIGEST: &str = "820c64e9933496de683a000c5e11f0510fb7b1699b2ce86471295236b284906d";
+static HALTING_DIGEST: &str = "c914dfbc057cd1e5dd9cefcba07cec773cc85a8be3a04676377b60ded704d22d";
+
+#[test]
+fn a_movie_is_as_long_as_its_frames(rt: HostRuntime) -> Result<(), Fail> {
+    let alloc = rt.alloc();
+    let cart = image_of(alloc, &PLAYFIELD, &[0x00, 0xf0])?;
+    for (frames, line) in [(0, "ok 0 frames\n"), (1, "ok 1 frames\n"), (3, "ok 3 frames\n")] {
+        let text = movie_text(alloc, PLAYFIELD_DIGEST, frames)?;
+        assert_eq!(rt; text.len(), 81 + 18 * frames);
+        let mut written = Vec::new(alloc);
+        let answer = check_run(alloc, &mut cart.as_slice(), &mut text.as_bytes(), &mut written);
+        assert_eq!(rt; answer, Ok(()));
+        assert_eq!(rt; written.as_slice(), line.as_bytes());
+    }
+    Ok(())
+}
+
+#[test]
+fn faults_of_a_movie_come_in_order(rt: HostRuntime) -> Result<(), Fail> {
+    let alloc = rt.alloc();
+    let cart = image_of(alloc, &PLAYFIELD, &[0x00, 0xf0])?;
+    let text = movie_text(alloc, PLAYFIELD_DIGEST, 1)?;
+    let other = movie_text(alloc, HALTING_DIGEST, 1)?;
+    let mut written = Vec::new(alloc);
+    // Reading the cartridge comes before reading the text, this before the size, and this before the text's faults.
+    let mut unread = make_zeros(10, 1);
+    let answer = check_run(alloc, &mut make_zeros(7, 1), &mut unread, &mut written);
+    assert_eq!(rt; answer, Err(ToolFault::Read));
+    assert_eq!(rt; unread.reads, 0);
+    let answer = check_run(alloc, &mut make_zeros(7, 0), &mut make_zeros(10, 1), &mut written);
+    assert_eq!(rt; answer, Err(ToolFault::Read));
+    let answer = check_run(alloc, &mut make_zeros(7, 0), &mut other.as_bytes(), &mut written);
+    assert_eq!(rt; answer, Err(ToolFault::Size(7)));
+    let answer = check_run(alloc, &mut cart.as_slice(), &mut other.as_bytes(), &mut written);
+    assert_eq!(rt; answer, Err(text_fault(2, TextErrorKind::Digest)));
+    let answer = check_run(alloc, &mut cart.as_slice(), &mut &text.as_bytes()[..98], &mut written);
+    assert_eq!(rt; answer, Err(text_fault(3, TextErrorKind::End)));
+    assert!(rt; written.is_empty());
+    Ok(())
+}
+
+#[test]
+fn a_playfield_is_drawn(rt: HostRuntime) -> Result<(), Fail> {
+    let alloc = rt.alloc();
+    let cart = image_of(alloc, &PLAYFIELD, &[0x00, 0xf0])?;
+    let text = movie_text(alloc, PLAYFIELD_DIGEST, 1)?;
+    let mut written = Vec::new(alloc);
+    let answer = shot_run(alloc, 0, &mut cart.as_slice(), &mut text.as_bytes(), &mut written);
+    assert_eq!(rt; answer, Ok(()));
+    assert_eq!(rt; written.len(), 100_815);
+    let (head, pixels) = written.as_slice().split_at(15);
+    assert_eq!(rt; head, b"P6\n160 210\n255\n");
+    for (pixel, colour) in pixels.chunks(3).enumerate() {
+        let x = pixel % 80;
+        let expected: &[u8] = if x < 4 { &[0xd2, 0xc8, 0x8c] } else { &[0, 0, 0] };
+        assert_eq!(rt; colour, expected, "at {pixel}");
+    }
+    let mut none = Vec::new(alloc);
+    let answer = shot_run(alloc, 1, &mut cart.as_slice(), &mut text.as_bytes(), &mut none);
+    assert_eq!(rt; answer, Err(ToolFault::NoFrame { frame: 1, len: 1 }));
+    assert!(rt; none.is_empty());
+    let mut output = make_narrow(alloc, 20, 1000, false);
+    let answer = shot_run(alloc, 0, &mut cart.as_slice(), &mut text.as_bytes(), &mut output);
+    assert_eq!(rt; answer, Err(ToolFault::Write { written: 20 }));
+    Ok(())
+}
+
+#[test]
+fn a_halted_frame_has_no_picture(rt: HostRuntime) -> Result<(), Fail> {
+    let alloc = rt.alloc();
+    let cart = image_of(alloc, &HALTING, &[0x00, 0xf0])?;
+    let text = movie_text(alloc, HALTING_DIGEST, 5)?;
+    assert_eq!(rt; text.len(), 171);
+    for frame in [0, 1, 2] {
+        let mut written = Vec::new(alloc);
+        let answer = shot_run(alloc, frame, &mut cart.as_slice(), &mut text.as_bytes(), &mut written);
+        assert_eq!(rt; answer, Ok(()));
+        assert_eq!(rt; written.len(), 100_815);
+        assert!(rt; written.as_slice()[15..].iter().all(|byte| *byte == 0));
+    }
+    for frame in [3, 4] {
+        let mut written = Vec::new(alloc);
+        let answer = shot_run(alloc, frame, &mut cart.as_slice(), &mut text.as_bytes(), &mut written);
+        assert_eq!(rt; answer, Err(ToolFault::Halted { at: 0xf00d, opcode: 2 }));
+        assert!(rt; written.is_empty());
     }
     Ok(())
 }

@@ -70,7 +70,7 @@ impl<A: Allocator> Cart<A> {
         ensures value { result.now ≡ self.now }
         ensures size { length result.now ≡ 4096 }
     {
-        self.bytes.as_slice()
+        &self.bytes
     }
 
     /// Takes over another cartridge's bytes, without memory.

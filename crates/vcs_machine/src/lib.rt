@@ -4,11 +4,17 @@
 mod bus;
 mod cart;
 mod frame;
+#[cfg(test)]
+mod frame_tests;
 mod input;
 mod meter;
 mod outbox;
 mod playback;
 mod state;
+#[cfg(test)]
+mod tests;
+#[cfg(test)]
+mod trace_tests;
 mod tracing;
 
 pub use cart::{Cart, CartError};

@@ -1,6 +1,7 @@
-use Rattle.std.proofs.Common.{◌≡◌, ◌+◌, ◌*◌, ◌<◌, ◌≤◌, ◌∙◌, sym, ap, refl, ℕ, zero, suc, List, [], ◌∷◌, ◌++◌, length, take, drop, get_or, arith, append_assoc, add-one, zero-add, suc-add, nat_lt, cond, ◌%◌, ◌/◌}
+-- The image's bytes, row by row.
+use Rattle.std.proofs.Common.{◌≡◌, ◌+◌, ◌*◌, ◌-◌, ◌<◌, ◌≤◌, ◌∙◌, sym, ap, refl, ℕ, zero, suc, List, [], ◌∷◌, ◌++◌, length, take, drop, arith, append_assoc, zero-add, suc-add, nat_lt}
 use Rattle.std.proofs.lemmas.Bool.{cond_both}
-use Rattle.std.proofs.lemmas.List.{length-append, take-append-drop, drop_more, take-append-le, length-take-le, flat_map_more, take_more}
+use Rattle.std.proofs.lemmas.List.{length-append, take-append-drop, take-append-le, length-take-le}
 use Rattle.std.proofs.lemmas.Grind.{flat_map-append}
 use Rattle.std.specs.List.{flat_map}
 use Rattle.vcs_tia.specs.Image.{ppm_header, rgb_of, ppm_bytes}
@@ -20,45 +21,49 @@ take_past : (a b : List ℕ) (n : ℕ) → take (length a + n) (a ++ b) ≡ a ++
 take_past [] b n = ap (λ k. take k b) (zero-add n)
 take_past (x ∷ a) b n = ap (λ k. take k (x ∷ (a ++ b))) (suc-add (length a) n) ∙ ap (λ xs. x ∷ xs) (take_past a b n)
 
--- the image at a pixel
-pub image_split : (picture : List ℕ) (i d : ℕ) → i < length picture →
-    ppm_bytes picture ≡ (ppm_header ++ flat_map rgb_of (take i picture)) ++ (rgb_of (get_or picture i d) ++ flat_map rgb_of (drop (i + 1) picture))
-unfolding ppm_bytes
-image_split picture i d within =
-    ap (λ xs. ppm_header ++ xs)
-    (ap (flat_map rgb_of) (sym (take-append-drop i picture) ∙ ap (λ xs. take i picture ++ xs) (drop_more picture i d within))
-    ∙ flat_map-append rgb_of (take i picture) (get_or picture i d ∷ drop (i + 1) picture))
-    ∙ sym (append_assoc ppm_header (flat_map rgb_of (take i picture)) _)
-
-pub length-front : (picture : List ℕ) (i : ℕ) → i ≤ length picture → length (ppm_header ++ flat_map rgb_of (take i picture)) ≡ 15 + 3 * i
-length-front picture i within =
-    length-append ppm_header (flat_map rgb_of (take i picture))
-    ∙ ap (λ n. 15 + n) (length-pixels (take i picture) ∙ ap (λ n. 3 * n) (length-take-le i picture within))
-
--- the first bytes of the image, up to the middle of a pixel
-pub image_front : (picture : List ℕ) (i d n : ℕ) → i < length picture → n ≤ 3 →
-    take (15 + 3 * i + n) (ppm_bytes picture) ≡ (ppm_header ++ flat_map rgb_of (take i picture)) ++ take n (rgb_of (get_or picture i d))
-image_front picture i d n within small =
-    let front = ppm_header ++ flat_map rgb_of (take i picture) in
-    let rest = flat_map rgb_of (drop (i + 1) picture) in
-    let count = length-front picture i (omega arith) in
-    let three = length-rgb_of (get_or picture i d) in
-    ap (take (15 + 3 * i + n)) (image_split picture i d within)
-    ∙ ap (λ k. take (k + n) (front ++ (rgb_of (get_or picture i d) ++ rest))) (sym count)
-    ∙ take_past front (rgb_of (get_or picture i d) ++ rest) n
-    ∙ ap (λ xs. front ++ xs) (take-append-le n (rgb_of (get_or picture i d)) rest (omega arith))
-
--- one pixel more
-pub image_more : (picture : List ℕ) (i d : ℕ) → i < length picture →
-    (ppm_header ++ flat_map rgb_of (take i picture)) ++ rgb_of (get_or picture i d) ≡ ppm_header ++ flat_map rgb_of (take (i + 1) picture)
-image_more picture i d within =
-    flat_map_more rgb_of ppm_header (take i picture) (get_or picture i d)
-    ∙ ap (λ xs. ppm_header ++ flat_map rgb_of xs) (sym (take_more picture i d within))
-
 pub length-ppm_bytes : (picture : List ℕ) → length (ppm_bytes picture) ≡ 15 + 3 * length picture
 unfolding ppm_bytes
 length-ppm_bytes picture = length-append ppm_header (flat_map rgb_of picture) ∙ ap (λ n. 15 + n) (length-pixels picture)
 
-pub image_head : (picture : List ℕ) (n : ℕ) → n ≤ 15 → take n (ppm_bytes picture) ≡ take n ppm_header
+-- the image up to pixel i
+abbrev pub image_to : List ℕ → ℕ → List ℕ
+image_to picture i = ppm_header ++ flat_map rgb_of (take i picture)
+
+pub length-image_to : (picture : List ℕ) (i : ℕ) → i ≤ length picture → length (image_to picture i) ≡ 15 + 3 * i
+length-image_to picture i within =
+    length-append ppm_header (flat_map rgb_of (take i picture))
+    ∙ ap (λ n. 15 + n) (length-pixels (take i picture) ∙ ap (λ n. 3 * n) (length-take-le i picture within))
+
+-- some pixels more
+pub image_more : (picture part : List ℕ) (i j : ℕ) → take i picture ++ part ≡ take j picture → image_to picture i ++ flat_map rgb_of part ≡ image_to picture j
+image_more picture part i j more =
+    append_assoc ppm_header (flat_map rgb_of (take i picture)) (flat_map rgb_of part)
+    ∙ ap (λ xs. ppm_header ++ xs) (sym (flat_map-append rgb_of (take i picture) part) ∙ ap (flat_map rgb_of) more)
+
+-- the image, cut at a pixel
+pub image_split : (picture : List ℕ) (i : ℕ) → ppm_bytes picture ≡ image_to picture i ++ flat_map rgb_of (drop i picture)
 unfolding ppm_bytes
-image_head picture n small = take-append-le n ppm_header (flat_map rgb_of picture) small
+image_split picture i =
+    ap (λ xs. ppm_header ++ xs) (ap (flat_map rgb_of) (sym (take-append-drop i picture)) ∙ flat_map-append rgb_of (take i picture) (drop i picture))
+    ∙ sym (append_assoc ppm_header (flat_map rgb_of (take i picture)) (flat_map rgb_of (drop i picture)))
+
+-- the first bytes, from those up to pixel i on, within the pixels up to pixel j
+pub image_front : (picture part : List ℕ) (i j n : ℕ) → i ≤ length picture → take i picture ++ part ≡ take j picture → n ≤ 3 * length part →
+    image_to picture i ++ take n (flat_map rgb_of part) ≡ take (15 + 3 * i + n) (ppm_bytes picture)
+image_front picture part i j n within more small =
+    let front = image_to picture i in
+    let rest = flat_map rgb_of (drop j picture) in
+    let count = length-image_to picture i within in
+    let all = length-pixels part in
+    ap (λ xs. front ++ xs) (sym (take-append-le n (flat_map rgb_of part) rest (omega arith)))
+    ∙ sym (take_past front (flat_map rgb_of part ++ rest) n)
+    ∙ ap (λ k. take (k + n) (front ++ (flat_map rgb_of part ++ rest))) count
+    ∙ ap (take (15 + 3 * i + n))
+    (sym (append_assoc front (flat_map rgb_of part) rest) ∙ ap (λ xs. xs ++ rest) (image_more picture part i j more) ∙ sym (image_split picture j))
+
+-- the first row, with the header
+pub image_first : (picture part : List ℕ) (j n : ℕ) → part ≡ take j picture → n ≤ length (ppm_header ++ flat_map rgb_of part) →
+    take n (ppm_header ++ flat_map rgb_of part) ≡ take n (ppm_bytes picture)
+image_first picture part j n is small =
+    sym (take-append-le n (ppm_header ++ flat_map rgb_of part) (flat_map rgb_of (drop j picture)) small)
+    ∙ ap (take n) (ap (λ xs. (ppm_header ++ flat_map rgb_of xs) ++ flat_map rgb_of (drop j picture)) is ∙ sym (image_split picture j))

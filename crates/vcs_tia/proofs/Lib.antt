@@ -7,4 +7,6 @@ pub mod Bits
 pub mod Playfields
 pub mod Spans
 pub mod Parts
+pub mod Layers
+pub mod Fills
 pub mod Images

@@ -1,3 +1,4 @@
+-- Some clocks of one part of a line.
 use Rattle.std.proofs.Common.{◌≡◌, ◌≢◌, ◌+◌, ◌*◌, ◌-◌, ◌/◌, ◌%◌, ◌<◌, ◌≤◌, ◌∙◌, sym, ap, refl, ⊎_elim, ℕ, zero, suc, List, [], ◌∷◌, ◌++◌, subst, Bool, true, false, cond, eqb, leb, ltb, not, ◌&&◌, ◌||◌, arith, set, add-one, add-zero, zero-add, suc-add}
 use Rattle.std.proofs.lemmas.Bool.{cases_lt, ne_eqb, eq-eqb, lt-ltb, le-ltb, le-leb, lt-leb, cond-true, cond-false, cases_eq, and_left, and_right, and_from, and_cases, ltb-false, cases_Bool}
 use Rattle.std.proofs.lemmas.Bool.Decides.{nat_tests}
@@ -7,13 +8,10 @@ use Rattle.vcs_tia.specs.declared.chip.Tia.{Tia}
 use Rattle.vcs_tia.specs.Beam.{beam_after_clock, pairs_added}
 use Rattle.vcs_tia.specs.Spans.{beam_after_part}
 use Rattle.vcs_tia.specs.Tia.{after_clock, lit_at, in_hmove_blank, colour_at, latches_at, colour_of_lit, playfield_colour}
-use Rattle.vcs_tia.specs.Words.{no_lit, lit_bits, words_kept, run_of_ones}
-use Rattle.vcs_tia.specs.declared.words.Words.{Words}
-use Rattle.vcs_tia.proofs.Bits.{range_bit}
 use Rattle.vcs_tia.specs.Spans.{filled}
 use Rattle.vcs_tia.specs.Trace.{after_clocks, trace, painted, drawn, is_shown}
 use Rattle.vcs_tia.proofs.Traces.{after_clocks-suc, trace-suc, drawn-append, drawn_one}
-use Rattle.vcs_tia.proofs.Spans.{span_latches, span_latches_more, kept_none}
+use Rattle.vcs_tia.proofs.Spans.{span_latches, span_latches_more}
 
 -- the tia with these latches at this clock of its line
 abbrev pub at_clock : Tia → Latches → ℕ → Tia
@@ -220,16 +218,7 @@ pub drawn_below : (n : ℕ) (t : Tia) (picture : List ℕ) → t.beam.clock + n 
 drawn_below n t picture low below =
     drawn_hidden n t picture low (λ v k h. and_right _ _ (and_right _ _ (le-ltb t.beam.line 244 below)))
 
--- ---- a span on which nothing is lit
-pub empty_colour : (t : Tia) (y : ℕ) → lit_at t y ≡ no_lit → colour_at t y ≡ cond (t.blank || in_hmove_blank t y) 0 t.colours.background
-empty_colour t y none =
-    ap (λ k. cond (t.blank || in_hmove_blank t y) 0 k)
-    (ap (λ s. colour_of_lit t s y) none ∙ plain (t.playfield.priority))
-  where
-    plain : (first : Bool) → cond (first && false) (playfield_colour t no_lit y) t.colours.background ≡ t.colours.background
-    plain true = refl
-    plain false = refl
-
+-- ---- the pixels of a span
 pub same_mark : (n : ℕ) (t : Tia) (x k : ℕ) → k < n → (t.beam.hmove_blank ≡ true → x < 8 → x + n ≤ 8) → in_hmove_blank t (x + k) ≡ in_hmove_blank t x
 same_mark n t x k below part =
     ⊎_elim
@@ -242,33 +231,24 @@ same_mark n t x k below part =
     (λ no. and_left t.beam.hmove_blank (ltb (x + k) 8) no ∙ sym (and_left t.beam.hmove_blank (ltb x 8) no))
     (cases_Bool t.beam.hmove_blank)
 
-pub drawn_filled : (n : ℕ) (t : Tia) (x : ℕ) (picture : List ℕ) (c : ℕ) → t.beam.clock ≡ 68 + x → x + n ≤ 160 → 34 ≤ t.beam.line → t.beam.line < 244 →
-    ((k : ℕ) → k < n → colour_at t (x + k) ≡ c) → drawn (trace n t) picture ≡ filled picture ((t.beam.line - 34) * 160 + x) n c
+pub drawn_filled : (n : ℕ) (t : Tia) (x : ℕ) (picture : List ℕ) (f : ℕ → ℕ) → t.beam.clock ≡ 68 + x → x + n ≤ 160 → 34 ≤ t.beam.line → t.beam.line < 244 →
+    ((k : ℕ) → k < n → colour_at t (x + k) ≡ f k) → drawn (trace n t) picture ≡ filled picture ((t.beam.line - 34) * 160 + x) n f
 unfolding trace drawn filled
-drawn_filled zero t x picture c at low top bottom same = refl
-drawn_filled (suc n) t x picture c at low top bottom same =
+drawn_filled zero t x picture f at low top bottom same = refl
+drawn_filled (suc n) t x picture f at low top bottom same =
     let start = (t.beam.line - 34) * 160 + x in
     let place : (t.beam.line - 34) * 160 + (x + n) ≡ (t.beam.line - 34) * 160 + x + n = omega arith in
     drawn_more n t picture
     ∙ pixel_painted n t x (drawn (trace n t) picture) at (omega arith) top bottom
-    ∙ ap (λ p. set p ((t.beam.line - 34) * 160 + (x + n)) (colour_at t (x + n))) (drawn_filled n t x picture c at (omega arith) top bottom (λ k h. same k (omega arith)))
-    ∙ ap (λ v. set (filled picture start n c) ((t.beam.line - 34) * 160 + (x + n)) v) (same n (omega arith))
-    ∙ ap (λ i. set (filled picture start n c) i c) place
+    ∙ ap (λ p. set p ((t.beam.line - 34) * 160 + (x + n)) (colour_at t (x + n))) (drawn_filled n t x picture f at (omega arith) top bottom (λ k h. same k (omega arith)))
+    ∙ ap (λ v. set (filled picture start n f) ((t.beam.line - 34) * 160 + (x + n)) v) (same n (omega arith))
+    ∙ ap (λ i. set (filled picture start n f) i (f n)) place
 
--- the pixels of a span whose masked words are empty
-pub span_empty : (t : Tia) (w : Words) (x n : ℕ) → n + x % 32 ≤ 32 → ((i : ℕ) → i < 32 → lit_bits w i ≡ lit_at t (32 * (x / 32) + i)) →
-    ((i : ℕ) → lit_bits (words_kept w (run_of_ones (x % 32) n)) i ≡ no_lit) → (k : ℕ) → k < n → lit_at t (x + k) ≡ no_lit
-span_empty t w x n fits bits empty k below =
-    let i = x % 32 + k in
-    let hi : x % 32 + k < 32 = omega arith in
-    let whole : x + k ≡ 32 * (x / 32) + (x % 32 + k) = omega arith in
-    let here = range_bit n (x % 32) i fits ∙ and_from _ _ (le-leb (x % 32) i (omega arith)) (lt-ltb i (x % 32 + n) (omega arith)) in
-    ap (lit_at t) whole ∙ sym (bits i hi) ∙ kept_none w (run_of_ones (x % 32) n) i (empty i) here
+-- a black pixel makes its part of the line black, and a part is seen whole
+pub black_colour : (n : ℕ) (t : Tia) (x k : ℕ) → k < n → (t.beam.hmove_blank ≡ true → x < 8 → x + n ≤ 8) → (t.blank || in_hmove_blank t x) ≡ true → colour_at t (x + k) ≡ 0
+black_colour n t x k below part black =
+    cond-true (t.blank || in_hmove_blank t (x + k)) 0 _ (ap (λ b. t.blank || b) (same_mark n t x k below part) ∙ black)
 
--- a span on which nothing is lit has one colour
-pub span_colour : (t : Tia) (x n : ℕ) → (t.beam.hmove_blank ≡ true → x < 8 → x + n ≤ 8) → ((k : ℕ) → k < n → lit_at t (x + k) ≡ no_lit) →
-    lit_at t x ≡ no_lit → (k : ℕ) → k < n → colour_at t (x + k) ≡ colour_at t x
-span_colour t x n part empty first k below =
-    empty_colour t (x + k) (empty k below)
-    ∙ ap (λ b. cond (t.blank || b) 0 t.colours.background) (same_mark n t x k below part)
-    ∙ sym (empty_colour t x first)
+pub seen_colour : (n : ℕ) (t : Tia) (x k : ℕ) → k < n → (t.beam.hmove_blank ≡ true → x < 8 → x + n ≤ 8) → (t.blank || in_hmove_blank t x) ≡ false → colour_at t (x + k) ≡ colour_of_lit t (lit_at t (x + k)) (x + k)
+seen_colour n t x k below part seen =
+    cond-false (t.blank || in_hmove_blank t (x + k)) 0 _ (ap (λ b. t.blank || b) (same_mark n t x k below part) ∙ seen)

@@ -1,6 +1,6 @@
-use Rattle.std.proofs.Common.{◌≡◌, ◌≢◌, ◌⊎◌, ◌+◌, ◌*◌, ◌-◌, ◌^◌, ◌%◌, ◌<◌, ◌≤◌, ◌∙◌, sym, ap, refl, inl, inr, ⊎_elim, ℕ, zero, suc, List, Bool, true, false, cond, eqb, leb, ltb, not, ◌&&◌, ◌||◌, arith, set, bit_and, bit_or, add-one, add-zero}
-use Rattle.std.proofs.Math.Bool.{or-false, or_assoc}
-use Rattle.std.proofs.lemmas.Bool.{cases_eq, cases_lt, ne_eqb, cases_Bool, and_parts, and_from, or_cases, or_left, or_right, or_parts, and_cases, false_from_ne_true, leb-true, ltb-true, eqb-false}
+use Rattle.std.proofs.Common.{◌≡◌, ◌≢◌, ◌⊎◌, ◌+◌, ◌*◌, ◌-◌, ◌^◌, ◌%◌, ◌<◌, ◌≤◌, ◌∙◌, sym, ap, refl, inl, inr, ⊎_elim, ℕ, zero, suc, List, Bool, true, false, cond, eqb, leb, ltb, not, ◌&&◌, ◌||◌, arith, set, bit_and, bit_or, add-one, add-zero, zero-add, ◌/◌}
+use Rattle.std.proofs.Math.Bool.{or-false, or_assoc, and_comm}
+use Rattle.std.proofs.lemmas.Bool.{cases_eq, cases_lt, ne_eqb, cases_Bool, and_parts, and_from, or_cases, or_left, or_right, or_parts, and_cases, false_from_ne_true, leb-true, ltb-true, eqb-false, le-leb, le-ltb}
 use Rattle.std.proofs.lemmas.Bool.Decides.{nat_tests}
 use Rattle.std.proofs.lemmas.Nat.Bits.{same_from_bits, bit_at-lt, bit_at-zero}
 use Rattle.std.proofs.lemmas.Nat.{le_or_l, le_or_r}
@@ -10,8 +10,8 @@ use Rattle.vcs_tia.specs.declared.beam.Latches.{Latches}
 use Rattle.vcs_tia.specs.declared.words.Words.{Words}
 use Rattle.vcs_tia.specs.Beam.{pairs_added}
 use Rattle.vcs_tia.specs.Units.{has_bit}
-use Rattle.vcs_tia.specs.Words.{no_lit, lit_bits, words_met, words_kept, run_of_ones}
-use Rattle.vcs_tia.proofs.Bits.{has_bit-and, has_bit-zero, range_bit}
+use Rattle.vcs_tia.specs.Words.{lit_bits, lit_where, bits_cut, words_cut, pairs_of_words}
+use Rattle.vcs_tia.proofs.Bits.{has_bit-and, has_bit-or, has_bit-shr, has_bit-zero, ones_bit}
 
 -- a test holds at one of n places from x on
 unfoldable pub any_from : (ℕ → Bool) → ℕ → ℕ → Bool
@@ -81,31 +81,26 @@ nonzero_any w p x n bits =
     (cases_Bool (any_from p x n))
 
 -- two words of a span have a bit in common exactly where both are lit on one of its pixels
-pub meet_any : (a b from n d : ℕ) (f g : ℕ → Bool) → n + from ≤ 32 →
-    ((i : ℕ) → i < 32 → has_bit a i ≡ f (d + i)) → ((i : ℕ) → i < 32 → has_bit b i ≡ g (d + i)) →
-    not (eqb (bit_and (bit_and a (run_of_ones from n)) (bit_and b (run_of_ones from n))) 0) ≡ any_from (λ y. f y && g y) (d + from) n
-meet_any a b from n d f g fits is_f is_g =
-    let m = run_of_ones from n in
-    nonzero_any (bit_and (bit_and a m) (bit_and b m)) (λ i. has_bit a i && has_bit b i) from n
+pub meet_any : (a b n x : ℕ) (f g : ℕ → Bool) →
+    ((i : ℕ) → has_bit a i ≡ (ltb i n && f (x + i))) → ((i : ℕ) → has_bit b i ≡ (ltb i n && g (x + i))) →
+    not (eqb (bit_and a b) 0) ≡ any_from (λ y. f y && g y) x n
+meet_any a b n x f g is_f is_g =
+    nonzero_any (bit_and a b) (λ i. f (x + i) && g (x + i)) 0 n
     (λ i.
-    has_bit-and (bit_and a m) (bit_and b m) i
-    ∙ ap (λ p. p && has_bit (bit_and b m) i) (has_bit-and a m i)
-    ∙ ap (λ p. (has_bit a i && has_bit m i) && p) (has_bit-and b m i)
-    ∙ ap (λ p. (has_bit a i && p) && (has_bit b i && p)) (range_bit n from i fits)
-    ∙ gather (leb from i && ltb i (from + n)) (has_bit a i) (has_bit b i))
-    ∙ any_from_same (λ i. has_bit a i && has_bit b i) (λ i. f (d + i) && g (d + i)) from n
-    (λ i low high. let hi : i < 32 = omega arith in ap (λ p. p && has_bit b i) (is_f i hi) ∙ ap (λ p. f (d + i) && p) (is_g i hi))
-    ∙ any_from_shift (λ y. f y && g y) d from n
+    has_bit-and a b i
+    ∙ ap (λ p. p && has_bit b i) (is_f i)
+    ∙ ap (λ p. (ltb i n && f (x + i)) && p) (is_g i)
+    ∙ gather (ltb i n) (f (x + i)) (g (x + i))
+    ∙ ap (λ p. p && (f (x + i) && g (x + i))) (from_zero i n))
+    ∙ any_from_shift (λ y. f y && g y) x 0 n
+    ∙ ap (λ d. any_from (λ y. f y && g y) d n) (add-zero x)
   where
-    gather : (r x y : Bool) → ((x && r) && (y && r)) ≡ (r && (x && y))
-    gather true true true = refl
-    gather true true false = refl
-    gather true false true = refl
-    gather true false false = refl
-    gather false true true = refl
-    gather false true false = refl
-    gather false false true = refl
-    gather false false false = refl
+    gather : (r u v : Bool) → ((r && u) && (r && v)) ≡ (r && (u && v))
+    gather true u v = refl
+    gather false u v = refl
+
+    from_zero : (i n : ℕ) → ltb i n ≡ (leb 0 i && ltb i (0 + n))
+    from_zero i n = ap (λ m. ltb i m) (sym (zero-add n)) ∙ ap (λ b. b && ltb i (0 + n)) (sym (le-leb 0 i (omega arith)))
 
 -- ---- the latches after a span of pixels
 unfoldable pub span_latches : Latches → (ℕ → Lit) → ℕ → ℕ → Latches
@@ -146,67 +141,146 @@ span_latches_more l s x (suc n) =
     ∙ (let e : x + 1 + n ≡ x + suc n = omega arith in ap (λ y. pairs_added (span_latches (pairs_added l (s x)) s (x + 1) n) (s y)) e)
 
 -- the latches that the words of a span give
-pub words_met-span : (l : Latches) (s : ℕ → Lit) (w : Words) (d from n : ℕ) → n + from ≤ 32 →
-    ((i : ℕ) → i < 32 → lit_bits w i ≡ s (d + i)) →
-    words_met l (words_kept w (run_of_ones from n)) ≡ span_latches l s (d + from) n
+pub pairs_of_words-span : (l : Latches) (s : ℕ → Lit) (w : Words) (x n : ℕ) →
+    ((i : ℕ) → lit_bits w i ≡ lit_where (ltb i n) (s (x + i))) → pairs_of_words l w ≡ span_latches l s x n
 unfolding met_from
-words_met-span l s w d from n fits bits =
-    let is_player0 = λ (i : ℕ) (hi : i < 32). ap (λ (v : Lit). v.player0) (bits i hi) in
-    let is_player1 = λ (i : ℕ) (hi : i < 32). ap (λ (v : Lit). v.player1) (bits i hi) in
-    let is_missile0 = λ (i : ℕ) (hi : i < 32). ap (λ (v : Lit). v.missile0) (bits i hi) in
-    let is_missile1 = λ (i : ℕ) (hi : i < 32). ap (λ (v : Lit). v.missile1) (bits i hi) in
-    let is_ball = λ (i : ℕ) (hi : i < 32). ap (λ (v : Lit). v.ball) (bits i hi) in
-    let is_playfield = λ (i : ℕ) (hi : i < 32). ap (λ (v : Lit). v.playfield) (bits i hi) in
-    let e0 = meet_any w.player0 w.player1 from n d (λ y. (s y).player0) (λ y. (s y).player1) fits is_player0 is_player1 in
-    let e1 = meet_any w.player0 w.missile0 from n d (λ y. (s y).player0) (λ y. (s y).missile0) fits is_player0 is_missile0 in
-    let e2 = meet_any w.player0 w.missile1 from n d (λ y. (s y).player0) (λ y. (s y).missile1) fits is_player0 is_missile1 in
-    let e3 = meet_any w.player0 w.ball from n d (λ y. (s y).player0) (λ y. (s y).ball) fits is_player0 is_ball in
-    let e4 = meet_any w.player0 w.playfield from n d (λ y. (s y).player0) (λ y. (s y).playfield) fits is_player0 is_playfield in
-    let e5 = meet_any w.player1 w.missile0 from n d (λ y. (s y).player1) (λ y. (s y).missile0) fits is_player1 is_missile0 in
-    let e6 = meet_any w.player1 w.missile1 from n d (λ y. (s y).player1) (λ y. (s y).missile1) fits is_player1 is_missile1 in
-    let e7 = meet_any w.player1 w.ball from n d (λ y. (s y).player1) (λ y. (s y).ball) fits is_player1 is_ball in
-    let e8 = meet_any w.player1 w.playfield from n d (λ y. (s y).player1) (λ y. (s y).playfield) fits is_player1 is_playfield in
-    let e9 = meet_any w.missile0 w.missile1 from n d (λ y. (s y).missile0) (λ y. (s y).missile1) fits is_missile0 is_missile1 in
-    let e10 = meet_any w.missile0 w.ball from n d (λ y. (s y).missile0) (λ y. (s y).ball) fits is_missile0 is_ball in
-    let e11 = meet_any w.missile0 w.playfield from n d (λ y. (s y).missile0) (λ y. (s y).playfield) fits is_missile0 is_playfield in
-    let e12 = meet_any w.missile1 w.ball from n d (λ y. (s y).missile1) (λ y. (s y).ball) fits is_missile1 is_ball in
-    let e13 = meet_any w.missile1 w.playfield from n d (λ y. (s y).missile1) (λ y. (s y).playfield) fits is_missile1 is_playfield in
-    let e14 = meet_any w.ball w.playfield from n d (λ y. (s y).ball) (λ y. (s y).playfield) fits is_ball is_playfield in
-    simp (e0, e1, e2, e3, e4, e5, e6, e7, e8, e9, e10, e11, e12, e13, e14) (sym (span_latches-met l s (d + from) n))
+pairs_of_words-span l s w x n bits =
+    let is_player0 = λ (i : ℕ). ap (λ (v : Lit). v.player0) (bits i) in
+    let is_player1 = λ (i : ℕ). ap (λ (v : Lit). v.player1) (bits i) in
+    let is_missile0 = λ (i : ℕ). ap (λ (v : Lit). v.missile0) (bits i) in
+    let is_missile1 = λ (i : ℕ). ap (λ (v : Lit). v.missile1) (bits i) in
+    let is_ball = λ (i : ℕ). ap (λ (v : Lit). v.ball) (bits i) in
+    let is_playfield = λ (i : ℕ). ap (λ (v : Lit). v.playfield) (bits i) in
+    let e0 = meet_any w.player0 w.player1 n x (λ y. (s y).player0) (λ y. (s y).player1) is_player0 is_player1 in
+    let e1 = meet_any w.player0 w.missile0 n x (λ y. (s y).player0) (λ y. (s y).missile0) is_player0 is_missile0 in
+    let e2 = meet_any w.player0 w.missile1 n x (λ y. (s y).player0) (λ y. (s y).missile1) is_player0 is_missile1 in
+    let e3 = meet_any w.player0 w.ball n x (λ y. (s y).player0) (λ y. (s y).ball) is_player0 is_ball in
+    let e4 = meet_any w.player0 w.playfield n x (λ y. (s y).player0) (λ y. (s y).playfield) is_player0 is_playfield in
+    let e5 = meet_any w.player1 w.missile0 n x (λ y. (s y).player1) (λ y. (s y).missile0) is_player1 is_missile0 in
+    let e6 = meet_any w.player1 w.missile1 n x (λ y. (s y).player1) (λ y. (s y).missile1) is_player1 is_missile1 in
+    let e7 = meet_any w.player1 w.ball n x (λ y. (s y).player1) (λ y. (s y).ball) is_player1 is_ball in
+    let e8 = meet_any w.player1 w.playfield n x (λ y. (s y).player1) (λ y. (s y).playfield) is_player1 is_playfield in
+    let e9 = meet_any w.missile0 w.missile1 n x (λ y. (s y).missile0) (λ y. (s y).missile1) is_missile0 is_missile1 in
+    let e10 = meet_any w.missile0 w.ball n x (λ y. (s y).missile0) (λ y. (s y).ball) is_missile0 is_ball in
+    let e11 = meet_any w.missile0 w.playfield n x (λ y. (s y).missile0) (λ y. (s y).playfield) is_missile0 is_playfield in
+    let e12 = meet_any w.missile1 w.ball n x (λ y. (s y).missile1) (λ y. (s y).ball) is_missile1 is_ball in
+    let e13 = meet_any w.missile1 w.playfield n x (λ y. (s y).missile1) (λ y. (s y).playfield) is_missile1 is_playfield in
+    let e14 = meet_any w.ball w.playfield n x (λ y. (s y).ball) (λ y. (s y).playfield) is_ball is_playfield in
+    simp (e0, e1, e2, e3, e4, e5, e6, e7, e8, e9, e10, e11, e12, e13, e14) (sym (span_latches-met l s x n))
 
--- ---- words with no bit
-one_kept : (a m i : ℕ) → has_bit (bit_and a m) i ≡ false → has_bit m i ≡ true → has_bit a i ≡ false
-one_kept a m i none here =
-    ⊎_elim (λ e. e) (λ e. cc (e, here)) (and_cases (has_bit a i) (has_bit m i) (sym (has_bit-and a m i) ∙ none))
+-- ---- cutting words
+-- the bits of a word from one on
+pub cut_bit : (v from n i : ℕ) → has_bit (bits_cut v from n) i ≡ (ltb i n && has_bit v (from + i))
+cut_bit v from n i =
+    has_bit-and (v / 2 ^ from) (2 ^ n - 1) i
+    ∙ ap (λ b. b && has_bit (2 ^ n - 1) i) (has_bit-shr v from i)
+    ∙ ap (λ b. has_bit v (from + i) && b) (ones_bit n i)
+    ∙ and_comm (has_bit v (from + i)) (ltb i n)
 
--- a pixel of the mask on which the masked words have nothing
-pub kept_none : (w : Words) (m i : ℕ) → lit_bits (words_kept w m) i ≡ no_lit → has_bit m i ≡ true → lit_bits w i ≡ no_lit
-kept_none w m i none here =
-    let is_player0 = one_kept w.player0 m i (ap (λ (l : Lit). l.player0) none) here in
-    let is_player1 = one_kept w.player1 m i (ap (λ (l : Lit). l.player1) none) here in
-    let is_missile0 = one_kept w.missile0 m i (ap (λ (l : Lit). l.missile0) none) here in
-    let is_missile1 = one_kept w.missile1 m i (ap (λ (l : Lit). l.missile1) none) here in
-    let is_ball = one_kept w.ball m i (ap (λ (l : Lit). l.ball) none) here in
-    let is_playfield = one_kept w.playfield m i (ap (λ (l : Lit). l.playfield) none) here in
-    simp (is_player0, is_player1, is_missile0, is_missile1, is_ball, is_playfield)
+-- what the pixels of the words from one on say
+pub cut_lit : (w : Words) (from n d i : ℕ) (s : ℕ → Lit) → n + from ≤ 32 → ((j : ℕ) → j < 32 → lit_bits w j ≡ s (d + j)) →
+    lit_bits (words_cut w from n) i ≡ lit_where (ltb i n) (s (d + from + i))
+cut_lit w from n d i s fits bits =
+    let is_player0 = cut_bit w.player0 from n i in
+    let is_player1 = cut_bit w.player1 from n i in
+    let is_missile0 = cut_bit w.missile0 from n i in
+    let is_missile1 = cut_bit w.missile1 from n i in
+    let is_ball = cut_bit w.ball from n i in
+    let is_playfield = cut_bit w.playfield from n i in
+    let each : lit_bits (words_cut w from n) i ≡ lit_where (ltb i n) (lit_bits w (from + i)) = simp (is_player0, is_player1, is_missile0, is_missile1, is_ball, is_playfield) in
+    each
+    ∙ ⊎_elim
+    (λ inside.
+    let place : d + (from + i) ≡ d + from + i = omega arith in
+    ap (lit_where (ltb i n)) (bits (from + i) (omega arith) ∙ ap s place))
+    (λ past.
+    ap (λ b. lit_where b (lit_bits w (from + i))) (le-ltb i n past) ∙ ap (λ b. lit_where b (s (d + from + i))) (sym (le-ltb i n past)))
+    (cases_lt i n)
 
-zero_bit : (a i : ℕ) → a ≡ 0 → has_bit a i ≡ false
-zero_bit a i zeroed = ap (λ n. has_bit n i) zeroed ∙ has_bit-zero i
+-- ---- words of which no two have a bit in common
+zero_from_bits : (v : ℕ) → ((i : ℕ) → has_bit v i ≡ false) → v ≡ 0
+zero_from_bits v clear =
+    same_from_bits v 0 (λ i.
+    let small = bit_at-lt v i in
+    let apart = eqb-false (bit_at v i) 1 (clear i) in
+    let zeroed : bit_at v i ≡ 0 = (let h : bit_at v i ≢ 1 = apart in omega arith) in
+    zeroed ∙ sym (bit_at-zero i))
 
-pub empty_bits : (w : Words) → bit_or (bit_or (bit_or (bit_or (bit_or w.player0 w.player1) w.missile0) w.missile1) w.ball) w.playfield ≡ 0 → (i : ℕ) → lit_bits w i ≡ no_lit
-empty_bits w none i =
-    let a = bit_or w.player0 w.player1 in
-    let b = bit_or a w.missile0 in
-    let c = bit_or b w.missile1 in
-    let d = bit_or c w.ball in
-    let d_zero : bit_or (bit_or (bit_or (bit_or w.player0 w.player1) w.missile0) w.missile1) w.ball ≡ 0 = omega (arith, le_or_l d w.playfield) in
-    let c_zero : bit_or (bit_or (bit_or w.player0 w.player1) w.missile0) w.missile1 ≡ 0 = omega (arith, le_or_l c w.ball) in
-    let b_zero : bit_or (bit_or w.player0 w.player1) w.missile0 ≡ 0 = omega (arith, le_or_l b w.missile1) in
-    let a_zero : bit_or w.player0 w.player1 ≡ 0 = omega (arith, le_or_l a w.missile0) in
-    let is_player0 = zero_bit w.player0 i (omega (arith, le_or_l w.player0 w.player1)) in
-    let is_player1 = zero_bit w.player1 i (omega (arith, le_or_r w.player0 w.player1)) in
-    let is_missile0 = zero_bit w.missile0 i (omega (arith, le_or_r a w.missile0)) in
-    let is_missile1 = zero_bit w.missile1 i (omega (arith, le_or_r b w.missile1)) in
-    let is_ball = zero_bit w.ball i (omega (arith, le_or_r c w.ball)) in
-    let is_playfield = zero_bit w.playfield i (omega (arith, le_or_r d w.playfield)) in
-    simp (is_player0, is_player1, is_missile0, is_missile1, is_ball, is_playfield)
+and_zero_parts : (a b c : ℕ) → bit_and (bit_or a b) c ≡ 0 → (bit_and a c ≡ 0) × (bit_and b c ≡ 0)
+and_zero_parts a b c none =
+    let clear = λ (i : ℕ). ap (λ x. x && has_bit c i) (sym (has_bit-or a b i)) ∙ sym (has_bit-and (bit_or a b) c i) ∙ ap (λ v. has_bit v i) none ∙ has_bit-zero i in (
+      zero_from_bits (bit_and a c) (λ i. has_bit-and a c i ∙ first (has_bit a i) (has_bit b i) (has_bit c i) (clear i)),
+      zero_from_bits (bit_and b c) (λ i. has_bit-and b c i ∙ second (has_bit a i) (has_bit b i) (has_bit c i) (clear i)),
+    )
+  where
+    first : (x y z : Bool) → ((x || y) && z) ≡ false → (x && z) ≡ false
+    first true y z e = e
+    first false y z e = refl
+
+    second : (x y z : Bool) → ((x || y) && z) ≡ false → (y && z) ≡ false
+    second true true z e = e
+    second true false z e = refl
+    second false y z e = e
+
+pub pairs_apart : (w : Words) (l : Latches) →
+    bit_or (bit_or (bit_or (bit_or (bit_and w.player0 w.player1) (bit_and (bit_or w.player0 w.player1) w.missile0))
+    (bit_and (bit_or (bit_or w.player0 w.player1) w.missile0) w.missile1))
+    (bit_and (bit_or (bit_or (bit_or w.player0 w.player1) w.missile0) w.missile1) w.ball))
+    (bit_and (bit_or (bit_or (bit_or (bit_or w.player0 w.player1) w.missile0) w.missile1) w.ball) w.playfield) ≡ 0 →
+    pairs_of_words l w ≡ l
+pairs_apart w l none =
+    let two = bit_or w.player0 w.player1 in
+    let three = bit_or two w.missile0 in
+    let four = bit_or three w.missile1 in
+    let five = bit_or four w.ball in
+    let a1 = bit_and w.player0 w.player1 in
+    let a2 = bit_and two w.missile0 in
+    let a3 = bit_and three w.missile1 in
+    let a4 = bit_and four w.ball in
+    let a5 = bit_and five w.playfield in
+    let b2 = bit_or a1 a2 in
+    let b3 = bit_or b2 a3 in
+    let b4 = bit_or b3 a4 in
+    let z5 = none_right b4 a5 none in
+    let y4 = none_left b4 a5 none in
+    let z4 = none_right b3 a4 y4 in
+    let y3 = none_left b3 a4 y4 in
+    let z3 = none_right b2 a3 y3 in
+    let y2 = none_left b2 a3 y3 in
+    let z2 = none_right a1 a2 y2 in
+    let z1 = none_left a1 a2 y2 in
+    let p2 = and_zero_parts w.player0 w.player1 w.missile0 z2 in
+    let p3 = and_zero_parts two w.missile0 w.missile1 z3 in
+    let q3 = and_zero_parts w.player0 w.player1 w.missile1 p3.0 in
+    let p4 = and_zero_parts three w.missile1 w.ball z4 in
+    let q4 = and_zero_parts two w.missile0 w.ball p4.0 in
+    let r4 = and_zero_parts w.player0 w.player1 w.ball q4.0 in
+    let p5 = and_zero_parts four w.ball w.playfield z5 in
+    let q5 = and_zero_parts three w.missile1 w.playfield p5.0 in
+    let r5 = and_zero_parts two w.missile0 w.playfield q5.0 in
+    let s5 = and_zero_parts w.player0 w.player1 w.playfield r5.0 in
+    let e0 = unmet (bit_and w.player0 w.player1) z1 in
+    let e1 = unmet (bit_and w.player0 w.missile0) p2.0 in
+    let e2 = unmet (bit_and w.player0 w.missile1) q3.0 in
+    let e3 = unmet (bit_and w.player0 w.ball) r4.0 in
+    let e4 = unmet (bit_and w.player0 w.playfield) s5.0 in
+    let e5 = unmet (bit_and w.player1 w.missile0) p2.1 in
+    let e6 = unmet (bit_and w.player1 w.missile1) q3.1 in
+    let e7 = unmet (bit_and w.player1 w.ball) r4.1 in
+    let e8 = unmet (bit_and w.player1 w.playfield) s5.1 in
+    let e9 = unmet (bit_and w.missile0 w.missile1) p3.1 in
+    let e10 = unmet (bit_and w.missile0 w.ball) q4.1 in
+    let e11 = unmet (bit_and w.missile0 w.playfield) r5.1 in
+    let e12 = unmet (bit_and w.missile1 w.ball) p4.1 in
+    let e13 = unmet (bit_and w.missile1 w.playfield) q5.1 in
+    let e14 = unmet (bit_and w.ball w.playfield) p5.1 in
+    simp (e0, e1, e2, e3, e4, e5, e6, e7, e8, e9, e10, e11, e12, e13, e14, or-false)
+  where
+    none_left : (a b : ℕ) → bit_or a b ≡ 0 → a ≡ 0
+    none_left a b e = omega (arith, le_or_l a b)
+
+    none_right : (a b : ℕ) → bit_or a b ≡ 0 → b ≡ 0
+    none_right a b e = omega (arith, le_or_r a b)
+
+    unmet : (v : ℕ) → v ≡ 0 → not (eqb v 0) ≡ false
+    unmet v e = ap (λ n. not (eqb n 0)) e

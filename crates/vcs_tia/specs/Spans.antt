@@ -2,10 +2,10 @@
 use Rattle.std.specs.Prelude.{◌≡◌, ℕ, zero, suc, slice_set, ◌+◌, ◌-◌, ◌%◌, ◌<◌, ◌≤◌, true, ◌==◌, List, if◌then◌else◌, false}
 use Rattle.vcs_tia.specs.declared.beam.Beam.{Beam}
 
--- so many bytes set, from a place on
-unfoldable pub filled : List ℕ → ℕ → ℕ → ℕ → List ℕ
+-- so many bytes set from a place on, each to its own colour
+unfoldable pub filled : List ℕ → ℕ → ℕ → (ℕ → ℕ) → List ℕ
 filled picture start zero colour = picture
-filled picture start (suc n) colour = slice_set (filled picture start n colour) (start + n) colour
+filled picture start (suc n) colour = slice_set (filled picture start n colour) (start + n) (colour n)
 
 -- so many clocks further, at most to the next line's start
 abbrev pub beam_after_part : ℕ → Beam → Beam

@@ -1,23 +1,52 @@
--- 32 pixels of the six rows, as a word of each.
-use Rattle.std.specs.Prelude.{ℕ, ◌+◌, ◌-◌, ◌*◌, ◌^◌, ◌%◌, Bool, false, ◌||◌, not, ◌==◌, bit_and}
+-- Up to 32 pixels of the six rows, as a word of each, and what is drawn of them.
+use Rattle.std.specs.Prelude.{◌≡◌, ℕ, ◌+◌, ◌-◌, ◌*◌, ◌/◌, ◌^◌, ◌<◌, ◌≤◌, List, [], ◌∷◌, Bool, false, ◌&&◌, ◌||◌, not, ◌==◌, nat_lt, if◌then◌else◌, bit_and, bit_or}
+use Rattle.std.specs.Int.{bit_at}
 use Rattle.vcs_tia.specs.Units.{has_bit}
 use Rattle.vcs_tia.specs.declared.words.Words.{Words}
+use Rattle.vcs_tia.specs.declared.words.Layers.{Layers}
 use Rattle.vcs_tia.specs.declared.beam.Lit.{Lit}
 use Rattle.vcs_tia.specs.declared.beam.Latches.{Latches}
+use Rattle.vcs_tia.specs.declared.chip.Tia.{Tia}
+use Rattle.vcs_tia.specs.Tia.{lit_at}
 
+-- no object is lit
 abbrev pub no_lit : Lit
 no_lit = record { player0 = false; player1 = false; missile0 = false; missile1 = false; ball = false; playfield = false }
+
+-- six words without a bit
+abbrev pub no_words : Words
+no_words = record { player0 = 0; player1 = 0; missile0 = 0; missile1 = 0; ball = 0; playfield = 0 }
 
 -- what is lit on the words' pixel i
 abbrev pub lit_bits : Words → ℕ → Lit
 lit_bits w i = record { player0 = has_bit w.player0 i; player1 = has_bit w.player1 i; missile0 = has_bit w.missile0 i; missile1 = has_bit w.missile1 i; ball = has_bit w.ball i; playfield = has_bit w.playfield i }
 
-abbrev pub words_kept : Words → ℕ → Words
-words_kept w mask = record { player0 = bit_and w.player0 mask; player1 = bit_and w.player1 mask; missile0 = bit_and w.missile0 mask; missile1 = bit_and w.missile1 mask; ball = bit_and w.ball mask; playfield = bit_and w.playfield mask }
+-- a set of objects, or none
+abbrev pub lit_where : Bool → Lit → Lit
+lit_where b s = record { player0 = b && s.player0; player1 = b && s.player1; missile0 = b && s.missile0; missile1 = b && s.missile1; ball = b && s.ball; playfield = b && s.playfield }
+
+-- the words say what is lit on so many pixels from the beam's clock on
+pub record IsSpan (t : Tia) (n : ℕ) (w : Words) : Type 0 where
+  pub bits : 68 ≤ t.beam.clock → (i : ℕ) → lit_bits w i ≡ lit_where (nat_lt i n) (lit_at t (t.beam.clock - 68 + i))
+
+-- the bits of a word from one on, so many of them
+abbrev pub bits_cut : ℕ → ℕ → ℕ → ℕ
+bits_cut word from count = bit_and (word / 2 ^ from) (2 ^ count - 1)
+
+-- the pixels of the words from one on, so many of them
+abbrev pub words_cut : Words → ℕ → ℕ → Words
+words_cut w from count = record {
+  player0 = bits_cut w.player0 from count;
+  player1 = bits_cut w.player1 from count;
+  missile0 = bits_cut w.missile0 from count;
+  missile1 = bits_cut w.missile1 from count;
+  ball = bits_cut w.ball from count;
+  playfield = bits_cut w.playfield from count;
+}
 
 -- the latches and those of each pair of words with a bit in common
-abbrev pub words_met : Latches → Words → Latches
-words_met l w = record {
+abbrev pub pairs_of_words : Latches → Words → Latches
+pairs_of_words l w = record {
   player0_player1 = l.player0_player1 || not (bit_and w.player0 w.player1 == 0);
   player0_missile0 = l.player0_missile0 || not (bit_and w.player0 w.missile0 == 0);
   player0_missile1 = l.player0_missile1 || not (bit_and w.player0 w.missile1 == 0);
@@ -35,6 +64,30 @@ words_met l w = record {
   ball_playfield = l.ball_playfield || not (bit_and w.ball w.playfield == 0);
 }
 
--- so many ones from a bit on, in 32 bits
-abbrev pub run_of_ones : ℕ → ℕ → ℕ
-run_of_ones from count = (2 ^ count - 1) * 2 ^ from % 2 ^ 32
+-- the objects of each colour joined
+abbrev pub layers_of : Words → Layers
+layers_of w = record { player0 = bit_or w.player0 w.missile0; player1 = bit_or w.player1 w.missile1; playfield = bit_or w.playfield w.ball }
+
+-- which layers are lit on pixel i: 1, 2 and 4, added
+abbrev pub layer_number : Layers → ℕ → ℕ
+layer_number l i = bit_at l.player0 i + 2 * bit_at l.player1 i + 4 * bit_at l.playfield i
+
+-- four numbers below 256, a byte of each, the first as the lowest
+abbrev pub in_bytes : ℕ → ℕ → ℕ → ℕ → ℕ
+in_bytes a b c d = a + 256 * b + 65536 * c + 16777216 * d
+
+-- the numbers of four pixels from pixel i on
+abbrev pub four_numbers : Layers → ℕ → ℕ
+four_numbers l i = in_bytes (layer_number l i) (layer_number l (i + 1)) (layer_number l (i + 2)) (layer_number l (i + 3))
+
+-- score divides the playfield's colour by halves
+abbrev pub is_split : Tia → Bool
+is_split t = t.playfield.score && not t.playfield.priority
+
+-- the colour of each number of layers, where score doesn't divide the playfield
+abbrev pub palette_of : Tia → List ℕ
+palette_of t =
+    if t.playfield.priority then (t.colours.background ∷ t.colours.player0 ∷ t.colours.player1 ∷ t.colours.player0
+    ∷ t.colours.playfield ∷ t.colours.playfield ∷ t.colours.playfield ∷ t.colours.playfield ∷ [])
+    else (t.colours.background ∷ t.colours.player0 ∷ t.colours.player1 ∷ t.colours.player0
+    ∷ t.colours.playfield ∷ t.colours.player0 ∷ t.colours.player1 ∷ t.colours.player0 ∷ [])

@@ -133,7 +133,8 @@ impl Tia {
     pub fn rose(&self) -> bool
         ensures { result ≡ vsync_rose self.now }
     {
-        self.sync.rose
+        let Sync { rose, .. } = self.sync;
+        rose
     }
 
     /// Where the beam is: the line since the frame's start, and the colour clock in it, below 228.
@@ -151,7 +152,10 @@ impl Tia {
     {
         self.sync.rose = false;
         self.fire.left = self.fire.left.at_frame_start(left_fire, self.fire.latching);
-        self.fire.right = self.fire.right.at_frame_start(right_fire, self.fire.latching);
+        self.fire.right = self
+            .fire
+            .right
+            .at_frame_start(right_fire, self.fire.latching);
     }
 
     /// A frame ends: the line is 0, the clock stays, and pressed buttons and VSYNC's rise are forgotten (own).

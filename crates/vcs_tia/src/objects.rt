@@ -5,8 +5,8 @@ ghost use Rattle.vcs_tia.specs.Units.{has_bit};
 ghost use Rattle.vcs_tia.specs.Rows.{IsRow};
 ghost use Rattle.vcs_tia.specs.Objects.{player_lit, missile_lit, ball_lit, shown_graphics, shown_enable, player_bit_lit, bit_clocks, missile_hidden, new_player, new_missile, new_ball};
 
-use super::spread::{doubled, quadrupled, reversed};
 use super::rows::Row;
+use super::spread::{doubled, quadrupled, reversed};
 use super::units::{Copies, Nibble, Place, Width};
 
 /// What the registers say of a player (Stella Programmer's Guide, "The Moveable Objects Graphics").

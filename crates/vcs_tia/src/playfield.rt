@@ -5,8 +5,8 @@ ghost use Rattle.vcs_tia.specs.Units.{has_bit};
 ghost use Rattle.vcs_tia.specs.Rows.{IsRow};
 ghost use Rattle.vcs_tia.specs.Playfield.{playfield_lit, playfield_bit, new_playfield};
 
-use super::spread::{quadrupled, reversed};
 use super::rows::Row;
+use super::spread::{quadrupled, reversed};
 
 /// What the registers say of the playfield (Stella Programmer's Guide, "Playfield").
 #[derive(Clone, Copy, PartialEq, Eq, Debug)]

@@ -1,27 +1,242 @@
 //! Drawing: some colour clocks of a line at a time, by masks.
 
-ghost use Rattle.std.specs.Prelude.{◌≡◌, ◌<◌, ◌≤◌, ◌+◌, ◌-◌, ◌*◌, ◌/◌, ◌%◌, Bool, ℕ};
+ghost use Rattle.std.specs.Prelude.{◌≡◌, ◌<◌, ◌≤◌, ◌+◌, ◌-◌, ◌*◌, ◌||◌, ℕ, false, nat_lt};
 ghost use Rattle.vcs_tia.specs.Beam.{beam_clocks};
 ghost use Rattle.vcs_tia.specs.Tia.{clocks_passed, latches_of, lit_at, colour_at, in_hmove_blank, colour_of_lit};
 ghost use Rattle.vcs_tia.specs.Trace.{after_clocks, trace, drawn};
 ghost use Rattle.vcs_tia.specs.Collisions.{PairsOf};
-ghost use Rattle.vcs_tia.specs.Words.{lit_bits};
+ghost use Rattle.vcs_tia.specs.Words.{lit_bits, IsSpan, is_split, palette_of};
 ghost use Rattle.vcs_tia.specs.Spans.{IsPart};
 
 use super::super::beam::{Latches, Lit};
 use super::super::screen::Picture;
-use super::super::words::{Words, mask_of};
-use super::Tia;
+use super::super::words::Words;
+use super::{Colours, Tia};
 use std::alloc::Allocator;
 
 impl Tia {
+    /// Lets colour clocks pass, and draws their pixels on a picture.
+    ///
+    /// Where the beam would come to line 65,536 it may not be called; `beam` shows where it is.
+    pub fn advance<A: Allocator>(&mut self, clocks: u16, picture: &mut Picture<A>)
+        requires { clocks_passed self.old + clocks < 65536 * 228 }
+        ensures tia { self.new ≡ after_clocks clocks self.old }
+        ensures picture { picture.new ≡ drawn (trace clocks self.old) picture.old }
+        ensures pairs { PairsOf (latches_of self.old) (trace clocks self.old) (latches_of self.new) }
+    {
+        let mut left = clocks;
+        while left > 0 {
+            let part = self.part(left);
+            let words = self.span(part);
+            self.paint_part(&words, part, picture);
+            self.pass_part(&words, part);
+            left -= part as u16;
+        }
+    }
+
+    /// Lets colour clocks pass without a picture: the same as `advance` for the TIA.
+    ///
+    /// Where the beam would come to line 65,536 it may not be called; `beam` shows where it is.
+    pub fn pass(&mut self, clocks: u16)
+        requires { clocks_passed self.old + clocks < 65536 * 228 }
+        ensures tia { self.new ≡ after_clocks clocks self.old }
+        ensures pairs { PairsOf (latches_of self.old) (trace clocks self.old) (latches_of self.new) }
+    {
+        let mut rest = clocks;
+        while rest > 0 {
+            let part = self.part(rest);
+            let words = self.span(part);
+            self.pass_part(&words, part);
+            rest -= part as u16;
+        }
+    }
+
+    /// How many of some clocks belong to the same part of the line: its blank, a word of pixels, or the eight pixels of HMOVE's blank.
+    fn part(&self, left: u16) -> u8
+        requires { 0 < left }
+        ensures part { IsPart self.now.beam result }
+        ensures most { result ≤ left }
+    {
+        let clock = self.beam.clock.number();
+        let room = if clock < 68 {
+            68 - clock
+        } else if self.beam.hmove_blank && clock < 76 {
+            76 - clock
+        } else {
+            32 - (clock - 68) % 32
+        };
+        if left < room as u16 { left as u8 } else { room }
+    }
+
+    /// What is lit on some pixels from the beam's on; nothing in the blank.
+    fn span(&self, clocks: u8) -> Words
+        requires { IsPart self.now.beam clocks }
+        ensures { IsSpan self.now clocks result }
+    {
+        let clock = self.beam.clock.number();
+        if clock < 68 {
+            return Words::none();
+        }
+        let x = clock - 68;
+        let words = self.words((x / 32) as usize);
+        words.cut((x % 32) as u32, clocks as u32)
+    }
+
+    /// 32 pixels of the six rows.
+    fn words(&self, number: usize) -> Words
+        requires { number < 5 }
+        ensures { (i : ℕ) → i < 32 → lit_bits result i ≡ lit_at self.now (32 * number + i) }
+    {
+        Words {
+            player0: self.player0.word(number),
+            player1: self.player1.word(number),
+            missile0: self.missile0.word(number),
+            missile1: self.missile1.word(number),
+            ball: self.ball.word(number),
+            playfield: self.playfield.word(number),
+        }
+    }
+
+    /// Lets some clocks of one part of the line pass.
+    fn pass_part(&mut self, words: &Words, clocks: u8)
+        requires part { IsPart self.old.beam clocks }
+        requires span { IsSpan self.old clocks words.now }
+        requires beam { beam_clocks self.old.beam + clocks < 65536 * 228 }
+        ensures { self.new ≡ after_clocks clocks self.old }
+    {
+        self.latches = self.latches_after(words, clocks);
+        self.beam.move_by(clocks);
+    }
+
+    /// The latches after some clocks of one part of the line.
+    fn latches_after(&self, words: &Words, clocks: u8) -> Latches
+        requires part { IsPart self.now.beam clocks }
+        requires span { IsSpan self.now clocks words.now }
+        ensures { result ≡ latches_of (after_clocks clocks self.now) }
+    {
+        let clock = self.beam.clock.number();
+        if clock < 68 {
+            return self.latches;
+        }
+        if self.in_hmove_blank(clock - 68) {
+            return self.latches;
+        }
+        words.met(self.latches)
+    }
+
+    /// Draws the pixels of some clocks of one part of the line.
+    fn paint_part<A: Allocator>(&self, words: &Words, clocks: u8, picture: &mut Picture<A>)
+        requires part { IsPart self.now.beam clocks }
+        requires span { IsSpan self.now clocks words.now }
+        ensures { picture.new ≡ drawn (trace clocks self.now) picture.old }
+    {
+        let clock = self.beam.clock.number();
+        if clock < 68 {
+            return;
+        }
+        if self.beam.line < 34 {
+            return;
+        }
+        if self.beam.line >= 244 {
+            return;
+        }
+        self.paint_visible(words, clock - 68, clocks, picture);
+    }
+
+    /// Draws some pixels of a line of the picture, from pixel x on.
+    fn paint_visible<A: Allocator>(
+        &self,
+        words: &Words,
+        x: u8,
+        clocks: u8,
+        picture: &mut Picture<A>,
+    )
+        requires part { IsPart self.now.beam clocks }
+        requires span { IsSpan self.now clocks words.now }
+        requires clock { self.now.beam.clock ≡ 68 + x }
+        requires top { 34 ≤ self.now.beam.line }
+        requires bottom { self.now.beam.line < 244 }
+        ensures { picture.new ≡ drawn (trace clocks self.now) picture.old }
+    {
+        let row = (self.beam.line - 34) as usize;
+        if self.is_black(x) {
+            picture.fill(row, x as usize, clocks as usize, 0);
+            return;
+        }
+        if self.is_split() {
+            self.paint_each(words, x, clocks, picture);
+            return;
+        }
+        let layers = words.layers();
+        if layers.are_empty() {
+            picture.fill(row, x as usize, clocks as usize, self.colours.background);
+            return;
+        }
+        picture.paint_layers(row, x as usize, clocks as u32, &layers, &self.palette());
+    }
+
+    /// Draws some pixels of a line one by one, where score divides the playfield's colour.
+    fn paint_each<A: Allocator>(&self, words: &Words, x: u8, clocks: u8, picture: &mut Picture<A>)
+        requires part { IsPart self.now.beam clocks }
+        requires span { IsSpan self.now clocks words.now }
+        requires clock { self.now.beam.clock ≡ 68 + x }
+        requires top { 34 ≤ self.now.beam.line }
+        requires bottom { self.now.beam.line < 244 }
+        requires seen { (self.now.blank || in_hmove_blank self.now x) ≡ false }
+        ensures { picture.new ≡ drawn (trace clocks self.now) picture.old }
+    {
+        let row = (self.beam.line - 34) as usize;
+        for i in 0..clocks {
+            let lit = words.lit(i as u32);
+            let colour = self.colour_of_lit(lit, x + i);
+            picture.paint(row, (x + i) as usize, colour);
+        }
+    }
+
+    /// Whether pixel x is one of the eight black ones of this line.
     fn in_hmove_blank(&self, x: u8) -> bool
         ensures { result ≡ in_hmove_blank self.now x }
     {
         self.beam.hmove_blank && x < 8
     }
 
-    /// The colour where these objects are lit.
+    /// Whether pixel x is black whatever is lit.
+    fn is_black(&self, x: u8) -> bool
+        ensures { result ≡ (self.now.blank || in_hmove_blank self.now x) }
+    {
+        self.blank || self.in_hmove_blank(x)
+    }
+
+    /// Whether score divides the playfield's colour by halves.
+    fn is_split(&self) -> bool
+        ensures { result ≡ is_split self.now }
+    {
+        let settings = self.playfield.settings();
+        settings.score && !settings.priority
+    }
+
+    /// The colour of each number of layers, where score doesn't divide the playfield.
+    fn palette(&self) -> [u8; 8]
+        ensures { result ≡ palette_of self.now }
+    {
+        let Colours {
+            player0,
+            player1,
+            playfield,
+            background,
+        } = self.colours;
+        if self.playfield.settings().priority {
+            [
+                background, player0, player1, player0, playfield, playfield, playfield, playfield,
+            ]
+        } else {
+            [
+                background, player0, player1, player0, playfield, player0, player1, player0,
+            ]
+        }
+    }
+
+    /// The colour of pixel x where these objects are lit.
     fn colour_of_lit(&self, lit: Lit, x: u8) -> u8
         ensures { result ≡ colour_of_lit self.now lit x }
     {
@@ -45,135 +260,6 @@ impl Tia {
             field
         } else {
             self.colours.background
-        }
-    }
-}
-
-impl Tia {
-    /// 32 pixels of the six rows.
-    fn words(&self, number: usize) -> Words
-        requires { number < 5 }
-        ensures { (i : ℕ) → i < 32 → lit_bits result i ≡ lit_at self.now (32 * number + i) }
-    {
-        Words {
-            player0: self.player0.word(number),
-            player1: self.player1.word(number),
-            missile0: self.missile0.word(number),
-            missile1: self.missile1.word(number),
-            ball: self.ball.word(number),
-            playfield: self.playfield.word(number),
-        }
-    }
-
-    /// How many of some clocks belong to the same part of the line: its blank, a word of pixels, or the eight pixels of HMOVE's blank.
-    fn part(&self, left: u16) -> u8
-        requires { 0 < left }
-        ensures part { IsPart self.now.beam result }
-        ensures most { result ≤ left }
-    {
-        let clock = self.beam.clock.number();
-        let room = if clock < 68 {
-            68 - clock
-        } else if self.beam.hmove_blank && clock < 76 {
-            76 - clock
-        } else {
-            32 - (clock - 68) % 32
-        };
-        if left < room as u16 { left as u8 } else { room }
-    }
-
-    /// Lets some clocks of one part of the line pass.
-    fn pass_part(&mut self, clocks: u8)
-        requires part { IsPart self.old.beam clocks }
-        requires beam { beam_clocks self.old.beam + clocks < 65536 * 228 }
-        ensures { self.new ≡ after_clocks clocks self.old }
-    {
-        self.latches = self.latches_after(clocks);
-        self.beam.move_by(clocks);
-    }
-
-    /// The latches after some clocks of one part of the line.
-    fn latches_after(&self, clocks: u8) -> Latches
-        requires { IsPart self.now.beam clocks }
-        ensures { result ≡ latches_of (after_clocks clocks self.now) }
-    {
-        let clock = self.beam.clock.number();
-        if clock < 68 {
-            return self.latches;
-        }
-        let x = clock - 68;
-        if self.in_hmove_blank(x) {
-            return self.latches;
-        }
-        let mask = mask_of((x % 32) as u32, clocks as u32);
-        let words = self.words((x / 32) as usize).kept(mask);
-        words.met(self.latches)
-    }
-
-    /// Draws the pixels of some clocks of one part of the line.
-    fn paint_part<A: Allocator>(&self, clocks: u8, picture: &mut Picture<A>)
-        requires { IsPart self.now.beam clocks }
-        ensures { picture.new ≡ drawn (trace clocks self.now) picture.old }
-    {
-        let clock = self.beam.clock.number();
-        let line = self.beam.line;
-        if clock >= 68 && line >= 34 && line < 244 {
-            let x = clock - 68;
-            let row = (line - 34) as usize;
-            let words = self.words((x / 32) as usize);
-            let mask = mask_of((x % 32) as u32, clocks as u32);
-            if words.kept(mask).is_empty() {
-                let plain = self.shade(Lit::none(), x);
-                picture.fill(row, x as usize, clocks as usize, plain);
-                return;
-            }
-            for i in 0..clocks {
-                let lit = words.lit((x % 32 + i) as u32);
-                let colour = self.shade(lit, x + i);
-                picture.paint(row, (x + i) as usize, colour);
-            }
-        }
-    }
-
-    /// Lets colour clocks pass, and draws their pixels.
-    pub fn advance<A: Allocator>(&mut self, clocks: u16, picture: &mut Picture<A>)
-        requires { clocks_passed self.old + clocks < 65536 * 228 }
-        ensures tia { self.new ≡ after_clocks clocks self.old }
-        ensures picture { picture.new ≡ drawn (trace clocks self.old) picture.old }
-        ensures pairs { PairsOf (latches_of self.old) (trace clocks self.old) (latches_of self.new) }
-    {
-        let mut left = clocks;
-        while left > 0 {
-            let part = self.part(left);
-            self.paint_part(part, picture);
-            self.pass_part(part);
-            left -= part as u16;
-        }
-    }
-
-    /// Lets colour clocks pass with no picture.
-    pub fn pass(&mut self, clocks: u16)
-        requires { clocks_passed self.old + clocks < 65536 * 228 }
-        ensures tia { self.new ≡ after_clocks clocks self.old }
-        ensures pairs { PairsOf (latches_of self.old) (trace clocks self.old) (latches_of self.new) }
-    {
-        let mut left = clocks;
-        while left > 0 {
-            let part = self.part(left);
-            self.pass_part(part);
-            left -= part as u16;
-        }
-    }
-
-    /// The colour of a pixel on which this is lit.
-    fn shade(&self, lit: Lit, x: u8) -> u8
-        requires { lit ≡ lit_at self.now x }
-        ensures { result ≡ colour_at self.now x }
-    {
-        if self.blank || self.in_hmove_blank(x) {
-            0
-        } else {
-            self.colour_of_lit(lit, x)
         }
     }
 }

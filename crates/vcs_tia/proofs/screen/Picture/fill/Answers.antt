@@ -14,5 +14,5 @@ loop-i-preserved g c =
       all = length-set c.loop-i.self-inside.bytes.items _ _ ∙ c.loop-i.invariant.all;
       done =
           ap (λ p. set p (start + c.loop-i.i) c.args.colour) c.loop-i.invariant.done
-          ∙ ap (λ n. filled c.args.self.now start n c.args.colour) (sym (add-one c.loop-i.i));
+          ∙ ap (λ n. filled c.args.self.now start n (λ _. c.args.colour)) (sym (add-one c.loop-i.i));
     }

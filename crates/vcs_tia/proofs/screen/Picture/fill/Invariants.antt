@@ -5,5 +5,5 @@ use Rattle.vcs_tia.proofs.screen.Picture.fill.Given as goal
 abbrev pub invariant-loop-i : goal.invariant-loop-i
 invariant-loop-i g l = record {
   all : length l.self-inside.bytes.items ≡ 33600;
-  done : l.self-inside.bytes.items ≡ filled l.fn.self l.start l.i l.colour;
+  done : l.self-inside.bytes.items ≡ filled l.fn.self l.start l.i (λ _. l.colour);
 }

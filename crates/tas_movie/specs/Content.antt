@@ -1,0 +1,7 @@
+-- A movie as contracts see it: the cartridge's bytes, and one input for each frame (own).
+use Rattle.std.specs.Prelude.{ℕ, List}
+use Rattle.vcs_machine.specs.declared.input.Input.{Input}
+
+pub record MovieContent : Type 0 where
+  pub cart : List ℕ
+  pub inputs : List Input

@@ -1,0 +1,4 @@
+pub mod Content
+pub mod Edit
+pub mod Text
+pub mod Fault

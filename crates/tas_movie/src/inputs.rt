@@ -1,0 +1,54 @@
+//! A list of inputs that an edit holds.
+
+ghost use Rattle.std.specs.Prelude.{◌≡◌, IfOk};
+
+use std::alloc::{AllocError, Allocator, Global};
+use std::marker::Model;
+use vcs_machine::Input;
+
+/// A list of inputs, one for each frame (own). It is made from a `Vec` and gives it back, without memory.
+#[derive(Drop)]
+pub struct Inputs<A: Allocator = Global> {
+    list: Vec<Input, A>,
+}
+
+impl<A: Allocator> Model for Inputs<A> {
+    ghost use Rattle.std.specs.Prelude.{List};
+    ghost use Rattle.vcs_machine.specs.declared.input.Input.{Input};
+
+    ghost Value = { List Input };
+
+    ghost view = { λ a. a.list.items };
+}
+
+impl<A: Allocator> Inputs<A> {
+    /// The inputs of this list, in its order.
+    pub fn from_vec(list: Vec<Input, A>) -> Inputs<A>
+        ensures { result ≡ list.items }
+    {
+        Self { list }
+    }
+
+    /// The list that holds the inputs.
+    pub fn into_vec(self) -> Vec<Input, A>
+        ensures { result.items ≡ self }
+    {
+        let Inputs { list } = self;
+        list
+    }
+
+    /// The inputs, in order.
+    pub fn as_slice(&self) -> &[Input]
+        ensures { result.now ≡ self.now }
+    {
+        self.list.as_slice()
+    }
+
+    /// An equal list. `AllocError` where memory is refused.
+    pub fn copy<B: Allocator>(&self, alloc: B) -> Result<Inputs<B>, AllocError>
+        ensures { IfOk result (λ inputs. inputs ≡ self.now) }
+    {
+        let list = Vec::from_slice(alloc, self.as_slice())?;
+        Ok(Inputs::from_vec(list))
+    }
+}

@@ -1,0 +1,99 @@
+//! A movie: a cartridge and one input for each frame.
+
+ghost use Rattle.std.specs.Prelude.{◌≡◌, ◌≤◌, ◌<◌, ◌==◌, [], length, replicate, slice_get, Some, IfOk};
+
+use std::alloc::{AllocError, Allocator, Global};
+use std::marker::Model;
+use vcs_machine::{Cart, Input};
+
+/// How many inputs a movie has at most (own).
+pub const MAX_FRAMES: usize = 65536;
+
+/// A cartridge and at most `MAX_FRAMES` inputs, one for each frame, with room reserved for all of them (own).
+#[derive(Drop)]
+pub struct Movie<A: Allocator = Global> {
+    pub(crate) cart: Cart<A>,
+    pub(crate) list: Vec<Input, A>,
+}
+
+impl<A: Allocator> Model for Movie<A> {
+    ghost use Rattle.std.specs.Prelude.{◌≤◌, ℕ, List, vec_len, vec_capacity};
+    ghost use Rattle.tas_movie.specs.Content.{MovieContent};
+    ghost use Rattle.tas_movie.specs.declared.movie.TheConstants.{MAX_FRAMES};
+
+    ghost Value = { MovieContent };
+
+    ghost view = { λ a. record { cart = a.cart; inputs = a.list.items } };
+
+    ghost invariant = { λ a. (vec_len a.list ≤ MAX_FRAMES) × (MAX_FRAMES ≤ vec_capacity a.list) };
+}
+
+impl<A: Allocator + Copy> Movie<A> {
+    /// The blank cartridge, all zeros, with no inputs. `AllocError` where memory is refused.
+    pub fn blank(alloc: A) -> Result<Movie<A>, AllocError>
+        ensures { IfOk result (λ movie. movie ≡ record { cart = replicate 4096 0; inputs = [] }) }
+    {
+        let cart = Cart::blank(alloc)?;
+        let list = Vec::with_capacity(alloc, MAX_FRAMES)?;
+        Ok(Movie { cart, list })
+    }
+
+    /// A copy of this cartridge, with no inputs. `AllocError` where memory is refused.
+    pub fn new<B: Allocator>(alloc: A, cart: &Cart<B>) -> Result<Movie<A>, AllocError>
+        ensures { IfOk result (λ movie. movie ≡ record { cart = cart.now; inputs = [] }) }
+    {
+        let cart = cart.copy(alloc)?;
+        let list = Vec::with_capacity(alloc, MAX_FRAMES)?;
+        Ok(Movie { cart, list })
+    }
+}
+
+impl<A: Allocator> Movie<A> {
+    /// An equal movie, with room of its own for all inputs. `AllocError` where memory is refused.
+    pub fn copy<B: Allocator + Copy>(&self, alloc: B) -> Result<Movie<B>, AllocError>
+        ensures { IfOk result (λ movie. movie ≡ self.now) }
+    {
+        let cart = self.cart.copy(alloc)?;
+        let mut list = Vec::with_capacity(alloc, MAX_FRAMES)?;
+        list.extend_from_slice(self.inputs())?;
+        Ok(Movie { cart, list })
+    }
+
+    /// The cartridge.
+    pub fn cart(&self) -> &Cart<A>
+        ensures { result.now ≡ self.now.cart }
+    {
+        &self.cart
+    }
+
+    /// How many inputs there are: the movie's length in frames.
+    pub fn len(&self) -> usize
+        ensures len { result ≡ length self.now.inputs }
+        ensures bound { result ≤ MAX_FRAMES }
+    {
+        self.list.len()
+    }
+
+    /// Whether there are no inputs.
+    pub fn is_empty(&self) -> bool
+        ensures { result ≡ (length self.now.inputs == 0) }
+    {
+        self.list.is_empty()
+    }
+
+    /// The inputs, in order.
+    pub fn inputs(&self) -> &[Input]
+        ensures inputs { result.now ≡ self.now.inputs }
+        ensures bound { length self.now.inputs ≤ MAX_FRAMES }
+    {
+        self.list.as_slice()
+    }
+
+    /// The input of frame `k`, counted from 0; `len` says how many there are.
+    pub fn input(&self, k: usize) -> Input
+        requires { k < length self.now.inputs }
+        ensures { slice_get self.now.inputs k ≡ Some result }
+    {
+        self.list[k]
+    }
+}

@@ -1,0 +1,86 @@
+//! Printing the text of a movie.
+
+ghost use Rattle.std.specs.Prelude.{◌≡◌, ◌++◌, IfOk, OnOk};
+ghost use Rattle.std.specs.List.{flat_map};
+ghost use Rattle.tas_movie.specs.Text.{mark, frame_text, frame_line, digest_text, text};
+
+use crate::Movie;
+use sha2::{Digest, Sha256};
+use std::alloc::{AllocError, Allocator};
+use vcs_machine::{Cart, Input};
+
+/// How many bytes the first two lines of a text have.
+const HEAD_SIZE: usize = 81;
+
+/// How many bytes the line of a frame has.
+const FRAME_SIZE: usize = 18;
+
+fn mark(letter: u8, pressed: bool) -> u8
+    ensures { result ≡ mark letter pressed }
+{
+    if pressed { letter } else { b'.' }
+}
+
+/// The 17 characters of a frame, as `RLDUF RLDUF rsbAB`: left stick, right stick, switches (own).
+pub fn print_frame(input: Input) -> [u8; 17]
+    ensures { result ≡ frame_text input }
+{
+    let left = input.left;
+    let right = input.right;
+    [
+        mark(b'R', left.right),
+        mark(b'L', left.left),
+        mark(b'D', left.down),
+        mark(b'U', left.up),
+        mark(b'F', left.fire),
+        b' ',
+        mark(b'R', right.right),
+        mark(b'L', right.left),
+        mark(b'D', right.down),
+        mark(b'U', right.up),
+        mark(b'F', right.fire),
+        b' ',
+        mark(b'r', input.reset),
+        mark(b's', input.select),
+        mark(b'b', input.mono),
+        mark(b'A', input.left_a),
+        mark(b'B', input.right_a),
+    ]
+}
+
+/// The line that names a cartridge by its digest, without its newline.
+#[tactic(auto, unfolding(crate::specs::Text::digest_text))]
+pub fn print_digest<A: Allocator>(cart: &Cart<A>) -> [u8; 69]
+    ensures { result ≡ digest_text cart.now }
+{
+    let digest = Sha256::digest(cart.bytes());
+    let mut text = [0; 69];
+    text[..5].copy_from_slice(b"cart ");
+    hex::encode_to_slice(digest, &mut text[5..]).unwrap();
+    text
+}
+
+fn push_frames<A: Allocator>(out: &mut Vec<u8, A>, inputs: &[Input]) -> Result<(), AllocError>
+    ensures { OnOk result (out.new.items ≡ out.old.items ++ flat_map frame_line inputs.now) }
+{
+    for input in inputs {
+        out.extend_from_slice(&print_frame(*input))?;
+        out.push(b'\n')?;
+    }
+    Ok(())
+}
+
+/// The text of a movie (own). `AllocError` where memory is refused.
+pub fn print_text<A: Allocator, B: Allocator>(
+    alloc: B,
+    movie: &Movie<A>,
+) -> Result<Vec<u8, B>, AllocError>
+    ensures { IfOk result (λ bytes. bytes.items ≡ text movie.now) }
+{
+    let mut out = Vec::with_capacity(alloc, HEAD_SIZE + FRAME_SIZE * movie.len())?;
+    out.extend_from_slice(b"a26movie 1\n")?;
+    out.extend_from_slice(&print_digest(movie.cart()))?;
+    out.push(b'\n')?;
+    push_frames(&mut out, movie.inputs())?;
+    Ok(out)
+}

@@ -1,0 +1,170 @@
+//! Reading the text of a movie.
+
+ghost use Rattle.std.specs.Prelude.{◌≡◌, ◌++◌, ◌∷◌, [], ◌≤◌, length, MatchResult, OnOk, OnSome, IfOk, IfNone, IfSome, None, Some, true, false, vec_len, vec_capacity};
+ghost use Rattle.std.specs.List.{flat_map};
+ghost use Rattle.std.specs.Str.{bytes_eq};
+ghost use Rattle.vcs_machine.specs.declared.input.Input.{Input};
+ghost use Rattle.tas_movie.specs.declared.movie.TheConstants.{MAX_FRAMES};
+ghost use Rattle.tas_movie.specs.Content.{MovieContent};
+ghost use Rattle.tas_movie.specs.Text.{line, frame_text, frame_line, digest_text, text};
+ghost use Rattle.tas_movie.specs.Fault.{shown_input, is_frame, split_lines, frames_fault, fault, IsReadError};
+
+use crate::printing::{print_digest, print_frame};
+use crate::{MAX_FRAMES, Movie, ReadError, TextError, TextErrorKind};
+use std::alloc::Allocator;
+use vcs_machine::{Cart, Input, Stick};
+
+/// The first line, without its newline, and what follows; nothing where no newline ends it.
+fn split_line(bytes: &[u8]) -> Option<(&[u8], &[u8])>
+    ensures none { IfNone result (split_lines bytes.now ≡ record { lines = []; rest = bytes.now }) }
+    ensures lines { IfSome result (λ parts. split_lines bytes.now ≡ record { lines = parts.0.now ∷ (split_lines parts.1.now).lines; rest = (split_lines parts.1.now).rest }) }
+    ensures bytes { IfSome result (λ parts. bytes.now ≡ line parts.0.now ++ parts.1.now) }
+{
+    for at in 0..bytes.len() {
+        if bytes[at] == b'\n' {
+            return Some((&bytes[..at], &bytes[at + 1..]));
+        }
+    }
+    None
+}
+
+/// The input that the letters of a line show.
+fn shown_input(line: &[u8]) -> Input
+    requires { length line.now ≡ 17 }
+    ensures { result ≡ shown_input line.now }
+{
+    Input {
+        left: Stick {
+            right: line[0] == b'R',
+            left: line[1] == b'L',
+            down: line[2] == b'D',
+            up: line[3] == b'U',
+            fire: line[4] == b'F',
+        },
+        right: Stick {
+            right: line[6] == b'R',
+            left: line[7] == b'L',
+            down: line[8] == b'D',
+            up: line[9] == b'U',
+            fire: line[10] == b'F',
+        },
+        reset: line[12] == b'r',
+        select: line[13] == b's',
+        mono: line[14] == b'b',
+        left_a: line[15] == b'A',
+        right_a: line[16] == b'B',
+    }
+}
+
+/// The input of which these bytes are the 17 characters, without a newline; nothing where there is none (own).
+pub fn read_frame(line: &[u8]) -> Option<Input>
+    ensures some { IfSome result (λ input. line.now ≡ frame_text input) }
+    ensures all { (input : Input) → line.now ≡ frame_text input → result ≡ Some input }
+    ensures is_frame { OnSome result (is_frame line.now ≡ true) }
+    ensures is_none { IfNone result (is_frame line.now ≡ false) }
+{
+    if line.len() != 17 {
+        return None;
+    }
+    let input = shown_input(line);
+    if line == print_frame(input).as_slice() {
+        Some(input)
+    } else {
+        None
+    }
+}
+
+fn error_at(line: usize, kind: TextErrorKind) -> TextError
+    ensures { result ≡ record { line = line; kind = kind } }
+{
+    TextError { line, kind }
+}
+
+/// Reads the frames' lines into an empty list with room for them.
+fn read_frames<A: Allocator>(list: &mut Vec<Input, A>, bytes: &[u8]) -> Result<(), TextError>
+    requires empty { list.old.items ≡ [] }
+    requires room { MAX_FRAMES ≤ vec_capacity list.old }
+    ensures frames { OnOk result (bytes.now ≡ flat_map frame_line list.new.items) }
+    ensures fault { MatchResult result
+        (λ _. frames_fault 0 (split_lines bytes.now).lines (split_lines bytes.now).rest ≡ None)
+        (λ e. frames_fault 0 (split_lines bytes.now).lines (split_lines bytes.now).rest ≡ Some e) }
+    ensures bound { vec_len list.new ≤ MAX_FRAMES }
+    ensures capacity { vec_capacity list.old ≤ vec_capacity list.new }
+{
+    let mut rest = bytes;
+    while !rest.is_empty() {
+        let number = list.len() + 3;
+        let Some((line, after)) = split_line(rest) else {
+            return Err(error_at(number, TextErrorKind::End));
+        };
+        if list.len() >= MAX_FRAMES {
+            return Err(error_at(number, TextErrorKind::TooMany));
+        }
+        let Some(input) = read_frame(line) else {
+            return Err(error_at(number, TextErrorKind::Frame));
+        };
+        list.push(input).unwrap();
+        rest = after;
+    }
+    Ok(())
+}
+
+/// Whether the line names the cartridge by its digest.
+fn is_digest<A: Allocator>(line: &[u8], cart: &Cart<A>) -> bool
+    ensures { result ≡ bytes_eq line.now (digest_text cart.now) }
+{
+    let text = print_digest(cart);
+    line == text.as_slice()
+}
+
+/// Reads the text of a movie with this cartridge, and answers its inputs in the empty list.
+fn read_lines<A: Allocator, B: Allocator>(
+    list: &mut Vec<Input, A>,
+    bytes: &[u8],
+    cart: &Cart<B>,
+) -> Result<(), TextError>
+    requires empty { list.old.items ≡ [] }
+    requires room { MAX_FRAMES ≤ vec_capacity list.old }
+    ensures movie { OnOk result (bytes.now ≡ text (record { cart = cart.now; inputs = list.new.items })) }
+    ensures fault { MatchResult result (λ _. fault bytes.now cart.now ≡ None) (λ e. fault bytes.now cart.now ≡ Some e) }
+    ensures bound { vec_len list.new ≤ MAX_FRAMES }
+    ensures capacity { vec_capacity list.old ≤ vec_capacity list.new }
+{
+    let Some((head, after_head)) = split_line(bytes) else {
+        return Err(error_at(1, TextErrorKind::End));
+    };
+    if head != b"a26movie 1".as_slice() {
+        return Err(error_at(1, TextErrorKind::Head));
+    }
+    let Some((second, frames)) = split_line(after_head) else {
+        return Err(error_at(2, TextErrorKind::End));
+    };
+    if !is_digest(second, cart) {
+        return Err(error_at(2, TextErrorKind::Digest));
+    }
+    read_frames(list, frames)
+}
+
+/// Reads the text of a movie with this cartridge (own). `Memory` comes first, since the room for a movie is reserved
+/// before the text is looked at; `Text` names the first line at fault.
+pub fn read_text<A: Allocator + Copy, B: Allocator>(
+    alloc: A,
+    bytes: &[u8],
+    cart: &Cart<B>,
+) -> Result<Movie<A>, ReadError>
+    // What is read is the movie of this text.
+    ensures found { IfOk result (λ movie. (movie.cart ≡ cart.now) × (bytes.now ≡ text movie)) }
+    // A text is never refused, but for want of memory.
+    ensures all { (movie : MovieContent) → movie.cart ≡ cart.now → length movie.inputs ≤ MAX_FRAMES → bytes.now ≡ text movie →
+        MatchResult result (λ read. read ≡ movie) (λ e. e ≡ ReadError.Memory) }
+    // Which line is at fault, and how.
+    ensures fault { MatchResult result (λ _. fault bytes.now cart.now ≡ None) (IsReadError (fault bytes.now cart.now)) }
+{
+    let Ok(mut movie) = Movie::new(alloc, cart) else {
+        return Err(ReadError::Memory);
+    };
+    match read_lines(&mut movie.list, bytes, cart) {
+        Ok(()) => Ok(movie),
+        Err(error) => Err(ReadError::Text(error)),
+    }
+}

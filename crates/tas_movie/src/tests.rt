@@ -1,0 +1,320 @@
+use super::*;
+use std::alloc::{AllocError, Global};
+use std::test::Fail;
+use vcs_machine::{Cart, Input};
+
+/// `000=A910850DA91E85084C08F0 FFC=00F0`, all other bytes 0.
+fn playfield_cart(alloc: Global) -> Result<Cart, Fail> {
+    let mut image = [0u8; 4096];
+    image[..11].copy_from_slice(b"\xA9\x10\x85\x0D\xA9\x1E\x85\x08\x4C\x08\xF0");
+    image[4093] = 0xF0;
+    Ok(Cart::from_bytes(alloc, &image)?)
+}
+
+/// Its SHA-256, by another program.
+const CART_LINE: &[u8] = b"cart 820c64e9933496de683a000c5e11f0510fb7b1699b2ce86471295236b284906d\n";
+
+const CAPITALS: &[u8] = b"cart 820C64E9933496DE683A000C5E11F0510FB7B1699B2CE86471295236B284906D\n";
+/// That of 4,096 zeros, by another program.
+const BLANK_LINE: &[u8] =
+    b"cart ad7facb2586fc6e966c004d7d1d16b024f5805ff7cb47c7a85dabd8b48892ca7\n";
+
+const HEAD: &[u8] = b"a26movie 1\n";
+
+const NONE: &[u8] = b"..... ..... .....\n";
+
+fn joined(alloc: Global, parts: &[&[u8]]) -> Result<Vec<u8>, AllocError> {
+    let mut bytes = Vec::new(alloc);
+    for part in parts {
+        bytes.extend_from_slice(part)?;
+    }
+    Ok(bytes)
+}
+
+fn idle(alloc: Global, count: usize) -> Result<Inputs, AllocError> {
+    Ok(Inputs::from_vec(vec![in alloc; Input::none(); count]?))
+}
+
+fn make(movie: &mut Movie, edit: &Edit) -> Result<(), EditRefusal> {
+    check(movie, edit)?;
+    apply(movie, edit);
+    Ok(())
+}
+
+fn insert(
+    alloc: Global,
+    movie: &mut Movie,
+    at: usize,
+    count: usize,
+) -> Result<Result<(), EditRefusal>, AllocError> {
+    let inputs = idle(alloc, count)?;
+    Ok(make(movie, &Edit::Insert { at, inputs }))
+}
+
+/// How many frames were read, or the line at fault.
+fn read(alloc: Global, bytes: &[u8], cart: &Cart) -> Result<usize, ReadError> {
+    let movie = read_text(alloc, bytes, cart)?;
+    Ok(movie.len())
+}
+
+fn at(line: usize, kind: TextErrorKind) -> Result<usize, ReadError> {
+    Err(ReadError::Text(TextError { line, kind }))
+}
+
+#[test]
+fn limits(rt: HostRuntime) -> Result<(), Fail> {
+    let alloc = rt.alloc();
+    let blank = Movie::blank(alloc)?;
+    let cart = playfield_cart(alloc)?;
+    for mut movie in [blank, Movie::new(alloc, &cart)?] {
+        assert!(rt; movie.is_empty());
+        let long = Err(EditRefusal::Long { len: 0 });
+        assert_eq!(rt; insert(alloc, &mut movie, 0, 65537)?, long);
+        assert_eq!(rt; movie.len(), 0);
+        assert_eq!(rt; insert(alloc, &mut movie, 0, 65536)?, Ok(()));
+        assert_eq!(rt; movie.len(), 65536);
+        let len = 65536;
+        assert_eq!(rt;
+            insert(alloc, &mut movie, 0, 1)?,
+            Err(EditRefusal::Long { len })
+        );
+        assert_eq!(rt; movie.len(), 65536);
+        let place = Err(EditRefusal::Place { at: 65537, len });
+        assert_eq!(rt; insert(alloc, &mut movie, 65537, 1)?, place);
+        let inputs = idle(alloc, 0)?;
+        assert_eq!(rt;
+            make(&mut movie, &Edit::Replace { at: 65536, inputs }),
+            Ok(())
+        );
+        assert_eq!(rt; movie.len(), 65536);
+    }
+    Ok(())
+}
+
+#[test]
+fn places_past_the_end(rt: HostRuntime) -> Result<(), Fail> {
+    let alloc = rt.alloc();
+    let mut movie = Movie::blank(alloc)?;
+    let empty: Edit = Edit::Delete { at: 0, count: 0 };
+    assert_eq!(rt; make(&mut movie, &empty), Ok(()));
+    let place = Err(EditRefusal::Place { at: 0, len: 0 });
+    let one: Edit = Edit::Delete { at: 0, count: 1 };
+    assert_eq!(rt; make(&mut movie, &one), place);
+    let inputs = idle(alloc, 1)?;
+    assert_eq!(rt; make(&mut movie, &Edit::Replace { at: 0, inputs }), place);
+    let most: Edit = Edit::Delete {
+        at: usize::MAX,
+        count: usize::MAX,
+    };
+    let at = usize::MAX;
+    assert_eq!(rt;
+        make(&mut movie, &most),
+        Err(EditRefusal::Place { at, len: 0 })
+    );
+    Ok(())
+}
+
+#[test]
+fn texts_are_read_and_printed_again(rt: HostRuntime) -> Result<(), Fail> {
+    let alloc = rt.alloc();
+    let cart = playfield_cart(alloc)?;
+    let one = joined(alloc, &[HEAD, CART_LINE, NONE])?;
+    let none = joined(alloc, &[HEAD, CART_LINE])?;
+    let other = joined(
+        alloc,
+        &[HEAD, CART_LINE, NONE, b"RL..F .LDU. r.bAB\n", NONE],
+    )?;
+    for (text, size, frames) in [(one, 99, 1), (none, 81, 0), (other, 135, 3)] {
+        assert_eq!(rt; text.len(), size);
+        let movie = read_text(alloc, &text, &cart)?;
+        assert_eq!(rt; movie.len(), frames);
+        assert!(rt; movie.cart().bytes() == cart.bytes());
+        let printed = print_text(alloc, &movie)?;
+        assert!(rt; printed.as_slice() == text.as_slice());
+    }
+    one_movie_per_text();
+    texts_have_no_fault();
+    Ok(())
+}
+
+#[test]
+fn first_two_lines_at_fault(rt: HostRuntime) -> Result<(), Fail> {
+    let alloc = rt.alloc();
+    let cart = playfield_cart(alloc)?;
+    let text = joined(alloc, &[HEAD, CART_LINE, NONE])?;
+    for (count, byte) in text.iter().enumerate() {
+        let cut = read(alloc, &text[..count], &cart);
+        let want = match count {
+            0..=10 => at(1, TextErrorKind::End),
+            11..=80 => at(2, TextErrorKind::End),
+            81 => Ok(0),
+            _ => at(3, TextErrorKind::End),
+        };
+        assert_eq!(rt; cut, want, "{count} bytes before {byte}");
+    }
+    let heads: [&[u8]; 4] = [b"a26movie 3\n", b"A26movie 1\n", b"\n", b"a26movie 1 \n"];
+    for head in heads {
+        let bytes = joined(alloc, &[head, CART_LINE, NONE])?;
+        assert_eq!(rt; read(alloc, &bytes, &cart), at(1, TextErrorKind::Head));
+    }
+    let digests: [&[u8]; 4] = [BLANK_LINE, CAPITALS, NONE, b"\n"];
+    for digest in digests {
+        let bytes = joined(alloc, &[HEAD, digest, NONE])?;
+        assert_eq!(rt; read(alloc, &bytes, &cart), at(2, TextErrorKind::Digest));
+    }
+    Ok(())
+}
+
+#[test]
+fn frames_at_fault(rt: HostRuntime) -> Result<(), Fail> {
+    let alloc = rt.alloc();
+    let cart = playfield_cart(alloc)?;
+    let wrong: [&[u8]; 6] = [
+        b"r.... ..... .....\n",
+        b"..... ..... ....\n",
+        b"..... ..... ......\n",
+        b"L.... ..... .....\n",
+        b"...........\n",
+        b"\n",
+    ];
+    for line in wrong {
+        let first = joined(alloc, &[HEAD, CART_LINE, line, NONE, NONE])?;
+        assert_eq!(rt; read(alloc, &first, &cart), at(3, TextErrorKind::Frame));
+        let middle = joined(alloc, &[HEAD, CART_LINE, NONE, line, line])?;
+        assert_eq!(rt; read(alloc, &middle, &cart), at(4, TextErrorKind::Frame));
+        let last = joined(alloc, &[HEAD, CART_LINE, NONE, NONE, line])?;
+        assert_eq!(rt; read(alloc, &last, &cart), at(5, TextErrorKind::Frame));
+    }
+    let open = joined(alloc, &[HEAD, CART_LINE, NONE, NONE, b"."])?;
+    assert_eq!(rt; read(alloc, &open, &cart), at(5, TextErrorKind::End));
+    Ok(())
+}
+
+#[test]
+fn too_many_frames(rt: HostRuntime) -> Result<(), Fail> {
+    let alloc = rt.alloc();
+    let cart = playfield_cart(alloc)?;
+    let mut text = joined(alloc, &[HEAD, CART_LINE])?;
+    for _ in 0..65536 {
+        text.extend_from_slice(NONE)?;
+    }
+    assert_eq!(rt; read(alloc, &text, &cart), Ok(65536));
+    text.extend_from_slice(b"..")?;
+    assert_eq!(rt; read(alloc, &text, &cart), at(65539, TextErrorKind::End));
+    text.extend_from_slice(b"\n")?;
+    assert_eq!(rt;
+        read(alloc, &text, &cart),
+        at(65539, TextErrorKind::TooMany)
+    );
+    text.extend_from_slice(NONE)?;
+    assert_eq!(rt;
+        read(alloc, &text, &cart),
+        at(65539, TextErrorKind::TooMany)
+    );
+    Ok(())
+}
+
+/// Whether the edit's copy makes the movie's copy what the edit makes of the movie.
+fn copied_alike(alloc: Global, edit: &Edit) -> Result<bool, Fail> {
+    let cart = playfield_cart(alloc)?;
+    let text = joined(
+        alloc,
+        &[HEAD, CART_LINE, NONE, b"R.... ..... .....\n", NONE],
+    )?;
+    let mut movie = read_text(alloc, &text, &cart)?;
+    let mut copy = movie.copy(alloc)?;
+    let same_before = print_text(alloc, &copy)?.as_slice() == text.as_slice();
+    make(&mut movie, edit)?;
+    make(&mut copy, &edit.copy(alloc)?)?;
+    let changed = print_text(alloc, &movie)?;
+    let same_after = print_text(alloc, &copy)?.as_slice() == changed.as_slice();
+    Ok(same_before && same_after && changed.as_slice() != text.as_slice())
+}
+
+#[test]
+fn copies(rt: HostRuntime) -> Result<(), Fail> {
+    let alloc = rt.alloc();
+    let cart = playfield_cart(alloc)?;
+    let copy = cart.copy(alloc)?;
+    assert!(rt; copy.bytes() == cart.bytes());
+    assert!(rt; copied_alike(alloc, &Edit::Load(Cart::blank(alloc)?))?);
+    let inputs = idle(alloc, 2)?;
+    let copied = inputs.copy(alloc)?.into_vec();
+    assert!(rt; copied.as_slice() == inputs.as_slice());
+    assert!(rt; copied_alike(alloc, &Edit::Insert { at: 1, inputs })?);
+    let inputs = idle(alloc, 1)?;
+    assert!(rt; copied_alike(alloc, &Edit::Replace { at: 1, inputs })?);
+    assert!(rt; copied_alike(alloc, &Edit::Delete { at: 1, count: 1 })?);
+    Ok(())
+}
+
+fn pressed(input: Input) -> [bool; 15] {
+    let left = input.left;
+    let right = input.right;
+    [
+        left.right,
+        left.left,
+        left.down,
+        left.up,
+        left.fire,
+        right.right,
+        right.left,
+        right.down,
+        right.up,
+        right.fire,
+        input.reset,
+        input.select,
+        input.mono,
+        input.left_a,
+        input.right_a,
+    ]
+}
+
+#[test]
+fn letters_of_a_frame(rt: HostRuntime) -> Result<(), Fail> {
+    let full = b"RLDUF RLDUF rsbAB";
+    let mut number = 0;
+    for (place, letter) in full.iter().enumerate() {
+        let mut line = *b"..... ..... .....";
+        if *letter == b' ' {
+            continue;
+        }
+        line[place] = *letter;
+        let input = read_frame(&line).ok_or("no frame")?;
+        for (other, is_pressed) in pressed(input).iter().enumerate() {
+            assert_eq!(rt; *is_pressed, other == number, "{other} of {number}");
+        }
+        assert_eq!(rt; print_frame(input), line);
+        number = number.wrapping_add(1);
+    }
+    Ok(())
+}
+
+#[test]
+fn edits_of_a_list(rt: HostRuntime) -> Result<(), Fail> {
+    let alloc = rt.alloc();
+    let mut movie = Movie::blank(alloc)?;
+    let fire = read_frame(b"....F ..... .....").ok_or("no frame")?;
+    let mut shots = Vec::new(alloc);
+    for _ in 0..2 {
+        shots.push(fire)?;
+    }
+    insert(alloc, &mut movie, 0, 3)??;
+    let inputs = Inputs::from_vec(shots);
+    let edit = Edit::Insert { at: 1, inputs };
+    assert_eq!(rt; edit.place(), 1);
+    make(&mut movie, &edit)?;
+    make(
+        &mut movie,
+        &Edit::Replace {
+            at: 1,
+            inputs: idle(alloc, 1)?,
+        },
+    )?;
+    make(&mut movie, &Edit::Delete { at: 3, count: 2 })?;
+    let none = Input::none();
+    assert!(rt; movie.inputs() == [none, none, fire].as_slice());
+    assert!(rt; movie.len() == 3);
+    assert_eq!(rt; movie.input(2), fire);
+    Ok(())
+}
