@@ -2,7 +2,22 @@
 #![tactic(auto)]
 
 ghost use Rattle.std.specs.Prelude.{
-    ◌≡◌, Bool, false, ℕ, ◌+◌, ◌*◌, ◌<◌, ◌≤◌, List, length, Option, Some, IfOk, IfErr, OnOk, OnErr
+  ◌≡◌,
+  Bool,
+  false,
+  ℕ,
+  ◌+◌,
+  ◌*◌,
+  ◌<◌,
+  ◌≤◌,
+  List,
+  length,
+  Option,
+  Some,
+  IfOk,
+  IfErr,
+  OnOk,
+  OnErr,
 };
 ghost use Rattle.vcs_machine.specs.Bus.{observed_of, held_of};
 ghost use Rattle.vcs_machine.specs.Frame.{end_within, is_frame_over};
@@ -32,8 +47,12 @@ pub(crate) fn console_step<O: Observer>(
     requires { clocks_passed bus.old.tia.now < 320 * 228 }
     ensures done { IfOk result (λ n. console_step O.observe regs.old
         (observed_of bus.old.rom.now bus.old.pins bus.old.riot.now bus.old.tia.now (O.seen bus.old.observer.now))
-        ≡ Ok (record { regs = regs.new; cycles = n; content =
-            observed_of bus.new.rom.now bus.new.pins bus.new.riot.now bus.new.tia.now (O.seen bus.new.observer.now) })) }
+        ≡ Ok (record {
+          regs = regs.new;
+          cycles = n;
+          content =
+              observed_of bus.new.rom.now bus.new.pins bus.new.riot.now bus.new.tia.now (O.seen bus.new.observer.now);
+        })) }
     ensures clocks { OnOk result (clocks_passed bus.old.tia.now + 6 ≤ clocks_passed bus.new.tia.now) }
     ensures cycles { IfOk result (λ n. n ≤ 7) }
     ensures fixed { held_of bus.new.rom.now bus.new.pins bus.new.riot.ghost_name bus.new.tia.ghost_name bus.new.observer.ghost_name
@@ -54,15 +73,16 @@ pub(crate) fn console_step<O: Observer>(
 }
 
 /// Steps until the frame ends, and answers the halt that ended it if one did.
-pub(crate) fn run_frame<O: Observer>(
-    regs: &mut Regs,
-    bus: &mut ConsoleBus<'_, O>,
-) -> Option<Halt>
+pub(crate) fn run_frame<O: Observer>(regs: &mut Regs, bus: &mut ConsoleBus<'_, O>) -> Option<Halt>
     requires { clocks_passed bus.old.tia.now < 228 }
     ensures ended { end_within O.observe 12160 regs.old
         (observed_of bus.old.rom.now bus.old.pins bus.old.riot.now bus.old.tia.now (O.seen bus.old.observer.now))
-        ≡ Some (record { regs = regs.new; halt = result; observed =
-            observed_of bus.new.rom.now bus.new.pins bus.new.riot.now bus.new.tia.now (O.seen bus.new.observer.now) }) }
+        ≡ Some (record {
+          regs = regs.new;
+          halt = result;
+          observed =
+              observed_of bus.new.rom.now bus.new.pins bus.new.riot.now bus.new.tia.now (O.seen bus.new.observer.now);
+        }) }
     ensures fixed { held_of bus.new.rom.now bus.new.pins bus.new.riot.ghost_name bus.new.tia.ghost_name bus.new.observer.ghost_name
         ≡ held_of bus.old.rom.now bus.old.pins bus.old.riot.ghost_name bus.old.tia.ghost_name bus.old.observer.ghost_name }
 {

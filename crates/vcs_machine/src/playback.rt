@@ -2,7 +2,17 @@
 #![tactic(auto)]
 
 ghost use Rattle.std.specs.Prelude.{
-    ◌≡◌, ℕ, ◌+◌, ◌^◌, ◌<◌, List, length, OnOk, Some, None, MatchResult
+  ◌≡◌,
+  ℕ,
+  ◌+◌,
+  ◌^◌,
+  ◌<◌,
+  List,
+  length,
+  OnOk,
+  Some,
+  None,
+  MatchResult,
 };
 ghost use Rattle.vcs_machine.specs.Bus.{observed_of};
 ghost use Rattle.vcs_machine.specs.Frame.{end_within};

@@ -2,7 +2,21 @@
 #![tactic(auto)]
 
 ghost use Rattle.std.specs.Prelude.{
-    ◌≡◌, ℕ, ◌+◌, ◌*◌, ◌^◌, ◌<◌, ◌≤◌, List, [], Option, length, take, IfOk, IfErr, OnOk
+  ◌≡◌,
+  ℕ,
+  ◌+◌,
+  ◌*◌,
+  ◌^◌,
+  ◌<◌,
+  ◌≤◌,
+  List,
+  [],
+  Option,
+  length,
+  take,
+  IfOk,
+  IfErr,
+  OnOk,
 };
 ghost use Rattle.std.specs.Io.KnownBytes.{Appends};
 ghost use Rattle.vcs_machine.specs.Bus.{observed_of};
@@ -40,8 +54,12 @@ fn traced_step(regs: &mut Regs, bus: &mut ConsoleBus<'_, Nobody>) -> Result<u8, 
     requires { clocks_passed bus.old.tia.now < 320 * 228 }
     ensures done { IfOk result (λ n. traced_step regs.old
         (observed_of bus.old.rom.now bus.old.pins bus.old.riot.now bus.old.tia.now tt)
-        ≡ Ok (record { regs = regs.new; cycles = n; content =
-            observed_of bus.new.rom.now bus.new.pins bus.new.riot.now bus.new.tia.now tt })) }
+        ≡ Ok (record {
+          regs = regs.new;
+          cycles = n;
+          content =
+              observed_of bus.new.rom.now bus.new.pins bus.new.riot.now bus.new.tia.now tt;
+        })) }
     ensures low { OnOk result (clocks_passed bus.new.tia.now < 320 * 228) }
     ensures cycles { IfOk result (λ n. n ≤ 7) }
     ensures halted { IfErr result (λ halt. traced_step regs.old
@@ -85,7 +103,11 @@ fn finish<W: Write>(mut outbox: Outbox, to: &mut W) -> Result<(), (usize, Error)
 /// An error of the writer, of any kind, or its `Ok(0)` ends the call; the error is answered with
 /// the number of bytes that had gone out, which are the trace's first. After `Ok(0)` it is one of
 /// kind `WriteZero`. (own)
-pub fn trace<A: Allocator, W: Write>(cart: &Cart<A>, n: u32, to: &mut W) -> Result<(), (usize, Error)>
+pub fn trace<A: Allocator, W: Write>(
+    cart: &Cart<A>,
+    n: u32,
+    to: &mut W,
+) -> Result<(), (usize, Error)>
     ensures ok { OnOk result (Appends (W.contents to.old) (W.contents to.new) (trace_text cart.now n)) }
     ensures fault { IfErr result (λ f. Appends (W.contents to.old) (W.contents to.new) (take f.0 (trace_text cart.now n))) }
     ensures missing { IfErr result (λ f. f.0 < length (trace_text cart.now n)) }

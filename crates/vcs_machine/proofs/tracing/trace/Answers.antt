@@ -16,8 +16,8 @@ loop-init g c =
     let r = c.regs_at_power_on-regs.result in
     let start = observed_of c.bytes.result.now c.pins.result c.new-riot.result c.start_frame.new.self tt in
     let text = trace_text-start c.args.cart.now c.bytes.result.now c.args.n r c.pins.result c.new-riot.result c.start_frame.new.self
-        c.regs_at_power_on-regs.ensures c.bytes.ensures.value (c.pins.ensures ∙ ap pins_of c.none-nothing.ensures) c.new-riot.ensures (c.start_frame.ensures ∙ ap (frame_started false false) c.new-tia.ensures)
-        ∙ ap (λ k. lines_from k r start) whole in
+    c.regs_at_power_on-regs.ensures c.bytes.ensures.value (c.pins.ensures ∙ ap pins_of c.none-nothing.ensures) c.new-riot.ensures (c.start_frame.ensures ∙ ap (frame_started false false) c.new-tia.ensures)
+    ∙ ap (λ k. lines_from k r start) whole in
     record {
       sending = sending-start (g.W.Write.contents c.args.to.now) (trace_text c.args.cart.now c.args.n) (lines_from (c.args.n - 0) r start) c.new-outbox.result c.new-outbox.ensures text;
       fits = omega (arith, ap (λ (o : Outgoing). o.written + length o.waiting) c.new-outbox.ensures);
