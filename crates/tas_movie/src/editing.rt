@@ -7,8 +7,9 @@ use crate::lists::{delete_at, insert_at, replace_at};
 use crate::{Edit, EditRefusal, MAX_FRAMES, Movie};
 use std::alloc::Allocator;
 
-/// Whether the edit is allowed on this movie (own): `Place` where it reaches past the last input, and then `Long` where
-/// the movie would have more than `MAX_FRAMES` inputs. Places and lengths are compared as whole numbers.
+/// Whether the edit is allowed on this movie (own): `Place` where it reaches past the last input,
+/// and then `Long` where the movie would have more than `MAX_FRAMES` inputs. Places and lengths are
+/// compared as whole numbers.
 pub fn check<A: Allocator, B: Allocator>(
     movie: &Movie<A>,
     edit: &Edit<B>,
@@ -48,7 +49,8 @@ pub fn apply<A: Allocator, B: Allocator>(movie: &mut Movie<A>, edit: &Edit<B>)
     requires { IsAllowed movie.old edit.now }
     ensures movie { movie.new ≡ edited movie.old edit.now }
     // What stands before the edited place stays.
-    ensures before { take (edited_place edit.now) movie.new.inputs ≡ take (edited_place edit.now) movie.old.inputs }
+    ensures before { take (edited_place edit.now) movie.new.inputs
+        ≡ take (edited_place edit.now) movie.old.inputs }
     ensures cart { 0 < edited_place edit.now → movie.new.cart ≡ movie.old.cart }
 {
     match edit {

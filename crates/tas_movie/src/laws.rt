@@ -13,5 +13,6 @@ pub fn one_movie_per_text()
 
 /// The text of a movie has no fault (own).
 pub fn texts_have_no_fault()
-    ensures { (movie : MovieContent) → length movie.inputs ≤ MAX_FRAMES → fault (text movie) movie.cart ≡ None }
+    ensures { (movie : MovieContent) → length movie.inputs ≤ MAX_FRAMES →
+        fault (text movie) movie.cart ≡ None }
 {}

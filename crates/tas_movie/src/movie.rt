@@ -9,7 +9,8 @@ use vcs_machine::{Cart, Input};
 /// How many inputs a movie has at most (own).
 pub const MAX_FRAMES: usize = 65536;
 
-/// A cartridge and at most `MAX_FRAMES` inputs, one for each frame, with room reserved for all of them (own).
+/// A cartridge and at most `MAX_FRAMES` inputs, one for each frame, with room reserved for all of
+/// them (own).
 #[derive(Drop)]
 pub struct Movie<A: Allocator = Global> {
     pub(crate) cart: Cart<A>,

@@ -17,7 +17,10 @@ use vcs_machine::{Cart, Input, Stick};
 /// The first line, without its newline, and what follows; nothing where no newline ends it.
 fn split_line(bytes: &[u8]) -> Option<(&[u8], &[u8])>
     ensures none { IfNone result (split_lines bytes.now ≡ record { lines = []; rest = bytes.now }) }
-    ensures lines { IfSome result (λ parts. split_lines bytes.now ≡ record { lines = parts.0.now ∷ (split_lines parts.1.now).lines; rest = (split_lines parts.1.now).rest }) }
+    ensures lines { IfSome result (λ parts. split_lines bytes.now ≡ record {
+      lines = parts.0.now ∷ (split_lines parts.1.now).lines;
+      rest = (split_lines parts.1.now).rest;
+    }) }
     ensures bytes { IfSome result (λ parts. bytes.now ≡ line parts.0.now ++ parts.1.now) }
 {
     for at in 0..bytes.len() {
@@ -56,7 +59,8 @@ fn shown_input(line: &[u8]) -> Input
     }
 }
 
-/// The input of which these bytes are the 17 characters, without a newline; nothing where there is none (own).
+/// The input of which these bytes are the 17 characters, without a newline; nothing where there is
+/// none (own).
 pub fn read_frame(line: &[u8]) -> Option<Input>
     ensures some { IfSome result (λ input. line.now ≡ frame_text input) }
     ensures all { (input : Input) → line.now ≡ frame_text input → result ≡ Some input }
@@ -125,8 +129,11 @@ fn read_lines<A: Allocator, B: Allocator>(
 ) -> Result<(), TextError>
     requires empty { list.old.items ≡ [] }
     requires room { MAX_FRAMES ≤ vec_capacity list.old }
-    ensures movie { OnOk result (bytes.now ≡ text (record { cart = cart.now; inputs = list.new.items })) }
-    ensures fault { MatchResult result (λ _. fault bytes.now cart.now ≡ None) (λ e. fault bytes.now cart.now ≡ Some e) }
+    ensures movie { OnOk result
+        (bytes.now ≡ text (record { cart = cart.now; inputs = list.new.items })) }
+    ensures fault { MatchResult result
+        (λ _. fault bytes.now cart.now ≡ None)
+        (λ e. fault bytes.now cart.now ≡ Some e) }
     ensures bound { vec_len list.new ≤ MAX_FRAMES }
     ensures capacity { vec_capacity list.old ≤ vec_capacity list.new }
 {
@@ -145,8 +152,8 @@ fn read_lines<A: Allocator, B: Allocator>(
     read_frames(list, frames)
 }
 
-/// Reads the text of a movie with this cartridge (own). `Memory` comes first, since the room for a movie is reserved
-/// before the text is looked at; `Text` names the first line at fault.
+/// Reads the text of a movie with this cartridge (own). `Memory` comes first, since the room for a
+/// movie is reserved before the text is looked at; `Text` names the first line at fault.
 pub fn read_text<A: Allocator + Copy, B: Allocator>(
     alloc: A,
     bytes: &[u8],
@@ -155,10 +162,13 @@ pub fn read_text<A: Allocator + Copy, B: Allocator>(
     // What is read is the movie of this text.
     ensures found { IfOk result (λ movie. (movie.cart ≡ cart.now) × (bytes.now ≡ text movie)) }
     // A text is never refused, but for want of memory.
-    ensures all { (movie : MovieContent) → movie.cart ≡ cart.now → length movie.inputs ≤ MAX_FRAMES → bytes.now ≡ text movie →
+    ensures all { (movie : MovieContent) → movie.cart ≡ cart.now →
+        length movie.inputs ≤ MAX_FRAMES → bytes.now ≡ text movie →
         MatchResult result (λ read. read ≡ movie) (λ e. e ≡ ReadError.Memory) }
     // Which line is at fault, and how.
-    ensures fault { MatchResult result (λ _. fault bytes.now cart.now ≡ None) (IsReadError (fault bytes.now cart.now)) }
+    ensures fault { MatchResult result
+        (λ _. fault bytes.now cart.now ≡ None)
+        (IsReadError (fault bytes.now cart.now)) }
 {
     let Ok(mut movie) = Movie::new(alloc, cart) else {
         return Err(ReadError::Memory);

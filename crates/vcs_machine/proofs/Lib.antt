@@ -2,7 +2,8 @@ pub mod Afters
 pub mod Clocks
 pub mod Frames
 pub mod InputLemmas
+pub mod Lagging
 pub mod Observers
 pub mod Playing
-pub mod Traces
 pub mod Sendings
+pub mod Traces

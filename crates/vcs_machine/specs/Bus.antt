@@ -61,6 +61,18 @@ module _ {Seen : Type 0} (observe : List Tia → Seen → Seen) where
       let clocks = tia.clocks_owed o.board.tia in
       after_time (clocks / 3) clocks (record o { board = record o.board { tia = tia.wait_cleared o.board.tia } })
 
+-- a bus whose chips lag some CPU cycles behind the processor shows the board after those cycles
+abbrev pub lagging_of : {Seen : Type 0} → (List Tia → Seen → Seen) → List ℕ → Pins → Riot → Tia → Seen → ℕ → Observed Seen
+lagging_of observe rom pins riot tia seen lag = after_time observe lag (3 * lag) (observed_of rom pins riot tia seen)
+
+-- the same with another RIOT
+abbrev pub with_riot : {Seen : Type 0} → Riot → Observed Seen → Observed Seen
+with_riot r o = record o { board = record o.board { riot = r } }
+
+-- the same with another TIA
+abbrev pub with_tia : {Seen : Type 0} → Tia → Observed Seen → Observed Seen
+with_tia t o = record o { board = record o.board { tia = t } }
+
 -- what no call on the bus changes: bytes and pins, and which chips and observer it holds
 abbrev pub held_of : List ℕ → Pins → ℕ → ℕ → ℕ → List ℕ × (Pins × (ℕ × (ℕ × ℕ)))
 held_of rom pins riot tia observer = (rom, (pins, (riot, (tia, observer))))

@@ -51,6 +51,8 @@ fn run_chips<'a, P: Allocator>(
         riot,
         tia,
         observer: picture,
+        lag: 0,
+        may_wait: true,
     };
     run_frame(regs, &mut bus)
 }

@@ -12,6 +12,7 @@ ghost use Rattle.std.specs.Prelude.{
   List,
   [],
   Option,
+  false,
   length,
   take,
   IfOk,
@@ -19,10 +20,10 @@ ghost use Rattle.std.specs.Prelude.{
   OnOk,
 };
 ghost use Rattle.std.specs.Io.KnownBytes.{Appends};
-ghost use Rattle.vcs_machine.specs.Bus.{observed_of};
+ghost use Rattle.vcs_machine.specs.Bus.{lagging_of, nothing_seen};
 ghost use Rattle.vcs_machine.specs.Sending.{IsSending, IsCutOff};
-ghost use Rattle.vcs_machine.specs.TraceText.{into_next_frame, text_of_halt, traced_step, trace_text};
-ghost use Rattle.vcs_tia.specs.Tia.{clocks_passed};
+ghost use Rattle.vcs_machine.specs.TraceText.{board_into_next_frame, text_of_halt, traced_step, trace_text};
+ghost use Rattle.vcs_tia.specs.Tia.{clocks_passed, frame_started, frame_ended};
 
 use crate::bus::{ConsoleBus, Nobody};
 use crate::cart::Cart;
@@ -36,38 +37,48 @@ use vcs_cpu::{Bus, Halt, Regs, halt_line, line};
 use vcs_riot::Riot;
 use vcs_tia::Tia;
 
-/// Where a frame is over, ends it and starts the next one with nothing pressed.
-fn start_next_frame(tia: &mut Tia)
-    ensures next { tia.new ≡ into_next_frame tia.old }
-    ensures low { clocks_passed tia.new < 320 * 228 }
+/// Ends the frame and starts the next one with nothing pressed.
+fn restart(tia: &mut Tia)
+    ensures next { tia.new ≡ frame_started false false (frame_ended tia.old) }
+    ensures low { clocks_passed tia.new < 228 }
 {
-    if is_frame_over(tia) {
-        tia.end_frame();
-        tia.start_frame(false, false);
-        // The clock stays below 228.
-        let (_line, _clock) = tia.beam();
+    tia.end_frame();
+    tia.start_frame(false, false);
+    // The clock stays below 228.
+    let (_line, _clock) = tia.beam();
+}
+
+/// Where a frame is over, goes on to the next one.
+fn start_next_frame(bus: &mut ConsoleBus<'_, Nobody>)
+    ensures next { lagging_of nothing_seen bus.new.rom.now bus.new.pins bus.new.riot.now bus.new.tia.now tt bus.new.lag
+        ≡ board_into_next_frame (lagging_of nothing_seen bus.old.rom.now bus.old.pins bus.old.riot.now bus.old.tia.now tt bus.old.lag) }
+    ensures low { clocks_passed bus.new.tia.now + 3 * bus.new.lag < 320 * 228 }
+{
+    if is_frame_over(bus) {
+        bus.catch_up();
+        restart(bus.tia);
     }
 }
 
 /// One instruction and the wait after it, from frame to frame.
 fn traced_step(regs: &mut Regs, bus: &mut ConsoleBus<'_, Nobody>) -> Result<u8, Halt>
-    requires { clocks_passed bus.old.tia.now < 320 * 228 }
+    requires { clocks_passed bus.old.tia.now + 3 * bus.old.lag < 320 * 228 }
     ensures done { IfOk result (λ n. traced_step regs.old
-        (observed_of bus.old.rom.now bus.old.pins bus.old.riot.now bus.old.tia.now tt)
+        (lagging_of nothing_seen bus.old.rom.now bus.old.pins bus.old.riot.now bus.old.tia.now tt bus.old.lag)
         ≡ Ok (record {
           regs = regs.new;
           cycles = n;
           content =
-              observed_of bus.new.rom.now bus.new.pins bus.new.riot.now bus.new.tia.now tt;
+              lagging_of nothing_seen bus.new.rom.now bus.new.pins bus.new.riot.now bus.new.tia.now tt bus.new.lag;
         })) }
-    ensures low { OnOk result (clocks_passed bus.new.tia.now < 320 * 228) }
+    ensures low { OnOk result (clocks_passed bus.new.tia.now + 3 * bus.new.lag < 320 * 228) }
     ensures cycles { IfOk result (λ n. n ≤ 7) }
     ensures halted { IfErr result (λ halt. traced_step regs.old
-        (observed_of bus.old.rom.now bus.old.pins bus.old.riot.now bus.old.tia.now tt) ≡ Err halt) }
+        (lagging_of nothing_seen bus.old.rom.now bus.old.pins bus.old.riot.now bus.old.tia.now tt bus.old.lag) ≡ Err halt) }
 {
     match console_step(regs, bus) {
         Ok(cycles) => {
-            start_next_frame(bus.tia);
+            start_next_frame(bus);
             Ok(cycles)
         }
         Err(halt) => Err(halt),
@@ -124,6 +135,8 @@ pub fn trace<A: Allocator, W: Write>(
         riot: &mut riot,
         tia: &mut tia,
         observer: &mut nobody,
+        lag: 0,
+        may_wait: true,
     };
     let mut outbox = Outbox::new();
     for _ in 0..n {

@@ -1,9 +1,9 @@
-use Rattle.std.proofs.Common.{◌≡◌, ◌≢◌, ◌⊎◌, ◌+◌, ◌*◌, ◌-◌, ◌/◌, ◌%◌, ◌^◌, ◌<◌, ◌≤◌, ◌∙◌, sym, ap, refl, inl, inr, ⊎_elim, add-zero, ℕ, zero, suc, List, length, Bool, true, false, cond, eqb, leb, ltb, ◌&&◌, ◌||◌, arith, set, get_or, min, max, bit_and, bit_or}
+use Rattle.std.proofs.Common.{◌≡◌, ◌≢◌, ◌+◌, ◌*◌, ◌-◌, ◌/◌, ◌%◌, ◌^◌, ◌<◌, ◌≤◌, ◌∙◌, sym, ap, ⊎_elim, add-zero, ℕ, zero, suc, List, length, Bool, true, false, cond, eqb, leb, ltb, ◌&&◌, ◌||◌, arith, set, get_or, min, max, bit_and, bit_or}
 use Rattle.std.proofs.Math.Bool.{or-false}
 use Rattle.std.proofs.lemmas.Bool.{cases_lt, cases_eq, ne_eqb, eqb-true, ltb-true, and_parts, le-leb, lt-leb, lt-ltb, le-ltb}
 use Rattle.std.proofs.lemmas.Bool.Decides.{nat_tests}
 use Rattle.std.proofs.lemmas.List.{get_or-set_same, get_or-set_other, length-set, get_or_past}
-use Rattle.std.proofs.lemmas.Nat.{shr-shr, shr_split, mod_below, pow_pos, shl_whole, div-mul-add, or_lt, shr_below}
+use Rattle.std.proofs.lemmas.Nat.{shr-shr, shr_split, pow_pos, shl_whole, div-mul-add, or_lt}
 use Rattle.std.proofs.lemmas.Nat.Bits.{bit_at_and, bit_at_or, bit_at-lt, bit_at_above, bit_at-zero, bit_at_cat_low, bit_at_cat_high, bit_at_ones, bit_at_ones_above}
 use Rattle.std.specs.Int.{bit_at}
 use Rattle.vcs_tia.specs.Units.{has_bit}

@@ -1,5 +1,5 @@
 -- Pixels set one after the other.
-use Rattle.std.proofs.Common.{◌≡◌, ◌∙◌, ◌+◌, ap, ℕ, suc, List, set, sym, arith}
+use Rattle.std.proofs.Common.{◌≡◌, ◌∙◌, ◌+◌, ap, ℕ, suc, List, set, arith}
 use Rattle.vcs_tia.specs.Spans.{filled}
 
 -- four pixels more

@@ -1,6 +1,6 @@
 -- Colours by the layers that are lit.
 use Rattle.std.proofs.Common.{◌≡◌, ◌∙◌, ◌+◌, ◌-◌, ◌*◌, ◌/◌, ◌%◌, ◌^◌, ◌<◌, ◌≤◌, sym, ap, refl, ℕ, Bool, true, false, cond, eqb, ltb, not, ◌&&◌, ◌||◌, List, [], ◌∷◌, get_or, bit_or, arith, ⊎_elim}
-use Rattle.std.proofs.lemmas.Bool.{cases_Bool, cond-true, cond-false, lt-ltb, eqb-true, eqb-false}
+use Rattle.std.proofs.lemmas.Bool.{cases_Bool, lt-ltb, eqb-true, eqb-false}
 use Rattle.std.proofs.lemmas.Nat.{le_or_l, le_or_r}
 use Rattle.std.proofs.lemmas.Nat.Bits.{bit_at-lt, bit_at-zero}
 use Rattle.std.specs.Int.{bit_at}
@@ -9,8 +9,8 @@ use Rattle.vcs_tia.specs.declared.chip.Tia.{Tia}
 use Rattle.vcs_tia.specs.declared.words.Words.{Words}
 use Rattle.vcs_tia.specs.declared.words.Layers.{Layers}
 use Rattle.vcs_tia.specs.Units.{has_bit}
-use Rattle.vcs_tia.specs.Tia.{lit_at, colour_at, colour_of_lit, playfield_colour, in_hmove_blank}
-use Rattle.vcs_tia.specs.Words.{lit_bits, lit_where, layers_of, layer_number, is_split, palette_of, IsSpan, in_bytes, four_numbers}
+use Rattle.vcs_tia.specs.Tia.{lit_at, colour_at, colour_of_lit, in_hmove_blank}
+use Rattle.vcs_tia.specs.Words.{lit_bits, lit_where, layers_of, layer_number, is_split, palette_of, IsSpan, in_bytes}
 use Rattle.vcs_tia.proofs.Bits.{has_bit-or, has_bit-mod, has_bit-shr, each_below, each_below-at}
 use Rattle.vcs_tia.proofs.Parts.{seen_colour}
 

@@ -1,6 +1,6 @@
-use Rattle.std.proofs.Common.{◌≡◌, ◌≢◌, ◌⊎◌, ◌+◌, ◌*◌, ◌-◌, ◌^◌, ◌%◌, ◌<◌, ◌≤◌, ◌∙◌, sym, ap, refl, inl, inr, ⊎_elim, ℕ, zero, suc, List, Bool, true, false, cond, eqb, leb, ltb, not, ◌&&◌, ◌||◌, arith, set, bit_and, bit_or, add-one, add-zero, zero-add, ◌/◌}
+use Rattle.std.proofs.Common.{◌≡◌, ◌≢◌, ◌+◌, ◌-◌, ◌^◌, ◌<◌, ◌≤◌, ◌∙◌, sym, ap, refl, ⊎_elim, ℕ, zero, suc, Bool, true, false, eqb, leb, ltb, not, ◌&&◌, ◌||◌, arith, bit_and, bit_or, add-zero, zero-add, ◌/◌}
 use Rattle.std.proofs.Math.Bool.{or-false, or_assoc, and_comm}
-use Rattle.std.proofs.lemmas.Bool.{cases_eq, cases_lt, ne_eqb, cases_Bool, and_parts, and_from, or_cases, or_left, or_right, or_parts, and_cases, false_from_ne_true, leb-true, ltb-true, eqb-false, le-leb, le-ltb}
+use Rattle.std.proofs.lemmas.Bool.{cases_eq, cases_lt, ne_eqb, cases_Bool, and_parts, and_from, or_cases, or_left, or_right, false_from_ne_true, leb-true, ltb-true, eqb-false, le-leb, le-ltb}
 use Rattle.std.proofs.lemmas.Bool.Decides.{nat_tests}
 use Rattle.std.proofs.lemmas.Nat.Bits.{same_from_bits, bit_at-lt, bit_at-zero}
 use Rattle.std.proofs.lemmas.Nat.{le_or_l, le_or_r}
@@ -10,7 +10,7 @@ use Rattle.vcs_tia.specs.declared.beam.Latches.{Latches}
 use Rattle.vcs_tia.specs.declared.words.Words.{Words}
 use Rattle.vcs_tia.specs.Beam.{pairs_added}
 use Rattle.vcs_tia.specs.Units.{has_bit}
-use Rattle.vcs_tia.specs.Words.{lit_bits, lit_where, bits_cut, words_cut, pairs_of_words}
+use Rattle.vcs_tia.specs.Words.{lit_bits, lit_where, no_words, bits_cut, words_cut, pairs_of_words}
 use Rattle.vcs_tia.proofs.Bits.{has_bit-and, has_bit-or, has_bit-shr, has_bit-zero, ones_bit}
 
 -- a test holds at one of n places from x on
@@ -284,3 +284,41 @@ pairs_apart w l none =
 
     unmet : (v : ℕ) → v ≡ 0 → not (eqb v 0) ≡ false
     unmet v e = ap (λ n. not (eqb n 0)) e
+
+-- ---- words without a bit
+abbrev six_words : ℕ → ℕ → ℕ → ℕ → ℕ → ℕ → Words
+six_words a b c d e f = record { player0 = a; player1 = b; missile0 = c; missile1 = d; ball = e; playfield = f }
+
+pub all_zero : (w : Words) → bit_or (bit_or (bit_or (bit_or (bit_or w.player0 w.player1) w.missile0) w.missile1) w.ball) w.playfield ≡ 0 → w ≡ no_words
+all_zero w none =
+    let a = bit_or w.player0 w.player1 in
+    let b = bit_or a w.missile0 in
+    let c = bit_or b w.missile1 in
+    let d = bit_or c w.ball in
+    let d_zero : bit_or (bit_or (bit_or (bit_or w.player0 w.player1) w.missile0) w.missile1) w.ball ≡ 0 = omega (arith, le_or_l d w.playfield) in
+    let c_zero : bit_or (bit_or (bit_or w.player0 w.player1) w.missile0) w.missile1 ≡ 0 = omega (arith, le_or_l c w.ball) in
+    let b_zero : bit_or (bit_or w.player0 w.player1) w.missile0 ≡ 0 = omega (arith, le_or_l b w.missile1) in
+    let a_zero : bit_or w.player0 w.player1 ≡ 0 = omega (arith, le_or_l a w.missile0) in
+    let player0 : w.player0 ≡ 0 = omega (arith, le_or_l w.player0 w.player1) in
+    let player1 : w.player1 ≡ 0 = omega (arith, le_or_r w.player0 w.player1) in
+    let missile0 : w.missile0 ≡ 0 = omega (arith, le_or_r a w.missile0) in
+    let missile1 : w.missile1 ≡ 0 = omega (arith, le_or_r b w.missile1) in
+    let ball : w.ball ≡ 0 = omega (arith, le_or_r c w.ball) in
+    let playfield : w.playfield ≡ 0 = omega (arith, le_or_r d w.playfield) in
+    ap (λ n. six_words n w.player1 w.missile0 w.missile1 w.ball w.playfield) player0
+    ∙ ap (λ n. six_words 0 n w.missile0 w.missile1 w.ball w.playfield) player1
+    ∙ ap (λ n. six_words 0 0 n w.missile1 w.ball w.playfield) missile0
+    ∙ ap (λ n. six_words 0 0 0 n w.ball w.playfield) missile1
+    ∙ ap (λ n. six_words 0 0 0 0 n w.playfield) ball
+    ∙ ap (λ n. six_words 0 0 0 0 0 n) playfield
+
+-- and what is cut of them
+zero_cut : (from n : ℕ) → bits_cut 0 from n ≡ 0
+zero_cut from n = zero_from_bits (bits_cut 0 from n) (λ i. cut_bit 0 from n i ∙ ap (λ b. ltb i n && b) (has_bit-zero (from + i)) ∙ and_false (ltb i n))
+  where
+    and_false : (b : Bool) → (b && false) ≡ false
+    and_false true = refl
+    and_false false = refl
+
+pub none_cut : (from n : ℕ) → no_words ≡ words_cut no_words from n
+none_cut from n = let zero = zero_cut from n in simp zero

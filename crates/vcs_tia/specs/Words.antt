@@ -1,5 +1,5 @@
 -- Up to 32 pixels of the six rows, as a word of each, and what is drawn of them.
-use Rattle.std.specs.Prelude.{◌≡◌, ℕ, ◌+◌, ◌-◌, ◌*◌, ◌/◌, ◌^◌, ◌<◌, ◌≤◌, List, [], ◌∷◌, Bool, false, ◌&&◌, ◌||◌, not, ◌==◌, nat_lt, if◌then◌else◌, bit_and, bit_or}
+use Rattle.std.specs.Prelude.{◌≡◌, ℕ, ◌+◌, ◌-◌, ◌*◌, ◌/◌, ◌^◌, ◌≤◌, List, [], ◌∷◌, Bool, false, ◌&&◌, ◌||◌, not, ◌==◌, nat_lt, if◌then◌else◌, bit_and, bit_or}
 use Rattle.std.specs.Int.{bit_at}
 use Rattle.vcs_tia.specs.Units.{has_bit}
 use Rattle.vcs_tia.specs.declared.words.Words.{Words}

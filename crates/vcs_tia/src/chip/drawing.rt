@@ -1,14 +1,14 @@
 //! Drawing: some colour clocks of a line at a time, by masks.
 
-ghost use Rattle.std.specs.Prelude.{◌≡◌, ◌<◌, ◌≤◌, ◌+◌, ◌-◌, ◌*◌, ◌||◌, ℕ, false, nat_lt};
+ghost use Rattle.std.specs.Prelude.{◌≡◌, ◌<◌, ◌≤◌, ◌+◌, ◌-◌, ◌*◌, ◌||◌, ℕ, true, false, nat_lt};
 ghost use Rattle.vcs_tia.specs.Beam.{beam_clocks};
 ghost use Rattle.vcs_tia.specs.Tia.{clocks_passed, latches_of, lit_at, colour_at, in_hmove_blank, colour_of_lit};
 ghost use Rattle.vcs_tia.specs.Trace.{after_clocks, trace, drawn};
 ghost use Rattle.vcs_tia.specs.Collisions.{PairsOf};
-ghost use Rattle.vcs_tia.specs.Words.{lit_bits, IsSpan, is_split, palette_of};
+ghost use Rattle.vcs_tia.specs.Words.{lit_bits, pairs_of_words, IsSpan, is_split, palette_of};
 ghost use Rattle.vcs_tia.specs.Spans.{IsPart};
 
-use super::super::beam::{Latches, Lit};
+use super::super::beam::Lit;
 use super::super::screen::Picture;
 use super::super::words::Words;
 use super::{Colours, Tia};
@@ -79,6 +79,9 @@ impl Tia {
         }
         let x = clock - 68;
         let words = self.words((x / 32) as usize);
+        if words.are_empty() {
+            return Words::none();
+        }
         words.cut((x % 32) as u32, clocks as u32)
     }
 
@@ -104,24 +107,29 @@ impl Tia {
         requires beam { beam_clocks self.old.beam + clocks < 65536 * 228 }
         ensures { self.new ≡ after_clocks clocks self.old }
     {
-        self.latches = self.latches_after(words, clocks);
+        if !self.adds_pairs(words, clocks) {
+            self.beam.move_by(clocks);
+            return;
+        }
+        self.latches = words.met(self.latches);
         self.beam.move_by(clocks);
     }
 
-    /// The latches after some clocks of one part of the line.
-    fn latches_after(&self, words: &Words, clocks: u8) -> Latches
+    /// Whether some clocks of one part of the line may add a pair to the latches.
+    fn adds_pairs(&self, words: &Words, clocks: u8) -> bool
         requires part { IsPart self.now.beam clocks }
         requires span { IsSpan self.now clocks words.now }
-        ensures { result ≡ latches_of (after_clocks clocks self.now) }
+        ensures none { result ≡ false → latches_of (after_clocks clocks self.now) ≡ latches_of self.now }
+        ensures some { result ≡ true → latches_of (after_clocks clocks self.now) ≡ pairs_of_words (latches_of self.now) words.now }
     {
         let clock = self.beam.clock.number();
         if clock < 68 {
-            return self.latches;
+            return false;
         }
         if self.in_hmove_blank(clock - 68) {
-            return self.latches;
+            return false;
         }
-        words.met(self.latches)
+        !words.are_apart()
     }
 
     /// Draws the pixels of some clocks of one part of the line.

@@ -1,9 +1,10 @@
-use Rattle.std.proofs.Common.{◌≡◌, ◌+◌, ◌-◌, ◌∙◌, ◌++◌, sym, ap, subst, suc, zero, ℕ, List, [], length, append-nil, length-append, arith, rules, false}
+use Rattle.std.proofs.Common.{◌≡◌, ◌+◌, ◌-◌, ◌∙◌, ◌++◌, sym, ap, refl, subst, suc, zero, ℕ, List, [], length, append-nil, length-append, arith, rules, false}
 use Rattle.std.proofs.KnownBytes.{Appends-nil}
 use Rattle.vcs_machine.specs.Input.{pins_of}
 use Rattle.vcs_tia.specs.Tia.{frame_started}
 use Rattle.vcs_cpu.specs.Lines.{line_of}
-use Rattle.vcs_machine.specs.Bus.{observed_of}
+use Rattle.vcs_machine.specs.Bus.{Observed, observed_of, lagging_of, nothing_seen}
+use Rattle.vcs_machine.proofs.Lagging.{lagging-zero}
 use Rattle.vcs_machine.specs.Sending.{Outgoing, IsSending, IsCutOff}
 use Rattle.vcs_machine.specs.TraceText.{lines_from, trace_text}
 use Rattle.vcs_machine.proofs.Traces.{length-line_of, lines_from-step, lines_from-halt, trace_text-start}
@@ -18,8 +19,11 @@ loop-init g c =
     let text = trace_text-start c.args.cart.now c.bytes.result.now c.args.n r c.pins.result c.new-riot.result c.start_frame.new.self
     c.regs_at_power_on-regs.ensures c.bytes.ensures.value (c.pins.ensures ∙ ap pins_of c.none-nothing.ensures) c.new-riot.ensures (c.start_frame.ensures ∙ ap (frame_started false false) c.new-tia.ensures)
     ∙ ap (λ k. lines_from k r start) whole in
+    let fresh = lagging_of nothing_seen c.bytes.result.now c.pins.result c.new-riot.result c.start_frame.new.self tt 0 in
+    let text0 = text ∙ ap (λ (o : Observed (Unit {0})). lines_from (c.args.n - 0) r o)
+    (sym (lagging-zero nothing_seen (λ s. refl) (λ xs ys s. refl) c.bytes.result.now c.pins.result c.new-riot.result c.start_frame.new.self tt 0 refl)) in
     record {
-      sending = sending-start (g.W.Write.contents c.args.to.now) (trace_text c.args.cart.now c.args.n) (lines_from (c.args.n - 0) r start) c.new-outbox.result c.new-outbox.ensures text;
+      sending = sending-start (g.W.Write.contents c.args.to.now) (trace_text c.args.cart.now c.args.n) (lines_from (c.args.n - 0) r fresh) c.new-outbox.result c.new-outbox.ensures text0;
       fits = omega (arith, ap (λ (o : Outgoing). o.written + length o.waiting) c.new-outbox.ensures);
       low = search rules;
     }
@@ -32,10 +36,10 @@ returns-in-Err-clause-missing g c =
 pub loop-preserved : goal.loop-preserved
 loop-preserved g c =
     let left : c.args.n - c.loop.counter ≡ suc (c.args.n - (c.loop.counter + 1)) = omega arith in
-    let before = observed_of c.loop.bus.rom.now c.loop.bus.pins c.loop.bus.riot.now c.loop.bus.tia.now tt in
+    let before = lagging_of nothing_seen c.loop.bus.rom.now c.loop.bus.pins c.loop.bus.riot.now c.loop.bus.tia.now tt c.loop.bus.lag in
     let now = g.W.Write.contents c.make_room.new.to in
     let text = trace_text c.args.cart.now c.args.n in
-    let back = lines_from (c.args.n - (c.loop.counter + 1)) c.traced_step.new.regs (observed_of c.traced_step.new.bus.rom.now c.traced_step.new.bus.pins c.traced_step.new.bus.riot.now c.traced_step.new.bus.tia.now tt) in
+    let back = lines_from (c.args.n - (c.loop.counter + 1)) c.traced_step.new.regs (lagging_of nothing_seen c.traced_step.new.bus.rom.now c.traced_step.new.bus.pins c.traced_step.new.bus.riot.now c.traced_step.new.bus.tia.now tt c.traced_step.new.bus.lag) in
     let front = c.line.ensures ∙ ap (λ o. line_of c.loop.regs.pc o c.traced_step.new.regs c.in-Ok.cycles) c.peek-opcode.ensures in
     let more = lines_from-step _ _ c.loop.regs before _ left c.in-Ok.ensures.done ∙ ap (λ xs. xs ++ back) (sym front) in
     let sending = c.in_default.ensures.keeps (g.W.Write.contents c.args.to.now) text _ c.loop.invariant.sending in
@@ -55,7 +59,7 @@ loop-preserved g c =
 pub returns-in-Err-traced_step : goal.returns-in-Err-traced_step
 returns-in-Err-traced_step g c =
     let left : c.args.n - c.loop.counter ≡ suc (c.args.n - (c.loop.counter + 1)) = omega arith in
-    let before = observed_of c.loop.bus.rom.now c.loop.bus.pins c.loop.bus.riot.now c.loop.bus.tia.now tt in
+    let before = lagging_of nothing_seen c.loop.bus.rom.now c.loop.bus.pins c.loop.bus.riot.now c.loop.bus.tia.now tt c.loop.bus.lag in
     let now = g.W.Write.contents c.make_room.new.to in
     let text = trace_text c.args.cart.now c.args.n in
     let more = lines_from-halt (c.args.n - (c.loop.counter + 1)) _ c.loop.regs before _ left c.in-Err-traced_step.ensures.halted ∙ sym c.line_of_halt.ensures ∙ sym (append-nil c.line_of_halt.result) in
@@ -75,7 +79,7 @@ pub returns : goal.returns
 unfolding lines_from
 returns g c =
     let none : c.args.n - c.loop.counter ≡ zero = omega arith in
-    let before = observed_of c.loop.bus.rom.now c.loop.bus.pins c.loop.bus.riot.now c.loop.bus.tia.now tt in
+    let before = lagging_of nothing_seen c.loop.bus.rom.now c.loop.bus.pins c.loop.bus.riot.now c.loop.bus.tia.now tt c.loop.bus.lag in
     let now = g.W.Write.contents c.loop.to in
     let text = trace_text c.args.cart.now c.args.n in
     let whole = subst (λ xs. IsSending (g.W.Write.contents c.args.to.now) now text c.loop.outbox xs) (ap (λ k. lines_from k c.loop.regs before) none) c.loop.invariant.sending in

@@ -1,6 +1,6 @@
 use Rattle.std.proofs.Common.{◌-◌, ◌+◌, ◌*◌, ◌≤◌, ◌<◌, length}
 use Rattle.vcs_tia.specs.Tia.{clocks_passed}
-use Rattle.vcs_machine.specs.Bus.{observed_of}
+use Rattle.vcs_machine.specs.Bus.{lagging_of, nothing_seen}
 use Rattle.vcs_machine.specs.Sending.{IsSending}
 use Rattle.vcs_machine.specs.TraceText.{lines_from, trace_text}
 use Rattle.vcs_machine.proofs.tracing.trace.Given as goal
@@ -9,7 +9,7 @@ use Rattle.vcs_machine.proofs.tracing.trace.Given as goal
 abbrev pub invariant-loop : goal.invariant-loop
 invariant-loop g l = record {
   sending : IsSending (g.W.Write.contents l.fn.to) (g.W.Write.contents l.to) (trace_text l.cart l.n) l.outbox
-      (lines_from (l.n - l.counter) l.regs (observed_of l.bus.rom.now l.bus.pins l.bus.riot.now l.bus.tia.now tt));
+      (lines_from (l.n - l.counter) l.regs (lagging_of nothing_seen l.bus.rom.now l.bus.pins l.bus.riot.now l.bus.tia.now tt l.bus.lag));
   fits : l.outbox.written + length l.outbox.waiting ≤ 25 * l.counter;
-  low : clocks_passed l.bus.tia.now < 320 * 228;
+  low : clocks_passed l.bus.tia.now + 3 * l.bus.lag < 320 * 228;
 }

@@ -1,4 +1,4 @@
-use Rattle.std.proofs.Common.{◌<◌, List, [], ◌∷◌, ℕ, refl, get_or, arith}
+use Rattle.std.proofs.Common.{List, [], ◌∷◌, ℕ, refl}
 use Rattle.vcs_tia.proofs.Bits.{table_below}
 use Rattle.vcs_tia.proofs.Layers.{bytes_of_bits}
 use Rattle.vcs_tia.proofs.words.spread_four.Goals as goal

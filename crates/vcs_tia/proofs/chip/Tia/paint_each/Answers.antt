@@ -1,5 +1,5 @@
-use Rattle.std.proofs.Common.{◌≡◌, ◌+◌, ◌-◌, ◌*◌, ◌<◌, ◌≤◌, ◌∙◌, sym, ap, refl, set, arith, true, ℕ}
-use Rattle.vcs_tia.specs.Tia.{lit_at, colour_at, colour_of_lit}
+use Rattle.std.proofs.Common.{◌≡◌, ◌+◌, ◌-◌, ◌*◌, ◌<◌, ◌≤◌, ◌∙◌, sym, ap, refl, set, arith, true}
+use Rattle.vcs_tia.specs.Tia.{colour_at, colour_of_lit}
 use Rattle.vcs_tia.specs.Trace.{trace, drawn}
 use Rattle.vcs_tia.specs.declared.beam.Lit.{Lit}
 use Rattle.vcs_tia.proofs.Traces.{drawn_more}

@@ -1,8 +1,8 @@
-use Rattle.std.proofs.Common.{◌≡◌, ◌∙◌, ◌+◌, ◌-◌, ◌*◌, ◌/◌, ◌<◌, ⊎_elim, sym, ap, cond, eqb, arith, ℕ}
+use Rattle.std.proofs.Common.{◌≡◌, ◌∙◌, ◌+◌, ◌-◌, ◌*◌, ◌/◌, ⊎_elim, sym, ap, cond, eqb, arith, ℕ}
 use Rattle.std.proofs.lemmas.Bool.{cases_lt, lt-ltb, le-ltb, cond-true, cond-false}
 use Rattle.std.proofs.lemmas.Nat.Bits.{bit_at_cat_low, bit_at_cat_high}
 use Rattle.vcs_tia.specs.Units.{has_bit}
-use Rattle.vcs_tia.specs.Playfield.{playfield_lit, playfield_bit}
+use Rattle.vcs_tia.specs.Playfield.{playfield_bit}
 use Rattle.vcs_tia.proofs.playfield.Playfield.row.Goals as goal
 
 pub returns : goal.returns

@@ -1,4 +1,4 @@
-use Rattle.std.proofs.Common.{◌≡◌, ◌+◌, ◌*◌, ◌∙◌, ap, sym, set, add-one, subst, ℕ, arith, length-set}
+use Rattle.std.proofs.Common.{◌+◌, ◌*◌, ◌∙◌, ap, sym, set, add-one, length-set}
 use Rattle.vcs_tia.specs.Spans.{filled}
 use Rattle.vcs_tia.proofs.screen.Picture.fill.Goals as goal
 

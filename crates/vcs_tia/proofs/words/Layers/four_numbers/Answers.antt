@@ -1,6 +1,6 @@
-use Rattle.std.proofs.Common.{◌≡◌, ◌∙◌, ◌+◌, ◌*◌, ◌/◌, ◌%◌, ◌^◌, ◌<◌, ap, arith, ℕ, add-zero}
+use Rattle.std.proofs.Common.{◌≡◌, ◌∙◌, ◌+◌, ◌*◌, ◌/◌, ◌%◌, ◌^◌, ap, arith, ℕ, add-zero}
 use Rattle.std.specs.Int.{bit_at}
-use Rattle.vcs_tia.specs.Words.{in_bytes, layer_number, four_numbers}
+use Rattle.vcs_tia.specs.Words.{in_bytes}
 use Rattle.vcs_tia.proofs.Layers.{bit_of_four, layers_in_bytes}
 use Rattle.vcs_tia.proofs.words.Layers.four_numbers.Goals as goal
 

@@ -1,0 +1,241 @@
+//! The editor for one caller.
+
+ghost use Rattle.std.specs.Prelude.{◌≡◌, ◌≢◌, ◌↔◌, ◌⊎◌, ℕ, ◌+◌, ◌<◌, ◌≤◌, ◌^◌, [], length, take, min, Some, None, IfOk, IfErr, OnOk, OnErr, MatchResult};
+ghost use Rattle.tas_movie.specs.Edit.{edited};
+ghost use Rattle.tas_green.specs.Run.{state_after};
+ghost use Rattle.tas_green.specs.Zone.{state_at, nearest, first_of, where_true, is_on_grid, is_passed};
+ghost use Rattle.tas_green.specs.Grid.{stride};
+ghost use Rattle.tas_green.specs.Front.{IsCommonFront};
+ghost use Rattle.tas_green.specs.Green.{IsLawful};
+ghost use Rattle.tas_desk.specs.declared.replies.OfferError.TheVariants.{Cartridge, Memory};
+ghost use Rattle.tas_desk.specs.History.{IsLegal, blank_movie, movie_of};
+ghost use Rattle.tas_desk.specs.Session.{IsNextEntry, edit_refusal, IsEditError, after_entry};
+ghost use Rattle.tas_desk.specs.Shots.{IsShot, IsShotError, MatchPlayed};
+
+use crate::counts::EntryCounts;
+use crate::{EditError, Entry, OfferError, Offered, OpenError, Receipt, Shot, ShotError};
+use std::alloc::{AllocError, Allocator, Global};
+use std::marker::Model;
+use tas_green::{Batch, Green, Job, MergeError};
+use tas_movie::{Edit, EditRefusal, Movie, apply, check};
+use vcs_machine::Meter;
+use vcs_tia::Picture;
+
+/// How many edits a history has at most (own).
+pub const MAX_EDITS: u64 = 1_000_000;
+
+/// A movie, the history of its edits, and its greenzone (own). The type keeps that the history is legal, that the movie is
+/// the history's, and that each kept state is the movie's machine's.
+#[derive(Drop)]
+pub struct Session<A: Allocator = Global> {
+    journal: Vec<Entry<A>, A>,
+    counts: EntryCounts<A>,
+    movie: Movie<A>,
+    green: Green<A>,
+}
+
+impl<A: Allocator> Model for Session<A> {
+    ghost use Rattle.std.specs.Prelude.{◌≡◌, ℕ};
+    ghost use Rattle.tas_desk.specs.Counts.{count_in};
+    ghost use Rattle.tas_desk.specs.History.{entries_of};
+    ghost use Rattle.tas_desk.specs.Session.{SessionContent, IsSound};
+
+    ghost Value = { SessionContent A };
+
+    ghost view = { λ a. record { journal = a.journal.items; movie = a.movie; zone = a.green } };
+
+    ghost invariant = { λ a. IsSound a.journal.items a.movie a.green × ((seat : ℕ) → count_in a.counts seat ≡ entries_of seat a.journal.items) };
+}
+
+impl<A: Allocator + Copy> Session<A> {
+    /// The blank cartridge with no inputs, an empty history and no kept states.
+    pub fn new(alloc: A) -> Result<Session<A>, OpenError>
+        ensures { IfOk result (λ session. session ≡ record { journal = []; movie = blank_movie; zone = [] }) }
+    {
+        let Ok(movie) = Movie::blank(alloc) else {
+            return Err(OpenError::Memory);
+        };
+        Ok(Session {
+            journal: Vec::new(alloc),
+            counts: EntryCounts::new(alloc),
+            movie,
+            green: Green::new(alloc),
+        })
+    }
+
+    /// Makes an edit, as `seat`, which says that it has made `made` edits before.
+    ///
+    /// It is refused, in this order, for `Serial`, `Full`, `Place`, `Long` and `Memory`; each refusal leaves history, movie
+    /// and greenzone as they were. Afterwards exactly the states up to the edited place on the grid of the new length are
+    /// kept.
+    pub fn edit(&mut self, seat: u32, made: u64, edit: Edit<A>) -> Result<Receipt, EditError>
+        ensures receipt { IfOk result (λ receipt. receipt ≡ record { at = length self.old.journal + 1; len = length (edited self.old.movie edit).inputs }) }
+        ensures refusal { MatchResult result (λ _. edit_refusal self.old seat made edit ≡ None) (IsEditError (edit_refusal self.old seat made edit)) }
+        ensures done { OnOk result (self.new ≡ after_entry self.old (record { seat = seat; serial = made; edit = edit })) }
+        ensures refused { OnErr result (self.new ≡ self.old) }
+    {
+        self.check_edit(seat, made, &edit)?;
+        let next = Entry {
+            seat,
+            serial: made,
+            edit,
+        };
+        if self.accept(next).is_err() {
+            return Err(EditError::Memory);
+        }
+        Ok(Receipt {
+            at: self.at(),
+            len: self.movie.len(),
+        })
+    }
+
+    /// Whether the edit would be refused for another cause than memory.
+    fn check_edit(&self, seat: u32, made: u64, edit: &Edit<A>) -> Result<(), EditError>
+        ensures refusal { MatchResult result (λ _. edit_refusal self.now seat made edit.now ≡ None) (λ error. edit_refusal self.now seat made edit.now ≡ Some error) }
+        ensures next { OnOk result (IsNextEntry self.now.journal (record { seat = seat; serial = made; edit = edit.now })) }
+    {
+        let at = self.at();
+        let counted = self.counts.count(seat);
+        if counted != made {
+            return Err(EditError::Serial { at, counted });
+        }
+        if at == MAX_EDITS {
+            return Err(EditError::Full { at });
+        }
+        match check(&self.movie, edit) {
+            Ok(()) => Ok(()),
+            Err(EditRefusal::Place { at: place, len }) => Err(EditError::Place { at, place, len }),
+            Err(EditRefusal::Long { len }) => Err(EditError::Long { at, len }),
+        }
+    }
+
+    /// Makes an allowed edit: all growths come first, and then nothing can fail.
+    fn accept(&mut self, next: Entry<A>) -> Result<(), AllocError>
+        requires { IsNextEntry self.old.journal next }
+        ensures done { OnOk result (self.new ≡ after_entry self.old next) }
+        ensures refused { OnErr result (self.new ≡ self.old) }
+    {
+        self.counts.reserve(next.seat)?;
+        self.journal.reserve(1)?;
+        apply(&mut self.movie, &next.edit);
+        self.green.cut(next.edit.place(), self.movie.len());
+        self.counts.add(next.seat);
+        self.journal.push(next).unwrap();
+        Ok(())
+    }
+
+    /// Draws frame `k`, counted from 0, played from the nearest kept state, and keeps the states on the way that stand on the
+    /// grid, halted ones too.
+    ///
+    /// `NoFrame` and `Memory` leave session and meter as they were. After `Halted`, as after an answer, the meter has risen by
+    /// the frames that were played. The picture takes its memory from `alloc`.
+    pub fn shot<B: Allocator>(
+        &mut self,
+        alloc: B,
+        k: usize,
+        meter: &mut Meter,
+    ) -> Result<Shot<B>, ShotError>
+        requires { meter.old + length self.old.movie.inputs < 2 ^ 64 }
+        ensures reply { MatchResult result (IsShot self.old k) (IsShotError self.old k) }
+        ensures same { (self.new.journal ≡ self.old.journal) × (self.new.movie ≡ self.old.movie) }
+        ensures meter { MatchPlayed result (meter.new + nearest k self.old.zone ≡ meter.old + (k + 1)) (meter.new ≡ meter.old) }
+        ensures kept { MatchPlayed result
+            ((f : ℕ) → state_at f self.new.zone ≡ first_of (state_at f self.old.zone)
+            (where_true (is_passed (stride (length self.old.movie.inputs)) (nearest k self.old.zone) (k + 1) f) (Some (state_after self.old.movie f))))
+            (self.new.zone ≡ self.old.zone) }
+    {
+        let at = self.at();
+        let len = self.movie.len();
+        if k >= len {
+            return Err(ShotError::NoFrame { at, len });
+        }
+        let Ok(mut picture) = Picture::blank(alloc) else {
+            return Err(ShotError::Memory);
+        };
+        let ran = (k + 1 - self.green.nearest(k)) as u64;
+        let Ok(answer) = self.green.shot(&self.movie, k, &mut picture, meter) else {
+            return Err(ShotError::Memory);
+        };
+        match answer {
+            Ok(()) => Ok(Shot {
+                at,
+                frame: k,
+                ran,
+                picture,
+            }),
+            Err(halt) => Err(ShotError::Halted { at, halt }),
+        }
+    }
+
+    /// A job for the movie's first `near` frames, or for all where there are fewer, from the nearest kept state among them.
+    /// `AllocError` where memory is refused.
+    pub fn job<B: Allocator + Copy>(&self, alloc: B, near: usize) -> Result<Job<B>, AllocError>
+        ensures cart { IfOk result (λ job. job.cart ≡ self.now.movie.cart) }
+        ensures inputs { IfOk result (λ job. job.inputs ≡ take (min near (length self.now.movie.inputs)) self.now.movie.inputs) }
+        ensures stride { IfOk result (λ job. job.stride ≡ stride (length self.now.movie.inputs)) }
+        ensures start { IfOk result (λ job. job.start ≡ nearest (min near (length self.now.movie.inputs)) self.now.zone) }
+    {
+        Job::take(alloc, &self.movie, &self.green, near)
+    }
+
+    /// Takes from a batch exactly the states on the movie's grid up to the end of the common beginning of the batch's inputs
+    /// and the movie's.
+    ///
+    /// `Cartridge` comes exactly where the two cartridges' bytes differ; `Memory` hands the same batch back. Both leave the
+    /// session as it was.
+    pub fn offer<B: Allocator>(&mut self, batch: Batch<B>) -> Result<Offered, OfferError<B>>
+        ensures cartridge { (result ≡ Err (Cartridge (length self.old.journal))) ↔ (batch.cart ≢ self.old.movie.cart) }
+        ensures error { IfErr result (λ error. (error ≡ Cartridge (length self.old.journal)) ⊎ (error ≡ Memory batch)) }
+        ensures at { IfOk result (λ offered. offered.at ≡ length self.old.journal) }
+        ensures front { IfOk result (λ offered. IsCommonFront batch.inputs self.old.movie.inputs offered.front) }
+        ensures states { IfOk result (λ offered. (f : ℕ) → state_at f self.new.zone ≡ first_of (state_at f self.old.zone)
+            (where_true (is_on_grid (stride (length self.old.movie.inputs)) offered.front f) (state_at f batch.states))) }
+        ensures kept { IfOk result (λ offered. length self.new.zone ≡ length self.old.zone + offered.kept) }
+        ensures same { (self.new.journal ≡ self.old.journal) × (self.new.movie ≡ self.old.movie) }
+        ensures err { OnErr result (self.new ≡ self.old) }
+    {
+        let at = self.at();
+        let merged = match self.green.merge(&self.movie, &batch) {
+            Ok(merged) => merged,
+            Err(MergeError::Cartridge) => return Err(OfferError::Cartridge { at }),
+            Err(MergeError::Memory) => return Err(OfferError::Memory(batch)),
+        };
+        Ok(Offered {
+            at,
+            front: merged.front,
+            kept: merged.kept,
+        })
+    }
+
+    /// How many edits the history has.
+    pub fn at(&self) -> u64
+        ensures at { result ≡ length self.now.journal }
+        ensures most { result ≤ MAX_EDITS }
+    {
+        self.journal.len() as u64
+    }
+
+    /// The movie: that of the history.
+    pub fn movie(&self) -> &Movie<A>
+        ensures movie { result.now ≡ self.now.movie }
+        ensures history { self.now.movie ≡ movie_of self.now.journal }
+    {
+        &self.movie
+    }
+
+    /// The history, in order.
+    pub fn journal(&self) -> &[Entry<A>]
+        ensures journal { result.now ≡ self.now.journal }
+        ensures legal { IsLegal self.now.journal }
+    {
+        self.journal.as_slice()
+    }
+
+    /// The greenzone.
+    pub fn green(&self) -> &Green<A>
+        ensures zone { result.now ≡ self.now.zone }
+        ensures lawful { IsLawful self.now.movie self.now.zone }
+    {
+        &self.green
+    }
+}
