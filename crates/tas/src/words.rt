@@ -33,6 +33,8 @@ pub(crate) enum Task<'a> {
         /// The frame, counted from 0, up to 9,999,999.
         frame: u32,
     },
+    /// Run the script on standard input.
+    Script,
 }
 
 /// A required word that is a number in a range.
@@ -80,6 +82,19 @@ Example:
   examples/cart joystick > joystick.bin
   tas shot joystick.bin 60 < examples/joystick.movie > frame60.ppm";
 
+static SCRIPT_HELP: &str = "\
+Standard input is the script: edits of a movie and looks at it, a line each:
+  load OFF=HEX ..            take a cartridge of zeros with these bytes
+  insert AT COUNT FRAME      insert COUNT frames such as 'R.... ..... .....'
+  replace AT COUNT FRAME     replace COUNT frames
+  delete AT COUNT            delete COUNT frames
+  len, input K, shot K       tell the length, an input, or what frame K shows
+Standard output has a reply for each line; refusals are replies, too. A line that isn't understood
+ends the script.
+
+Example:
+  tas script < examples/edits.script";
+
 static TAS_HELP: &str = "\
 Each command reads standard input whole before it writes anything to standard output.
 Status: 0 done, 1 a fault (one line on standard error), 2 words that aren't understood.";
@@ -115,6 +130,13 @@ fn shot_command<'a>(alloc: Global) -> Result<Command<'a>, AllocError> {
         .arg(number(alloc, "K", "The frame, counted from 0", 0, MAX_FRAME))
 }
 
+/// `tas script`.
+fn script_command<'a>(alloc: Global) -> Command<'a> {
+    Command::new(alloc, "script")
+        .about("Edits a movie by a script and writes the replies")
+        .after_help(SCRIPT_HELP)
+}
+
 /// The program's command line.
 fn command<'a>(alloc: Global) -> Result<Command<'a>, AllocError> {
     Command::new(alloc, "tas")
@@ -125,7 +147,8 @@ fn command<'a>(alloc: Global) -> Result<Command<'a>, AllocError> {
         .disable_help_subcommand(true)
         .subcommand(trace_command(alloc)?)?
         .subcommand(check_command(alloc)?)?
-        .subcommand(shot_command(alloc)?)
+        .subcommand(shot_command(alloc)?)?
+        .subcommand(script_command(alloc))
 }
 
 /// A number that the command line has checked.
@@ -157,6 +180,7 @@ fn task_of<'a>(matches: &ArgMatches<'a>) -> Task<'a>
             cart: cartridge_of(rest),
             frame: number_of(rest, "K", 0, MAX_FRAME),
         },
+        Some(("script", _)) => Task::Script,
         Some((_, rest)) => Task::Trace {
             instructions: number_of(rest, "N", 0, MAX_INSTRUCTIONS),
         },

@@ -42,7 +42,13 @@ pub enum ToolFault {
         /// The byte.
         opcode: u8,
     },
-    /// Memory was refused. Nothing was written.
+    /// A line of a script isn't understood. The replies to the lines before it are written.
+    #[error("fault: script line {line}")]
+    Script {
+        /// The line's number, counted from 1.
+        line: usize,
+    },
+    /// Memory was refused. Nothing was written, but by a script the replies before.
     #[error("fault: out of memory")]
     Memory,
 }

@@ -1,0 +1,19 @@
+-- Lines and the commands that they are.
+use Rattle.std.proofs.Common.{◌≡◌, ℕ, List, ◌++◌, drop, get_or, sym, ap, subst, ◌∙◌, arith}
+use Rattle.std.specs.Prelude.{codes}
+use Rattle.tas_script.specs.declared.command.Command.{Command}
+use Rattle.tas_script.specs.declared.command.Command.TheVariants.{Load, Insert, Replace, Delete, Length, InputAt, Shot}
+use Rattle.tas_script.specs.Commands.{Says}
+use Rattle.tas_script.specs.Parts.{IsImageOf}
+
+-- a line that begins as a `load` line is no other command
+pub only_load : (line rest : List ℕ) → line ≡ codes "load" ++ rest → ((image : List ℕ) → IsImageOf rest image → ⊥) → (command : Command) → Says line command → ⊥
+only_load line rest is never (Load image) says =
+    let same : says.0 ≡ rest = ap (λ (l : List ℕ). drop 4 l) (sym says.1 ∙ is) in
+    never image (subst (λ (l : List ℕ). IsImageOf l image) same says.2)
+only_load line rest is never (Insert at count input) says = let e : ◌≡◌ {A = ℕ} 108 105 = ap (λ (l : List ℕ). get_or l 0 0) (sym is ∙ says.0) in omega (arith, e)
+only_load line rest is never (Replace at count input) says = let e : ◌≡◌ {A = ℕ} 108 114 = ap (λ (l : List ℕ). get_or l 0 0) (sym is ∙ says.0) in omega (arith, e)
+only_load line rest is never (Delete at count) says = let e : ◌≡◌ {A = ℕ} 108 100 = ap (λ (l : List ℕ). get_or l 0 0) (sym is ∙ says.0) in omega (arith, e)
+only_load line rest is never Length says = let e : ◌≡◌ {A = ℕ} 111 101 = ap (λ (l : List ℕ). get_or l 1 0) (sym is ∙ says) in omega (arith, e)
+only_load line rest is never (InputAt frame) says = let e : ◌≡◌ {A = ℕ} 108 105 = ap (λ (l : List ℕ). get_or l 0 0) (sym is ∙ says.0) in omega (arith, e)
+only_load line rest is never (Shot frame) says = let e : ◌≡◌ {A = ℕ} 108 115 = ap (λ (l : List ℕ). get_or l 0 0) (sym is ∙ says.0) in omega (arith, e)

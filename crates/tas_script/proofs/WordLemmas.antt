@@ -1,0 +1,70 @@
+-- Words, numbers and the bytes between them.
+use Rattle.std.proofs.Common.{◌≡◌, ℕ, ◌+◌, ◌<◌, ◌≤◌, List, [], ◌∷◌, ◌++◌, length, take, drop, get_or, Option, Some, None, Result, Ok, Err, refl, sym, ap, subst, ◌∙◌, arith}
+use Rattle.std.proofs.lemmas.List.{take_more, take_all, take-append-drop, drop_more}
+use Rattle.std.proofs.Common.{Bool, true, false, ◌%◌, ◌^◌}
+use Rattle.std.specs.Prelude.{decimal}
+use Rattle.std.specs.Str.{bytes_eq}
+use Rattle.std.proofs.lemmas.Slice.Eq.{bytes_eq-Decides}
+use Rattle.std.proofs.lemmas.Fmt.{decimal_by_steps, parse-decimal}
+use Rattle.std.specs.Str.Parse.{ParsesUnsigned}
+use Rattle.tas_script.specs.Commands.{NoByte}
+
+-- ---- a byte that isn't there
+
+push_no_byte : (c : ℕ) (xs : List ℕ) (b : ℕ) → NoByte c xs → (b ≡ c → ⊥) → NoByte c (xs ++ b ∷ [])
+push_no_byte c [] b h ne = (ne, tt)
+push_no_byte c (x ∷ xs) b h ne = (h.0, push_no_byte c xs b h.1 ne)
+
+pub no_byte_more : (c : ℕ) (bytes : List ℕ) (at : ℕ) → at < length bytes → (get_or bytes at 0 ≡ c → ⊥) → NoByte c (take at bytes) → NoByte c (take (at + 1) bytes)
+no_byte_more c bytes at lt ne h = subst (NoByte c) (sym (take_more bytes at 0 lt)) (push_no_byte c (take at bytes) (get_or bytes at 0) h ne)
+
+pub no_byte_all : (c : ℕ) (bytes : List ℕ) (at : ℕ) → length bytes ≤ at → NoByte c (take at bytes) → NoByte c bytes
+no_byte_all c bytes at le h = subst (NoByte c) (take_all at bytes le) h
+
+pub parted : (c : ℕ) (bytes : List ℕ) (at : ℕ) → at < length bytes → get_or bytes at 0 ≡ c → bytes ≡ take at bytes ++ c ∷ drop (at + 1) bytes
+parted c bytes at lt is = sym (take-append-drop at bytes) ∙ ap (λ (r : List ℕ). take at bytes ++ r) (drop_more bytes at 0 lt ∙ rw is refl)
+
+pub no_parts : (c : ℕ) (a x : List ℕ) → NoByte c (a ++ c ∷ x) → ⊥
+no_parts c [] x h = h.0 refl
+no_parts c (b ∷ a) x h = no_parts c a x h.1
+
+-- what stands before the first such byte is one list
+pub same_front : (c : ℕ) (a b x y : List ℕ) → NoByte c a → NoByte c b → a ++ c ∷ x ≡ b ++ c ∷ y → (a ≡ b) × (x ≡ y)
+same_front c [] [] x y ha hb e = let t : x ≡ y = cc in (refl, t)
+same_front c [] (k ∷ b) x y ha hb e = let t : k ≡ c = cc in absurd (hb.0 t)
+same_front c (k ∷ a) [] x y ha hb e = let t : k ≡ c = cc in absurd (ha.0 t)
+same_front c (k ∷ a) (m ∷ b) x y ha hb e =
+    let head : k ≡ m = cc in
+    let tail : a ++ c ∷ x ≡ b ++ c ∷ y = cc in
+    let both = same_front c a b x y ha.1 hb.1 tail in
+    let whole : k ∷ a ≡ m ∷ b = cc in
+    (whole, both.1)
+
+-- ---- numbers
+
+pub not_same : (a b : List ℕ) (r : Bool) → r ≡ bytes_eq a b → r ≡ false → a ≡ b → ⊥
+not_same a b r is off same = let on : bytes_eq a b ≡ true = (bytes_eq-Decides a b).1 same in cc
+
+pub decimal_no_space : (n : ℕ) → n < 2 ^ 64 → NoByte 32 (decimal n)
+decimal_no_space n lt = decimal_by_steps (λ m ds. NoByte 32 ds)
+    (λ m small. ((λ (e : 48 + m ≡ 32). omega arith), tt))
+    (λ m ds big h. push_no_byte 32 ds (48 + m % 10) h (λ (e : 48 + m % 10 ≡ 32). omega arith)) n lt
+
+ok_same : {E : Type 0} (a b : ℕ) → (let r : Result ℕ E = Ok a in r) ≡ Ok b → a ≡ b
+ok_same a b e = cc
+
+pub parsed_is : {E : Type 0} (n m : ℕ) (bs : List ℕ) (r : Result ℕ E) → ParsesUnsigned 64 10 bs r → bs ≡ decimal n → n ≤ 9999999 → r ≡ Ok m → m ≡ n
+parsed_is n m bs r parses is le ok =
+    let e : r ≡ Ok n = parse-decimal 64 n bs r (omega arith) (omega arith) is parses in
+    ok_same m n (sym ok ∙ e)
+
+ok_not_err : {E : Type 0} (n : ℕ) (x : E) → (let r : Result ℕ E = Ok n in r) ≡ Err x → ⊥
+ok_not_err n x e = cc
+
+pub not_parsed : {E : Type 0} (n : ℕ) (bs : List ℕ) (r : Result ℕ E) (x : E) → ParsesUnsigned 64 10 bs r → bs ≡ decimal n → n ≤ 9999999 → r ≡ Err x → ⊥
+not_parsed n bs r x parses is le err =
+    let e : r ≡ Ok n = parse-decimal 64 n bs r (omega arith) (omega arith) is parses in
+    ok_not_err n x (sym e ∙ err)
+
+pub none_some : {A : Type 0} (o : Option A) (x : A) → o ≡ None → o ≡ Some x → ⊥
+none_some o x n s = cc

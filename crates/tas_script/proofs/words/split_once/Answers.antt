@@ -1,0 +1,5 @@
+use Rattle.tas_script.proofs.WordLemmas.{no_byte_more}
+use Rattle.tas_script.proofs.words.split_once.Goals as goal
+
+pub loop-at-preserved : goal.loop-at-preserved
+loop-at-preserved c = no_byte_more c.args.mark c.args.bytes.now c.loop-at.at c.loop-at-test.true c.if-bytes-at.false c.loop-at.invariant

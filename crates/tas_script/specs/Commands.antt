@@ -1,0 +1,36 @@
+-- The lines of a script (own).
+use Rattle.std.specs.Prelude.{◌≡◌, ℕ, ◌≤◌, List, [], ◌∷◌, ◌++◌, codes, decimal}
+use Rattle.tas_movie.specs.Text.{frame_text}
+use Rattle.vcs_machine.specs.declared.input.Input.{Input}
+use Rattle.tas_script.specs.declared.command.Command.{Command}
+use Rattle.tas_script.specs.declared.command.Command.TheVariants.{Load, Insert, Replace, Delete, Length, InputAt, Shot}
+use Rattle.tas_script.specs.declared.words.TheConstants.{MAX_NUMBER}
+use Rattle.tas_script.specs.Parts.{IsImageOf}
+
+-- a byte doesn't stand in the bytes
+abbrev pub NoByte : ℕ → List ℕ → Type 0
+NoByte c [] = Unit {0}
+NoByte c (b ∷ bytes) = (b ≡ c → ⊥) × NoByte c bytes
+
+-- a number of one to seven digits
+abbrev pub IsNumber : ℕ → Type 0
+IsNumber n = n ≤ MAX_NUMBER
+
+-- two numbers with one space between
+abbrev pub pair_text : ℕ → ℕ → List ℕ
+pair_text at count = decimal at ++ 32 ∷ decimal count
+
+-- a place, a count and a frame, with one space between
+abbrev pub frames_text : ℕ → ℕ → Input → List ℕ
+frames_text at count input = decimal at ++ 32 ∷ (decimal count ++ 32 ∷ frame_text input)
+
+-- the line, without its newline, is this command: its words are parted by one space, a number is decimal
+-- without leading zeros
+abbrev pub Says : List ℕ → Command → Type 0
+Says said (Load image) = (parts : List ℕ) × (said ≡ codes "load" ++ parts) × IsImageOf parts image
+Says said (Insert at count input) = (said ≡ codes "insert " ++ frames_text at count input) × IsNumber at × IsNumber count
+Says said (Replace at count input) = (said ≡ codes "replace " ++ frames_text at count input) × IsNumber at × IsNumber count
+Says said (Delete at count) = (said ≡ codes "delete " ++ pair_text at count) × IsNumber at × IsNumber count
+Says said Length = said ≡ codes "len"
+Says said (InputAt frame) = (said ≡ codes "input " ++ decimal frame) × IsNumber frame
+Says said (Shot frame) = (said ≡ codes "shot " ++ decimal frame) × IsNumber frame

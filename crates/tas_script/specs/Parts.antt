@@ -1,0 +1,67 @@
+-- What a `load` line says: parts of a cartridge's image, each an offset and the bytes from there on (own).
+use Rattle.std.specs.Prelude.{◌≡◌, ℕ, ◌+◌, ◌/◌, ◌%◌, ◌<◌, ◌≤◌, nat_lt, List, [], ◌∷◌, ◌++◌, length, take, drop, replicate, slice_index, if◌then◌else◌}
+use Rattle.std.specs.List.{flat_map}
+use Rattle.tas_script.specs.declared.command.TheConstants.{IMAGE_SIZE}
+
+-- the upper case hexadecimal digit of a number below 16
+abbrev pub upper_digit : ℕ → ℕ
+upper_digit n = if nat_lt n 10 then 48 + n else 55 + n
+
+-- each byte as two upper case hexadecimal digits, the high four bits first
+unfoldable pub hex_text : List ℕ → List ℕ
+hex_text [] = []
+hex_text (byte ∷ bytes) = upper_digit (byte / 16) ∷ upper_digit (byte % 16) ∷ hex_text bytes
+
+-- an offset as three upper case hexadecimal digits
+abbrev pub offset_text : ℕ → List ℕ
+offset_text offset = upper_digit (offset / 256) ∷ upper_digit (offset % 256 / 16) ∷ upper_digit (offset % 16) ∷ []
+
+-- some bytes of the image, and the offset of the first of them
+pub record Part : Type 0 where
+  pub offset : ℕ
+  pub bytes : List ℕ
+
+-- numbers below 256
+abbrev pub IsBytes : List ℕ → Type 0
+IsBytes bytes = (k : ℕ) → slice_index bytes k < 256
+
+-- at least one byte, and none past the image's end
+pub record IsPart (part : Part) : Type 0 where
+  pub some : 0 < length part.bytes
+  pub within : part.offset + length part.bytes ≤ IMAGE_SIZE
+  pub bytes : IsBytes part.bytes
+
+-- nothing, or a space first
+unfoldable pub IsWordEnd : List ℕ → Type 0
+IsWordEnd [] = Unit {0}
+IsWordEnd (byte ∷ bytes) = byte ≡ 32
+
+-- OFF=HEX
+abbrev pub word_text : Part → List ℕ
+word_text part = offset_text part.offset ++ 61 ∷ hex_text part.bytes
+
+-- a part stands behind one space
+abbrev pub part_text : Part → List ℕ
+part_text part = 32 ∷ word_text part
+
+-- the image with the part's bytes in their place
+abbrev pub overwritten : Part → List ℕ → List ℕ
+overwritten part image = take part.offset image ++ part.bytes ++ drop (part.offset + length part.bytes) image
+
+-- the image with the bytes of all parts, later ones over earlier ones
+unfoldable pub poured : List ℕ → List Part → List ℕ
+poured image [] = image
+poured image (part ∷ parts) = poured (overwritten part image) parts
+
+-- each is a part
+unfoldable pub AreParts : List Part → Type 0
+AreParts [] = Unit {0}
+AreParts (part ∷ parts) = IsPart part × AreParts parts
+
+-- the text names one or more parts, and the image is theirs, over zeros
+pub record IsImageOf (said : List ℕ) (image : List ℕ) : Type 0 where
+  pub parts : List Part
+  pub some : 0 < length parts
+  pub are_parts : AreParts parts
+  pub text : said ≡ flat_map part_text parts
+  pub image_is : image ≡ poured (replicate IMAGE_SIZE 0) parts

@@ -1,0 +1,53 @@
+//! What a line of a script asks for.
+
+use vcs_machine::Input;
+
+/// How many bytes the cartridge of a `load` line has (own).
+pub const IMAGE_SIZE: usize = 4096;
+
+/// What a line of a script asks for (own). Numbers are at most [`MAX_NUMBER`](crate::MAX_NUMBER).
+#[derive(Clone, Copy, Debug, PartialEq, Eq)]
+pub enum Command {
+    /// `load OFF=HEX ..`: another cartridge.
+    Load {
+        /// The cartridge's bytes.
+        image: [u8; IMAGE_SIZE],
+    },
+    /// `insert AT COUNT FRAME`: copies of one input are put in.
+    Insert {
+        /// The place in the movie's inputs, counted from 0.
+        at: usize,
+        /// How many copies.
+        count: usize,
+        /// The input.
+        input: Input,
+    },
+    /// `replace AT COUNT FRAME`: copies of one input are written over as many inputs.
+    Replace {
+        /// The place in the movie's inputs, counted from 0.
+        at: usize,
+        /// How many copies.
+        count: usize,
+        /// The input.
+        input: Input,
+    },
+    /// `delete AT COUNT`: inputs are taken out.
+    Delete {
+        /// The place in the movie's inputs, counted from 0.
+        at: usize,
+        /// How many inputs.
+        count: usize,
+    },
+    /// `len`: the movie's length.
+    Length,
+    /// `input K`: the input of one frame.
+    InputAt {
+        /// The frame, counted from 0.
+        frame: usize,
+    },
+    /// `shot K`: the picture of one frame.
+    Shot {
+        /// The frame, counted from 0.
+        frame: usize,
+    },
+}

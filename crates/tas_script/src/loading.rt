@@ -1,0 +1,145 @@
+//! The parts of a `load` line.
+
+ghost use Rattle.std.specs.Prelude.{◌≡◌, ◌≢◌, ◌<◌, ◌*◌, ◌++◌, ◌∷◌, [], ℕ, List, length, IfSome, IfNone, true, false};
+ghost use Rattle.tas_script.specs.Commands.{NoByte};
+ghost use Rattle.tas_script.specs.Parts.{Part, IsPart, IsBytes, IsWordEnd, IsImageOf, upper_digit, hex_text, offset_text, word_text, part_text, overwritten};
+
+use crate::IMAGE_SIZE;
+
+/// The value of an upper case hexadecimal digit.
+fn digit(byte: u8) -> Option<u8>
+    ensures some { IfSome result (λ n. (n < 16) × (byte ≡ upper_digit n)) }
+    ensures none { IfNone result ((n : ℕ) → n < 16 → byte ≢ upper_digit n) }
+{
+    match byte {
+        b'0'..=b'9' => Some(byte - b'0'),
+        b'A'..=b'F' => Some(byte - b'A' + 10),
+        _ => None,
+    }
+}
+
+/// The byte of two digits, the high four bits first.
+fn byte_of(first: u8, second: u8) -> Option<u8>
+    ensures some { IfSome result (λ byte. hex_text (byte ∷ []) ≡ first ∷ second ∷ []) }
+    ensures none { IfNone result ((byte : ℕ) → byte < 256 → hex_text (byte ∷ []) ≢ first ∷ second ∷ []) }
+{
+    let Some(high) = digit(first) else {
+        return None;
+    };
+    let Some(low) = digit(second) else {
+        return None;
+    };
+    Some(high * 16 + low)
+}
+
+/// The offset of three digits.
+fn offset_of(first: u8, second: u8, third: u8) -> Option<usize>
+    ensures some { IfSome result (λ offset. (offset < IMAGE_SIZE) × (offset_text offset ≡ first ∷ second ∷ third ∷ [])) }
+    ensures none { IfNone result ((offset : ℕ) → offset < IMAGE_SIZE → offset_text offset ≢ first ∷ second ∷ third ∷ []) }
+{
+    let Some(high) = digit(first) else {
+        return None;
+    };
+    let Some(middle) = digit(second) else {
+        return None;
+    };
+    let Some(low) = digit(third) else {
+        return None;
+    };
+    Some(usize::from(high) * 256 + usize::from(middle) * 16 + usize::from(low))
+}
+
+/// Writes the bytes of these digits. Whether all of them are digits.
+fn write_bytes(digits: &[u8], room: &mut [u8]) -> bool
+    requires { length digits.now ≡ 2 * length room.old }
+    ensures len { length room.new ≡ length room.old }
+    ensures bytes { IsBytes room.new }
+    ensures written { result ≡ true → digits.now ≡ hex_text room.new }
+    ensures other { result ≡ false → (bytes : List ℕ) → IsBytes bytes → digits.now ≢ hex_text bytes }
+{
+    for k in 0..room.len() {
+        let Some(byte) = byte_of(digits[2 * k], digits[2 * k + 1]) else {
+            return false;
+        };
+        room[k] = byte;
+    }
+    true
+}
+
+/// Writes the bytes of a word OFF=HEX into the image. Whether it is such a word.
+fn write_part(word: &[u8], image: &mut [u8; IMAGE_SIZE]) -> bool
+    ensures written { result ≡ true → (part : Part) × IsPart part × (word.now ≡ word_text part) × (image.new ≡ overwritten part image.old) }
+    ensures other { result ≡ false → (part : Part) → IsPart part → word.now ≢ word_text part }
+{
+    if word.len() < 6 {
+        return false;
+    }
+    if word[3] != b'=' {
+        return false;
+    }
+    let Some(offset) = offset_of(word[0], word[1], word[2]) else {
+        return false;
+    };
+    let (_front, digits) = word.split_at(4);
+    if digits.len() % 2 != 0 {
+        return false;
+    }
+    let end = offset + digits.len() / 2;
+    if end > IMAGE_SIZE {
+        return false;
+    }
+    write_bytes(digits, &mut image[offset..end])
+}
+
+/// The bytes before the first space, and the rest from there on.
+fn first_word(bytes: &[u8]) -> (&[u8], &[u8])
+    ensures bytes { bytes.now ≡ result.0.now ++ result.1.now }
+    ensures word { NoByte 32 result.0.now }
+    ensures end { IsWordEnd result.1.now }
+{
+    for at in 0..bytes.len() {
+        if bytes[at] == b' ' {
+            return bytes.split_at(at);
+        }
+    }
+    bytes.split_at(bytes.len())
+}
+
+/// Writes the first part of the text into the image, and answers what follows it.
+fn read_part<'a>(text: &'a [u8], image: &mut [u8; IMAGE_SIZE]) -> Option<&'a [u8]>
+    ensures some { IfSome result (λ rest. (part : Part) × IsPart part × IsWordEnd rest.now × (text.entry.now ≡ part_text part ++ rest.now) × (image.new ≡ overwritten part image.old)) }
+    ensures none { IfNone result ((part : Part) (rest : List ℕ) → IsPart part → IsWordEnd rest → text.entry.now ≢ part_text part ++ rest) }
+{
+    if text.len() == 0 {
+        return None;
+    }
+    if text[0] != b' ' {
+        return None;
+    }
+    let (_space, words) = text.split_at(1);
+    let (word, rest) = first_word(words);
+    if write_part(word, image) {
+        Some(rest)
+    } else {
+        None
+    }
+}
+
+/// The image that the parts of a `load` line give, over zeros; nothing where the text names no parts.
+pub fn load_image(text: &[u8]) -> Option<[u8; IMAGE_SIZE]>
+    ensures some { IfSome result (IsImageOf text.now) }
+    ensures none { IfNone result ((image : List ℕ) → IsImageOf text.now image → ⊥) }
+{
+    let mut image = [0; IMAGE_SIZE];
+    if text.len() == 0 {
+        return None;
+    }
+    let mut rest = text;
+    while 0 < rest.len() {
+        let Some(after) = read_part(rest, &mut image) else {
+            return None;
+        };
+        rest = after;
+    }
+    Some(image)
+}
