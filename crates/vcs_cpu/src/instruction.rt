@@ -9,9 +9,9 @@ use crate::addressing::{locate, size};
 use crate::bus::Bus;
 use crate::execute::execute;
 use crate::halt::Halt;
-use crate::opcode::decode;
+use crate::opcode::instruction;
 use crate::regs::Regs;
-use crate::timing::cycles;
+use crate::timing::extra_cycles;
 
 /// Executes the instruction at the program counter and answers its CPU cycles, 2 to 7.
 ///
@@ -32,14 +32,14 @@ pub fn step<B: Bus>(regs: &mut Regs, bus: &mut B) -> Result<u8, Halt>
     ensures unchanged { OnErr result ((regs.new ≡ regs.old) × (bus.new ≡ bus.old)) }
 {
     let opcode = bus.peek(regs.pc);
-    let Some((op, mode)) = decode(opcode) else {
+    let Some((op, mode, cycles, crossing)) = instruction(opcode) else {
         return Err(Halt::Undocumented {
             at: regs.pc,
             opcode,
         });
     };
     let operand = locate(mode, regs, bus);
-    let time = cycles(op, mode, operand, regs);
+    let time = cycles + extra_cycles(op, crossing, operand, regs);
     bus.advance(time);
     regs.pc = regs.pc.wrapping_add(size(mode));
     execute(op, operand, regs, bus);
