@@ -115,7 +115,7 @@ pub(crate) struct ConsoleBus<'a, O: Observer> {
     pub observer: &'a mut O,
     /// CPU cycles that have yet to pass on the chips.
     pub lag: u8,
-    /// A wait may be owed: the TIA was written since the last one.
+    /// A wait may be owed: WSYNC was written since the last one.
     pub may_wait: bool,
     ghost rom_size: { length rom.now ≡ 4096 },
     ghost low: { clocks_passed tia.now + 3 * lag < 65536 * 228 },
@@ -209,7 +209,7 @@ impl<O: Observer> ConsoleBus<'_, O> {
             ≡ held_of self.old.rom.now self.old.pins self.old.riot.ghost_name self.old.tia.ghost_name self.old.observer.ghost_name }
     {
         self.catch_up();
-        self.may_wait = true;
+        self.may_wait = self.may_wait || may_ask_for_wait(address);
         self.tia.write(address, value);
     }
 }
@@ -262,6 +262,13 @@ fn tia_byte(tia: &Tia, lag: u8, address: u16) -> u8
     let mut later = *tia;
     later.pass(3 * lag as u16);
     later.read(address)
+}
+
+/// Whether a write to the TIA at this address may ask for a wait: its six low lines name WSYNC.
+fn may_ask_for_wait(address: u16) -> bool
+    ensures { result ≡ false → (value : ℕ) (tia : Tia) → (written_at address value tia).sync.wait_owed ≡ tia.sync.wait_owed }
+{
+    address % 64 == 2
 }
 
 /// Whether an address line, A0 to A15, is high.
