@@ -2,7 +2,7 @@
 #![tactic(auto)]
 
 ghost use Rattle.std.specs.Prelude.{◌≡◌, false};
-ghost use Rattle.vcs_cpu.specs.Operands.{word_from, indexed_operand, relative_operand, size_of, operand_byte_at, operand_word_at, zero_page_pointer, jump_pointer, operand_of_mode};
+ghost use Rattle.vcs_cpu.specs.Operands.{address_after, word_from, indexed_operand, relative_operand, size_of, operand_byte_at, operand_word_at, zero_page_pointer, jump_pointer, operand_of_mode};
 
 use crate::bus::Bus;
 use crate::op::Mode;
@@ -52,17 +52,18 @@ fn branch_place(next: u16, offset: u8) -> Operand
     }
 }
 
-fn read_operand_byte<B: Bus>(regs: &Regs, bus: &B) -> u8
-    ensures { result ≡ operand_byte_at regs.now.pc (B.device.byte_at (B.content bus.now)) }
+fn read_operand_byte<B: Bus>(pc: u16, bus: &B) -> u8
+    ensures { result ≡ operand_byte_at pc (B.device.byte_at (B.content bus.now)) }
 {
-    bus.peek(regs.pc.wrapping_add(1))
+    bus.peek(pc.wrapping_add(1))
 }
 
-fn read_operand_word<B: Bus>(regs: &Regs, bus: &B) -> u16
-    ensures { result ≡ operand_word_at regs.now.pc (B.device.byte_at (B.content bus.now)) }
+#[inline(always)]
+fn read_operand_word<B: Bus>(pc: u16, bus: &B) -> u16
+    ensures { result ≡ operand_word_at pc (B.device.byte_at (B.content bus.now)) }
 {
-    let low = bus.peek(regs.pc.wrapping_add(1));
-    let high = bus.peek(regs.pc.wrapping_add(2));
+    let low = bus.peek(pc.wrapping_add(1));
+    let high = bus.peek(pc.wrapping_add(2));
     word_of(low, high)
 }
 
@@ -82,17 +83,6 @@ fn read_jump_pointer<B: Bus>(address: u16, bus: &B) -> u16
     word_of(low, high)
 }
 
-/// The bytes that an instruction takes.
-pub(crate) fn size(mode: Mode) -> u16
-    ensures { result ≡ size_of mode }
-{
-    match mode {
-        Mode::Implied | Mode::Accumulator => 1,
-        Mode::Absolute | Mode::AbsoluteX | Mode::AbsoluteY | Mode::Indirect => 3,
-        _ => 2,
-    }
-}
-
 fn at(address: u16) -> Operand
     ensures { result ≡ Operand.Memory address false }
 {
@@ -102,34 +92,51 @@ fn at(address: u16) -> Operand
     }
 }
 
-/// Where the operand of the instruction at the program counter is; reads its operand and pointer bytes.
-pub(crate) fn locate<B: Bus>(mode: Mode, regs: &Regs, bus: &B) -> Operand
-    ensures { result ≡ operand_of_mode mode regs.now (B.device.byte_at (B.content bus.now)) }
+/// Where the operand of the instruction at `pc` is, and where the next instruction is; reads the
+/// operand and pointer bytes.
+pub(crate) fn locate<B: Bus>(mode: Mode, pc: u16, regs: &Regs, bus: &B) -> (Operand, u16)
+    ensures operand { result.0 ≡ operand_of_mode mode (record regs.now { pc = pc }) (B.device.byte_at (B.content bus.now)) }
+    ensures next { result.1 ≡ address_after pc (size_of mode) }
 {
+    let after_1 = pc.wrapping_add(1);
+    let after_2 = pc.wrapping_add(2);
+    let after_3 = pc.wrapping_add(3);
     match mode {
-        Mode::Implied => Operand::Nowhere,
-        Mode::Accumulator => Operand::Accumulator,
-        Mode::Immediate => Operand::Immediate(read_operand_byte(regs, bus)),
-        Mode::ZeroPage => at(read_operand_byte(regs, bus) as u16),
-        Mode::ZeroPageX => at(read_operand_byte(regs, bus).wrapping_add(regs.x) as u16),
-        Mode::ZeroPageY => at(read_operand_byte(regs, bus).wrapping_add(regs.y) as u16),
-        Mode::Absolute => at(read_operand_word(regs, bus)),
-        Mode::AbsoluteX => index(read_operand_word(regs, bus), regs.x),
-        Mode::AbsoluteY => index(read_operand_word(regs, bus), regs.y),
-        Mode::Indirect => at(read_jump_pointer(read_operand_word(regs, bus), bus)),
-        Mode::IndexedIndirect => {
-            let zero = read_operand_byte(regs, bus).wrapping_add(regs.x);
-            at(read_zero_page_pointer(zero, bus))
+        Mode::Implied => (Operand::Nowhere, after_1),
+        Mode::Accumulator => (Operand::Accumulator, after_1),
+        Mode::Immediate => (Operand::Immediate(read_operand_byte(pc, bus)), after_2),
+        Mode::ZeroPage => (at(read_operand_byte(pc, bus) as u16), after_2),
+        Mode::ZeroPageX => {
+            let zero = read_operand_byte(pc, bus).wrapping_add(regs.x);
+            (at(zero as u16), after_2)
         }
-        Mode::IndirectIndexed => index(
-            read_zero_page_pointer(read_operand_byte(regs, bus), bus),
-            regs.y,
-        ),
-        Mode::Relative => branch_place(regs.pc.wrapping_add(2), read_operand_byte(regs, bus)),
+        Mode::ZeroPageY => {
+            let zero = read_operand_byte(pc, bus).wrapping_add(regs.y);
+            (at(zero as u16), after_2)
+        }
+        Mode::Absolute => (at(read_operand_word(pc, bus)), after_3),
+        Mode::AbsoluteX => (index(read_operand_word(pc, bus), regs.x), after_3),
+        Mode::AbsoluteY => (index(read_operand_word(pc, bus), regs.y), after_3),
+        Mode::Indirect => {
+            let pointer = read_operand_word(pc, bus);
+            (at(read_jump_pointer(pointer, bus)), after_3)
+        }
+        Mode::IndexedIndirect => {
+            let zero = read_operand_byte(pc, bus).wrapping_add(regs.x);
+            (at(read_zero_page_pointer(zero, bus)), after_2)
+        }
+        Mode::IndirectIndexed => {
+            let zero = read_operand_byte(pc, bus);
+            (index(read_zero_page_pointer(zero, bus), regs.y), after_2)
+        }
+        Mode::Relative => {
+            let offset = read_operand_byte(pc, bus);
+            (branch_place(after_2, offset), after_2)
+        }
         Mode::Vector => {
             let low = bus.peek(0xfffe);
             let high = bus.peek(0xffff);
-            at(word_of(low, high))
+            (at(word_of(low, high)), after_2)
         }
     }
 }

@@ -5,7 +5,7 @@ ghost use Rattle.std.specs.Prelude.{◌≡◌, ℕ, ◌≤◌, List, IfOk, IfErr
 ghost use Rattle.vcs_cpu.specs.Device.{after_writes};
 ghost use Rattle.vcs_cpu.specs.Steps.{step_of};
 
-use crate::addressing::{locate, size};
+use crate::addressing::locate;
 use crate::bus::Bus;
 use crate::execute::execute;
 use crate::halt::Halt;
@@ -31,17 +31,15 @@ pub fn step<B: Bus>(regs: &mut Regs, bus: &mut B) -> Result<u8, Halt>
     ensures cycles { IfOk result (λ n. (2 ≤ n) × (n ≤ 7)) }
     ensures unchanged { OnErr result ((regs.new ≡ regs.old) × (bus.new ≡ bus.old)) }
 {
-    let opcode = bus.peek(regs.pc);
+    let pc = regs.pc;
+    let opcode = bus.peek(pc);
     let Some((op, mode, cycles, crossing)) = instruction(opcode) else {
-        return Err(Halt::Undocumented {
-            at: regs.pc,
-            opcode,
-        });
+        return Err(Halt::Undocumented { at: pc, opcode });
     };
-    let operand = locate(mode, regs, bus);
+    let (operand, next) = locate(mode, pc, regs, bus);
     let time = cycles + extra_cycles(op, crossing, operand, regs);
     bus.advance(time);
-    regs.pc = regs.pc.wrapping_add(size(mode));
+    regs.pc = next;
     execute(op, operand, regs, bus);
     Ok(time)
 }

@@ -1,5 +1,5 @@
 -- Chips that lag behind the processor.
-use Rattle.std.proofs.Common.{◌≡◌, ℕ, zero, suc, ◌+◌, ◌*◌, ◌/◌, ◌<◌, ◌||◌, ◌&&◌, ◌==◌, not, nat_le, Bool, true, false, List, [], ◌++◌, ◌-◌, ◌∙◌, ap, sym, refl, if◌then◌else◌, arith}
+use Rattle.std.proofs.Common.{◌≡◌, ℕ, zero, suc, ◌+◌, ◌*◌, ◌/◌, ◌<◌, ◌||◌, ◌&&◌, ◌==◌, not, nat_le, Bool, false, List, [], ◌++◌, ◌-◌, ◌∙◌, ap, sym, refl, if◌then◌else◌, arith}
 use Rattle.std.proofs.lemmas.Bool.Decides.{nat_tests}
 use Rattle.vcs_riot.specs.declared.chip.Pins.{Pins}
 use Rattle.vcs_riot.specs.declared.chip.Riot.{Riot}
@@ -10,7 +10,7 @@ use Rattle.vcs_riot.specs.Chip.{riot_after_ticks, riot_after_write}
 use Rattle.vcs_riot.proofs.TimerLemmas.{after_ticks-add}
 use Rattle.vcs_tia.specs.declared.chip.Tia.{Tia}
 use Rattle.vcs_tia.specs.declared.chip.Sync.{Sync}
-use Rattle.vcs_tia.specs.Tia.{after_clock, clocks_passed, clocks_owed, wait_cleared, vsync_rose, line_of}
+use Rattle.vcs_tia.specs.Tia.{after_clock, clocks_passed, wait_cleared, vsync_rose, line_of}
 use Rattle.vcs_tia.specs.Trace.{after_clocks, trace}
 use Rattle.vcs_tia.proofs.Traces.{clocks_passed-after_clocks, after_clocks-add, trace-add}
 use Rattle.vcs_machine.specs.Bus.{Observed, observed_of, lagging_of, after_time, after_wait}

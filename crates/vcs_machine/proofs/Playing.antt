@@ -7,13 +7,13 @@ use Rattle.vcs_riot.specs.declared.chip.Pins.{Pins}
 use Rattle.vcs_tia.specs.declared.chip.Tia.{Tia}
 use Rattle.vcs_tia.specs.Tia.{frame_started}
 use Rattle.vcs_tia.specs.Trace.{drawn, last_colour}
-use Rattle.vcs_tia.specs.Picture.{blank_picture, pixel_of}
+use Rattle.vcs_tia.specs.Picture.{blank_picture}
 use Rattle.vcs_tia.proofs.Traces.{drawn-append}
 use Rattle.vcs_tia.proofs.Pixels.{pixel-drawn, length-drawn, length-blank_picture, pixel-blank_picture}
 use Rattle.vcs_machine.specs.declared.input.Input.{Input}
 use Rattle.vcs_machine.specs.Input.{pins_of}
 use Rattle.vcs_machine.specs.Bus.{observed_of}
-use Rattle.vcs_machine.specs.Frame.{FrameEnd, end_within, EndsAt}
+use Rattle.vcs_machine.specs.Frame.{FrameEnd, end_within}
 use Rattle.vcs_machine.specs.Machine.{Machine, frame_start, machine_at_end, listed, frame_end, frame, frame_trace, frame_picture, picture_length, unless_halted, listed_clocks, EndsOnce}
 use Rattle.vcs_machine.proofs.Observers.{same_end}
 use Rattle.vcs_machine.proofs.Frames.{one_end}

@@ -14,6 +14,7 @@ ghost use Rattle.std.specs.Prelude.{
   false,
 };
 ghost use Rattle.vcs_machine.specs.Bus.{
+  board_byte_at,
   observed_of,
   lagging_of,
   with_riot,
@@ -139,13 +140,12 @@ impl<O: Observer> Bus for ConsoleBus<'_, O> {
 
     ghost can_advance = { λ o cycles. clocks_passed o.board.tia + 3 * cycles < 65536 * 228 };
 
+    #[inline(always)]
     fn peek(&self, address: u16) -> u8 {
         if is_high(12, address) {
             self.rom[(address % 4096) as usize]
-        } else if is_high(7, address) {
-            riot_byte(self.riot, &self.pins, self.lag, address)
         } else {
-            tia_byte(self.tia, self.lag, address)
+            self.chip_byte(address)
         }
     }
 
@@ -159,6 +159,7 @@ impl<O: Observer> Bus for ConsoleBus<'_, O> {
         }
     }
 
+    #[inline(always)]
     fn advance(&mut self, cycles: u8) {
         if cycles > 255 - self.lag {
             self.catch_up();
@@ -171,6 +172,7 @@ impl<O: Observer> Bus for ConsoleBus<'_, O> {
 
 impl<O: Observer> ConsoleBus<'_, O> {
     /// Lets the cycles pass on the chips that they lag behind.
+    #[inline(never)]
     pub fn catch_up(&mut self)
         ensures content { observed_of self.new.rom.now self.new.pins self.new.riot.now self.new.tia.now (O.seen self.new.observer.now)
             ≡ lagging_of O.observe self.old.rom.now self.old.pins self.old.riot.now self.old.tia.now (O.seen self.old.observer.now) self.old.lag }
@@ -182,6 +184,19 @@ impl<O: Observer> ConsoleBus<'_, O> {
         let lag = self.lag;
         self.lag = 0;
         pass_cycles(self.riot, self.tia, self.observer, lag);
+    }
+
+    /// The byte that the chips give at an address with A12 low.
+    #[inline(never)]
+    fn chip_byte(&self, address: u16) -> u8
+        requires { is_high 12 address ≡ false }
+        ensures { result ≡ board_byte_at (lagging_of O.observe self.now.rom.now self.now.pins self.now.riot.now self.now.tia.now (O.seen self.now.observer.now) self.now.lag).board address }
+    {
+        if is_high(7, address) {
+            riot_byte(self.riot, &self.pins, self.lag, address)
+        } else {
+            tia_byte(self.tia, self.lag, address)
+        }
     }
 
     /// Writes a byte to the RIOT. Its RAM doesn't see how much time has passed.
@@ -227,6 +242,7 @@ fn pass_cycles<O: Observer>(riot: &mut Riot, tia: &mut Tia, observer: &mut O, cy
 }
 
 /// Lets the wait pass that a WSYNC asked for.
+#[inline(never)]
 fn pass_wait<O: Observer>(riot: &mut Riot, tia: &mut Tia, observer: &mut O)
     requires { clocks_passed tia.old < 65000 * 228 }
     ensures content { (rom : List ℕ) (pins : Pins) → observed_of rom pins riot.new tia.new (O.seen observer.new)
@@ -248,13 +264,22 @@ fn riot_byte(riot: &Riot, pins: &Pins, lag: u8, address: u16) -> u8
     } else if !is_high(2, address) {
         riot.read(address, pins)
     } else {
-        let mut later = *riot;
-        later.tick(lag);
-        later.read(address, pins)
+        timer_byte(riot, pins, lag, address)
     }
 }
 
+/// The byte that the RIOT gives after some cycles, whoever sees them.
+#[inline(never)]
+fn timer_byte(riot: &Riot, pins: &Pins, lag: u8, address: u16) -> u8
+    ensures { result ≡ byte_at address pins.now (riot_after_ticks lag riot.now) }
+{
+    let mut later = *riot;
+    later.tick(lag);
+    later.read(address, pins)
+}
+
 /// The byte that the TIA gives after some cycles.
+#[inline(never)]
 fn tia_byte(tia: &Tia, lag: u8, address: u16) -> u8
     requires { clocks_passed tia.now + 3 * lag < 65536 * 228 }
     ensures { result ≡ read_at address (after_clocks (3 * lag) tia.now) }

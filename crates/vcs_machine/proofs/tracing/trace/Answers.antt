@@ -1,11 +1,10 @@
 use Rattle.std.proofs.Common.{◌≡◌, ◌+◌, ◌-◌, ◌∙◌, ◌++◌, sym, ap, refl, subst, suc, zero, ℕ, List, [], length, append-nil, length-append, arith, rules, false}
-use Rattle.std.proofs.KnownBytes.{Appends-nil}
 use Rattle.vcs_machine.specs.Input.{pins_of}
 use Rattle.vcs_tia.specs.Tia.{frame_started}
 use Rattle.vcs_cpu.specs.Lines.{line_of}
 use Rattle.vcs_machine.specs.Bus.{Observed, observed_of, lagging_of, nothing_seen}
 use Rattle.vcs_machine.proofs.Lagging.{lagging-zero}
-use Rattle.vcs_machine.specs.Sending.{Outgoing, IsSending, IsCutOff}
+use Rattle.vcs_machine.specs.Sending.{Outgoing, IsSending}
 use Rattle.vcs_machine.specs.TraceText.{lines_from, trace_text}
 use Rattle.vcs_machine.proofs.Traces.{length-line_of, lines_from-step, lines_from-halt, trace_text-start}
 use Rattle.vcs_machine.proofs.Sendings.{sending-start, sending-pushed, all_sent, cut_off, cut_off-front, cut_off-missing}
