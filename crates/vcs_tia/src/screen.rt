@@ -117,11 +117,7 @@ impl<A: Allocator> Picture<A> {
         requires fits { start + count ≤ 33600 }
         ensures { self.new ≡ filled self.old start count (λ k. packed / 256 ^ k % 256) }
     {
-        let mut rest = packed;
-        for i in 0..count {
-            self.bytes[start + i] = (rest % 256) as u8;
-            rest /= 256;
-        }
+        put_bytes(self.bytes.as_mut_slice(), start, count, packed);
     }
 
     /// Sets one pixel.
@@ -131,5 +127,18 @@ impl<A: Allocator> Picture<A> {
         ensures { self.new ≡ slice_set self.old (row * 160 + x) colour }
     {
         self.bytes[row * 160 + x] = colour;
+    }
+}
+
+/// Sets some bytes to those of a number, the first to the lowest.
+fn put_bytes(bytes: &mut [u8], start: usize, count: usize, packed: u64)
+    requires fits { start + count ≤ length bytes.old }
+    ensures bytes { bytes.new ≡ filled bytes.old start count (λ k. packed / 256 ^ k % 256) }
+    ensures len { length bytes.new ≡ length bytes.old }
+{
+    let mut rest = packed;
+    for i in 0..count {
+        bytes[start + i] = (rest % 256) as u8;
+        rest /= 256;
     }
 }
