@@ -1,18 +1,109 @@
 -- Colours by the layers that are lit.
-use Rattle.std.proofs.Common.{◌≡◌, ◌∙◌, ◌+◌, ◌-◌, ◌*◌, ◌/◌, ◌%◌, ◌^◌, ◌<◌, ◌≤◌, sym, ap, refl, ℕ, Bool, true, false, cond, eqb, ltb, not, ◌&&◌, ◌||◌, List, [], ◌∷◌, get_or, bit_or, arith, ⊎_elim}
-use Rattle.std.proofs.lemmas.Bool.{cases_Bool, lt-ltb, eqb-true, eqb-false}
-use Rattle.std.proofs.lemmas.Nat.{le_or_l, le_or_r}
-use Rattle.std.proofs.lemmas.Nat.Bits.{bit_at-lt, bit_at-zero}
-use Rattle.std.specs.Int.{bit_at}
+use Rattle.std.proofs.Common.{◌≡◌, ◌∙◌, ◌+◌, ◌-◌, ◌*◌, ◌/◌, ◌^◌, ◌<◌, ◌≤◌, sym, ap, refl, ℕ, Bool, true, false, cond, eqb, ltb, not, ◌&&◌, ◌||◌, arith, ⊎_elim, subst, bit_and, bit_or}
+use Rattle.std.proofs.lemmas.Bool.{cases_lt, eqb-true, eqb-false}
+use Rattle.std.proofs.Math.Bool.{and_comm, and-true}
+use Rattle.std.proofs.lemmas.Bool.Decides.{nat_tests}
+use Rattle.std.proofs.lemmas.Nat.Bits.{bit_at-lt, bit_at_not, bit_at_above}
+use Rattle.std.specs.Int.{bit_at, w32}
 use Rattle.vcs_tia.specs.declared.beam.Lit.{Lit}
 use Rattle.vcs_tia.specs.declared.chip.Tia.{Tia}
+use Rattle.vcs_tia.specs.declared.chip.Colours.{Colours}
 use Rattle.vcs_tia.specs.declared.words.Words.{Words}
 use Rattle.vcs_tia.specs.declared.words.Layers.{Layers}
+use Rattle.vcs_tia.specs.declared.words.Shades.{Shades}
 use Rattle.vcs_tia.specs.Units.{has_bit}
 use Rattle.vcs_tia.specs.Tia.{lit_at, colour_at, colour_of_lit, in_hmove_blank}
-use Rattle.vcs_tia.specs.Words.{lit_bits, lit_where, layers_of, layer_number, is_split, palette_of, IsSpan, in_bytes}
-use Rattle.vcs_tia.proofs.Bits.{has_bit-or, has_bit-mod, has_bit-shr, each_below, each_below-at}
-use Rattle.vcs_tia.proofs.Parts.{seen_colour}
+use Rattle.vcs_tia.specs.Words.{lit_bits, layers_of, is_split, no_lit, AreLayers, IsShades, shades_at, colour_of_shades}
+use Rattle.vcs_tia.proofs.Bits.{has_bit-or, has_bit-and}
+use Rattle.vcs_tia.proofs.Parts.{seen_colour, same_mark}
+
+-- the layers of a set of words
+pub are_layers : (w : Words) (i : ℕ) (s : Lit) → lit_bits w i ≡ s → AreLayers (layers_of w) i s
+are_layers w i s here = record {
+  player0 = has_bit-or w.player0 w.missile0 i ∙ ap (λ (l : Lit). l.player0 || l.missile0) here;
+  player1 = has_bit-or w.player1 w.missile1 i ∙ ap (λ (l : Lit). l.player1 || l.missile1) here;
+  playfield = has_bit-or w.playfield w.ball i ∙ ap (λ (l : Lit). l.playfield || l.ball) here;
+}
+
+-- a bit is 1 or 0 as its test says
+pub bit_is : (v i : ℕ) (b : Bool) → has_bit v i ≡ b → bit_at v i ≡ cond b 1 0
+bit_is v i true set_there = eqb-true (bit_at v i) 1 set_there
+bit_is v i false none =
+    let small = bit_at-lt v i in
+    let other = eqb-false (bit_at v i) 1 none in
+    omega arith
+
+-- the bits of one word that are not in another
+pub has_bit-not : (v i : ℕ) → v < 2 ^ 32 → i < 32 → has_bit (4294967295 - v) i ≡ not (has_bit v i)
+has_bit-not v i small below =
+    ap (λ b. eqb b 1) (bit_at_not w32 v i small below) ∙ other (bit_at v i) (bit_at-lt v i)
+  where
+    other : (b : ℕ) → b < 2 → eqb (1 - b) 1 ≡ not (eqb b 1)
+    other b hb = grind (arith, nat_tests)
+
+pub bit_cleared : (v w i : ℕ) → w < 2 ^ 32 → i < 32 → has_bit (bit_and v (4294967295 - w)) i ≡ (not (has_bit w i) && has_bit v i)
+bit_cleared v w i small below =
+    has_bit-and v (4294967295 - w) i ∙ ap (λ x. has_bit v i && x) (has_bit-not w i small below) ∙ and_comm (has_bit v i) (not (has_bit w i))
+
+-- the shades of a pixel past the word
+pub none_above : (v i : ℕ) → v < 2 ^ 32 → 32 ≤ i → bit_at v i ≡ 0
+none_above v i small past = bit_at_above v 32 i small past
+
+-- the four shades of a pixel, by the layers that are lit there
+abbrev front0 : Bool → Bool → Bool → Bool → Bool
+front0 priority a b f = not (priority && f) && a
+
+abbrev front1 : Bool → Bool → Bool → Bool → Bool
+front1 priority a b f = not (priority && f) && (not a && b)
+
+abbrev front2 : Bool → Bool → Bool → Bool → Bool
+front2 priority a b f = f && (priority || not (a || b))
+
+abbrev front3 : Bool → Bool → Bool → Bool → Bool
+front3 priority a b f = not ((a || b) || f)
+
+one_shade : (priority a b f : Bool) → cond (front0 priority a b f) 1 0 + cond (front1 priority a b f) 1 0 + cond (front2 priority a b f) 1 0 + cond (front3 priority a b f) 1 0 ≡ 1
+one_shade true true b true = refl
+one_shade true true b false = refl
+one_shade true false true true = refl
+one_shade true false true false = refl
+one_shade true false false true = refl
+one_shade true false false false = refl
+one_shade false true b true = refl
+one_shade false true b false = refl
+one_shade false false true true = refl
+one_shade false false true false = refl
+one_shade false false false true = refl
+one_shade false false false false = refl
+
+-- a pixel of the word has one shade, and one past it has none
+pub shades_apart : (l : Layers) (priority : Bool) (s : Shades) (i : ℕ) → IsShades l priority s i → shades_at s i ≤ 1
+shades_apart l priority s i is =
+    let a = has_bit l.player0 i in
+    let b = has_bit l.player1 i in
+    let f = has_bit l.playfield i in
+    let one0 = bit_is s.player0 i (front0 priority a b f) is.player0 in
+    let one1 = bit_is s.player1 i (front1 priority a b f) is.player1 in
+    let one2 = bit_is s.playfield i (front2 priority a b f) is.playfield in
+    let one3 = bit_is s.background i (front3 priority a b f) is.background in
+    let all = one_shade priority (has_bit l.player0 i) (has_bit l.player1 i) (has_bit l.playfield i) in
+    omega arith
+
+by_front : (priority a b f : Bool) (c0 c1 pf bg : ℕ) →
+    cond (front0 priority a b f) 1 0 * c0 + cond (front1 priority a b f) 1 0 * c1 + cond (front2 priority a b f) 1 0 * pf + cond (front3 priority a b f) 1 0 * bg
+    ≡ cond (priority && f) pf (cond a c0 (cond b c1 (cond f pf bg)))
+by_front true true b true c0 c1 pf bg = omega arith
+by_front true true b false c0 c1 pf bg = omega arith
+by_front true false true true c0 c1 pf bg = omega arith
+by_front true false true false c0 c1 pf bg = omega arith
+by_front true false false true c0 c1 pf bg = omega arith
+by_front true false false false c0 c1 pf bg = omega arith
+by_front false true b true c0 c1 pf bg = omega arith
+by_front false true b false c0 c1 pf bg = omega arith
+by_front false false true true c0 c1 pf bg = omega arith
+by_front false false true false c0 c1 pf bg = omega arith
+by_front false false false true c0 c1 pf bg = omega arith
+by_front false false false false c0 c1 pf bg = omega arith
 
 -- where score doesn't divide the playfield, it has one colour
 one_colour : (field score priority : Bool) (half whole : ℕ) → (score && not priority) ≡ false → cond (field && score && not priority) half whole ≡ whole
@@ -21,128 +112,95 @@ one_colour true true false half whole e = cc e
 one_colour true false priority half whole e = refl
 one_colour false score priority half whole e = refl
 
--- which layers a set of objects lights
-abbrev pub number_of_lit : Lit → ℕ
-number_of_lit s = cond (s.player0 || s.missile0) 1 0 + 2 * cond (s.player1 || s.missile1) 1 0 + 4 * cond (s.playfield || s.ball) 1 0
+-- the colour of a set of objects, by its layers
+abbrev pub layers_colour : Tia → Bool → Bool → Bool → ℕ
+layers_colour t a b f = cond (t.playfield.priority && f) t.colours.playfield (cond a t.colours.player0 (cond b t.colours.player1 (cond f t.colours.playfield t.colours.background)))
 
-by_number : (priority a b f : Bool) (c0 c1 pf bg : ℕ) →
-    cond (priority && f) pf (cond a c0 (cond b c1 (cond f pf bg)))
-    ≡ get_or (cond priority (bg ∷ c0 ∷ c1 ∷ c0 ∷ pf ∷ pf ∷ pf ∷ pf ∷ []) (bg ∷ c0 ∷ c1 ∷ c0 ∷ pf ∷ c0 ∷ c1 ∷ c0 ∷ [])) (cond a 1 0 + 2 * cond b 1 0 + 4 * cond f 1 0) 0
-by_number true true true true c0 c1 pf bg = refl
-by_number true true true false c0 c1 pf bg = refl
-by_number true true false true c0 c1 pf bg = refl
-by_number true true false false c0 c1 pf bg = refl
-by_number true false true true c0 c1 pf bg = refl
-by_number true false true false c0 c1 pf bg = refl
-by_number true false false true c0 c1 pf bg = refl
-by_number true false false false c0 c1 pf bg = refl
-by_number false true true true c0 c1 pf bg = refl
-by_number false true true false c0 c1 pf bg = refl
-by_number false true false true c0 c1 pf bg = refl
-by_number false true false false c0 c1 pf bg = refl
-by_number false false true true c0 c1 pf bg = refl
-by_number false false true false c0 c1 pf bg = refl
-by_number false false false true c0 c1 pf bg = refl
-by_number false false false false c0 c1 pf bg = refl
-
--- the colour of a set of objects is its number's in the palette
-pub palette_colour : (t : Tia) (s : Lit) (x : ℕ) → is_split t ≡ false → colour_of_lit t s x ≡ get_or (palette_of t) (number_of_lit s) 0
-palette_colour t s x whole =
+whole_colour : (t : Tia) (s : Lit) (x : ℕ) → is_split t ≡ false → colour_of_lit t s x ≡ layers_colour t (s.player0 || s.missile0) (s.player1 || s.missile1) (s.playfield || s.ball)
+whole_colour t s x whole =
     ap (λ pf. cond (t.playfield.priority && (s.playfield || s.ball)) pf
     (cond (s.player0 || s.missile0) t.colours.player0 (cond (s.player1 || s.missile1) t.colours.player1 (cond (s.playfield || s.ball) pf t.colours.background))))
     (one_colour s.playfield t.playfield.score t.playfield.priority (cond (ltb x 80) t.colours.player0 t.colours.player1) t.colours.playfield whole)
-    ∙ by_number t.playfield.priority (s.player0 || s.missile0) (s.player1 || s.missile1) (s.playfield || s.ball) t.colours.player0 t.colours.player1 t.colours.playfield t.colours.background
 
--- a bit of two joined words
-joined_bit : (v w i : ℕ) (a b : Bool) → has_bit v i ≡ a → has_bit w i ≡ b → bit_at (bit_or v w) i ≡ cond (a || b) 1 0
-joined_bit v w i a b is_a is_b =
-    let small = bit_at-lt (bit_or v w) i in
-    let both : has_bit (bit_or v w) i ≡ (a || b) = has_bit-or v w i ∙ ap (λ x. x || has_bit w i) is_a ∙ ap (λ x. a || x) is_b in
+-- the colour of a pixel, by its shade
+pub shade_colour : (t : Tia) (l : Layers) (s : Shades) (i x : ℕ) → is_split t ≡ false → AreLayers l i (lit_at t x) → IsShades l t.playfield.priority s i →
+    colour_of_lit t (lit_at t x) x ≡ colour_of_shades s t.colours i
+shade_colour t l s i x whole layers is =
+    let a = has_bit l.player0 i in
+    let b = has_bit l.player1 i in
+    let f = has_bit l.playfield i in
+    let p = t.playfield.priority in
+    let c = t.colours in
+    let one0 = bit_is s.player0 i (front0 p a b f) is.player0 in
+    let one1 = bit_is s.player1 i (front1 p a b f) is.player1 in
+    let one2 = bit_is s.playfield i (front2 p a b f) is.playfield in
+    let one3 = bit_is s.background i (front3 p a b f) is.background in
+    whole_colour t (lit_at t x) x whole
+    ∙ sym (ap (λ v. layers_colour t v b f) layers.player0
+    ∙ ap (λ v. layers_colour t ((lit_at t x).player0 || (lit_at t x).missile0) v f) layers.player1
+    ∙ ap (λ v. layers_colour t ((lit_at t x).player0 || (lit_at t x).missile0) ((lit_at t x).player1 || (lit_at t x).missile1) v) layers.playfield)
+    ∙ sym (ap (λ v. v * c.player0 + bit_at s.player1 i * c.player1 + bit_at s.playfield i * c.playfield + bit_at s.background i * c.background) one0
+    ∙ ap (λ v. cond (front0 p a b f) 1 0 * c.player0 + v * c.player1 + bit_at s.playfield i * c.playfield + bit_at s.background i * c.background) one1
+    ∙ ap (λ v. cond (front0 p a b f) 1 0 * c.player0 + cond (front1 p a b f) 1 0 * c.player1 + v * c.playfield + bit_at s.background i * c.background) one2
+    ∙ ap (λ v. cond (front0 p a b f) 1 0 * c.player0 + cond (front1 p a b f) 1 0 * c.player1 + cond (front2 p a b f) 1 0 * c.playfield + v * c.background) one3
+    ∙ by_front p a b f c.player0 c.player1 c.playfield c.background)
+
+-- where nothing is lit
+pub dark_colour : (n : ℕ) (t : Tia) (x k : ℕ) → k < n → (t.beam.hmove_blank ≡ true → x < 8 → x + n ≤ 8) → lit_at t (x + k) ≡ no_lit →
+    colour_at t (x + k) ≡ cond (t.blank || in_hmove_blank t x) 0 t.colours.background
+dark_colour n t x k below part dark =
+    ap (λ b. cond (t.blank || b) 0 (colour_of_lit t (lit_at t (x + k)) (x + k))) (same_mark n t x k below part)
+    ∙ ap (λ s. cond (t.blank || in_hmove_blank t x) 0 (colour_of_lit t s (x + k))) dark
+    ∙ ap (λ c. cond (t.blank || in_hmove_blank t x) 0 c) (none t.playfield.priority _ t.colours.background)
+  where
+    none : (priority : Bool) (pf bg : ℕ) → cond (priority && false) pf bg ≡ bg
+    none true pf bg = refl
+    none false pf bg = refl
+
+-- one shade at most makes one colour at most
+weighted : (a b c d : Bool) (w x y z : ℕ) → cond a 1 0 + cond b 1 0 + cond c 1 0 + cond d 1 0 ≤ 1 → w < 256 → x < 256 → y < 256 → z < 256 →
+    cond a 1 0 * w + cond b 1 0 * x + cond c 1 0 * y + cond d 1 0 * z < 256
+weighted false false false false w x y z one hw hx hy hz = omega arith
+weighted false false false true w x y z one hw hx hy hz = omega arith
+weighted false false true false w x y z one hw hx hy hz = omega arith
+weighted false false true true w x y z one hw hx hy hz = omega arith
+weighted false true false false w x y z one hw hx hy hz = omega arith
+weighted false true false true w x y z one hw hx hy hz = omega arith
+weighted false true true false w x y z one hw hx hy hz = omega arith
+weighted false true true true w x y z one hw hx hy hz = omega arith
+weighted true false false false w x y z one hw hx hy hz = omega arith
+weighted true false false true w x y z one hw hx hy hz = omega arith
+weighted true false true false w x y z one hw hx hy hz = omega arith
+weighted true false true true w x y z one hw hx hy hz = omega arith
+weighted true true false false w x y z one hw hx hy hz = omega arith
+weighted true true false true w x y z one hw hx hy hz = omega arith
+weighted true true true false w x y z one hw hx hy hz = omega arith
+weighted true true true true w x y z one hw hx hy hz = omega arith
+
+pub colour-lt : (s : Shades) (c : Colours) (i : ℕ) → shades_at s i ≤ 1 → c.player0 < 256 → c.player1 < 256 → c.playfield < 256 → c.background < 256 → colour_of_shades s c i < 256
+colour-lt s c i one h0 h1 h2 h3 =
+    let one0 = bit_is s.player0 i (has_bit s.player0 i) refl in
+    let one1 = bit_is s.player1 i (has_bit s.player1 i) refl in
+    let one2 = bit_is s.playfield i (has_bit s.playfield i) refl in
+    let one3 = bit_is s.background i (has_bit s.background i) refl in
+    let all : cond (has_bit s.player0 i) 1 0 + cond (has_bit s.player1 i) 1 0 + cond (has_bit s.playfield i) 1 0 + cond (has_bit s.background i) 1 0 ≤ 1 = omega arith in
+    let whole = weighted (has_bit s.player0 i) (has_bit s.player1 i) (has_bit s.playfield i) (has_bit s.background i) c.player0 c.player1 c.playfield c.background all h0 h1 h2 h3 in
+    let same : colour_of_shades s c i ≡ cond (has_bit s.player0 i) 1 0 * c.player0 + cond (has_bit s.player1 i) 1 0 * c.player1 + cond (has_bit s.playfield i) 1 0 * c.playfield + cond (has_bit s.background i) 1 0 * c.background =
+    ap (λ v. v * c.player0 + bit_at s.player1 i * c.player1 + bit_at s.playfield i * c.playfield + bit_at s.background i * c.background) one0
+    ∙ ap (λ v. cond (has_bit s.player0 i) 1 0 * c.player0 + v * c.player1 + bit_at s.playfield i * c.playfield + bit_at s.background i * c.background) one1
+    ∙ ap (λ v. cond (has_bit s.player0 i) 1 0 * c.player0 + cond (has_bit s.player1 i) 1 0 * c.player1 + v * c.playfield + bit_at s.background i * c.background) one2
+    ∙ ap (λ v. cond (has_bit s.player0 i) 1 0 * c.player0 + cond (has_bit s.player1 i) 1 0 * c.player1 + cond (has_bit s.playfield i) 1 0 * c.playfield + v * c.background) one3 in
+    subst (λ n. n < 256) (sym same) whole
+
+pub apart_all : (s : Shades) → s.player0 < 2 ^ 32 → s.player1 < 2 ^ 32 → s.playfield < 2 ^ 32 → s.background < 2 ^ 32 →
+    ((k : ℕ) → k < 32 → shades_at s k ≤ 1) → (k : ℕ) → shades_at s k ≤ 1
+apart_all s h0 h1 h2 h3 one k =
     ⊎_elim
-    (λ yes. eqb-true (bit_at (bit_or v w) i) 1 (both ∙ yes) ∙ sym (ap (λ x. cond x 1 0) yes))
-    (λ no.
-    let other = eqb-false (bit_at (bit_or v w) i) 1 (both ∙ no) in
-    let zeroed : bit_at (bit_or v w) i ≡ 0 = omega arith in
-    zeroed ∙ sym (ap (λ x. cond x 1 0) no))
-    (cases_Bool (a || b))
-
--- what the words of a span say of its pixels
-pub lit_of_span : (t : Tia) (n : ℕ) (w : Words) (x k : ℕ) → IsSpan t n w → t.beam.clock ≡ 68 + x → k < n → lit_bits w k ≡ lit_at t (x + k)
-lit_of_span t n w x k span at below =
-    let place : t.beam.clock - 68 + k ≡ x + k = omega arith in
-    span.bits (omega arith) k
-    ∙ ap (λ b. lit_where b (lit_at t (t.beam.clock - 68 + k))) (lt-ltb k n below)
-    ∙ ap (lit_at t) place
-
--- the number of a pixel's layers, by what is lit there
-pub number_of_layers : (w : Words) (s : Lit) (k : ℕ) → lit_bits w k ≡ s → layer_number (layers_of w) k ≡ number_of_lit s
-number_of_layers w s k here =
-    let one = joined_bit w.player0 w.missile0 k s.player0 s.missile0 (ap (λ (l : Lit). l.player0) here) (ap (λ (l : Lit). l.missile0) here) in
-    let two = joined_bit w.player1 w.missile1 k s.player1 s.missile1 (ap (λ (l : Lit). l.player1) here) (ap (λ (l : Lit). l.missile1) here) in
-    let four = joined_bit w.playfield w.ball k s.playfield s.ball (ap (λ (l : Lit). l.playfield) here) (ap (λ (l : Lit). l.ball) here) in
-    ap (λ a. a + 2 * bit_at (bit_or w.player1 w.missile1) k + 4 * bit_at (bit_or w.playfield w.ball) k) one
-    ∙ ap (λ b. cond (s.player0 || s.missile0) 1 0 + 2 * b + 4 * bit_at (bit_or w.playfield w.ball) k) two
-    ∙ ap (λ f. cond (s.player0 || s.missile0) 1 0 + 2 * cond (s.player1 || s.missile1) 1 0 + 4 * f) four
-
--- the colour of a pixel of a span, by the number of its layers
-pub layers_colour : (t : Tia) (n : ℕ) (w : Words) (x k : ℕ) → IsSpan t n w → t.beam.clock ≡ 68 + x → k < n →
-    (t.beam.hmove_blank ≡ true → x < 8 → x + n ≤ 8) → (t.blank || in_hmove_blank t x) ≡ false → is_split t ≡ false →
-    colour_at t (x + k) ≡ get_or (palette_of t) (layer_number (layers_of w) k) 0
-layers_colour t n w x k span at below part seen whole =
-    seen_colour n t x k below part seen
-    ∙ palette_colour t (lit_at t (x + k)) (x + k) whole
-    ∙ ap (λ m. get_or (palette_of t) m 0) (sym (number_of_layers w (lit_at t (x + k)) k (lit_of_span t n w x k span at below)))
-
--- layers without a bit
-pub no_layers : (l : Layers) → bit_or (bit_or l.player0 l.player1) l.playfield ≡ 0 → (i : ℕ) → layer_number l i ≡ 0
-no_layers l none i =
-    let both : bit_or l.player0 l.player1 ≡ 0 = omega (arith, le_or_l (bit_or l.player0 l.player1) l.playfield) in
-    let zero0 : l.player0 ≡ 0 = omega (arith, le_or_l l.player0 l.player1) in
-    let zero1 : l.player1 ≡ 0 = omega (arith, le_or_r l.player0 l.player1) in
-    let zero2 : l.playfield ≡ 0 = omega (arith, le_or_r (bit_or l.player0 l.player1) l.playfield) in
-    let bit = bit_at-zero i in
-    ap (λ v. bit_at v i + 2 * bit_at l.player1 i + 4 * bit_at l.playfield i) zero0
-    ∙ ap (λ v. bit_at 0 i + 2 * bit_at v i + 4 * bit_at l.playfield i) zero1
-    ∙ ap (λ v. bit_at 0 i + 2 * bit_at 0 i + 4 * bit_at v i) zero2
-    ∙ (omega arith)
-
--- the first colour of a palette is the background's
-pub background_first : (t : Tia) → get_or (palette_of t) 0 0 ≡ t.colours.background
-background_first t = first t.playfield.priority t.colours.player0 t.colours.player1 t.colours.playfield t.colours.background
-  where
-    first : (priority : Bool) (c0 c1 pf bg : ℕ) → get_or (cond priority (bg ∷ c0 ∷ c1 ∷ c0 ∷ pf ∷ pf ∷ pf ∷ pf ∷ []) (bg ∷ c0 ∷ c1 ∷ c0 ∷ pf ∷ c0 ∷ c1 ∷ c0 ∷ [])) 0 0 ≡ bg
-    first true c0 c1 pf bg = refl
-    first false c0 c1 pf bg = refl
-
--- ---- four pixels at once
--- a bit of some bits shifted down and cut to four
-pub bit_of_four : (v i k : ℕ) → k < 4 → bit_at (v / 2 ^ i % 16) k ≡ bit_at v (i + k)
-bit_of_four v i k below =
-    let same = has_bit-mod (v / 2 ^ i) 4 k below ∙ has_bit-shr v i k in
-    bit_from_test (bit_at (v / 2 ^ i % 16) k) (bit_at v (i + k)) (bit_at-lt (v / 2 ^ i % 16) k) (bit_at-lt v (i + k)) same
-  where
-    bit_from_test : (a b : ℕ) → a < 2 → b < 2 → eqb a 1 ≡ eqb b 1 → a ≡ b
-    bit_from_test a b la lb e =
-        ⊎_elim
-        (λ yes. let one = eqb-true a 1 yes in let two = eqb-true b 1 (sym e ∙ yes) in omega arith)
-        (λ no. let one = eqb-false a 1 no in let two = eqb-false b 1 (sym e ∙ no) in omega arith)
-        (cases_Bool (eqb a 1))
-
--- three times four bits, added
-pub layers_in_bytes : (a0 a1 a2 a3 b0 b1 b2 b3 c0 c1 c2 c3 : ℕ) →
-    in_bytes a0 a1 a2 a3 + 2 * in_bytes b0 b1 b2 b3 + 4 * in_bytes c0 c1 c2 c3
-    ≡ in_bytes (a0 + 2 * b0 + 4 * c0) (a1 + 2 * b1 + 4 * c1) (a2 + 2 * b2 + 4 * c2) (a3 + 2 * b3 + 4 * c3)
-layers_in_bytes a0 a1 a2 a3 b0 b1 b2 b3 c0 c1 c2 c3 = omega arith
-
-pub layer_number-lt : (l : Layers) (i : ℕ) → layer_number l i < 8
-layer_number-lt l i =
-    let a = bit_at-lt l.player0 i in
-    let b = bit_at-lt l.player1 i in
-    let c = bit_at-lt l.playfield i in
-    omega arith
-
--- a table of sixteen, each of whose entries has its index's four bits as bytes
-pub bytes_of_bits : (table : List ℕ) → each_below (λ n. eqb (get_or table n 0) (in_bytes (bit_at n 0) (bit_at n 1) (bit_at n 2) (bit_at n 3))) 16 ≡ true →
-    (n : ℕ) → n < 16 → get_or table n 0 ≡ in_bytes (bit_at n 0) (bit_at n 1) (bit_at n 2) (bit_at n 3)
-bytes_of_bits table all n below =
-    eqb-true _ _ (each_below-at (λ m. eqb (get_or table m 0) (in_bytes (bit_at m 0) (bit_at m 1) (bit_at m 2) (bit_at m 3))) 16 n all below)
+    (λ inside. one k inside)
+    (λ past.
+    let z0 = none_above s.player0 k h0 past in
+    let z1 = none_above s.player1 k h1 past in
+    let z2 = none_above s.playfield k h2 past in
+    let z3 = none_above s.background k h3 past in
+    omega arith)
+    (cases_lt k 32)

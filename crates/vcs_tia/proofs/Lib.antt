@@ -9,4 +9,6 @@ pub mod Spans
 pub mod Parts
 pub mod Layers
 pub mod Fills
+pub mod Packed
 pub mod Images
+pub mod Cuts

@@ -1,6 +1,6 @@
 use Rattle.std.proofs.Common.{◌≡◌, ◌≢◌, ◌+◌, ◌-◌, ◌^◌, ◌<◌, ◌≤◌, ◌∙◌, sym, ap, refl, ⊎_elim, ℕ, zero, suc, Bool, true, false, eqb, leb, ltb, not, ◌&&◌, ◌||◌, arith, bit_and, bit_or, add-zero, zero-add, ◌/◌}
 use Rattle.std.proofs.Math.Bool.{or-false, or_assoc, and_comm}
-use Rattle.std.proofs.lemmas.Bool.{cases_eq, cases_lt, ne_eqb, cases_Bool, and_parts, and_from, or_cases, or_left, or_right, false_from_ne_true, leb-true, ltb-true, eqb-false, le-leb, le-ltb}
+use Rattle.std.proofs.lemmas.Bool.{cases_eq, cases_lt, ne_eqb, cases_Bool, and_parts, and_from, or_cases, or_left, or_right, false_from_ne_true, leb-true, ltb-true, eqb-true, eqb-false, le-leb, le-ltb}
 use Rattle.std.proofs.lemmas.Bool.Decides.{nat_tests}
 use Rattle.std.proofs.lemmas.Nat.Bits.{same_from_bits, bit_at-lt, bit_at-zero}
 use Rattle.std.proofs.lemmas.Nat.{le_or_l, le_or_r}
@@ -312,13 +312,65 @@ all_zero w none =
     ∙ ap (λ n. six_words 0 0 0 0 n w.playfield) ball
     ∙ ap (λ n. six_words 0 0 0 0 0 n) playfield
 
--- and what is cut of them
-zero_cut : (from n : ℕ) → bits_cut 0 from n ≡ 0
-zero_cut from n = zero_from_bits (bits_cut 0 from n) (λ i. cut_bit 0 from n i ∙ ap (λ b. ltb i n && b) (has_bit-zero (from + i)) ∙ and_false (ltb i n))
-  where
-    and_false : (b : Bool) → (b && false) ≡ false
-    and_false true = refl
-    and_false false = refl
+-- ---- what is cut of joined words
+same_from_tests : (a b : ℕ) → ((i : ℕ) → has_bit a i ≡ has_bit b i) → a ≡ b
+same_from_tests a b same =
+    same_from_bits a b (λ i.
+    let low = bit_at-lt a i in
+    let high = bit_at-lt b i in
+    let here : eqb (bit_at a i) 1 ≡ eqb (bit_at b i) 1 = same i in
+    let equal : bit_at a i ≡ bit_at b i = ⊎_elim
+    (λ yes. let one : bit_at a i ≡ 1 = eqb-true (bit_at a i) 1 yes in let two : bit_at b i ≡ 1 = eqb-true (bit_at b i) 1 (sym here ∙ yes) in omega arith)
+    (λ no. let one : bit_at a i ≢ 1 = eqb-false (bit_at a i) 1 no in let two : bit_at b i ≢ 1 = eqb-false (bit_at b i) 1 (sym here ∙ no) in omega arith)
+    (cases_Bool (eqb (bit_at a i) 1)) in
+    equal)
 
-pub none_cut : (from n : ℕ) → no_words ≡ words_cut no_words from n
-none_cut from n = let zero = zero_cut from n in simp zero
+cut-or : (a b from n : ℕ) → bits_cut (bit_or a b) from n ≡ bit_or (bits_cut a from n) (bits_cut b from n)
+cut-or a b from n =
+    same_from_tests _ _ (λ i.
+    cut_bit (bit_or a b) from n i
+    ∙ ap (λ x. ltb i n && x) (has_bit-or a b (from + i))
+    ∙ over_or (ltb i n) (has_bit a (from + i)) (has_bit b (from + i))
+    ∙ sym (has_bit-or (bits_cut a from n) (bits_cut b from n) i ∙ ap (λ x. x || has_bit (bits_cut b from n) i) (cut_bit a from n i) ∙ ap (λ x. (ltb i n && has_bit a (from + i)) || x) (cut_bit b from n i)))
+  where
+    over_or : (r x y : Bool) → (r && (x || y)) ≡ ((r && x) || (r && y))
+    over_or true x y = refl
+    over_or false x y = refl
+
+cut-and : (a b from n : ℕ) → bits_cut (bit_and a b) from n ≡ bit_and (bits_cut a from n) (bits_cut b from n)
+cut-and a b from n =
+    same_from_tests _ _ (λ i.
+    cut_bit (bit_and a b) from n i
+    ∙ ap (λ x. ltb i n && x) (has_bit-and a b (from + i))
+    ∙ over_and (ltb i n) (has_bit a (from + i)) (has_bit b (from + i))
+    ∙ sym (has_bit-and (bits_cut a from n) (bits_cut b from n) i ∙ ap (λ x. x && has_bit (bits_cut b from n) i) (cut_bit a from n i) ∙ ap (λ x. (ltb i n && has_bit a (from + i)) && x) (cut_bit b from n i)))
+  where
+    over_and : (r x y : Bool) → (r && (x && y)) ≡ ((r && x) && (r && y))
+    over_and true x y = refl
+    over_and false x y = refl
+
+-- where the joined words have no bit among some pixels, no word has one there
+abbrev pub any_of : Words → ℕ
+any_of w = bit_or (bit_or (bit_or (bit_or (bit_or w.player0 w.player1) w.missile0) w.missile1) w.ball) w.playfield
+
+pub all_zero_cut : (w : Words) (from n : ℕ) → bits_cut (any_of w) from n ≡ 0 →
+    words_cut w from n ≡ no_words
+all_zero_cut w from n none =
+    all_zero (words_cut w from n) (sym (any_of-cut w from n) ∙ none)
+  where
+    any_of-cut : (w : Words) (from n : ℕ) → bits_cut (any_of w) from n ≡ any_of (words_cut w from n)
+    any_of-cut w from n = simp cut-or
+
+-- the pixels that two objects light
+abbrev pub two_of : Words → ℕ
+two_of w =
+    bit_or (bit_or (bit_or (bit_or (bit_and w.player0 w.player1) (bit_and (bit_or w.player0 w.player1) w.missile0))
+    (bit_and (bit_or (bit_or w.player0 w.player1) w.missile0) w.missile1))
+    (bit_and (bit_or (bit_or (bit_or w.player0 w.player1) w.missile0) w.missile1) w.ball))
+    (bit_and (bit_or (bit_or (bit_or (bit_or w.player0 w.player1) w.missile0) w.missile1) w.ball) w.playfield)
+
+two_of-cut : (w : Words) (from n : ℕ) → bits_cut (two_of w) from n ≡ two_of (words_cut w from n)
+two_of-cut w from n = simp (cut-or, cut-and)
+
+pub pairs_apart_cut : (w : Words) (l : Latches) (from n : ℕ) → bits_cut (two_of w) from n ≡ 0 → pairs_of_words l (words_cut w from n) ≡ l
+pairs_apart_cut w l from n none = pairs_apart (words_cut w from n) l (sym (two_of-cut w from n) ∙ none)

@@ -1,13 +1,14 @@
 -- Up to 32 pixels of the six rows, as a word of each, and what is drawn of them.
-use Rattle.std.specs.Prelude.{◌≡◌, ℕ, ◌+◌, ◌-◌, ◌*◌, ◌/◌, ◌^◌, ◌≤◌, List, [], ◌∷◌, Bool, false, ◌&&◌, ◌||◌, not, ◌==◌, nat_lt, if◌then◌else◌, bit_and, bit_or}
+use Rattle.std.specs.Prelude.{◌≡◌, ℕ, zero, suc, ◌+◌, ◌-◌, ◌*◌, ◌/◌, ◌^◌, ◌≤◌, List, [], ◌∷◌, Bool, false, ◌&&◌, ◌||◌, not, ◌==◌, nat_lt, if◌then◌else◌, bit_and, bit_or}
 use Rattle.std.specs.Int.{bit_at}
 use Rattle.vcs_tia.specs.Units.{has_bit}
 use Rattle.vcs_tia.specs.declared.words.Words.{Words}
 use Rattle.vcs_tia.specs.declared.words.Layers.{Layers}
+use Rattle.vcs_tia.specs.declared.words.Shades.{Shades}
 use Rattle.vcs_tia.specs.declared.beam.Lit.{Lit}
 use Rattle.vcs_tia.specs.declared.beam.Latches.{Latches}
 use Rattle.vcs_tia.specs.declared.chip.Tia.{Tia}
-use Rattle.vcs_tia.specs.Tia.{lit_at}
+use Rattle.vcs_tia.specs.declared.chip.Colours.{Colours}
 
 -- no object is lit
 abbrev pub no_lit : Lit
@@ -24,10 +25,6 @@ lit_bits w i = record { player0 = has_bit w.player0 i; player1 = has_bit w.playe
 -- a set of objects, or none
 abbrev pub lit_where : Bool → Lit → Lit
 lit_where b s = record { player0 = b && s.player0; player1 = b && s.player1; missile0 = b && s.missile0; missile1 = b && s.missile1; ball = b && s.ball; playfield = b && s.playfield }
-
--- the words say what is lit on so many pixels from the beam's clock on
-pub record IsSpan (t : Tia) (n : ℕ) (w : Words) : Type 0 where
-  pub bits : 68 ≤ t.beam.clock → (i : ℕ) → lit_bits w i ≡ lit_where (nat_lt i n) (lit_at t (t.beam.clock - 68 + i))
 
 -- the bits of a word from one on, so many of them
 abbrev pub bits_cut : ℕ → ℕ → ℕ → ℕ
@@ -68,26 +65,32 @@ pairs_of_words l w = record {
 abbrev pub layers_of : Words → Layers
 layers_of w = record { player0 = bit_or w.player0 w.missile0; player1 = bit_or w.player1 w.missile1; playfield = bit_or w.playfield w.ball }
 
--- which layers are lit on pixel i: 1, 2 and 4, added
-abbrev pub layer_number : Layers → ℕ → ℕ
-layer_number l i = bit_at l.player0 i + 2 * bit_at l.player1 i + 4 * bit_at l.playfield i
+-- the layers lit on pixel i are those of a set of objects
+pub record AreLayers (l : Layers) (i : ℕ) (s : Lit) : Type 0 where
+  pub player0 : has_bit l.player0 i ≡ (s.player0 || s.missile0)
+  pub player1 : has_bit l.player1 i ≡ (s.player1 || s.missile1)
+  pub playfield : has_bit l.playfield i ≡ (s.playfield || s.ball)
 
--- four numbers below 256, a byte of each, the first as the lowest
-abbrev pub in_bytes : ℕ → ℕ → ℕ → ℕ → ℕ
-in_bytes a b c d = a + 256 * b + 65536 * c + 16777216 * d
+-- pixel i has the colour of the layer in front: with priority the playfield, then player 0, player 1, the playfield, the background
+pub record IsShades (l : Layers) (priority : Bool) (s : Shades) (i : ℕ) : Type 0 where
+  pub player0 : has_bit s.player0 i ≡ (not (priority && has_bit l.playfield i) && has_bit l.player0 i)
+  pub player1 : has_bit s.player1 i ≡ (not (priority && has_bit l.playfield i) && (not (has_bit l.player0 i) && has_bit l.player1 i))
+  pub playfield : has_bit s.playfield i ≡ (has_bit l.playfield i && (priority || not (has_bit l.player0 i || has_bit l.player1 i)))
+  pub background : has_bit s.background i ≡ not ((has_bit l.player0 i || has_bit l.player1 i) || has_bit l.playfield i)
 
--- the numbers of four pixels from pixel i on
-abbrev pub four_numbers : Layers → ℕ → ℕ
-four_numbers l i = in_bytes (layer_number l i) (layer_number l (i + 1)) (layer_number l (i + 2)) (layer_number l (i + 3))
+-- how many shades have pixel i
+abbrev pub shades_at : Shades → ℕ → ℕ
+shades_at s i = bit_at s.player0 i + bit_at s.player1 i + bit_at s.playfield i + bit_at s.background i
+
+-- the colour of pixel i, which one shade has at most
+abbrev pub colour_of_shades : Shades → Colours → ℕ → ℕ
+colour_of_shades s c i = bit_at s.player0 i * c.player0 + bit_at s.player1 i * c.player1 + bit_at s.playfield i * c.playfield + bit_at s.background i * c.background
+
+-- so many numbers below 256 from one on, a byte of each, the first as the lowest
+unfoldable pub packed : (ℕ → ℕ) → ℕ → ℕ → ℕ
+packed f i zero = 0
+packed f i (suc n) = f i + 256 * packed f (i + 1) n
 
 -- score divides the playfield's colour by halves
 abbrev pub is_split : Tia → Bool
 is_split t = t.playfield.score && not t.playfield.priority
-
--- the colour of each number of layers, where score doesn't divide the playfield
-abbrev pub palette_of : Tia → List ℕ
-palette_of t =
-    if t.playfield.priority then (t.colours.background ∷ t.colours.player0 ∷ t.colours.player1 ∷ t.colours.player0
-    ∷ t.colours.playfield ∷ t.colours.playfield ∷ t.colours.playfield ∷ t.colours.playfield ∷ [])
-    else (t.colours.background ∷ t.colours.player0 ∷ t.colours.player1 ∷ t.colours.player0
-    ∷ t.colours.playfield ∷ t.colours.player0 ∷ t.colours.player1 ∷ t.colours.player0 ∷ [])

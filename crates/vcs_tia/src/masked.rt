@@ -66,22 +66,14 @@ impl MaskedPlayer {
         self.row.word(number)
     }
 
-    /// The mask of other settings.
-    fn row_of(&self, settings: &Player) -> Row
-        ensures { IsRow result.words (player_lit settings.now) }
-    {
-        if self.settings.looks_like(settings) {
-            self.row
-        } else {
-            settings.row()
-        }
-    }
-
     /// Takes new settings.
+    #[inline(always)]
     pub fn change(&mut self, settings: Player)
         ensures { self.new ≡ settings }
     {
-        self.row = self.row_of(&settings);
+        if !self.settings.looks_like(&settings) {
+            self.row = settings.row();
+        }
         self.settings = settings;
     }
 }
@@ -222,22 +214,14 @@ impl MaskedMissile {
         self.row.word(number)
     }
 
-    /// The mask of other settings.
-    fn row_of(&self, settings: &Missile) -> Row
-        ensures { IsRow result.words (missile_lit settings.now) }
-    {
-        if self.settings.looks_like(settings) {
-            self.row
-        } else {
-            settings.row()
-        }
-    }
-
     /// Takes new settings.
+    #[inline(always)]
     pub fn change(&mut self, settings: Missile)
         ensures { self.new ≡ settings }
     {
-        self.row = self.row_of(&settings);
+        if !self.settings.looks_like(&settings) {
+            self.row = settings.row();
+        }
         self.settings = settings;
     }
 }
@@ -356,22 +340,14 @@ impl MaskedBall {
         self.row.word(number)
     }
 
-    /// The mask of other settings.
-    fn row_of(&self, settings: &Ball) -> Row
-        ensures { IsRow result.words (ball_lit settings.now) }
-    {
-        if self.settings.looks_like(settings) {
-            self.row
-        } else {
-            settings.row()
-        }
-    }
-
     /// Takes new settings.
+    #[inline(always)]
     pub fn change(&mut self, settings: Ball)
         ensures { self.new ≡ settings }
     {
-        self.row = self.row_of(&settings);
+        if !self.settings.looks_like(&settings) {
+            self.row = settings.row();
+        }
         self.settings = settings;
     }
 }
@@ -502,22 +478,14 @@ impl MaskedPlayfield {
         self.row.word(number)
     }
 
-    /// The mask of other settings.
-    fn row_of(&self, settings: &Playfield) -> Row
-        ensures { IsRow result.words (playfield_lit settings.now) }
-    {
-        if self.settings.looks_like(settings) {
-            self.row
-        } else {
-            settings.row()
-        }
-    }
-
     /// Takes new settings.
+    #[inline(always)]
     pub fn change(&mut self, settings: Playfield)
         ensures { self.new ≡ settings }
     {
-        self.row = self.row_of(&settings);
+        if !self.settings.looks_like(&settings) {
+            self.row = settings.row();
+        }
         self.settings = settings;
     }
 }

@@ -90,6 +90,7 @@ impl Player {
     }
 
     /// Where the player is lit on a line.
+    #[inline(never)]
     pub fn row(&self) -> Row
         ensures { IsRow result.words (player_lit self.now) }
     {
@@ -140,6 +141,7 @@ impl Missile {
     }
 
     /// Where the missile is lit on a line.
+    #[inline(never)]
     pub fn row(&self) -> Row
         ensures { IsRow result.words (missile_lit self.now) }
     {
@@ -217,6 +219,7 @@ impl Ball {
     }
 
     /// Where the ball is lit on a line.
+    #[inline(never)]
     pub fn row(&self) -> Row
         ensures { IsRow result.words (ball_lit self.now) }
     {

@@ -74,6 +74,7 @@ impl Playfield {
     }
 
     /// Where the playfield is lit on a line.
+    #[inline(never)]
     pub fn row(&self) -> Row
         ensures { IsRow result.words (playfield_lit self.now) }
     {

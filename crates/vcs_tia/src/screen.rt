@@ -1,11 +1,12 @@
 //! The picture: 160 by 210 colour bytes.
 
-ghost use Rattle.std.specs.Prelude.{◌≡◌, ◌+◌, ◌*◌, ◌<◌, ◌≤◌, List, ℕ, length, IfOk, slice_index, slice_set};
+ghost use Rattle.std.specs.Prelude.{◌≡◌, ◌+◌, ◌*◌, ◌/◌, ◌%◌, ◌^◌, ◌<◌, ◌≤◌, List, ℕ, length, IfOk, slice_set};
 ghost use Rattle.vcs_tia.specs.Picture.{pixel_of, blank_picture, lit_count};
 ghost use Rattle.vcs_tia.specs.Spans.{filled};
-ghost use Rattle.vcs_tia.specs.Words.{layer_number};
+ghost use Rattle.vcs_tia.specs.Words.{shades_at, colour_of_shades};
 
-use super::words::Layers;
+use super::chip::Colours;
+use super::words::Shades;
 use std::alloc::{AllocError, Allocator, Global};
 use std::marker::Model;
 
@@ -73,39 +74,50 @@ impl<A: Allocator> Picture<A> {
         ensures { self.new ≡ filled self.old (row * 160 + x) count (λ _. colour) }
     {
         let start = row * 160 + x;
-        for i in 0..count {
-            self.bytes[start + i] = colour;
+        let eights = count / 8;
+        let packed = colour as u64 * 0x0101010101010101;
+        for eight in 0..eights {
+            self.put(start + 8 * eight, 8, packed);
         }
+        self.put(start + 8 * eights, count % 8, packed);
     }
 
-    /// Sets some pixels of a row, each to the colour of its number of layers.
-    pub(crate) fn paint_layers(
+    /// Sets some pixels of a row to the colours of as many shades from pixel `from` of them on.
+    pub(crate) fn paint_shades(
         &mut self,
         row: usize,
         x: usize,
         count: u32,
-        layers: &Layers,
-        palette: &[u8; 8],
+        shades: &Shades,
+        from: u32,
+        colours: &Colours,
     )
         requires row { row < 210 }
         requires x { x + count ≤ 160 }
-        requires count { count ≤ 32 }
-        requires palette { length palette.now ≡ 8 }
-        ensures { self.new ≡ filled self.old (row * 160 + x) count (λ i. slice_index palette.now (layer_number layers.now i)) }
+        requires from { from + count ≤ 32 }
+        requires apart { (k : ℕ) → k < 32 → shades_at shades.now k ≤ 1 }
+        ensures { self.new ≡ filled self.old (row * 160 + x) count (λ i. colour_of_shades shades.now colours.now (from + i)) }
     {
         let start = row * 160 + x;
-        let fours = count / 4;
-        for four in 0..fours {
-            let numbers = layers.four_numbers(4 * four);
-            let place = start + 4 * four as usize;
-            self.bytes[place] = palette[(numbers % 256) as usize];
-            self.bytes[place + 1] = palette[(numbers / 256 % 256) as usize];
-            self.bytes[place + 2] = palette[(numbers / 65536 % 256) as usize];
-            self.bytes[place + 3] = palette[(numbers / 16777216) as usize];
+        let eights = count / 8;
+        for eight in 0..eights {
+            let packed = shades.eight(from + 8 * eight, colours);
+            self.put(start + 8 * eight as usize, 8, packed);
         }
-        for i in 4 * fours..count {
-            self.bytes[start + i as usize] = palette[layers.number(i) as usize];
+        let rest = count % 8;
+        if rest == 0 {
+            return;
         }
+        let packed = shades.eight(from + 8 * eights, colours);
+        self.put(start + 8 * eights as usize, rest as usize, packed);
+    }
+
+    /// Sets up to eight pixels, each to a byte of a number, the first to the lowest.
+    fn put(&mut self, start: usize, count: usize, packed: u64)
+        requires fits { start + count ≤ 33600 }
+        ensures { self.new ≡ filled self.old start count (λ k. packed / 256 ^ k % 256) }
+    {
+        put_bytes(self.bytes.as_mut_slice(), start, count, packed);
     }
 
     /// Sets one pixel.
@@ -115,5 +127,18 @@ impl<A: Allocator> Picture<A> {
         ensures { self.new ≡ slice_set self.old (row * 160 + x) colour }
     {
         self.bytes[row * 160 + x] = colour;
+    }
+}
+
+/// Sets some bytes to those of a number, the first to the lowest.
+fn put_bytes(bytes: &mut [u8], start: usize, count: usize, packed: u64)
+    requires fits { start + count ≤ length bytes.old }
+    ensures bytes { bytes.new ≡ filled bytes.old start count (λ k. packed / 256 ^ k % 256) }
+    ensures len { length bytes.new ≡ length bytes.old }
+{
+    let mut rest = packed;
+    for i in 0..count {
+        bytes[start + i] = (rest % 256) as u8;
+        rest /= 256;
     }
 }

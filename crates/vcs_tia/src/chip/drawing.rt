@@ -1,17 +1,17 @@
 //! Drawing: some colour clocks of a line at a time, by masks.
 
-ghost use Rattle.std.specs.Prelude.{◌≡◌, ◌<◌, ◌≤◌, ◌+◌, ◌-◌, ◌*◌, ◌||◌, ℕ, true, false, nat_lt};
+ghost use Rattle.std.specs.Prelude.{◌≡◌, ◌<◌, ◌≤◌, ◌+◌, ◌-◌, ◌*◌, ◌/◌, ◌||◌, ℕ, true, false, nat_lt, if◌then◌else◌};
 ghost use Rattle.vcs_tia.specs.Beam.{beam_clocks};
-ghost use Rattle.vcs_tia.specs.Tia.{clocks_passed, latches_of, lit_at, colour_at, in_hmove_blank, colour_of_lit};
-ghost use Rattle.vcs_tia.specs.Trace.{after_clocks, trace, drawn};
+ghost use Rattle.vcs_tia.specs.Tia.{clocks_passed, latches_of, lit_at, in_hmove_blank, colour_of_lit};
+ghost use Rattle.vcs_tia.specs.Trace.{after_clocks, trace, drawn, with_pairs};
 ghost use Rattle.vcs_tia.specs.Collisions.{PairsOf};
-ghost use Rattle.vcs_tia.specs.Words.{lit_bits, pairs_of_words, IsSpan, is_split, palette_of};
+ghost use Rattle.vcs_tia.specs.Words.{lit_bits, no_lit, is_split, AreLayers};
 ghost use Rattle.vcs_tia.specs.Spans.{IsPart};
 
 use super::super::beam::Lit;
 use super::super::screen::Picture;
-use super::super::words::Words;
-use super::{Colours, Tia};
+use super::super::words::{Layers, Words};
+use super::Tia;
 use std::alloc::Allocator;
 
 impl Tia {
@@ -27,9 +27,7 @@ impl Tia {
         let mut left = clocks;
         while left > 0 {
             let part = self.part(left);
-            let words = self.span(part);
-            self.paint_part(&words, part, picture);
-            self.pass_part(&words, part);
+            self.advance_part(part, picture);
             left -= part as u16;
         }
     }
@@ -45,8 +43,7 @@ impl Tia {
         let mut rest = clocks;
         while rest > 0 {
             let part = self.part(rest);
-            let words = self.span(part);
-            self.pass_part(&words, part);
+            self.pass_part(part);
             rest -= part as u16;
         }
     }
@@ -68,21 +65,66 @@ impl Tia {
         if left < room as u16 { left as u8 } else { room }
     }
 
-    /// What is lit on some pixels from the beam's on; nothing in the blank.
-    fn span(&self, clocks: u8) -> Words
-        requires { IsPart self.now.beam clocks }
-        ensures { IsSpan self.now clocks result }
+    /// Lets some clocks of one part of the line pass, and draws them.
+    fn advance_part<A: Allocator>(&mut self, clocks: u8, picture: &mut Picture<A>)
+        requires part { IsPart self.old.beam clocks }
+        requires beam { beam_clocks self.old.beam + clocks < 65536 * 228 }
+        ensures tia { self.new ≡ after_clocks clocks self.old }
+        ensures picture { picture.new ≡ drawn (trace clocks self.old) picture.old }
     {
         let clock = self.beam.clock.number();
         if clock < 68 {
-            return Words::none();
+            self.beam.move_by(clocks);
+            return;
+        }
+        self.draw(clock - 68, clocks, picture);
+        self.beam.move_by(clocks);
+    }
+
+    /// Lets some clocks of one part of the line pass.
+    fn pass_part(&mut self, clocks: u8)
+        requires part { IsPart self.old.beam clocks }
+        requires beam { beam_clocks self.old.beam + clocks < 65536 * 228 }
+        ensures { self.new ≡ after_clocks clocks self.old }
+    {
+        let clock = self.beam.clock.number();
+        if clock < 68 {
+            self.beam.move_by(clocks);
+            return;
         }
         let x = clock - 68;
         let words = self.words((x / 32) as usize);
-        if words.are_empty() {
-            return Words::none();
+        self.collide(&words, x, clocks);
+        self.beam.move_by(clocks);
+    }
+
+    /// Draws some pixels of one part of the line, from pixel x on, and adds their pairs.
+    fn draw<A: Allocator>(&mut self, x: u8, clocks: u8, picture: &mut Picture<A>)
+        requires part { IsPart self.old.beam clocks }
+        requires clock { self.old.beam.clock ≡ 68 + x }
+        ensures tia { self.new ≡ with_pairs clocks self.old }
+        ensures picture { picture.new ≡ drawn (trace clocks self.old) picture.old }
+    {
+        let words = self.words((x / 32) as usize);
+        if words.are_empty((x % 32) as u32, clocks as u32) {
+            self.paint_background(x, clocks, picture);
+            return;
         }
-        words.cut((x % 32) as u32, clocks as u32)
+        self.draw_objects(x, clocks, picture);
+    }
+
+    /// The same where an object may be lit.
+    #[inline(never)]
+    fn draw_objects<A: Allocator>(&mut self, x: u8, clocks: u8, picture: &mut Picture<A>)
+        requires part { IsPart self.old.beam clocks }
+        requires clock { self.old.beam.clock ≡ 68 + x }
+        ensures tia { self.new ≡ with_pairs clocks self.old }
+        ensures picture { picture.new ≡ drawn (trace clocks self.old) picture.old }
+    {
+        let words = self.words((x / 32) as usize);
+        let layers = words.layers();
+        self.collide(&words, x, clocks);
+        self.paint_objects(&layers, x, clocks, picture);
     }
 
     /// 32 pixels of the six rows.
@@ -100,68 +142,75 @@ impl Tia {
         }
     }
 
-    /// Lets some clocks of one part of the line pass.
-    fn pass_part(&mut self, words: &Words, clocks: u8)
+    /// Adds the pairs of some pixels of one part of the line, from pixel x on, to the latches.
+    fn collide(&mut self, words: &Words, x: u8, clocks: u8)
         requires part { IsPart self.old.beam clocks }
-        requires span { IsSpan self.old clocks words.now }
-        requires beam { beam_clocks self.old.beam + clocks < 65536 * 228 }
-        ensures { self.new ≡ after_clocks clocks self.old }
+        requires clock { self.old.beam.clock ≡ 68 + x }
+        requires words { (i : ℕ) → i < 32 → lit_bits words.now i ≡ lit_at self.old (32 * (x / 32) + i) }
+        ensures { self.new ≡ with_pairs clocks self.old }
     {
-        if !self.adds_pairs(words, clocks) {
-            self.beam.move_by(clocks);
+        if self.in_hmove_blank(x) {
             return;
         }
-        self.latches = words.met(self.latches);
-        self.beam.move_by(clocks);
+        let from = (x % 32) as u32;
+        if words.are_apart(from, clocks as u32) {
+            return;
+        }
+        self.latches = words.cut(from, clocks as u32).met(self.latches);
     }
 
-    /// Whether some clocks of one part of the line may add a pair to the latches.
-    fn adds_pairs(&self, words: &Words, clocks: u8) -> bool
+    /// Draws some pixels of one part of the line, from pixel x on, where nothing is lit.
+    #[inline(never)]
+    fn paint_background<A: Allocator>(&self, x: u8, clocks: u8, picture: &mut Picture<A>)
         requires part { IsPart self.now.beam clocks }
-        requires span { IsSpan self.now clocks words.now }
-        ensures none { result ≡ false → latches_of (after_clocks clocks self.now) ≡ latches_of self.now }
-        ensures some { result ≡ true → latches_of (after_clocks clocks self.now) ≡ pairs_of_words (latches_of self.now) words.now }
-    {
-        let clock = self.beam.clock.number();
-        if clock < 68 {
-            return false;
-        }
-        if self.in_hmove_blank(clock - 68) {
-            return false;
-        }
-        !words.are_apart()
-    }
-
-    /// Draws the pixels of some clocks of one part of the line.
-    fn paint_part<A: Allocator>(&self, words: &Words, clocks: u8, picture: &mut Picture<A>)
-        requires part { IsPart self.now.beam clocks }
-        requires span { IsSpan self.now clocks words.now }
+        requires clock { self.now.beam.clock ≡ 68 + x }
+        requires dark { (k : ℕ) → k < clocks → lit_at self.now (x + k) ≡ no_lit }
         ensures { picture.new ≡ drawn (trace clocks self.now) picture.old }
     {
-        let clock = self.beam.clock.number();
-        if clock < 68 {
-            return;
-        }
         if self.beam.line < 34 {
             return;
         }
         if self.beam.line >= 244 {
             return;
         }
-        self.paint_visible(words, clock - 68, clocks, picture);
+        let row = (self.beam.line - 34) as usize;
+        let colour = self.background_at(x);
+        picture.fill(row, x as usize, clocks as usize, colour);
     }
 
-    /// Draws some pixels of a line of the picture, from pixel x on.
-    fn paint_visible<A: Allocator>(
+    /// Draws some pixels of one part of the line, from pixel x on.
+    fn paint_objects<A: Allocator>(
         &self,
-        words: &Words,
+        layers: &Layers,
         x: u8,
         clocks: u8,
         picture: &mut Picture<A>,
     )
         requires part { IsPart self.now.beam clocks }
-        requires span { IsSpan self.now clocks words.now }
         requires clock { self.now.beam.clock ≡ 68 + x }
+        requires layers { (i : ℕ) → i < 32 → AreLayers layers.now i (lit_at self.now (32 * (x / 32) + i)) }
+        ensures { picture.new ≡ drawn (trace clocks self.now) picture.old }
+    {
+        if self.beam.line < 34 {
+            return;
+        }
+        if self.beam.line >= 244 {
+            return;
+        }
+        self.paint_visible(layers, x, clocks, picture);
+    }
+
+    /// Draws some pixels of a line of the picture, from pixel x on.
+    fn paint_visible<A: Allocator>(
+        &self,
+        layers: &Layers,
+        x: u8,
+        clocks: u8,
+        picture: &mut Picture<A>,
+    )
+        requires part { IsPart self.now.beam clocks }
+        requires clock { self.now.beam.clock ≡ 68 + x }
+        requires layers { (i : ℕ) → i < 32 → AreLayers layers.now i (lit_at self.now (32 * (x / 32) + i)) }
         requires top { 34 ≤ self.now.beam.line }
         requires bottom { self.now.beam.line < 244 }
         ensures { picture.new ≡ drawn (trace clocks self.now) picture.old }
@@ -172,21 +221,19 @@ impl Tia {
             return;
         }
         if self.is_split() {
-            self.paint_each(words, x, clocks, picture);
+            self.paint_each(x, clocks, picture);
             return;
         }
-        let layers = words.layers();
-        if layers.are_empty() {
-            picture.fill(row, x as usize, clocks as usize, self.colours.background);
-            return;
-        }
-        picture.paint_layers(row, x as usize, clocks as u32, &layers, &self.palette());
+        let settings = self.playfield.settings();
+        let shades = layers.shades(settings.priority);
+        let from = (x % 32) as u32;
+        picture.paint_shades(row, x as usize, clocks as u32, &shades, from, &self.colours);
     }
 
     /// Draws some pixels of a line one by one, where score divides the playfield's colour.
-    fn paint_each<A: Allocator>(&self, words: &Words, x: u8, clocks: u8, picture: &mut Picture<A>)
+    #[inline(never)]
+    fn paint_each<A: Allocator>(&self, x: u8, clocks: u8, picture: &mut Picture<A>)
         requires part { IsPart self.now.beam clocks }
-        requires span { IsSpan self.now clocks words.now }
         requires clock { self.now.beam.clock ≡ 68 + x }
         requires top { 34 ≤ self.now.beam.line }
         requires bottom { self.now.beam.line < 244 }
@@ -194,8 +241,10 @@ impl Tia {
         ensures { picture.new ≡ drawn (trace clocks self.now) picture.old }
     {
         let row = (self.beam.line - 34) as usize;
+        let words = self.words((x / 32) as usize);
+        let span = words.cut((x % 32) as u32, clocks as u32);
         for i in 0..clocks {
-            let lit = words.lit(i as u32);
+            let lit = span.lit(i as u32);
             let colour = self.colour_of_lit(lit, x + i);
             picture.paint(row, (x + i) as usize, colour);
         }
@@ -223,24 +272,14 @@ impl Tia {
         settings.score && !settings.priority
     }
 
-    /// The colour of each number of layers, where score doesn't divide the playfield.
-    fn palette(&self) -> [u8; 8]
-        ensures { result ≡ palette_of self.now }
+    /// The colour of pixel x where nothing is lit.
+    fn background_at(&self, x: u8) -> u8
+        ensures { result ≡ (if self.now.blank || in_hmove_blank self.now x then 0 else self.now.colours.background) }
     {
-        let Colours {
-            player0,
-            player1,
-            playfield,
-            background,
-        } = self.colours;
-        if self.playfield.settings().priority {
-            [
-                background, player0, player1, player0, playfield, playfield, playfield, playfield,
-            ]
+        if self.is_black(x) {
+            0
         } else {
-            [
-                background, player0, player1, player0, playfield, player0, player1, player0,
-            ]
+            self.colours.background
         }
     }
 
