@@ -37,9 +37,7 @@ impl<A: Allocator> Picture<A> {
     pub fn clear(&mut self)
         ensures { self.new ≡ blank_picture }
     {
-        for i in 0..33600 {
-            self.bytes[i] = 0;
-        }
+        self.bytes.fill(0);
     }
 
     /// The colour byte at a row below 210 and a pixel x below 160.
