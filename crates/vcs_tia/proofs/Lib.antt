@@ -2,7 +2,6 @@ pub mod Traces
 pub mod Pixels
 pub mod Writes
 pub mod Collisions
-pub mod Lists
 pub mod Bits
 pub mod Playfields
 pub mod Spans
