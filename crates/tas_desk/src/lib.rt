@@ -9,3 +9,6 @@ mod session;
 pub use entry::Entry;
 pub use replies::{EditError, OfferError, Offered, OpenError, Receipt, Shot, ShotError};
 pub use session::{MAX_EDITS, Session};
+
+#[cfg(test)]
+mod tests;

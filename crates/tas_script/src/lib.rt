@@ -19,4 +19,6 @@ pub use running::script_run;
 pub use words::{MAX_NUMBER, split_once};
 
 #[cfg(test)]
+mod long_script_tests;
+#[cfg(test)]
 mod tests;
