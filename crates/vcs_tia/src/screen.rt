@@ -82,33 +82,32 @@ impl<A: Allocator> Picture<A> {
         self.put(start + 8 * eights, count % 8, packed);
     }
 
-    /// Sets some pixels of a row to the colours of as many shades from pixel `from` of them on.
+    /// Sets some pixels of a row to the colours of their shades.
     pub(crate) fn paint_shades(
         &mut self,
         row: usize,
         x: usize,
         count: u32,
         shades: &Shades,
-        from: u32,
         colours: &Colours,
     )
         requires row { row < 210 }
         requires x { x + count ≤ 160 }
-        requires from { from + count ≤ 32 }
+        requires count { count ≤ 32 }
         requires apart { (k : ℕ) → k < 32 → shades_at shades.now k ≤ 1 }
-        ensures { self.new ≡ filled self.old (row * 160 + x) count (λ i. colour_of_shades shades.now colours.now (from + i)) }
+        ensures { self.new ≡ filled self.old (row * 160 + x) count (colour_of_shades shades.now colours.now) }
     {
         let start = row * 160 + x;
         let eights = count / 8;
         for eight in 0..eights {
-            let packed = shades.eight(from + 8 * eight, colours);
+            let packed = shades.eight(8 * eight, colours);
             self.put(start + 8 * eight as usize, 8, packed);
         }
         let rest = count % 8;
         if rest == 0 {
             return;
         }
-        let packed = shades.eight(from + 8 * eights, colours);
+        let packed = shades.eight(8 * eights, colours);
         self.put(start + 8 * eights as usize, rest as usize, packed);
     }
 
