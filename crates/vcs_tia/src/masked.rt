@@ -58,12 +58,12 @@ impl MaskedPlayer {
         self.settings
     }
 
-    /// 32 pixels of the mask, from pixel `32 * number` on.
-    pub fn word(&self, number: usize) -> u32
+    /// 64 pixels of the mask, from pixel `32 * number` on; of its last word 32.
+    pub fn window(&self, number: usize) -> u64
         requires { number < 5 }
-        ensures { (i : ℕ) → i < 32 → has_bit result i ≡ player_lit self.now (32 * number + i) }
+        ensures { (i : ℕ) → i < 64 → 32 * number + i < 160 → has_bit result i ≡ player_lit self.now (32 * number + i) }
     {
-        self.row.word(number)
+        self.row.window(number)
     }
 
     /// Takes new settings.
@@ -206,12 +206,12 @@ impl MaskedMissile {
         self.settings
     }
 
-    /// 32 pixels of the mask, from pixel `32 * number` on.
-    pub fn word(&self, number: usize) -> u32
+    /// 64 pixels of the mask, from pixel `32 * number` on; of its last word 32.
+    pub fn window(&self, number: usize) -> u64
         requires { number < 5 }
-        ensures { (i : ℕ) → i < 32 → has_bit result i ≡ missile_lit self.now (32 * number + i) }
+        ensures { (i : ℕ) → i < 64 → 32 * number + i < 160 → has_bit result i ≡ missile_lit self.now (32 * number + i) }
     {
-        self.row.word(number)
+        self.row.window(number)
     }
 
     /// Takes new settings.
@@ -332,12 +332,12 @@ impl MaskedBall {
         self.settings
     }
 
-    /// 32 pixels of the mask, from pixel `32 * number` on.
-    pub fn word(&self, number: usize) -> u32
+    /// 64 pixels of the mask, from pixel `32 * number` on; of its last word 32.
+    pub fn window(&self, number: usize) -> u64
         requires { number < 5 }
-        ensures { (i : ℕ) → i < 32 → has_bit result i ≡ ball_lit self.now (32 * number + i) }
+        ensures { (i : ℕ) → i < 64 → 32 * number + i < 160 → has_bit result i ≡ ball_lit self.now (32 * number + i) }
     {
-        self.row.word(number)
+        self.row.window(number)
     }
 
     /// Takes new settings.
@@ -470,12 +470,12 @@ impl MaskedPlayfield {
         self.settings
     }
 
-    /// 32 pixels of the mask, from pixel `32 * number` on.
-    pub fn word(&self, number: usize) -> u32
+    /// 64 pixels of the mask, from pixel `32 * number` on; of its last word 32.
+    pub fn window(&self, number: usize) -> u64
         requires { number < 5 }
-        ensures { (i : ℕ) → i < 32 → has_bit result i ≡ playfield_lit self.now (32 * number + i) }
+        ensures { (i : ℕ) → i < 64 → 32 * number + i < 160 → has_bit result i ≡ playfield_lit self.now (32 * number + i) }
     {
-        self.row.word(number)
+        self.row.window(number)
     }
 
     /// Takes new settings.

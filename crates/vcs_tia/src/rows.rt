@@ -95,4 +95,17 @@ impl Row {
     {
         self.words[number]
     }
+
+    /// 64 pixels of the row, from pixel `32 * number` on; of its last word 32.
+    pub fn window(&self, number: usize) -> u64
+        requires five { length self.now.words ≡ 5 }
+        requires small { (k : ℕ) → slice_index self.now.words k < 2 ^ 32 }
+        requires number { number < 5 }
+        ensures { (i : ℕ) → i < 64 → 32 * number + i < 160 → has_bit result i ≡ row_bit self.now.words (32 * number + i) }
+    {
+        if number == 4 {
+            return self.word(4) as u64;
+        }
+        (self.word(number + 1) as u64) << 32 | self.word(number) as u64
+    }
 }

@@ -5,12 +5,12 @@ ghost use Rattle.vcs_tia.specs.Beam.{beam_clocks};
 ghost use Rattle.vcs_tia.specs.Tia.{clocks_passed, latches_of, lit_at, in_hmove_blank, colour_of_lit};
 ghost use Rattle.vcs_tia.specs.Trace.{after_clocks, trace, drawn, with_pairs};
 ghost use Rattle.vcs_tia.specs.Collisions.{PairsOf};
-ghost use Rattle.vcs_tia.specs.Words.{lit_bits, no_lit, is_split, AreLayers};
+ghost use Rattle.vcs_tia.specs.Words.{window_bits, no_lit, is_split, AreLayers};
 ghost use Rattle.vcs_tia.specs.Spans.{IsPart};
 
 use super::super::beam::Lit;
 use super::super::screen::Picture;
-use super::super::words::{Layers, Words};
+use super::super::words::{Layers, Windows};
 use super::Tia;
 use std::alloc::Allocator;
 
@@ -48,7 +48,7 @@ impl Tia {
         }
     }
 
-    /// How many of some clocks belong to the same part of the line: its blank, a word of pixels, or the eight pixels of HMOVE's blank.
+    /// How many of some clocks belong to the same part of the line: its blank, 32 pixels, or the eight pixels of HMOVE's blank.
     fn part(&self, left: u16) -> u8
         requires { 0 < left }
         ensures part { IsPart self.now.beam result }
@@ -59,8 +59,10 @@ impl Tia {
             68 - clock
         } else if self.beam.hmove_blank && clock < 76 {
             76 - clock
+        } else if clock < 196 {
+            32
         } else {
-            32 - (clock - 68) % 32
+            228 - clock
         };
         if left < room as u16 { left as u8 } else { room }
     }
@@ -93,8 +95,8 @@ impl Tia {
             return;
         }
         let x = clock - 68;
-        let words = self.words((x / 32) as usize);
-        self.collide(&words, x, clocks);
+        let windows = self.windows((x / 32) as usize);
+        self.collide(&windows, x, clocks);
         self.beam.move_by(clocks);
     }
 
@@ -105,8 +107,8 @@ impl Tia {
         ensures tia { self.new ≡ with_pairs clocks self.old }
         ensures picture { picture.new ≡ drawn (trace clocks self.old) picture.old }
     {
-        let words = self.words((x / 32) as usize);
-        if words.are_empty((x % 32) as u32, clocks as u32) {
+        let windows = self.windows((x / 32) as usize);
+        if windows.are_empty((x % 32) as u32, clocks as u32) {
             self.paint_background(x, clocks, picture);
             return;
         }
@@ -121,42 +123,42 @@ impl Tia {
         ensures tia { self.new ≡ with_pairs clocks self.old }
         ensures picture { picture.new ≡ drawn (trace clocks self.old) picture.old }
     {
-        let words = self.words((x / 32) as usize);
-        let layers = words.layers();
-        self.collide(&words, x, clocks);
+        let windows = self.windows((x / 32) as usize);
+        let layers = windows.layers((x % 32) as u32);
+        self.collide(&windows, x, clocks);
         self.paint_objects(&layers, x, clocks, picture);
     }
 
-    /// 32 pixels of the six rows.
-    fn words(&self, number: usize) -> Words
+    /// 64 pixels of the six rows.
+    fn windows(&self, number: usize) -> Windows
         requires { number < 5 }
-        ensures { (i : ℕ) → i < 32 → lit_bits result i ≡ lit_at self.now (32 * number + i) }
+        ensures { (i : ℕ) → i < 64 → 32 * number + i < 160 → window_bits result i ≡ lit_at self.now (32 * number + i) }
     {
-        Words {
-            player0: self.player0.word(number),
-            player1: self.player1.word(number),
-            missile0: self.missile0.word(number),
-            missile1: self.missile1.word(number),
-            ball: self.ball.word(number),
-            playfield: self.playfield.word(number),
+        Windows {
+            player0: self.player0.window(number),
+            player1: self.player1.window(number),
+            missile0: self.missile0.window(number),
+            missile1: self.missile1.window(number),
+            ball: self.ball.window(number),
+            playfield: self.playfield.window(number),
         }
     }
 
     /// Adds the pairs of some pixels of one part of the line, from pixel x on, to the latches.
-    fn collide(&mut self, words: &Words, x: u8, clocks: u8)
+    fn collide(&mut self, windows: &Windows, x: u8, clocks: u8)
         requires part { IsPart self.old.beam clocks }
         requires clock { self.old.beam.clock ≡ 68 + x }
-        requires words { (i : ℕ) → i < 32 → lit_bits words.now i ≡ lit_at self.old (32 * (x / 32) + i) }
+        requires windows { (i : ℕ) → i < 64 → 32 * (x / 32) + i < 160 → window_bits windows.now i ≡ lit_at self.old (32 * (x / 32) + i) }
         ensures { self.new ≡ with_pairs clocks self.old }
     {
         if self.in_hmove_blank(x) {
             return;
         }
         let from = (x % 32) as u32;
-        if words.are_apart(from, clocks as u32) {
+        if windows.are_apart(from, clocks as u32) {
             return;
         }
-        self.latches = words.cut(from, clocks as u32).met(self.latches);
+        self.latches = windows.cut(from, clocks as u32).met(self.latches);
     }
 
     /// Draws some pixels of one part of the line, from pixel x on, where nothing is lit.
@@ -188,7 +190,7 @@ impl Tia {
     )
         requires part { IsPart self.now.beam clocks }
         requires clock { self.now.beam.clock ≡ 68 + x }
-        requires layers { (i : ℕ) → i < 32 → AreLayers layers.now i (lit_at self.now (32 * (x / 32) + i)) }
+        requires layers { (i : ℕ) → i < clocks → AreLayers layers.now i (lit_at self.now (x + i)) }
         ensures { picture.new ≡ drawn (trace clocks self.now) picture.old }
     {
         if self.beam.line < 34 {
@@ -210,7 +212,7 @@ impl Tia {
     )
         requires part { IsPart self.now.beam clocks }
         requires clock { self.now.beam.clock ≡ 68 + x }
-        requires layers { (i : ℕ) → i < 32 → AreLayers layers.now i (lit_at self.now (32 * (x / 32) + i)) }
+        requires layers { (i : ℕ) → i < clocks → AreLayers layers.now i (lit_at self.now (x + i)) }
         requires top { 34 ≤ self.now.beam.line }
         requires bottom { self.now.beam.line < 244 }
         ensures { picture.new ≡ drawn (trace clocks self.now) picture.old }
@@ -226,8 +228,7 @@ impl Tia {
         }
         let settings = self.playfield.settings();
         let shades = layers.shades(settings.priority);
-        let from = (x % 32) as u32;
-        picture.paint_shades(row, x as usize, clocks as u32, &shades, from, &self.colours);
+        picture.paint_shades(row, x as usize, clocks as u32, &shades, &self.colours);
     }
 
     /// Draws some pixels of a line one by one, where score divides the playfield's colour.
@@ -241,8 +242,8 @@ impl Tia {
         ensures { picture.new ≡ drawn (trace clocks self.now) picture.old }
     {
         let row = (self.beam.line - 34) as usize;
-        let words = self.words((x / 32) as usize);
-        let span = words.cut((x % 32) as u32, clocks as u32);
+        let windows = self.windows((x / 32) as usize);
+        let span = windows.cut((x % 32) as u32, clocks as u32);
         for i in 0..clocks {
             let lit = span.lit(i as u32);
             let colour = self.colour_of_lit(lit, x + i);
