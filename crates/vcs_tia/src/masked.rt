@@ -47,7 +47,8 @@ impl MaskedPlayer {
     pub fn new(settings: Player) -> Self
         ensures { result ≡ settings }
     {
-        let row = settings.row();
+        let mut row = Row::empty();
+        settings.set_row(&mut row);
         MaskedPlayer { settings, row }
     }
 
@@ -72,7 +73,7 @@ impl MaskedPlayer {
         ensures { self.new ≡ settings }
     {
         if !self.settings.looks_like(&settings) {
-            self.row = settings.row();
+            settings.set_row(&mut self.row);
         }
         self.settings = settings;
     }
@@ -195,7 +196,8 @@ impl MaskedMissile {
     pub fn new(settings: Missile) -> Self
         ensures { result ≡ settings }
     {
-        let row = settings.row();
+        let mut row = Row::empty();
+        settings.set_row(&mut row);
         MaskedMissile { settings, row }
     }
 
@@ -220,7 +222,7 @@ impl MaskedMissile {
         ensures { self.new ≡ settings }
     {
         if !self.settings.looks_like(&settings) {
-            self.row = settings.row();
+            settings.set_row(&mut self.row);
         }
         self.settings = settings;
     }
@@ -321,7 +323,8 @@ impl MaskedBall {
     pub fn new(settings: Ball) -> Self
         ensures { result ≡ settings }
     {
-        let row = settings.row();
+        let mut row = Row::empty();
+        settings.set_row(&mut row);
         MaskedBall { settings, row }
     }
 
@@ -346,7 +349,7 @@ impl MaskedBall {
         ensures { self.new ≡ settings }
     {
         if !self.settings.looks_like(&settings) {
-            self.row = settings.row();
+            settings.set_row(&mut self.row);
         }
         self.settings = settings;
     }

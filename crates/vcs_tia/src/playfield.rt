@@ -74,7 +74,7 @@ impl Playfield {
     }
 
     /// Where the playfield is lit on a line.
-    #[inline(never)]
+    #[inline(always)]
     pub fn row(&self) -> Row
         ensures { IsRow result.words (playfield_lit self.now) }
     {
