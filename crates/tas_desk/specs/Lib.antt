@@ -1,5 +1,15 @@
-pub mod Counts
-pub mod History
 pub mod Answers
+pub mod Counts
+pub mod Exporting
+pub mod Exports
+pub mod Frames
+pub mod History
+pub mod Published
+pub mod Registry
+pub mod Runs
+pub mod Seats
 pub mod Session
 pub mod Shots
+pub mod Version
+pub mod Zones
+pub mod Work

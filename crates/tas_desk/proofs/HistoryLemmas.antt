@@ -3,7 +3,8 @@ use Rattle.std.proofs.Common.{◌≡◌, ℕ, ◌+◌, ◌≤◌, ◌<◌, List,
 use Rattle.tas_movie.specs.Content.{MovieContent}
 use Rattle.std.specs.Prelude.{◌==◌, if◌then◌else◌}
 use Rattle.std.proofs.lemmas.List.Sums.{sum_by-append}
-use Rattle.tas_movie.specs.Edit.{edited, edited_place}
+use Rattle.tas_movie.specs.Edit.{edited, edited_place, IsAllowed}
+use Rattle.tas_desk.proofs.EditLemmas.{edited_before, edited_cart}
 use Rattle.tas_green.specs.declared.savestate.Savestate.{Savestate}
 use Rattle.tas_green.specs.Green.{IsLawful, AgreeUpTo}
 use Rattle.tas_desk.specs.declared.entry.Entry.{Entry}
@@ -87,3 +88,15 @@ counted_after {A} history pushed entry seat old reserved added is same more push
 
 pub same_next : {A : Type 0} (held named : List (Entry A)) (entry : Entry A) → held ≡ named → IsNextEntry named entry → IsNextEntry held entry
 same_next {A} held named entry same next = subst (λ (h : List (Entry A)). IsNextEntry h entry) (sym same) next
+
+-- the same, by what an edit does
+pub sound_edited : {A : Type 0} (history pushed : List (Entry A)) (movie new : MovieContent) (zone kept : List Savestate) (entry : Entry A) (place len : ℕ)
+    → IsSound history movie zone → IsNextEntry history entry → pushed ≡ history ++ entry ∷ [] → new ≡ edited movie entry.edit
+    → place ≡ edited_place entry.edit → len ≡ length new.inputs
+    → ((before after : MovieContent) → IsLawful before zone → AgreeUpTo place before after → length after.inputs ≡ len → IsLawful after kept)
+    → IsSound pushed new kept
+sound_edited {A} history pushed movie new zone kept entry place len sound next push is at long cut =
+    let may : IsAllowed movie entry.edit = subst (λ (m : MovieContent). IsAllowed m entry.edit) (sym sound.movie_is) next.legal.allowed in
+    sound_after history pushed movie new zone kept entry place len sound next push is at long
+    (ap (λ (m : MovieContent). take (edited_place entry.edit) m.inputs) is ∙ edited_before movie entry.edit may)
+    (λ later. ap (λ (m : MovieContent). m.cart) is ∙ edited_cart movie entry.edit may later) cut
