@@ -12,8 +12,7 @@ use Rattle.vcs_machine.specs.declared.input.Input.{Input}
 use Rattle.vcs_machine.specs.declared.input.Stick.{Stick}
 use Rattle.tas_movie.specs.declared.error.TextError.{TextError}
 use Rattle.tas_movie.specs.declared.error.TextErrorKind.TheVariants.{Digest, Frame, End, TooMany}
-use Rattle.tas_movie.specs.Content.{MovieContent}
-use Rattle.tas_movie.specs.declared.movie.TheConstants.{MAX_FRAMES}
+use Rattle.tas_movie.specs.Content.{MovieContent, most_inputs}
 use Rattle.tas_movie.specs.Text.{line, mark, stick_text, frame_text, frame_line, head_text, digest_text, text}
 use Rattle.tas_movie.specs.Fault.{SplitLines, split_lines, shown_input, is_frame, fault_at, frames_fault, digest_fault, head_fault, fault}
 
@@ -75,23 +74,23 @@ split_at_newline bytes at tail lt is h tail-is =
 abbrev pub rest_fault : ℕ → List ℕ → Option TextError
 rest_fault n bytes = frames_fault n (split_lines bytes).lines (split_lines bytes).rest
 
-pub frames_go_on : (n : ℕ) (rest l after : List ℕ) → split_lines rest ≡ record { lines = l ∷ (split_lines after).lines; rest = (split_lines after).rest } → n < MAX_FRAMES → is_frame l ≡ true
+pub frames_go_on : (n : ℕ) (rest l after : List ℕ) → split_lines rest ≡ record { lines = l ∷ (split_lines after).lines; rest = (split_lines after).rest } → n < most_inputs → is_frame l ≡ true
     → rest_fault n rest ≡ rest_fault (n + 1) after
 unfolding frames_fault
 frames_go_on n rest l after is lt frame =
-    ap (λ (x : SplitLines). frames_fault n x.lines x.rest) is ∙ rw (lt-leb MAX_FRAMES n lt, frame) refl
+    ap (λ (x : SplitLines). frames_fault n x.lines x.rest) is ∙ rw (lt-leb most_inputs n lt, frame) refl
 
-pub frames_too_many : (n : ℕ) (rest l after : List ℕ) → split_lines rest ≡ record { lines = l ∷ (split_lines after).lines; rest = (split_lines after).rest } → MAX_FRAMES ≤ n
+pub frames_too_many : (n : ℕ) (rest l after : List ℕ) → split_lines rest ≡ record { lines = l ∷ (split_lines after).lines; rest = (split_lines after).rest } → most_inputs ≤ n
     → rest_fault n rest ≡ fault_at (n + 3) TooMany
 unfolding frames_fault
 frames_too_many n rest l after is le =
-    ap (λ (x : SplitLines). frames_fault n x.lines x.rest) is ∙ rw (le-leb MAX_FRAMES n le) refl
+    ap (λ (x : SplitLines). frames_fault n x.lines x.rest) is ∙ rw (le-leb most_inputs n le) refl
 
-pub frames_wrong : (n : ℕ) (rest l after : List ℕ) → split_lines rest ≡ record { lines = l ∷ (split_lines after).lines; rest = (split_lines after).rest } → n < MAX_FRAMES → is_frame l ≡ false
+pub frames_wrong : (n : ℕ) (rest l after : List ℕ) → split_lines rest ≡ record { lines = l ∷ (split_lines after).lines; rest = (split_lines after).rest } → n < most_inputs → is_frame l ≡ false
     → rest_fault n rest ≡ fault_at (n + 3) Frame
 unfolding frames_fault
 frames_wrong n rest l after is lt frame =
-    ap (λ (x : SplitLines). frames_fault n x.lines x.rest) is ∙ rw (lt-leb MAX_FRAMES n lt, frame) refl
+    ap (λ (x : SplitLines). frames_fault n x.lines x.rest) is ∙ rw (lt-leb most_inputs n lt, frame) refl
 
 pub frames_unended : (n : ℕ) (rest : List ℕ) → split_lines rest ≡ record { lines = []; rest = rest } → (length rest ≡ 0 → ⊥) → rest_fault n rest ≡ fault_at (n + 3) End
 unfolding frames_fault
@@ -218,13 +217,13 @@ frame_no_break i =
     NoBreak-append (stick_text i.left) ((32 ∷ stick_text i.right) ++ switches_text i) (stick_no_break i.left)
     (NoBreak-append (32 ∷ stick_text i.right) (switches_text i) second (switches_no_break i))
 
-frames_right : (n : ℕ) (inputs : List Input) → n + length inputs ≤ MAX_FRAMES → rest_fault n (flat_map frame_line inputs) ≡ None
+frames_right : (n : ℕ) (inputs : List Input) → n + length inputs ≤ most_inputs → rest_fault n (flat_map frame_line inputs) ≡ None
 frames_right n [] le = frames_end n [] refl
 frames_right n (x ∷ xs) le =
     frames_go_on n (flat_map frame_line (x ∷ xs)) (frame_text x) (flat_map frame_line xs) (split_lines-line (frame_text x) (flat_map frame_line xs) (frame_no_break x)) (omega arith) (frame_is x)
     ∙ frames_right (n + 1) xs (omega arith)
 
-pub text_right : (movie : MovieContent) → length movie.inputs ≤ MAX_FRAMES → fault (text movie) movie.cart ≡ None
+pub text_right : (movie : MovieContent) → length movie.inputs ≤ most_inputs → fault (text movie) movie.cart ≡ None
 text_right movie le =
     let frames = flat_map frame_line movie.inputs in
     let body = line (digest_text movie.cart) ++ frames in
@@ -240,7 +239,7 @@ pub read_only : (cart bytes : List ℕ) (a m : MovieContent) → a.cart ≡ cart
 read_only cart bytes a m is-a text-a is-m text-m =
     same_text a m (is-a ∙ sym is-m) (ap (λ (c : List ℕ). text (record { cart = c; inputs = a.inputs })) is-a ∙ sym text-a ∙ text-m)
 
-pub read_no_error : (cart bytes : List ℕ) (m : MovieContent) (error : TextError) → m.cart ≡ cart → length m.inputs ≤ MAX_FRAMES → bytes ≡ text m → fault bytes cart ≡ Some error → ⊥
+pub read_no_error : (cart bytes : List ℕ) (m : MovieContent) (error : TextError) → m.cart ≡ cart → length m.inputs ≤ most_inputs → bytes ≡ text m → fault bytes cart ≡ Some error → ⊥
 read_no_error cart bytes m error is le text-m found =
     none_some error (sym (text_right m le) ∙ ap (λ (b : List ℕ). fault b m.cart) (sym text-m) ∙ ap (fault bytes) is ∙ found)
   where

@@ -2,6 +2,10 @@
 use Rattle.std.specs.Prelude.{ℕ, List}
 use Rattle.vcs_machine.specs.declared.input.Input.{Input}
 
+-- how many inputs a movie has at most (own)
+abbrev pub most_inputs : ℕ
+most_inputs = 65536
+
 pub record MovieContent : Type 0 where
   pub cart : List ℕ
   pub inputs : List Input

@@ -1,12 +1,11 @@
 -- What an edit makes of a movie, by cutting and joining lists (own).
 use Rattle.std.specs.Prelude.{◌≡◌, ℕ, ◌+◌, List, [], ◌++◌, length, take, drop, Option, Some, None, nat_lt, if◌then◌else◌, Result, Ok, Err}
 use Rattle.vcs_machine.specs.declared.input.Input.{Input}
-use Rattle.tas_movie.specs.declared.movie.TheConstants.{MAX_FRAMES}
 use Rattle.tas_movie.specs.declared.edit.Edit.{Edit}
 use Rattle.tas_movie.specs.declared.edit.Edit.TheVariants.{Load, Insert, Replace, Delete}
 use Rattle.tas_movie.specs.declared.edit.EditRefusal.{EditRefusal}
 use Rattle.tas_movie.specs.declared.edit.EditRefusal.TheVariants.{Place, Long}
-use Rattle.tas_movie.specs.Content.{MovieContent}
+use Rattle.tas_movie.specs.Content.{MovieContent, most_inputs}
 
 -- the inputs with `new` in the place of `count` of them from the place `at` on
 abbrev pub spliced : ℕ → ℕ → List Input → List Input → List Input
@@ -21,7 +20,7 @@ abbrev pub refusal : {A : Type 0} → MovieContent → Edit A → Option EditRef
 refusal movie (Load cart) = None
 refusal movie (Insert at inputs) =
     if nat_lt (length movie.inputs) at then Some (Place at (length movie.inputs))
-    else if nat_lt MAX_FRAMES (length movie.inputs + length inputs) then Some (Long (length movie.inputs))
+    else if nat_lt most_inputs (length movie.inputs + length inputs) then Some (Long (length movie.inputs))
     else None
 refusal movie (Replace at inputs) = place_refusal (length movie.inputs) at (at + length inputs)
 refusal movie (Delete at count) = place_refusal (length movie.inputs) at (at + count)

@@ -3,12 +3,12 @@ use Rattle.std.specs.Prelude.{◌≡◌, ℕ, ◌+◌, ◌==◌, nat_le, List, [
 use Rattle.std.specs.Str.{bytes_eq}
 use Rattle.vcs_machine.specs.declared.input.Input.{Input}
 use Rattle.vcs_machine.specs.declared.input.Stick.{Stick}
-use Rattle.tas_movie.specs.declared.movie.TheConstants.{MAX_FRAMES}
 use Rattle.tas_movie.specs.declared.error.TextError.{TextError}
 use Rattle.tas_movie.specs.declared.error.TextErrorKind.{TextErrorKind}
 use Rattle.tas_movie.specs.declared.error.TextErrorKind.TheVariants.{Head, Digest, Frame, End, TooMany}
 use Rattle.tas_movie.specs.declared.error.ReadError.{ReadError}
 use Rattle.tas_movie.specs.declared.error.ReadError.TheVariants.{Memory, Text}
+use Rattle.tas_movie.specs.Content.{most_inputs}
 use Rattle.tas_movie.specs.Text.{frame_text, head_text, digest_text}
 
 -- the lines that a newline ends, without it, and what stands behind the last newline
@@ -50,7 +50,7 @@ unfoldable pub frames_fault : ℕ → List (List ℕ) → List ℕ → Option Te
 frames_fault n [] [] = None
 frames_fault n [] (b ∷ rest) = fault_at (n + 3) End
 frames_fault n (l ∷ ls) rest =
-    if nat_le MAX_FRAMES n then fault_at (n + 3) TooMany
+    if nat_le most_inputs n then fault_at (n + 3) TooMany
     else if is_frame l then frames_fault (n + 1) ls rest
     else fault_at (n + 3) Frame
 

@@ -2,7 +2,7 @@
 
 ghost use Rattle.std.specs.Prelude.{◌≡◌, ◌≤◌, length, None};
 ghost use Rattle.tas_movie.specs.declared.movie.TheConstants.{MAX_FRAMES};
-ghost use Rattle.tas_movie.specs.Content.{MovieContent};
+ghost use Rattle.tas_movie.specs.Content.{MovieContent, most_inputs};
 ghost use Rattle.tas_movie.specs.Text.{text};
 ghost use Rattle.tas_movie.specs.Fault.{fault};
 
@@ -13,6 +13,11 @@ pub fn one_movie_per_text()
 
 /// The text of a movie has no fault (own).
 pub fn texts_have_no_fault()
-    ensures { (movie : MovieContent) → length movie.inputs ≤ MAX_FRAMES →
+    ensures { (movie : MovieContent) → length movie.inputs ≤ most_inputs →
         fault (text movie) movie.cart ≡ None }
+{}
+
+/// The most inputs of a movie are as many as the definitions say: 65,536 (own).
+pub fn most_inputs_is_exact()
+    ensures { MAX_FRAMES ≡ most_inputs }
 {}

@@ -15,7 +15,7 @@ pub use edit::{Edit, EditRefusal};
 pub use editing::{apply, check};
 pub use error::{ReadError, TextError, TextErrorKind};
 pub use inputs::Inputs;
-pub use laws::{one_movie_per_text, texts_have_no_fault};
+pub use laws::{most_inputs_is_exact, one_movie_per_text, texts_have_no_fault};
 pub use movie::{MAX_FRAMES, Movie};
 pub use printing::{print_frame, print_text};
 pub use reading::{read_frame, read_text};

@@ -1,6 +1,7 @@
 //! A movie: a cartridge and one input for each frame.
 
 ghost use Rattle.std.specs.Prelude.{◌≡◌, ◌≤◌, ◌<◌, ◌==◌, [], length, replicate, slice_get, Some, IfOk};
+ghost use Rattle.tas_movie.specs.Content.{most_inputs};
 
 use std::alloc::{AllocError, Allocator, Global};
 use std::marker::Model;
@@ -19,14 +20,13 @@ pub struct Movie<A: Allocator = Global> {
 
 impl<A: Allocator> Model for Movie<A> {
     ghost use Rattle.std.specs.Prelude.{◌≤◌, ℕ, List, vec_len, vec_capacity};
-    ghost use Rattle.tas_movie.specs.Content.{MovieContent};
-    ghost use Rattle.tas_movie.specs.declared.movie.TheConstants.{MAX_FRAMES};
+    ghost use Rattle.tas_movie.specs.Content.{MovieContent, most_inputs};
 
     ghost Value = { MovieContent };
 
     ghost view = { λ a. record { cart = a.cart; inputs = a.list.items } };
 
-    ghost invariant = { λ a. (vec_len a.list ≤ MAX_FRAMES) × (MAX_FRAMES ≤ vec_capacity a.list) };
+    ghost invariant = { λ a. (vec_len a.list ≤ most_inputs) × (most_inputs ≤ vec_capacity a.list) };
 }
 
 impl<A: Allocator + Copy> Movie<A> {
@@ -70,7 +70,7 @@ impl<A: Allocator> Movie<A> {
     /// How many inputs there are: the movie's length in frames.
     pub fn len(&self) -> usize
         ensures len { result ≡ length self.now.inputs }
-        ensures bound { result ≤ MAX_FRAMES }
+        ensures bound { result ≤ most_inputs }
     {
         self.list.len()
     }
@@ -85,7 +85,7 @@ impl<A: Allocator> Movie<A> {
     /// The inputs, in order.
     pub fn inputs(&self) -> &[Input]
         ensures inputs { result.now ≡ self.now.inputs }
-        ensures bound { length self.now.inputs ≤ MAX_FRAMES }
+        ensures bound { length self.now.inputs ≤ most_inputs }
     {
         self.list.as_slice()
     }

@@ -4,8 +4,7 @@ ghost use Rattle.std.specs.Prelude.{◌≡◌, ◌++◌, ◌∷◌, [], ◌≤�
 ghost use Rattle.std.specs.List.{flat_map};
 ghost use Rattle.std.specs.Str.{bytes_eq};
 ghost use Rattle.vcs_machine.specs.declared.input.Input.{Input};
-ghost use Rattle.tas_movie.specs.declared.movie.TheConstants.{MAX_FRAMES};
-ghost use Rattle.tas_movie.specs.Content.{MovieContent};
+ghost use Rattle.tas_movie.specs.Content.{MovieContent, most_inputs};
 ghost use Rattle.tas_movie.specs.Text.{line, frame_text, frame_line, digest_text, text};
 ghost use Rattle.tas_movie.specs.Fault.{shown_input, is_frame, split_lines, frames_fault, fault, IsReadError};
 
@@ -87,12 +86,12 @@ fn error_at(line: usize, kind: TextErrorKind) -> TextError
 /// Reads the frames' lines into an empty list with room for them.
 fn read_frames<A: Allocator>(list: &mut Vec<Input, A>, bytes: &[u8]) -> Result<(), TextError>
     requires empty { list.old.items ≡ [] }
-    requires room { MAX_FRAMES ≤ vec_capacity list.old }
+    requires room { most_inputs ≤ vec_capacity list.old }
     ensures frames { OnOk result (bytes.now ≡ flat_map frame_line list.new.items) }
     ensures fault { MatchResult result
         (λ _. frames_fault 0 (split_lines bytes.now).lines (split_lines bytes.now).rest ≡ None)
         (λ e. frames_fault 0 (split_lines bytes.now).lines (split_lines bytes.now).rest ≡ Some e) }
-    ensures bound { vec_len list.new ≤ MAX_FRAMES }
+    ensures bound { vec_len list.new ≤ most_inputs }
     ensures capacity { vec_capacity list.old ≤ vec_capacity list.new }
 {
     let mut rest = bytes;
@@ -128,13 +127,13 @@ fn read_lines<A: Allocator, B: Allocator>(
     cart: &Cart<B>,
 ) -> Result<(), TextError>
     requires empty { list.old.items ≡ [] }
-    requires room { MAX_FRAMES ≤ vec_capacity list.old }
+    requires room { most_inputs ≤ vec_capacity list.old }
     ensures movie { OnOk result
         (bytes.now ≡ text (record { cart = cart.now; inputs = list.new.items })) }
     ensures fault { MatchResult result
         (λ _. fault bytes.now cart.now ≡ None)
         (λ e. fault bytes.now cart.now ≡ Some e) }
-    ensures bound { vec_len list.new ≤ MAX_FRAMES }
+    ensures bound { vec_len list.new ≤ most_inputs }
     ensures capacity { vec_capacity list.old ≤ vec_capacity list.new }
 {
     let Some((head, after_head)) = split_line(bytes) else {
@@ -163,7 +162,7 @@ pub fn read_text<A: Allocator + Copy, B: Allocator>(
     ensures found { IfOk result (λ movie. (movie.cart ≡ cart.now) × (bytes.now ≡ text movie)) }
     // A text is never refused, but for want of memory.
     ensures all { (movie : MovieContent) → movie.cart ≡ cart.now →
-        length movie.inputs ≤ MAX_FRAMES → bytes.now ≡ text movie →
+        length movie.inputs ≤ most_inputs → bytes.now ≡ text movie →
         MatchResult result (λ read. read ≡ movie) (λ e. e ≡ ReadError.Memory) }
     // Which line is at fault, and how.
     ensures fault { MatchResult result

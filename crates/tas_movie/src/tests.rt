@@ -132,6 +132,7 @@ fn texts_are_read_and_printed_again(rt: HostRuntime) -> Result<(), Fail> {
         let printed = print_text(alloc, &movie)?;
         assert!(rt; printed.as_slice() == text.as_slice());
     }
+    most_inputs_is_exact();
     one_movie_per_text();
     texts_have_no_fault();
     Ok(())
