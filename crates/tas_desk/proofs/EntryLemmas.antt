@@ -11,13 +11,13 @@ use Rattle.tas_green.specs.Green.{is_left}
 use Rattle.std.proofs.Math.Seq.{take-append_seam}
 use Rattle.std.specs.Prelude.{filter, take}
 use Rattle.tas_desk.specs.declared.entry.Entry.{Entry}
-use Rattle.tas_desk.specs.declared.session.TheConstants.{MAX_EDITS}
 use Rattle.tas_desk.specs.Version.{VersionContent, version_of}
 use Rattle.tas_desk.specs.History.{movie_of, entries_of, IsLegal}
 use Rattle.tas_desk.specs.Session.{IsNextEntry, SessionContent, IsSound, IsEditError, after_entry, refusal_of, edit_refusal, refusal_at}
 use Rattle.std.specs.Prelude.{Option}
 use Rattle.tas_desk.specs.declared.replies.EditError.{EditError}
-use Rattle.tas_desk.specs.Published.{PublishedContent, ChangeContent, change_of, after, one_more, IsSoundPublished, IsCurrent, Follows}
+use Rattle.tas_desk.specs.declared.reader_view.ReaderView.{ReaderView}
+use Rattle.tas_desk.specs.Published.{PublishedContent, ChangeContent, change_of, view_of, after, one_more, IsSoundPublished, IsCurrent, Follows}
 use Rattle.tas_desk.proofs.HistoryLemmas.{movie_of-push, legal-push}
 
 one_more_below : (n : ℕ) → n < 1000000 → one_more n ≡ n + 1
@@ -35,26 +35,27 @@ sound_pushed {A} x log e b same s may =
       legal = legal-push log e (subst (λ (h : List (Entry A)). IsLegal h) same s.legal) may.legal;
     }
 
-pub follows : {A : Type 0} (x : PublishedContent A) (pending : List (ChangeContent A)) (b : Book) (log : List (Entry A)) (e : Entry A) (c : ChangeContent A) → IsCurrent x pending b log → IsNextEntry log e → c ≡ change_of e.edit (version_of b (log ++ e ∷ [])) → Follows x c
-follows {A} x pending b log e c s may is =
+pub follows : {A : Type 0} (x : PublishedContent A) (pending : List (ChangeContent A)) (b : Book) (log seen : List (Entry A)) (e : Entry A) (c : ChangeContent A) → IsCurrent x pending b log seen → IsNextEntry log e → c ≡ change_of e.edit (version_of b (log ++ e ∷ [])) → Follows x c
+follows {A} x pending b log seen e c s may is =
     subst (λ (d : ChangeContent A). Follows x d) (sym is)
     (record { registry = s.registry; longer = (e ∷ [], ap (λ (l : List (Entry A)). l ++ e ∷ []) s.same); sound = sound_pushed x log e b s.same s.sound may })
 
-accepted : {A : Type 0} (x y : PublishedContent A) (pending now : List (ChangeContent A)) (b : Book) (log : List (Entry A)) (e : Entry A) (c : ChangeContent A) → IsCurrent x pending b log → IsNextEntry log e → c ≡ change_of e.edit (version_of b (log ++ e ∷ []))
-    → now ≡ [] → y ≡ after x c → IsCurrent y now b (log ++ e ∷ [])
-accepted {A} x y pending now b log e c s may is none made =
+accepted : {A : Type 0} (x y : PublishedContent A) (pending now : List (ChangeContent A)) (b : Book) (log seen : List (Entry A)) (e : Entry A) (c : ChangeContent A) (v : ReaderView A) → IsCurrent x pending b log seen → IsNextEntry log e → c ≡ change_of e.edit (version_of b (log ++ e ∷ []))
+    → now ≡ [] → y ≡ after x c → v ≡ view_of y.version → IsCurrent y now b (log ++ e ∷ []) v.seen
+accepted {A} x y pending now b log seen e c v s may is none made view =
     let all : y ≡ after x (change_of e.edit (version_of b (log ++ e ∷ []))) = made ∙ ap (after x) is in record {
       none = none;
       registry = ap (λ (p : PublishedContent A). p.version.registry) all;
       same = ap (λ (p : PublishedContent A). p.version.history) all;
+      view = ap (λ (w : ReaderView A). w.seen) view ∙ ap (λ (p : PublishedContent A). p.version.history) all;
       sound = subst IsSoundPublished (sym all) (sound_pushed x log e b s.same s.sound may);
     }
 
 -- what is published is the journal, after the change_of
-pub accepted_as : {A : Type 0} (x y : PublishedContent A) (pending now : List (ChangeContent A)) (b b' : Book) (log log' : List (Entry A)) (e : Entry A) (c : ChangeContent A) → IsCurrent x pending b log → IsNextEntry log e → c ≡ change_of e.edit (version_of b (log ++ e ∷ []))
-    → now ≡ [] → y ≡ after x c → b' ≡ b → log' ≡ log ++ e ∷ [] → IsCurrent y now b' log'
-accepted_as {A} x y pending now b b' log log' e c s may is none made book list =
-    subst (λ (d : Book). IsCurrent y now d log') (sym book) (subst (λ (l : List (Entry A)). IsCurrent y now b l) (sym list) (accepted x y pending now b log e c s may is none made))
+pub accepted_as : {A : Type 0} (x y : PublishedContent A) (pending now : List (ChangeContent A)) (b b' : Book) (log log' seen : List (Entry A)) (e : Entry A) (c : ChangeContent A) (v : ReaderView A) → IsCurrent x pending b log seen → IsNextEntry log e → c ≡ change_of e.edit (version_of b (log ++ e ∷ []))
+    → now ≡ [] → y ≡ after x c → v ≡ view_of y.version → b' ≡ b → log' ≡ log ++ e ∷ [] → IsCurrent y now b' log' v.seen
+accepted_as {A} x y pending now b b' log log' seen e c v s may is none made view book list =
+    subst (λ (d : Book). IsCurrent y now d log' v.seen) (sym book) (subst (λ (l : List (Entry A)). IsCurrent y now b l v.seen) (sym list) (accepted x y pending now b log seen e c v s may is none made view))
 
 -- the published movie is the edited one
 pub edited_as : {A : Type 0} (x y : PublishedContent A) (e : Edit A) (m : VersionContent A) (c : ChangeContent A) → c ≡ change_of e m → y ≡ after x c → y.movie ≡ edited x.movie e
@@ -81,11 +82,12 @@ same_content {A} old b b' log log' m m' z view book same new =
     now ∙ view
 
 -- what is published is the journal still
-pub same_current : {A : Type 0} (x y : PublishedContent A) (pending now : List (ChangeContent A)) (b b' : Book) (log log' : List (Entry A)) → IsCurrent x pending b log → y ≡ x → now ≡ [] → b' ≡ b → log' ≡ log → IsCurrent y now b' log'
-same_current {A} x y pending now b b' log log' s same none book list = record {
+pub same_current : {A : Type 0} (x y : PublishedContent A) (pending now : List (ChangeContent A)) (b b' : Book) (log log' : List (Entry A)) (v w : ReaderView A) → IsCurrent x pending b log v.seen → y ≡ x → now ≡ [] → w ≡ v → b' ≡ b → log' ≡ log → IsCurrent y now b' log' w.seen
+same_current {A} x y pending now b b' log log' v w s same none view book list = record {
   none = none;
   registry = ap (λ (p : PublishedContent A). p.version.registry) same ∙ s.registry ∙ sym book;
   same = ap (λ (p : PublishedContent A). p.version.history) same ∙ s.same ∙ sym list;
+  view = ap (λ (u : ReaderView A). u.seen) view ∙ s.view ∙ sym list;
   sound = subst IsSoundPublished (sym same) s.sound;
 }
 

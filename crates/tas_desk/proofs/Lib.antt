@@ -1,3 +1,4 @@
+pub mod CutLemmas
 pub mod DrawingLemmas
 pub mod EditLemmas
 pub mod EntryLemmas
@@ -10,3 +11,4 @@ pub mod RunLemmas
 pub mod SeatLemmas
 pub mod WriteLemmas
 pub mod ZoneLemmas
+pub mod WorkLemmas

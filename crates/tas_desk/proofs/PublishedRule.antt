@@ -91,12 +91,13 @@ pub stays : {A : Type 0} (seat : ℕ) (v : ReaderView A) (x next : PublishedCont
 stays {A} seat v x next is = subst (λ (p : PublishedContent A). TurnsAt Holds seat v x p Sees) (sym is) (looks seat v x)
 
 -- a session that opens: nothing waits to be published, and what is published is the empty history
-pub opened_as : {A : Type 0} (x first : PublishedContent A) (pending : List (ChangeContent A)) (newest : VersionContent A) (journal : List (Entry A)) (movie : MovieContent) (at : ℕ) (version : VersionContent A) → pending ≡ [] → x ≡ first → first ≡ published_of movie at version → at ≡ 0 → movie ≡ blank_movie → version ≡ newest → newest.history ≡ [] → journal ≡ [] → IsCurrent x pending newest.registry journal
-opened_as {A} x first pending newest journal movie at version none shown is start blank same empty fresh =
+pub opened_as : {A : Type 0} (x first : PublishedContent A) (pending : List (ChangeContent A)) (newest : VersionContent A) (journal : List (Entry A)) (movie : MovieContent) (at : ℕ) (version : VersionContent A) (v : ReaderView A) → pending ≡ [] → x ≡ first → first ≡ published_of movie at version → at ≡ 0 → movie ≡ blank_movie → version ≡ newest → newest.history ≡ [] → journal ≡ [] → v ≡ blank_view → IsCurrent x pending newest.registry journal v.seen
+opened_as {A} x first pending newest journal movie at version v none shown is start blank same empty fresh nothing =
     let all : x ≡ published_of movie 0 version = shown ∙ is ∙ ap (λ (n : ℕ). published_of movie n version) start in record {
       none = none;
       registry = ap (λ (p : PublishedContent A). p.version.registry) all ∙ ap (λ (m : VersionContent A). m.registry) same;
       same = ap (λ (p : PublishedContent A). p.version.history) all ∙ ap (λ (m : VersionContent A). m.history) same ∙ empty ∙ sym fresh;
+      view = ap (λ (w : ReaderView A). w.seen) nothing ∙ sym fresh;
       sound = subst IsSoundPublished (sym all) (sound_none movie version blank (ap (λ (m : VersionContent A). m.history) same ∙ empty));
     }
 

@@ -1,10 +1,10 @@
 -- What a call leaves of a seat's zone.
+use Rattle.std.specs.Prelude.{IfOk}
+use Rattle.tas_desk.proofs.CutLemmas.{short_shot}
 use Rattle.std.proofs.Common.{◌≡◌, ℕ, ◌+◌, ◌<◌, ◌≤◌, List, length, ap, sym, ◌∙◌, subst, arith, Option, Result, Ok, Err}
 use Rattle.logbook.specs.Pages.{Book}
 use Rattle.tas_green.specs.Grid.{stride}
 use Rattle.tas_green.specs.Zone.{nearest}
-use Rattle.tas_green.proofs.GridLemmas.{stride_rare}
-use Rattle.tas_green.proofs.BoundLemmas.{nearest_close}
 use Rattle.tas_green.specs.Green.{IsLawful, IsShotFrom}
 use Rattle.tas_desk.specs.declared.movie_copy.MovieCopy.{MovieCopy}
 use Rattle.tas_desk.specs.declared.entry.Entry.{Entry}
@@ -17,7 +17,7 @@ use Rattle.tas_desk.specs.Version.{VersionContent, version_of}
 use Rattle.tas_desk.specs.History.{movie_of, entries_of}
 use Rattle.tas_desk.specs.Published.{KnowsRegistry, HasSeenMore}
 use Rattle.tas_desk.specs.Seats.{SeatContent, IsSeated, IsZoneShot}
-use Rattle.tas_desk.specs.Zones.{ZoneContent, version_after, IsMadeFor, IsPlayed}
+use Rattle.tas_desk.specs.Zones.{ZoneContent, version_after, IsMadeFor, IsPlayed, IsShort}
 use Rattle.tas_desk.proofs.SeatLemmas.{entries_of-prefix}
 
 pub seated_on : {A : Type 0} (v w : ReaderView A) (b : Book) (cut sum number made : ℕ) (z y : ZoneContent A) → IsSeated v b cut sum number made z → HasSeenMore v w → y.made_for.registry ≡ z.made_for.registry → IsSeated w b cut sum number made y
@@ -41,7 +41,6 @@ pub played : {A : Type 0} (z y : ZoneContent A) (list : List (Entry A)) (k ran :
 played {A} z y list k ran marked movie lawful shot = record {
   made = made_for z y list marked movie lawful;
   shot = shot;
-  short = λ all. (let rise = shot.rise in let close = nearest_close shot.left k (stride (length y.movie.inputs)) (stride_rare (length y.movie.inputs)).0 all in omega (arith, rise, close));
 }
 
 pub zone_ok : {A B : Type 0} (before now : SeatContent A) (k : ℕ) (z : ZoneContent A) (r : Result (Shot B) ShotError) (shot : Shot B) → z ≡ before.zone → IsPlayed z now.zone now.front k shot.ran → r ≡ Ok shot → IsZoneShot before now k r
@@ -51,3 +50,10 @@ zone_ok {A} {B} before now k z r shot same p is =
 pub zone_halted : {A B : Type 0} (before now : SeatContent A) (k : ℕ) (z : ZoneContent A) (r : Result (Shot B) ShotError) (at : ℕ) (halt : Halt) (ran : ℕ) → z ≡ before.zone → IsPlayed z now.zone now.front k ran → r ≡ Err (Halted at halt) → IsZoneShot before now k r
 zone_halted {A} {B} before now k z r at halt ran same p is =
     subst (λ (a : Result (Shot B) ShotError). IsZoneShot before now k a) (sym is) (ran, subst (λ (x : ZoneContent A). IsPlayed x now.zone now.front k ran) same p)
+
+pub short_ok : {A B : Type 0} (before now z : ZoneContent A) (k : ℕ) (r : Result (Shot B) ShotError) (shot : Shot B) → z ≡ before → IsShotFrom z.movie now.movie k z.states now.states 0 shot.ran → r ≡ Ok shot → IfOk r (λ s. IsShort before now k s.ran)
+short_ok {A} {B} before now z k r shot same played is =
+    subst (λ (a : Result (Shot B) ShotError). IfOk a (λ s. IsShort before now k s.ran)) (sym is) (subst (λ (x : ZoneContent A). IsShort x now k shot.ran) same (short_shot z now k shot.ran played))
+
+pub short_err : {A B : Type 0} (before now : ZoneContent A) (k : ℕ) (r : Result (Shot B) ShotError) (error : ShotError) → r ≡ Err error → IfOk r (λ s. IsShort before now k s.ran)
+short_err {A} {B} before now k r error is = subst (λ (a : Result (Shot B) ShotError). IfOk a (λ s. IsShort before now k s.ran)) (sym is) tt

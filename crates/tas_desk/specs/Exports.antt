@@ -1,11 +1,9 @@
 -- Replies to exports (own).
 use Rattle.std.specs.Prelude.{◌≡◌, ℕ, ◌+◌, ◌-◌, ◌<◌, ◌≤◌, List, length, Option, Result, Ok, Err}
 use Rattle.std.specs.Io.KnownBytes.{Appends}
-use Rattle.tas_movie.specs.Content.{MovieContent}
-use Rattle.tas_movie.specs.declared.movie.TheConstants.{MAX_FRAMES}
+use Rattle.tas_movie.specs.Content.{MovieContent, most_inputs}
 use Rattle.tas_green.specs.declared.savestate.Savestate.{Savestate}
 use Rattle.tas_green.specs.Green.{IsMoved}
-use Rattle.tas_desk.specs.declared.export.TheConstants.{MAX_EXPORT}
 use Rattle.tas_desk.specs.declared.export.Exported.{Exported}
 use Rattle.tas_desk.specs.declared.export.ExportError.{ExportError}
 use Rattle.tas_desk.specs.declared.export.ExportError.TheVariants.{Range, Memory, Halted, Write}
@@ -15,11 +13,15 @@ use Rattle.tas_desk.specs.Runs.{costs}
 use Rattle.tas_desk.specs.Exporting.{BrokeOff}
 use Rattle.tas_desk.specs.Zones.{ZoneContent}
 
+-- how many frames one export has at most (own)
+abbrev pub most_exported : ℕ
+most_exported = 1024
+
 -- a movie of this length has all frames from `from` to the one before `to`, and they are few enough for one export
 pub record IsInRange (len from to : ℕ) : Type 0 where
   pub order : from ≤ to
   pub within : to ≤ len
-  pub few : to ≤ from + MAX_EXPORT
+  pub few : to ≤ from + most_exported
 
 -- all frames of a plan are drawn and written, and so many were played: each run from the nearest of the states that a cut for
 -- the movie would leave in the zone
@@ -41,7 +43,7 @@ IsExport zone movie edits plan old new (Err (Write written error)) = IsInRange (
 
 -- a copy of a movie that so many edits made, where it has these frames
 abbrev pub FoundRange : MovieContent → ℕ → ℕ → ℕ → Result (ℕ × MovieContent) ExportError → Type 0
-FoundRange movie edits from to (Ok found) = (found.0 ≡ edits) × (found.1 ≡ movie) × IsInRange (length movie.inputs) from to × (length movie.inputs ≤ MAX_FRAMES)
+FoundRange movie edits from to (Ok found) = (found.0 ≡ edits) × (found.1 ≡ movie) × IsInRange (length movie.inputs) from to × (length movie.inputs ≤ most_inputs)
 FoundRange movie edits from to (Err (Range at len)) = (at ≡ edits) × (len ≡ length movie.inputs) × (IsInRange (length movie.inputs) from to → ⊥)
 FoundRange movie edits from to (Err Memory) = IsInRange (length movie.inputs) from to
 FoundRange movie edits from to (Err (Halted at frame halt)) = ⊥

@@ -8,6 +8,8 @@ pub mod Published
 pub mod Registry
 pub mod Runs
 pub mod Seats
+pub mod Readings
+pub mod Closing
 pub mod Session
 pub mod Shots
 pub mod Version

@@ -9,9 +9,8 @@ use Rattle.tas_movie.specs.declared.edit.Edit.{Edit}
 use Rattle.tas_movie.specs.Edit.{edited}
 use Rattle.tas_desk.specs.declared.entry.Entry.{Entry}
 use Rattle.tas_desk.specs.declared.reader_view.ReaderView.{ReaderView}
-use Rattle.tas_desk.specs.declared.session.TheConstants.{MAX_EDITS}
 use Rattle.tas_desk.specs.Version.{VersionContent}
-use Rattle.tas_desk.specs.History.{movie_of, IsLegal}
+use Rattle.tas_desk.specs.History.{most_edits, movie_of, IsLegal}
 
 -- a movie, the number of edits that made it, and these edits with their registry
 pub record PublishedContent (A : Type 0) : Type 0 where
@@ -57,7 +56,7 @@ registry_of v = record { number = v.number; log_name = v.log_name; cells_name = 
 pub record IsSoundPublished {A : Type 0} (x : PublishedContent A) : Type 0 where
   pub movie : x.movie ≡ movie_of x.version.history
   pub at : x.at ≡ length x.version.history
-  pub most : length x.version.history ≤ MAX_EDITS
+  pub most : length x.version.history ≤ most_edits
   pub legal : IsLegal x.version.history
 
 -- what was seen begins the history; who has seen something knows the registry
@@ -75,11 +74,12 @@ pub record Sees {A : Type 0} (v : ReaderView A) (x y : PublishedContent A) (w : 
   pub seen : w ≡ view_of y.version
   pub sound : IsSoundPublished y
 
--- nothing waits to be published, and what is published is the journal
-pub record IsCurrent {A : Type 0} (x : PublishedContent A) (pending : List (ChangeContent A)) (newest : Book) (journal : List (Entry A)) : Type 0 where
+-- nothing waits to be published, what is published is the journal, in the registry that numbers it, and it is what the writer has seen
+pub record IsCurrent {A : Type 0} (x : PublishedContent A) (pending : List (ChangeContent A)) (numbering : Book) (journal writers : List (Entry A)) : Type 0 where
   pub none : pending ≡ []
-  pub registry : x.version.registry ≡ newest
+  pub registry : x.version.registry ≡ numbering
   pub same : x.version.history ≡ journal
+  pub view : writers ≡ journal
   pub sound : IsSoundPublished x
 
 -- a change of what is published that leaves it sound

@@ -1,8 +1,7 @@
 -- Frames split into runs (own).
 use Rattle.std.specs.Prelude.{◌≡◌, ℕ, ◌+◌, ◌-◌, ◌*◌, ◌/◌, ◌<◌, ◌≤◌, nat_lt, if◌then◌else◌, List, length, map, sum, None}
 use Rattle.std.specs.List.{range_with_len}
-use Rattle.tas_movie.specs.Content.{MovieContent}
-use Rattle.tas_movie.specs.declared.movie.TheConstants.{MAX_FRAMES}
+use Rattle.tas_movie.specs.Content.{MovieContent, most_inputs}
 use Rattle.tas_green.specs.declared.savestate.Savestate.{Savestate}
 use Rattle.tas_green.specs.Zone.{nearest}
 use Rattle.tas_desk.specs.declared.runs.RunEnd.{RunEnd}
@@ -27,7 +26,7 @@ pub record IsPlan (movie : MovieContent) (plan : Plan) : Type 0 where
   pub most : plan.workers ≤ 16
   pub order : plan.from ≤ plan.to
   pub within : plan.to ≤ length movie.inputs
-  pub few : plan.to ≤ MAX_FRAMES
+  pub few : plan.to ≤ most_inputs
 
 -- how one run ends
 pub record IsRunEnd (movie : MovieContent) (zone : List Savestate) (first : ℕ) (old new : List (List ℕ)) (end : RunEnd) : Type 0 where

@@ -4,7 +4,6 @@ use mathlib.Core.List.{IsPrefix}
 use Rattle.logbook.specs.Pages.{Book}
 use Rattle.vcs_machine.specs.declared.input.Input.{Input}
 use Rattle.tas_movie.specs.declared.edit.Edit.{Edit}
-use Rattle.tas_movie.specs.declared.movie.TheConstants.{MAX_FRAMES}
 use Rattle.tas_movie.specs.Edit.{edited, refusal}
 use Rattle.tas_desk.specs.declared.entry.Entry.{Entry}
 use Rattle.tas_desk.specs.declared.reader_view.ReaderView.{ReaderView}
@@ -30,6 +29,16 @@ pub record SeatContent (A : Type 0) : Type 0 where
   pub made : ℕ
   pub front : List (Entry A)
   pub zone : ZoneContent A
+
+-- a desk that isn't open yet: the registry of its history's versions, the ledger, and the number of its seats
+pub record UnopenedContent : Type 0 where
+  pub registry : Book
+  pub ledger : ℕ
+  pub seats : ℕ
+
+-- a name as contracts see it: its registry, its ledger and its number of seats
+abbrev pub name_of : Book → ℕ → ℕ → UnopenedContent
+name_of b l n = record { registry = b; ledger = l; seats = n }
 
 abbrev pub seat_of : {A : Type 0} → ℕ → ℕ → List (Entry A) → ZoneContent A → SeatContent A
 seat_of number made front zone = record { number = number; made = made; front = front; zone = zone }
@@ -78,38 +87,11 @@ pub record IsSettled {A : Type 0} (journal : List (Entry A)) (seat : SeatContent
   pub begins : IsPrefix seat.front journal
   pub exact : entries_of seat.number journal ≡ seat.made
 
--- the seats that were joined so far, of all of them
-abbrev pub made_by : {A : Type 0} → List (SeatContent A) → ℕ
-made_by [] = 0
-made_by (seat ∷ seats) = seat.made + made_by seats
-
-abbrev pub AllFit : {A : Type 0} → List (Entry A) → List (SeatContent A) → Type 0
-AllFit journal [] = Unit {0}
-AllFit journal (seat ∷ seats) = IsPrefix seat.front journal × (seat.made ≤ entries_of seat.number journal) × AllFit journal seats
-
-pub record Joined {A : Type 0} (journal : List (Entry A)) (all left : List (SeatContent A)) (cuts sum : ℕ) : Type 0 where
-  pub done : List (SeatContent A)
-  pub whole : all ≡ left ++ done
-  pub joined : cuts ≡ length done
-  pub made : sum ≡ made_by done
-  pub fit : AllFit journal done
-
 -- the input of frame k of the front, or why there is none
 abbrev pub IsInput : {A : Type 0} → SeatContent A → SeatContent A → ℕ → Result (ℕ × Input) InputError → Type 0
 IsInput before now k (Ok found) = (found.0 ≡ length now.front) × (answer_input (movie_of now.front) k ≡ Some found.1)
 IsInput before now k (Err (NoFrame at len)) = (at ≡ length now.front) × (len ≡ length (movie_of now.front).inputs) × (len ≤ k)
 IsInput before now k (Err NoEntry) = now ≡ before
-
--- what a look at the published movie's length tells, of a reader's view
-abbrev pub FoundLen : {A : Type 0} → ReaderView A → ReaderView A → Result (ℕ × ℕ) NoReading → Type 0
-FoundLen v w (Ok found) = HasSeenMore v w × (found.0 ≡ length w.seen) × (found.1 ≡ length (movie_of w.seen).inputs)
-FoundLen v w (Err none) = w ≡ v
-
--- what a look at an input tells, of a reader's view
-abbrev pub FoundInput : {A : Type 0} → ReaderView A → ReaderView A → ℕ → Result (ℕ × Input) InputError → Type 0
-FoundInput v w k (Ok found) = HasSeenMore v w × (found.0 ≡ length w.seen) × (answer_input (movie_of w.seen) k ≡ Some found.1)
-FoundInput v w k (Err (NoFrame at len)) = HasSeenMore v w × (at ≡ length w.seen) × (len ≡ length (movie_of w.seen).inputs) × (len ≤ k)
-FoundInput v w k (Err NoEntry) = w ≡ v
 
 -- what a shot of frame k leaves in the seat's zone. Where the reader got no entry the seat is as it was
 abbrev pub IsZoneShot : {A B : Type 0} → SeatContent A → SeatContent A → ℕ → Result (Shot B) ShotError → Type 0
@@ -118,12 +100,3 @@ IsZoneShot before now k (Err NoShotEntry) = now ≡ before
 IsZoneShot before now k (Err (NoShotFrame at len)) = now.zone ≡ before.zone
 IsZoneShot before now k (Err NoShotMemory) = now.zone ≡ before.zone
 IsZoneShot before now k (Err (ShotHalted at halt)) = (ran : ℕ) × IsPlayed before.zone now.zone now.front k ran
-
--- what a look at the published movie brings to the one who knows this history: a copy of the movie where another history is
--- published, of the same registry
-abbrev pub FoundCopy : {A : Type 0} → ReaderView A → ReaderView A → VersionContent A → ℕ → Result (ℕ × Option (MovieCopy A)) ShotError → Type 0
-FoundCopy v w known k (Ok found) = HasSeenMore v w × (found.0 ≡ length w.seen) × (k < length (movie_of w.seen).inputs) × (version_after known found.1 ≡ version_of known.registry w.seen) × (k < MAX_FRAMES)
-FoundCopy v w known k (Err NoShotEntry) = w ≡ v
-FoundCopy v w known k (Err (NoShotFrame at len)) = HasSeenMore v w × (at ≡ length w.seen) × (len ≡ length (movie_of w.seen).inputs) × (len ≤ k)
-FoundCopy v w known k (Err NoShotMemory) = HasSeenMore v w × (k < length (movie_of w.seen).inputs)
-FoundCopy v w known k (Err (ShotHalted at halt)) = ⊥

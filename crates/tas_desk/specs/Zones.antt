@@ -38,12 +38,10 @@ pub record IsMadeFor {A : Type 0} (now : ZoneContent A) (front : List (Entry A))
   pub lawful : IsLawful now.movie now.states
 
 -- frame k of a history's movie was played from a zone: the zone was cut for that movie first, `ran` frames were played from the
--- nearest state that was left, and the zone then has what was left and the states on the way that stand on the grid. Where all
--- of the grid up to k was left, no more than a stride's frames were played
+-- nearest state that was left, and the zone then has what was left and the states on the way that stand on the grid
 pub record IsPlayed {A : Type 0} (before now : ZoneContent A) (front : List (Entry A)) (k ran : ℕ) : Type 0 where
   pub made : IsMadeFor now front
   pub shot : IsShotFrom before.movie now.movie k before.states now.states 0 ran
-  pub short : HoldsGrid (stride (length now.movie.inputs)) k shot.left → ran ≤ stride (length now.movie.inputs)
 
 -- a zone was cut for a history's movie, and then gained so many states of another zone that is lawful for it
 pub record IsShared {A : Type 0} (before now : ZoneContent A) (front : List (Entry A)) (gained : ℕ) : Type 0 where
@@ -51,3 +49,7 @@ pub record IsShared {A : Type 0} (before now : ZoneContent A) (front : List (Ent
   pub other : List Savestate
   pub others : IsLawful now.movie other
   pub gain : Shares before.movie now.movie before.states other now.states gained
+
+-- where all of the grid up to frame k stands in the zone once it is cut, no more than a stride's frames were played
+pub record IsShort {A : Type 0} (before now : ZoneContent A) (k ran : ℕ) : Type 0 where
+  pub most : (left : List Savestate) → IsMoved before.movie now.movie before.states left → HoldsGrid (stride (length now.movie.inputs)) k left → ran ≤ stride (length now.movie.inputs)

@@ -8,7 +8,7 @@ use std::alloc::Allocator;
 use tas_green::Savestate;
 use tas_movie::Movie;
 use vcs_cpu::Halt;
-use vcs_machine::{Meter, State, play};
+use vcs_machine::{Meter, State, play, play_unseen};
 use vcs_tia::Picture;
 
 /// A frame in which the machine is halted.
@@ -20,12 +20,11 @@ pub struct HaltedFrame {
     pub halt: Halt,
 }
 
-/// Plays the frames from a state's place to the one before `end`, over one picture.
-pub fn play_up_to<A: Allocator, B: Allocator>(
+/// Plays the frames from a state's place to the one before `end`, without pictures.
+pub fn play_up_to<A: Allocator>(
     movie: &Movie<A>,
     start: Savestate,
     end: usize,
-    picture: &mut Picture<B>,
     meter: &mut Meter,
 ) -> State
     requires order { start.frame ≤ end }
@@ -38,7 +37,7 @@ pub fn play_up_to<A: Allocator, B: Allocator>(
     let inputs = movie.inputs();
     let mut state = start.state;
     for frame in start.frame..end {
-        let _ = play(movie.cart(), &mut state, inputs[frame], picture, meter);
+        let _ = play_unseen(movie.cart(), &mut state, inputs[frame], meter);
     }
     state
 }

@@ -3,13 +3,13 @@
 ghost use Rattle.std.specs.Prelude.{◌≡◌, ◌≢◌, ◌↔◌, ◌⊎◌, ℕ, ◌+◌, ◌<◌, ◌≤◌, ◌++◌, ◌∷◌, [], length, take, min, None, IfOk, IfErr, Err, MatchResult, All};
 ghost use mathlib.Core.List.{IsPrefix};
 ghost use Rattle.tas_movie.specs.Edit.{edited};
-ghost use Rattle.tas_green.specs.declared.grid.TheConstants.{MAX_STATES};
-ghost use Rattle.tas_green.specs.Front.{IsCommonFront};
 ghost use Rattle.tas_desk.specs.declared.replies.OfferError.TheVariants.{Cartridge, Memory};
 ghost use Rattle.tas_desk.specs.History.{movie_of, IsLegal};
 ghost use Rattle.tas_desk.specs.Session.{refusal_at, IsEditError};
 ghost use Rattle.tas_desk.specs.Zones.{IsShared};
 ghost use Rattle.tas_desk.specs.Exports.{FoundRange};
+ghost use Rattle.tas_desk.specs.Work.{IsJobOf, IsTaken};
+ghost use Rattle.tas_green.specs.Grid.{most_states};
 ghost use Rattle.tas_desk.specs.Seats.{seat_of, entry_of, IsWhole, IsSettled};
 
 use crate::export::{ExportError, is_in_range};
@@ -21,14 +21,15 @@ use std::sync::ledger::{Book, Share};
 use tas_green::{Batch, Job};
 use tas_movie::{Edit, Movie};
 
-/// What ends a session that is given up. What may wait ends it by waiting.
+/// How a dropped desk closes its session (own). Whatever may wait does it, by waiting. The trait itself has no part for waiting, so
+/// that the type of a desk doesn't make its looks calls that may wait.
 pub trait CloseOnDrop: Drop {
-    /// Ends the session.
-    fn end<A: Allocator>(&self, session: Session<A>);
+    /// Closes the session.
+    fn close_session<A: Allocator>(&self, session: Session<A>);
 }
 
 impl<R: Wait + Drop> CloseOnDrop for R {
-    fn end<A: Allocator>(&self, session: Session<A>) {
+    fn close_session<A: Allocator>(&self, session: Session<A>) {
         drop(session.close(self));
     }
 }
@@ -50,7 +51,7 @@ impl<N: Name, W: CloseOnDrop, A: Allocator> Drop for LockedSession<N, W, A> {
             rest: _,
             rt,
         } = self;
-        rt.end(session);
+        rt.close_session(session);
     }
 }
 
@@ -92,7 +93,6 @@ impl<N: Name, W: CloseOnDrop, A: Allocator> LockedSession<N, W, A> {
 
     /// Ends the session, with all seats.
     pub fn close<R: Wait>(self, rt: &R, seats: Vec<Seat<N, A>, A>) -> Closed<A>
-        requires named { N.parts ≡ N.seats }
         requires whole { IsWhole N.seats seats.items }
         ensures journal { result.journal.items ≡ self }
         ensures movie { result.movie ≡ movie_of self }
@@ -197,8 +197,7 @@ impl<N: Name, W: CloseOnDrop, A: Allocator + Copy> LockedSession<N, W, A> {
     ) -> Result<Job<B>, AllocError>
         ensures begins { IsPrefix seat.old.front self.now }
         ensures seat { seat.new ≡ seat_of seat.old.number seat.old.made self.now seat.old.zone }
-        ensures cart { IfOk result (λ job. job.cart ≡ (movie_of self.now).cart) }
-        ensures inputs { IfOk result (λ job. job.inputs ≡ take (min near (length (movie_of self.now).inputs)) (movie_of self.now).inputs) }
+        ensures job { IfOk result (IsJobOf (movie_of self.now) near) }
     {
         self.session.show_to(rt, &mut seat.reader);
         self.session.job(alloc, near)
@@ -217,8 +216,8 @@ impl<N: Name, W: CloseOnDrop, A: Allocator + Copy> LockedSession<N, W, A> {
         ensures cartridge { (result ≡ Err (Cartridge (length self.old))) ↔ (batch.cart ≢ (movie_of self.old).cart) }
         ensures error { IfErr result (λ error. (error ≡ Cartridge (length self.old)) ⊎ (error ≡ Memory batch)) }
         ensures at { IfOk result (λ offered. offered.at ≡ length self.old) }
-        ensures front { IfOk result (λ offered. IsCommonFront batch.inputs (movie_of self.old).inputs offered.front) }
-        ensures few { IfOk result (λ offered. offered.kept ≤ MAX_STATES) }
+        ensures taken { IfOk result (IsTaken (movie_of self.old) batch) }
+        ensures few { IfOk result (λ offered. offered.kept ≤ most_states) }
     {
         self.session.show_to(rt, &mut seat.reader);
         self.session.offer(batch)

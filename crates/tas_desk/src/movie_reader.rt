@@ -3,7 +3,7 @@
 ghost use Rattle.std.specs.Prelude.{◌≡◌, ◌<◌, length, MatchResult};
 ghost use Rattle.left_right.specs.Sides.{view};
 ghost use Rattle.tas_desk.specs.Published.{HasSeenMore, KnowsRegistry};
-ghost use Rattle.tas_desk.specs.Seats.{FoundLen, FoundInput, FoundCopy};
+ghost use Rattle.tas_desk.specs.Readings.{FoundLen, FoundInput, FoundCopy};
 
 use crate::movie_copy::MovieCopy;
 use crate::published::{Look, PrefixRule, PublishedMovie};

@@ -60,13 +60,14 @@ where
     PrefixRule: Protocol<PublishedMovie<A>, ReaderView<A>>,
 {
     ghost use Rattle.std.specs.Prelude.{drop};
+    ghost use Rattle.left_right.specs.Sides.{view as known_by};
     ghost use Rattle.tas_desk.specs.Published.{IsCurrent, PublisherContent};
 
     ghost Value = { PublisherContent A };
 
     ghost view = { λ p. record { registry = p.latest.registry; journal = p.journal.items; movie = p.writer.desk.shown.value.movie } };
 
-    ghost invariant = { λ p. IsCurrent p.writer.desk.shown.value (drop p.writer.behind p.writer.log.items) p.latest.registry p.journal.items };
+    ghost invariant = { λ p. IsCurrent p.writer.desk.shown.value (drop p.writer.behind p.writer.log.items) p.latest.registry p.journal.items (known_by p.writer.desk.place).seen };
 }
 
 // Makes the next version, of this history. Only the session numbers histories, so the first try is the one that does it.
@@ -91,6 +92,7 @@ fn publish_edit<A: Allocator, R: Wait>(
     requires follows { Follows writer.desk.shown.value change }
     ensures none { drop result.0.behind result.0.log.items ≡ [] }
     ensures value { MatchResult result.1 (λ _. result.0.desk.shown.value ≡ after writer.desk.shown.value change) (λ _. result.0.desk.shown.value ≡ writer.desk.shown.value) }
+    ensures view { MatchResult result.1 (λ _. view result.0.desk.place ≡ view_of result.0.desk.shown.value.version) (λ _. view result.0.desk.place ≡ view writer.desk.place) }
 {
     let mut writer = writer;
     if let Err(_) = writer.append(change) {
@@ -118,6 +120,7 @@ fn make_reader<A: Allocator, R: Wait>(
     requires { drop writer.behind writer.log.items ≡ [] }
     ensures none { drop result.0.behind result.0.log.items ≡ [] }
     ensures value { result.0.desk.shown.value ≡ writer.desk.shown.value }
+    ensures own { view result.0.desk.place ≡ view_of writer.desk.shown.value.version }
     ensures view { IfOk result.1 (λ r. view r.place ≡ view_of writer.desk.shown.value.version) }
 {
     let mut writer = publish_again(writer, rt);
@@ -230,6 +233,7 @@ impl<A: Allocator> Publisher<A> {
                 requires { drop writer.behind writer.log.items ≡ [] }
                 ensures none { drop result.0.behind result.0.log.items ≡ [] }
                 ensures value { result.0.desk.shown.value ≡ writer.desk.shown.value }
+                ensures own { view result.0.desk.place ≡ view_of writer.desk.shown.value.version }
                 ensures view { IfOk result.1 (λ r. view r.place ≡ view_of writer.desk.shown.value.version) }
             { make_reader(writer, rt) },
         )

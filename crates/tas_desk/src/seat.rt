@@ -1,9 +1,11 @@
 //! Seats.
 
-ghost use Rattle.std.specs.Prelude.{◌≡◌, length, MatchResult};
+ghost use Rattle.std.specs.Prelude.{◌≡◌, ◌≤◌, length, MatchResult, IfOk};
+ghost use Rattle.tas_green.specs.Grid.{most_states};
 ghost use Rattle.tas_desk.specs.Shots.{IsShotAt};
 ghost use Rattle.tas_desk.specs.History.{movie_of};
 ghost use Rattle.tas_desk.specs.Published.{KnowsRegistry};
+ghost use Rattle.tas_desk.specs.Zones.{IsShort};
 ghost use Rattle.tas_desk.specs.Seats.{seat_of, HasSeen, HasLooked, IsInput, IsZoneShot};
 
 use crate::movie_reader::MovieReader;
@@ -62,6 +64,14 @@ impl<N: Name, A: Allocator> Seat<N, A> {
         self.number
     }
 
+    /// How many states its greenzone has.
+    pub fn kept(&self) -> usize
+        ensures count { result ≡ length self.now.zone.states }
+        ensures bounded { result ≤ most_states }
+    {
+        self.zone.count()
+    }
+
     /// How many edits there are, and how many inputs.
     pub(crate) fn len(&mut self) -> Result<(u64, usize), NoEntry>
         ensures seat { HasLooked self.old self.new }
@@ -85,6 +95,7 @@ impl<N: Name, A: Allocator + Copy> Seat<N, A> {
         ensures seat { HasSeen self.old self.new }
         ensures reply { IsShotAt self.new.front k result }
         ensures zone { IsZoneShot self.old self.new k result }
+        ensures short { IfOk result (λ shot. IsShort self.old.zone self.new.zone k shot.ran) }
     {
         let found = self
             .reader

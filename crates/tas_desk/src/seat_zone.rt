@@ -1,7 +1,8 @@
 //! The greenzone of a seat, with the movie that it was made for.
 
-ghost use Rattle.std.specs.Prelude.{◌≡◌, ◌+◌, ◌<◌, ◌^◌, [], length, Some, IfOk, OnOk, OnErr};
-ghost use Rattle.tas_movie.specs.declared.movie.TheConstants.{MAX_FRAMES};
+ghost use Rattle.std.specs.Prelude.{◌≡◌, ◌+◌, ◌<◌, ◌≤◌, ◌^◌, [], length, Some, IfOk, OnOk, OnErr};
+ghost use Rattle.tas_movie.specs.Content.{most_inputs};
+ghost use Rattle.tas_green.specs.Grid.{most_states};
 ghost use Rattle.tas_green.specs.Run.{state_after, picture_of, answer_of};
 ghost use Rattle.tas_green.specs.Green.{IsLawful, IsMoved, IsShotFrom};
 ghost use Rattle.tas_desk.specs.Answers.{answer_shot};
@@ -45,6 +46,16 @@ where
     ghost view = { λ z. record { made_for = z.made_for.version; movie = z.made_for.movie; states = z.green } };
 
     ghost invariant = { λ z. IsLawful z.made_for.movie z.green };
+}
+
+impl<A: Allocator> SeatZone<A> {
+    /// How many states there are.
+    pub fn count(&self) -> usize
+        ensures count { result ≡ length self.now.states }
+        ensures bounded { result ≤ most_states }
+    {
+        self.green.count()
+    }
 }
 
 impl<A: Allocator + Copy> SeatZone<A> {
@@ -123,7 +134,7 @@ impl<A: Allocator + Copy> SeatZone<A> {
         k: usize,
     ) -> Result<(u64, Result<Picture<B>, Halt>), AllocError>
         requires within { k < length (movie_of (version_after self.old.made_for copied).history).inputs }
-        requires few { k < MAX_FRAMES }
+        requires few { k < most_inputs }
         ensures shows { IfOk result (λ drawn. answer_shot self.new.movie k ≡ Some drawn.1) }
         ensures made_for { OnOk result (self.new.made_for ≡ version_after self.old.made_for copied) }
         ensures movie { OnOk result (self.new.movie ≡ movie_of self.new.made_for.history) }

@@ -3,14 +3,14 @@
 ghost use Rattle.std.specs.Prelude.{◌≡◌, ◌≢◌, ◌↔◌, ◌⊎◌, ℕ, ◌+◌, ◌<◌, ◌≤◌, ◌^◌, [], length, take, drop, ◌∷◌, ◌++◌, min, Some, None, IfOk, IfErr, OnOk, OnErr, MatchResult};
 ghost use mathlib.Core.List.{IsPrefix};
 ghost use Rattle.tas_movie.specs.Edit.{edited};
-ghost use Rattle.tas_green.specs.declared.grid.TheConstants.{MAX_STATES};
 ghost use Rattle.tas_green.specs.Run.{state_after};
 ghost use Rattle.tas_green.specs.Zone.{state_at, nearest, first_of, where_true, is_on_grid, is_passed};
-ghost use Rattle.tas_green.specs.Grid.{stride};
+ghost use Rattle.tas_green.specs.Grid.{most_states, stride};
 ghost use Rattle.tas_green.specs.Front.{IsCommonFront};
-ghost use Rattle.tas_green.specs.Green.{IsLawful};
+ghost use Rattle.tas_green.specs.Green.{IsLawful, HoldsGrid};
 ghost use Rattle.tas_desk.specs.declared.replies.OfferError.TheVariants.{Cartridge, Memory};
-ghost use Rattle.tas_desk.specs.History.{IsLegal, blank_movie, movie_of};
+ghost use Rattle.tas_desk.specs.declared.replies.OpenError.TheVariants.{Memory as OutOfMemory};
+ghost use Rattle.tas_desk.specs.History.{most_edits, IsLegal, blank_movie, movie_of};
 ghost use Rattle.tas_desk.specs.Session.{IsNextEntry, edit_refusal, IsEditError, after_entry};
 ghost use Rattle.tas_desk.specs.Version.{version_of};
 ghost use Rattle.tas_desk.specs.Published.{after, Follows, view_of, KnowsRegistry};
@@ -85,15 +85,17 @@ impl<A: Allocator> Session<A> {
         ensures seen { reader.new ≡ view_of (version_of self.now.registry self.now.journal) }
         ensures begins { IsPrefix reader.old.seen self.now.journal }
         ensures history { self.now.movie ≡ movie_of self.now.journal }
+        ensures lawful { IsLawful self.now.movie self.now.zone }
     {
         self.publisher.show_to(rt, reader)
     }
 }
 
 impl<A: Allocator + Copy> Session<A> {
-    /// The blank cartridge with no inputs, an empty history and no kept states.
+    /// The blank cartridge with no inputs, an empty history and no kept states. `Memory` where memory is refused.
     pub fn new(alloc: A) -> Result<Session<A>, OpenError>
-        ensures { IfOk result (λ session. session ≡ record { registry = session.registry; journal = []; movie = blank_movie; zone = [] }) }
+        ensures fresh { IfOk result (λ session. (session.journal ≡ []) × (session.movie ≡ blank_movie) × (session.zone ≡ [])) }
+        ensures error { IfErr result (λ error. error ≡ OutOfMemory) }
     {
         match Session::with_places(alloc, 1) {
             Ok(session) => Ok(session),
@@ -197,6 +199,8 @@ impl<A: Allocator + Copy> Session<A> {
         ensures reply { MatchResult result (IsShot self.old k) (IsShotError self.old k) }
         ensures same { (self.new.journal ≡ self.old.journal) × (self.new.movie ≡ self.old.movie) }
         ensures registry { self.new.registry ≡ self.old.registry }
+        // Where all of the grid up to the frame is kept, no more than a stride's frames are played.
+        ensures short { IfOk result (λ shot. HoldsGrid (stride (length self.old.movie.inputs)) k self.old.zone → shot.ran ≤ stride (length self.old.movie.inputs)) }
         ensures meter { MatchPlayed result (meter.new + nearest k self.old.zone ≡ meter.old + (k + 1)) (meter.new ≡ meter.old) }
         ensures kept { MatchPlayed result
             ((f : ℕ) → state_at f self.new.zone ≡ first_of (state_at f self.old.zone)
@@ -255,8 +259,9 @@ impl<A: Allocator + Copy> Session<A> {
         ensures kept { IfOk result (λ offered. length self.new.zone ≡ length self.old.zone + offered.kept) }
         ensures same { (self.new.journal ≡ self.old.journal) × (self.new.movie ≡ self.old.movie) }
         ensures registry { self.new.registry ≡ self.old.registry }
+        ensures lawful { IsLawful self.new.movie self.new.zone }
         ensures err { OnErr result (self.new ≡ self.old) }
-        ensures few { IfOk result (λ offered. offered.kept ≤ MAX_STATES) }
+        ensures few { IfOk result (λ offered. offered.kept ≤ most_states) }
     {
         let at = self.at();
         let merged = match self.green.merge(self.publisher.movie(), &batch) {
@@ -277,7 +282,7 @@ impl<A: Allocator> Session<A> {
     /// How many edits the history has.
     pub fn at(&self) -> u64
         ensures at { result ≡ length self.now.journal }
-        ensures most { result ≤ MAX_EDITS }
+        ensures most { result ≤ most_edits }
     {
         self.publisher.journal().len() as u64
     }

@@ -39,7 +39,10 @@ pub enum WorkError {
 }
 
 impl<N: Name, W: CloseOnDrop, A: Allocator + Copy> Desk<N, W, A> {
-    /// Takes, runs and offers a job for each target, in order. The jobs run outside the lock.
+    /// For each target, in order: takes a job for that many frames, passes the gate with the target's index, runs the job and
+    /// offers what it made. The jobs run on this thread, outside the lock. A batch of another cartridge counts as stale.
+    ///
+    /// `Memory` tells what was done for the targets before; their states stay.
     pub fn work<G: Gate, B: Allocator + Copy, R: Wait>(
         &self,
         rt: &R,

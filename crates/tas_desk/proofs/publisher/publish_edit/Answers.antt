@@ -19,3 +19,8 @@ returns-clause-value g c =
     let e = c.publish_as.ensures in
     let same = ap (λ d. d.shown.value) c.append.ensures.desk in
     all_ok _ _ c.publish_as.result.1 (e.succeeds tt) (showed _ _ _ _ _ c.args.change (done_of _ _ c.publish_as.result.1 (e.succeeds tt) e.values).0 same c.in_default.ensures.pending c.requires.none)
+
+pub returns-clause-view : goal.returns-clause-view
+returns-clause-view g c =
+    let e = c.publish_as.ensures in
+    all_ok _ _ c.publish_as.result.1 (e.succeeds tt) (done_of _ _ c.publish_as.result.1 (e.succeeds tt) e.rule).seen

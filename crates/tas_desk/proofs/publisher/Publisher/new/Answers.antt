@@ -9,4 +9,4 @@ new-requires-clause-rule g c =
 pub invariant_of-result : goal.invariant_of-result
 invariant_of-result g c =
     let made = c.in_ok-writer.ensures in
-    opened_as _ _ _ c.new-latest.result _ _ _ _ made.1 made.0 c.new-first.ensures refl c.in_ok-blank.ensures (c.copy.ensures ∙ c.version.ensures) c.new-latest.ensures c.new-journal.ensures.items
+    opened_as _ _ _ c.new-latest.result _ _ _ _ _ made.1 made.0 c.new-first.ensures refl c.in_ok-blank.ensures (c.copy.ensures ∙ c.version.ensures) c.new-latest.ensures c.new-journal.ensures.items made.2

@@ -2,7 +2,7 @@ use Rattle.std.proofs.Common.{◌≡◌, ap}
 use Rattle.tas_desk.specs.Version.{VersionContent}
 use Rattle.tas_desk.specs.Seats.{SeatContent}
 use Rattle.tas_desk.specs.Zones.{ZoneContent}
-use Rattle.tas_desk.proofs.ZoneLemmas.{seated_on, marked, played, zone_ok, zone_halted}
+use Rattle.tas_desk.proofs.ZoneLemmas.{seated_on, marked, played, zone_ok, zone_halted, short_ok, short_err}
 use Rattle.tas_desk.proofs.seat.Seat.shot.Goals.{in-Ok-shown, in-Err-shown}
 use Rattle.tas_desk.proofs.seat.Seat.shot.Goals as goal
 
@@ -23,4 +23,11 @@ returns-clause-zone g c =
     let same = ap (λ (s : SeatContent _). s.zone) c.self.view_is in elim c.match-shown.branch [
       | in-Ok-shown w ↦ zone_ok _ _ _ c.self.inside.zone _ _ same p w.result-is
       | in-Err-shown w ↦ zone_halted _ _ _ c.self.inside.zone _ _ _ c.in-Ok-draw.drawn.0 same p w.result-is
+    ]
+
+pub returns-clause-short : goal.returns-clause-short
+returns-clause-short g c =
+    let same = ap (λ (s : SeatContent _). s.zone) c.self.view_is in elim c.match-shown.branch [
+      | in-Ok-shown w ↦ short_ok _ _ c.self.inside.zone _ _ _ same c.in-Ok-draw.ensures.kept w.result-is
+      | in-Err-shown w ↦ short_err _ _ _ _ _ w.result-is
     ]
