@@ -1,4 +1,4 @@
-use Rattle.std.proofs.Common.{◌≡◌, ap, sym, ◌∙◌, List, subst, All, length, arith}
+use Rattle.std.proofs.Common.{◌≡◌, sym, ◌∙◌, List, subst, All, length, arith}
 use Rattle.tas_desk.specs.declared.entry.Entry.{Entry}
 use Rattle.tas_desk.specs.Seats.{IsSettled}
 use Rattle.tas_desk.specs.History.{IsLegal}
