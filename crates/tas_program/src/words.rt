@@ -1,41 +1,16 @@
 //! The words of the command line.
-#![tactic(auto)]
 
-ghost use Rattle.std.specs.Prelude.{IfOk, ◌≤◌};
-ghost use Rattle.tas.specs.Task.{IsInRange};
+ghost use Rattle.std.specs.Prelude.{◌≡◌, ◌≤◌, IfOk, IfSome, Some};
+ghost use Rattle.clap.specs.Matches.{subcommand_name_of};
+ghost use Rattle.tas_program.specs.Task.{IsInRange, command_name};
 
+use crate::{MAX_FRAME, MAX_INSTRUCTIONS, Task};
+use clap::error::ErrorKind;
 use clap::{Arg, ArgAction, ArgMatches, Command, Error, value_parser};
 use std::alloc::{AllocError, Global};
 
-/// The most instructions of one trace.
-const MAX_INSTRUCTIONS: u32 = 1_000_000;
-
-/// The greatest number of a frame.
-const MAX_FRAME: u32 = 9_999_999;
-
-/// What the program is to do.
-#[derive(Clone, Copy, Debug, PartialEq, Eq)]
-pub(crate) enum Task<'a> {
-    /// Trace the first instructions of the cartridge on standard input.
-    Trace {
-        /// How many, 0 to 1,000,000.
-        instructions: u32,
-    },
-    /// Tell the length of the movie on standard input.
-    Check {
-        /// The name of the cartridge's file.
-        cart: &'a str,
-    },
-    /// Draw a frame of the movie on standard input.
-    Shot {
-        /// The name of the cartridge's file.
-        cart: &'a str,
-        /// The frame, counted from 0, up to 9,999,999.
-        frame: u32,
-    },
-    /// Run the script on standard input.
-    Script,
-}
+/// The versions that `tas --version` tells: the program's, and that of docs/MACHINE.md.
+static VERSION: &str = "0.1.0, machine profile 1";
 
 /// A required word that is a number in a range.
 fn number<'a>(alloc: Global, name: &'a str, help: &'a str, least: u32, most: u32) -> Arg<'a> {
@@ -141,6 +116,7 @@ fn script_command<'a>(alloc: Global) -> Command<'a> {
 fn command<'a>(alloc: Global) -> Result<Command<'a>, AllocError> {
     Command::new(alloc, "tas")
         .bin_name("tas")?
+        .version(VERSION)
         .about("Replays movies of Atari 2600 cartridges, exactly and from power-on")
         .after_help(TAS_HELP)
         .subcommand_required(true)
@@ -151,48 +127,50 @@ fn command<'a>(alloc: Global) -> Result<Command<'a>, AllocError> {
         .subcommand(script_command(alloc))
 }
 
-/// A number that the command line has checked.
-fn number_of(matches: &ArgMatches<'_>, name: &str, least: u32, most: u32) -> u32
-    requires { least ≤ most }
-    ensures least { least ≤ result }
-    ensures most { result ≤ most }
+/// The number of this name, where it is in its range.
+fn number_of(matches: &ArgMatches<'_>, name: &str, least: u32, most: u32) -> Option<u32>
+    ensures least { IfSome result (λ n. least ≤ n) }
+    ensures most { IfSome result (λ n. n ≤ most) }
 {
-    match matches.get_one::<u32>(name) {
-        Some(n) => n.max(least).min(most),
-        None => least,
+    let n = matches.get_one::<u32>(name)?;
+    if least <= n && n <= most {
+        Some(n)
+    } else {
+        None
     }
 }
 
-/// The name of the cartridge's file.
-fn cartridge_of<'a>(matches: &ArgMatches<'a>) -> &'a str {
-    matches.get_str("CART").unwrap_or("")
-}
-
-/// What matched words ask for.
-fn task_of<'a>(matches: &ArgMatches<'a>) -> Task<'a>
-    ensures { IsInRange result }
+/// What matched words ask for; `None` where they are no command of this program.
+fn task_of<'a>(matches: &ArgMatches<'a>) -> Option<Task<'a>>
+    ensures range { IfSome result IsInRange }
+    ensures named { IfSome result (λ task. subcommand_name_of matches.now ≡ Some (command_name task)) }
 {
-    match matches.subcommand() {
-        Some(("check", rest)) => Task::Check {
-            cart: cartridge_of(rest),
-        },
-        Some(("shot", rest)) => Task::Shot {
-            cart: cartridge_of(rest),
-            frame: number_of(rest, "K", 0, MAX_FRAME),
-        },
-        Some(("script", _)) => Task::Script,
-        Some((_, rest)) => Task::Trace {
-            instructions: number_of(rest, "N", 0, MAX_INSTRUCTIONS),
-        },
-        None => Task::Trace { instructions: 0 },
+    let (name, rest) = matches.subcommand()?;
+    match name {
+        "trace" => Some(Task::Trace {
+            instructions: number_of(rest, "N", 0, MAX_INSTRUCTIONS)?,
+        }),
+        "check" => Some(Task::Check {
+            cart: rest.get_str("CART")?,
+        }),
+        "shot" => Some(Task::Shot {
+            cart: rest.get_str("CART")?,
+            frame: number_of(rest, "K", 0, MAX_FRAME)?,
+        }),
+        "script" => Some(Task::Script),
+        _ => None,
     }
 }
 
-/// What the words ask for. An error is clap's: help that was asked for, or words that aren't
-/// understood, or no memory.
-pub(crate) fn read_words<'a>(alloc: Global, words: &'a [String]) -> Result<Task<'a>, Error>
+/// What the words ask for; the first of them is the program's name. An error is clap's: a text that was
+/// asked for, or words that aren't understood, or no memory.
+pub fn read_words<'a>(alloc: Global, words: &'a [String]) -> Result<Task<'a>, Error>
     ensures { IfOk result IsInRange }
 {
-    let matches = command(alloc)?.try_get_matches_from(words)?;
-    Ok(task_of(&matches))
+    let mut command = command(alloc)?;
+    let matches = command.try_get_matches_from_mut(words)?;
+    match task_of(&matches) {
+        Some(task) => Ok(task),
+        None => Err(command.error(ErrorKind::InvalidSubcommand, "no such command")?),
+    }
 }

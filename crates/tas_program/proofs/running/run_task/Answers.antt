@@ -1,0 +1,4 @@
+use Rattle.tas_program.proofs.running.run_task.Goals as goal
+
+pub returns-in-Shot : goal.returns-in-Shot
+returns-in-Shot g c = rw c.in-Shot.is c.shoot_file.ensures

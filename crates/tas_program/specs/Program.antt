@@ -1,0 +1,76 @@
+-- How the program ends: what it writes, and its status (own).
+use Rattle.std.specs.Prelude.{◌≡◌, ℕ, List, ◌⊎◌, Option, Result, Ok, Err, string_bytes}
+use Rattle.std.specs.Io.KnownBytes.{Appends}
+use Rattle.tas_engines.specs.declared.fault.RunFault.{RunFault}
+use Rattle.tas_engines.specs.declared.fault.ToolFault.{ToolFault}
+use Rattle.tas_engines.specs.declared.fault.ToolFault.TheVariants.{Read}
+use Rattle.tas_engines.specs.Movies.{IsCheckAnswer, IsShotAnswer, IsMovieRun}
+use Rattle.tas_engines.specs.Output.{StopsWriting}
+use Rattle.tas_engines.specs.Tracing.{IsTraceRun}
+use Rattle.tas_tool.specs.Scripts.{IsScriptRun}
+use Rattle.tas_program.specs.declared.request.Request.{Request}
+use Rattle.tas_program.specs.declared.request.Request.TheVariants.{Do, Show, Refuse, NoMemory}
+use Rattle.tas_program.specs.declared.status.Status.{Status}
+use Rattle.tas_program.specs.declared.status.Status.TheVariants.{Done, Fault, Misuse}
+use Rattle.tas_program.specs.declared.task.Task.{Task}
+use Rattle.tas_program.specs.declared.task.Task.TheVariants.{Trace, Check, Shot, Script}
+use Rattle.tas_program.specs.Task.{IsInRange}
+
+-- the number that the system is told
+abbrev pub status_code : Status → ℕ
+status_code Done = 0
+status_code Fault = 1
+status_code Misuse = 2
+
+-- the status after this end
+abbrev pub end_status : Result (Unit {0}) ToolFault → Status
+end_status (Ok _) = Done
+end_status (Err fault) = Fault
+
+-- what the program's streams hold and have before and after: the input's bytes that are left, and the output's bytes
+pub record Streams : Type 0 where
+  pub input : Option (List ℕ)
+  pub output : Option (List ℕ)
+
+-- an engine that reads a file first ends: the file can't be opened, and the streams are as before; or it ends over the file,
+-- whatever it leaves of it
+abbrev pub EndsOver : Option (List ℕ) → (Option (List ℕ) → Option (List ℕ) → Type 0) → Streams → Streams → Result (Unit {0}) ToolFault → Type 0
+EndsOver file runs old new end = ((end ≡ Err Read) × (new ≡ old)) ⊎ ((left : Option (List ℕ)) × runs file left)
+
+-- a task ends as the definition of its command says, over its file and the streams. A is the allocator, on which no
+-- answer depends
+abbrev pub DoesTask : Type 0 → (List ℕ → Option (List ℕ)) → Task → Streams → Streams → Result (Unit {0}) ToolFault → Type 0
+DoesTask A files (Trace n) old new end = IsTraceRun n old.input new.input old.output new.output end
+DoesTask A files (Check cart) old new end =
+    EndsOver (files cart.now) (λ file left. IsMovieRun IsCheckAnswer file left old.input new.input old.output new.output end) old new end
+DoesTask A files (Shot cart k) old new end =
+    EndsOver (files cart.now) (λ file left. IsMovieRun (IsShotAnswer k) file left old.input new.input old.output new.output end) old new end
+DoesTask A files Script old new end = IsScriptRun A old.input new.input old.output new.output end
+
+-- the program's end after a task: done where the task is, else a fault
+abbrev pub TaskEnds : Type 0 → (List ℕ → Option (List ℕ)) → Task → Streams → Streams → Status → Type 0
+TaskEnds A files task old new Done = DoesTask A files task old new (Ok tt)
+TaskEnds A files task old new Fault = (fault : ToolFault) × DoesTask A files task old new (Err fault)
+TaskEnds A files task old new Misuse = ⊥
+
+-- the program's end after a text that was asked for: done where it was written whole, else a fault
+abbrev pub TextEnds : List ℕ → Option (List ℕ) → Option (List ℕ) → Status → Type 0
+TextEnds text old new Done = Appends old new text
+TextEnds text old new Fault = (fault : RunFault) × StopsWriting old new text fault
+TextEnds text old new Misuse = ⊥
+
+-- the program's end after a request: where there is no task, nothing is read, and where there is nothing to show, nothing is written
+abbrev pub CarriesOut : Type 0 → (List ℕ → Option (List ℕ)) → Request → Streams → Streams → Status → Type 0
+CarriesOut A files (Do task) old new status = TaskEnds A files task old new status
+CarriesOut A files (Show text) old new status = (new.input ≡ old.input) × TextEnds (string_bytes text) old.output new.output status
+CarriesOut A files (Refuse text) old new status = (status ≡ Misuse) × (new ≡ old)
+CarriesOut A files NoMemory old new status = (status ≡ Fault) × (new ≡ old)
+
+-- a task's numbers are in their ranges
+abbrev pub IsRequest : Request → Type 0
+IsRequest (Do task) = IsInRange task
+IsRequest _ = Unit {0}
+
+-- the program carries some request out
+abbrev pub ProgramEnds : Type 0 → (List ℕ → Option (List ℕ)) → Streams → Streams → Status → Type 0
+ProgramEnds A files old new status = (request : Request) × IsRequest request × CarriesOut A files request old new status

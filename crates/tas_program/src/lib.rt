@@ -1,0 +1,22 @@
+//! The program `tas` without its runtime: words, a way to open files, streams to read and to write
+//! go in, and a status comes out.
+//!
+//! [`run_program`] reads the words into a [`Request`] and carries it out. The program's crate only
+//! hands it the real arguments, files and streams; tests hand it others.
+#![tactic(auto)]
+
+mod folder;
+mod request;
+mod running;
+mod status;
+mod task;
+#[cfg(test)]
+mod tests;
+mod words;
+
+pub use folder::Folder;
+pub use request::{Request, read_request};
+pub use running::{carry_out, run_program, run_task};
+pub use status::Status;
+pub use task::{MAX_FRAME, MAX_INSTRUCTIONS, Task};
+pub use words::read_words;

@@ -1,0 +1,68 @@
+//! What the words ask for.
+
+ghost use Rattle.std.specs.Prelude.{IfErr};
+ghost use Rattle.tas_program.specs.Program.{IsRequest};
+
+use crate::{Task, read_words};
+use clap::Error;
+use clap::error::ErrorKind;
+use std::alloc::Global;
+use std::env::Args;
+use std::io;
+
+/// What the words on the command line ask for.
+#[derive(Debug, Drop)]
+pub enum Request<'a> {
+    /// A command.
+    Do(Task<'a>),
+    /// This text on standard output: help, or the version.
+    Show(String),
+    /// The words aren't understood; this text on standard error says why.
+    Refuse(String),
+    /// Memory was refused while the words were read.
+    NoMemory,
+}
+
+/// The text of a request for help, or of words that aren't understood.
+fn request_of<'a>(alloc: Global, error: &Error) -> Request<'a>
+    ensures { IsRequest result }
+{
+    if error.kind() == ErrorKind::OutOfMemory {
+        return Request::NoMemory;
+    }
+    match error.to_string(alloc) {
+        Ok(text) if error.use_stderr() => Request::Refuse(text),
+        Ok(text) => Request::Show(text),
+        Err(_) => Request::NoMemory,
+    }
+}
+
+/// What the words ask for; the first of them is the program's name.
+pub fn read_request<'a>(alloc: Global, words: &'a [String]) -> Request<'a>
+    ensures { IsRequest result }
+{
+    match read_words(alloc, words) {
+        Ok(task) => Request::Do(task),
+        Err(error) => request_of(alloc, &error),
+    }
+}
+
+/// The words, as the system gave them. Where it gave none, memory was refused or one is no text.
+pub(crate) fn collect_words(
+    alloc: Global,
+    words: io::Result<Args>,
+) -> Result<Vec<String>, Request<'static>>
+    ensures { IfErr result IsRequest }
+{
+    match words {
+        Ok(words) => match words.collect(alloc) {
+            Ok(words) => Ok(words),
+            Err(_) => Err(Request::NoMemory),
+        },
+        Err(error) if error.kind() == io::ErrorKind::OutOfMemory => Err(Request::NoMemory),
+        Err(_) => match String::from_str(alloc, "error: the words aren't all text\n") {
+            Ok(text) => Err(Request::Refuse(text)),
+            Err(_) => Err(Request::NoMemory),
+        },
+    }
+}

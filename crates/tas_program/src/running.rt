@@ -1,0 +1,163 @@
+//! Carrying a request out.
+
+ghost use Rattle.std.specs.Prelude.{◌≡◌, IfOk, IfErr, OnOk, OnErr};
+ghost use Rattle.std.specs.Io.KnownBytes.{Appends};
+ghost use Rattle.tas_engines.specs.declared.fault.RunFault.{RunFault};
+ghost use Rattle.tas_engines.specs.Movies.{IsMovieRun, IsCheckAnswer, IsShotAnswer};
+ghost use Rattle.tas_engines.specs.Output.{StopsWriting};
+ghost use Rattle.tas_program.specs.Program.{EndsOver, DoesTask, CarriesOut, ProgramEnds, end_status};
+ghost use Rattle.std.specs.Global.{Global};
+
+use crate::request::collect_words;
+use crate::{Folder, Request, Status, Task, read_request};
+use std::alloc::{Allocator, Global};
+use std::env::Args;
+use std::io;
+use std::io::{Read, Write};
+use tas_engines::write_all;
+use tas_tool::{ToolFault, check_run, script_run, shot_run, trace_run};
+
+/// Opens the file of a cartridge.
+fn open_cart<F: Folder>(folder: &F, name: &str) -> Result<F::File, ToolFault>
+    ensures file { IfOk result (λ file. F.File.remaining file ≡ F.bytes_of folder.now name.now) }
+    ensures fault { IfErr result (λ fault. fault ≡ ToolFault.Read) }
+{
+    match folder.open(name) {
+        Ok(file) => Ok(file),
+        Err(_) => Err(ToolFault::Read),
+    }
+}
+
+/// `tas check` of the cartridge in a file.
+fn check_file<A: Allocator + Copy, F: Folder, R: Read, W: Write>(
+    alloc: A,
+    cart: &str,
+    folder: &F,
+    input: &mut R,
+    output: &mut W,
+) -> Result<(), ToolFault>
+    ensures { EndsOver (F.bytes_of folder.now cart.now)
+        (λ file left. IsMovieRun IsCheckAnswer file left (R.remaining input.old) (R.remaining input.new) (W.contents output.old) (W.contents output.new) result)
+        (record { input = R.remaining input.old; output = W.contents output.old })
+        (record { input = R.remaining input.new; output = W.contents output.new }) result }
+{
+    match open_cart(folder, cart) {
+        Ok(mut file) => check_run(alloc, &mut file, input, output),
+        Err(fault) => Err(fault),
+    }
+}
+
+/// `tas shot` of a frame, with the cartridge in a file.
+fn shoot_file<A: Allocator + Copy, F: Folder, R: Read, W: Write>(
+    alloc: A,
+    cart: &str,
+    frame: usize,
+    folder: &F,
+    input: &mut R,
+    output: &mut W,
+) -> Result<(), ToolFault>
+    ensures { EndsOver (F.bytes_of folder.now cart.now)
+        (λ file left. IsMovieRun (IsShotAnswer frame) file left (R.remaining input.old) (R.remaining input.new) (W.contents output.old) (W.contents output.new) result)
+        (record { input = R.remaining input.old; output = W.contents output.old })
+        (record { input = R.remaining input.new; output = W.contents output.new }) result }
+{
+    match open_cart(folder, cart) {
+        Ok(mut file) => shot_run(alloc, frame, &mut file, input, output),
+        Err(fault) => Err(fault),
+    }
+}
+
+/// Does a task by its engine: the file that it names is opened first, a failure being `Read`, then
+/// the engine reads it and the input, and writes its answer to the output.
+pub fn run_task<A: Allocator + Copy, F: Folder, R: Read, W: Write>(
+    alloc: A,
+    task: Task<'_>,
+    folder: &F,
+    input: &mut R,
+    output: &mut W,
+) -> Result<(), ToolFault>
+    ensures { DoesTask A (F.bytes_of folder.now) task.entry
+        (record { input = R.remaining input.old; output = W.contents output.old })
+        (record { input = R.remaining input.new; output = W.contents output.new }) result }
+{
+    match task {
+        Task::Trace { instructions } => trace_run(alloc, instructions, input, output),
+        Task::Check { cart } => check_file(alloc, cart, folder, input, output),
+        Task::Shot { cart, frame } => {
+            shoot_file(alloc, cart, frame as usize, folder, input, output)
+        }
+        Task::Script => script_run(alloc, input, output),
+    }
+}
+
+/// The status of what was done; the line of a fault is written to `errors`.
+fn tell<E: Write>(errors: &mut E, end: Result<(), ToolFault>) -> Status
+    ensures { result ≡ end_status end }
+{
+    match end {
+        Ok(()) => Status::Done,
+        Err(fault) => {
+            // The status tells of the fault, also where its line can't be written.
+            let _ = writeln!(errors, "{fault}");
+            Status::Fault
+        }
+    }
+}
+
+/// Writes a text that was asked for.
+fn show<W: Write>(output: &mut W, text: &str) -> Result<(), ToolFault>
+    ensures ok { OnOk result (Appends (W.contents output.old) (W.contents output.new) text.now) }
+    ensures fault { OnErr result ((fault : RunFault) × StopsWriting (W.contents output.old) (W.contents output.new) text.now fault) }
+{
+    match write_all(output, text.as_bytes()) {
+        Ok(()) => Ok(()),
+        Err(fault) => Err(ToolFault::from(fault)),
+    }
+}
+
+/// Carries a request out, and answers the program's status: 0 where it was done, 1 after a fault, whose
+/// line is written to `errors`, and 2 where the words weren't understood, whose text goes there too.
+pub fn carry_out<A: Allocator + Copy, F: Folder, R: Read, W: Write, E: Write>(
+    alloc: A,
+    request: Request<'_>,
+    folder: &F,
+    input: &mut R,
+    output: &mut W,
+    errors: &mut E,
+) -> Status
+    ensures { CarriesOut A (F.bytes_of folder.now) request.entry
+        (record { input = R.remaining input.old; output = W.contents output.old })
+        (record { input = R.remaining input.new; output = W.contents output.new }) result }
+{
+    match request {
+        Request::Do(task) => tell(errors, run_task(alloc, task, folder, input, output)),
+        Request::Show(text) => tell(errors, show(output, text.as_str())),
+        Request::Refuse(text) => {
+            let _ = write_all(errors, text.as_bytes());
+            Status::Misuse
+        }
+        Request::NoMemory => tell(errors, Err(ToolFault::Memory)),
+    }
+}
+
+/// The whole program: reads the words, the first of which is its name, and does what they ask for.
+pub fn run_program<F: Folder, R: Read, W: Write, E: Write>(
+    alloc: Global,
+    words: io::Result<Args>,
+    folder: &F,
+    input: &mut R,
+    output: &mut W,
+    errors: &mut E,
+) -> Status
+    ensures { ProgramEnds Global (F.bytes_of folder.now)
+        (record { input = R.remaining input.old; output = W.contents output.old })
+        (record { input = R.remaining input.new; output = W.contents output.new }) result }
+{
+    match collect_words(alloc, words) {
+        Ok(words) => {
+            let request = read_request(alloc, words.as_slice());
+            carry_out(alloc, request, folder, input, output, errors)
+        }
+        Err(request) => carry_out(alloc, request, folder, input, output, errors),
+    }
+}

@@ -1,0 +1,31 @@
+//! What the program can be asked to do.
+
+/// The most instructions of one trace (own).
+pub const MAX_INSTRUCTIONS: u32 = 1_000_000;
+
+/// The greatest number of a frame (own).
+pub const MAX_FRAME: u32 = 9_999_999;
+
+/// A command with its words.
+#[derive(Clone, Copy, Debug, PartialEq, Eq)]
+pub enum Task<'a> {
+    /// Trace the first instructions of the cartridge on standard input.
+    Trace {
+        /// How many, 0 to 1,000,000.
+        instructions: u32,
+    },
+    /// Tell the length of the movie on standard input.
+    Check {
+        /// The name of the cartridge's file.
+        cart: &'a str,
+    },
+    /// Draw a frame of the movie on standard input.
+    Shot {
+        /// The name of the cartridge's file.
+        cart: &'a str,
+        /// The frame, counted from 0, up to 9,999,999.
+        frame: u32,
+    },
+    /// Run the script on standard input.
+    Script,
+}
