@@ -30,7 +30,7 @@ fn run_task(rt: &HostRuntime, alloc: Global, task: Task<'_>) -> Result<(), ToolF
             let mut file = open(rt, cart)?;
             shot_run(alloc, frame as usize, &mut file, &mut input, &mut output)
         }
-        Task::Script => script_run(alloc, &mut input, &mut output),
+        Task::Script => script_run(rt, alloc, &mut input, &mut output),
     }
 }
 
