@@ -15,11 +15,11 @@ use Rattle.vcs_tia.specs.Units.{has_bit, width_clocks}
 use Rattle.vcs_tia.specs.Objects.{player_lit, player_bit_lit, missile_lit, ball_lit, shown_graphics, shown_enable, bit_clocks, copy_offsets, distance}
 use Rattle.vcs_tia.specs.Playfield.{playfield_lit, playfield_bit}
 use Rattle.vcs_tia.specs.Spans.{beam_after_clocks}
-use Rattle.vcs_tia.specs.Tia.{after_clock, in_hmove_blank, latches_at, lit_at, read_at}
+use Rattle.vcs_tia.specs.Tia.{after_clock, in_hmove_blank, latches_at, lit_at}
 use Rattle.vcs_tia.specs.Trace.{after_clocks}
 use Rattle.vcs_tia.specs.Words.{AreAmong}
 use Rattle.vcs_tia.proofs.Bits.{has_bit-zero}
-use Rattle.vcs_tia.proofs.Later.{latches_by_fields, with_clocked, after_clocks-changes}
+use Rattle.vcs_tia.proofs.Later.{latches_by_fields}
 
 -- ---- the beam
 
@@ -98,16 +98,6 @@ none_new (suc n) t low none =
     ap (after_clocks n) (none_new_clock t none)
     ∙ none_new n (with_beam t (beam_after_clock t.beam)) (beam_low t.beam low) none
     ∙ ap (with_beam t) (beam_step n t.beam)
-
-none_new_latches : (n : ℕ) (t : Tia) → NoneNew t → (after_clocks n t).latches ≡ t.latches
-unfolding after_clocks
-none_new_latches zero t none = refl
-none_new_latches (suc n) t none =
-    ap (λ (u : Tia). (after_clocks n u).latches) (none_new_clock t none) ∙ none_new_latches n (with_beam t (beam_after_clock t.beam)) none
-
-pub none_new_read : (n addr : ℕ) (t : Tia) → NoneNew t → read_at addr t ≡ read_at addr (after_clocks n t)
-none_new_read n addr t none =
-    sym (ap (read_at addr) (after_clocks-changes n t) ∙ ap (λ (l : Latches). read_at addr (with_clocked t l (after_clocks n t).beam)) (none_new_latches n t none))
 
 -- ---- pairs that are all latched
 
