@@ -124,6 +124,7 @@ impl<N: Name, W: CloseOnDrop, A: Allocator> Desk<N, W, A> {
     /// Ends the desk, with all its seats, for which [`Desk::whole`] is the test. It answers the movie and the history that made it,
     /// in which each seat has just as many entries as edits that it made.
     pub fn close<R: Wait>(self, rt: &R, seats: Vec<Seat<N, A>, A>) -> Closed<A>
+        requires named { N.parts ≡ N.seats }
         requires whole { IsWhole N.seats seats.items }
         ensures movie { result.movie ≡ movie_of result.journal.items }
         ensures legal { IsLegal result.journal.items }
@@ -145,6 +146,7 @@ impl<N: Name, W: CloseOnDrop + Wait, A: Allocator + Copy> Desk<N, W, A> {
         unopened: Unopened<A>,
     ) -> Result<(Desk<N, W, A>, Vec<Seat<N, A>, A>), OpenError>
         requires name { unopened ≡ name_of N.registry N.name N.seats }
+        requires named { N.parts ≡ N.seats }
         ensures seats { IfOk result (λ opened. length opened.1.items ≡ unopened.seats) }
         ensures fresh { IfOk result (λ opened. (k : ℕ) → k < unopened.seats → slice_get opened.1.items k ≡ Some (seat_of k 0 [] (blank_zone N.registry))) }
     {
