@@ -1,5 +1,7 @@
 //! The whole program over words, files and streams of the tests' own.
 
+ghost use Rattle.std.specs.Prelude.{Some};
+
 use super::*;
 use std::alloc::Global;
 use std::env::Args;
@@ -16,6 +18,8 @@ struct OneFile<'a> {
 
 impl<'a> Folder for OneFile<'a> {
     type File = &'a [u8];
+
+    ghost bytes_of = { λ s _. Some s.bytes.now };
 
     fn open(&self, name: &str) -> io::Result<&'a [u8]> {
         if name == self.name {
