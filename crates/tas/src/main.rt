@@ -8,6 +8,14 @@ use tas_program::run_program;
 fn main(rt: HostRuntime) -> ExitCode {
     let (mut input, mut output, mut errors) = (rt.stdin(), rt.stdout(), rt.stderr());
     let words = env::args(&rt);
-    let status = run_program(rt.alloc(), words, &rt, &mut input, &mut output, &mut errors);
+    let status = run_program(
+        &rt,
+        rt.alloc(),
+        words,
+        &rt,
+        &mut input,
+        &mut output,
+        &mut errors,
+    );
     ExitCode::from(status.code())
 }

@@ -1,1 +1,14 @@
-pub mod Histories
+pub mod CutLemmas
+pub mod DrawingLemmas
+pub mod EditLemmas
+pub mod EntryLemmas
+pub mod HistoryLemmas
+pub mod PrefixLemmas
+pub mod PublishLemmas
+pub mod PublishedRule
+pub mod RegistryLemmas
+pub mod RunLemmas
+pub mod SeatLemmas
+pub mod WriteLemmas
+pub mod ZoneLemmas
+pub mod WorkLemmas

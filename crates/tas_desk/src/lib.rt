@@ -1,14 +1,39 @@
-//! The editor: one movie, the history of its edits, and its greenzone.
+//! The editor: one movie, the history of its edits, and its greenzone; for one caller as a session, for several as a desk with
+//! seats, which read without waiting.
 #![tactic(auto)]
 
 mod counts;
+mod desk;
+mod drawing;
 mod entry;
+mod export;
+mod exporting;
+mod laws;
+mod locked_session;
+mod movie_copy;
+mod movie_reader;
+mod name;
+mod published;
+mod publisher;
+mod reader_view;
 mod replies;
+mod runs;
+mod seat;
+mod seat_zone;
 mod session;
+mod version;
+mod work;
 
+pub use desk::{Desk, Unopened};
 pub use entry::Entry;
-pub use replies::{EditError, OfferError, Offered, OpenError, Receipt, Shot, ShotError};
+pub use export::{ExportError, Exported, MAX_EXPORT};
+pub use laws::limits_are_exact;
+pub use locked_session::CloseOnDrop;
+pub use name::Name;
+pub use publisher::Closed;
+pub use replies::{
+    EditError, InputError, NoEntry, OfferError, Offered, OpenError, Receipt, Shot, ShotError,
+};
+pub use seat::Seat;
 pub use session::{MAX_EDITS, Session};
-
-#[cfg(test)]
-mod tests;
+pub use work::{Gate, WorkError, Worked};

@@ -1,23 +1,31 @@
 //! The editor for one caller.
 
-ghost use Rattle.std.specs.Prelude.{◌≡◌, ◌≢◌, ◌↔◌, ◌⊎◌, ℕ, ◌+◌, ◌<◌, ◌≤◌, ◌^◌, [], length, take, min, Some, None, IfOk, IfErr, OnOk, OnErr, MatchResult};
+ghost use Rattle.std.specs.Prelude.{◌≡◌, ◌≢◌, ◌↔◌, ◌⊎◌, ℕ, ◌+◌, ◌<◌, ◌≤◌, ◌^◌, [], length, take, drop, ◌∷◌, ◌++◌, min, Some, None, IfOk, IfErr, OnOk, OnErr, MatchResult};
+ghost use mathlib.Core.List.{IsPrefix};
 ghost use Rattle.tas_movie.specs.Edit.{edited};
 ghost use Rattle.tas_green.specs.Run.{state_after};
 ghost use Rattle.tas_green.specs.Zone.{state_at, nearest, first_of, where_true, is_on_grid, is_passed};
-ghost use Rattle.tas_green.specs.Grid.{stride};
+ghost use Rattle.tas_green.specs.Grid.{most_states, stride};
 ghost use Rattle.tas_green.specs.Front.{IsCommonFront};
-ghost use Rattle.tas_green.specs.Green.{IsLawful};
+ghost use Rattle.tas_green.specs.Green.{IsLawful, HoldsGrid};
 ghost use Rattle.tas_desk.specs.declared.replies.OfferError.TheVariants.{Cartridge, Memory};
-ghost use Rattle.tas_desk.specs.History.{IsLegal, blank_movie, movie_of};
+ghost use Rattle.tas_desk.specs.declared.replies.OpenError.TheVariants.{Memory as OutOfMemory};
+ghost use Rattle.tas_desk.specs.History.{most_edits, IsLegal, blank_movie, movie_of};
 ghost use Rattle.tas_desk.specs.Session.{IsNextEntry, edit_refusal, IsEditError, after_entry};
+ghost use Rattle.tas_desk.specs.Version.{version_of};
+ghost use Rattle.tas_desk.specs.Published.{after, Follows, view_of, KnowsRegistry};
 ghost use Rattle.tas_desk.specs.Shots.{IsShot, IsShotError, MatchPlayed};
 
 use crate::counts::EntryCounts;
+use crate::movie_reader::MovieReader;
+use crate::publisher::{Closed, Publisher};
+use crate::version::Version;
 use crate::{EditError, Entry, OfferError, Offered, OpenError, Receipt, Shot, ShotError};
 use std::alloc::{AllocError, Allocator, Global};
 use std::marker::Model;
+use std::sync::Wait;
 use tas_green::{Batch, Green, Job, MergeError};
-use tas_movie::{Edit, EditRefusal, Movie, apply, check};
+use tas_movie::{Edit, EditRefusal, Movie, check};
 use vcs_machine::Meter;
 use vcs_tia::Picture;
 
@@ -26,11 +34,11 @@ pub const MAX_EDITS: u64 = 1_000_000;
 
 /// A movie, the history of its edits, and its greenzone (own). The type keeps that the history is legal, that the movie is
 /// the history's, and that each kept state is the movie's machine's.
-#[derive(Drop)]
+///
+/// It owns what is published to readers, so it can't be dropped: end it by `close`.
 pub struct Session<A: Allocator = Global> {
-    journal: Vec<Entry<A>, A>,
+    publisher: Publisher<A>,
     counts: EntryCounts<A>,
-    movie: Movie<A>,
     green: Green<A>,
 }
 
@@ -42,24 +50,70 @@ impl<A: Allocator> Model for Session<A> {
 
     ghost Value = { SessionContent A };
 
-    ghost view = { λ a. record { journal = a.journal.items; movie = a.movie; zone = a.green } };
+    ghost view = { λ a. record { registry = a.publisher.registry; journal = a.publisher.journal; movie = a.publisher.movie; zone = a.green } };
 
-    ghost invariant = { λ a. IsSound a.journal.items a.movie a.green × ((seat : ℕ) → count_in a.counts seat ≡ entries_of seat a.journal.items) };
+    ghost invariant = { λ a. IsSound a.publisher.journal a.publisher.movie a.green × ((seat : ℕ) → count_in a.counts seat ≡ entries_of seat a.publisher.journal) };
+}
+
+impl<A: Allocator> Session<A> {
+    /// Ends the session, and answers its movie and history.
+    pub fn close<R: Wait>(self, rt: &R) -> Closed<A>
+        ensures journal { result.journal.items ≡ self.journal }
+        ensures movie { result.movie ≡ self.movie }
+        ensures history { self.movie ≡ movie_of self.journal }
+        ensures legal { IsLegal self.journal }
+    {
+        let Session {
+            publisher,
+            counts: _,
+            green: _,
+        } = self;
+        publisher.close(rt)
+    }
+
+    /// One who has seen the history.
+    pub(crate) fn reader<R: Wait>(&mut self, rt: &R) -> Result<MovieReader<A>, AllocError>
+        ensures same { self.new ≡ self.old }
+        ensures seen { IfOk result (λ reader. reader ≡ view_of (version_of self.old.registry self.old.journal)) }
+    {
+        self.publisher.reader(rt)
+    }
+
+    /// Lets one see the history. It comes back when it has.
+    pub(crate) fn show_to<R: Wait>(&self, rt: &R, reader: &mut MovieReader<A>)
+        requires { KnowsRegistry reader.old self.now.registry }
+        ensures seen { reader.new ≡ view_of (version_of self.now.registry self.now.journal) }
+        ensures begins { IsPrefix reader.old.seen self.now.journal }
+        ensures history { self.now.movie ≡ movie_of self.now.journal }
+        ensures lawful { IsLawful self.now.movie self.now.zone }
+    {
+        self.publisher.show_to(rt, reader)
+    }
 }
 
 impl<A: Allocator + Copy> Session<A> {
-    /// The blank cartridge with no inputs, an empty history and no kept states.
+    /// The blank cartridge with no inputs, an empty history and no kept states. `Memory` where memory is refused.
     pub fn new(alloc: A) -> Result<Session<A>, OpenError>
-        ensures { IfOk result (λ session. session ≡ record { journal = []; movie = blank_movie; zone = [] }) }
+        ensures fresh { IfOk result (λ session. (session.journal ≡ []) × (session.movie ≡ blank_movie) × (session.zone ≡ [])) }
+        ensures error { IfErr result (λ error. error ≡ OutOfMemory) }
     {
-        let Ok(movie) = Movie::blank(alloc) else {
-            return Err(OpenError::Memory);
-        };
+        match Session::with_places(alloc, 1) {
+            Ok(session) => Ok(session),
+            Err(_) => Err(OpenError::Memory),
+        }
+    }
+
+    /// The same, with places for so many readers. The writer is made last.
+    pub(crate) fn with_places(alloc: A, readers: usize) -> Result<Session<A>, AllocError>
+        requires { (0 < readers) × (readers < 2 ^ 32) }
+        ensures { IfOk result (λ session. session ≡ record { registry = session.registry; journal = []; movie = blank_movie; zone = [] }) }
+    {
+        let counts = EntryCounts::new(alloc);
+        let green = Green::new(alloc);
         Ok(Session {
-            journal: Vec::new(alloc),
-            counts: EntryCounts::new(alloc),
-            movie,
-            green: Green::new(alloc),
+            publisher: Publisher::new(alloc, readers)?,
+            counts,
+            green,
         })
     }
 
@@ -68,10 +122,17 @@ impl<A: Allocator + Copy> Session<A> {
     /// It is refused, in this order, for `Serial`, `Full`, `Place`, `Long` and `Memory`; each refusal leaves history, movie
     /// and greenzone as they were. Afterwards exactly the states up to the edited place on the grid of the new length are
     /// kept.
-    pub fn edit(&mut self, seat: u32, made: u64, edit: Edit<A>) -> Result<Receipt, EditError>
+    pub fn edit<R: Wait>(
+        &mut self,
+        rt: &R,
+        seat: u32,
+        made: u64,
+        edit: Edit<A>,
+    ) -> Result<Receipt, EditError>
         ensures receipt { IfOk result (λ receipt. receipt ≡ record { at = length self.old.journal + 1; len = length (edited self.old.movie edit).inputs }) }
         ensures refusal { MatchResult result (λ _. edit_refusal self.old seat made edit ≡ None) (IsEditError (edit_refusal self.old seat made edit)) }
         ensures done { OnOk result (self.new ≡ after_entry self.old (record { seat = seat; serial = made; edit = edit })) }
+        ensures next { OnOk result (IsNextEntry self.old.journal (record { seat = seat; serial = made; edit = edit })) }
         ensures refused { OnErr result (self.new ≡ self.old) }
     {
         self.check_edit(seat, made, &edit)?;
@@ -80,12 +141,12 @@ impl<A: Allocator + Copy> Session<A> {
             serial: made,
             edit,
         };
-        if self.accept(next).is_err() {
+        if self.accept(rt, next).is_err() {
             return Err(EditError::Memory);
         }
         Ok(Receipt {
             at: self.at(),
-            len: self.movie.len(),
+            len: self.movie().len(),
         })
     }
 
@@ -102,7 +163,7 @@ impl<A: Allocator + Copy> Session<A> {
         if at == MAX_EDITS {
             return Err(EditError::Full { at });
         }
-        match check(&self.movie, edit) {
+        match check(self.movie(), edit) {
             Ok(()) => Ok(()),
             Err(EditRefusal::Place { at: place, len }) => Err(EditError::Place { at, place, len }),
             Err(EditRefusal::Long { len }) => Err(EditError::Long { at, len }),
@@ -110,17 +171,16 @@ impl<A: Allocator + Copy> Session<A> {
     }
 
     /// Makes an allowed edit: all growths come first, and then nothing can fail.
-    fn accept(&mut self, next: Entry<A>) -> Result<(), AllocError>
+    fn accept<R: Wait>(&mut self, rt: &R, next: Entry<A>) -> Result<(), AllocError>
         requires { IsNextEntry self.old.journal next }
         ensures done { OnOk result (self.new ≡ after_entry self.old next) }
         ensures refused { OnErr result (self.new ≡ self.old) }
     {
-        self.counts.reserve(next.seat)?;
-        self.journal.reserve(1)?;
-        apply(&mut self.movie, &next.edit);
-        self.green.cut(next.edit.place(), self.movie.len());
-        self.counts.add(next.seat);
-        self.journal.push(next).unwrap();
+        let (seat, place) = (next.seat, next.edit.place());
+        self.counts.reserve(seat)?;
+        self.publisher.push(rt, next)?;
+        self.green.cut(place, self.publisher.movie().len());
+        self.counts.add(seat);
         Ok(())
     }
 
@@ -138,6 +198,9 @@ impl<A: Allocator + Copy> Session<A> {
         requires { meter.old + length self.old.movie.inputs < 2 ^ 64 }
         ensures reply { MatchResult result (IsShot self.old k) (IsShotError self.old k) }
         ensures same { (self.new.journal ≡ self.old.journal) × (self.new.movie ≡ self.old.movie) }
+        ensures registry { self.new.registry ≡ self.old.registry }
+        // Where all of the grid up to the frame is kept, no more than a stride's frames are played.
+        ensures short { IfOk result (λ shot. HoldsGrid (stride (length self.old.movie.inputs)) k self.old.zone → shot.ran ≤ stride (length self.old.movie.inputs)) }
         ensures meter { MatchPlayed result (meter.new + nearest k self.old.zone ≡ meter.old + (k + 1)) (meter.new ≡ meter.old) }
         ensures kept { MatchPlayed result
             ((f : ℕ) → state_at f self.new.zone ≡ first_of (state_at f self.old.zone)
@@ -145,7 +208,7 @@ impl<A: Allocator + Copy> Session<A> {
             (self.new.zone ≡ self.old.zone) }
     {
         let at = self.at();
-        let len = self.movie.len();
+        let len = self.movie().len();
         if k >= len {
             return Err(ShotError::NoFrame { at, len });
         }
@@ -153,7 +216,10 @@ impl<A: Allocator + Copy> Session<A> {
             return Err(ShotError::Memory);
         };
         let ran = (k + 1 - self.green.nearest(k)) as u64;
-        let Ok(answer) = self.green.shot(&self.movie, k, &mut picture, meter) else {
+        let Ok(answer) = self
+            .green
+            .shot(self.publisher.movie(), k, &mut picture, meter)
+        else {
             return Err(ShotError::Memory);
         };
         match answer {
@@ -175,7 +241,7 @@ impl<A: Allocator + Copy> Session<A> {
         ensures stride { IfOk result (λ job. job.stride ≡ stride (length self.now.movie.inputs)) }
         ensures start { IfOk result (λ job. job.start ≡ nearest (min near (length self.now.movie.inputs)) self.now.zone) }
     {
-        Job::take(alloc, &self.movie, &self.green, near)
+        Job::take(alloc, self.movie(), &self.green, near)
     }
 
     /// Takes from a batch exactly the states on the movie's grid up to the end of the common beginning of the batch's inputs
@@ -192,27 +258,33 @@ impl<A: Allocator + Copy> Session<A> {
             (where_true (is_on_grid (stride (length self.old.movie.inputs)) offered.front f) (state_at f batch.states))) }
         ensures kept { IfOk result (λ offered. length self.new.zone ≡ length self.old.zone + offered.kept) }
         ensures same { (self.new.journal ≡ self.old.journal) × (self.new.movie ≡ self.old.movie) }
+        ensures registry { self.new.registry ≡ self.old.registry }
+        ensures lawful { IsLawful self.new.movie self.new.zone }
         ensures err { OnErr result (self.new ≡ self.old) }
+        ensures few { IfOk result (λ offered. offered.kept ≤ most_states) }
     {
         let at = self.at();
-        let merged = match self.green.merge(&self.movie, &batch) {
+        let merged = match self.green.merge(self.publisher.movie(), &batch) {
             Ok(merged) => merged,
             Err(MergeError::Cartridge) => return Err(OfferError::Cartridge { at }),
             Err(MergeError::Memory) => return Err(OfferError::Memory(batch)),
         };
+        let _count = self.green.count();
         Ok(Offered {
             at,
             front: merged.front,
             kept: merged.kept,
         })
     }
+}
 
+impl<A: Allocator> Session<A> {
     /// How many edits the history has.
     pub fn at(&self) -> u64
         ensures at { result ≡ length self.now.journal }
-        ensures most { result ≤ MAX_EDITS }
+        ensures most { result ≤ most_edits }
     {
-        self.journal.len() as u64
+        self.publisher.journal().len() as u64
     }
 
     /// The movie: that of the history.
@@ -220,7 +292,14 @@ impl<A: Allocator + Copy> Session<A> {
         ensures movie { result.now ≡ self.now.movie }
         ensures history { self.now.movie ≡ movie_of self.now.journal }
     {
-        &self.movie
+        self.publisher.movie()
+    }
+
+    /// The version of the history.
+    pub(crate) fn version(&self) -> &Version<A>
+        ensures { result.now ≡ version_of self.now.registry self.now.journal }
+    {
+        self.publisher.version()
     }
 
     /// The history, in order.
@@ -228,7 +307,7 @@ impl<A: Allocator + Copy> Session<A> {
         ensures journal { result.now ≡ self.now.journal }
         ensures legal { IsLegal self.now.journal }
     {
-        self.journal.as_slice()
+        self.publisher.journal()
     }
 
     /// The greenzone.

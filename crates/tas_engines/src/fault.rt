@@ -49,6 +49,12 @@ pub enum RunFault {
         /// The line's number, counted from 1.
         line: usize,
     },
+    /// A desk's seat got no place to read from.
+    NoPlace,
+    /// A seat's reader got no entry.
+    NoEntry,
+    /// A reply of the desk doesn't stand at just the engine's own edits.
+    Foreign,
     /// Memory was refused.
     Memory,
 }
@@ -98,6 +104,16 @@ pub enum ToolFault {
         /// The line's number, counted from 1.
         line: usize,
     },
+    /// A desk's seat got no place to read from. Nothing was written.
+    #[error("fault: no place")]
+    NoPlace,
+    /// A seat's reader got no entry. Nothing was written, but by a script the replies before.
+    #[error("fault: no entry")]
+    NoEntry,
+    /// A reply of the desk doesn't stand at just the engine's own edits. Nothing was written, but by
+    /// a script the replies before.
+    #[error("fault: foreign edit")]
+    Foreign,
     /// Memory was refused. Nothing was written, but by a script the replies before.
     #[error("fault: out of memory")]
     Memory,
@@ -126,6 +142,9 @@ impl From<RunFault> for ToolFault {
             RunFault::NoFrame { frame, len } => ToolFault::NoFrame { frame, len },
             RunFault::Halted { at, opcode } => ToolFault::Halted { at, opcode },
             RunFault::Script { line } => ToolFault::Script { line },
+            RunFault::NoPlace => ToolFault::NoPlace,
+            RunFault::NoEntry => ToolFault::NoEntry,
+            RunFault::Foreign => ToolFault::Foreign,
             RunFault::Memory => ToolFault::Memory,
         }
     }

@@ -304,6 +304,9 @@ fn faults_read_as_their_lines(rt: HostRuntime) -> Result<(), Fail> {
             "fault: movie line 65539: too many",
         ),
         (ToolFault::Script { line: 12 }, "fault: script line 12"),
+        (ToolFault::NoPlace, "fault: no place"),
+        (ToolFault::NoEntry, "fault: no entry"),
+        (ToolFault::Foreign, "fault: foreign edit"),
         (ToolFault::Memory, "fault: out of memory"),
     ] {
         let text = format!(in alloc; "{fault}")?;

@@ -14,6 +14,7 @@ use std::alloc::{Allocator, Global};
 use std::env::Args;
 use std::io;
 use std::io::{Read, Write};
+use std::sync::Wait;
 use tas_engines::write_all;
 use tas_tool::{ToolFault, check_run, script_run, shot_run, trace_run};
 
@@ -69,7 +70,8 @@ fn shoot_file<A: Allocator + Copy, F: Folder, R: Read, W: Write>(
 
 /// Does a task by its engine: the file that it names is opened first, a failure being `Read`, then
 /// the engine reads it and the input, and writes its answer to the output.
-pub fn run_task<A: Allocator + Copy, F: Folder, R: Read, W: Write>(
+pub fn run_task<A: Allocator + Copy, T: Wait, F: Folder, R: Read, W: Write>(
+    rt: &T,
     alloc: A,
     task: Task<'_>,
     folder: &F,
@@ -86,7 +88,7 @@ pub fn run_task<A: Allocator + Copy, F: Folder, R: Read, W: Write>(
         Task::Shot { cart, frame } => {
             shoot_file(alloc, cart, frame as usize, folder, input, output)
         }
-        Task::Script => script_run(alloc, input, output),
+        Task::Script => script_run(rt, alloc, input, output),
     }
 }
 
@@ -117,7 +119,8 @@ fn show<W: Write>(output: &mut W, text: &str) -> Result<(), ToolFault>
 
 /// Carries a request out, and answers the program's status: 0 where it was done, 1 after a fault, whose
 /// line is written to `errors`, and 2 where the words weren't understood, whose text goes there too.
-pub fn carry_out<A: Allocator + Copy, F: Folder, R: Read, W: Write, E: Write>(
+pub fn carry_out<A: Allocator + Copy, T: Wait, F: Folder, R: Read, W: Write, E: Write>(
+    rt: &T,
     alloc: A,
     request: Request<'_>,
     folder: &F,
@@ -130,7 +133,7 @@ pub fn carry_out<A: Allocator + Copy, F: Folder, R: Read, W: Write, E: Write>(
         (record { input = R.remaining input.new; output = W.contents output.new }) result }
 {
     match request {
-        Request::Do(task) => tell(errors, run_task(alloc, task, folder, input, output)),
+        Request::Do(task) => tell(errors, run_task(rt, alloc, task, folder, input, output)),
         Request::Show(text) => tell(errors, show(output, text.as_str())),
         Request::Refuse(text) => {
             let _ = write_all(errors, text.as_bytes());
@@ -141,7 +144,8 @@ pub fn carry_out<A: Allocator + Copy, F: Folder, R: Read, W: Write, E: Write>(
 }
 
 /// The whole program: reads the words, the first of which is its name, and does what they ask for.
-pub fn run_program<F: Folder, R: Read, W: Write, E: Write>(
+pub fn run_program<T: Wait, F: Folder, R: Read, W: Write, E: Write>(
+    rt: &T,
     alloc: Global,
     words: io::Result<Args>,
     folder: &F,
@@ -156,8 +160,8 @@ pub fn run_program<F: Folder, R: Read, W: Write, E: Write>(
     match collect_words(alloc, words) {
         Ok(words) => {
             let request = read_request(alloc, words.as_slice());
-            carry_out(alloc, request, folder, input, output, errors)
+            carry_out(rt, alloc, request, folder, input, output, errors)
         }
-        Err(request) => carry_out(alloc, request, folder, input, output, errors),
+        Err(request) => carry_out(rt, alloc, request, folder, input, output, errors),
     }
 }

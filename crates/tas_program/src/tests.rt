@@ -48,7 +48,8 @@ fn words_of(alloc: Global, words: &[&str]) -> Result<Vec<String>, Fail> {
     Ok(all)
 }
 
-fn run_words(alloc: Global, words: io::Result<Args>, cart: &[u8], input: &[u8]) -> Ran {
+fn run_words(rt: &HostRuntime, words: io::Result<Args>, cart: &[u8], input: &[u8]) -> Ran {
+    let alloc = rt.alloc();
     let folder = OneFile {
         name: "game.bin",
         bytes: cart,
@@ -56,7 +57,15 @@ fn run_words(alloc: Global, words: io::Result<Args>, cart: &[u8], input: &[u8]) 
     let mut input = input;
     let mut output = Vec::new(alloc);
     let mut errors = Vec::new(alloc);
-    let status = run_program(alloc, words, &folder, &mut input, &mut output, &mut errors);
+    let status = run_program(
+        rt,
+        alloc,
+        words,
+        &folder,
+        &mut input,
+        &mut output,
+        &mut errors,
+    );
     Ran {
         output,
         errors,
@@ -65,9 +74,9 @@ fn run_words(alloc: Global, words: io::Result<Args>, cart: &[u8], input: &[u8]) 
 }
 
 /// Runs the program where the file `game.bin` is this cartridge.
-fn run(alloc: Global, words: &[&str], cart: &[u8], input: &[u8]) -> Result<Ran, Fail> {
-    let words = words_of(alloc, words)?.into_iter();
-    Ok(run_words(alloc, Ok(words), cart, input))
+fn run(rt: &HostRuntime, words: &[&str], cart: &[u8], input: &[u8]) -> Result<Ran, Fail> {
+    let words = words_of(rt.alloc(), words)?.into_iter();
+    Ok(run_words(rt, Ok(words), cart, input))
 }
 
 /// A cartridge of zeros with these bytes at its start, where execution starts too.
@@ -174,13 +183,13 @@ fn other_words_end_with_status_2(rt: HostRuntime) -> Result<(), Fail> {
     let alloc = rt.alloc();
     let cart = image_of(alloc, PLAYFIELD)?;
     for (number, words) in MISUSES.iter().enumerate() {
-        let ran = run(alloc, words, cart.as_slice(), ONE_FRAME)?;
+        let ran = run(&rt, words, cart.as_slice(), ONE_FRAME)?;
         assert_eq!(rt; ran.code, 2, "words {number}");
         assert!(rt; ran.output.is_empty(), "words {number}");
         assert!(rt; ran.errors.starts_with(b"error: "), "words {number}");
     }
     let ran = run_words(
-        alloc,
+        &rt,
         Err(Error::from(ErrorKind::InvalidData)),
         cart.as_slice(),
         ONE_FRAME,
@@ -226,12 +235,12 @@ static HELPS: [(&[&str], &[u8]); 6] = [
 fn help_and_version_are_shown(rt: HostRuntime) -> Result<(), Fail> {
     let alloc = rt.alloc();
     for (number, (words, text)) in HELPS.iter().enumerate() {
-        let ran = run(alloc, words, b"", b"")?;
+        let ran = run(&rt, words, b"", b"")?;
         assert_eq!(rt; ran.code, 0, "help {number}");
         assert!(rt; ran.output.starts_with(text), "help {number}");
         assert!(rt; ran.errors.is_empty(), "help {number}");
     }
-    let ran = run(alloc, &["--version"], b"", b"")?;
+    let ran = run(&rt, &["--version"], b"", b"")?;
     assert_eq!(rt; ran.code, 0);
     assert_eq!(rt;
         ran.output.as_slice(),
@@ -278,7 +287,7 @@ fn each_command_writes_its_answer(rt: HostRuntime) -> Result<(), Fail> {
         (&["script"], SCRIPT, REPLIES),
     ];
     for (number, (words, input, answer)) in cases.iter().enumerate() {
-        let ran = run(alloc, words, cart.as_slice(), input)?;
+        let ran = run(&rt, words, cart.as_slice(), input)?;
         assert_eq!(rt; ran.code, 0, "command {number}");
         assert!(rt; ran.output.as_slice() == *answer, "command {number}");
         assert!(rt; ran.errors.is_empty(), "command {number}");
@@ -343,13 +352,13 @@ fn faults_end_with_status_1(rt: HostRuntime) -> Result<(), Fail> {
         ),
     ];
     for (number, (words, file, input, output, line)) in cases.iter().enumerate() {
-        let ran = run(alloc, words, file, input)?;
+        let ran = run(&rt, words, file, input)?;
         assert_eq!(rt; ran.code, 1, "fault {number}");
         assert!(rt; ran.output.as_slice() == *output, "fault {number}");
         assert!(rt; ran.errors.as_slice() == *line, "fault {number}");
     }
     let ran = run_words(
-        alloc,
+        &rt,
         Err(Error::from(ErrorKind::OutOfMemory)),
         cart,
         ONE_FRAME,
@@ -373,6 +382,7 @@ fn help_that_cannot_be_written_is_a_fault(rt: HostRuntime) -> Result<(), Fail> {
     let mut output = room.as_mut_slice();
     let mut errors = Vec::new(alloc);
     let status = run_program(
+        &rt,
         alloc,
         Ok(words),
         &folder,

@@ -7,7 +7,7 @@ use Rattle.vcs_machine.specs.declared.input.Input.{Input}
 use Rattle.tas_movie.specs.Text.{frame_text}
 use Rattle.tas_movie.proofs.TextLemmas.{shown_input-frame}
 use Rattle.tas_script.specs.declared.command.Command.{Command}
-use Rattle.tas_script.specs.declared.command.Command.TheVariants.{Load, Insert, Replace, Delete, Length, InputAt, Shot}
+use Rattle.tas_script.specs.declared.command.Command.TheVariants.{Load, Insert, Replace, Delete, Length, InputAt, Shot, Work}
 use Rattle.tas_script.specs.Commands.{Says, IsNumber, pair_text, frames_text}
 use Rattle.tas_script.specs.Parts.{Part, IsPart, AreParts, IsBytes, IsImageOf, hex_text, word_text, part_text, poured, upper_digit}
 use Rattle.tas_script.proofs.PartLemmas.{digit_same, offset_same, same_word, word_no_space, end_of_parts}
@@ -83,6 +83,7 @@ one_command line (Load image) (Delete at' count') p q = let e : ◌≡◌ {A = �
 one_command line (Load image) Length p q = let e : ◌≡◌ {A = ℕ} 27745 27758 = ap letters (sym p.1 ∙ q) in absurd (omega (arith, e))
 one_command line (Load image) (InputAt frame') p q = let e : ◌≡◌ {A = ℕ} 27745 26992 = ap letters (sym p.1 ∙ q.0) in absurd (omega (arith, e))
 one_command line (Load image) (Shot frame') p q = let e : ◌≡◌ {A = ℕ} 27745 29551 = ap letters (sym p.1 ∙ q.0) in absurd (omega (arith, e))
+one_command line (Load image) (Work frame') p q = let e : ◌≡◌ {A = ℕ} 27745 30578 = ap letters (sym p.1 ∙ q.0) in absurd (omega (arith, e))
 one_command line (Insert at count input) (Load image') p q = let e : ◌≡◌ {A = ℕ} 26995 27745 = ap letters (sym p.0 ∙ q.1) in absurd (omega (arith, e))
 one_command line (Insert at count input) (Insert at' count' input') p q =
     let s = frames_same at count at' count' input input' p.1 p.2 q.1 q.2 (ap (λ (l : List ℕ). drop 7 l) (sym p.0 ∙ q.0)) in
@@ -92,6 +93,7 @@ one_command line (Insert at count input) (Delete at' count') p q = let e : ◌�
 one_command line (Insert at count input) Length p q = let e : ◌≡◌ {A = ℕ} 26995 27758 = ap letters (sym p.0 ∙ q) in absurd (omega (arith, e))
 one_command line (Insert at count input) (InputAt frame') p q = let e : ◌≡◌ {A = ℕ} 26995 26992 = ap letters (sym p.0 ∙ q.0) in absurd (omega (arith, e))
 one_command line (Insert at count input) (Shot frame') p q = let e : ◌≡◌ {A = ℕ} 26995 29551 = ap letters (sym p.0 ∙ q.0) in absurd (omega (arith, e))
+one_command line (Insert at count input) (Work frame') p q = let e : ◌≡◌ {A = ℕ} 26995 30578 = ap letters (sym p.0 ∙ q.0) in absurd (omega (arith, e))
 one_command line (Replace at count input) (Load image') p q = let e : ◌≡◌ {A = ℕ} 29296 27745 = ap letters (sym p.0 ∙ q.1) in absurd (omega (arith, e))
 one_command line (Replace at count input) (Insert at' count' input') p q = let e : ◌≡◌ {A = ℕ} 29296 26995 = ap letters (sym p.0 ∙ q.0) in absurd (omega (arith, e))
 one_command line (Replace at count input) (Replace at' count' input') p q =
@@ -101,6 +103,7 @@ one_command line (Replace at count input) (Delete at' count') p q = let e : ◌�
 one_command line (Replace at count input) Length p q = let e : ◌≡◌ {A = ℕ} 29296 27758 = ap letters (sym p.0 ∙ q) in absurd (omega (arith, e))
 one_command line (Replace at count input) (InputAt frame') p q = let e : ◌≡◌ {A = ℕ} 29296 26992 = ap letters (sym p.0 ∙ q.0) in absurd (omega (arith, e))
 one_command line (Replace at count input) (Shot frame') p q = let e : ◌≡◌ {A = ℕ} 29296 29551 = ap letters (sym p.0 ∙ q.0) in absurd (omega (arith, e))
+one_command line (Replace at count input) (Work frame') p q = let e : ◌≡◌ {A = ℕ} 29296 30578 = ap letters (sym p.0 ∙ q.0) in absurd (omega (arith, e))
 one_command line (Delete at count) (Load image') p q = let e : ◌≡◌ {A = ℕ} 25708 27745 = ap letters (sym p.0 ∙ q.1) in absurd (omega (arith, e))
 one_command line (Delete at count) (Insert at' count' input') p q = let e : ◌≡◌ {A = ℕ} 25708 26995 = ap letters (sym p.0 ∙ q.0) in absurd (omega (arith, e))
 one_command line (Delete at count) (Replace at' count' input') p q = let e : ◌≡◌ {A = ℕ} 25708 29296 = ap letters (sym p.0 ∙ q.0) in absurd (omega (arith, e))
@@ -111,6 +114,7 @@ one_command line (Delete at count) (Delete at' count') p q =
 one_command line (Delete at count) Length p q = let e : ◌≡◌ {A = ℕ} 25708 27758 = ap letters (sym p.0 ∙ q) in absurd (omega (arith, e))
 one_command line (Delete at count) (InputAt frame') p q = let e : ◌≡◌ {A = ℕ} 25708 26992 = ap letters (sym p.0 ∙ q.0) in absurd (omega (arith, e))
 one_command line (Delete at count) (Shot frame') p q = let e : ◌≡◌ {A = ℕ} 25708 29551 = ap letters (sym p.0 ∙ q.0) in absurd (omega (arith, e))
+one_command line (Delete at count) (Work frame') p q = let e : ◌≡◌ {A = ℕ} 25708 30578 = ap letters (sym p.0 ∙ q.0) in absurd (omega (arith, e))
 one_command line Length (Load image') p q = let e : ◌≡◌ {A = ℕ} 27758 27745 = ap letters (sym p ∙ q.1) in absurd (omega (arith, e))
 one_command line Length (Insert at' count' input') p q = let e : ◌≡◌ {A = ℕ} 27758 26995 = ap letters (sym p ∙ q.0) in absurd (omega (arith, e))
 one_command line Length (Replace at' count' input') p q = let e : ◌≡◌ {A = ℕ} 27758 29296 = ap letters (sym p ∙ q.0) in absurd (omega (arith, e))
@@ -118,6 +122,7 @@ one_command line Length (Delete at' count') p q = let e : ◌≡◌ {A = ℕ} 27
 one_command line Length Length p q = refl
 one_command line Length (InputAt frame') p q = let e : ◌≡◌ {A = ℕ} 27758 26992 = ap letters (sym p ∙ q.0) in absurd (omega (arith, e))
 one_command line Length (Shot frame') p q = let e : ◌≡◌ {A = ℕ} 27758 29551 = ap letters (sym p ∙ q.0) in absurd (omega (arith, e))
+one_command line Length (Work frame') p q = let e : ◌≡◌ {A = ℕ} 27758 30578 = ap letters (sym p ∙ q.0) in absurd (omega (arith, e))
 one_command line (InputAt frame) (Load image') p q = let e : ◌≡◌ {A = ℕ} 26992 27745 = ap letters (sym p.0 ∙ q.1) in absurd (omega (arith, e))
 one_command line (InputAt frame) (Insert at' count' input') p q = let e : ◌≡◌ {A = ℕ} 26992 26995 = ap letters (sym p.0 ∙ q.0) in absurd (omega (arith, e))
 one_command line (InputAt frame) (Replace at' count' input') p q = let e : ◌≡◌ {A = ℕ} 26992 29296 = ap letters (sym p.0 ∙ q.0) in absurd (omega (arith, e))
@@ -125,6 +130,7 @@ one_command line (InputAt frame) (Delete at' count') p q = let e : ◌≡◌ {A 
 one_command line (InputAt frame) Length p q = let e : ◌≡◌ {A = ℕ} 26992 27758 = ap letters (sym p.0 ∙ q) in absurd (omega (arith, e))
 one_command line (InputAt frame) (InputAt frame') p q = ap InputAt (number_same frame frame' p.1 q.1 (ap (λ (l : List ℕ). drop 6 l) (sym p.0 ∙ q.0)))
 one_command line (InputAt frame) (Shot frame') p q = let e : ◌≡◌ {A = ℕ} 26992 29551 = ap letters (sym p.0 ∙ q.0) in absurd (omega (arith, e))
+one_command line (InputAt frame) (Work frame') p q = let e : ◌≡◌ {A = ℕ} 26992 30578 = ap letters (sym p.0 ∙ q.0) in absurd (omega (arith, e))
 one_command line (Shot frame) (Load image') p q = let e : ◌≡◌ {A = ℕ} 29551 27745 = ap letters (sym p.0 ∙ q.1) in absurd (omega (arith, e))
 one_command line (Shot frame) (Insert at' count' input') p q = let e : ◌≡◌ {A = ℕ} 29551 26995 = ap letters (sym p.0 ∙ q.0) in absurd (omega (arith, e))
 one_command line (Shot frame) (Replace at' count' input') p q = let e : ◌≡◌ {A = ℕ} 29551 29296 = ap letters (sym p.0 ∙ q.0) in absurd (omega (arith, e))
@@ -132,3 +138,12 @@ one_command line (Shot frame) (Delete at' count') p q = let e : ◌≡◌ {A = �
 one_command line (Shot frame) Length p q = let e : ◌≡◌ {A = ℕ} 29551 27758 = ap letters (sym p.0 ∙ q) in absurd (omega (arith, e))
 one_command line (Shot frame) (InputAt frame') p q = let e : ◌≡◌ {A = ℕ} 29551 26992 = ap letters (sym p.0 ∙ q.0) in absurd (omega (arith, e))
 one_command line (Shot frame) (Shot frame') p q = ap Shot (number_same frame frame' p.1 q.1 (ap (λ (l : List ℕ). drop 5 l) (sym p.0 ∙ q.0)))
+one_command line (Shot frame) (Work frame') p q = let e : ◌≡◌ {A = ℕ} 29551 30578 = ap letters (sym p.0 ∙ q.0) in absurd (omega (arith, e))
+one_command line (Work frame) (Load image') p q = let e : ◌≡◌ {A = ℕ} 30578 27745 = ap letters (sym p.0 ∙ q.1) in absurd (omega (arith, e))
+one_command line (Work frame) (Insert at' count' input') p q = let e : ◌≡◌ {A = ℕ} 30578 26995 = ap letters (sym p.0 ∙ q.0) in absurd (omega (arith, e))
+one_command line (Work frame) (Replace at' count' input') p q = let e : ◌≡◌ {A = ℕ} 30578 29296 = ap letters (sym p.0 ∙ q.0) in absurd (omega (arith, e))
+one_command line (Work frame) (Delete at' count') p q = let e : ◌≡◌ {A = ℕ} 30578 25708 = ap letters (sym p.0 ∙ q.0) in absurd (omega (arith, e))
+one_command line (Work frame) Length p q = let e : ◌≡◌ {A = ℕ} 30578 27758 = ap letters (sym p.0 ∙ q) in absurd (omega (arith, e))
+one_command line (Work frame) (InputAt frame') p q = let e : ◌≡◌ {A = ℕ} 30578 26992 = ap letters (sym p.0 ∙ q.0) in absurd (omega (arith, e))
+one_command line (Work frame) (Shot frame') p q = let e : ◌≡◌ {A = ℕ} 30578 29551 = ap letters (sym p.0 ∙ q.0) in absurd (omega (arith, e))
+one_command line (Work frame) (Work frame') p q = ap Work (number_same frame frame' p.1 q.1 (ap (λ (l : List ℕ). drop 5 l) (sym p.0 ∙ q.0)))

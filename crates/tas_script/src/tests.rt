@@ -23,7 +23,7 @@ fn image_of(offset: usize, byte: u8) -> [u8; IMAGE_SIZE] {
 fn each_line_is_its_command(rt: HostRuntime) {
     let none = Input::none();
     let right = pressed_right();
-    let cases: [(&[u8], Command); 12] = [
+    let cases: [(&[u8], Command); 14] = [
         (
             b"load 00A=FF",
             Command::Load {
@@ -72,9 +72,11 @@ fn each_line_is_its_command(rt: HostRuntime) {
         (b"input 9999999", Command::InputAt { frame: 9_999_999 }),
         (b"shot 191", Command::Shot { frame: 191 }),
         (b"shot 10", Command::Shot { frame: 10 }),
+        (b"work 0", Command::Work { frame: 0 }),
+        (b"work 9999999", Command::Work { frame: 9_999_999 }),
     ];
     for (line, command) in cases {
-        assert_eq!(rt; parse_line(line), Some(command));
+        assert_eq!(rt; parse_line(line), Some(command), "{command:?}");
     }
 }
 
@@ -88,7 +90,7 @@ fn no_other_line_is_understood(rt: HostRuntime) {
         b"Len",
         b"lenx",
         b"len 0",
-        b"work 0",
+        b"work",
         b"shot",
         b"shot ",
         b"shot 01",
@@ -134,7 +136,7 @@ fn no_other_line_is_understood(rt: HostRuntime) {
 #[test]
 fn replies_read_as_written(rt: HostRuntime) -> Result<(), Fail> {
     let alloc = rt.alloc();
-    let cases: [(Reply, &[u8]); 11] = [
+    let cases: [(Reply, &[u8]); 12] = [
         (Reply::Edited { at: 1, len: 0 }, b"edit 1 len 0\n"),
         (Reply::Misplaced { at: 5, len: 9 }, b"place 5 len 9\n"),
         (Reply::TooLong { at: 2, len: 65536 }, b"long 2 len 65536\n"),
@@ -173,10 +175,18 @@ fn replies_read_as_written(rt: HostRuntime) -> Result<(), Fail> {
             },
             b"halted 2 00AB EF\n",
         ),
+        (
+            Reply::Worked {
+                jobs: 1,
+                kept: 3,
+                stale: 0,
+            },
+            b"work jobs 1 kept 3 stale 0\n",
+        ),
         (Reply::OutOfMemory, b"out of memory\n"),
     ];
     for (reply, line) in cases {
-        assert_eq!(rt; reply_line(alloc, reply)?.as_slice(), line);
+        assert_eq!(rt; reply_line(alloc, reply)?.as_slice(), line, "{reply:?}");
     }
     Ok(())
 }

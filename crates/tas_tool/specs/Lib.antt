@@ -1,3 +1,4 @@
 pub mod Edits
 pub mod Turns
+pub mod Checking
 pub mod Scripts

@@ -1,13 +1,17 @@
-use Rattle.std.proofs.Common.{◌≡◌, ◌∙◌, ◌++◌, ◌∷◌, [], ap, List, rules}
-use Rattle.tas_desk.specs.declared.entry.Entry.{Entry}
-use Rattle.tas_desk.proofs.Histories.{sound_after, counted_after, same_next}
+use Rattle.std.proofs.Common.{◌∙◌, ap, length}
+use Rattle.tas_desk.specs.Published.{PublisherContent}
+use Rattle.tas_desk.specs.Session.{SessionContent}
+use Rattle.tas_desk.proofs.HistoryLemmas.{sound_edited, counted_after, same_next}
 use Rattle.tas_desk.proofs.session.Session.accept.Goals as goal
 
 pub invariant_of-self-2 : goal.invariant_of-self-2
 invariant_of-self-2 g c =
-    let pushed : c.push.new.self.items ≡ c.self.inside.journal.items ++ c.args.next ∷ [] = search rules in
-    let next = same_next c.self.inside.journal.items c.args.self.now.journal c.args.next (ap (λ s. s.journal) c.self.view_is) c.requires in (
-      sound_after c.self.inside.journal.items c.push.new.self.items c.self.inside.movie c.apply.new.movie c.self.inside.green c.cut.new.self c.args.next c.place.result c.len.result
-          c.self.invariant.0 next pushed c.apply.ensures.movie c.place.ensures c.len.ensures.len c.apply.ensures.before c.apply.ensures.cart c.cut.ensures.lawful,
-      λ seat. counted_after c.self.inside.journal.items c.push.new.self.items c.args.next seat _ _ _ (c.self.invariant.1 seat) (c.in_ok-reserve.ensures.same seat) (c.add.ensures seat) pushed,
+    let done = c.in_ok-push.ensures.done in
+    let pushed = ap (λ (s : PublisherContent _). s.journal) done in
+    let movie = ap (λ (s : PublisherContent _). s.movie) done in
+    let was = c.self.inside.publisher in
+    let next = same_next was.journal _ c.args.next (ap (λ (s : SessionContent _). s.journal) c.self.view_is) c.requires in
+    let len = c.len.ensures.len ∙ ap (λ m. length m.inputs) c.movie.ensures in (
+      sound_edited was.journal _ was.movie _ _ _ c.args.next _ _ c.self.invariant.0 next pushed movie c.place-place.ensures len c.cut.ensures.lawful,
+      λ seat. counted_after was.journal _ c.args.next seat _ _ _ (c.self.invariant.1 seat) (c.in_ok-reserve.ensures.same seat) (c.add.ensures seat) pushed,
     )

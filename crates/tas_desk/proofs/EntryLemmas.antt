@@ -1,0 +1,112 @@
+-- What is published after an entry that can come next.
+use Rattle.std.proofs.Common.{◌≡◌, ℕ, ◌+◌, ◌<◌, List, [], ◌∷◌, ◌++◌, length, ap, sym, ◌∙◌, subst, arith, length-append}
+use Rattle.std.proofs.lemmas.Bool.Decides.{nat_tests}
+use Rattle.logbook.specs.Pages.{Book}
+use Rattle.tas_movie.specs.Content.{MovieContent}
+use Rattle.tas_movie.specs.declared.edit.Edit.{Edit}
+use Rattle.tas_movie.specs.Edit.{edited, edited_place}
+use Rattle.tas_green.specs.declared.savestate.Savestate.{Savestate}
+use Rattle.tas_green.specs.Green.{is_left}
+use Rattle.std.proofs.Math.Seq.{take-append_seam}
+use Rattle.std.specs.Prelude.{filter, take}
+use Rattle.tas_desk.specs.declared.entry.Entry.{Entry}
+use Rattle.tas_desk.specs.Version.{VersionContent, version_of}
+use Rattle.tas_desk.specs.History.{movie_of, entries_of, IsLegal}
+use Rattle.tas_desk.specs.Session.{IsNextEntry, SessionContent, IsSound, IsEditError, after_entry, refusal_of, edit_refusal, refusal_at}
+use Rattle.std.specs.Prelude.{Option}
+use Rattle.tas_desk.specs.declared.replies.EditError.{EditError}
+use Rattle.tas_desk.specs.declared.reader_view.ReaderView.{ReaderView}
+use Rattle.tas_desk.specs.Published.{PublishedContent, ChangeContent, change_of, view_of, after, one_more, IsSoundPublished, IsCurrent, Follows}
+use Rattle.tas_desk.proofs.HistoryLemmas.{movie_of-push, legal-push}
+
+one_more_below : (n : ℕ) → n < 1000000 → one_more n ≡ n + 1
+one_more_below n h = grind (arith, nat_tests)
+
+sound_pushed : {A : Type 0} (x : PublishedContent A) (log : List (Entry A)) (e : Entry A) (b : Book) → x.version.history ≡ log → IsSoundPublished x → IsNextEntry log e → IsSoundPublished (after x (change_of e.edit (version_of b (log ++ e ∷ []))))
+sound_pushed {A} x log e b same s may =
+    let long = length-append log (e ∷ []) in
+    let here : x.at ≡ length log = s.at ∙ ap length same in
+    let room = may.room in
+    let small : x.at < 1000000 = omega arith in record {
+      movie = ap (λ (t : MovieContent). edited t e.edit) (s.movie ∙ ap (λ (h : List (Entry A)). movie_of h) same) ∙ sym (movie_of-push log e);
+      at = one_more_below x.at small ∙ omega arith;
+      most = omega arith;
+      legal = legal-push log e (subst (λ (h : List (Entry A)). IsLegal h) same s.legal) may.legal;
+    }
+
+pub follows : {A : Type 0} (x : PublishedContent A) (pending : List (ChangeContent A)) (b : Book) (log seen : List (Entry A)) (e : Entry A) (c : ChangeContent A) → IsCurrent x pending b log seen → IsNextEntry log e → c ≡ change_of e.edit (version_of b (log ++ e ∷ [])) → Follows x c
+follows {A} x pending b log seen e c s may is =
+    subst (λ (d : ChangeContent A). Follows x d) (sym is)
+    (record { registry = s.registry; longer = (e ∷ [], ap (λ (l : List (Entry A)). l ++ e ∷ []) s.same); sound = sound_pushed x log e b s.same s.sound may })
+
+accepted : {A : Type 0} (x y : PublishedContent A) (pending now : List (ChangeContent A)) (b : Book) (log seen : List (Entry A)) (e : Entry A) (c : ChangeContent A) (v : ReaderView A) → IsCurrent x pending b log seen → IsNextEntry log e → c ≡ change_of e.edit (version_of b (log ++ e ∷ []))
+    → now ≡ [] → y ≡ after x c → v ≡ view_of y.version → IsCurrent y now b (log ++ e ∷ []) v.seen
+accepted {A} x y pending now b log seen e c v s may is none made view =
+    let all : y ≡ after x (change_of e.edit (version_of b (log ++ e ∷ []))) = made ∙ ap (after x) is in record {
+      none = none;
+      registry = ap (λ (p : PublishedContent A). p.version.registry) all;
+      same = ap (λ (p : PublishedContent A). p.version.history) all;
+      view = ap (λ (w : ReaderView A). w.seen) view ∙ ap (λ (p : PublishedContent A). p.version.history) all;
+      sound = subst IsSoundPublished (sym all) (sound_pushed x log e b s.same s.sound may);
+    }
+
+-- what is published is the journal, after the change_of
+pub accepted_as : {A : Type 0} (x y : PublishedContent A) (pending now : List (ChangeContent A)) (b b' : Book) (log log' seen : List (Entry A)) (e : Entry A) (c : ChangeContent A) (v : ReaderView A) → IsCurrent x pending b log seen → IsNextEntry log e → c ≡ change_of e.edit (version_of b (log ++ e ∷ []))
+    → now ≡ [] → y ≡ after x c → v ≡ view_of y.version → b' ≡ b → log' ≡ log ++ e ∷ [] → IsCurrent y now b' log' v.seen
+accepted_as {A} x y pending now b b' log log' seen e c v s may is none made view book list =
+    subst (λ (d : Book). IsCurrent y now d log' v.seen) (sym book) (subst (λ (l : List (Entry A)). IsCurrent y now b l v.seen) (sym list) (accepted x y pending now b log seen e c v s may is none made view))
+
+-- the published movie is the edited one
+pub edited_as : {A : Type 0} (x y : PublishedContent A) (e : Edit A) (m : VersionContent A) (c : ChangeContent A) → c ≡ change_of e m → y ≡ after x c → y.movie ≡ edited x.movie e
+edited_as {A} x y e m c is made = ap (λ (p : PublishedContent A). p.movie) (made ∙ ap (after x) is)
+
+-- the change_of that stands for an entry
+pub change_is : {A : Type 0} (b : Book) (log items : List (Entry A)) (e : Entry A) (edit : Edit A) (op : ChangeContent A) (last again newest : VersionContent A) → edit ≡ e.edit → items ≡ log ++ e ∷ [] → again ≡ last → last ≡ newest → newest ≡ version_of b items → op ≡ change_of edit again
+    → op ≡ change_of e.edit (version_of b (log ++ e ∷ []))
+change_is b log items e edit op last again newest p q r s t u = u ∙ (λ i. change_of (p i) ((r ∙ s ∙ t ∙ ap (version_of b) q) i))
+
+-- the session after an entry
+pub content_as : {A : Type 0} (old : SessionContent A) (b b' : Book) (log log' : List (Entry A)) (m m' : MovieContent) (z z' : List Savestate) (e : Entry A) (place len : ℕ) → record { registry = b; journal = log; movie = m; zone = z } ≡ old → b' ≡ b → log' ≡ log ++ e ∷ []
+    → m' ≡ edited m e.edit → z' ≡ filter (is_left place len) z → place ≡ edited_place e.edit → len ≡ length m'.inputs → record { registry = b'; journal = log'; movie = m'; zone = z' } ≡ after_entry old e
+content_as {A} old b b' log log' m m' z z' e place len view book more new cut at long =
+    let kept : z' ≡ filter (is_left (edited_place e.edit) (length (edited m e.edit).inputs)) z = cut ∙ (λ i. filter (is_left (at i) ((long ∙ ap (λ (x : MovieContent). length x.inputs) new) i)) z) in
+    let now : record { registry = b'; journal = log'; movie = m'; zone = z' } ≡ after_entry (record { registry = b; journal = log; movie = m; zone = z }) e = λ i. record { registry = book i; journal = more i; movie = new i; zone = kept i } in
+    now ∙ ap (λ (s : SessionContent A). after_entry s e) view
+
+-- the session where nothing has changed
+pub same_content : {A : Type 0} (old : SessionContent A) (b b' : Book) (log log' : List (Entry A)) (m m' : MovieContent) (z : List Savestate) → record { registry = b; journal = log; movie = m; zone = z } ≡ old → b' ≡ b → log' ≡ log → m' ≡ m
+    → record { registry = b'; journal = log'; movie = m'; zone = z } ≡ old
+same_content {A} old b b' log log' m m' z view book same new =
+    let now : record { registry = b'; journal = log'; movie = m'; zone = z } ≡ record { registry = b; journal = log; movie = m; zone = z } = λ i. record { registry = book i; journal = same i; movie = new i; zone = z } in
+    now ∙ view
+
+-- what is published is the journal still
+pub same_current : {A : Type 0} (x y : PublishedContent A) (pending now : List (ChangeContent A)) (b b' : Book) (log log' : List (Entry A)) (v w : ReaderView A) → IsCurrent x pending b log v.seen → y ≡ x → now ≡ [] → w ≡ v → b' ≡ b → log' ≡ log → IsCurrent y now b' log' w.seen
+same_current {A} x y pending now b b' log log' v w s same none view book list = record {
+  none = none;
+  registry = ap (λ (p : PublishedContent A). p.version.registry) same ∙ s.registry ∙ sym book;
+  same = ap (λ (p : PublishedContent A). p.version.history) same ∙ s.same ∙ sym list;
+  view = ap (λ (u : ReaderView A). u.seen) view ∙ s.view ∙ sym list;
+  sound = subst IsSoundPublished (sym same) s.sound;
+}
+
+pub same_sound : {A : Type 0} (log log' : List (Entry A)) (m m' : MovieContent) (z : List Savestate) → IsSound log m z → log' ≡ log → m' ≡ m → IsSound log' m' z
+same_sound {A} log log' m m' z s list same = subst (λ (x : MovieContent). IsSound log' x z) (sym same) (subst (λ (h : List (Entry A)). IsSound h m z) (sym list) s)
+
+pub same_count : {A : Type 0} (log log' : List (Entry A)) (seat old reserved : ℕ) → old ≡ entries_of seat log → reserved ≡ old → log' ≡ log → reserved ≡ entries_of seat log'
+same_count {A} log log' seat old reserved is same list = same ∙ is ∙ ap (λ (h : List (Entry A)). entries_of seat h) (sym list)
+
+-- an entry is taken back
+pub restored : {A : Type 0} (log pushed popped : List (Entry A)) (e : Entry A) (n : ℕ) → pushed ≡ log ++ e ∷ [] → popped ≡ take n pushed → n + 1 ≡ length pushed → popped ≡ log
+restored {A} log pushed popped e n more rest len =
+    let long = length-append log (e ∷ []) in
+    let all = ap (λ (h : List (Entry A)). length h) more in
+    let at : n ≡ length log = omega (arith, long, all, len) in
+    rest ∙ (λ i. take (at i) (more i)) ∙ take-append_seam log (e ∷ [])
+
+-- an error at a session is one at its history
+pub refused_as : {A : Type 0} (session : SessionContent A) (history : List (Entry A)) (seat made seat' made' : ℕ) (edit : Edit A) (error : EditError) → IsEditError (edit_refusal session seat made edit) error → session.movie ≡ movie_of session.journal → session.journal ≡ history → seat ≡ seat' → made ≡ made'
+    → IsEditError (refusal_at history seat' made' edit) error
+refused_as {A} session history seat made seat' made' edit error is movie list s m =
+    let same : edit_refusal session seat made edit ≡ refusal_at history seat' made' edit = λ i. refusal_of (list i) ((movie ∙ ap (λ (h : List (Entry A)). movie_of h) list) i) (s i) (m i) edit in
+    subst (λ (found : Option EditError). IsEditError found error) same is

@@ -1,0 +1,12 @@
+use Rattle.std.proofs.Common.{refl, arith, rules}
+use Rattle.tas_desk.proofs.SeatLemmas.{once_more, whole_of}
+use Rattle.tas_desk.proofs.desk.Desk.whole.Goals as goal
+
+pub returns-then-times-gt1 : goal.returns-then-times-gt1
+returns-then-times-gt1 g c = (λ t. absurd (search rules), λ w. absurd (let o = w.once c.loop-k.k in let t = c.times.ensures in let b = c.if-times-gt1.true in omega arith))
+
+pub loop-k-preserved : goal.loop-k-preserved
+loop-k-preserved g c = once_more c.args.seats.now c.loop-k.k c.loop-k.invariant (let t = c.times.ensures in let b = c.if-times-gt1.false in omega arith)
+
+pub returns : goal.returns
+returns g c = (λ _. whole_of c.args.self.now.seats g.N.Name.seats c.args.seats.now c.loop-k.k c.args.self.now.named c.if-seats-self.false (c.below.ensures.0 c.if-not-below.false) c.loop-k-test.false c.loop-k.invariant, λ _. refl)

@@ -1,0 +1,9 @@
+use Rattle.std.proofs.Common.{ap}
+use Rattle.tas_desk.specs.Seats.{SeatContent}
+use Rattle.tas_desk.proofs.EntryLemmas.{refused_as}
+use Rattle.tas_desk.proofs.locked_session.LockedSession.edit.Goals as goal
+
+pub returns-in-Err-clause-refusal : goal.returns-in-Err-clause-refusal
+returns-in-Err-clause-refusal g c =
+    refused_as c.self.inside.session _ _ _ _ _ c.args.edit c.in-Err.error c.in-Err.ensures.refusal c.show_to.ensures.history c.self.view_is
+    (ap (λ (s : SeatContent _). s.number) c.seat.view_is) (ap (λ (s : SeatContent _). s.made) c.seat.view_is)

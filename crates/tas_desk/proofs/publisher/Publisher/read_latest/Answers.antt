@@ -1,0 +1,5 @@
+use Rattle.tas_desk.proofs.PublishedRule.{looks}
+use Rattle.tas_desk.proofs.publisher.Publisher.read_latest.Goals as goal
+
+pub enter_as-requires : goal.enter_as-requires
+enter_as-requires g c = λ x. looks _ _ x

@@ -1,0 +1,99 @@
+-- What is published, and the rule between what is published and what readers have seen (own).
+use Rattle.std.specs.Prelude.{◌≡◌, ℕ, ◌+◌, ◌≤◌, nat_lt, if◌then◌else◌, List, [], length, true, false}
+use mathlib.Core.Option.{some}
+use mathlib.Core.List.{IsPrefix}
+use lib.ListN.{get_elem?}
+use Rattle.logbook.specs.Pages.{Book}
+use Rattle.tas_movie.specs.Content.{MovieContent}
+use Rattle.tas_movie.specs.declared.edit.Edit.{Edit}
+use Rattle.tas_movie.specs.Edit.{edited}
+use Rattle.tas_desk.specs.declared.entry.Entry.{Entry}
+use Rattle.tas_desk.specs.declared.reader_view.ReaderView.{ReaderView}
+use Rattle.tas_desk.specs.Version.{VersionContent}
+use Rattle.tas_desk.specs.History.{most_edits, movie_of, IsLegal}
+
+-- a movie, the number of edits that made it, and these edits with their registry
+pub record PublishedContent (A : Type 0) : Type 0 where
+  pub movie : MovieContent
+  pub at : ℕ
+  pub version : VersionContent A
+
+-- the registry of the histories that were published, the history, and the movie that it makes
+pub record PublisherContent (A : Type 0) : Type 0 where
+  pub registry : Book
+  pub journal : List (Entry A)
+  pub movie : MovieContent
+
+-- an edit, and all edits up to it
+pub record ChangeContent (A : Type 0) : Type 0 where
+  pub edit : Edit A
+  pub version : VersionContent A
+
+abbrev pub published_of : {A : Type 0} → MovieContent → ℕ → VersionContent A → PublishedContent A
+published_of m n v = record { movie = m; at = n; version = v }
+
+abbrev pub change_of : {A : Type 0} → Edit A → VersionContent A → ChangeContent A
+change_of e v = record { edit = e; version = v }
+
+abbrev pub one_more : ℕ → ℕ
+one_more n = if nat_lt n 18446744073709551615 then n + 1 else n
+
+abbrev pub after : {A : Type 0} → PublishedContent A → ChangeContent A → PublishedContent A
+after x c = published_of (edited x.movie c.edit) (one_more x.at) c.version
+
+-- what the one who knows this history of this registry has seen
+abbrev pub view_of : {A : Type 0} → VersionContent A → ReaderView A
+view_of m = record { known = true; number = m.registry.number; log_name = m.registry.log_name; cells_name = m.registry.cells_name; seen = m.history }
+
+-- the view of one who has seen nothing
+abbrev pub blank_view : {A : Type 0} → ReaderView A
+blank_view = record { known = false; number = 0; log_name = 0; cells_name = 0; seen = [] }
+
+abbrev pub registry_of : {A : Type 0} → ReaderView A → Book
+registry_of v = record { number = v.number; log_name = v.log_name; cells_name = v.cells_name }
+
+-- the history is legal, and the movie is what it makes
+pub record IsSoundPublished {A : Type 0} (x : PublishedContent A) : Type 0 where
+  pub movie : x.movie ≡ movie_of x.version.history
+  pub at : x.at ≡ length x.version.history
+  pub most : length x.version.history ≤ most_edits
+  pub legal : IsLegal x.version.history
+
+-- what was seen begins the history; who has seen something knows the registry
+pub record HasSeenPrefix {A : Type 0} (x : PublishedContent A) (v : ReaderView A) : Type 0 where
+  pub begins : IsPrefix v.seen x.version.history
+  pub registry : v.known ≡ true → registry_of v ≡ x.version.registry
+
+pub record Holds {A : Type 0} (x : PublishedContent A) (views : List (ReaderView A)) : Type 0 where
+  pub sound : IsSoundPublished x
+  pub fits : (seat : ℕ) (v : ReaderView A) → get_elem? views seat ≡ some v → HasSeenPrefix x v
+
+-- what is published began with what was seen, and its last state is what is seen from now on
+pub record Sees {A : Type 0} (v : ReaderView A) (x y : PublishedContent A) (w : ReaderView A) : Type 0 where
+  pub fits : HasSeenPrefix x v
+  pub seen : w ≡ view_of y.version
+  pub sound : IsSoundPublished y
+
+-- nothing waits to be published, what is published is the journal, in the registry that numbers it, and it is what the writer has seen
+pub record IsCurrent {A : Type 0} (x : PublishedContent A) (pending : List (ChangeContent A)) (numbering : Book) (journal writers : List (Entry A)) : Type 0 where
+  pub none : pending ≡ []
+  pub registry : x.version.registry ≡ numbering
+  pub same : x.version.history ≡ journal
+  pub view : writers ≡ journal
+  pub sound : IsSoundPublished x
+
+-- a change of what is published that leaves it sound
+pub record Follows {A : Type 0} (x : PublishedContent A) (c : ChangeContent A) : Type 0 where
+  pub registry : x.version.registry ≡ c.version.registry
+  pub longer : IsPrefix x.version.history c.version.history
+  pub sound : IsSoundPublished (after x c)
+
+-- who has this view knows the registry
+pub record KnowsRegistry {A : Type 0} (v : ReaderView A) (b : Book) : Type 0 where
+  pub known : v.known ≡ true
+  pub registry : registry_of v ≡ b
+
+-- the second view goes on from the first, in the same registry
+pub record HasSeenMore {A : Type 0} (v w : ReaderView A) : Type 0 where
+  pub begins : IsPrefix v.seen w.seen
+  pub knows : (b : Book) → KnowsRegistry v b → KnowsRegistry w b

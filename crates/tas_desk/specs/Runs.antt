@@ -1,0 +1,43 @@
+-- Frames split into runs (own).
+use Rattle.std.specs.Prelude.{◌≡◌, ℕ, ◌+◌, ◌-◌, ◌*◌, ◌/◌, ◌<◌, ◌≤◌, nat_lt, if◌then◌else◌, List, length, map, sum, None}
+use Rattle.std.specs.List.{range_with_len}
+use Rattle.tas_movie.specs.Content.{MovieContent, most_inputs}
+use Rattle.tas_green.specs.declared.savestate.Savestate.{Savestate}
+use Rattle.tas_green.specs.Zone.{nearest}
+use Rattle.tas_desk.specs.declared.runs.RunEnd.{RunEnd}
+use Rattle.tas_desk.specs.declared.runs.Plan.{Plan}
+use Rattle.tas_desk.specs.Frames.{Shows}
+
+-- the first frame of run i: the frames are shared out by division without remainder
+abbrev pub first_of_run : Plan → ℕ → ℕ
+first_of_run plan i = plan.from + i * (plan.to - plan.from) / plan.workers
+
+-- the frames that a run plays: from the nearest kept state at its first frame or before it, to its last frame; none for an empty run
+abbrev pub cost : List Savestate → ℕ → ℕ → ℕ
+cost zone first next = if nat_lt first next then next - nearest first zone else 0
+
+-- the frames that so many runs play, from run i on
+abbrev pub costs : List Savestate → Plan → ℕ → ℕ → ℕ
+costs zone plan i count = sum (map (λ j. cost zone (first_of_run plan j) (first_of_run plan (j + 1))) (range_with_len i count))
+
+-- there is a worker, and the frames are in the movie
+pub record IsPlan (movie : MovieContent) (plan : Plan) : Type 0 where
+  pub some : 0 < plan.workers
+  pub most : plan.workers ≤ 16
+  pub order : plan.from ≤ plan.to
+  pub within : plan.to ≤ length movie.inputs
+  pub few : plan.to ≤ most_inputs
+
+-- how one run ends
+pub record IsRunEnd (movie : MovieContent) (zone : List Savestate) (first : ℕ) (old new : List (List ℕ)) (end : RunEnd) : Type 0 where
+  pub len : length new ≡ length old
+  pub shows : Shows movie first new end.halted
+  pub played : end.halted ≡ None → end.played ≡ cost zone first (first + length old)
+  pub most : end.played ≤ 65536
+
+-- how the runs from run i on end
+pub record AreRunsEnd (movie : MovieContent) (zone : List Savestate) (plan : Plan) (i : ℕ) (old new : List (List ℕ)) (end : RunEnd) : Type 0 where
+  pub len : length new ≡ length old
+  pub shows : Shows movie (first_of_run plan i) new end.halted
+  pub played : end.halted ≡ None → end.played ≡ costs zone plan i (plan.workers - i)
+  pub most : end.played ≤ (plan.workers - i) * 65536

@@ -1,0 +1,99 @@
+-- Seats, and what they have seen (own).
+use Rattle.std.specs.Prelude.{◌≡◌, ℕ, ◌+◌, ◌<◌, ◌≤◌, ◌==◌, List, [], ◌∷◌, ◌++◌, length, count_by, Result, Ok, Err, Some, None, MatchResult, All}
+use mathlib.Core.List.{IsPrefix}
+use Rattle.logbook.specs.Pages.{Book}
+use Rattle.vcs_machine.specs.declared.input.Input.{Input}
+use Rattle.tas_movie.specs.declared.edit.Edit.{Edit}
+use Rattle.tas_movie.specs.Edit.{edited}
+use Rattle.tas_desk.specs.declared.entry.Entry.{Entry}
+use Rattle.tas_desk.specs.declared.reader_view.ReaderView.{ReaderView}
+use Rattle.tas_desk.specs.declared.replies.Receipt.{Receipt}
+use Rattle.tas_desk.specs.declared.replies.EditError.{EditError}
+use Rattle.tas_desk.specs.declared.replies.InputError.{InputError}
+use Rattle.tas_desk.specs.declared.replies.InputError.TheVariants.{NoEntry, NoFrame}
+use Rattle.tas_desk.specs.History.{movie_of, entries_of}
+use Rattle.tas_desk.specs.Answers.{answer_input}
+use Rattle.tas_desk.specs.Session.{refusal_at, IsEditError}
+use Rattle.tas_desk.specs.Published.{KnowsRegistry}
+use Rattle.tas_desk.specs.declared.replies.Shot.{Shot}
+use Rattle.tas_desk.specs.declared.replies.ShotError.{ShotError}
+use Rattle.tas_desk.specs.declared.replies.ShotError.TheVariants.{NoEntry as NoShotEntry, NoFrame as NoShotFrame, Memory as NoShotMemory, Halted as ShotHalted}
+use Rattle.tas_desk.specs.Zones.{ZoneContent, IsPlayed}
+
+-- a seat: its number, how many edits it made, what it has seen of the history, and its greenzone
+pub record SeatContent (A : Type 0) : Type 0 where
+  pub number : ℕ
+  pub made : ℕ
+  pub front : List (Entry A)
+  pub zone : ZoneContent A
+
+-- a desk that isn't open yet: the registry of its history's versions, the ledger, and the number of its seats
+pub record UnopenedContent : Type 0 where
+  pub registry : Book
+  pub ledger : ℕ
+  pub seats : ℕ
+
+-- a name as contracts see it: its registry, its ledger and its number of seats
+abbrev pub name_of : Book → ℕ → ℕ → UnopenedContent
+name_of b l n = record { registry = b; ledger = l; seats = n }
+
+abbrev pub seat_of : {A : Type 0} → ℕ → ℕ → List (Entry A) → ZoneContent A → SeatContent A
+seat_of number made front zone = record { number = number; made = made; front = front; zone = zone }
+
+abbrev pub entry_of : {A : Type 0} → ℕ → ℕ → Edit A → Entry A
+entry_of seat made edit = record { seat = seat; serial = made; edit = edit }
+
+-- what a seat holds: it and its zone know the registry, and its front has at least as many of its entries as it made
+pub record IsSeated {A : Type 0} (v : ReaderView A) (b : Book) (cut sum number made : ℕ) (zone : ZoneContent A) : Type 0 where
+  pub knows : KnowsRegistry v b
+  pub same : zone.made_for.registry ≡ b
+  pub parts : cut ≡ 1
+  pub amount : sum ≡ made
+  pub fewer : made ≤ entries_of number v.seen
+
+-- as many seats as there are numbers, each number below them, and none twice
+pub record IsWhole {A : Type 0} (n : ℕ) (seats : List (SeatContent A)) : Type 0 where
+  pub all : length seats ≡ n
+  pub below : All (λ seat. seat.number < n) seats
+  pub once : (k : ℕ) → count_by (λ seat. seat.number == k) seats ≤ 1
+
+-- what a call did to a seat: it has made as many edits as before, and has seen more, and all that it had seen
+pub record HasSeen {A : Type 0} (before now : SeatContent A) : Type 0 where
+  pub number : now.number ≡ before.number
+  pub made : now.made ≡ before.made
+  pub begins : IsPrefix before.front now.front
+
+-- a call that leaves the seat's greenzone as it was
+pub record HasLooked {A : Type 0} (before now : SeatContent A) : Type 0 where
+  pub seen : HasSeen before now
+  pub zone : now.zone ≡ before.zone
+
+-- the answer to an edit that was made or not: it is given at a history that begins with what the seat had seen. Where it
+-- was made, the seat's front is this history and the edit, else this history
+pub record IsEdited {A : Type 0} (before now : SeatContent A) (edit : Edit A) (answer : Result Receipt EditError) : Type 0 where
+  pub at : List (Entry A)
+  pub begins : IsPrefix before.front at
+  pub receipt : MatchResult answer (λ receipt. receipt ≡ record { at = length at + 1; len = length (edited (movie_of at) edit).inputs }) (λ _. Unit {0})
+  pub refusal : MatchResult answer (λ _. refusal_at at before.number before.made edit ≡ None) (IsEditError (refusal_at at before.number before.made edit))
+  pub seat : MatchResult answer
+      (λ _. now ≡ seat_of before.number (before.made + 1) (at ++ entry_of before.number before.made edit ∷ []) before.zone)
+      (λ _. now ≡ seat_of before.number before.made at before.zone)
+
+-- the journal goes on from what the seat has seen, and has just as many entries of the seat as it made
+pub record IsSettled {A : Type 0} (journal : List (Entry A)) (seat : SeatContent A) : Type 0 where
+  pub begins : IsPrefix seat.front journal
+  pub exact : entries_of seat.number journal ≡ seat.made
+
+-- the input of frame k of the front, or why there is none
+abbrev pub IsInput : {A : Type 0} → SeatContent A → SeatContent A → ℕ → Result (ℕ × Input) InputError → Type 0
+IsInput before now k (Ok found) = (found.0 ≡ length now.front) × (answer_input (movie_of now.front) k ≡ Some found.1)
+IsInput before now k (Err (NoFrame at len)) = (at ≡ length now.front) × (len ≡ length (movie_of now.front).inputs) × (len ≤ k)
+IsInput before now k (Err NoEntry) = now ≡ before
+
+-- what a shot of frame k leaves in the seat's zone. Where the reader got no entry the seat is as it was
+abbrev pub IsZoneShot : {A B : Type 0} → SeatContent A → SeatContent A → ℕ → Result (Shot B) ShotError → Type 0
+IsZoneShot before now k (Ok shot) = IsPlayed before.zone now.zone now.front k shot.ran
+IsZoneShot before now k (Err NoShotEntry) = now ≡ before
+IsZoneShot before now k (Err (NoShotFrame at len)) = now.zone ≡ before.zone
+IsZoneShot before now k (Err NoShotMemory) = now.zone ≡ before.zone
+IsZoneShot before now k (Err (ShotHalted at halt)) = (ran : ℕ) × IsPlayed before.zone now.zone now.front k ran

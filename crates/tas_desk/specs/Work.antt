@@ -1,0 +1,44 @@
+-- Jobs, what they made, and replies to work (own).
+use Rattle.std.specs.Prelude.{◌≡◌, ℕ, ◌+◌, ◌*◌, ◌<◌, ◌≤◌, List, length, take, min, Result, Ok, Err}
+use Rattle.tas_movie.specs.Content.{MovieContent}
+use Rattle.tas_green.specs.declared.savestate.Savestate.{Savestate}
+use Rattle.tas_green.specs.Batch.{JobContent, BatchContent}
+use Rattle.tas_green.specs.Front.{IsCommonFront}
+use Rattle.tas_green.specs.Green.{IsLawful}
+use Rattle.tas_green.specs.Grid.{most_states, stride}
+use Rattle.tas_green.specs.Zone.{state_at, nearest, first_of, where_true, is_on_grid}
+use Rattle.tas_desk.specs.declared.replies.Offered.{Offered}
+use Rattle.tas_desk.specs.declared.work.Worked.{Worked}
+use Rattle.tas_desk.specs.declared.work.WorkError.{WorkError}
+use Rattle.tas_desk.specs.declared.work.WorkError.TheVariants.{Memory}
+
+-- a job for the first `near` frames of a movie: it has the cartridge, these inputs and the movie's stride, and starts from the
+-- nearest state among them of a zone that is lawful for the movie
+pub record IsJobOf (movie : MovieContent) (near : ℕ) (job : JobContent) : Type 0 where
+  pub cart : job.cart ≡ movie.cart
+  pub inputs : job.inputs ≡ take (min near (length movie.inputs)) movie.inputs
+  pub step : job.stride ≡ stride (length movie.inputs)
+  pub kept : List Savestate
+  pub lawful : IsLawful movie kept
+  pub start : job.start ≡ nearest (min near (length movie.inputs)) kept
+
+-- a batch that is taken under a movie: a zone that is lawful for the movie gains exactly the batch's states on its grid up to the
+-- common front, and those that it lacked are counted
+pub record IsTaken (movie : MovieContent) (batch : BatchContent) (offered : Offered) : Type 0 where
+  pub front : IsCommonFront batch.inputs movie.inputs offered.front
+  pub before : List Savestate
+  pub lawful : IsLawful movie before
+  pub now : List Savestate
+  pub states : (f : ℕ) → state_at f now ≡ first_of (state_at f before) (where_true (is_on_grid (stride (length movie.inputs)) offered.front f) (state_at f batch.states))
+  pub gained : length now ≡ length before + offered.kept
+  pub lawful_now : IsLawful movie now
+
+-- no more jobs are stale than were run, and each that isn't gained at most all states of a zone
+pub record IsTally (worked : Worked) : Type 0 where
+  pub stale : worked.stale ≤ worked.jobs
+  pub kept : worked.kept + most_states * worked.stale ≤ most_states * worked.jobs
+
+-- all of so many targets were worked; or memory was refused, and those before are told
+abbrev pub IsWorked : ℕ → Result Worked WorkError → Type 0
+IsWorked targets (Ok worked) = (worked.jobs ≡ targets) × IsTally worked
+IsWorked targets (Err (Memory done)) = (done.jobs < targets) × IsTally done

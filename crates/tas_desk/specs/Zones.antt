@@ -1,0 +1,55 @@
+-- The greenzone of a seat (own).
+use Rattle.std.specs.Prelude.{◌≡◌, ℕ, ◌+◌, ◌≤◌, List, [], length, Option, Some, None}
+use Rattle.logbook.specs.Pages.{Book}
+use Rattle.tas_movie.specs.Content.{MovieContent}
+use Rattle.tas_green.specs.declared.savestate.Savestate.{Savestate}
+use Rattle.tas_green.specs.Zone.{state_at, first_of}
+use Rattle.tas_green.specs.Green.{IsLawful, IsMoved, IsShotFrom, HoldsGrid}
+use Rattle.tas_green.specs.Grid.{stride}
+use Rattle.tas_desk.specs.declared.movie_copy.MovieCopy.{MovieCopy}
+use Rattle.tas_desk.specs.declared.entry.Entry.{Entry}
+use Rattle.tas_desk.specs.Version.{VersionContent, version_of}
+use Rattle.tas_desk.specs.History.{blank_movie, movie_of}
+
+-- the history that it was made for, with its movie, and the states that are kept
+pub record ZoneContent (A : Type 0) : Type 0 where
+  pub made_for : VersionContent A
+  pub movie : MovieContent
+  pub states : List Savestate
+
+-- the zone of a seat that made no call yet
+abbrev pub blank_zone : {A : Type 0} → Book → ZoneContent A
+blank_zone b = record { made_for = version_of b []; movie = blank_movie; states = [] }
+
+-- the history of a copy that was taken, or the one that was known where none was
+abbrev pub version_after : {A : Type 0} → VersionContent A → Option (MovieCopy A) → VersionContent A
+version_after known None = known
+version_after known (Some copied) = copied.version
+
+-- a zone is cut for the new movie and gains just the other's states, so many
+abbrev pub Shares : MovieContent → MovieContent → List Savestate → List Savestate → List Savestate → ℕ → Type 0
+Shares old new zone other now gained =
+    (left : List Savestate) × IsMoved old new zone left × ((f : ℕ) → state_at f now ≡ first_of (state_at f left) (state_at f other)) × (length now ≡ length left + gained)
+
+-- a zone is made for this history now, and lawful for its movie
+pub record IsMadeFor {A : Type 0} (now : ZoneContent A) (front : List (Entry A)) : Type 0 where
+  pub list : now.made_for.history ≡ front
+  pub movie : now.movie ≡ movie_of front
+  pub lawful : IsLawful now.movie now.states
+
+-- frame k of a history's movie was played from a zone: the zone was cut for that movie first, `ran` frames were played from the
+-- nearest state that was left, and the zone then has what was left and the states on the way that stand on the grid
+pub record IsPlayed {A : Type 0} (before now : ZoneContent A) (front : List (Entry A)) (k ran : ℕ) : Type 0 where
+  pub made : IsMadeFor now front
+  pub shot : IsShotFrom before.movie now.movie k before.states now.states 0 ran
+
+-- a zone was cut for a history's movie, and then gained so many states of another zone that is lawful for it
+pub record IsShared {A : Type 0} (before now : ZoneContent A) (front : List (Entry A)) (gained : ℕ) : Type 0 where
+  pub made : IsMadeFor now front
+  pub other : List Savestate
+  pub others : IsLawful now.movie other
+  pub gain : Shares before.movie now.movie before.states other now.states gained
+
+-- where all of the grid up to frame k stands in the zone once it is cut, no more than a stride's frames were played
+pub record IsShort {A : Type 0} (before now : ZoneContent A) (k ran : ℕ) : Type 0 where
+  pub most : (left : List Savestate) → IsMoved before.movie now.movie before.states left → HoldsGrid (stride (length now.movie.inputs)) k left → ran ≤ stride (length now.movie.inputs)

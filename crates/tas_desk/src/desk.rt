@@ -1,0 +1,286 @@
+//! A desk with seats: several callers, each by a seat of its own, edit one movie behind one lock and read it without.
+//!
+//! Each call that takes a seat gives it back with its number, and with a front, the history that the seat has now seen, which
+//! begins with the one that it had seen before. In every reply `at` is the length of this front.
+
+ghost use Rattle.std.specs.Prelude.{◌≡◌, ◌≢◌, ◌↔◌, ◌⊎◌, ℕ, ◌+◌, ◌<◌, ◌≤◌, ◌==◌, ◌++◌, ◌∷◌, [], length, take, min, slice_get, Some, count_by, IsTrue, IfOk, IfErr, Err, MatchResult, All};
+ghost use mathlib.Core.List.{IsPrefix};
+ghost use Rattle.tas_green.specs.Front.{IsCommonFront};
+ghost use Rattle.tas_desk.specs.declared.replies.OfferError.TheVariants.{Cartridge, Memory};
+ghost use Rattle.tas_desk.specs.declared.replies.OpenError.TheVariants.{Memory as OutOfMemory};
+ghost use Rattle.tas_desk.specs.History.{movie_of, IsLegal};
+ghost use Rattle.tas_desk.specs.Shots.{IsShotAt};
+ghost use Rattle.tas_desk.specs.Zones.{IsShared, IsShort, blank_zone};
+ghost use Rattle.tas_green.specs.Grid.{most_states};
+ghost use Rattle.tas_desk.specs.Seats.{name_of, seat_of, HasSeen, HasLooked, IsZoneShot, IsEdited, IsWhole, IsSettled, IsInput};
+ghost use Rattle.tas_desk.specs.Work.{IsJobOf, IsTaken};
+
+use crate::locked_session::{CloseOnDrop, LockedSession};
+use crate::seat_zone::SeatZone;
+use crate::{
+    Closed, EditError, InputError, Name, NoEntry, OfferError, Offered, OpenError, Receipt, Seat,
+    Session, Shot, ShotError,
+};
+use std::alloc::{AllocError, Allocator, Global};
+use std::marker::Model;
+use std::sync::ledger::Blank;
+use std::sync::{Mutex, Wait};
+use tas_green::{Batch, Job};
+use tas_movie::Edit;
+use vcs_machine::Input;
+
+/// A desk before it has a name (own): the blank cartridge with no inputs, and no edits. Contracts see what a name must be for
+/// it: its registry, its ledger and the number of its seats. It can't be dropped: open it.
+pub struct Unopened<A: Allocator = Global> {
+    session: Session<A>,
+    blank: Blank,
+    seats: u32,
+}
+
+impl<A: Allocator> Model for Unopened<A> {
+    ghost use Rattle.std.specs.Prelude.{◌≡◌, ◌<◌, []};
+    ghost use Rattle.tas_green.specs.Grid.{most_states};
+    ghost use Rattle.tas_desk.specs.Seats.{UnopenedContent, name_of};
+
+    ghost Value = { UnopenedContent };
+
+    ghost view = { λ u. name_of u.session.registry u.blank.name u.seats };
+
+    ghost invariant = { λ u. (u.session.journal ≡ []) × (u.blank.parts ≡ u.seats) × (0 < u.seats) };
+}
+
+impl<A: Allocator + Copy> Unopened<A> {
+    /// A desk with so many seats, of which there is one at least and eight at most. `Memory` where memory is refused.
+    pub fn new(alloc: A, seats: u32) -> Result<Unopened<A>, OpenError>
+        requires { (1 ≤ seats) × (seats ≤ 8) }
+        ensures seats { IfOk result (λ unopened. unopened.seats ≡ seats) }
+        ensures error { IfErr result (λ error. error ≡ OutOfMemory) }
+    {
+        match Session::with_places(alloc, seats as usize) {
+            Ok(session) => Ok(Unopened {
+                session,
+                blank: Blank::new(u64::from(seats)),
+                seats,
+            }),
+            Err(_) => Err(OpenError::Memory),
+        }
+    }
+}
+
+/// A desk: a session behind a lock, whose movie each seat reads without the lock (own).
+#[derive(Drop)]
+pub struct Desk<N: Name, W: CloseOnDrop, A: Allocator = Global> {
+    pub(crate) locked: Mutex<LockedSession<N, W, A>>,
+    seats: u32,
+    pub ghost named: { seats ≡ N.seats },
+}
+
+impl<N: Name, W: CloseOnDrop, A: Allocator> Desk<N, W, A> {
+    /// Lets two seats see one history, and answers its length: how many edits it has.
+    pub fn meet<R: Wait>(&self, rt: &R, one: &mut Seat<N, A>, other: &mut Seat<N, A>) -> u64
+        ensures one { HasLooked one.old one.new }
+        ensures other { HasLooked other.old other.new }
+        ensures same { one.new.front ≡ other.new.front }
+        ensures at { result ≡ length one.new.front }
+    {
+        let guard = self.locked.lock(rt);
+        guard.show(rt, one);
+        guard.show(rt, other)
+    }
+
+    /// How many edits there are, and how many inputs. It waits for nobody. `NoEntry`, where the seat's reader got no entry,
+    /// leaves the seat as it was.
+    pub fn len(&self, seat: &mut Seat<N, A>) -> Result<(u64, usize), NoEntry>
+        ensures seat { HasLooked seat.old seat.new }
+        ensures reply { MatchResult result (λ p. (p.0 ≡ length seat.new.front) × (p.1 ≡ length (movie_of seat.new.front).inputs)) (λ _. seat.new ≡ seat.old) }
+    {
+        seat.len()
+    }
+
+    /// The number of edits, and the input of frame `k`, counted from 0. It waits for nobody. `NoFrame` comes exactly where the
+    /// movie isn't that long; `NoEntry` leaves the seat as it was.
+    pub fn input(&self, seat: &mut Seat<N, A>, k: usize) -> Result<(u64, Input), InputError>
+        ensures seat { HasLooked seat.old seat.new }
+        ensures reply { IsInput seat.old seat.new k result }
+    {
+        seat.input(k)
+    }
+
+    /// Whether these are all seats of the desk: the numbers from 0 on, each once, and no others.
+    pub fn whole(&self, seats: &[Seat<N, A>]) -> bool
+        ensures { IsTrue result ↔ IsWhole N.seats seats.now }
+    {
+        if seats.len() != self.seats as usize || !below(seats, self.seats) {
+            return false;
+        }
+        for k in 0..self.seats {
+            if times(seats, k) > 1 {
+                return false;
+            }
+        }
+        true
+    }
+
+    /// Ends the desk, with all its seats, for which [`Desk::whole`] is the test. It answers the movie and the history that made it,
+    /// in which each seat has just as many entries as edits that it made.
+    pub fn close<R: Wait>(self, rt: &R, seats: Vec<Seat<N, A>, A>) -> Closed<A>
+        requires named { N.parts ≡ N.seats }
+        requires whole { IsWhole N.seats seats.items }
+        ensures movie { result.movie ≡ movie_of result.journal.items }
+        ensures legal { IsLegal result.journal.items }
+        ensures seats { All (IsSettled result.journal.items) seats.items }
+    {
+        let Desk { locked, seats: _ } = self;
+        locked.into_inner().close(rt, seats)
+    }
+}
+
+impl<N: Name, W: CloseOnDrop + Wait, A: Allocator + Copy> Desk<N, W, A> {
+    /// Opens the desk, with its seats, numbered from 0: the blank cartridge with no inputs, and no edits. The name in its type must
+    /// be the name of what is opened. The desk keeps `rt`, by which its session is closed should the desk be dropped.
+    ///
+    /// `Memory` where memory is refused, `NoPlace` where a seat gets no place to read from; both close the session.
+    pub fn open(
+        rt: W,
+        alloc: A,
+        unopened: Unopened<A>,
+    ) -> Result<(Desk<N, W, A>, Vec<Seat<N, A>, A>), OpenError>
+        requires name { unopened ≡ name_of N.registry N.name N.seats }
+        requires named { N.parts ≡ N.seats }
+        ensures seats { IfOk result (λ opened. length opened.1.items ≡ unopened.seats) }
+        ensures fresh { IfOk result (λ opened. (k : ℕ) → k < unopened.seats → slice_get opened.1.items k ≡ Some (seat_of k 0 [] (blank_zone N.registry))) }
+    {
+        let Unopened {
+            mut session,
+            blank,
+            seats: count,
+        } = unopened;
+        let (book, mut rest) = blank.open::<N>();
+        let mut seats = Vec::new(alloc);
+        for number in 0..count {
+            let reader = match session.reader(&rt) {
+                Ok(reader) => reader,
+                Err(_) => {
+                    session.close(&rt);
+                    return Err(OpenError::NoPlace);
+                }
+            };
+            let zone = match SeatZone::new(alloc, session.version()) {
+                Ok(zone) => zone,
+                Err(_) => {
+                    session.close(&rt);
+                    return Err(OpenError::Memory);
+                }
+            };
+            let share = rest.split_off(1, 0);
+            if let Err(_) = seats.push(Seat::new(number, share, reader, zone)) {
+                session.close(&rt);
+                return Err(OpenError::Memory);
+            }
+        }
+        let desk = Desk {
+            locked: Mutex::new(LockedSession::new(session, book, rest, rt)),
+            seats: count,
+        };
+        Ok((desk, seats))
+    }
+}
+
+impl<N: Name, W: CloseOnDrop, A: Allocator + Copy> Desk<N, W, A> {
+    /// Makes an edit, as the seat. The receipt tells how many edits there are then, this one included, and how many inputs.
+    ///
+    /// It is refused, in this order, for `Serial` (the history that the seat now sees has another number of its edits than it
+    /// made), `Full` (1,000,000 edits), `Place`, `Long` and `Memory`. After a refusal the history has nothing of this call.
+    pub fn edit<R: Wait>(
+        &self,
+        rt: &R,
+        seat: &mut Seat<N, A>,
+        edit: Edit<A>,
+    ) -> Result<Receipt, EditError>
+        ensures { IsEdited seat.old seat.new edit result }
+    {
+        self.locked.lock(rt).edit(rt, seat, edit)
+    }
+
+    /// Draws frame `k`, counted from 0, played from the nearest state of the seat's own zone. It waits for nobody. The zone is
+    /// first cut at the common front of the inputs that it was made for and the present ones, and emptied where the cartridge
+    /// differs; then it gains the states on the way that stand on the grid. The picture takes its memory from `alloc`.
+    ///
+    /// `NoEntry` leaves the seat as it was, `NoFrame` and `Memory` its zone; after `Halted` the zone is as after an answer.
+    pub fn shot<B: Allocator>(
+        &self,
+        alloc: B,
+        seat: &mut Seat<N, A>,
+        k: usize,
+    ) -> Result<Shot<B>, ShotError>
+        ensures seat { HasSeen seat.old seat.new }
+        ensures reply { IsShotAt seat.new.front k result }
+        ensures zone { IsZoneShot seat.old seat.new k result }
+        ensures short { IfOk result (λ shot. IsShort seat.old.zone seat.new.zone k shot.ran) }
+    {
+        seat.shot(alloc, k)
+    }
+
+    /// Lets the seat's zone gain the desk's kept states, once it is cut for the movie as a shot cuts it, and answers how many it
+    /// lacked. After `AllocError` the zone is as it was.
+    pub fn share<R: Wait>(&self, rt: &R, seat: &mut Seat<N, A>) -> Result<usize, AllocError>
+        ensures seat { HasSeen seat.old seat.new }
+        ensures zone { MatchResult result (IsShared seat.old.zone seat.new.zone seat.new.front) (λ _. seat.new.zone ≡ seat.old.zone) }
+    {
+        self.locked.lock(rt).share(rt, seat)
+    }
+
+    /// A job for the movie's first `near` frames, or for all where there are fewer, from the nearest of the desk's kept states among
+    /// them. It is run outside the lock, on any thread. `AllocError` where memory is refused.
+    pub fn job<B: Allocator + Copy, R: Wait>(
+        &self,
+        rt: &R,
+        alloc: B,
+        seat: &mut Seat<N, A>,
+        near: usize,
+    ) -> Result<Job<B>, AllocError>
+        ensures seat { HasLooked seat.old seat.new }
+        ensures job { IfOk result (IsJobOf (movie_of seat.new.front) near) }
+    {
+        self.locked.lock(rt).job(rt, alloc, seat, near)
+    }
+
+    /// Takes what a job made: the states up to the common front of the batch's inputs and the movie's, on the movie's grid.
+    ///
+    /// `Cartridge` comes exactly where the bytes of the two cartridges differ, and gives the batch up; `Memory` hands the same batch
+    /// back. Both leave the kept states as they were.
+    pub fn offer<B: Allocator, R: Wait>(
+        &self,
+        rt: &R,
+        seat: &mut Seat<N, A>,
+        batch: Batch<B>,
+    ) -> Result<Offered, OfferError<B>>
+        ensures seat { HasLooked seat.old seat.new }
+        ensures cartridge { (result ≡ Err (Cartridge (length seat.new.front))) ↔ (batch.cart ≢ (movie_of seat.new.front).cart) }
+        ensures error { IfErr result (λ error. (error ≡ Cartridge (length seat.new.front)) ⊎ (error ≡ Memory batch)) }
+        ensures at { IfOk result (λ offered. offered.at ≡ length seat.new.front) }
+        ensures taken { IfOk result (IsTaken (movie_of seat.new.front) batch) }
+        ensures few { IfOk result (λ offered. offered.kept ≤ most_states) }
+    {
+        self.locked.lock(rt).offer(rt, seat, batch)
+    }
+}
+
+// Whether each seat's number is below n.
+fn below<N: Name, A: Allocator>(seats: &[Seat<N, A>], n: u32) -> bool
+    ensures { IsTrue result ↔ All (λ s. s.number < n) seats.now }
+{
+    for k in 0..seats.len() {
+        if seats[k].number() >= n {
+            return false;
+        }
+    }
+    true
+}
+
+// How many seats have this number.
+fn times<N: Name, A: Allocator>(seats: &[Seat<N, A>], k: u32) -> usize
+    ensures { result ≡ count_by (λ s. s.number == k) seats.now }
+{
+    seats.iter().filter(|s| s.number() == k).count()
+}

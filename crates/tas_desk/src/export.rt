@@ -1,0 +1,111 @@
+//! Exports of pictures.
+
+ghost use Rattle.std.specs.Prelude.{◌≡◌, ◌↔◌, ◌≤◌, IsTrue, length};
+ghost use Rattle.tas_desk.specs.History.{movie_of};
+ghost use Rattle.tas_desk.specs.Seats.{HasLooked};
+ghost use Rattle.tas_desk.specs.Exports.{IsInRange, IsExport};
+
+use crate::exporting::{ExportFault, export_frames};
+use crate::locked_session::CloseOnDrop;
+use crate::runs::Plan;
+use crate::{Desk, Gate, Name, Seat};
+use std::alloc::{Allocator, Global};
+use std::io::{Error, Write};
+use std::sync::Wait;
+use std::thread::Threads;
+use vcs_cpu::Halt;
+
+/// How many frames one export has at most (own).
+pub const MAX_EXPORT: usize = 1024;
+
+/// Frames were written (own).
+#[derive(Clone, Copy, Debug, PartialEq, Eq)]
+pub struct Exported {
+    /// How many edits the history has.
+    pub at: u64,
+    /// How many frames were played.
+    pub played: u64,
+}
+
+/// Why frames weren't written, or not all (own).
+#[derive(Drop)]
+pub enum ExportError {
+    /// The movie hasn't these frames, or there are too many for one export. Nothing was written.
+    Range {
+        /// How many edits the history has.
+        at: u64,
+        /// The movie's length in frames.
+        len: usize,
+    },
+    /// Memory was refused. Nothing was written.
+    Memory,
+    /// A frame is halted; this is the least one. Nothing was written.
+    Halted {
+        /// How many edits the history has.
+        at: u64,
+        /// The frame, counted from 0.
+        frame: usize,
+        /// Where and why it halted.
+        halt: Halt,
+    },
+    /// A write failed, or took no byte, after so many bytes.
+    Write {
+        /// How many bytes had gone out: fewer than all.
+        written: usize,
+        /// The writer's error.
+        error: Error,
+    },
+}
+
+/// Whether a movie of this length has all frames from `from` to the one before `to`, and they are few enough for one export.
+pub(crate) fn is_in_range(len: usize, from: usize, to: usize) -> bool
+    ensures { IsTrue result ↔ IsInRange len from to }
+{
+    from <= to && to <= len && to - from <= MAX_EXPORT
+}
+
+impl<N: Name, W: CloseOnDrop, A: Allocator + Copy> Desk<N, W, A> {
+    /// Writes the portable pixmaps of the frames from `from` to the one before `to`, one after the other. The movie is
+    /// copied under the lock. The frames are split into `workers` runs in order, which are played outside it, each on a
+    /// thread of its own, which passes the gate first; a run starts from the nearest state of the seat's zone that a cut for
+    /// the movie would leave. Nothing is written before all pictures are there. The seat's zone isn't changed.
+    pub fn export<G: Gate + Sync, O: Write, R: Wait + Threads + Sync>(
+        &self,
+        rt: &R,
+        alloc: Global,
+        seat: &mut Seat<N, A>,
+        from: usize,
+        to: usize,
+        workers: usize,
+        gate: &G,
+        out: &mut O,
+    ) -> Result<Exported, ExportError>
+        requires { (1 ≤ workers) × (workers ≤ 16) }
+        ensures seat { HasLooked seat.old seat.new }
+        ensures reply { IsExport seat.old.zone (movie_of seat.new.front) (length seat.new.front) (record { from = from; to = to; workers = workers }) (O.contents out.old) (O.contents out.new) result }
+    {
+        let found = self.locked.lock(rt).copy(rt, alloc, seat, from, to);
+        let (at, movie) = match found {
+            Ok(found) => found,
+            Err(error) => return Err(error),
+        };
+        let zone = match seat.zone.moved(alloc, &movie) {
+            Ok(zone) => zone,
+            Err(_) => return Err(ExportError::Memory),
+        };
+        let plan = Plan { from, to, workers };
+        match export_frames(rt, alloc, &movie, &zone, plan, gate, out) {
+            Ok(played) => Ok(Exported { at, played }),
+            Err(ExportFault::Memory) => Err(ExportError::Memory),
+            Err(ExportFault::Halted(halted)) => Err(ExportError::Halted {
+                at,
+                frame: halted.frame,
+                halt: halted.halt,
+            }),
+            Err(ExportFault::Write { written, error }) => Err(ExportError::Write {
+                written,
+                error,
+            }),
+        }
+    }
+}

@@ -1,0 +1,226 @@
+//! What lies under the lock of a desk.
+
+ghost use Rattle.std.specs.Prelude.{◌≡◌, ◌≢◌, ◌↔◌, ◌⊎◌, ℕ, ◌+◌, ◌<◌, ◌≤◌, ◌++◌, ◌∷◌, [], length, take, min, None, IfOk, IfErr, Err, MatchResult, All};
+ghost use mathlib.Core.List.{IsPrefix};
+ghost use Rattle.tas_movie.specs.Edit.{edited};
+ghost use Rattle.tas_desk.specs.declared.replies.OfferError.TheVariants.{Cartridge, Memory};
+ghost use Rattle.tas_desk.specs.History.{movie_of, IsLegal};
+ghost use Rattle.tas_desk.specs.Session.{refusal_at, IsEditError};
+ghost use Rattle.tas_desk.specs.Zones.{IsShared};
+ghost use Rattle.tas_desk.specs.Exports.{FoundRange};
+ghost use Rattle.tas_desk.specs.Work.{IsJobOf, IsTaken};
+ghost use Rattle.tas_green.specs.Grid.{most_states};
+ghost use Rattle.tas_desk.specs.Seats.{seat_of, entry_of, IsWhole, IsSettled};
+
+use crate::export::{ExportError, is_in_range};
+use crate::{Closed, EditError, Entry, Name, OfferError, Offered, Receipt, Seat, Session};
+use std::alloc::{AllocError, Allocator, Global};
+use std::marker::Model;
+use std::sync::Wait;
+use std::sync::ledger::{Book, Share};
+use tas_green::{Batch, Job};
+use tas_movie::{Edit, Movie};
+
+/// How a dropped desk closes its session (own). Whatever may wait does it, by waiting. The trait itself has no part for waiting, so
+/// that the type of a desk doesn't make its looks calls that may wait.
+pub trait CloseOnDrop: Drop {
+    /// Closes the session.
+    fn close_session<A: Allocator>(&self, session: Session<A>);
+}
+
+impl<R: Wait + Drop> CloseOnDrop for R {
+    fn close_session<A: Allocator>(&self, session: Session<A>) {
+        drop(session.close(self));
+    }
+}
+
+/// The session, with the book of what the seats made. Contracts see its history. It keeps its part for waiting, since a
+/// session can't be dropped: it is closed then.
+pub struct LockedSession<N: Name, W: CloseOnDrop, A: Allocator = Global> {
+    session: Session<A>,
+    book: Book<N>,
+    rest: Share<N>,
+    rt: W,
+}
+
+impl<N: Name, W: CloseOnDrop, A: Allocator> Drop for LockedSession<N, W, A> {
+    fn drop(self) {
+        let LockedSession {
+            session,
+            book: _,
+            rest: _,
+            rt,
+        } = self;
+        rt.close_session(session);
+    }
+}
+
+impl<N: Name, W: CloseOnDrop, A: Allocator> Model for LockedSession<N, W, A> {
+    ghost use Rattle.std.specs.Prelude.{◌≡◌, List, length};
+    ghost use Rattle.tas_desk.specs.declared.entry.Entry.{Entry};
+
+    ghost Value = { List (Entry A) };
+
+    ghost view = { λ l. l.session.journal };
+
+    ghost invariant = { λ l. (l.session.registry ≡ N.registry) × (l.book.total ≡ length l.session.journal) × (l.rest.parts ≡ 0) × (l.rest.amount ≡ 0) };
+}
+
+impl<N: Name, W: CloseOnDrop, A: Allocator> LockedSession<N, W, A> {
+    pub fn new(session: Session<A>, book: Book<N>, rest: Share<N>, rt: W) -> LockedSession<N, W, A>
+        requires session { (session.registry ≡ N.registry) × (session.journal ≡ []) }
+        requires book { book.total ≡ 0 }
+        requires rest { (rest.parts ≡ 0) × (rest.amount ≡ 0) }
+        ensures { result ≡ [] }
+    {
+        LockedSession {
+            session,
+            book,
+            rest,
+            rt,
+        }
+    }
+
+    /// Lets a seat see the history, and answers its length.
+    pub fn show<R: Wait>(&self, rt: &R, seat: &mut Seat<N, A>) -> u64
+        ensures seat { seat.new ≡ seat_of seat.old.number seat.old.made self.now seat.old.zone }
+        ensures begins { IsPrefix seat.old.front self.now }
+        ensures at { result ≡ length self.now }
+    {
+        self.session.show_to(rt, &mut seat.reader);
+        self.session.at()
+    }
+
+    /// Ends the session, with all seats.
+    pub fn close<R: Wait>(self, rt: &R, seats: Vec<Seat<N, A>, A>) -> Closed<A>
+        requires named { N.parts ≡ N.seats }
+        requires whole { IsWhole N.seats seats.items }
+        ensures journal { result.journal.items ≡ self }
+        ensures movie { result.movie ≡ movie_of self }
+        ensures legal { IsLegal self }
+        ensures seats { All (IsSettled self) seats.items }
+    {
+        let LockedSession {
+            session,
+            mut book,
+            rest,
+            rt: _,
+        } = self;
+        let mut all = rest;
+        let mut seats = seats;
+        while let Some(seat) = seats.pop() {
+            let Seat {
+                number: _,
+                made: _,
+                share,
+                mut reader,
+                zone: _,
+            } = seat;
+            session.show_to(rt, &mut reader);
+            all.merge(share);
+        }
+        book.audit(&mut all);
+        session.close(rt)
+    }
+}
+
+impl<N: Name, W: CloseOnDrop, A: Allocator + Copy> LockedSession<N, W, A> {
+    /// Takes an edit of a seat.
+    pub fn edit<R: Wait>(
+        &mut self,
+        rt: &R,
+        seat: &mut Seat<N, A>,
+        edit: Edit<A>,
+    ) -> Result<Receipt, EditError>
+        ensures begins { IsPrefix seat.old.front self.old }
+        ensures receipt { IfOk result (λ receipt. receipt ≡ record { at = length self.old + 1; len = length (edited (movie_of self.old) edit).inputs }) }
+        ensures refusal { MatchResult result (λ _. refusal_at self.old seat.old.number seat.old.made edit ≡ None) (IsEditError (refusal_at self.old seat.old.number seat.old.made edit)) }
+        ensures journal { MatchResult result (λ _. self.new ≡ self.old ++ entry_of seat.old.number seat.old.made edit ∷ []) (λ _. self.new ≡ self.old) }
+        ensures seat { MatchResult result (λ _. seat.new ≡ seat_of seat.old.number (seat.old.made + 1) self.new seat.old.zone) (λ _. seat.new ≡ seat_of seat.old.number seat.old.made self.new seat.old.zone) }
+    {
+        self.session.show_to(rt, &mut seat.reader);
+        let receipt = match self.session.edit(rt, seat.number, seat.made, edit) {
+            Ok(receipt) => receipt,
+            Err(error) => return Err(error),
+        };
+        self.session.show_to(rt, &mut seat.reader);
+        self.book.add(&mut seat.share, 1);
+        seat.made += 1;
+        Ok(receipt)
+    }
+
+    /// Copies the movie, where it has these frames and they are few enough for an export.
+    pub fn copy<R: Wait>(
+        &self,
+        rt: &R,
+        alloc: Global,
+        seat: &mut Seat<N, A>,
+        from: usize,
+        to: usize,
+    ) -> Result<(u64, Movie), ExportError>
+        ensures begins { IsPrefix seat.old.front self.now }
+        ensures seat { seat.new ≡ seat_of seat.old.number seat.old.made self.now seat.old.zone }
+        ensures reply { FoundRange (movie_of self.now) (length self.now) from to result }
+    {
+        self.session.show_to(rt, &mut seat.reader);
+        let at = self.session.at();
+        let len = self.session.movie().len();
+        if !is_in_range(len, from, to) {
+            return Err(ExportError::Range { at, len });
+        }
+        match self.session.movie().copy(alloc) {
+            Ok(movie) => Ok((at, movie)),
+            Err(_) => Err(ExportError::Memory),
+        }
+    }
+
+    /// Lets a seat's zone gain the kept states.
+    pub fn share<R: Wait>(&self, rt: &R, seat: &mut Seat<N, A>) -> Result<usize, AllocError>
+        ensures begins { IsPrefix seat.old.front self.now }
+        ensures seat { seat.new ≡ seat_of seat.old.number seat.old.made self.now seat.new.zone }
+        ensures zone { MatchResult result (IsShared seat.old.zone seat.new.zone self.now) (λ _. seat.new.zone ≡ seat.old.zone) }
+    {
+        self.session.show_to(rt, &mut seat.reader);
+        seat.zone.share(
+            self.session.movie(),
+            self.session.version(),
+            self.session.green(),
+        )
+    }
+
+    /// A job for a part of the movie.
+    pub fn job<B: Allocator + Copy, R: Wait>(
+        &self,
+        rt: &R,
+        alloc: B,
+        seat: &mut Seat<N, A>,
+        near: usize,
+    ) -> Result<Job<B>, AllocError>
+        ensures begins { IsPrefix seat.old.front self.now }
+        ensures seat { seat.new ≡ seat_of seat.old.number seat.old.made self.now seat.old.zone }
+        ensures job { IfOk result (IsJobOf (movie_of self.now) near) }
+    {
+        self.session.show_to(rt, &mut seat.reader);
+        self.session.job(alloc, near)
+    }
+
+    /// Takes what a job made.
+    pub fn offer<B: Allocator, R: Wait>(
+        &mut self,
+        rt: &R,
+        seat: &mut Seat<N, A>,
+        batch: Batch<B>,
+    ) -> Result<Offered, OfferError<B>>
+        ensures begins { IsPrefix seat.old.front self.old }
+        ensures same { self.new ≡ self.old }
+        ensures seat { seat.new ≡ seat_of seat.old.number seat.old.made self.old seat.old.zone }
+        ensures cartridge { (result ≡ Err (Cartridge (length self.old))) ↔ (batch.cart ≢ (movie_of self.old).cart) }
+        ensures error { IfErr result (λ error. (error ≡ Cartridge (length self.old)) ⊎ (error ≡ Memory batch)) }
+        ensures at { IfOk result (λ offered. offered.at ≡ length self.old) }
+        ensures taken { IfOk result (IsTaken (movie_of self.old) batch) }
+        ensures few { IfOk result (λ offered. offered.kept ≤ most_states) }
+    {
+        self.session.show_to(rt, &mut seat.reader);
+        self.session.offer(batch)
+    }
+}

@@ -1,0 +1,22 @@
+//! A copy of the movie.
+
+ghost use Rattle.std.specs.Prelude.{◌≡◌};
+ghost use Rattle.tas_desk.specs.History.{movie_of};
+
+use crate::Entry;
+use crate::version::{Version, VersionRule};
+use logbook::Rule;
+use std::alloc::{Allocator, Global};
+use std::collections::LinkedList;
+use tas_movie::Movie;
+
+/// A copy of the movie, with the version of the history that makes it.
+#[derive(Drop)]
+pub struct MovieCopy<A: Allocator = Global>
+where
+    VersionRule: Rule<LinkedList<Entry<A>, A>, u64>,
+{
+    pub movie: Movie<A>,
+    pub version: Version<A>,
+    pub ghost whole: { movie ≡ movie_of version.history },
+}

@@ -1,0 +1,121 @@
+//! Seats.
+
+ghost use Rattle.std.specs.Prelude.{◌≡◌, ◌≤◌, length, MatchResult, IfOk};
+ghost use Rattle.tas_green.specs.Grid.{most_states};
+ghost use Rattle.tas_desk.specs.Shots.{IsShotAt};
+ghost use Rattle.tas_desk.specs.History.{movie_of};
+ghost use Rattle.tas_desk.specs.Published.{KnowsRegistry};
+ghost use Rattle.tas_desk.specs.Zones.{IsShort};
+ghost use Rattle.tas_desk.specs.Seats.{seat_of, HasSeen, HasLooked, IsInput, IsZoneShot};
+
+use crate::movie_reader::MovieReader;
+use crate::seat_zone::SeatZone;
+use crate::{InputError, Name, NoEntry, Shot, ShotError};
+use std::alloc::{Allocator, Global};
+use std::marker::Model;
+use std::sync::ledger::Share;
+use vcs_machine::Input;
+
+/// A seat of a desk (own). Contracts see its number, how many edits it made, what it has seen of the history, and its greenzone.
+#[derive(Drop)]
+pub struct Seat<N: Name, A: Allocator = Global> {
+    pub(crate) number: u32,
+    pub(crate) made: u64,
+    pub(crate) share: Share<N>,
+    pub(crate) reader: MovieReader<A>,
+    pub(crate) zone: SeatZone<A>,
+}
+
+impl<N: Name, A: Allocator> Model for Seat<N, A> {
+    ghost use Rattle.tas_desk.specs.Seats.{SeatContent, seat_of, IsSeated};
+
+    ghost Value = { SeatContent A };
+
+    ghost view = { λ s. seat_of s.number s.made s.reader.seen s.zone };
+
+    ghost invariant = { λ s. IsSeated s.reader N.registry s.share.parts s.share.amount s.number s.made s.zone };
+}
+
+impl<N: Name, A: Allocator> Seat<N, A> {
+    pub(crate) fn new(
+        number: u32,
+        share: Share<N>,
+        reader: MovieReader<A>,
+        zone: SeatZone<A>,
+    ) -> Seat<N, A>
+        requires share { (share.parts ≡ 1) × (share.amount ≡ 0) }
+        requires reader { KnowsRegistry reader N.registry }
+        requires zone { zone.made_for.registry ≡ N.registry }
+        ensures { result ≡ seat_of number 0 reader.seen zone }
+    {
+        Seat {
+            number,
+            made: 0,
+            share,
+            reader,
+            zone,
+        }
+    }
+
+    /// The seat's number, counted from 0.
+    pub fn number(&self) -> u32
+        ensures { result ≡ self.now.number }
+    {
+        self.number
+    }
+
+    /// How many states its greenzone has.
+    pub fn kept(&self) -> usize
+        ensures count { result ≡ length self.now.zone.states }
+        ensures bounded { result ≤ most_states }
+    {
+        self.zone.count()
+    }
+
+    /// How many edits there are, and how many inputs.
+    pub(crate) fn len(&mut self) -> Result<(u64, usize), NoEntry>
+        ensures seat { HasLooked self.old self.new }
+        ensures reply { MatchResult result (λ p. (p.0 ≡ length self.new.front) × (p.1 ≡ length (movie_of self.new.front).inputs)) (λ _. self.new ≡ self.old) }
+    {
+        self.reader.len()
+    }
+
+    /// The input of frame `k`.
+    pub(crate) fn input(&mut self, k: usize) -> Result<(u64, Input), InputError>
+        ensures seat { HasLooked self.old self.new }
+        ensures reply { IsInput self.old self.new k result }
+    {
+        self.reader.input(k)
+    }
+}
+
+impl<N: Name, A: Allocator + Copy> Seat<N, A> {
+    /// Draws frame `k` from the seat's own zone.
+    pub(crate) fn shot<B: Allocator>(&mut self, alloc: B, k: usize) -> Result<Shot<B>, ShotError>
+        ensures seat { HasSeen self.old self.new }
+        ensures reply { IsShotAt self.new.front k result }
+        ensures zone { IsZoneShot self.old self.new k result }
+        ensures short { IfOk result (λ shot. IsShort self.old.zone self.new.zone k shot.ran) }
+    {
+        let found = self
+            .reader
+            .copy(self.zone.allocator(), self.zone.version(), k);
+        let (at, copied) = match found {
+            Ok(found) => found,
+            Err(error) => return Err(error),
+        };
+        let (ran, shown) = match self.zone.draw(alloc, copied, k) {
+            Ok(drawn) => drawn,
+            Err(_) => return Err(ShotError::Memory),
+        };
+        match shown {
+            Ok(picture) => Ok(Shot {
+                at,
+                frame: k,
+                ran,
+                picture,
+            }),
+            Err(halt) => Err(ShotError::Halted { at, halt }),
+        }
+    }
+}

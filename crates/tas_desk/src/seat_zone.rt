@@ -1,0 +1,201 @@
+//! The greenzone of a seat, with the movie that it was made for.
+
+ghost use Rattle.std.specs.Prelude.{◌≡◌, ◌+◌, ◌<◌, ◌≤◌, ◌^◌, [], length, Some, IfOk, OnOk, OnErr};
+ghost use Rattle.tas_movie.specs.Content.{most_inputs};
+ghost use Rattle.tas_green.specs.Grid.{most_states};
+ghost use Rattle.tas_green.specs.Run.{state_after, picture_of, answer_of};
+ghost use Rattle.tas_green.specs.Green.{IsLawful, IsMoved, IsShotFrom};
+ghost use Rattle.tas_desk.specs.Answers.{answer_shot};
+ghost use Rattle.tas_desk.specs.History.{movie_of};
+ghost use Rattle.tas_desk.specs.Zones.{Shares, version_after, blank_zone};
+
+use crate::Entry;
+use crate::movie_copy::MovieCopy;
+use crate::version::{Version, VersionRule};
+use logbook::Rule;
+use std::alloc::{AllocError, Allocator, Global};
+use std::collections::LinkedList;
+use std::marker::Model;
+use tas_green::Green;
+use tas_movie::Movie;
+use vcs_cpu::Halt;
+use vcs_machine::Meter;
+use vcs_tia::Picture;
+
+/// A greenzone with the movie that it was made for. The type keeps that it is lawful for this movie, and that the movie is
+/// that of the history whose version stands beside it.
+#[derive(Drop)]
+pub struct SeatZone<A: Allocator = Global>
+where
+    VersionRule: Rule<LinkedList<Entry<A>, A>, u64>,
+{
+    alloc: A,
+    made_for: MovieCopy<A>,
+    green: Green<A>,
+}
+
+impl<A: Allocator> Model for SeatZone<A>
+where
+    VersionRule: Rule<LinkedList<Entry<A>, A>, u64>,
+{
+    ghost use Rattle.tas_green.specs.Green.{IsLawful};
+    ghost use Rattle.tas_desk.specs.Zones.{ZoneContent};
+
+    ghost Value = { ZoneContent A };
+
+    ghost view = { λ z. record { made_for = z.made_for.version; movie = z.made_for.movie; states = z.green } };
+
+    ghost invariant = { λ z. IsLawful z.made_for.movie z.green };
+}
+
+impl<A: Allocator> SeatZone<A> {
+    /// How many states there are.
+    pub fn count(&self) -> usize
+        ensures count { result ≡ length self.now.states }
+        ensures bounded { result ≤ most_states }
+    {
+        self.green.count()
+    }
+}
+
+impl<A: Allocator + Copy> SeatZone<A> {
+    /// No states, made for the empty history.
+    pub fn new(alloc: A, version: &Version<A>) -> Result<SeatZone<A>, AllocError>
+        requires { version.now.history ≡ [] }
+        ensures { IfOk result (λ zone. zone ≡ blank_zone version.now.registry) }
+    {
+        let movie = Movie::blank(alloc)?;
+        Ok(SeatZone {
+            alloc,
+            made_for: MovieCopy {
+                movie,
+                version: version.copy(),
+            },
+            green: Green::new(alloc),
+        })
+    }
+
+    /// What the zone takes its memory from.
+    pub fn allocator(&self) -> A {
+        self.alloc
+    }
+
+    /// The version of the history that the zone was made for.
+    pub fn version(&self) -> &Version<A>
+        ensures { result.now ≡ self.now.made_for }
+    {
+        &self.made_for.version
+    }
+
+    /// Shows frame `k` of the movie that was copied, or of the zone's own where none was: the zone is cut for it, the frames
+    /// are played from the nearest state that is left, and the zone is that movie's from then on. After `AllocError` nothing
+    /// is changed.
+    pub fn shot<B: Allocator>(
+        &mut self,
+        copied: Option<MovieCopy<A>>,
+        k: usize,
+        picture: &mut Picture<B>,
+        meter: &mut Meter,
+    ) -> Result<Result<(), Halt>, AllocError>
+        requires within { k < length (movie_of (version_after self.old.made_for copied).history).inputs }
+        requires room { meter.old + (k + 1) < 2 ^ 64 }
+        ensures answer { IfOk result (λ answer. answer ≡ answer_of (state_after self.new.movie (k + 1)).halt) }
+        ensures picture { IfOk result (λ answer. OnOk answer (picture.new ≡ picture_of self.new.movie k)) }
+        ensures made_for { OnOk result (self.new.made_for ≡ version_after self.old.made_for copied) }
+        ensures movie { OnOk result (self.new.movie ≡ movie_of self.new.made_for.history) }
+        ensures kept { OnOk result (IsShotFrom self.old.movie self.new.movie k self.old.states self.new.states meter.old meter.new) }
+        ensures lawful { OnOk result (IsLawful self.new.movie self.new.states) }
+        ensures memory { OnErr result ((self.new ≡ self.old) × (meter.new ≡ meter.old)) }
+    {
+        let old = &self.made_for;
+        match copied {
+            None => {
+                let answer = self
+                    .green
+                    .shot_from(&old.movie, &old.movie, k, picture, meter)?;
+                Ok(answer)
+            }
+            Some(copied) => {
+                let new = &copied;
+                let answer = self
+                    .green
+                    .shot_from(&old.movie, &new.movie, k, picture, meter)?;
+                self.made_for = copied;
+                Ok(answer)
+            }
+        }
+    }
+
+    /// As `shot`, over a new picture and a new meter. It answers how many frames were played, and what frame `k` shows.
+    pub fn draw<B: Allocator>(
+        &mut self,
+        alloc: B,
+        copied: Option<MovieCopy<A>>,
+        k: usize,
+    ) -> Result<(u64, Result<Picture<B>, Halt>), AllocError>
+        requires within { k < length (movie_of (version_after self.old.made_for copied).history).inputs }
+        requires few { k < most_inputs }
+        ensures shows { IfOk result (λ drawn. answer_shot self.new.movie k ≡ Some drawn.1) }
+        ensures made_for { OnOk result (self.new.made_for ≡ version_after self.old.made_for copied) }
+        ensures movie { OnOk result (self.new.movie ≡ movie_of self.new.made_for.history) }
+        ensures kept { IfOk result (λ drawn. IsShotFrom self.old.movie self.new.movie k self.old.states self.new.states 0 drawn.0) }
+        ensures lawful { OnOk result (IsLawful self.new.movie self.new.states) }
+        ensures memory { OnErr result (self.new ≡ self.old) }
+    {
+        let Ok(mut picture) = Picture::blank(alloc) else {
+            return Err(AllocError);
+        };
+        let mut meter = Meter::new();
+        let answer = match self.shot(copied, k, &mut picture, &mut meter) {
+            Ok(answer) => answer,
+            Err(error) => return Err(error),
+        };
+        match answer {
+            Ok(()) => Ok((meter.count(), Ok(picture))),
+            Err(halt) => Ok((meter.count(), Err(halt))),
+        }
+    }
+
+    /// Gains the states of another greenzone, once it is cut for that one's movie, and answers how many. After `AllocError`
+    /// nothing is changed.
+    pub fn share(
+        &mut self,
+        movie: &Movie<A>,
+        version: &Version<A>,
+        other: &Green<A>,
+    ) -> Result<usize, AllocError>
+        requires registry { self.old.made_for.registry ≡ version.now.registry }
+        requires movie { movie.now ≡ movie_of version.now.history }
+        requires lawful { IsLawful movie.now other.now }
+        ensures made_for { OnOk result (self.new.made_for ≡ version.now) }
+        ensures movie { OnOk result (self.new.movie ≡ movie.now) }
+        ensures gained { IfOk result (Shares self.old.movie movie.now self.old.states other.now self.new.states) }
+        ensures lawful { OnOk result (IsLawful self.new.movie self.new.states) }
+        ensures memory { OnErr result (self.new ≡ self.old) }
+    {
+        let old = &self.made_for;
+        if old.version.is_same(version) {
+            return self.green.gain_from(&old.movie, &old.movie, other);
+        }
+        let copied = MovieCopy {
+            movie: movie.copy(self.alloc)?,
+            version: version.copy(),
+        };
+        let new = &copied;
+        let gained = self.green.gain_from(&old.movie, &new.movie, other)?;
+        self.made_for = copied;
+        Ok(gained)
+    }
+
+    /// A copy of the states that is cut for a movie, as `shot` cuts; the zone isn't changed.
+    pub fn moved<B: Allocator, C: Allocator>(
+        &self,
+        alloc: B,
+        movie: &Movie<C>,
+    ) -> Result<Green<B>, AllocError>
+        ensures moved { IfOk result (λ green. IsMoved self.now.movie movie.now self.now.states green) }
+        ensures lawful { IfOk result (λ green. IsLawful movie.now green) }
+    {
+        self.green.moved(alloc, &self.made_for.movie, movie)
+    }
+}
