@@ -1,0 +1,200 @@
+//! Calls of a desk in short, taken one after the other on one thread.
+
+use crate::changes::{Change, edit_of};
+use crate::gates::Open;
+use std::alloc::Global;
+use std::process::Abort;
+use std::sync::Wait;
+use std::test::Fail;
+use std::thread::Threads;
+use tas_desk::{
+    CloseOnDrop, Desk, EditError, ExportError, InputError, Name, NoEntry, Receipt, Seat, ShotError,
+    Worked,
+};
+use vcs_machine::Input;
+
+/// A call of the seat of this number, and its answer.
+#[derive(Clone, Copy)]
+pub enum Call {
+    /// An edit that is made: the number of edits and the length then.
+    Made(u32, Change, u64, usize),
+    /// An edit that is refused.
+    Refused(u32, Change, EditError),
+    /// The number of edits and the length.
+    Len(u32, u64, usize),
+    /// An input.
+    Input(u32, usize, Result<(u64, Input), InputError>),
+    /// A shot of a frame: the number of edits, of frames that are played, and of lit pixels.
+    Drawn(u32, usize, u64, u64, usize),
+    /// A shot of a frame that isn't drawn.
+    NotDrawn(u32, usize, ShotError),
+    /// Work on some targets.
+    Work(u32, &'static [usize], Worked),
+    /// How many states the seat's zone gained.
+    Share(u32, usize),
+    /// An export of some frames by so many workers: how many edits there are, and frames played.
+    Exported(u32, (usize, usize), usize, u64, u64),
+    /// An export of frames that aren't all there: how many edits and frames there are.
+    OutOfRange(u32, (usize, usize), u64, usize),
+    /// The two seats meet, at so many edits.
+    Meet(u64),
+}
+
+/// A shot's answer, its picture told by how many pixels are lit.
+fn shoot<N: Name, W: CloseOnDrop>(
+    alloc: Global,
+    desk: &Desk<N, W>,
+    seat: &mut Seat<N>,
+    k: usize,
+) -> Result<(usize, u64, u64, usize), ShotError> {
+    match desk.shot(alloc, seat, k) {
+        Ok(shot) => Ok((shot.frame, shot.at, shot.ran, shot.picture.lit())),
+        Err(error) => Err(error),
+    }
+}
+
+/// Whether an edit is answered so.
+fn is_edited<N: Name, W: CloseOnDrop, R: Wait>(
+    rt: &R,
+    alloc: Global,
+    desk: &Desk<N, W>,
+    seat: &mut Seat<N>,
+    change: Change,
+    answer: Result<Receipt, EditError>,
+) -> Result<bool, Fail> {
+    let edit = edit_of(alloc, change)?;
+    Ok(desk.edit(rt, seat, edit) == answer)
+}
+
+/// What an export tells: how many edits there are; frames played, or the movie's length where the frames aren't all there;
+/// and how many bytes were written. Nothing for other answers.
+fn export<N: Name, W: CloseOnDrop, R: Threads + Wait + Sync>(
+    rt: &R,
+    alloc: Global,
+    desk: &Desk<N, W>,
+    seat: &mut Seat<N>,
+    range: (usize, usize),
+    workers: usize,
+) -> Option<(u64, Result<u64, usize>, usize)> {
+    if workers < 1 || workers > 16 {
+        return None;
+    }
+    let (from, to) = range;
+    let mut out = Vec::new(alloc);
+    match desk.export(rt, alloc, seat, from, to, workers, &Open, &mut out) {
+        Ok(exported) => Some((exported.at, Ok(exported.played), out.len())),
+        Err(ExportError::Range { at, len }) => Some((at, Err(len), out.len())),
+        Err(_) => None,
+    }
+}
+
+/// Whether a look is answered as it says.
+fn is_seen<N: Name, W: CloseOnDrop>(
+    alloc: Global,
+    desk: &Desk<N, W>,
+    seat: &mut Seat<N>,
+    call: Call,
+) -> bool {
+    match call {
+        Call::Len(_, at, len) => desk.len(seat) == Ok((at, len)),
+        Call::Input(_, k, answer) => desk.input(seat, k) == answer,
+        Call::Drawn(_, k, at, ran, lit) => shoot(alloc, desk, seat, k) == Ok((k, at, ran, lit)),
+        Call::NotDrawn(_, k, error) => shoot(alloc, desk, seat, k) == Err(error),
+        _ => false,
+    }
+}
+
+/// Whether a call of one seat is answered as it says.
+fn is_answered<N: Name, W: CloseOnDrop, R: Threads + Wait + Sync>(
+    rt: &R,
+    alloc: Global,
+    desk: &Desk<N, W>,
+    seat: &mut Seat<N>,
+    call: Call,
+) -> Result<bool, Fail> {
+    match call {
+        Call::Made(_, change, at, len) => {
+            is_edited(rt, alloc, desk, seat, change, Ok(Receipt { at, len }))
+        }
+        Call::Refused(_, change, error) => is_edited(rt, alloc, desk, seat, change, Err(error)),
+        Call::Work(_, targets, worked) => {
+            Ok(desk.work(rt, alloc, seat, targets, &Open) == Ok(worked))
+        }
+        Call::Share(_, gained) => Ok(desk.share(rt, seat).ok() == Some(gained)),
+        Call::Exported(_, (from, to), workers, at, played) => {
+            let bytes = to.saturating_sub(from).saturating_mul(100_815);
+            let told = export(rt, alloc, desk, seat, (from, to), workers);
+            Ok(told == Some((at, Ok(played), bytes)))
+        }
+        Call::OutOfRange(_, range, at, len) => {
+            Ok(export(rt, alloc, desk, seat, range, 3) == Some((at, Err(len), 0)))
+        }
+        _ => Ok(is_seen(alloc, desk, seat, call)),
+    }
+}
+
+/// The number of the seat that calls. Seat 0 meets seat 1.
+fn caller(call: Call) -> u32 {
+    match call {
+        Call::Made(seat, ..)
+        | Call::Refused(seat, ..)
+        | Call::Len(seat, ..)
+        | Call::Input(seat, ..)
+        | Call::Drawn(seat, ..)
+        | Call::NotDrawn(seat, ..)
+        | Call::Work(seat, ..)
+        | Call::Share(seat, ..)
+        | Call::Exported(seat, ..)
+        | Call::OutOfRange(seat, ..) => seat,
+        Call::Meet(_) => 0,
+    }
+}
+
+/// Whether seats 0 and 1 meet at so many edits.
+fn is_met<N: Name, W: CloseOnDrop, R: Wait>(
+    rt: &R,
+    desk: &Desk<N, W>,
+    seats: &mut [Seat<N>],
+    at: u64,
+) -> bool {
+    if seats.len() < 2 {
+        return false;
+    }
+    let (first, rest) = seats.split_at_mut(1);
+    match (first.first_mut(), rest.first_mut()) {
+        (Some(one), Some(other)) => desk.meet(rt, one, other) == at,
+        _ => false,
+    }
+}
+
+/// Whether the call is answered as it says.
+fn is_taken<N: Name, W: CloseOnDrop, R: Threads + Wait + Sync>(
+    rt: &R,
+    alloc: Global,
+    desk: &Desk<N, W>,
+    seats: &mut [Seat<N>],
+    call: Call,
+) -> Result<bool, Fail> {
+    if let Call::Meet(at) = call {
+        return Ok(is_met(rt, desk, seats, at));
+    }
+    match seats.get_mut(caller(call) as usize) {
+        Some(seat) => is_answered(rt, alloc, desk, seat, call),
+        None => Ok(false),
+    }
+}
+
+/// Takes calls in order, on one thread.
+pub fn take_calls<N: Name, W: CloseOnDrop, R: Threads + Wait + Abort + Sync>(
+    rt: &R,
+    alloc: Global,
+    desk: &Desk<N, W>,
+    seats: &mut [Seat<N>],
+    calls: &[Call],
+) -> Result<(), Fail> {
+    for (number, call) in calls.iter().enumerate() {
+        let is_right = is_taken(rt, alloc, desk, seats, *call)?;
+        assert!(rt; is_right, "call {number}");
+    }
+    Ok(())
+}

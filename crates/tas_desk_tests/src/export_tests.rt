@@ -1,0 +1,255 @@
+//! Exports: the same bytes for every number of workers, and what is left out of them.
+
+ghost use Rattle.std.specs.Prelude.{◌≤◌};
+
+use crate::changes::{Change, FOLDING, HALT, HALTING, PLAYFIELD, edit_of};
+use crate::desks::{Task, play};
+use crate::gates::{Counting, Open, Ordered};
+use crate::replays::images;
+use crate::sums::Sum;
+use std::alloc::Global;
+use std::io;
+use std::process::Abort;
+use std::sync::Wait;
+use std::test::Fail;
+use std::thread::Threads;
+use tas_desk::{CloseOnDrop, Desk, ExportError, Gate, Name, Seat};
+use tas_movie::{Movie, apply, check};
+use vcs_cpu::Halt;
+
+/// What an export tells, and what it has written: how many bytes, and the sum over them.
+type Told = (Result<(u64, u64), Refused>, usize, u64);
+
+/// Why frames weren't written, or not all.
+#[derive(Clone, Copy, Debug, PartialEq, Eq)]
+enum Refused {
+    Range { at: u64, len: usize },
+    Memory,
+    Halted { at: u64, frame: usize, halt: Halt },
+    Write { written: usize, is_full: bool },
+}
+
+/// Exports frames into a writer with so much room.
+fn export<N: Name, W: CloseOnDrop, G: Gate + Sync, R: Threads + Wait + Sync>(
+    rt: &R,
+    alloc: Global,
+    desk: &Desk<N, W>,
+    seat: &mut Seat<N>,
+    range: (usize, usize),
+    workers: usize,
+    gate: &G,
+    room: usize,
+) -> Told
+    requires { (1 ≤ workers) × (workers ≤ 16) }
+{
+    let (from, to) = range;
+    let mut out = Sum::new(room);
+    let told = match desk.export(rt, alloc, seat, from, to, workers, gate, &mut out) {
+        Ok(exported) => Ok((exported.at, exported.played)),
+        Err(ExportError::Range { at, len }) => Err(Refused::Range { at, len }),
+        Err(ExportError::Memory) => Err(Refused::Memory),
+        Err(ExportError::Halted { at, frame, halt }) => Err(Refused::Halted { at, frame, halt }),
+        Err(ExportError::Write { written, error }) => Err(Refused::Write {
+            written,
+            is_full: error.kind() == io::ErrorKind::WriteZero,
+        }),
+    };
+    let (bytes, sum) = out.told();
+    (told, bytes, sum)
+}
+
+/// A movie of a program and so many inputs, by edits of the seat.
+fn fill<N: Name, R: Threads + Wait + Abort + Sync>(
+    rt: &R,
+    alloc: Global,
+    desk: &Desk<N, &R>,
+    seat: &mut Seat<N>,
+    program: &'static [u8],
+    count: usize,
+) -> Result<Movie, Fail> {
+    let mut movie = Movie::blank(alloc)?;
+    let changes = [
+        Change::Load(program),
+        Change::Insert(0, count),
+        Change::ReplaceRight(1),
+    ];
+    for change in changes {
+        let edit = edit_of(alloc, change)?;
+        if check(&movie, &edit).is_ok() {
+            apply(&mut movie, &edit);
+        }
+        assert!(rt; desk.edit(rt, seat, edit).is_ok(), "{change:?}");
+    }
+    Ok(movie)
+}
+
+/// So many frames, from frame 2 on, by each number of workers.
+pub fn export_by_each<N: Name, R: Threads + Wait + Abort + Sync>(
+    rt: &R,
+    alloc: Global,
+    desk: &Desk<N, &R>,
+    seat: &mut Seat<N>,
+    frames: usize,
+) -> Result<(), Fail> {
+    let movie = fill(rt, alloc, desk, seat, FOLDING, 20)?;
+    let range = (2, frames.saturating_add(2));
+    let (bytes, sum) = images(alloc, &movie, range.0, range.1)?.map_err(|_| "a halt")?;
+    assert_eq!(rt; bytes, frames.saturating_mul(100_815));
+    for workers in 1..17usize {
+        let (told, written, found) = export(
+            rt,
+            alloc,
+            desk,
+            seat,
+            range,
+            workers,
+            &Open,
+            usize::MAX,
+        );
+        assert!(rt; told.is_ok(), "{frames} frames by {workers}");
+        assert_eq!(rt; written, bytes, "{frames} frames by {workers}");
+        assert_eq!(rt; found, sum, "{frames} frames by {workers}");
+    }
+    Ok(())
+}
+
+#[test]
+fn every_number_of_workers_writes_the_same(rt: HostRuntime) -> Result<(), Fail> {
+    for frames in [0, 1, 15, 16, 17] {
+        let (closed, _) = play(&rt, rt.alloc(), 1, Task::ExportByEach(frames))?;
+        assert_eq!(rt; closed.journal.len(), 3);
+    }
+    Ok(())
+}
+
+/// Two workers of whom the first waits until the second has come, and gates that are passed by workers without frames too.
+pub fn export_through_gates<N: Name, R: Threads + Wait + Abort + Sync>(
+    rt: &R,
+    alloc: Global,
+    desk: &Desk<N, &R>,
+    seat: &mut Seat<N>,
+) -> Result<(), Fail> {
+    fill(rt, alloc, desk, seat, PLAYFIELD, 2)?;
+    let alone = export(rt, alloc, desk, seat, (0, 2), 1, &Open, usize::MAX);
+    assert_eq!(rt; (alone.0, alone.1), (Ok((3, 2)), 201_630));
+    let ordered = Ordered::new();
+    let both = export(rt, alloc, desk, seat, (0, 2), 2, &ordered, usize::MAX);
+    assert!(rt; ordered.entered.was_seen(), "one thread plays both runs");
+    assert_eq!(rt; both, (Ok((3, 3)), alone.1, alone.2));
+    let counting = Counting::new();
+    let many = export(rt, alloc, desk, seat, (0, 2), 16, &counting, usize::MAX);
+    assert_eq!(rt; (many.1, many.2), (alone.1, alone.2));
+    // The numbers 0 to 15, each once.
+    assert_eq!(rt; counting.passed(), (16, 1240));
+    Ok(())
+}
+
+#[test]
+fn workers_run_at_once(rt: HostRuntime) -> Result<(), Fail> {
+    play(&rt, rt.alloc(), 1, Task::ExportThroughGates)?;
+    Ok(())
+}
+
+/// A halt in the last run; in two runs; in each of five; and frames before it.
+pub fn export_until_halted<N: Name, R: Threads + Wait + Abort + Sync>(
+    rt: &R,
+    alloc: Global,
+    desk: &Desk<N, &R>,
+    seat: &mut Seat<N>,
+) -> Result<(), Fail> {
+    fill(rt, alloc, desk, seat, HALTING, 8)?;
+    let cases = [
+        ((1, 5), 2, 3),
+        ((1, 5), 1, 3),
+        ((3, 5), 2, 3),
+        ((0, 8), 8, 3),
+        ((5, 8), 3, 5),
+        ((4, 5), 16, 4),
+    ];
+    let (_, nothing) = Sum::new(0).told();
+    for (range, workers, frame) in cases {
+        let told = export(rt, alloc, desk, seat, range, workers, &Open, usize::MAX);
+        let halted = Refused::Halted {
+            at: 3,
+            frame,
+            halt: HALT,
+        };
+        assert_eq!(rt; told, (Err(halted), 0, nothing), "{range:?} by {workers}");
+    }
+    let told = export(rt, alloc, desk, seat, (0, 3), 2, &Open, usize::MAX);
+    assert_eq!(rt; (told.0, told.1), (Ok((3, 4)), 302_445));
+    Ok(())
+}
+
+#[test]
+fn the_least_halted_frame_is_told(rt: HostRuntime) -> Result<(), Fail> {
+    play(&rt, rt.alloc(), 1, Task::ExportUntilHalted)?;
+    Ok(())
+}
+
+/// Writers that fail at some byte, and ranges at their ends.
+pub fn export_to_the_ends<N: Name, R: Threads + Wait + Abort + Sync>(
+    rt: &R,
+    alloc: Global,
+    desk: &Desk<N, &R>,
+    seat: &mut Seat<N>,
+) -> Result<(), Fail> {
+    fill(rt, alloc, desk, seat, PLAYFIELD, 1030)?;
+    for room in [0, 1, 15, 150_000, 201_629] {
+        let told = export(rt, alloc, desk, seat, (0, 2), 2, &Open, room);
+        let broken = Refused::Write {
+            written: room,
+            is_full: true,
+        };
+        assert_eq!(rt; (told.0, told.1), (Err(broken), room), "after {room}");
+    }
+    let ranges = [
+        (1, 0),
+        (0, 1025),
+        (6, 1031),
+        (1031, 1031),
+        (0, usize::MAX),
+        (usize::MAX, usize::MAX),
+        (usize::MAX, 0),
+    ];
+    for range in ranges {
+        let told = export(rt, alloc, desk, seat, range, 2, &Open, usize::MAX);
+        let out = Refused::Range { at: 3, len: 1030 };
+        assert_eq!(rt; (told.0, told.1), (Err(out), 0), "{range:?}");
+    }
+    for end in [0, 1030] {
+        let told = export(rt, alloc, desk, seat, (end, end), 3, &Open, usize::MAX);
+        assert_eq!(rt; (told.0, told.1), (Ok((3, 0)), 0), "from {end}");
+    }
+    Ok(())
+}
+
+#[test]
+fn writers_fail_and_ranges_end(rt: HostRuntime) -> Result<(), Fail> {
+    play(&rt, rt.alloc(), 1, Task::ExportToTheEnds)?;
+    Ok(())
+}
+
+/// As many frames as one export may have, from a full zone: each run starts at a kept state.
+pub fn export_longest<N: Name, R: Threads + Wait + Abort + Sync>(
+    rt: &R,
+    alloc: Global,
+    desk: &Desk<N, &R>,
+    seat: &mut Seat<N>,
+) -> Result<(), Fail> {
+    fill(rt, alloc, desk, seat, FOLDING, 1024)?;
+    let one = export(rt, alloc, desk, seat, (0, 1024), 1, &Open, usize::MAX);
+    assert_eq!(rt; (one.0, one.1), (Ok((3, 1024)), 103_234_560));
+    let worked = desk.work(rt, alloc, seat, &[1024], &Open);
+    assert_eq!(rt; worked.map(|worked| worked.kept), Ok(16));
+    assert_eq!(rt; desk.share(rt, seat).ok(), Some(16));
+    let four = export(rt, alloc, desk, seat, (0, 1024), 4, &Open, usize::MAX);
+    assert_eq!(rt; four, one);
+    Ok(())
+}
+
+#[test]
+fn the_longest_export(rt: HostRuntime) -> Result<(), Fail> {
+    play(&rt, rt.alloc(), 1, Task::ExportLongest)?;
+    Ok(())
+}

@@ -1,0 +1,606 @@
+//! Sessions by hand: each call with its answer, and each refusal with what it leaves.
+
+use crate::changes::{Change, HALT, HALTING, PLAYFIELD, cart, edit_of, right};
+use crate::sessions::{Lent, Turn, history, kept, lend, play_turns, take_turns};
+use std::alloc::{AllocError, Global};
+use std::process::Abort;
+use std::sync::Wait;
+use std::test::Fail;
+use tas_desk::{
+    EditError, InputError, MAX_EDITS, NoEntry, OfferError, Offered, OpenError, Receipt, Session,
+    ShotError,
+};
+use tas_green::Batch;
+use vcs_machine::{Cart, Input, Meter};
+
+#[test]
+fn a_new_session_is_empty(rt: HostRuntime) -> Result<(), Fail> {
+    let alloc = rt.alloc();
+    let none = ShotError::NoFrame { at: 0, len: 0 };
+    let turns = [Turn::Kept("0:"), Turn::NotDrawn(0, none, 0)];
+    let closed = play_turns(&rt, alloc, &turns)?;
+    assert_eq!(rt; closed.journal.len(), 0);
+    assert_eq!(rt; closed.movie.len(), 0);
+    assert!(rt; closed.movie.cart().bytes() == Cart::blank(alloc)?.bytes());
+    Ok(())
+}
+
+#[test]
+fn serials_count_the_seat_s_own_edits(rt: HostRuntime) -> Result<(), Fail> {
+    let alloc = rt.alloc();
+    let attempts = [
+        (0, 5, Err(EditError::Serial { at: 0, counted: 0 })),
+        (7, 0, Ok(Receipt { at: 1, len: 0 })),
+        (0, 0, Ok(Receipt { at: 2, len: 0 })),
+        (7, 0, Err(EditError::Serial { at: 2, counted: 1 })),
+        (7, 2, Err(EditError::Serial { at: 2, counted: 1 })),
+        (7, 1, Ok(Receipt { at: 3, len: 0 })),
+        (0, 2, Err(EditError::Serial { at: 3, counted: 1 })),
+        (u32::MAX, 3, Err(EditError::Serial { at: 3, counted: 0 })),
+        (u32::MAX, 0, Ok(Receipt { at: 4, len: 0 })),
+        (0, 1, Ok(Receipt { at: 5, len: 0 })),
+        (7, u64::MAX, Err(EditError::Serial { at: 5, counted: 2 })),
+    ];
+    let turns = attempts.map(|(seat, made, answer)| {
+        Turn::Tried(seat, made, Change::Delete(0, 0), answer)
+    });
+    let closed = play_turns(&rt, alloc, &turns)?;
+    let text =
+        "7 0 delete 0 0\n0 0 delete 0 0\n7 1 delete 0 0\n4294967295 0 delete 0 0\n0 1 delete 0 0\n";
+    assert_eq!(rt; history(alloc, closed.journal.as_slice())?.as_str(), text);
+    Ok(())
+}
+
+#[test]
+fn each_kind_of_edit_is_made(rt: HostRuntime) -> Result<(), Fail> {
+    let alloc = rt.alloc();
+    let turns = [
+        Turn::Made(Change::Load(PLAYFIELD), 1, 0),
+        Turn::Made(Change::Insert(0, 5), 2, 5),
+        Turn::Made(Change::Insert(5, 2), 3, 7),
+        Turn::Made(Change::ReplaceRight(6), 4, 7),
+        Turn::Made(Change::Delete(1, 4), 5, 3),
+        Turn::Made(Change::Load(HALTING), 6, 3),
+        Turn::Made(Change::InsertRight(0), 7, 4),
+    ];
+    let closed = play_turns(&rt, alloc, &turns)?;
+    let text =
+        "0 0 load\n0 1 insert 0 5\n0 2 insert 5 2\n0 3 replace 6 1\n0 4 delete 1 4\n0 5 load\n0 6 insert 0 1\n";
+    assert_eq!(rt; history(alloc, closed.journal.as_slice())?.as_str(), text);
+    let inputs = [right(), Input::none(), Input::none(), right()];
+    assert!(rt; closed.movie.inputs() == inputs.as_slice());
+    assert!(rt; closed.movie.cart().bytes() == cart(alloc, HALTING)?.bytes());
+    Ok(())
+}
+
+/// `Serial` comes before `Place`, and `Place` before `Long`, whatever else is wrong. A refusal leaves the state after 128
+/// frames, which is kept.
+#[test]
+fn refusals_come_in_order(rt: HostRuntime) -> Result<(), Fail> {
+    let (at, len) = (2, 65500);
+    let serial = Err(EditError::Serial { at, counted: 2 });
+    let place = |place: usize| Err(EditError::Place { at, place, len });
+    let long = Err(EditError::Long { at, len });
+    let longest = Ok(Receipt { at: 3, len: 65536 });
+    let halted = ShotError::Halted { at, halt: HALT };
+    let turns = [
+        Turn::Made(Change::Load(HALTING), 1, 0),
+        Turn::Made(Change::Insert(0, 65500), 2, 65500),
+        Turn::NotDrawn(200, halted, 201),
+        Turn::Tried(0, 1, Change::Insert(0, 1), serial),
+        Turn::Tried(0, 3, Change::Load(PLAYFIELD), serial),
+        Turn::Tried(0, 0, Change::Insert(65501, 1), serial),
+        Turn::Tried(0, 9, Change::Insert(0, 37), serial),
+        Turn::Tried(0, 9, Change::Insert(65501, 37), serial),
+        Turn::Tried(0, 9, Change::ReplaceRight(65500), serial),
+        Turn::Tried(0, 9, Change::Delete(0, 65501), serial),
+        Turn::Tried(0, 2, Change::Insert(65501, 1), place(65501)),
+        Turn::Tried(0, 2, Change::Insert(65501, 0), place(65501)),
+        Turn::Tried(0, 2, Change::Insert(65501, 37), place(65501)),
+        Turn::Tried(0, 2, Change::ReplaceRight(65500), place(65500)),
+        Turn::Tried(0, 2, Change::Replace(64, 65437), place(64)),
+        Turn::Tried(0, 2, Change::Delete(0, 65501), place(0)),
+        Turn::Tried(0, 2, Change::Delete(65500, 1), place(65500)),
+        Turn::Tried(
+            0,
+            2,
+            Change::Delete(usize::MAX, usize::MAX),
+            place(usize::MAX),
+        ),
+        Turn::Tried(0, 2, Change::Insert(0, 37), long),
+        Turn::Tried(0, 2, Change::Insert(65500, 37), long),
+        Turn::Tried(0, 2, Change::Insert(65500, 36), longest),
+        Turn::Kept("1: 128"),
+    ];
+    let closed = play_turns(&rt, rt.alloc(), &turns)?;
+    assert_eq!(rt; closed.movie.len(), 65536);
+    Ok(())
+}
+
+#[test]
+fn movies_have_at_most_65536_inputs(rt: HostRuntime) -> Result<(), Fail> {
+    let len = 65536;
+    let misplaced = Err(EditError::Place {
+        at: 1,
+        place: 65537,
+        len,
+    });
+    let (empty, full) = (
+        Err(EditError::Long { at: 0, len: 0 }),
+        Err(EditError::Long { at: 1, len }),
+    );
+    let turns = [
+        Turn::Tried(0, 0, Change::Insert(0, 65537), empty),
+        Turn::Tried(0, 0, Change::Insert(0, 65536), Ok(Receipt { at: 1, len })),
+        Turn::Tried(0, 1, Change::Insert(0, 1), full),
+        Turn::Tried(0, 1, Change::Insert(65537, 1), misplaced),
+        Turn::Tried(0, 1, Change::Replace(65536, 0), Ok(Receipt { at: 2, len })),
+    ];
+    let closed = play_turns(&rt, rt.alloc(), &turns)?;
+    assert_eq!(rt; closed.journal.len(), 2);
+    Ok(())
+}
+
+/// So many edits of seat 4 that change nothing, and the edits behind them, which are refused.
+struct Million;
+
+impl Lent for Million {
+    fn run<R: Wait + Abort>(
+        &self,
+        rt: &R,
+        alloc: Global,
+        session: &mut Session,
+    ) -> Result<(), Fail> {
+        for made in 0..MAX_EDITS {
+            session.edit(rt, 4, made, edit_of(alloc, Change::Delete(0, 0))?)?;
+        }
+        let at = 1_000_000;
+        let full = EditError::Full { at };
+        let serial = EditError::Serial { at, counted: at };
+        let attempts = [
+            (at, Change::Delete(0, 0), full),
+            (at, Change::Delete(0, 1), full),
+            (at, Change::Insert(0, 65537), full),
+            (999_999, Change::Delete(0, 0), serial),
+        ];
+        for (made, change, error) in attempts {
+            let answer = session.edit(rt, 4, made, edit_of(alloc, change)?);
+            assert_eq!(rt; answer, Err(error), "{change:?} after {made}");
+        }
+        Ok(())
+    }
+}
+
+#[test]
+fn a_million_edits_are_the_most(rt: HostRuntime) -> Result<(), Fail> {
+    let closed = lend(&rt, rt.alloc(), &Million)?;
+    assert_eq!(rt; closed.journal.len(), 1_000_000);
+    assert_eq!(rt; closed.movie.len(), 0);
+    Ok(())
+}
+
+#[test]
+fn shots_and_edits_in_turn(rt: HostRuntime) -> Result<(), Fail> {
+    let none = ShotError::NoFrame { at: 4, len: 0 };
+    let turns = [
+        Turn::Made(Change::Load(PLAYFIELD), 1, 0),
+        Turn::Made(Change::Insert(0, 200), 2, 200),
+        Turn::Drawn(191, 2, 192, 1680),
+        Turn::Kept("3: 64 128 192"),
+        Turn::Made(Change::ReplaceRight(64), 3, 200),
+        Turn::Kept("1: 64"),
+        Turn::Drawn(64, 3, 1, 1680),
+        Turn::Made(Change::Delete(0, 200), 4, 0),
+        Turn::Kept("0:"),
+        Turn::NotDrawn(0, none, 0),
+        Turn::Made(Change::Delete(0, 0), 5, 0),
+    ];
+    play_turns(&rt, rt.alloc(), &turns)?;
+    Ok(())
+}
+
+#[test]
+fn states_behind_an_insert_are_made_anew(rt: HostRuntime) -> Result<(), Fail> {
+    let turns = [
+        Turn::Made(Change::Load(PLAYFIELD), 1, 0),
+        Turn::Made(Change::Insert(0, 200), 2, 200),
+        Turn::Drawn(199, 2, 200, 1680),
+        Turn::Drawn(150, 2, 23, 1680),
+        Turn::Made(Change::InsertRight(127), 3, 201),
+        Turn::Kept("1: 64"),
+        Turn::Drawn(200, 3, 137, 1680),
+        Turn::Kept("3: 64 128 192"),
+        Turn::Made(Change::Delete(10, 191), 4, 10),
+        Turn::Kept("0:"),
+        Turn::Drawn(9, 4, 10, 1680),
+    ];
+    play_turns(&rt, rt.alloc(), &turns)?;
+    Ok(())
+}
+
+#[test]
+fn an_edit_that_is_taken_back_still_costs_its_states(rt: HostRuntime) -> Result<(), Fail> {
+    let turns = [
+        Turn::Made(Change::Load(PLAYFIELD), 1, 0),
+        Turn::Made(Change::Insert(0, 200), 2, 200),
+        Turn::Drawn(191, 2, 192, 1680),
+        Turn::Made(Change::ReplaceRight(64), 3, 200),
+        Turn::Made(Change::Replace(64, 1), 4, 200),
+        Turn::Drawn(191, 4, 128, 1680),
+    ];
+    play_turns(&rt, rt.alloc(), &turns)?;
+    Ok(())
+}
+
+#[test]
+fn the_grid_follows_the_length(rt: HostRuntime) -> Result<(), Fail> {
+    let turns = [
+        Turn::Made(Change::Load(PLAYFIELD), 1, 0),
+        Turn::Made(Change::Insert(0, 32831), 2, 32831),
+        Turn::Drawn(199, 2, 200, 1680),
+        Turn::Kept("3: 64 128 192"),
+        Turn::Made(Change::InsertRight(32831), 3, 32832),
+        Turn::Kept("1: 128"),
+        Turn::Drawn(150, 3, 23, 1680),
+        Turn::Drawn(100, 3, 101, 1680),
+        Turn::Made(Change::Delete(32831, 1), 4, 32831),
+        Turn::Kept("1: 128"),
+        Turn::Drawn(100, 4, 101, 1680),
+        Turn::Drawn(100, 4, 37, 1680),
+    ];
+    play_turns(&rt, rt.alloc(), &turns)?;
+    Ok(())
+}
+
+#[test]
+fn halted_frames_are_told_and_kept(rt: HostRuntime) -> Result<(), Fail> {
+    let halted = ShotError::Halted { at: 2, halt: HALT };
+    let turns = [
+        Turn::Made(Change::Load(HALTING), 1, 0),
+        Turn::Made(Change::Insert(0, 100), 2, 100),
+        Turn::Drawn(2, 2, 3, 0),
+        Turn::Kept("0:"),
+        Turn::NotDrawn(3, halted, 4),
+        Turn::NotDrawn(99, halted, 100),
+        Turn::Kept("1: 64"),
+        Turn::NotDrawn(80, halted, 17),
+        Turn::Kept("1: 64"),
+    ];
+    let closed = play_turns(&rt, rt.alloc(), &turns)?;
+    let text = "0 0 load\n0 1 insert 0 100\n";
+    assert_eq!(rt;
+        history(rt.alloc(), closed.journal.as_slice())?.as_str(),
+        text
+    );
+    Ok(())
+}
+
+#[test]
+fn a_frame_that_is_not_there_changes_nothing(rt: HostRuntime) -> Result<(), Fail> {
+    let none = ShotError::NoFrame { at: 2, len: 200 };
+    let turns = [
+        Turn::Made(Change::Load(PLAYFIELD), 1, 0),
+        Turn::Made(Change::Insert(0, 200), 2, 200),
+        Turn::Drawn(100, 2, 101, 1680),
+        Turn::NotDrawn(200, none, 0),
+        Turn::NotDrawn(201, none, 0),
+        Turn::NotDrawn(65536, none, 0),
+        Turn::NotDrawn(usize::MAX, none, 0),
+        Turn::Kept("1: 64"),
+    ];
+    let closed = play_turns(&rt, rt.alloc(), &turns)?;
+    assert_eq!(rt; closed.journal.len(), 2);
+    assert_eq!(rt; closed.movie.len(), 200);
+    Ok(())
+}
+
+/// The movie of the tests below: 200 frames of a program.
+fn open_movie<R: Wait + Abort>(
+    rt: &R,
+    alloc: Global,
+    session: &mut Session,
+    program: &'static [u8],
+    count: usize,
+) -> Result<(), Fail> {
+    let turns = [
+        Turn::Made(Change::Load(program), 1, 0),
+        Turn::Made(Change::Insert(0, count), 2, count),
+    ];
+    take_turns(rt, alloc, session, &turns)
+}
+
+/// Frames 10 and 10 play 11 frames each; frame 70 plays 71, which keeps the state after 64, and then 7; there is no
+/// frame 200.
+struct OneMeter;
+
+impl Lent for OneMeter {
+    fn run<R: Wait + Abort>(
+        &self,
+        rt: &R,
+        alloc: Global,
+        session: &mut Session,
+    ) -> Result<(), Fail> {
+        open_movie(rt, alloc, session, PLAYFIELD, 200)?;
+        let mut meter = Meter::new();
+        for (k, count) in [(10, 11), (10, 22), (70, 93), (70, 100), (200, 100)] {
+            // The condition of a shot: the meter has room for the whole movie.
+            if meter.room() >= session.movie().len() as u64 {
+                let is_drawn = session.shot(alloc, k, &mut meter).is_ok();
+                assert_eq!(rt; is_drawn, k < 200, "frame {k}");
+            }
+            assert_eq!(rt; meter.count(), count, "frame {k}");
+        }
+        Ok(())
+    }
+}
+
+#[test]
+fn one_meter_counts_several_shots(rt: HostRuntime) -> Result<(), Fail> {
+    lend(&rt, rt.alloc(), &OneMeter)?;
+    Ok(())
+}
+
+/// A job's batch.
+fn run(alloc: Global, session: &Session, near: usize) -> Result<Batch, AllocError> {
+    Ok(session.job(alloc, near)?.run())
+}
+
+/// An offer's answer, without the batch that it may hand back.
+#[derive(Clone, Copy, Debug, PartialEq, Eq)]
+enum Answered {
+    Taken(Offered),
+    OtherCartridge { at: u64 },
+    OutOfMemory,
+}
+
+fn offer(session: &mut Session, batch: Batch) -> Answered {
+    match session.offer(batch) {
+        Ok(offered) => Answered::Taken(offered),
+        Err(OfferError::Cartridge { at }) => Answered::OtherCartridge { at },
+        Err(OfferError::Memory(_)) => Answered::OutOfMemory,
+    }
+}
+
+fn taken(at: u64, front: usize, kept: usize) -> Answered {
+    Answered::Taken(Offered { at, front, kept })
+}
+
+/// A job of the first 128 of 200 frames, and one of more frames than there are. Neither changes the session.
+struct Jobs;
+
+impl Lent for Jobs {
+    fn run<R: Wait + Abort>(
+        &self,
+        rt: &R,
+        alloc: Global,
+        session: &mut Session,
+    ) -> Result<(), Fail> {
+        open_movie(rt, alloc, session, PLAYFIELD, 200)?;
+        let first = run(alloc, session, 128)?;
+        assert!(rt; first.cart().bytes() == session.movie().cart().bytes());
+        assert_eq!(rt; first.inputs().len(), 128);
+        let all = run(alloc, session, 1000)?;
+        assert!(rt; all.inputs() == session.movie().inputs());
+        let held = [
+            (0, false, false),
+            (64, true, true),
+            (128, true, true),
+            (192, false, true),
+            (200, false, false),
+            (256, false, false),
+        ];
+        for (frame, in_first, in_all) in held {
+            assert_eq!(rt; first.holds(frame), in_first, "frame {frame}");
+            assert_eq!(rt; all.holds(frame), in_all, "frame {frame}");
+        }
+        take_turns(rt, alloc, session, &[Turn::Kept("0:")])
+    }
+}
+
+#[test]
+fn jobs_hold_what_the_session_had(rt: HostRuntime) -> Result<(), Fail> {
+    let closed = lend(&rt, rt.alloc(), &Jobs)?;
+    assert_eq!(rt; closed.journal.len(), 2);
+    Ok(())
+}
+
+/// A job starts from the nearest kept state, whose frames it doesn't play again.
+struct Nearest;
+
+impl Lent for Nearest {
+    fn run<R: Wait + Abort>(
+        &self,
+        rt: &R,
+        alloc: Global,
+        session: &mut Session,
+    ) -> Result<(), Fail> {
+        open_movie(rt, alloc, session, PLAYFIELD, 200)?;
+        take_turns(rt, alloc, session, &[Turn::Drawn(70, 2, 71, 1680)])?;
+        let batch = run(alloc, session, 128)?;
+        assert!(rt; !batch.holds(64) && batch.holds(128) && !batch.holds(192));
+        assert_eq!(rt; offer(session, batch), taken(2, 128, 1));
+        let turns = [Turn::Kept("2: 64 128"), Turn::Drawn(191, 2, 64, 1680)];
+        take_turns(rt, alloc, session, &turns)
+    }
+}
+
+#[test]
+fn a_batch_is_kept_with_what_is_there(rt: HostRuntime) -> Result<(), Fail> {
+    lend(&rt, rt.alloc(), &Nearest)?;
+    Ok(())
+}
+
+/// Three batches of 200 frames: two are offered once input 100 is another one, the third behind another cartridge.
+struct ThreeBatches;
+
+impl Lent for ThreeBatches {
+    fn run<R: Wait + Abort>(
+        &self,
+        rt: &R,
+        alloc: Global,
+        session: &mut Session,
+    ) -> Result<(), Fail> {
+        open_movie(rt, alloc, session, PLAYFIELD, 200)?;
+        let first = run(alloc, session, 200)?;
+        let second = run(alloc, session, 200)?;
+        let third = run(alloc, session, 200)?;
+        let replaced = Turn::Made(Change::ReplaceRight(100), 3, 200);
+        take_turns(rt, alloc, session, &[replaced])?;
+        assert_eq!(rt; offer(session, first), taken(3, 100, 1));
+        assert_eq!(rt; kept(alloc, session)?.as_str(), "1: 64");
+        assert_eq!(rt; offer(session, second), taken(3, 100, 0));
+        let loaded = Turn::Made(Change::Load(HALTING), 4, 200);
+        take_turns(rt, alloc, session, &[loaded])?;
+        assert_eq!(rt; offer(session, third), Answered::OtherCartridge { at: 4 });
+        Ok(())
+    }
+}
+
+#[test]
+fn three_batches_are_offered_in_turn(rt: HostRuntime) -> Result<(), Fail> {
+    lend(&rt, rt.alloc(), &ThreeBatches)?;
+    Ok(())
+}
+
+/// Two batches of 200 frames, an edit, and the batches' answers behind it.
+#[derive(Clone, Copy)]
+struct OfferedAfter {
+    change: Change,
+    once: Answered,
+    twice: Answered,
+}
+
+impl Lent for OfferedAfter {
+    fn run<R: Wait + Abort>(
+        &self,
+        rt: &R,
+        alloc: Global,
+        session: &mut Session,
+    ) -> Result<(), Fail> {
+        open_movie(rt, alloc, session, PLAYFIELD, 200)?;
+        let first = run(alloc, session, 200)?;
+        let second = run(alloc, session, 200)?;
+        session.edit(rt, 0, 2, edit_of(alloc, self.change)?)?;
+        assert_eq!(rt; offer(session, first), self.once, "{:?}", self.change);
+        assert_eq!(rt; offer(session, second), self.twice, "{:?}", self.change);
+        Ok(())
+    }
+}
+
+#[test]
+fn batches_count_as_far_as_the_inputs_agree(rt: HostRuntime) -> Result<(), Fail> {
+    let other = Answered::OtherCartridge { at: 3 };
+    let cases = [
+        (Change::InsertRight(64), taken(3, 64, 1), taken(3, 64, 0)),
+        (Change::InsertRight(63), taken(3, 63, 0), taken(3, 63, 0)),
+        (Change::Delete(10, 50), taken(3, 150, 2), taken(3, 150, 0)),
+        (Change::Insert(10, 50), taken(3, 200, 3), taken(3, 200, 0)),
+        (Change::Load(HALTING), other, other),
+        (Change::Load(PLAYFIELD), taken(3, 200, 3), taken(3, 200, 0)),
+    ];
+    for (change, once, twice) in cases {
+        let lent = OfferedAfter {
+            change,
+            once,
+            twice,
+        };
+        lend(&rt, rt.alloc(), &lent)?;
+    }
+    Ok(())
+}
+
+/// A batch of a new session's 200 frames of a program.
+fn batch_of<R: Wait + Abort>(rt: &R, alloc: Global, program: &'static [u8]) -> Result<Batch, Fail> {
+    let mut session: Session = Session::new(alloc).map_err(|_| AllocError)?;
+    let opened = open_movie(rt, alloc, &mut session, program, 200);
+    let batch = run(alloc, &session, 200);
+    session.close(rt);
+    opened?;
+    Ok(batch?)
+}
+
+/// Another session's batch of a program, offered to a session with 100 lit frames, and what is kept then.
+#[derive(Clone, Copy)]
+struct FromAnother {
+    program: &'static [u8],
+    answer: Answered,
+    kept: &'static str,
+}
+
+impl Lent for FromAnother {
+    fn run<R: Wait + Abort>(
+        &self,
+        rt: &R,
+        alloc: Global,
+        session: &mut Session,
+    ) -> Result<(), Fail> {
+        open_movie(rt, alloc, session, PLAYFIELD, 100)?;
+        let batch = batch_of(rt, alloc, self.program)?;
+        assert_eq!(rt; offer(session, batch), self.answer, "{}", self.kept);
+        take_turns(rt, alloc, session, &[Turn::Kept(self.kept)])
+    }
+}
+
+#[test]
+fn batches_go_from_one_session_to_another(rt: HostRuntime) -> Result<(), Fail> {
+    let same = FromAnother {
+        program: PLAYFIELD,
+        answer: taken(2, 100, 1),
+        kept: "1: 64",
+    };
+    let other = FromAnother {
+        program: HALTING,
+        answer: Answered::OtherCartridge { at: 2 },
+        kept: "0:",
+    };
+    lend(&rt, rt.alloc(), &same)?;
+    lend(&rt, rt.alloc(), &other)?;
+    Ok(())
+}
+
+#[test]
+fn errors_read_as_written(rt: HostRuntime) -> Result<(), Fail> {
+    let alloc = rt.alloc();
+    let (at, len) = (7, 30);
+    let texts = [
+        (format!(in alloc; "{}", OpenError::Memory)?, "out of memory"),
+        (format!(in alloc; "{}", OpenError::NoPlace)?, "no place"),
+        (format!(in alloc; "{NoEntry}")?, "no entry"),
+    ];
+    for (written, text) in &texts {
+        assert_eq!(rt; written.as_str(), *text);
+    }
+    let edits = [
+        (
+            EditError::Serial { at, counted: 3 },
+            "seat has 3 edits at 7",
+        ),
+        (EditError::Full { at }, "full at 7"),
+        (
+            EditError::Place { at, place: 31, len },
+            "place 31 of 30 at 7",
+        ),
+        (EditError::Long { at, len }, "too long: 30 at 7"),
+        (EditError::Memory, "out of memory"),
+    ];
+    for (error, text) in edits {
+        assert_eq!(rt; format!(in alloc; "{error}")?.as_str(), text);
+    }
+    let looks = [
+        (InputError::NoEntry, "no entry"),
+        (InputError::NoFrame { at, len }, "no such frame of 30 at 7"),
+    ];
+    for (error, text) in looks {
+        assert_eq!(rt; format!(in alloc; "{error}")?.as_str(), text);
+    }
+    let shots = [
+        (ShotError::NoEntry, "no entry"),
+        (ShotError::NoFrame { at, len }, "no such frame of 30 at 7"),
+        (ShotError::Memory, "out of memory"),
+        (ShotError::Halted { at, halt: HALT }, "halted at 7"),
+    ];
+    for (error, text) in shots {
+        assert_eq!(rt; format!(in alloc; "{error}")?.as_str(), text);
+    }
+    Ok(())
+}

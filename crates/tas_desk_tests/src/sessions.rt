@@ -1,0 +1,188 @@
+//! Sessions for tests: lent to turns, and closed whatever these answer.
+
+use crate::changes::{Change, edit_of};
+use std::alloc::{AllocError, Global};
+use std::process::Abort;
+use std::str;
+use std::sync::Wait;
+use std::test::Fail;
+use tas_desk::{Closed, EditError, Entry, Receipt, Session, ShotError};
+use tas_movie::{Edit, MAX_FRAMES, print_text};
+use vcs_machine::Meter;
+
+/// A turn of a session, and its answer.
+#[derive(Clone, Copy)]
+pub enum Turn {
+    /// An edit that seat 0 makes: the number of edits and the length then. Seat 0 has made all edits before.
+    Made(Change, u64, usize),
+    /// An edit of a seat that says it has made so many, and its answer. Where it is refused, all is as it was.
+    Tried(u32, u64, Change, Result<Receipt, EditError>),
+    /// A shot of a frame: the number of edits, of frames that are played, and of lit pixels.
+    Drawn(usize, u64, u64, usize),
+    /// A shot of a frame that isn't drawn, and how many frames are played.
+    NotDrawn(usize, ShotError, u64),
+    /// The places of the kept states, after their number: `2: 64 128`.
+    Kept(&'static str),
+}
+
+/// What a shot tells.
+#[derive(Clone, Copy, PartialEq, Eq)]
+struct Seen {
+    at: u64,
+    frame: usize,
+    ran: u64,
+    lit: usize,
+}
+
+/// A shot's answer with a meter of its own, which counts more frames than any movie has; and what the meter counted.
+fn shoot(alloc: Global, session: &mut Session, k: usize) -> (Result<Seen, ShotError>, u64) {
+    let mut meter = Meter::new();
+    let len = session.movie().len();
+    prove!(len <= MAX_FRAMES);
+    let answer = match session.shot(alloc, k, &mut meter) {
+        Ok(shot) => Ok(Seen {
+            at: shot.at,
+            frame: shot.frame,
+            ran: shot.ran,
+            lit: shot.picture.lit(),
+        }),
+        Err(error) => Err(error),
+    };
+    (answer, meter.count())
+}
+
+/// The places of the kept states, after their number.
+pub fn kept(alloc: Global, session: &Session) -> Result<String, Fail> {
+    let green = session.green();
+    let mut text = format!(in alloc; "{}:", green.count())?;
+    for frame in 0..MAX_FRAMES + 1 {
+        if frame % 64 == 0 && green.holds(frame) {
+            text.push_str(format!(in alloc; " {frame}")?.as_str())?;
+        }
+    }
+    Ok(text)
+}
+
+fn entry_line(alloc: Global, entry: &Entry) -> Result<String, AllocError> {
+    let (seat, serial) = (entry.seat, entry.serial);
+    match &entry.edit {
+        Edit::Load(_) => format!(in alloc; "{seat} {serial} load\n"),
+        Edit::Insert { at, inputs } => {
+            let count = inputs.as_slice().len();
+            format!(in alloc; "{seat} {serial} insert {at} {count}\n")
+        }
+        Edit::Replace { at, inputs } => {
+            let count = inputs.as_slice().len();
+            format!(in alloc; "{seat} {serial} replace {at} {count}\n")
+        }
+        Edit::Delete { at, count } => format!(in alloc; "{seat} {serial} delete {at} {count}\n"),
+    }
+}
+
+/// A history, an entry a line: the seat, the serial and the edit.
+pub fn history(alloc: Global, journal: &[Entry]) -> Result<String, Fail> {
+    let mut text = String::new(alloc);
+    for entry in journal {
+        text.push_str(entry_line(alloc, entry)?.as_str())?;
+    }
+    Ok(text)
+}
+
+/// All that a session shows: history, kept states and movie.
+fn shown(alloc: Global, session: &Session) -> Result<String, Fail> {
+    let mut text = format!(in alloc; "{}\n", session.at())?;
+    text.push_str(history(alloc, session.journal())?.as_str())?;
+    text.push_str(kept(alloc, session)?.as_str())?;
+    let movie = print_text(alloc, session.movie())?;
+    text.push_str(str::from_utf8(movie.as_slice())?)?;
+    Ok(text)
+}
+
+/// Whether an edit is answered as it should be, and leaves all as it was where it is refused.
+fn is_tried<R: Wait>(
+    rt: &R,
+    alloc: Global,
+    session: &mut Session,
+    attempt: (u32, u64, Change),
+    answer: Result<Receipt, EditError>,
+) -> Result<bool, Fail> {
+    let (seat, made, change) = attempt;
+    let before = shown(alloc, session)?;
+    let given = session.edit(rt, seat, made, edit_of(alloc, change)?);
+    let kept_all = given.is_ok() || shown(alloc, session)?.as_str() == before.as_str();
+    Ok(given == answer && kept_all)
+}
+
+/// Whether a turn is answered as it says.
+fn is_answered<R: Wait>(
+    rt: &R,
+    alloc: Global,
+    session: &mut Session,
+    turn: Turn,
+) -> Result<bool, Fail> {
+    match turn {
+        Turn::Made(change, at, len) => {
+            let made = session.at();
+            let answer = session.edit(rt, 0, made, edit_of(alloc, change)?);
+            Ok(answer == Ok(Receipt { at, len }))
+        }
+        Turn::Tried(seat, made, change, answer) => {
+            is_tried(rt, alloc, session, (seat, made, change), answer)
+        }
+        Turn::Drawn(frame, at, ran, lit) => {
+            let seen = Seen {
+                at,
+                frame,
+                ran,
+                lit,
+            };
+            Ok(shoot(alloc, session, frame) == (Ok(seen), ran))
+        }
+        Turn::NotDrawn(frame, error, ran) => {
+            Ok(shoot(alloc, session, frame) == (Err(error), ran))
+        }
+        Turn::Kept(places) => Ok(kept(alloc, session)?.as_str() == places),
+    }
+}
+
+/// Takes the turns, one after the other, on a session that is lent.
+pub fn take_turns<R: Wait + Abort>(
+    rt: &R,
+    alloc: Global,
+    session: &mut Session,
+    turns: &[Turn],
+) -> Result<(), Fail> {
+    for (number, turn) in turns.iter().enumerate() {
+        assert!(rt; is_answered(rt, alloc, session, *turn)?, "turn {number}");
+    }
+    Ok(())
+}
+
+/// Takes the turns, one after the other, on a new session, and answers what it leaves.
+pub fn play_turns<R: Wait + Abort>(rt: &R, alloc: Global, turns: &[Turn]) -> Result<Closed, Fail> {
+    let mut session: Session = Session::new(alloc).map_err(|_| AllocError)?;
+    let answer = take_turns(rt, alloc, &mut session, turns);
+    let closed = session.close(rt);
+    answer?;
+    Ok(closed)
+}
+
+/// What is done on a session that is lent.
+pub trait Lent {
+    /// Uses the session, which others close.
+    fn run<R: Wait + Abort>(
+        &self,
+        rt: &R,
+        alloc: Global,
+        session: &mut Session,
+    ) -> Result<(), Fail>;
+}
+
+/// Lends a new session and closes it.
+pub fn lend<L: Lent, R: Wait + Abort>(rt: &R, alloc: Global, lent: &L) -> Result<Closed, Fail> {
+    let mut session: Session = Session::new(alloc).map_err(|_| AllocError)?;
+    let answer = lent.run(rt, alloc, &mut session);
+    let closed = session.close(rt);
+    answer?;
+    Ok(closed)
+}

@@ -1,0 +1,56 @@
+//! Writers that keep a sum over what they are given, in its order.
+
+use std::io;
+use std::io::Write;
+use vcs_tia::{Picture, ppm};
+
+/// A writer that keeps how many bytes came, and a sum over them. Where it is full it takes none.
+#[derive(Drop)]
+pub struct Sum {
+    room: usize,
+    bytes: usize,
+    sum: u64,
+}
+
+impl Sum {
+    /// A writer with so much room.
+    pub fn new(room: usize) -> Sum {
+        Sum {
+            room,
+            bytes: 0,
+            sum: 0xCBF2_9CE4_8422_2325,
+        }
+    }
+
+    /// How many bytes came, and the sum over them.
+    pub fn told(&self) -> (usize, u64) {
+        (self.bytes, self.sum)
+    }
+}
+
+impl Write for Sum {
+    fn write(&mut self, buf: &[u8]) -> io::Result<usize> {
+        let mut taken = 0;
+        for byte in buf {
+            if self.room == 0 {
+                break;
+            }
+            self.room -= 1;
+            self.sum = (self.sum ^ u64::from(*byte)).wrapping_mul(0x100_0000_01B3);
+            taken += 1;
+        }
+        self.bytes = self.bytes.saturating_add(taken);
+        Ok(taken)
+    }
+
+    fn flush(&mut self) -> io::Result<()> {
+        Ok(())
+    }
+}
+
+/// The sum over a picture's image.
+pub fn sum_of(picture: &Picture) -> u64 {
+    let mut out = Sum::new(usize::MAX);
+    let _ = ppm(picture, &mut out);
+    out.told().1
+}
