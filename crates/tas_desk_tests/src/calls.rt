@@ -36,6 +36,8 @@ pub enum Call {
     Exported(u32, (usize, usize), usize, u64, u64),
     /// An export of frames that aren't all there: how many edits and frames there are.
     OutOfRange(u32, (usize, usize), u64, usize),
+    /// How many states the seat's zone has.
+    Keeps(u32, usize),
     /// The two seats meet, at so many edits.
     Meet(u64),
 }
@@ -100,6 +102,7 @@ fn is_seen<N: Name, W: CloseOnDrop>(
         Call::Input(_, k, answer) => desk.input(seat, k) == answer,
         Call::Drawn(_, k, at, ran, lit) => shoot(alloc, desk, seat, k) == Ok((k, at, ran, lit)),
         Call::NotDrawn(_, k, error) => shoot(alloc, desk, seat, k) == Err(error),
+        Call::Keeps(_, count) => seat.kept() == count,
         _ => false,
     }
 }
@@ -145,7 +148,8 @@ fn caller(call: Call) -> u32 {
         | Call::Work(seat, ..)
         | Call::Share(seat, ..)
         | Call::Exported(seat, ..)
-        | Call::OutOfRange(seat, ..) => seat,
+        | Call::OutOfRange(seat, ..)
+        | Call::Keeps(seat, _) => seat,
         Call::Meet(_) => 0,
     }
 }

@@ -99,7 +99,9 @@ fn work_is_shared_with_other_seats(rt: HostRuntime) -> Result<(), Fail> {
         FILLED,
         Call::Work(0, &[192], worked(1, 3)),
         Call::Work(0, &[192], worked(1, 0)),
+        Call::Keeps(1, 0),
         Call::Share(1, 3),
+        Call::Keeps(1, 3),
         Call::Drawn(1, 191, 2, 64, 1680),
         Call::Share(1, 0),
         Call::Exported(1, (128, 200), 1, 2, 72),
@@ -108,6 +110,7 @@ fn work_is_shared_with_other_seats(rt: HostRuntime) -> Result<(), Fail> {
         Call::Exported(3, (128, 200), 2, 2, 364),
         Call::Made(0, Change::ReplaceRight(100), 3, 200),
         Call::Share(2, 1),
+        Call::Keeps(2, 1),
         Call::Drawn(1, 191, 3, 128, 1680),
     ];
     play(&rt, rt.alloc(), 4, Task::Calls(&calls))?;
@@ -142,6 +145,7 @@ fn a_zone_of_a_movie_that_came_back(rt: HostRuntime) -> Result<(), Fail> {
         Call::Drawn(0, 191, 4, 64, 1680),
         Call::Made(0, Change::ReplaceRight(64), 5, 200),
         Call::Drawn(0, 64, 5, 1, 1680),
+        Call::Keeps(0, 1),
         Call::Drawn(0, 191, 5, 128, 1680),
         Call::Made(0, Change::Delete(0, 200), 6, 0),
         Call::NotDrawn(0, 0, ShotError::NoFrame { at: 6, len: 0 }),
@@ -177,6 +181,7 @@ fn halted_states_are_kept_by_a_desk(rt: HostRuntime) -> Result<(), Fail> {
         Call::Made(0, Change::Insert(0, 100), 2, 100),
         Call::Drawn(0, 2, 2, 3, 0),
         Call::NotDrawn(0, 99, halted),
+        Call::Keeps(0, 1),
         Call::NotDrawn(0, 80, halted),
         Call::Work(1, &[100], worked(1, 1)),
         Call::Share(0, 0),

@@ -30,14 +30,10 @@ impl Sum {
 
 impl Write for Sum {
     fn write(&mut self, buf: &[u8]) -> io::Result<usize> {
-        let mut taken = 0;
-        for byte in buf {
-            if self.room == 0 {
-                break;
-            }
-            self.room -= 1;
+        let taken = self.room.min(buf.len());
+        self.room -= taken;
+        for byte in buf.iter().take(taken) {
             self.sum = (self.sum ^ u64::from(*byte)).wrapping_mul(0x100_0000_01B3);
-            taken += 1;
         }
         self.bytes = self.bytes.saturating_add(taken);
         Ok(taken)

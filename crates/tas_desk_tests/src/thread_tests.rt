@@ -66,11 +66,10 @@ pub fn insert_at_once<N: Name + Send + Sync, R: Threads + Wait + Abort + Sync>(
     count: usize,
 ) -> Result<Left<N>, Fail> {
     let mut players = players(alloc, seats, &[Habit::All])?;
-    let threads = players.len();
     thread::for_each_mut(
         rt,
         players.as_mut_slice(),
-        threads,
+        8,
         &|_, player| {
             player.fault = inserts(rt, alloc, desk, player, count).err();
         },
@@ -171,11 +170,10 @@ pub fn take_turns_at_once<N: Name + Send + Sync, R: Threads + Wait + Abort + Syn
             first.fault = first.edit(rt, alloc, desk, Change::Insert(0, 12)).err();
         }
     }
-    let threads = players.len();
     thread::for_each_mut(
         rt,
         players.as_mut_slice(),
-        threads,
+        8,
         &|_, player| {
             player.turns(rt, alloc, desk, turns);
         },
