@@ -9,8 +9,7 @@ use std::alloc::Global;
 use std::fs::File;
 use std::process::ExitCode;
 use std::{fs, io};
-use tas_script::script_run;
-use tas_tool::{ToolFault, check_run, shot_run, trace_run};
+use tas_tool::{ToolFault, check_run, script_run, shot_run, trace_run};
 
 /// Opens the file of a cartridge.
 fn open(rt: &HostRuntime, path: &str) -> Result<File, ToolFault> {
@@ -31,7 +30,7 @@ fn run_task(rt: &HostRuntime, alloc: Global, task: Task<'_>) -> Result<(), ToolF
             let mut file = open(rt, cart)?;
             shot_run(alloc, frame as usize, &mut file, &mut input, &mut output)
         }
-        Task::Script => script_run(alloc, &mut input, &mut output),
+        Task::Script => script_run(rt, alloc, &mut input, &mut output),
     }
 }
 

@@ -1,5 +1,5 @@
 -- What a publish did that can't fail.
-use Rattle.std.proofs.Common.{◌≡◌, true, false, true≢false, List, [], ◌∷◌, ◌++◌, refl, ap, sym, ◌∙◌}
+use Rattle.std.proofs.Common.{◌≡◌, true≢false, List, [], ◌∷◌, ◌++◌, ap, sym, ◌∙◌}
 use Rattle.std.specs.Prelude.{Result, Ok, Err, IsOk, MatchResult, fold}
 use Rattle.tas_desk.specs.declared.reader_view.ReaderView.{ReaderView}
 use Rattle.tas_desk.specs.Published.{PublishedContent, ChangeContent, after, Sees, view_of}

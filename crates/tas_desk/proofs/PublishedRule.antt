@@ -1,15 +1,14 @@
 -- The steps that keep the rule.
-use Rattle.std.proofs.Common.{◌≡◌, ℕ, ◌≢◌, true, false, true≢false, List, [], ◌∷◌, ◌++◌, set, refl, ap, subst, sym, ◌∙◌, ⊎_elim, zero, suc, length, arith}
+use Rattle.std.proofs.Common.{◌≡◌, ℕ, ◌≢◌, true, false, true≢false, List, [], ◌∷◌, set, refl, ap, subst, sym, ◌∙◌, ⊎_elim, zero, suc, length, arith}
 use mathlib.Core.Option.{some, some-ne-none, some-injective}
 use mathlib.Core.List.{IsPrefix}
 use lib.ListN.{get_elem?}
 use Rattle.crossbeam_utils.specs.Register.{Admits, TurnsAt, Forks, Merges}
-use Rattle.atomic_table.proofs.Lists.{at_set, at_snoc, set_again}
-use Rattle.logbook.specs.Pages.{Book}
+use Rattle.atomic_table.proofs.Lists.{at_set, at_snoc}
 use Rattle.tas_movie.specs.Content.{MovieContent}
 use Rattle.tas_desk.specs.declared.entry.Entry.{Entry}
 use Rattle.tas_desk.specs.declared.reader_view.ReaderView.{ReaderView}
-use Rattle.tas_desk.specs.Version.{VersionContent, version_of}
+use Rattle.tas_desk.specs.Version.{VersionContent}
 use Rattle.tas_desk.specs.History.{blank_movie, movie_of, IsLegal}
 use Rattle.tas_desk.specs.Published.{PublishedContent, published_of, IsSoundPublished, HasSeenPrefix, Holds, Sees, view_of, blank_view, ChangeContent, after, Follows, IsCurrent}
 use Rattle.tas_desk.proofs.PrefixLemmas.{prefix_trans, prefix_self}

@@ -1,5 +1,5 @@
 -- What a session's answers say of the history under the lock.
-use Rattle.std.proofs.Common.{◌≡◌, ℕ, ◌+◌, List, length, take, min, subst, sym, ap, ◌∙◌, Some, Result, Ok, Err}
+use Rattle.std.proofs.Common.{◌≡◌, ℕ, ◌+◌, length, take, min, subst, Result, Ok, Err}
 use Rattle.std.specs.Prelude.{IfOk}
 use Rattle.tas_movie.specs.Content.{MovieContent}
 use Rattle.tas_green.specs.Batch.{JobContent, BatchContent}
@@ -7,9 +7,7 @@ use Rattle.tas_green.specs.Front.{IsCommonFront}
 use Rattle.tas_green.specs.Green.{IsLawful}
 use Rattle.tas_green.specs.Grid.{stride}
 use Rattle.tas_green.specs.Zone.{state_at, nearest, first_of, where_true, is_on_grid}
-use Rattle.tas_desk.specs.declared.entry.Entry.{Entry}
 use Rattle.tas_desk.specs.declared.replies.Offered.{Offered}
-use Rattle.tas_desk.specs.History.{movie_of}
 use Rattle.tas_desk.specs.Session.{SessionContent}
 use Rattle.tas_desk.specs.Work.{IsJobOf, IsTaken}
 

@@ -1,10 +1,8 @@
 -- What a call leaves of a seat's zone.
 use Rattle.std.specs.Prelude.{IfOk}
 use Rattle.tas_desk.proofs.CutLemmas.{short_shot}
-use Rattle.std.proofs.Common.{◌≡◌, ℕ, ◌+◌, ◌<◌, ◌≤◌, List, length, ap, sym, ◌∙◌, subst, arith, Option, Result, Ok, Err}
+use Rattle.std.proofs.Common.{◌≡◌, ℕ, List, ap, sym, ◌∙◌, subst, arith, Option, Result, Ok, Err}
 use Rattle.logbook.specs.Pages.{Book}
-use Rattle.tas_green.specs.Grid.{stride}
-use Rattle.tas_green.specs.Zone.{nearest}
 use Rattle.tas_green.specs.Green.{IsLawful, IsShotFrom}
 use Rattle.tas_desk.specs.declared.movie_copy.MovieCopy.{MovieCopy}
 use Rattle.tas_desk.specs.declared.entry.Entry.{Entry}
@@ -14,8 +12,8 @@ use Rattle.tas_desk.specs.declared.replies.ShotError.{ShotError}
 use Rattle.tas_desk.specs.declared.replies.ShotError.TheVariants.{Halted}
 use Rattle.tas_desk.specs.declared.reader_view.ReaderView.{ReaderView}
 use Rattle.tas_desk.specs.Version.{VersionContent, version_of}
-use Rattle.tas_desk.specs.History.{movie_of, entries_of}
-use Rattle.tas_desk.specs.Published.{KnowsRegistry, HasSeenMore}
+use Rattle.tas_desk.specs.History.{movie_of}
+use Rattle.tas_desk.specs.Published.{HasSeenMore}
 use Rattle.tas_desk.specs.Seats.{SeatContent, IsSeated, IsZoneShot}
 use Rattle.tas_desk.specs.Zones.{ZoneContent, version_after, IsMadeFor, IsPlayed, IsShort}
 use Rattle.tas_desk.proofs.SeatLemmas.{entries_of-prefix}

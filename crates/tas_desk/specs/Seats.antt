@@ -1,27 +1,24 @@
 -- Seats, and what they have seen (own).
-use Rattle.std.specs.Prelude.{◌≡◌, ℕ, ◌+◌, ◌<◌, ◌≤◌, ◌==◌, true, List, [], ◌∷◌, ◌++◌, length, count_by, Result, Ok, Err, Option, Some, None, MatchResult, slice_get, All}
+use Rattle.std.specs.Prelude.{◌≡◌, ℕ, ◌+◌, ◌<◌, ◌≤◌, ◌==◌, List, [], ◌∷◌, ◌++◌, length, count_by, Result, Ok, Err, Some, None, MatchResult, All}
 use mathlib.Core.List.{IsPrefix}
 use Rattle.logbook.specs.Pages.{Book}
 use Rattle.vcs_machine.specs.declared.input.Input.{Input}
 use Rattle.tas_movie.specs.declared.edit.Edit.{Edit}
-use Rattle.tas_movie.specs.Edit.{edited, refusal}
+use Rattle.tas_movie.specs.Edit.{edited}
 use Rattle.tas_desk.specs.declared.entry.Entry.{Entry}
 use Rattle.tas_desk.specs.declared.reader_view.ReaderView.{ReaderView}
 use Rattle.tas_desk.specs.declared.replies.Receipt.{Receipt}
 use Rattle.tas_desk.specs.declared.replies.EditError.{EditError}
-use Rattle.tas_desk.specs.declared.replies.NoEntry.{NoEntry as NoReading}
 use Rattle.tas_desk.specs.declared.replies.InputError.{InputError}
 use Rattle.tas_desk.specs.declared.replies.InputError.TheVariants.{NoEntry, NoFrame}
 use Rattle.tas_desk.specs.History.{movie_of, entries_of}
 use Rattle.tas_desk.specs.Answers.{answer_input}
 use Rattle.tas_desk.specs.Session.{refusal_at, IsEditError}
-use Rattle.tas_desk.specs.Published.{KnowsRegistry, HasSeenMore}
-use Rattle.tas_desk.specs.declared.movie_copy.MovieCopy.{MovieCopy}
+use Rattle.tas_desk.specs.Published.{KnowsRegistry}
 use Rattle.tas_desk.specs.declared.replies.Shot.{Shot}
 use Rattle.tas_desk.specs.declared.replies.ShotError.{ShotError}
 use Rattle.tas_desk.specs.declared.replies.ShotError.TheVariants.{NoEntry as NoShotEntry, NoFrame as NoShotFrame, Memory as NoShotMemory, Halted as ShotHalted}
-use Rattle.tas_desk.specs.Version.{VersionContent, version_of}
-use Rattle.tas_desk.specs.Zones.{ZoneContent, version_after, IsPlayed}
+use Rattle.tas_desk.specs.Zones.{ZoneContent, IsPlayed}
 
 -- a seat: its number, how many edits it made, what it has seen of the history, and its greenzone
 pub record SeatContent (A : Type 0) : Type 0 where

@@ -1,5 +1,5 @@
 -- Versions of the history (own).
-use Rattle.std.specs.Prelude.{ℕ, List}
+use Rattle.std.specs.Prelude.{List}
 use Rattle.logbook.specs.Pages.{Book}
 use Rattle.tas_desk.specs.declared.entry.Entry.{Entry}
 

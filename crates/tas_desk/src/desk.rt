@@ -124,6 +124,7 @@ impl<N: Name, W: CloseOnDrop, A: Allocator> Desk<N, W, A> {
     /// Ends the desk, with all its seats, for which [`Desk::whole`] is the test. It answers the movie and the history that made it,
     /// in which each seat has just as many entries as edits that it made.
     pub fn close<R: Wait>(self, rt: &R, seats: Vec<Seat<N, A>, A>) -> Closed<A>
+        requires named { N.parts ≡ N.seats }
         requires whole { IsWhole N.seats seats.items }
         ensures movie { result.movie ≡ movie_of result.journal.items }
         ensures legal { IsLegal result.journal.items }

@@ -93,6 +93,7 @@ impl<N: Name, W: CloseOnDrop, A: Allocator> LockedSession<N, W, A> {
 
     /// Ends the session, with all seats.
     pub fn close<R: Wait>(self, rt: &R, seats: Vec<Seat<N, A>, A>) -> Closed<A>
+        requires named { N.parts ≡ N.seats }
         requires whole { IsWhole N.seats seats.items }
         ensures journal { result.journal.items ≡ self }
         ensures movie { result.movie ≡ movie_of self }

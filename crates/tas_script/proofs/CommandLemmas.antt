@@ -2,7 +2,7 @@
 use Rattle.std.proofs.Common.{◌≡◌, ℕ, List, ◌++◌, drop, get_or, sym, ap, subst, ◌∙◌, arith}
 use Rattle.std.specs.Prelude.{codes}
 use Rattle.tas_script.specs.declared.command.Command.{Command}
-use Rattle.tas_script.specs.declared.command.Command.TheVariants.{Load, Insert, Replace, Delete, Length, InputAt, Shot}
+use Rattle.tas_script.specs.declared.command.Command.TheVariants.{Load, Insert, Replace, Delete, Length, InputAt, Shot, Work}
 use Rattle.tas_script.specs.Commands.{Says}
 use Rattle.tas_script.specs.Parts.{IsImageOf}
 
@@ -17,3 +17,4 @@ only_load line rest is never (Delete at count) says = let e : ◌≡◌ {A = ℕ
 only_load line rest is never Length says = let e : ◌≡◌ {A = ℕ} 111 101 = ap (λ (l : List ℕ). get_or l 1 0) (sym is ∙ says) in omega (arith, e)
 only_load line rest is never (InputAt frame) says = let e : ◌≡◌ {A = ℕ} 108 105 = ap (λ (l : List ℕ). get_or l 0 0) (sym is ∙ says.0) in omega (arith, e)
 only_load line rest is never (Shot frame) says = let e : ◌≡◌ {A = ℕ} 108 115 = ap (λ (l : List ℕ). get_or l 0 0) (sym is ∙ says.0) in omega (arith, e)
+only_load line rest is never (Work frame) says = let e : ◌≡◌ {A = ℕ} 108 119 = ap (λ (l : List ℕ). get_or l 0 0) (sym is ∙ says.0) in omega (arith, e)

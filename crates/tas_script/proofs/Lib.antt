@@ -1,5 +1,4 @@
 pub mod WordLemmas
 pub mod PartLemmas
 pub mod CommandLemmas
-pub mod TurnLemmas
-pub mod ScriptLemmas
+pub mod OneCommand

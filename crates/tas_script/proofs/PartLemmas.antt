@@ -89,7 +89,7 @@ unfolding IsWordEnd
 word_end_none [] e = tt
 word_end_none (b ∷ rest) e = absurd (omega arith)
 
-digit_same : (a b : ℕ) → upper_digit a ≡ upper_digit b → a < 16 → b < 16 → a ≡ b
+pub digit_same : (a b : ℕ) → upper_digit a ≡ upper_digit b → a < 16 → b < 16 → a ≡ b
 digit_same a b is la lb = grind (arith, nat_tests)
 
 digit_no_space : (n : ℕ) → upper_digit n ≡ 32 → ⊥
@@ -168,7 +168,7 @@ word_of text word rest more part a n e e' b =
 
 -- ---- parts
 
-end_of_parts : (parts : List Part) → IsWordEnd (flat_map part_text parts)
+pub end_of_parts : (parts : List Part) → IsWordEnd (flat_map part_text parts)
 unfolding IsWordEnd
 end_of_parts [] = tt
 end_of_parts (part ∷ parts) = refl

@@ -3,8 +3,7 @@ use Rattle.std.specs.Prelude.{◌≡◌, ℕ, ◌≤◌, List, [], ◌∷◌, �
 use Rattle.tas_movie.specs.Text.{frame_text}
 use Rattle.vcs_machine.specs.declared.input.Input.{Input}
 use Rattle.tas_script.specs.declared.command.Command.{Command}
-use Rattle.tas_script.specs.declared.command.Command.TheVariants.{Load, Insert, Replace, Delete, Length, InputAt, Shot}
-use Rattle.tas_script.specs.declared.words.TheConstants.{MAX_NUMBER}
+use Rattle.tas_script.specs.declared.command.Command.TheVariants.{Load, Insert, Replace, Delete, Length, InputAt, Shot, Work}
 use Rattle.tas_script.specs.Parts.{IsImageOf}
 
 -- a byte doesn't stand in the bytes
@@ -14,7 +13,7 @@ NoByte c (b ∷ bytes) = (b ≡ c → ⊥) × NoByte c bytes
 
 -- a number of one to seven digits
 abbrev pub IsNumber : ℕ → Type 0
-IsNumber n = n ≤ MAX_NUMBER
+IsNumber n = n ≤ 9999999
 
 -- two numbers with one space between
 abbrev pub pair_text : ℕ → ℕ → List ℕ
@@ -34,3 +33,4 @@ Says said (Delete at count) = (said ≡ codes "delete " ++ pair_text at count) �
 Says said Length = said ≡ codes "len"
 Says said (InputAt frame) = (said ≡ codes "input " ++ decimal frame) × IsNumber frame
 Says said (Shot frame) = (said ≡ codes "shot " ++ decimal frame) × IsNumber frame
+Says said (Work frame) = (said ≡ codes "work " ++ decimal frame) × IsNumber frame

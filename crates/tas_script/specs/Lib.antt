@@ -1,6 +1,3 @@
 pub mod Commands
 pub mod Parts
 pub mod Replies
-pub mod Edits
-pub mod Turns
-pub mod Scripts

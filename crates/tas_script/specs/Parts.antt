@@ -1,7 +1,6 @@
 -- What a `load` line says: parts of a cartridge's image, each an offset and the bytes from there on (own).
 use Rattle.std.specs.Prelude.{◌≡◌, ℕ, ◌+◌, ◌/◌, ◌%◌, ◌<◌, ◌≤◌, nat_lt, List, [], ◌∷◌, ◌++◌, length, take, drop, replicate, slice_index, if◌then◌else◌}
 use Rattle.std.specs.List.{flat_map}
-use Rattle.tas_script.specs.declared.command.TheConstants.{IMAGE_SIZE}
 
 -- the upper case hexadecimal digit of a number below 16
 abbrev pub upper_digit : ℕ → ℕ
@@ -28,7 +27,7 @@ IsBytes bytes = (k : ℕ) → slice_index bytes k < 256
 -- at least one byte, and none past the image's end
 pub record IsPart (part : Part) : Type 0 where
   pub some : 0 < length part.bytes
-  pub within : part.offset + length part.bytes ≤ IMAGE_SIZE
+  pub within : part.offset + length part.bytes ≤ 4096
   pub bytes : IsBytes part.bytes
 
 -- nothing, or a space first
@@ -64,4 +63,4 @@ pub record IsImageOf (said : List ℕ) (image : List ℕ) : Type 0 where
   pub some : 0 < length parts
   pub are_parts : AreParts parts
   pub text : said ≡ flat_map part_text parts
-  pub image_is : image ≡ poured (replicate IMAGE_SIZE 0) parts
+  pub image_is : image ≡ poured (replicate 4096 0) parts

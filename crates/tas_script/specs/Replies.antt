@@ -2,7 +2,7 @@
 use Rattle.std.specs.Prelude.{ℕ, ◌/◌, ◌%◌, List, [], ◌∷◌, ◌++◌, codes, decimal}
 use Rattle.tas_movie.specs.Text.{frame_text}
 use Rattle.tas_script.specs.declared.reply.Reply.{Reply}
-use Rattle.tas_script.specs.declared.reply.Reply.TheVariants.{Edited, Misplaced, TooLong, Full, Measured, Pressed, NoFrame, Drawn, Halted, OutOfMemory}
+use Rattle.tas_script.specs.declared.reply.Reply.TheVariants.{Edited, Misplaced, TooLong, Full, Measured, Pressed, NoFrame, Drawn, Halted, Worked, OutOfMemory}
 use Rattle.tas_script.specs.Parts.{hex_text}
 
 -- the line of a reply, with its newline
@@ -16,4 +16,5 @@ reply_text (Pressed at input) = codes "input " ++ decimal at ++ codes " " ++ fra
 reply_text (NoFrame at len) = codes "no frame " ++ decimal at ++ codes " len " ++ decimal len ++ codes "\n"
 reply_text (Drawn at frame ran lit) = codes "shot " ++ decimal at ++ codes " " ++ decimal frame ++ codes " ran " ++ decimal ran ++ codes " lit " ++ decimal lit ++ codes "\n"
 reply_text (Halted at address opcode) = codes "halted " ++ decimal at ++ codes " " ++ hex_text (address / 256 ∷ address % 256 ∷ []) ++ codes " " ++ hex_text (opcode ∷ []) ++ codes "\n"
+reply_text (Worked jobs kept stale) = codes "work jobs " ++ decimal jobs ++ codes " kept " ++ decimal kept ++ codes " stale " ++ decimal stale ++ codes "\n"
 reply_text OutOfMemory = codes "out of memory\n"

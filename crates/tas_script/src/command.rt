@@ -50,4 +50,9 @@ pub enum Command {
         /// The frame, counted from 0.
         frame: usize,
     },
+    /// `work K`: the states up to a frame are filled.
+    Work {
+        /// The frame, counted from 0.
+        frame: usize,
+    },
 }

@@ -1,24 +1,20 @@
-//! Scripts of edits and shots: their lines, and the replies.
+//! The language of scripts: lines that edit a movie and look at it, and the replies to them.
 #![tactic(auto)]
 
-mod answering;
 mod command;
+mod laws;
 mod loading;
 mod parsing;
 mod printing;
 mod reply;
-mod running;
 mod words;
 
-pub use answering::answer_command;
 pub use command::{Command, IMAGE_SIZE};
+pub use laws::one_command_per_line;
 pub use parsing::parse_line;
 pub use printing::reply_line;
 pub use reply::Reply;
-pub use running::script_run;
 pub use words::{MAX_NUMBER, split_once};
 
-#[cfg(test)]
-mod long_script_tests;
 #[cfg(test)]
 mod tests;

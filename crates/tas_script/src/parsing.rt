@@ -52,5 +52,11 @@ pub fn parse_line(line: &[u8]) -> Option<Command>
             None => None,
         };
     }
+    if let Some(rest) = strip(line, b"work ") {
+        return match number(rest) {
+            Some(frame) => Some(Command::Work { frame }),
+            None => None,
+        };
+    }
     None
 }

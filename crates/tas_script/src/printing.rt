@@ -1,7 +1,7 @@
 //! Printing a reply.
 
 ghost use Rattle.std.specs.Prelude.{◌≡◌, ◌<◌, ◌/◌, ◌%◌, ◌∷◌, [], IfOk};
-ghost use Rattle.tas_script.specs.declared.reply.Reply.TheVariants.{Edited, Misplaced, TooLong, Full, Measured, Pressed, NoFrame, Drawn, Halted, OutOfMemory};
+ghost use Rattle.tas_script.specs.declared.reply.Reply.TheVariants.{Edited, Misplaced, TooLong, Full, Measured, Pressed, NoFrame, Drawn, Halted, Worked, OutOfMemory};
 ghost use Rattle.tas_script.specs.Parts.{upper_digit, hex_text};
 ghost use Rattle.tas_script.specs.Replies.{reply_text};
 
@@ -114,6 +114,17 @@ fn halted_line<A: Allocator>(
     Ok(bytes)
 }
 
+fn worked_line<A: Allocator>(
+    alloc: A,
+    jobs: usize,
+    kept: usize,
+    stale: usize,
+) -> Result<Vec<u8, A>, AllocError>
+    ensures { IfOk result (λ bytes. bytes.items ≡ reply_text (Worked jobs kept stale)) }
+{
+    Ok(format!(in alloc; "work jobs {jobs} kept {kept} stale {stale}\n")?.into_bytes())
+}
+
 fn out_of_memory_line<A: Allocator>(alloc: A) -> Result<Vec<u8, A>, AllocError>
     ensures { IfOk result (λ bytes. bytes.items ≡ reply_text (OutOfMemory)) }
 {
@@ -143,6 +154,7 @@ pub fn reply_line<A: Allocator>(alloc: A, reply: Reply) -> Result<Vec<u8, A>, Al
             address,
             opcode,
         } => halted_line(alloc, at, address, opcode),
+        Reply::Worked { jobs, kept, stale } => worked_line(alloc, jobs, kept, stale),
         Reply::OutOfMemory => out_of_memory_line(alloc),
     }
 }

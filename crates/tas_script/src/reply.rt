@@ -73,6 +73,15 @@ pub enum Reply {
         /// The undocumented opcode.
         opcode: u8,
     },
-    /// `out of memory`: memory was refused; nothing was changed.
+    /// `work jobs J kept N stale S`: states were filled.
+    Worked {
+        /// How many jobs were run.
+        jobs: usize,
+        /// How many states were gained.
+        kept: usize,
+        /// How many jobs were of another cartridge than the movie's.
+        stale: usize,
+    },
+    /// `out of memory`: memory was refused; the movie is as it was.
     OutOfMemory,
 }

@@ -1,2 +1,2 @@
-pub mod ReadLengths
-pub mod EngineEnds
+pub mod TurnLemmas
+pub mod ScriptLemmas

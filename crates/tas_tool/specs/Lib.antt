@@ -1,4 +1,4 @@
-pub mod Input
-pub mod Movies
-pub mod Output
-pub mod Tracing
+pub mod Edits
+pub mod Turns
+pub mod Checking
+pub mod Scripts

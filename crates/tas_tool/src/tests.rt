@@ -1,56 +1,125 @@
-//! Engines over readers and writers that give and take as a test says.
-#![tactic(auto)]
+//! Whole scripts.
 
 use super::*;
 use std::alloc::Global;
 use std::io;
 use std::io::{Error, ErrorKind, Read, Write};
-use std::test::Fail;
-use tas_movie::{TextError, TextErrorKind};
+use std::sync::Wait;
 
-/// A reader of so many zeros that fails at one of its reads, and counts them all.
-#[derive(Drop)]
-struct Zeros {
-    left: usize,
-    reads: usize,
-    fails_at: usize,
+/// What a script writes, and how it ends.
+fn written<R: Wait>(rt: &R, alloc: Global, script: &[u8]) -> (Vec<u8>, Result<(), ToolFault>) {
+    let mut output = Vec::new(alloc);
+    let mut input = script;
+    let end = script_run(rt, alloc, &mut input, &mut output);
+    (output, end)
 }
 
-impl Read for Zeros {
-    fn read(&mut self, buf: &mut [u8]) -> io::Result<usize> {
-        self.reads = self.reads.saturating_add(1);
-        if self.reads == self.fails_at {
-            return Err(Error::from(ErrorKind::Other));
-        }
-        let n = buf.len().min(self.left);
-        buf[..n].fill(0);
-        self.left -= n;
-        Ok(n)
+#[test]
+fn edits_and_refusals_are_answered(rt: HostRuntime) {
+    let alloc = rt.alloc();
+    let (output, end) = written(
+        &rt,
+        alloc,
+        b"len\ninput 0\nshot 0\ninsert 0 2 R.... ..... .....\ninput 1\ninput 2\ndelete 1 2\nreplace 1 1 ..... ..... .....\ninput 1\nlen\ninsert 3 1 ..... ..... .....\ninsert 0 65535 ..... ..... .....\ninsert 2 65534 ..... ..... .....\nlen\n",
+    );
+    assert_eq!(rt; end, Ok(()));
+    assert_eq!(rt;
+        output.as_slice(),
+        b"len 0 0\nno frame 0 len 0\nno frame 0 len 0\nedit 1 len 2\ninput 1 R.... ..... .....\nno frame 1 len 2\nplace 1 len 2\nedit 2 len 2\ninput 2 ..... ..... .....\nlen 2 2\nplace 2 len 2\nlong 2 len 2\nedit 3 len 65536\nlen 3 65536\n".as_slice()
+    );
+}
+
+#[test]
+fn a_line_not_understood_ends_with_its_number(rt: HostRuntime) {
+    let alloc = rt.alloc();
+    let cases: [(&[u8], &[u8], usize); 4] = [
+        (b"len\nwork\nlen\n", b"len 0 0\n", 2),
+        (b"\n", b"", 1),
+        (b"len\ndelete 0 0\nlen", b"len 0 0\nedit 1 len 0\n", 3),
+        (b"len", b"", 1),
+    ];
+    for (script, text, line) in cases {
+        let (output, end) = written(&rt, alloc, script);
+        assert_eq!(rt; end, Err(ToolFault::Script { line }));
+        assert_eq!(rt; output.as_slice(), text);
+    }
+    let (output, end) = written(&rt, alloc, b"");
+    assert_eq!(rt; end, Ok(()));
+    assert!(rt; output.is_empty());
+}
+
+/// A cartridge that sets the playfield, its edits, and shots with the greenzone's help.
+static PLAYFIELD: &[u8] =
+    b"load 000=A910850DA91E85084C08F0 FFC=00F0\ninsert 0 200 ..... ..... .....\nshot 191\nreplace 64 1 R.... ..... .....\nshot 64\ndelete 0 200\nshot 0\ndelete 0 0\n";
+
+static PLAYFIELD_REPLIES: &[u8] =
+    b"edit 1 len 0\nedit 2 len 200\nshot 2 191 ran 192 lit 1680\nedit 3 len 200\nshot 3 64 ran 1 lit 1680\nedit 4 len 0\nno frame 4 len 0\nedit 5 len 0\n";
+
+/// Shots between edits.
+static SHOTS: &[u8] =
+    b"load 000=A910850DA91E85084C08F0 FFC=00F0\ninsert 0 200 ..... ..... .....\nshot 199\nshot 150\ninsert 127 1 R.... ..... .....\nshot 200\ndelete 10 191\nshot 9\n";
+
+static SHOTS_REPLIES: &[u8] =
+    b"edit 1 len 0\nedit 2 len 200\nshot 2 199 ran 200 lit 1680\nshot 2 150 ran 23 lit 1680\nedit 3 len 201\nshot 3 200 ran 137 lit 1680\nedit 4 len 10\nshot 4 9 ran 10 lit 1680\n";
+
+/// A cartridge that halts in its fourth frame.
+static HALTS: &[u8] =
+    b"load 000=A203A9028500A9008500CAD0F502 FFC=00F0\ninsert 0 100 ..... ..... .....\nshot 2\nshot 99\nshot 80\n";
+
+static HALTS_REPLIES: &[u8] =
+    b"edit 1 len 0\nedit 2 len 100\nshot 2 2 ran 3 lit 0\nhalted 2 F00D 02\nhalted 2 F00D 02\n";
+
+/// Jobs fill the states that a shot needs.
+static WORKS: &[u8] =
+    b"load 000=A910850DA91E85084C08F0 FFC=00F0\ninsert 0 200 ..... ..... .....\nwork 192\nwork 192\nshot 191\n";
+
+static WORKS_REPLIES: &[u8] =
+    b"edit 1 len 0\nedit 2 len 200\nwork jobs 1 kept 3 stale 0\nwork jobs 1 kept 0 stale 0\nshot 2 191 ran 64 lit 1680\n";
+
+/// An edit and the one that takes it back leave the states that a shot made.
+static TAKEN_BACK: &[u8] =
+    b"load 000=A910850DA91E85084C08F0 FFC=00F0\ninsert 0 200 ..... ..... .....\nshot 191\nreplace 64 1 R.... ..... .....\nreplace 64 1 ..... ..... .....\nshot 191\n";
+
+static TAKEN_BACK_REPLIES: &[u8] =
+    b"edit 1 len 0\nedit 2 len 200\nshot 2 191 ran 192 lit 1680\nedit 3 len 200\nedit 4 len 200\nshot 4 191 ran 64 lit 1680\n";
+
+/// A movie of 32,832 inputs has a grid of every 128th frame, one of 32,831 of every 64th.
+static GRIDS: &[u8] =
+    b"load 000=A910850DA91E85084C08F0 FFC=00F0\ninsert 0 32831 ..... ..... .....\nshot 199\ninsert 32831 1 R.... ..... .....\nshot 150\nshot 100\ndelete 32831 1\nshot 100\nshot 100\n";
+
+static GRIDS_REPLIES: &[u8] =
+    b"edit 1 len 0\nedit 2 len 32831\nshot 2 199 ran 200 lit 1680\nedit 3 len 32832\nshot 3 150 ran 23 lit 1680\nshot 3 100 ran 101 lit 1680\nedit 4 len 32831\nshot 4 100 ran 101 lit 1680\nshot 4 100 ran 37 lit 1680\n";
+
+#[test]
+fn shots_are_answered_as_by_hand(rt: HostRuntime) {
+    let alloc = rt.alloc();
+    for (name, script, text) in [
+        ("playfield", PLAYFIELD, PLAYFIELD_REPLIES),
+        ("shots", SHOTS, SHOTS_REPLIES),
+        ("halts", HALTS, HALTS_REPLIES),
+        ("works", WORKS, WORKS_REPLIES),
+        ("taken back", TAKEN_BACK, TAKEN_BACK_REPLIES),
+        ("grids", GRIDS, GRIDS_REPLIES),
+    ] {
+        let (output, end) = written(&rt, alloc, script);
+        assert_eq!(rt; end, Ok(()), "{name}");
+        assert_eq!(rt; output.as_slice(), text, "{name}");
     }
 }
 
-fn make_zeros(left: usize, fails_at: usize) -> Zeros {
-    Zeros {
-        left,
-        reads: 0,
-        fails_at,
-    }
-}
-
-/// A writer with room for so many bytes that takes a few at each call; past its room it fails, or
-/// takes nothing.
+/// A writer that takes seven bytes at each call, up to so many in all, and counts its calls.
 #[derive(Drop)]
 struct Narrow {
     taken: Vec<u8>,
     room: usize,
-    at_once: usize,
-    takes_nothing: bool,
+    writes: usize,
 }
 
 impl Write for Narrow {
     fn write(&mut self, buf: &[u8]) -> io::Result<usize> {
-        let n = buf.len().min(self.at_once).min(self.room);
-        if n == 0 && !self.takes_nothing {
+        self.writes = self.writes.saturating_add(1);
+        let n = buf.len().min(7).min(self.room);
+        if n == 0 {
             return Err(Error::from(ErrorKind::Other));
         }
         match self.taken.extend_from_slice(&buf[..n]) {
@@ -67,362 +136,77 @@ impl Write for Narrow {
     }
 }
 
-fn make_narrow(alloc: Global, room: usize, at_once: usize, takes_nothing: bool) -> Narrow {
-    Narrow {
-        taken: Vec::new(alloc),
-        room,
-        at_once,
-        takes_nothing,
-    }
-}
-
-/// LDA #42, STA 80, JMP F000.
-fn image(alloc: Global) -> Result<Vec<u8>, Fail> {
-    let mut bytes = vec![in alloc; 0u8; 4096]?;
-    for (place, byte) in [0xa9, 0x42, 0x85, 0x80, 0x4c, 0x00, 0xf0]
-        .into_iter()
-        .enumerate()
-    {
-        if let Some(cell) = bytes.get_mut(place) {
-            *cell = byte;
-        }
-    }
-    if let Some(cell) = bytes.get_mut(0xffd) {
-        *cell = 0xf0;
-    }
-    Ok(bytes)
-}
-
-fn text_fault(line: usize, kind: TextErrorKind) -> ToolFault {
-    ToolFault::Text(TextError { line, kind })
-}
-
-/// A cartridge with these bytes at its start and at the start vector; all others are 0.
-fn image_of(alloc: Global, program: &[u8], start: &[u8]) -> Result<Vec<u8>, Fail> {
-    let mut bytes = Vec::new(alloc);
-    bytes.extend_from_slice(program)?;
-    for _ in 0..4096u32 {
-        if bytes.len() < 0xffc {
-            bytes.push(0)?;
-        }
-    }
-    bytes.extend_from_slice(start)?;
-    bytes.push(0)?;
-    bytes.push(0)?;
-    Ok(bytes)
-}
-
-/// A playfield at the left edge of each half, drawn for ever: PF0 is 10 and COLUPF 1E.
-static PLAYFIELD: [u8; 11] = [
-    0xa9, 0x10, 0x85, 0x0d, 0xa9, 0x1e, 0x85, 0x08, 0x4c, 0x08, 0xf0,
-];
-
-/// Ends three frames by vertical sync, and halts at F00D in the fourth.
-static HALTING: [u8; 14] = [
-    0xa2, 0x03, 0xa9, 0x02, 0x85, 0x00, 0xa9, 0x00, 0x85, 0x00, 0xca, 0xd0, 0xf5, 0x02,
-];
-
-/// The movie text for a cartridge whose SHA-256 is given, with so many frames of nothing pressed.
-fn movie_text(alloc: Global, digest: &str, frames: usize) -> Result<String, Fail> {
-    let mut text = format!(in alloc; "a26movie 1\ncart {digest}\n")?;
-    for _ in 0..frames {
-        text.push_str("..... ..... .....\n")?;
-    }
-    Ok(text)
-}
-
-static TRACE: &[u8] =
-    b"F000 A9 42 00 00 FD 34 2\nF002 85 42 00 00 FD 34 3\nF004 4C 42 00 00 FD 34 3\n";
-
+/// A write of a few bytes is no failed one, and a failed one is the last; the replies before a line that isn't understood
+/// are written.
 #[test]
-fn a_trace_is_written_as_by_hand(rt: HostRuntime) -> Result<(), Fail> {
+fn replies_go_out_in_small_pieces(rt: HostRuntime) {
     let alloc = rt.alloc();
-    let bytes = image(alloc)?;
-    let mut written = Vec::new(alloc);
-    assert_eq!(rt;
-        trace_run(alloc, 3, &mut bytes.as_slice(), &mut written),
-        Ok(())
-    );
-    assert_eq!(rt; written.as_slice(), TRACE);
-    Ok(())
-}
-
-#[test]
-fn a_trace_goes_out_in_small_pieces(rt: HostRuntime) -> Result<(), Fail> {
-    let alloc = rt.alloc();
-    let bytes = image(alloc)?;
-    let mut output = make_narrow(alloc, 1000, 7, false);
-    assert_eq!(rt;
-        trace_run(alloc, 3, &mut bytes.as_slice(), &mut output),
-        Ok(())
-    );
-    assert_eq!(rt; output.taken.as_slice(), TRACE);
-    Ok(())
-}
-
-#[test]
-fn a_writer_that_stops_has_the_first_bytes(rt: HostRuntime) -> Result<(), Fail> {
-    let alloc = rt.alloc();
-    let bytes = image(alloc)?;
-    for takes_nothing in [false, true] {
-        for room in [0, 1, 20, 25, 26, 74] {
-            let mut output = make_narrow(alloc, room, 9, takes_nothing);
-            let answer = trace_run(alloc, 3, &mut bytes.as_slice(), &mut output);
-            assert_eq!(rt;
-                answer,
-                Err(ToolFault::Write { written: room }),
-                "room {room}"
-            );
-            assert_eq!(rt; output.taken.as_slice(), &TRACE[..room], "room {room}");
-        }
-    }
-    Ok(())
-}
-
-#[test]
-fn other_sizes_are_refused(rt: HostRuntime) -> Result<(), Fail> {
-    let alloc = rt.alloc();
-    for size in [0, 1, 7, 2047, 4095, 4097, INPUT_LIMIT] {
-        let mut written = Vec::new(alloc);
-        let answer = trace_run(alloc, 3, &mut make_zeros(size, 0), &mut written);
-        assert_eq!(rt; answer, Err(ToolFault::Size(size)));
-        assert!(rt; written.is_empty());
-    }
-    Ok(())
-}
-
-#[test]
-fn one_byte_past_the_limit_is_too_long(rt: HostRuntime) -> Result<(), Fail> {
-    let alloc = rt.alloc();
-    for more in [1, 100_000] {
-        let mut input = make_zeros(INPUT_LIMIT + more, 0);
-        let mut written = Vec::new(alloc);
-        let answer = trace_run(alloc, 3, &mut input, &mut written);
-        assert_eq!(rt; answer, Err(ToolFault::TooLong));
-        assert_eq!(rt; input.left, more - 1);
-        assert!(rt; written.is_empty());
-    }
-    Ok(())
-}
-
-#[test]
-fn a_failed_read_is_the_last_one(rt: HostRuntime) -> Result<(), Fail> {
-    let alloc = rt.alloc();
-    for fails_at in [1, 2] {
-        let mut input = make_zeros(4096, fails_at);
-        let mut written = Vec::new(alloc);
-        let answer = trace_run(alloc, 3, &mut input, &mut written);
-        assert_eq!(rt; answer, Err(ToolFault::Read));
-        assert_eq!(rt; input.reads, fails_at);
-        assert!(rt; written.is_empty());
-    }
-    Ok(())
-}
-
-#[test]
-fn faults_read_as_their_lines(rt: HostRuntime) -> Result<(), Fail> {
-    let alloc = rt.alloc();
-    for (fault, line) in [
-        (ToolFault::TooLong, "fault: input is too long"),
-        (ToolFault::Read, "fault: read failed"),
-        (
-            ToolFault::Write { written: 20 },
-            "fault: write failed after 20 bytes",
-        ),
-        (ToolFault::Size(7), "fault: cartridge has 7 bytes"),
-        (
-            ToolFault::NoFrame { frame: 1, len: 1 },
-            "fault: no frame 1 of 1",
-        ),
-        (
-            ToolFault::Halted {
-                at: 0xf00d,
-                opcode: 2,
-            },
-            "fault: halted at F00D by 02",
-        ),
-        (
-            text_fault(3, TextErrorKind::End),
-            "fault: movie line 3: end",
-        ),
-        (
-            text_fault(2, TextErrorKind::Digest),
-            "fault: movie line 2: digest",
-        ),
-        (
-            text_fault(1, TextErrorKind::Head),
-            "fault: movie line 1: head",
-        ),
-        (
-            text_fault(4, TextErrorKind::Frame),
-            "fault: movie line 4: frame",
-        ),
-        (
-            text_fault(65539, TextErrorKind::TooMany),
-            "fault: movie line 65539: too many",
-        ),
-        (ToolFault::Memory, "fault: out of memory"),
+    let text = b"len 0 0\nedit 1 len 0\n".as_slice();
+    for (room, end) in [
+        (100, Err(ToolFault::Script { line: 3 })),
+        (21, Err(ToolFault::Script { line: 3 })),
+        (20, Err(ToolFault::Write { written: 20 })),
+        (7, Err(ToolFault::Write { written: 7 })),
+        (0, Err(ToolFault::Write { written: 0 })),
     ] {
-        let text = format!(in alloc; "{fault}")?;
-        assert_eq!(rt; text.as_str(), line);
-    }
-    Ok(())
-}
-
-/// The SHA-256 of the cartridges, by another program.
-static PLAYFIELD_DIGEST: &str = "820c64e9933496de683a000c5e11f0510fb7b1699b2ce86471295236b284906d";
-
-static HALTING_DIGEST: &str = "c914dfbc057cd1e5dd9cefcba07cec773cc85a8be3a04676377b60ded704d22d";
-
-#[test]
-fn a_movie_is_as_long_as_its_frames(rt: HostRuntime) -> Result<(), Fail> {
-    let alloc = rt.alloc();
-    let cart = image_of(alloc, &PLAYFIELD, &[0x00, 0xf0])?;
-    let cases = [
-        (0, 81, "ok 0 frames\n"),
-        (1, 99, "ok 1 frames\n"),
-        (5, 171, "ok 5 frames\n"),
-    ];
-    for (frames, length, line) in cases {
-        let text = movie_text(alloc, PLAYFIELD_DIGEST, frames)?;
-        assert_eq!(rt; text.len(), length);
-        let mut written = Vec::new(alloc);
-        let answer = check_run(
-            alloc,
-            &mut cart.as_slice(),
-            &mut text.as_bytes(),
-            &mut written,
-        );
-        assert_eq!(rt; answer, Ok(()));
-        assert_eq!(rt; written.as_slice(), line.as_bytes());
-    }
-    Ok(())
-}
-
-#[test]
-fn faults_of_a_movie_come_in_order(rt: HostRuntime) -> Result<(), Fail> {
-    let alloc = rt.alloc();
-    let cart = image_of(alloc, &PLAYFIELD, &[0x00, 0xf0])?;
-    let text = movie_text(alloc, PLAYFIELD_DIGEST, 1)?;
-    let other = movie_text(alloc, HALTING_DIGEST, 1)?;
-    let mut written = Vec::new(alloc);
-    // Reading the cartridge comes before reading the text, this before the size, and this before the text's faults.
-    let mut unread = make_zeros(10, 1);
-    let answer = check_run(alloc, &mut make_zeros(7, 1), &mut unread, &mut written);
-    assert_eq!(rt; answer, Err(ToolFault::Read));
-    assert_eq!(rt; unread.reads, 0);
-    let answer = check_run(
-        alloc,
-        &mut make_zeros(7, 0),
-        &mut make_zeros(10, 1),
-        &mut written,
-    );
-    assert_eq!(rt; answer, Err(ToolFault::Read));
-    let answer = check_run(
-        alloc,
-        &mut make_zeros(7, 0),
-        &mut other.as_bytes(),
-        &mut written,
-    );
-    assert_eq!(rt; answer, Err(ToolFault::Size(7)));
-    let answer = check_run(
-        alloc,
-        &mut cart.as_slice(),
-        &mut other.as_bytes(),
-        &mut written,
-    );
-    assert_eq!(rt; answer, Err(text_fault(2, TextErrorKind::Digest)));
-    let mut unended = text.as_bytes().get(..98).unwrap_or(&[]);
-    let answer = check_run(alloc, &mut cart.as_slice(), &mut unended, &mut written);
-    assert_eq!(rt; answer, Err(text_fault(3, TextErrorKind::End)));
-    assert!(rt; written.is_empty());
-    Ok(())
-}
-
-#[test]
-fn a_playfield_is_drawn(rt: HostRuntime) -> Result<(), Fail> {
-    let alloc = rt.alloc();
-    let cart = image_of(alloc, &PLAYFIELD, &[0x00, 0xf0])?;
-    let text = movie_text(alloc, PLAYFIELD_DIGEST, 1)?;
-    let mut written = Vec::new(alloc);
-    let answer = shot_run(
-        alloc,
-        0,
-        &mut cart.as_slice(),
-        &mut text.as_bytes(),
-        &mut written,
-    );
-    assert_eq!(rt; answer, Ok(()));
-    assert_eq!(rt; written.len(), 100_815);
-    assert!(rt; written.as_slice().starts_with(b"P6\n160 210\n255\n"));
-    let pixels = written.as_slice().get(15..).unwrap_or(&[]);
-    for (pixel, colour) in pixels.chunks(3).enumerate() {
-        let x = pixel % 80;
-        let expected: &[u8] = if x < 4 {
-            &[0xd2, 0xc8, 0x8c]
-        } else {
-            &[0, 0, 0]
+        let mut output = Narrow {
+            taken: Vec::new(alloc),
+            room,
+            writes: 0,
         };
-        assert_eq!(rt; colour, expected, "at {pixel}");
+        let mut input = b"len\ndelete 0 0\nlen".as_slice();
+        assert_eq!(rt;
+            script_run(&rt, alloc, &mut input, &mut output),
+            end,
+            "room {room}"
+        );
+        let written = room.min(21);
+        assert_eq!(rt; output.taken.as_slice(), &text[..written], "room {room}");
+        let failed = if room < 21 { 1 } else { 0 };
+        assert_eq!(rt; output.writes, written.div_ceil(7) + failed, "room {room}");
     }
-    let mut none = Vec::new(alloc);
-    let answer = shot_run(
-        alloc,
-        1,
-        &mut cart.as_slice(),
-        &mut text.as_bytes(),
-        &mut none,
-    );
-    assert_eq!(rt; answer, Err(ToolFault::NoFrame { frame: 1, len: 1 }));
-    assert!(rt; none.is_empty());
-    let mut output = make_narrow(alloc, 20, 1000, false);
-    let answer = shot_run(
-        alloc,
-        0,
-        &mut cart.as_slice(),
-        &mut text.as_bytes(),
-        &mut output,
-    );
-    assert_eq!(rt; answer, Err(ToolFault::Write { written: 20 }));
-    Ok(())
+}
+
+/// A reader of so many spaces that fails at one of its reads, and counts them.
+#[derive(Drop)]
+struct Spaces {
+    left: usize,
+    reads: usize,
+    fails_at: usize,
+}
+
+impl Read for Spaces {
+    fn read(&mut self, buf: &mut [u8]) -> io::Result<usize> {
+        self.reads = self.reads.saturating_add(1);
+        if self.reads == self.fails_at {
+            return Err(Error::from(ErrorKind::Other));
+        }
+        let n = buf.len().min(self.left);
+        buf[..n].fill(b' ');
+        self.left -= n;
+        Ok(n)
+    }
 }
 
 #[test]
-fn a_halted_frame_has_no_picture(rt: HostRuntime) -> Result<(), Fail> {
+fn a_script_that_is_not_read_is_not_answered(rt: HostRuntime) {
     let alloc = rt.alloc();
-    let cart = image_of(alloc, &HALTING, &[0x00, 0xf0])?;
-    let text = movie_text(alloc, HALTING_DIGEST, 5)?;
-    assert_eq!(rt; text.len(), 171);
-    for frame in [0, 1, 2] {
-        let mut written = Vec::new(alloc);
-        let answer = shot_run(
-            alloc,
-            frame,
-            &mut cart.as_slice(),
-            &mut text.as_bytes(),
-            &mut written,
-        );
-        assert_eq!(rt; answer, Ok(()));
-        assert_eq!(rt; written.len(), 100_815);
-        assert!(rt; written.iter().skip(15).all(|byte| *byte == 0));
+    for (left, fails_at, fault, reads) in [
+        (10, 1, ToolFault::Read, 1),
+        (10, 2, ToolFault::Read, 2),
+        (10, 3, ToolFault::Script { line: 1 }, 2),
+        (INPUT_LIMIT, 0, ToolFault::Script { line: 1 }, 4097),
+        (INPUT_LIMIT + 1, 0, ToolFault::TooLong, 4097),
+    ] {
+        let mut input = Spaces {
+            left,
+            reads: 0,
+            fails_at,
+        };
+        let mut output = Vec::new(alloc);
+        let end = script_run(&rt, alloc, &mut input, &mut output);
+        assert_eq!(rt; end, Err(fault), "{left} bytes");
+        assert_eq!(rt; input.reads, reads, "{left} bytes");
+        assert!(rt; output.is_empty(), "{left} bytes");
     }
-    for frame in [3, 4] {
-        let mut written = Vec::new(alloc);
-        let answer = shot_run(
-            alloc,
-            frame,
-            &mut cart.as_slice(),
-            &mut text.as_bytes(),
-            &mut written,
-        );
-        assert_eq!(rt;
-            answer,
-            Err(ToolFault::Halted {
-                at: 0xf00d,
-                opcode: 2
-            })
-        );
-        assert!(rt; written.is_empty());
-    }
-    Ok(())
 }

@@ -1,4 +1,4 @@
-use Rattle.std.proofs.Common.{rules, ◌≡◌, ◌<◌, ℕ, arith}
+use Rattle.std.proofs.Common.{◌<◌, arith}
 use Rattle.tas_desk.proofs.SeatLemmas.{below_more}
 use Rattle.tas_desk.proofs.desk.below.Goals as goal
 

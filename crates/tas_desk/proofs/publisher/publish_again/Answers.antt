@@ -1,5 +1,3 @@
-use Rattle.std.proofs.Common.{◌≡◌, fold, ap, ◌∙◌}
-use Rattle.tas_desk.specs.Published.{PublishedContent, ChangeContent, after}
 use Rattle.tas_desk.proofs.PublishedRule.{stays}
 use Rattle.tas_desk.proofs.PublishLemmas.{done_of, stayed, seen_as}
 use Rattle.tas_desk.proofs.publisher.publish_again.Goals as goal

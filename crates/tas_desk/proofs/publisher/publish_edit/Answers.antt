@@ -1,5 +1,4 @@
-use Rattle.std.proofs.Common.{◌≡◌, ◌++◌, ◌∷◌, [], List, drop, fold, ap, ◌∙◌, sym}
-use Rattle.tas_desk.specs.Published.{PublishedContent, ChangeContent, after}
+use Rattle.std.proofs.Common.{ap}
 use Rattle.tas_desk.proofs.PublishedRule.{publishes}
 use Rattle.tas_desk.proofs.PublishLemmas.{done_of, all_ok, showed}
 use Rattle.tas_desk.proofs.publisher.publish_edit.Goals as goal

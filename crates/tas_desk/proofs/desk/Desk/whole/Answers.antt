@@ -1,5 +1,4 @@
-use Rattle.std.proofs.Common.{◌≡◌, ◌+◌, ◌<◌, ◌≤◌, ◌==◌, ℕ, count_by, refl, ap, sym, ◌∙◌, subst, arith, rules}
-use Rattle.tas_desk.specs.Seats.{SeatContent, IsWhole}
+use Rattle.std.proofs.Common.{refl, arith, rules}
 use Rattle.tas_desk.proofs.SeatLemmas.{once_more, whole_of}
 use Rattle.tas_desk.proofs.desk.Desk.whole.Goals as goal
 

@@ -1,4 +1,4 @@
-use Rattle.std.proofs.Common.{◌≡◌, ap, sym, ◌∙◌, List, subst, All, length, arith}
+use Rattle.std.proofs.Common.{◌≡◌, sym, ◌∙◌, List, subst, All, length, arith}
 use Rattle.tas_desk.specs.declared.entry.Entry.{Entry}
 use Rattle.tas_desk.specs.Seats.{IsSettled}
 use Rattle.tas_desk.specs.History.{IsLegal}
@@ -16,7 +16,7 @@ returns-clause-seats g c =
     let left = c.loop-seat.seats.items in
     let none : length left ≡ 0 = omega (arith, c.in_default.ensures.cases.0, c.loop-seat.seats.ok.0) in
     subst (λ (l : List (Entry _)). All (IsSettled l) c.args.seats.items) c.self.view_is
-    (settles _ _ _ _ _ _ c.requires.whole c.loop-seat.invariant (none_left left none) (λ p. c.audit.ensures.whole (p ∙ sym g.met.N.Name.a_share_for_each_seat) ∙ c.self.invariant.1))
+    (settles _ _ _ _ _ _ c.requires.whole c.loop-seat.invariant (none_left left none) (λ p. c.audit.ensures.whole (p ∙ sym c.requires.named) ∙ c.self.invariant.1))
 
 pub loop-seat-init : goal.loop-seat-init
 loop-seat-init g c = joined_none _ _ _ _ c.self.invariant.2 c.self.invariant.3

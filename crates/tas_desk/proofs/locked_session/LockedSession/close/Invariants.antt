@@ -1,4 +1,4 @@
-use Rattle.std.proofs.Common.{◌≡◌, vec_len}
+use Rattle.std.proofs.Common.{vec_len}
 use Rattle.tas_desk.specs.Closing.{Joined}
 use Rattle.tas_desk.proofs.locked_session.LockedSession.close.Given as goal
 

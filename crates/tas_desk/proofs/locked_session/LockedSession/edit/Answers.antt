@@ -1,4 +1,4 @@
-use Rattle.std.proofs.Common.{◌≡◌, ap}
+use Rattle.std.proofs.Common.{ap}
 use Rattle.tas_desk.specs.Seats.{SeatContent}
 use Rattle.tas_desk.proofs.EntryLemmas.{refused_as}
 use Rattle.tas_desk.proofs.locked_session.LockedSession.edit.Goals as goal

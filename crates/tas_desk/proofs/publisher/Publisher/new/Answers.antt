@@ -1,4 +1,4 @@
-use Rattle.std.proofs.Common.{◌≡◌, ◌∙◌, refl}
+use Rattle.std.proofs.Common.{◌∙◌, refl}
 use Rattle.tas_desk.proofs.PublishedRule.{starts, first_sound, opened_as}
 use Rattle.tas_desk.proofs.publisher.Publisher.new.Goals as goal
 

@@ -1,4 +1,4 @@
-use Rattle.std.proofs.Common.{◌≡◌, ◌∙◌, ◌++◌, ◌∷◌, [], ℕ, ◌+◌, ◌-◌, length, ap, List, sym, subst, arith}
+use Rattle.std.proofs.Common.{ap, sym, subst, arith}
 use Rattle.tas_desk.specs.Version.{VersionContent}
 use Rattle.tas_desk.specs.Session.{IsNextEntry}
 use Rattle.tas_desk.specs.Published.{PublisherContent}

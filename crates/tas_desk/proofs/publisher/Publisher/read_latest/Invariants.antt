@@ -1,4 +1,3 @@
-use Rattle.std.proofs.Common.{◌≡◌}
 use Rattle.left_right.specs.Sides.{view}
 use mathlib.Core.List.{IsPrefix}
 use Rattle.tas_desk.specs.Published.{KnowsRegistry}

@@ -1,4 +1,4 @@
-use Rattle.std.proofs.Common.{◌≡◌, ◌∙◌, ap, length}
+use Rattle.std.proofs.Common.{◌∙◌, ap, length}
 use Rattle.tas_desk.specs.Published.{PublisherContent}
 use Rattle.tas_desk.specs.Session.{SessionContent}
 use Rattle.tas_desk.proofs.HistoryLemmas.{sound_edited, counted_after, same_next}

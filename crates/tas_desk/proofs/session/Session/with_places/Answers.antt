@@ -1,4 +1,4 @@
-use Rattle.std.proofs.Common.{◌≡◌, ap}
+use Rattle.std.proofs.Common.{ap}
 use Rattle.tas_desk.specs.Published.{PublisherContent}
 use Rattle.tas_desk.proofs.HistoryLemmas.{sound_opened, counted_none}
 use Rattle.tas_desk.proofs.session.Session.with_places.Goals as goal

@@ -1,5 +1,4 @@
-use Rattle.std.proofs.Common.{◌≡◌, ◌==◌, List, length, Bool, true, false, MatchBool, sym, ◌∙◌, ap, subst, ◌∷◌, [], ◌++◌}
-use Rattle.tas_desk.specs.declared.entry.Entry.{Entry}
+use Rattle.std.proofs.Common.{◌≡◌, length, Bool, MatchBool, sym, ◌∙◌, ap, subst, ◌∷◌, [], ◌++◌}
 use Rattle.tas_desk.specs.Registry.{latest}
 use Rattle.tas_desk.proofs.RegistryLemmas.{exchange_keeps, latest-push}
 use Rattle.tas_desk.proofs.version.Version.try_renew.Goals as goal

@@ -1,0 +1,58 @@
+-- How engines end.
+use Rattle.std.proofs.Common.{◌≡◌, ◌+◌, ◌<◌, sym, ap, subst, length, ℕ, List, Option, Some, None, Result, Ok, Err, refl, inl, inr, OnOk, IfErr}
+use Rattle.std.specs.Io.KnownBytes.{Appends}
+use Rattle.std.proofs.KnownBytes.{Keeps-refl}
+use Rattle.vcs_cpu.specs.declared.halt.Halt.{Halt}
+use Rattle.vcs_cpu.specs.declared.halt.Halt.TheVariants.{Undocumented}
+use Rattle.tas_movie.specs.Content.{MovieContent}
+use Rattle.tas_green.specs.Run.{state_after, answer_of}
+use Rattle.tas_engines.specs.Movies.{IsShotFault, halt_fault}
+use Rattle.tas_engines.specs.declared.fault.ReadFault.{ReadFault}
+use Rattle.tas_engines.specs.declared.fault.RunFault.{RunFault}
+use Rattle.tas_engines.specs.declared.fault.ToolFault.{ToolFault}
+use Rattle.tas_engines.specs.Faults.{unread_fault, told}
+use Rattle.tas_engines.specs.Input.{IsReadWhole}
+use Rattle.tas_engines.specs.Movies.{IsMovieRun}
+use Rattle.tas_engines.specs.Tracing.{IsTraceAnswer, IsTraceRun}
+use Rattle.tas_engines.specs.Output.{Ends, EndsAfter, StopsWriting}
+
+-- a write of a whole answer ends an engine
+pub ends-written : (answers : Result (List ℕ) RunFault → Type 0) (old new : Option (List ℕ)) (bytes : List ℕ) (r : Result (Unit {0}) RunFault) → answers (Ok bytes) →
+    OnOk r (Appends old new bytes) → IfErr r (StopsWriting old new bytes) → Ends answers old new r
+ends-written answers old new bytes (Ok u) answer all stops = (bytes, answer, all)
+ends-written answers old new bytes (Err e) answer all stops = inr (record { bytes = bytes; answer = answer; stops = stops })
+
+-- what a frame answers tells the halt
+pub halt-of_err : (o : Option Halt) (a : Result (Unit {0}) Halt) (h : Halt) → a ≡ answer_of o → a ≡ Err h → o ≡ Some h
+halt-of_err None a h e is = cc
+halt-of_err (Some h') a h e is = cc
+
+pub halt-of_ok : (o : Option Halt) (a : Result (Unit {0}) Halt) (u : Unit {0}) → a ≡ answer_of o → a ≡ Ok u → o ≡ None
+halt-of_ok None a u e is = refl
+halt-of_ok (Some h') a u e is = cc
+
+pub fact-of_ok : (a : Result (Unit {0}) Halt) (u : Unit {0}) (P : Type 0) → OnOk a P → a ≡ Ok u → P
+fact-of_ok (Ok v) u P holds is = holds
+fact-of_ok (Err h) u P holds is = cc
+
+-- a halt in frame k is told as a fault
+pub shot_fault-of_halt : (movie : MovieContent) (k : ℕ) (h : Halt) (fault : RunFault) → k < length movie.inputs → (state_after movie (k + 1)).halt ≡ Some h → fault ≡ halt_fault h → IsShotFault movie k fault
+shot_fault-of_halt movie k (Undocumented at opcode) fault within is told = subst (IsShotFault movie k) (sym told) (within, is)
+
+-- ---- engines
+
+-- reading stopped, and nothing was written
+pub unread : (stops : ReadFault → Type 0) (runs : Result (Unit {0}) RunFault → Type 0) (old : Option (List ℕ)) (fault : ReadFault) (e : ToolFault) → stops fault → e ≡ unread_fault fault → EndsAfter stops runs old old (Err e)
+unread stops runs old fault e stopped is = inl (fault, ap Err is, stopped, Keeps-refl old)
+
+-- an engine ran on the image that it had read
+pub trace_ran : (n : ℕ) (input input' output output' : Option (List ℕ)) (read image : List ℕ) (end : Result (Unit {0}) RunFault) (result : Result (Unit {0}) ToolFault) → IsReadWhole input input' read → image ≡ read
+    → Ends (IsTraceAnswer image n) output output' end → result ≡ told end → IsTraceRun n input input' output output' result
+trace_ran n input input' output output' read image end result whole same ends is = inr (end, is, (image, subst (IsReadWhole input input') (sym same) whole, ends))
+
+-- an engine ran on the cartridge and the text that it had read
+pub movie_ran : (answers : List ℕ → List ℕ → Result (List ℕ) RunFault → Type 0) (cart cart' input input' output output' : Option (List ℕ)) (read image read' bytes : List ℕ) (end : Result (Unit {0}) RunFault)
+    (result : Result (Unit {0}) ToolFault) → IsReadWhole cart cart' read → image ≡ read → IsReadWhole input input' read' → bytes ≡ read' → Ends (answers image bytes) output output' end → result ≡ told end
+    → IsMovieRun answers cart cart' input input' output output' result
+movie_ran answers cart cart' input input' output output' read image read' bytes end result whole same whole' same' ends is =
+    inr (end, is, (image, subst (IsReadWhole cart cart') (sym same) whole, (bytes, subst (IsReadWhole input input') (sym same') whole', ends)))

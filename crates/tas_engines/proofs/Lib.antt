@@ -1,0 +1,2 @@
+pub mod ReadLengths
+pub mod EngineEnds

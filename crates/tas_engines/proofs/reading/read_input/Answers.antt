@@ -1,0 +1,14 @@
+use Rattle.std.proofs.Common.{◌++◌, take, arith, length-take}
+use Rattle.std.proofs.KnownBytes.{Consumes-trans}
+use Rattle.tas_engines.proofs.ReadLengths.{length-append_take, length-append_take-le}
+use Rattle.tas_engines.proofs.reading.read_input.Goals as goal
+
+pub returns-then-n-left-clause-fault : goal.returns-then-n-left-clause-fault
+returns-then-n-left-clause-fault g c =
+    let before = c.loop-bytes.invariant in
+    (c.loop-bytes.bytes.items ++ take c.in-Some.n c.read_some.new.buffer, Consumes-trans _ _ _ _ _ before.bytes c.in-Some.ensures.bytes, length-append_take _ c.read_some.new.buffer _ _ c.in-Some.ensures.bound (omega (arith, c.loop-bytes.bytes.ok.0)))
+
+pub returns-then-is_err-clause-fault : goal.returns-then-is_err-clause-fault
+returns-then-is_err-clause-fault g c =
+    let before = c.loop-bytes.invariant in
+    (c.loop-bytes.bytes.items ++ take c.in-Some.n c.read_some.new.buffer, Consumes-trans _ _ _ _ _ before.bytes c.in-Some.ensures.bytes, length-append_take-le _ c.read_some.new.buffer _ _ c.in-Some.ensures.bound (omega (arith, c.loop-bytes.bytes.ok.0, c.in-Some.ensures.bound, c.in-Some.ensures.len, length-take c.min-most.result c.loop-bytes.buffer)))

@@ -1,0 +1,64 @@
+-- What `tas check` and `tas shot` answer.
+use Rattle.std.specs.Prelude.{◌≡◌, ◌≢◌, ℕ, ◌+◌, ◌<◌, ◌≤◌, List, length, ◌++◌, codes, decimal, ◌⊎◌, Option, Some, None, Result, Ok, Err}
+use Rattle.vcs_cpu.specs.declared.halt.Halt.{Halt}
+use Rattle.vcs_cpu.specs.declared.halt.Halt.TheVariants.{Undocumented}
+use Rattle.vcs_tia.specs.Image.{ppm_bytes}
+use Rattle.tas_movie.specs.Content.{MovieContent}
+use Rattle.tas_movie.specs.Text.{text}
+use Rattle.tas_movie.specs.Fault.{fault}
+use Rattle.tas_green.specs.Run.{state_after, picture_of}
+use Rattle.tas_engines.specs.declared.fault.RunFault.{RunFault}
+use Rattle.tas_engines.specs.declared.fault.RunFault.TheVariants.{Size, Text, NoFrame, Halted, Memory}
+use Rattle.tas_engines.specs.declared.fault.ToolFault.{ToolFault}
+use Rattle.tas_engines.specs.Input.{IsReadWhole, StopsReadingTwo}
+use Rattle.tas_engines.specs.Output.{Ends, EndsAfter}
+
+-- the movie whose cartridge is the image and whose text the bytes are
+pub record IsMovieOf (image bytes : List ℕ) (movie : MovieContent) : Type 0 where
+  pub cart : movie.cart ≡ image
+  pub text : bytes ≡ text movie
+
+-- why there is no such movie: the cartridge's size comes before the text
+abbrev pub IsMovieFault : List ℕ → List ℕ → RunFault → Type 0
+IsMovieFault image bytes Memory = Unit {0}
+IsMovieFault image bytes (Size n) = (n ≡ length image) × (n ≢ 4096)
+IsMovieFault image bytes (Text e) = (length image ≡ 4096) × (fault bytes image ≡ Some e)
+IsMovieFault image bytes _ = ⊥
+
+-- an engine of a cartridge and a movie text, read in this order: from what the readers have and the writer holds before to what
+-- they have and hold afterwards
+abbrev pub IsMovieRun : (List ℕ → List ℕ → Result (List ℕ) RunFault → Type 0) → (cart cart' input input' output output' : Option (List ℕ)) → Result (Unit {0}) ToolFault → Type 0
+IsMovieRun answers cart cart' input input' output output' result =
+    EndsAfter (StopsReadingTwo cart cart' input input')
+    (λ end. (image : List ℕ) × IsReadWhole cart cart' image × ((bytes : List ℕ) × IsReadWhole input input' bytes × Ends (answers image bytes) output output' end))
+    output output' result
+
+-- the line of `tas check`
+abbrev pub length_line : ℕ → List ℕ
+length_line frames = codes "ok " ++ decimal frames ++ codes " frames\n"
+
+-- the movie's length, or why there is no movie
+abbrev pub IsCheckAnswer : List ℕ → List ℕ → Result (List ℕ) RunFault → Type 0
+IsCheckAnswer image bytes (Ok line) = (movie : MovieContent) × IsMovieOf image bytes movie × (line ≡ length_line (length movie.inputs))
+IsCheckAnswer image bytes (Err e) = IsMovieFault image bytes e
+
+-- frame k of a movie is played without a halt, and this is its picture as a pixmap
+pub record IsShot (movie : MovieContent) (k : ℕ) (picture : List ℕ) : Type 0 where
+  pub within : k < length movie.inputs
+  pub runs : (state_after movie (k + 1)).halt ≡ None
+  pub drawn : picture ≡ ppm_bytes (picture_of movie k)
+
+-- the fault that tells a halt
+abbrev pub halt_fault : Halt → RunFault
+halt_fault (Undocumented at opcode) = Halted at opcode
+
+-- why frame k has no picture: the movie is too short, or the machine is halted after it
+abbrev pub IsShotFault : MovieContent → ℕ → RunFault → Type 0
+IsShotFault movie k (NoFrame frame len) = (frame ≡ k) × (len ≡ length movie.inputs) × (len ≤ k)
+IsShotFault movie k (Halted at opcode) = (k < length movie.inputs) × ((state_after movie (k + 1)).halt ≡ Some (Undocumented at opcode))
+IsShotFault movie k _ = ⊥
+
+-- the picture of frame k, or why there is none
+abbrev pub IsShotAnswer : ℕ → List ℕ → List ℕ → Result (List ℕ) RunFault → Type 0
+IsShotAnswer k image bytes (Ok picture) = (movie : MovieContent) × IsMovieOf image bytes movie × IsShot movie k picture
+IsShotAnswer k image bytes (Err e) = IsMovieFault image bytes e ⊎ ((movie : MovieContent) × IsMovieOf image bytes movie × IsShotFault movie k e)

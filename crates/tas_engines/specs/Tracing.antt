@@ -1,0 +1,24 @@
+-- What `tas trace` answers.
+use Rattle.std.specs.Prelude.{◌≡◌, ◌≢◌, ℕ, List, length, Option, Result, Ok, Err}
+use Rattle.vcs_machine.specs.TraceText.{trace_text}
+use Rattle.tas_engines.specs.declared.fault.RunFault.{RunFault}
+use Rattle.tas_engines.specs.declared.fault.RunFault.TheVariants.{Size, Memory}
+use Rattle.tas_engines.specs.declared.fault.ToolFault.{ToolFault}
+use Rattle.tas_engines.specs.Input.{IsReadWhole, StopsReading}
+use Rattle.tas_engines.specs.Output.{Ends, EndsAfter}
+
+-- why an image is no cartridge
+abbrev pub IsImageFault : List ℕ → RunFault → Type 0
+IsImageFault image (Size n) = (n ≡ length image) × (n ≢ 4096)
+IsImageFault image Memory = Unit {0}
+IsImageFault image _ = ⊥
+
+-- the trace of the image, or why it has none
+abbrev pub IsTraceAnswer : List ℕ → ℕ → Result (List ℕ) RunFault → Type 0
+IsTraceAnswer image n (Ok bytes) = (length image ≡ 4096) × (bytes ≡ trace_text image n)
+IsTraceAnswer image n (Err e) = IsImageFault image e
+
+-- `tas trace`, from what the reader has and the writer holds before to what they have and hold afterwards
+abbrev pub IsTraceRun : ℕ → (input input' output output' : Option (List ℕ)) → Result (Unit {0}) ToolFault → Type 0
+IsTraceRun n input input' output output' result =
+    EndsAfter (StopsReading input input') (λ end. (image : List ℕ) × IsReadWhole input input' image × Ends (IsTraceAnswer image n) output output' end) output output' result

@@ -1,0 +1,59 @@
+//! `tas check`.
+#![tactic(auto)]
+
+ghost use Rattle.std.specs.Prelude.{◌≡◌, IfOk, string_bytes};
+ghost use Rattle.tas_engines.specs.Output.{Ends};
+ghost use Rattle.tas_engines.specs.Movies.{IsCheckAnswer, IsMovieRun, length_line};
+
+use crate::{RunFault, ToolFault, movie_of, read_two, write_all};
+use std::alloc::{AllocError, Allocator};
+use std::io::{Read, Write};
+
+/// The line that tells a movie's length in frames.
+fn length_line<A: Allocator>(alloc: A, frames: usize) -> Result<String<A>, AllocError>
+    ensures { IfOk result (λ line. string_bytes line ≡ length_line frames) }
+{
+    format!(in alloc; "ok {frames} frames\n")
+}
+
+/// Writes the length of the movie whose cartridge and text these are.
+fn check_movie<A: Allocator + Copy, W: Write>(
+    alloc: A,
+    image: &[u8],
+    bytes: &[u8],
+    output: &mut W,
+) -> Result<(), RunFault>
+    ensures { Ends (IsCheckAnswer image.now bytes.now) (W.contents output.old) (W.contents output.new) result }
+{
+    let movie = match movie_of(alloc, image, bytes) {
+        Ok(movie) => movie,
+        Err(fault) => return Err(fault),
+    };
+    let Ok(line) = length_line(alloc, movie.len()) else {
+        return Err(RunFault::Memory);
+    };
+    write_all(output, line.as_bytes())
+}
+
+/// Reads a cartridge and a movie text, and writes `ok F frames`, where the text is one of a movie
+/// of F frames with this cartridge.
+///
+/// Faults: those of [`read_two`], then those of [`movie_of`], with nothing written, and `Write`.
+pub fn check_run<A: Allocator + Copy, C: Read, R: Read, W: Write>(
+    alloc: A,
+    cart: &mut C,
+    input: &mut R,
+    output: &mut W,
+) -> Result<(), ToolFault>
+    ensures { IsMovieRun IsCheckAnswer (C.remaining cart.old) (C.remaining cart.new) (R.remaining input.old) (R.remaining input.new)
+        (W.contents output.old) (W.contents output.new) result }
+{
+    let (image, bytes) = match read_two(alloc, cart, input) {
+        Ok(read) => read,
+        Err(fault) => return Err(ToolFault::from(fault)),
+    };
+    match check_movie(alloc, image.as_slice(), bytes.as_slice(), output) {
+        Ok(()) => Ok(()),
+        Err(fault) => Err(ToolFault::from(fault)),
+    }
+}

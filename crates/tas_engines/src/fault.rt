@@ -1,0 +1,151 @@
+//! Why an engine ended without its answer.
+#![tactic(auto)]
+
+ghost use Rattle.std.specs.Prelude.{◌≡◌};
+ghost use Rattle.tas_engines.specs.Faults.{unread_fault, run_fault};
+
+use tas_movie::TextError;
+use thiserror::Error;
+
+/// Why an input wasn't read whole. Reading ends with it; no read follows.
+#[derive(Clone, Copy, Debug, PartialEq, Eq)]
+pub enum ReadFault {
+    /// The input has more than [`INPUT_LIMIT`](crate::INPUT_LIMIT) bytes.
+    TooLong,
+    /// A read failed.
+    Read,
+    /// Memory was refused.
+    Memory,
+}
+
+/// Why an engine that has read its inputs ended without its answer.
+#[derive(Clone, Copy, Debug, PartialEq, Eq)]
+pub enum RunFault {
+    /// A write failed, or took no byte.
+    Write {
+        /// How many bytes of the whole run had gone out: the first ones of the answer.
+        written: usize,
+    },
+    /// The cartridge hasn't 4,096 bytes, but so many.
+    Size(usize),
+    /// The bytes aren't the text of a movie with the cartridge.
+    Text(TextError),
+    /// The movie has no such frame.
+    NoFrame {
+        /// The frame that was asked for, counted from 0.
+        frame: usize,
+        /// The movie's length in frames.
+        len: usize,
+    },
+    /// The machine is halted in the frame that was asked for.
+    Halted {
+        /// The address of the undocumented byte.
+        at: u16,
+        /// The byte.
+        opcode: u8,
+    },
+    /// A line of a script isn't understood.
+    Script {
+        /// The line's number, counted from 1.
+        line: usize,
+    },
+    /// A desk's seat got no place to read from.
+    NoPlace,
+    /// A seat's reader got no entry.
+    NoEntry,
+    /// A reply of the desk doesn't stand at just the engine's own edits.
+    Foreign,
+    /// Memory was refused.
+    Memory,
+}
+
+/// Why an engine ended without its answer: a [`ReadFault`] or a [`RunFault`]. Its text is the line,
+/// without the newline, that the program writes to standard error (own); the program's status is
+/// then 1.
+#[derive(Clone, Copy, Debug, PartialEq, Eq, Error)]
+pub enum ToolFault {
+    /// An input has more than [`INPUT_LIMIT`](crate::INPUT_LIMIT) bytes. Nothing was written.
+    #[error("fault: input is too long")]
+    TooLong,
+    /// A read failed, or a file couldn't be opened. Nothing was written.
+    #[error("fault: read failed")]
+    Read,
+    /// A write failed, or took no byte.
+    #[error("fault: write failed after {written} bytes")]
+    Write {
+        /// How many bytes of the whole run had gone out: the first ones of the answer.
+        written: usize,
+    },
+    /// The cartridge hasn't 4,096 bytes, but so many. Nothing was written.
+    #[error("fault: cartridge has {0} bytes")]
+    Size(usize),
+    /// The bytes aren't the text of a movie with the cartridge. Nothing was written.
+    #[error("fault: {0}")]
+    Text(TextError),
+    /// The movie has no such frame. Nothing was written.
+    #[error("fault: no frame {frame} of {len}")]
+    NoFrame {
+        /// The frame that was asked for, counted from 0.
+        frame: usize,
+        /// The movie's length in frames.
+        len: usize,
+    },
+    /// The machine is halted in the frame that was asked for. Nothing was written.
+    #[error("fault: halted at {at:04X} by {opcode:02X}")]
+    Halted {
+        /// The address of the undocumented byte.
+        at: u16,
+        /// The byte.
+        opcode: u8,
+    },
+    /// A line of a script isn't understood. The replies to the lines before it are written.
+    #[error("fault: script line {line}")]
+    Script {
+        /// The line's number, counted from 1.
+        line: usize,
+    },
+    /// A desk's seat got no place to read from. Nothing was written.
+    #[error("fault: no place")]
+    NoPlace,
+    /// A seat's reader got no entry. Nothing was written, but by a script the replies before.
+    #[error("fault: no entry")]
+    NoEntry,
+    /// A reply of the desk doesn't stand at just the engine's own edits. Nothing was written, but by
+    /// a script the replies before.
+    #[error("fault: foreign edit")]
+    Foreign,
+    /// Memory was refused. Nothing was written, but by a script the replies before.
+    #[error("fault: out of memory")]
+    Memory,
+}
+
+impl From<ReadFault> for ToolFault {
+    ghost from_gives = { λ fault e. e ≡ unread_fault fault };
+
+    fn from(fault: ReadFault) -> ToolFault {
+        match fault {
+            ReadFault::TooLong => ToolFault::TooLong,
+            ReadFault::Read => ToolFault::Read,
+            ReadFault::Memory => ToolFault::Memory,
+        }
+    }
+}
+
+impl From<RunFault> for ToolFault {
+    ghost from_gives = { λ fault e. e ≡ run_fault fault };
+
+    fn from(fault: RunFault) -> ToolFault {
+        match fault {
+            RunFault::Write { written } => ToolFault::Write { written },
+            RunFault::Size(len) => ToolFault::Size(len),
+            RunFault::Text(error) => ToolFault::Text(error),
+            RunFault::NoFrame { frame, len } => ToolFault::NoFrame { frame, len },
+            RunFault::Halted { at, opcode } => ToolFault::Halted { at, opcode },
+            RunFault::Script { line } => ToolFault::Script { line },
+            RunFault::NoPlace => ToolFault::NoPlace,
+            RunFault::NoEntry => ToolFault::NoEntry,
+            RunFault::Foreign => ToolFault::Foreign,
+            RunFault::Memory => ToolFault::Memory,
+        }
+    }
+}

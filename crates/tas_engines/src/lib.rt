@@ -1,0 +1,25 @@
+//! The engines of the program `tas` for one movie: a public function for each command, over any
+//! readers and any writer.
+//!
+//! An engine reads its inputs whole before it writes anything, and then runs on the bytes that it
+//! read. Its contract says what it left in its readers, and that it either wrote just the bytes that
+//! the definition names for what it read, or ends with a [`ToolFault`] whose cause holds.
+#![tactic(auto)]
+
+mod checking;
+mod fault;
+mod movies;
+mod reading;
+mod shooting;
+#[cfg(test)]
+mod tests;
+mod tracing;
+mod writing;
+
+pub use checking::check_run;
+pub use fault::{ReadFault, RunFault, ToolFault};
+pub use movies::movie_of;
+pub use reading::{INPUT_LIMIT, read_input, read_two};
+pub use shooting::shot_run;
+pub use tracing::trace_run;
+pub use writing::write_all;

@@ -1,0 +1,78 @@
+//! Reading an input whole.
+#![tactic(auto)]
+
+ghost use Rattle.std.specs.Prelude.{◌≡◌, ◌≤◌, ◌<◌, length, take, IfOk, IfErr, IfSome, IfNone};
+ghost use Rattle.std.specs.Io.KnownBytes.{Consumes, Keeps, IsAtEnd};
+ghost use Rattle.tas_engines.specs.Input.{IsReadWhole, StopsReading, StopsReadingTwo};
+
+use crate::ReadFault;
+use std::alloc::Allocator;
+use std::io::Read;
+
+/// How many bytes are read of one input (own).
+pub const INPUT_LIMIT: usize = 16_777_216;
+
+/// How many bytes one read asks for.
+const CHUNK: usize = 4096;
+
+/// One read into a buffer: how many bytes came, or `None` where it failed.
+fn read_some<R: Read>(reader: &mut R, buffer: &mut [u8]) -> Option<usize>
+    requires { 0 < length buffer.old }
+    ensures len { length buffer.new ≡ length buffer.old }
+    ensures bound { IfSome result (λ n. n ≤ length buffer.new) }
+    ensures bytes { IfSome result (λ n. Consumes (R.remaining reader.old) (R.remaining reader.new) (take n buffer.new)) }
+    ensures end { IfSome result (λ n. n ≡ 0 → IsAtEnd (R.remaining reader.new)) }
+    ensures kept { IfNone result (Keeps (R.remaining reader.old) (R.remaining reader.new)) }
+{
+    reader.read(buffer).ok()
+}
+
+/// Reads an input to its end, and answers its bytes: at most [`INPUT_LIMIT`].
+///
+/// Reading ends at the first read that fails (`Read`) or gives no bytes, or with the byte past the
+/// limit (`TooLong`); no read is tried again, and at most the limit and one byte leave the reader.
+/// `Memory` where a growth was refused.
+pub fn read_input<A: Allocator, R: Read>(alloc: A, reader: &mut R) -> Result<Vec<u8, A>, ReadFault>
+    ensures whole { IfOk result (λ bytes. IsReadWhole (R.remaining reader.old) (R.remaining reader.new) bytes.items) }
+    ensures fault { IfErr result (StopsReading (R.remaining reader.old) (R.remaining reader.new)) }
+{
+    let mut bytes = Vec::new(alloc);
+    let mut buffer = [0; CHUNK];
+    loop {
+        let left = INPUT_LIMIT + 1 - bytes.len();
+        let most = left.min(CHUNK);
+        match read_some(reader, &mut buffer[..most]) {
+            None => return Err(ReadFault::Read),
+            Some(0) => return Ok(bytes),
+            Some(n) => {
+                if n == left {
+                    return Err(ReadFault::TooLong);
+                }
+                if bytes.extend_from_slice(&buffer[..n]).is_err() {
+                    return Err(ReadFault::Memory);
+                }
+            }
+        }
+    }
+}
+
+/// Reads two inputs, each as [`read_input`] does. Where reading the first one fails, the second one
+/// is left untouched.
+pub fn read_two<A: Allocator + Copy, C: Read, R: Read>(
+    alloc: A,
+    first: &mut C,
+    second: &mut R,
+) -> Result<(Vec<u8, A>, Vec<u8, A>), ReadFault>
+    ensures first { IfOk result (λ read. IsReadWhole (C.remaining first.old) (C.remaining first.new) read.0.items) }
+    ensures second { IfOk result (λ read. IsReadWhole (R.remaining second.old) (R.remaining second.new) read.1.items) }
+    ensures fault { IfErr result (StopsReadingTwo (C.remaining first.old) (C.remaining first.new) (R.remaining second.old) (R.remaining second.new)) }
+{
+    let bytes = match read_input(alloc, first) {
+        Ok(bytes) => bytes,
+        Err(fault) => return Err(fault),
+    };
+    match read_input(alloc, second) {
+        Ok(more) => Ok((bytes, more)),
+        Err(fault) => Err(fault),
+    }
+}

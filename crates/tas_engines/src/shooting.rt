@@ -1,0 +1,86 @@
+//! `tas shot`.
+#![tactic(auto)]
+
+ghost use Rattle.std.specs.Prelude.{◌≡◌};
+ghost use Rattle.tas_engines.specs.Output.{Ends};
+ghost use Rattle.tas_engines.specs.Movies.{IsMovieRun, IsShotAnswer, halt_fault};
+
+use crate::{RunFault, ToolFault, movie_of, read_two};
+use std::alloc::Allocator;
+use std::io::{Read, Write};
+use tas_green::Green;
+use vcs_cpu::Halt;
+use vcs_machine::Meter;
+use vcs_tia::{Picture, ppm};
+
+/// The fault that tells a halt.
+fn halt_fault(halt: Halt) -> RunFault
+    ensures { result ≡ halt_fault halt }
+{
+    match halt {
+        Halt::Undocumented { at, opcode } => RunFault::Halted { at, opcode },
+    }
+}
+
+/// Writes the picture of frame `k` of the movie whose cartridge and text these are.
+fn shoot_movie<A: Allocator + Copy, W: Write>(
+    alloc: A,
+    k: usize,
+    image: &[u8],
+    bytes: &[u8],
+    output: &mut W,
+) -> Result<(), RunFault>
+    ensures { Ends (IsShotAnswer k image.now bytes.now) (W.contents output.old) (W.contents output.new) result }
+{
+    let movie = match movie_of(alloc, image, bytes) {
+        Ok(movie) => movie,
+        Err(fault) => return Err(fault),
+    };
+    let len = movie.len();
+    if k >= len {
+        return Err(RunFault::NoFrame { frame: k, len });
+    }
+    let Ok(mut picture) = Picture::blank(alloc) else {
+        return Err(RunFault::Memory);
+    };
+    let mut green = Green::new(alloc);
+    let mut meter = Meter::new();
+    let Ok(answer) = green.shot(&movie, k, &mut picture, &mut meter) else {
+        return Err(RunFault::Memory);
+    };
+    match answer {
+        Ok(()) => {}
+        Err(halt) => return Err(halt_fault(halt)),
+    }
+    match ppm(&picture, output) {
+        Ok(()) => Ok(()),
+        Err(fault) => Err(RunFault::Write {
+            written: fault.written,
+        }),
+    }
+}
+
+/// Reads a cartridge and a movie text, and writes the picture of the movie's frame `k`, counted
+/// from 0, as a binary portable pixmap.
+///
+/// Faults, in order: those of [`read_two`], those of [`movie_of`], then `NoFrame`, then `Halted`,
+/// each with nothing written; `Memory` with nothing written; `Write`.
+pub fn shot_run<A: Allocator + Copy, C: Read, R: Read, W: Write>(
+    alloc: A,
+    k: usize,
+    cart: &mut C,
+    input: &mut R,
+    output: &mut W,
+) -> Result<(), ToolFault>
+    ensures { IsMovieRun (IsShotAnswer k) (C.remaining cart.old) (C.remaining cart.new) (R.remaining input.old) (R.remaining input.new)
+        (W.contents output.old) (W.contents output.new) result }
+{
+    let (image, bytes) = match read_two(alloc, cart, input) {
+        Ok(read) => read,
+        Err(fault) => return Err(ToolFault::from(fault)),
+    };
+    match shoot_movie(alloc, k, image.as_slice(), bytes.as_slice(), output) {
+        Ok(()) => Ok(()),
+        Err(fault) => Err(ToolFault::from(fault)),
+    }
+}

@@ -1,0 +1,167 @@
+-- Whole scripts.
+use Rattle.std.proofs.Common.{◌≡◌, ℕ, ◌+◌, ◌<◌, ◌≤◌, List, [], ◌∷◌, ◌++◌, length, Option, Some, Result, Ok, Err, inl, inr, refl, sym, ap, subst, ◌∙◌, arith, append_assoc, length-append}
+use Rattle.std.proofs.lemmas.List.{append-nil}
+use Rattle.std.specs.List.{flat_map}
+use Rattle.std.specs.Io.KnownBytes.{Appends}
+use Rattle.std.proofs.KnownBytes.{Appends-nil}
+use Rattle.tas_engines.specs.declared.fault.RunFault.{RunFault}
+use Rattle.tas_engines.specs.declared.fault.RunFault.TheVariants.{Write, Size, Text, NoFrame as OffMovie, Halted as Stopped, Script, NoPlace, NoEntry, Foreign, Memory}
+use Rattle.tas_engines.specs.declared.fault.ToolFault.{ToolFault}
+use Rattle.tas_engines.specs.Faults.{told}
+use Rattle.tas_engines.specs.Input.{IsReadWhole}
+use Rattle.tas_engines.specs.Output.{StopsWriting}
+use Rattle.tas_script.specs.declared.command.Command.{Command}
+use Rattle.tas_script.specs.declared.reply.Reply.{Reply}
+use Rattle.tas_script.specs.Commands.{Says, NoByte}
+use Rattle.tas_script.specs.Replies.{reply_text}
+use Rattle.std.specs.Prelude.{slice_get, slice_index_or}
+use Rattle.tas_movie.specs.Content.{MovieContent}
+use Rattle.tas_desk.specs.Zones.{ZoneContent}
+use Rattle.tas_desk.specs.Seats.{SeatContent, seat_of}
+use Rattle.tas_desk.proofs.HistoryLemmas.{movie_of-none}
+use Rattle.tas_tool.specs.Turns.{Unforeseen, Front, front_of, BeginsWithOwn, IsDeskFault, reply_to, front_after}
+use Rattle.tas_tool.specs.Scripts.{Turn, turn_line, AreSaid, front_after_all, replies_to_all, IsUnclear, IsStop, Reads, Answers, start_front, RunsScript, IsScriptRun}
+use Rattle.tas_script.proofs.WordLemmas.{no_parts, same_front}
+
+-- ---- one line more
+
+read_more : (turns : List Turn) (turn : Turn) → flat_map turn_line (turns ++ turn ∷ []) ≡ flat_map turn_line turns ++ turn_line turn
+read_more [] turn = append-nil (turn_line turn)
+read_more (t ∷ turns) turn = ap (λ (r : List ℕ). turn_line t ++ r) (read_more turns turn) ∙ sym (append_assoc (turn_line t) (flat_map turn_line turns) (turn_line turn))
+
+said_more : (turns : List Turn) (turn : Turn) → AreSaid turns → Says turn.said turn.command → NoByte 10 turn.said → AreSaid (turns ++ turn ∷ [])
+unfolding AreSaid
+said_more [] turn h s n = ((s, n), tt)
+said_more (t ∷ turns) turn h s n = (h.0, said_more turns turn h.1 s n)
+
+front_more : (A : Type 0) (front : Front) (turns : List Turn) (turn : Turn) → front_after_all A front (turns ++ turn ∷ []) ≡ front_after A turn.unforeseen (front_after_all A front turns) turn.command
+unfolding front_after_all
+front_more A front [] turn = refl
+front_more A front (t ∷ turns) turn = front_more A (front_after A t.unforeseen front t.command) turns turn
+
+replies_more : (A : Type 0) (front : Front) (turns : List Turn) (turn : Turn)
+    → replies_to_all A front (turns ++ turn ∷ []) ≡ replies_to_all A front turns ++ reply_text (reply_to A turn.unforeseen (front_after_all A front turns) turn.command)
+unfolding replies_to_all front_after_all
+replies_more A front [] turn = append-nil (reply_text (reply_to A turn.unforeseen front turn.command))
+replies_more A front (t ∷ turns) turn =
+    let first : List ℕ = reply_text (reply_to A t.unforeseen front t.command) in
+    let next : Front = front_after A t.unforeseen front t.command in
+    ap (λ (r : List ℕ). first ++ r) (replies_more A next turns turn)
+    ∙ sym (append_assoc first (replies_to_all A next turns) (reply_text (reply_to A turn.unforeseen (front_after_all A next turns) turn.command)))
+
+pub reads_none : (bytes : List ℕ) → Reads bytes [] bytes
+unfolding AreSaid
+reads_none bytes = record { text = refl; said = tt }
+
+-- nothing is read at first
+pub begun : (A : Type 0) (front : Front) → (front_after_all A front [] ≡ front) × (replies_to_all A front [] ≡ [])
+unfolding front_after_all replies_to_all
+begun A front = (refl, refl)
+
+turn_of : List ℕ → Command → Unforeseen → Turn
+turn_of said command unforeseen = record { said = said; command = command; unforeseen = unforeseen }
+
+pub count_more : (turns : List Turn) (turn : Turn) → length (turns ++ turn ∷ []) ≡ length turns + 1
+count_more turns turn = length-append turns (turn ∷ [])
+
+pub reads_more : (bytes rest first after : List ℕ) (turns : List Turn) (turn : Turn) → Reads bytes turns rest → turn.said ≡ first → rest ≡ first ++ 10 ∷ after → NoByte 10 first → Says first turn.command
+    → Reads bytes (turns ++ turn ∷ []) after
+reads_more bytes rest first after turns turn reads same is none says = record {
+  text = reads.text ∙ ap (λ (r : List ℕ). flat_map turn_line turns ++ r) (is ∙ sym (append_assoc first (10 ∷ []) after) ∙ ap (λ (l : List ℕ). (l ++ 10 ∷ []) ++ after) (sym same))
+      ∙ sym (append_assoc (flat_map turn_line turns) (turn.said ++ 10 ∷ []) after)
+      ∙ ap (λ (r : List ℕ). r ++ after) (sym (read_more turns turn));
+  said = said_more turns turn reads.said (subst (λ (l : List ℕ). Says l turn.command) (sym same) says) (subst (λ (l : List ℕ). NoByte 10 l) (sym same) none);
+}
+
+pub front_answered : (A : Type 0) (start old new : Front) (turns : List Turn) (turn : Turn) (reply : Reply) → front_after_all A start turns ≡ old → new ≡ front_after A turn.unforeseen old turn.command
+    → front_after_all A start (turns ++ turn ∷ []) ≡ new
+front_answered A start old new turns turn reply at is = front_more A start turns turn ∙ ap (λ (f : Front). front_after A turn.unforeseen f turn.command) at ∙ sym is
+
+pub replies_answered : (A : Type 0) (start old : Front) (turns : List Turn) (turn : Turn) (reply : Reply) (before words after : List ℕ) → front_after_all A start turns ≡ old
+    → reply ≡ reply_to A turn.unforeseen old turn.command → before ≡ replies_to_all A start turns → words ≡ reply_text reply → after ≡ before ++ words
+    → after ≡ replies_to_all A start (turns ++ turn ∷ [])
+replies_answered A start old turns turn reply before words after at is text line put =
+    put
+    ∙ ap (λ (l : List ℕ). l ++ words) text
+    ∙ ap (λ (l : List ℕ). replies_to_all A start turns ++ l) (line ∙ ap reply_text (is ∙ ap (λ (f : Front). reply_to A turn.unforeseen f turn.command) (sym at)))
+    ∙ sym (replies_more A start turns turn)
+
+-- ---- a line that isn't understood
+
+pub unclear_unsplit : (rest : List ℕ) → NoByte 10 rest → IsUnclear rest
+unclear_unsplit rest none = λ said more command n is says. no_parts 10 said more (subst (NoByte 10) is none)
+
+pub unclear_line : (rest first after : List ℕ) → rest ≡ first ++ 10 ∷ after → NoByte 10 first → ((command : Command) → Says first command → ⊥) → IsUnclear rest
+unclear_line rest first after is none never = λ said more command n is' says.
+    never command (subst (λ (s : List ℕ). Says s command) (same_front 10 said first more after n none (sym is' ∙ is)).0 says)
+
+pub split_length : (rest a b : List ℕ) → rest ≡ a ++ 10 ∷ b → length b + 1 ≤ length rest
+split_length rest a b is = rw is (omega (arith, length-append a (10 ∷ b)))
+
+pub reads_all : (bytes rest : List ℕ) (turns : List Turn) → length rest ≡ 0 → Reads bytes turns rest → Reads bytes turns []
+reads_all bytes [] turns none reads = reads
+reads_all bytes (b ∷ rest) turns none reads = absurd (omega arith)
+
+-- ---- the engine
+
+-- no line is answered
+pub nothing_answered : (A : Type 0) (bytes : List ℕ) (old : Option (List ℕ)) → RunsScript A bytes old old (Err Memory)
+nothing_answered A bytes old = inl ([], ([], bytes, reads_none bytes, sym (begun A start_front).1, tt), Appends-nil old)
+
+pub no_place : (A : Type 0) (bytes : List ℕ) (old : Option (List ℕ)) → RunsScript A bytes old old (Err NoPlace)
+no_place A bytes old = inl ([], ([], bytes, reads_none bytes, sym (begun A start_front).1, refl), Appends-nil old)
+
+-- no line is answered yet
+pub unanswered : (A : Type 0) (bytes text : List ℕ) → text ≡ [] → Answers A start_front bytes text (Err Memory)
+unanswered A bytes text is = ([], bytes, reads_none bytes, is ∙ sym (begun A start_front).1, tt)
+
+pub unplaced : (A : Type 0) (bytes text : List ℕ) → text ≡ [] → Answers A start_front bytes text (Err NoPlace)
+unplaced A bytes text is = ([], bytes, reads_none bytes, is ∙ sym (begun A start_front).1, refl)
+
+-- ---- the seat of a desk that was just opened
+
+pub first_of : {X : Type 0} (xs : List X) (x d : X) → slice_get xs 0 ≡ Some x → slice_index_or xs 0 d ≡ x
+first_of [] x d e = absurd (cc e)
+first_of (y ∷ xs) x d e = cc e
+
+pub fresh_own : {A : Type 0} (seat : SeatContent A) (zone : ZoneContent A) → seat ≡ seat_of 0 0 [] zone → BeginsWithOwn seat
+fresh_own seat zone is = subst BeginsWithOwn (sym is) (record { seen = omega arith; own = refl })
+
+pub fresh_made : {A : Type 0} (seat : SeatContent A) (zone : ZoneContent A) → seat ≡ seat_of 0 0 [] zone → seat.made ≡ 0
+fresh_made {A} seat zone is = ap (λ (s : SeatContent A). s.made) is
+
+pub fresh_front : {A : Type 0} (seat : SeatContent A) (zone : ZoneContent A) → seat ≡ seat_of 0 0 [] zone → front_of seat ≡ start_front
+fresh_front {A} seat zone is = ap (λ (s : SeatContent A). front_of s) is ∙ ap (λ (m : MovieContent). let f : Front = record { movie = m; made = 0 } in f) (movie_of-none A)
+
+-- a fault of the desk's stops the script
+pub desk_stop : {A : Type 0} (seat : SeatContent A) (fault : RunFault) (turns : List Turn) (rest : List ℕ) → 0 < length rest → IsDeskFault seat fault → IsStop rest turns fault
+desk_stop seat Foreign turns rest some is = some
+desk_stop seat NoEntry turns rest some is = some
+desk_stop seat (Write written) turns rest some is = absurd is
+desk_stop seat (Size n) turns rest some is = absurd is
+desk_stop seat (Text error) turns rest some is = absurd is
+desk_stop seat (OffMovie frame len) turns rest some is = absurd is
+desk_stop seat (Stopped at opcode) turns rest some is = absurd is
+desk_stop seat (Script line) turns rest some is = absurd is
+desk_stop seat NoPlace turns rest some is = absurd is
+desk_stop seat Memory turns rest some is = absurd is
+
+pub written : (A : Type 0) (bytes items text : List ℕ) (old new : Option (List ℕ)) (front : Front) (end : Result (Unit {0}) RunFault) → front ≡ start_front → Answers A front bytes items end → text ≡ items
+    → Appends old new text → RunsScript A bytes old new end
+written A bytes items text old new front (Ok u) at answers is out = (items, subst (λ (f : Front). Answers A f bytes items (Ok u)) at answers, subst (Appends old new) is out)
+written A bytes items text old new front (Err f) at answers is out = inl (items, subst (λ (x : Front). Answers A x bytes items (Err f)) at answers, subst (Appends old new) is out)
+
+pub broken_off : (A : Type 0) (bytes items text : List ℕ) (old new : Option (List ℕ)) (front : Front) (end : Result (Unit {0}) RunFault) (fault : RunFault) → front ≡ start_front → Answers A front bytes items end → text ≡ items
+    → StopsWriting old new text fault → RunsScript A bytes old new (Err fault)
+broken_off A bytes items text old new front end fault at answers is stops =
+    inr (record {
+      text = text;
+      end = end;
+      answers = subst (λ (t : List ℕ). Answers A start_front bytes t end) (sym is) (subst (λ (f : Front). Answers A f bytes items end) at answers);
+      stops = stops;
+    })
+
+-- a script was read and run
+pub script_ran : (A : Type 0) (input input' output output' : Option (List ℕ)) (read bytes : List ℕ) (end : Result (Unit {0}) RunFault) (result : Result (Unit {0}) ToolFault) → IsReadWhole input input' read → bytes ≡ read
+    → RunsScript A bytes output output' end → result ≡ told end → IsScriptRun A input input' output output' result
+script_ran A input input' output output' read bytes end result whole same runs is = inr (end, is, (bytes, subst (IsReadWhole input input') (sym same) whole, runs))

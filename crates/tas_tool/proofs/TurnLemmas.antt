@@ -1,0 +1,509 @@
+-- Turns of a script on a desk whose one seat is the script's.
+use Rattle.std.proofs.Common.{◌≡◌, ℕ, ◌+◌, ◌<◌, ◌≤◌, List, [], ◌∷◌, ◌++◌, length, take, Bool, true, false, Option, Some, None, Result, Ok, Err, refl, sym, ap, subst, ◌∙◌, arith, length-append, append_assoc, append-nil}
+use Rattle.std.specs.Prelude.{◌≢◌, ◌==◌, if◌then◌else◌, replicate, slice_get, MatchResult, nat_lt}
+use Rattle.std.proofs.lemmas.List.{take-append-le, take_all, length-replicate}
+use Rattle.std.proofs.lemmas.Bool.{eqb-true, eq-eqb, lt-ltb, le-ltb}
+use Rattle.std.proofs.lemmas.Option.{slice_get_past}
+use Rattle.std.proofs.lemmas.List.Sums.{sum_by-append}
+use mathlib.Core.List.{IsPrefix}
+use Rattle.vcs_cpu.specs.declared.halt.Halt.{Halt}
+use Rattle.vcs_tia.specs.Picture.{lit_count}
+use Rattle.vcs_machine.specs.declared.input.Input.{Input}
+use Rattle.tas_movie.specs.Content.{MovieContent}
+use Rattle.tas_movie.specs.declared.edit.Edit.{Edit}
+use Rattle.tas_movie.specs.declared.edit.Edit.TheVariants.{Insert as InsertEdit, Replace as ReplaceEdit}
+use Rattle.tas_movie.specs.declared.edit.EditRefusal.{EditRefusal}
+use Rattle.tas_movie.specs.declared.edit.EditRefusal.TheVariants.{Place as PlaceRefusal, Long as LongRefusal}
+use Rattle.tas_movie.specs.Edit.{refusal, edited, place_refusal}
+use Rattle.tas_desk.specs.declared.entry.Entry.{Entry}
+use Rattle.tas_desk.specs.declared.replies.Receipt.{Receipt}
+use Rattle.tas_desk.specs.declared.replies.EditError.{EditError}
+use Rattle.tas_desk.specs.declared.replies.EditError.TheVariants.{Serial, Full as AllMade, Place as OutOfPlace, Long as OverLong, Memory as NoRoom}
+use Rattle.tas_desk.specs.declared.replies.Shot.{Shot as ShotReply}
+use Rattle.tas_desk.specs.History.{movie_of, entries_of}
+use Rattle.tas_desk.specs.declared.replies.ShotError.{ShotError}
+use Rattle.tas_desk.specs.Shots.{IsShotAt}
+use Rattle.tas_desk.specs.Answers.{answer_input, answer_shot}
+use Rattle.tas_desk.specs.Session.{refusal_at, error_at, IsEditError}
+use Rattle.tas_desk.specs.declared.replies.InputError.{InputError}
+use Rattle.tas_desk.specs.Seats.{SeatContent, seat_of, entry_of, HasSeen, IsEdited, IsInput}
+use Rattle.tas_desk.proofs.HistoryLemmas.{movie_of-push}
+use Rattle.tas_engines.specs.declared.fault.RunFault.{RunFault}
+use Rattle.tas_engines.specs.declared.fault.RunFault.TheVariants.{Foreign}
+use Rattle.tas_script.specs.declared.command.Command.{Command}
+use Rattle.tas_script.specs.declared.command.Command.TheVariants.{Load, Insert, Replace, Delete, Length, InputAt, Shot, Work}
+use Rattle.tas_script.specs.declared.reply.Reply.{Reply}
+use Rattle.tas_script.specs.declared.reply.Reply.TheVariants.{Edited, Misplaced, TooLong, Full, Measured, Pressed, NoFrame, Drawn, Worked, OutOfMemory}
+use Rattle.tas_tool.specs.declared.answering.Answered.{Answered}
+use Rattle.tas_tool.specs.Edits.{load_edit, insert_edit, replace_edit, delete_edit}
+use Rattle.tas_tool.specs.Turns.{Unforeseen, Front, front_of, BeginsWithOwn, HasForeign, IsDeskFault, refused_reply, refusal_reply, edit_reply, edited_front, input_reply, halted_reply, shot_reply, reply_to, front_after, IsEditTurn, IsTurn}
+use Rattle.tas_tool.specs.Checking.{checked_reply, insert_refusal, looked, IsTold, IsAnswer, IsEditAnswer}
+
+-- ---- what a seat has seen
+
+-- a seat that has seen more begins with the same edits of its own
+pub stays : {A : Type 0} (before now : SeatContent A) → BeginsWithOwn before → HasSeen before now → take now.made now.front ≡ take before.made before.front
+stays {A} before now own seen =
+    ap (λ (n : ℕ). take n now.front) seen.made
+    ∙ ap (λ (l : List (Entry A)). take before.made l) (sym seen.begins.1)
+    ∙ take-append-le before.made before.front seen.begins.0 own.seen
+
+pub front_stays : {A : Type 0} (before now : SeatContent A) → BeginsWithOwn before → HasSeen before now → front_of now ≡ front_of before
+front_stays {A} before now own seen =
+    ap (λ (l : List (Entry A)). let f : Front = record { movie = movie_of l; made = now.made } in f) (stays before now own seen)
+    ∙ ap (λ (n : ℕ). let f : Front = record { movie = movie_of (take before.made before.front); made = n } in f) seen.made
+
+longer : {A : Type 0} (before now : SeatContent A) → HasSeen before now → length before.front ≤ length now.front
+longer before now seen = omega (arith, sym (ap length seen.begins.1) ∙ length-append before.front seen.begins.0)
+
+pub own_stays : {A : Type 0} (before now : SeatContent A) → BeginsWithOwn before → HasSeen before now → BeginsWithOwn now
+own_stays {A} before now own seen = record {
+  seen = omega (arith, own.seen, longer before now seen, seen.made);
+  own = ap (λ (n : ℕ). entries_of n (take now.made now.front)) seen.number ∙ ap (λ (l : List (Entry A)). entries_of before.number l) (stays before now own seen) ∙ own.own ∙ sym seen.made;
+}
+
+-- a front as long as the seat's own edits is just these
+pub own_front : {A : Type 0} (before now : SeatContent A) → BeginsWithOwn before → HasSeen before now → length now.front ≡ before.made → now.front ≡ take before.made before.front
+own_front before now own seen at =
+    sym (take_all now.made now.front (omega (arith, at, seen.made))) ∙ stays before now own seen
+
+pub own_movie : {A : Type 0} (before now : SeatContent A) → BeginsWithOwn before → HasSeen before now → length now.front ≡ before.made → movie_of now.front ≡ (front_of before).movie
+own_movie {A} before now own seen at = ap (λ (l : List (Entry A)). movie_of l) (own_front before now own seen at)
+
+pub seen_self : {A : Type 0} (seat : SeatContent A) → HasSeen seat seat
+seen_self seat = record { number = refl; made = refl; begins = ([], append-nil seat.front) }
+
+pub seen_more : {A : Type 0} (a b c : SeatContent A) → HasSeen a b → HasSeen b c → HasSeen a c
+seen_more {A} a b c p q = record {
+  number = q.number ∙ p.number;
+  made = q.made ∙ p.made;
+  begins = (p.begins.0 ++ q.begins.0, sym (append_assoc a.front p.begins.0 q.begins.0) ∙ ap (λ (l : List (Entry A)). l ++ q.begins.0) p.begins.1 ∙ q.begins.1);
+}
+
+pub foreign : {A : Type 0} (before now : SeatContent A) (made at : ℕ) → HasSeen before now → made ≡ before.made → at ≡ length now.front → (at ≡ made → ⊥) → HasForeign now
+foreign before now made at seen m is other = λ (e : length now.front ≡ now.made). other (is ∙ e ∙ seen.made ∙ sym m)
+
+-- ---- checked replies
+
+pub checked_ends : (made at : ℕ) (reply : Reply) (r : Result Reply RunFault) (P : Reply → Type 0) (Q : RunFault → Type 0) → r ≡ checked_reply made at reply → (at ≡ made → P reply) → ((at ≡ made → ⊥) → Q Foreign)
+    → MatchResult r P Q
+checked_ends made at reply r P Q is same_at other_at = go (at == made) refl
+  where
+    Goal : Result Reply RunFault → Type 0
+    Goal x = MatchResult x P Q
+
+    go : (b : Bool) → at == made ≡ b → MatchResult r P Q
+    go true e = let e' : r ≡ Ok reply = is ∙ rw e refl in subst Goal (sym e') (same_at (eqb-true at made e))
+    go false e = let e' : r ≡ Err Foreign = is ∙ rw e refl in subst Goal (sym e') (other_at (λ (same : at ≡ made). let t : true ≡ false = sym (eq-eqb at made same) ∙ e in absurd (cc t)))
+
+-- ---- refusals of a desk
+
+-- what an error of an edit is told as, where the front is just the script's own edits
+abbrev told_of : Option EditError → Option Reply
+told_of None = None
+told_of (Some (Serial at counted)) = None
+told_of (Some (AllMade at)) = Some (Full at)
+told_of (Some (OutOfPlace at place len)) = Some (Misplaced at len)
+told_of (Some (OverLong at len)) = Some (TooLong at len)
+told_of (Some NoRoom) = None
+
+abbrev place_of : EditError → ℕ → ℕ
+place_of (Serial at counted) n = at
+place_of (AllMade at) n = at
+place_of (OutOfPlace at place len) n = at
+place_of (OverLong at len) n = at
+place_of NoRoom n = n
+
+abbrev unserial : Bool → ℕ → Option EditRefusal → Option EditError
+unserial full n r = if full then Some (AllMade n) else error_at n r
+
+same_refusal : (full : Bool) (made : ℕ) (r : Option EditRefusal) → (if full then Some (Full made) else refusal_reply made r) ≡ told_of (unserial full made r)
+same_refusal true made r = refl
+same_refusal false made None = refl
+same_refusal false made (Some (PlaceRefusal at len)) = refl
+same_refusal false made (Some (LongRefusal len)) = refl
+
+place_is : (own full : Bool) (n k : ℕ) (r : Option EditRefusal) (error : EditError) → (if own then unserial full n r else Some (Serial n k)) ≡ Some error → place_of error n ≡ n
+place_is false full n k r error e = let s : Serial n k ≡ error = cc e in ap (λ (x : EditError). place_of x n) (sym s)
+place_is true true n k r error e = let s : AllMade n ≡ error = cc e in ap (λ (x : EditError). place_of x n) (sym s)
+place_is true false n k None error e = absurd (cc e)
+place_is true false n k (Some (PlaceRefusal at len)) error e = let s : OutOfPlace n at len ≡ error = cc e in ap (λ (x : EditError). place_of x n) (sym s)
+place_is true false n k (Some (LongRefusal len)) error e = let s : OverLong n len ≡ error = cc e in ap (λ (x : EditError). place_of x n) (sym s)
+
+not_serial : (full : Bool) (n at k : ℕ) (r : Option EditRefusal) → unserial full n r ≡ Some (Serial at k) → ⊥
+not_serial true n at k r e = absurd (cc e)
+not_serial false n at k None e = absurd (cc e)
+not_serial false n at k (Some (PlaceRefusal p len)) e = absurd (cc e)
+not_serial false n at k (Some (LongRefusal len)) e = absurd (cc e)
+
+-- why the desk refuses an edit at a front that is just the seat's own edits
+own_refusal : {A : Type 0} (seat : SeatContent A) (edit : Edit A) → BeginsWithOwn seat → length seat.front ≡ seat.made
+    → refusal_at seat.front seat.number seat.made edit ≡ unserial (length seat.front == 1000000) (length seat.front) (refusal (movie_of seat.front) edit)
+own_refusal {A} seat edit own at =
+    let whole : seat.front ≡ take seat.made seat.front = own_front seat seat own (seen_self seat) at in
+    let counted : entries_of seat.number seat.front ≡ seat.made = ap (λ (l : List (Entry A)). entries_of seat.number l) whole ∙ own.own in
+    rw (eq-eqb (entries_of seat.number seat.front) seat.made counted) refl
+
+-- the reply that the definition gives to an edit that is refused there
+own_told : {A : Type 0} (seat : SeatContent A) (edit : Edit A) (found : Option EditError) → BeginsWithOwn seat → length seat.front ≡ seat.made → refusal_at seat.front seat.number seat.made edit ≡ found
+    → refused_reply (front_of seat).made (refusal (front_of seat).movie edit) ≡ told_of found
+own_told seat edit found own at is =
+    ap (λ (m : MovieContent). refused_reply seat.made (refusal m edit)) (sym (own_movie seat seat own (seen_self seat) at))
+    ∙ ap (λ (n : ℕ). refused_reply n (refusal (movie_of seat.front) edit)) (sym at)
+    ∙ same_refusal (length seat.front == 1000000) (length seat.front) (refusal (movie_of seat.front) edit)
+    ∙ ap told_of (sym (own_refusal seat edit own at) ∙ is)
+
+-- ---- turns of edits
+
+turn_refused : {A : Type 0} (front : Front) (edit : Edit A) (reply : Reply) → refused_reply front.made (refusal front.movie edit) ≡ Some reply → IsEditTurn front edit reply front
+turn_refused front edit reply is = (
+  false,
+  sym (ap (λ (o : Option Reply). edit_reply o false front.made (length (edited front.movie edit).inputs)) is),
+  sym (ap (λ (o : Option Reply). edited_front o false front edit) is),
+)
+
+turn_without_memory : {A : Type 0} (front : Front) (edit : Edit A) → refused_reply front.made (refusal front.movie edit) ≡ None → IsEditTurn front edit OutOfMemory front
+turn_without_memory front edit is = (
+  true,
+  sym (ap (λ (o : Option Reply). edit_reply o true front.made (length (edited front.movie edit).inputs)) is),
+  sym (ap (λ (o : Option Reply). edited_front o true front edit) is),
+)
+
+turn_made : {A : Type 0} (front : Front) (edit : Edit A) → refused_reply front.made (refusal front.movie edit) ≡ None
+    → IsEditTurn front edit (Edited (front.made + 1) (length (edited front.movie edit).inputs)) (record { movie = edited front.movie edit; made = front.made + 1 })
+turn_made front edit is = (
+  false,
+  sym (ap (λ (o : Option Reply). edit_reply o false front.made (length (edited front.movie edit).inputs)) is),
+  sym (ap (λ (o : Option Reply). edited_front o false front edit) is),
+)
+
+-- a name of an error
+pub error_is : {A : Type 0} (seat : SeatContent A) (edit : Edit A) (error said : EditError) → error ≡ said → IsEditError (refusal_at seat.front seat.number seat.made edit) error
+    → IsEditError (refusal_at seat.front seat.number seat.made edit) said
+error_is seat edit error said is found = subst (λ (x : EditError). IsEditError (refusal_at seat.front seat.number seat.made edit) x) is found
+
+-- an error that names its place
+pub refused_at : {A : Type 0} (seat : SeatContent A) (made at : ℕ) (error : EditError) (reply : Reply) (r : Result Reply RunFault) (edit : Edit A) → BeginsWithOwn seat → made ≡ seat.made
+    → told_of (Some error) ≡ Some reply → ((n : ℕ) → place_of error n ≡ at) → r ≡ checked_reply made at reply → refusal_at seat.front seat.number seat.made edit ≡ Some error
+    → MatchResult r (λ reply'. IsEditTurn (front_of seat) edit reply' (front_of seat)) (IsDeskFault seat)
+refused_at seat made at error reply r edit own m told place is found =
+    let here : at ≡ length seat.front = sym (place (length seat.front))
+    ∙ place_is (entries_of seat.number seat.front == seat.made) (length seat.front == 1000000) (length seat.front) (entries_of seat.number seat.front) (refusal (movie_of seat.front) edit) error found in
+    checked_ends made at reply r (λ reply'. IsEditTurn (front_of seat) edit reply' (front_of seat)) (IsDeskFault seat) is
+    (λ (same : at ≡ made). turn_refused (front_of seat) edit reply (own_told seat edit (Some error) own (sym here ∙ same ∙ m) found ∙ told))
+    (λ (other : at ≡ made → ⊥). foreign seat seat made at (seen_self seat) m here other)
+
+-- another number of the seat's entries than it made
+pub refused_serial : {A : Type 0} (seat : SeatContent A) (at counted : ℕ) (edit : Edit A) → BeginsWithOwn seat → refusal_at seat.front seat.number seat.made edit ≡ Some (Serial at counted) → HasForeign seat
+refused_serial seat at counted edit own found = λ (e : length seat.front ≡ seat.made).
+    not_serial (length seat.front == 1000000) (length seat.front) at counted (refusal (movie_of seat.front) edit) (sym (own_refusal seat edit own e) ∙ found)
+
+-- a front that is followed by one as long as the seat's own edits
+first_front : {A : Type 0} (before now : SeatContent A) → BeginsWithOwn before → HasSeen before now → length now.front ≡ before.made → length before.front ≡ before.made
+first_front before now own seen at = omega (arith, own.seen, longer before now seen, at)
+
+-- want of memory
+pub refused_memory : {A : Type 0} (before now : SeatContent A) (edit : Edit A) → BeginsWithOwn before → HasSeen before now → length now.front ≡ before.made → refusal_at before.front before.number before.made edit ≡ None
+    → IsEditTurn (front_of before) edit OutOfMemory (front_of now)
+refused_memory before now edit own seen at found =
+    subst (λ (f : Front). IsEditTurn (front_of before) edit OutOfMemory f) (sym (front_stays before now own seen))
+    (turn_without_memory (front_of before) edit (own_told before edit None own (first_front before now own seen at) found))
+
+-- ---- an edit on the desk
+
+-- the seat at the history that an edit was answered at
+abbrev at_history : {A : Type 0} (before : SeatContent A) (history : List (Entry A)) → SeatContent A
+at_history before history = seat_of before.number before.made history before.zone
+
+seen_history : {A : Type 0} (before : SeatContent A) (history : List (Entry A)) → IsPrefix before.front history → HasSeen before (at_history before history)
+seen_history before history begins = record { number = refl; made = refl; begins = begins }
+
+entries_push : {A : Type 0} (history : List (Entry A)) (entry : Entry A) (k : ℕ) → entry.seat ≡ k → entries_of k (history ++ entry ∷ []) ≡ entries_of k history + 1
+entries_push {A} history entry k is =
+    let e = sum_by-append (λ (y : Entry A). if y.seat == k then 1 else 0) history (entry ∷ []) in
+    let one : ◌≡◌ {A = ℕ} (if entry.seat == k then 1 else 0) 1 = rw (eq-eqb entry.seat k is) refl in
+    omega (arith, e, one)
+
+pub edit_made : {A : Type 0} (before now : SeatContent A) (edit : Edit A) (receipt : Receipt) (made : ℕ) → BeginsWithOwn before → made ≡ before.made → IsEdited before now edit (Ok receipt) → receipt.at ≡ made + 1
+    → IsEditAnswer before now edit (Ok (record { reply = Edited receipt.at receipt.len; made = receipt.at }))
+edit_made {A} before now edit receipt made own m e at =
+    let mid : SeatContent A = at_history before e.at in
+    let seen : HasSeen before mid = seen_history before e.at e.begins in
+    let counted : receipt.at ≡ length e.at + 1 = ap (λ (r : Receipt). r.at) e.receipt in
+    let here : length e.at ≡ before.made = omega (arith, at, m, counted) in
+    let own' : BeginsWithOwn mid = own_stays before mid own seen in
+    let free : refused_reply before.made (refusal (front_of before).movie edit) ≡ None =
+    ap (λ (f : Front). refused_reply f.made (refusal f.movie edit)) (sym (front_stays before mid own seen)) ∙ own_told mid edit None own' here e.refusal in
+    let movie : movie_of e.at ≡ (front_of before).movie = own_movie before mid own seen here in
+    let pushed : List (Entry A) = e.at ++ entry_of before.number before.made edit ∷ [] in
+    let whole : take (before.made + 1) pushed ≡ pushed = take_all (before.made + 1) pushed (omega (arith, here, length-append e.at (entry_of before.number before.made edit ∷ []))) in
+    let next : front_of now ≡ record { movie = edited (front_of before).movie edit; made = before.made + 1 } =
+    ap (λ (s : SeatContent A). front_of s) e.seat
+    ∙ ap (λ (l : List (Entry A)). let f : Front = record { movie = movie_of l; made = before.made + 1 } in f) whole
+    ∙ ap (λ (x : MovieContent). let f : Front = record { movie = x; made = before.made + 1 } in f) (movie_of-push e.at (entry_of before.number before.made edit) ∙ ap (λ (x : MovieContent). edited x edit) movie) in
+    let reply : Edited receipt.at receipt.len ≡ Edited (before.made + 1) (length (edited (front_of before).movie edit).inputs) =
+    ap (λ (n : ℕ). Edited n receipt.len) (at ∙ ap (λ (n : ℕ). n + 1) m) ∙ ap (Edited (before.made + 1)) (ap (λ (r : Receipt). r.len) e.receipt ∙ ap (λ (x : MovieContent). length (edited x edit).inputs) movie) in
+    let turn = turn_made (front_of before) edit free in
+    record {
+      turn_is = (turn.0, reply ∙ turn.1, next ∙ turn.2);
+      made = at ∙ ap (λ (n : ℕ). n + 1) m ∙ sym (ap (λ (s : SeatContent A). s.made) e.seat);
+      own = subst BeginsWithOwn (sym e.seat) (record {
+        seen = omega (arith, here, length-append e.at (entry_of before.number before.made edit ∷ []));
+        own = ap (λ (l : List (Entry A)). entries_of before.number l) whole ∙ entries_push e.at (entry_of before.number before.made edit) before.number refl
+            ∙ ap (λ (n : ℕ). n + 1) (ap (λ (l : List (Entry A)). entries_of before.number l) (own_front before mid own seen here) ∙ own.own);
+      });
+    }
+
+pub edit_foreign : {A : Type 0} (before now : SeatContent A) (edit : Edit A) (receipt : Receipt) (made : ℕ) → made ≡ before.made → IsEdited before now edit (Ok receipt) → (receipt.at ≡ made + 1 → ⊥)
+    → HasForeign now
+edit_foreign {A} before now edit receipt made m e other =
+    let counted : receipt.at ≡ length e.at + 1 = ap (λ (r : Receipt). r.at) e.receipt in
+    let long : length now.front ≡ length e.at + 1 = ap (λ (s : SeatContent A). length s.front) e.seat ∙ length-append e.at (entry_of before.number before.made edit ∷ []) in
+    let so_many : now.made ≡ before.made + 1 = ap (λ (s : SeatContent A). s.made) e.seat in
+    λ (same : length now.front ≡ now.made). other (omega (arith, counted, long, so_many, same, m))
+
+-- an edit that was refused, with what was told then
+pub edit_refused : {A : Type 0} (before mid now : SeatContent A) (edit : Edit A) (error : EditError) (made : ℕ) (r : Result Reply RunFault) (answer : Result Answered RunFault) → BeginsWithOwn before → made ≡ before.made
+    → IsEdited before mid edit (Err error) → HasSeen mid now
+    → ((edit' : Edit A) → IsEditError (refusal_at mid.front mid.number mid.made edit') error → MatchResult r (λ reply. IsEditTurn (front_of mid) edit' reply (front_of now)) (IsDeskFault now))
+    → answer ≡ looked r made → IsEditAnswer before now edit answer
+edit_refused {A} before mid now edit error made r answer own m e more told is =
+    let seen : HasSeen before mid = subst (λ (s : SeatContent A). HasSeen before s) (sym e.seat) (seen_history before e.at e.begins) in
+    let found : IsEditError (refusal_at mid.front mid.number mid.made edit) error =
+    subst (λ (s : SeatContent A). IsEditError (refusal_at s.front s.number s.made edit) error) (sym e.seat) e.refusal in
+    subst (λ (x : Result Answered RunFault). IsEditAnswer before now edit x) (sym is) (go r (told edit found) seen)
+  where
+    go : (x : Result Reply RunFault) → MatchResult x (λ reply. IsEditTurn (front_of mid) edit reply (front_of now)) (IsDeskFault now) → HasSeen before mid → IsEditAnswer before now edit (looked x made)
+    go (Ok reply) turn seen = record {
+      turn_is = subst (λ (f : Front). IsEditTurn f edit reply (front_of now)) (front_stays before mid own seen) turn;
+      made = m ∙ sym seen.made ∙ sym more.made;
+      own = own_stays mid now (own_stays before mid own seen) more;
+    }
+    go (Err fault) turn seen = turn
+
+-- ---- lines of edits
+
+-- a turn of an edit is the turn of its line
+line_turn : {A : Type 0} (before now : SeatContent A) (command : Command) (edit : Edit A) (r : Result Answered RunFault)
+    → ((reply : Reply) (next : Front) → IsEditTurn (front_of before) edit reply next → IsTurn A (front_of before) command reply next) → IsEditAnswer before now edit r → IsAnswer A before now command r
+line_turn before now command edit (Ok answered) says told = record { turn_is = says answered.reply (front_of now) told.turn_is; made = told.made; own = told.own }
+line_turn before now command edit (Err fault) says told = told
+
+-- the answer of a seat that has only looked before
+pub after_look : {A : Type 0} (before mid now : SeatContent A) (command : Command) (r : Result Answered RunFault) → BeginsWithOwn before → HasSeen before mid → IsAnswer A mid now command r → IsAnswer A before now command r
+after_look {A} before mid now command (Ok answered) own seen told = record {
+  turn_is = subst (λ (f : Front). IsTurn A f command answered.reply (front_of now)) (front_stays before mid own seen) told.turn_is;
+  made = told.made;
+  own = told.own;
+}
+after_look before mid now command (Err fault) own seen told = told
+
+pub after_looks : (A : Type 0) (before mid now : SeatContent A) (command : Command) (r : Result Answered RunFault) → BeginsWithOwn before → HasSeen before mid → IsAnswer A mid now command r → IsAnswer A before now command r
+after_looks A before mid now command r own seen told = after_look before mid now command r own seen told
+
+abbrev pub inserted : (A : Type 0) → ℕ → List Input → Edit A
+inserted A at inputs = InsertEdit at inputs
+
+abbrev pub replaced : (A : Type 0) → ℕ → List Input → Edit A
+replaced A at inputs = ReplaceEdit at inputs
+
+abbrev unforeseen : Bool → Unforeseen
+unforeseen refused = record { refused = refused; ran = 0; kept = 0; stale = 0 }
+
+pub load_answer : (A : Type 0) (before now : SeatContent A) (image cart : List ℕ) (r : Result Answered RunFault) → cart ≡ image → IsEditAnswer before now (load_edit A cart) r → IsAnswer A before now (Load image) r
+load_answer A before now image cart r is told =
+    line_turn before now (Load image) (load_edit A image) r (λ reply next t. (unforeseen t.0, t.1, t.2)) (subst (λ (c : List ℕ). IsEditAnswer before now (load_edit A c) r) is told)
+
+pub insert_answer : (A : Type 0) (before now : SeatContent A) (at count : ℕ) (input : Input) (inputs : List Input) (r : Result Answered RunFault) → inputs ≡ replicate count input
+    → IsEditAnswer before now (inserted A at inputs) r → IsAnswer A before now (Insert at count input) r
+insert_answer A before now at count input inputs r is told =
+    line_turn before now (Insert at count input) (insert_edit A at count input) r (λ reply next t. (unforeseen t.0, t.1, t.2)) (subst (λ (l : List Input). IsEditAnswer before now (inserted A at l) r) is told)
+
+pub replace_answer : (A : Type 0) (before now : SeatContent A) (at count : ℕ) (input : Input) (inputs : List Input) (r : Result Answered RunFault) → inputs ≡ replicate count input
+    → IsEditAnswer before now (replaced A at inputs) r → IsAnswer A before now (Replace at count input) r
+replace_answer A before now at count input inputs r is told =
+    line_turn before now (Replace at count input) (replace_edit A at count input) r (λ reply next t. (unforeseen t.0, t.1, t.2)) (subst (λ (l : List Input). IsEditAnswer before now (replaced A at l) r) is told)
+
+pub delete_answer : (A : Type 0) (before now : SeatContent A) (at count : ℕ) (r : Result Answered RunFault) → IsEditAnswer before now (delete_edit A at count) r → IsAnswer A before now (Delete at count) r
+delete_answer A before now at count r told = line_turn before now (Delete at count) (delete_edit A at count) r (λ reply next t. (unforeseen t.0, t.1, t.2)) told
+
+-- ---- edits that are refused before they are made
+
+abbrev answered_of : Reply → ℕ → Result Answered RunFault
+answered_of reply made = Ok (record { reply = reply; made = made })
+
+looked_answer : {A : Type 0} (before now : SeatContent A) (edit : Edit A) (reply : Reply) (made : ℕ) → BeginsWithOwn before → made ≡ before.made → HasSeen before now → IsEditTurn (front_of before) edit reply (front_of before)
+    → IsEditAnswer before now edit (Ok (record { reply = reply; made = made }))
+looked_answer before now edit reply made own m seen turn = record {
+  turn_is = subst (λ (f : Front). IsEditTurn (front_of before) edit reply f) (sym (front_stays before now own seen)) turn;
+  made = m ∙ sym seen.made;
+  own = own_stays before now own seen;
+}
+
+-- what refuses the edit is known
+early : {A : Type 0} (before now : SeatContent A) (edit : Edit A) (made : ℕ) (refused : Option EditRefusal) (reply : Reply) → BeginsWithOwn before → made ≡ before.made → HasSeen before now
+    → refusal (front_of before).movie edit ≡ refused → refused_reply made refused ≡ Some reply → IsEditAnswer before now edit (Ok (record { reply = reply; made = made }))
+early before now edit made refused reply own m seen is told =
+    looked_answer before now edit reply made own m seen
+    (turn_refused (front_of before) edit reply (ap (λ (n : ℕ). refused_reply n (refusal (front_of before).movie edit)) (sym m) ∙ ap (refused_reply made) is ∙ told))
+
+-- nothing refuses the edit, but memory was
+late : {A : Type 0} (before now : SeatContent A) (edit : Edit A) (made : ℕ) (refused : Option EditRefusal) → BeginsWithOwn before → made ≡ before.made → HasSeen before now → refusal (front_of before).movie edit ≡ refused
+    → refused_reply made refused ≡ None → IsEditAnswer before now edit (Ok (record { reply = OutOfMemory; made = made }))
+late before now edit made refused own m seen is told =
+    looked_answer before now edit OutOfMemory made own m seen
+    (turn_without_memory (front_of before) edit (ap (λ (n : ℕ). refused_reply n (refusal (front_of before).movie edit)) (sym m) ∙ ap (refused_reply made) is ∙ told))
+
+insert_refused_as : (A : Type 0) (movie : MovieContent) (at count len : ℕ) (input : Input) → len ≡ length movie.inputs → refusal movie (insert_edit A at count input) ≡ insert_refusal len at count
+insert_refused_as A movie at count len input is =
+    ap (λ (n : ℕ). if nat_lt (length movie.inputs) at then Some (PlaceRefusal at (length movie.inputs)) else if nat_lt 65536 (length movie.inputs + n) then Some (LongRefusal (length movie.inputs)) else None) (length-replicate count input)
+    ∙ ap (λ (n : ℕ). insert_refusal n at count) (sym is)
+
+replace_refused_as : (A : Type 0) (movie : MovieContent) (at count len : ℕ) (input : Input) → len ≡ length movie.inputs → refusal movie (replace_edit A at count input) ≡ place_refusal len at (at + count)
+replace_refused_as A movie at count len input is =
+    ap (λ (n : ℕ). place_refusal (length movie.inputs) at (at + n)) (length-replicate count input) ∙ ap (λ (n : ℕ). place_refusal n at (at + count)) (sym is)
+
+pub load_early : (A : Type 0) (before now : SeatContent A) (image : List ℕ) (made : ℕ) (reply : Reply) → BeginsWithOwn before → made ≡ before.made → HasSeen before now → refused_reply made None ≡ Some reply
+    → IsAnswer A before now (Load image) (Ok (record { reply = reply; made = made }))
+load_early A before now image made reply own m seen told = load_answer A before now image image (answered_of reply made) refl (early before now (load_edit A image) made None reply own m seen refl told)
+
+pub load_late : (A : Type 0) (before now : SeatContent A) (image : List ℕ) (made : ℕ) → BeginsWithOwn before → made ≡ before.made → HasSeen before now → refused_reply made None ≡ None
+    → IsAnswer A before now (Load image) (Ok (record { reply = OutOfMemory; made = made }))
+load_late A before now image made own m seen told = load_answer A before now image image (answered_of OutOfMemory made) refl (late before now (load_edit A image) made None own m seen refl told)
+
+pub insert_early : (A : Type 0) (before now : SeatContent A) (at count len made : ℕ) (input : Input) (reply : Reply) → BeginsWithOwn before → made ≡ before.made → HasSeen before now → len ≡ length (front_of before).movie.inputs
+    → refused_reply made (insert_refusal len at count) ≡ Some reply → IsAnswer A before now (Insert at count input) (Ok (record { reply = reply; made = made }))
+insert_early A before now at count len made input reply own m seen long told =
+    insert_answer A before now at count input (replicate count input) (answered_of reply made) refl
+    (early before now (insert_edit A at count input) made (insert_refusal len at count) reply own m seen (insert_refused_as A (front_of before).movie at count len input long) told)
+
+pub insert_late : (A : Type 0) (before now : SeatContent A) (at count len made : ℕ) (input : Input) → BeginsWithOwn before → made ≡ before.made → HasSeen before now → len ≡ length (front_of before).movie.inputs
+    → refused_reply made (insert_refusal len at count) ≡ None → IsAnswer A before now (Insert at count input) (Ok (record { reply = OutOfMemory; made = made }))
+insert_late A before now at count len made input own m seen long told =
+    insert_answer A before now at count input (replicate count input) (answered_of OutOfMemory made) refl
+    (late before now (insert_edit A at count input) made (insert_refusal len at count) own m seen (insert_refused_as A (front_of before).movie at count len input long) told)
+
+pub replace_early : (A : Type 0) (before now : SeatContent A) (at count len made : ℕ) (input : Input) (reply : Reply) → BeginsWithOwn before → made ≡ before.made → HasSeen before now → len ≡ length (front_of before).movie.inputs
+    → refused_reply made (place_refusal len at (at + count)) ≡ Some reply → IsAnswer A before now (Replace at count input) (Ok (record { reply = reply; made = made }))
+replace_early A before now at count len made input reply own m seen long told =
+    replace_answer A before now at count input (replicate count input) (answered_of reply made) refl
+    (early before now (replace_edit A at count input) made (place_refusal len at (at + count)) reply own m seen (replace_refused_as A (front_of before).movie at count len input long) told)
+
+pub replace_late : (A : Type 0) (before now : SeatContent A) (at count len made : ℕ) (input : Input) → BeginsWithOwn before → made ≡ before.made → HasSeen before now → len ≡ length (front_of before).movie.inputs
+    → refused_reply made (place_refusal len at (at + count)) ≡ None → IsAnswer A before now (Replace at count input) (Ok (record { reply = OutOfMemory; made = made }))
+replace_late A before now at count len made input own m seen long told =
+    replace_answer A before now at count input (replicate count input) (answered_of OutOfMemory made) refl
+    (late before now (replace_edit A at count input) made (place_refusal len at (at + count)) own m seen (replace_refused_as A (front_of before).movie at count len input long) told)
+
+-- ---- looks
+
+-- a turn of a look, after which the seat has seen more
+look_turn : (A : Type 0) (before now : SeatContent A) (command : Command) (reply : Reply) → BeginsWithOwn before → HasSeen before now
+    → ((u : Unforeseen) × (reply ≡ reply_to A u (front_of before) command) × (front_of before ≡ front_after A u (front_of before) command)) → IsTurn A (front_of before) command reply (front_of now)
+look_turn A before now command reply own seen t = (t.0, t.1, front_stays before now own seen ∙ t.2)
+
+pub look_answer : (A : Type 0) (before now : SeatContent A) (command : Command) (r : Result Reply RunFault) (made : ℕ) → BeginsWithOwn before → made ≡ before.made → HasSeen before now
+    → MatchResult r (λ reply. IsTurn A (front_of before) command reply (front_of now)) (IsDeskFault now) → IsAnswer A before now command (looked r made)
+look_answer A before now command (Ok reply) made own m seen turn = record { turn_is = turn; made = m ∙ sym seen.made; own = own_stays before now own seen }
+look_answer A before now command (Err fault) made own m seen turn = turn
+
+pub looked_as : (A : Type 0) (before now : SeatContent A) (command : Command) (r : Result Reply RunFault) (answer : Result Answered RunFault) (made : ℕ) → BeginsWithOwn before → made ≡ before.made → HasSeen before now
+    → MatchResult r (λ reply. IsTurn A (front_of before) command reply (front_of now)) (IsDeskFault now) → answer ≡ looked r made → IsAnswer A before now command answer
+looked_as A before now command r answer made own m seen turn is = subst (λ (x : Result Answered RunFault). IsAnswer A before now command x) (sym is) (look_answer A before now command r made own m seen turn)
+
+-- a name of a command
+pub answer_is : (A : Type 0) (before now : SeatContent A) (command said : Command) (r : Result Answered RunFault) → command ≡ said → IsAnswer A before now said r → IsAnswer A before now command r
+answer_is A before now command said r is told = subst (λ (x : Command). IsAnswer A before now x r) (sym is) told
+
+-- a name of an error
+pub input_error_is : {A : Type 0} (before now : SeatContent A) (k : ℕ) (error said : InputError) → error ≡ said → IsInput before now k (Err error) → IsInput before now k (Err said)
+input_error_is before now k error said is found = subst (λ (x : InputError). IsInput before now k (Err x)) is found
+
+pub length_answer : (A : Type 0) (before now : SeatContent A) (made len : ℕ) → BeginsWithOwn before → made ≡ before.made → HasSeen before now → len ≡ length (front_of before).movie.inputs
+    → IsAnswer A before now Length (Ok (record { reply = Measured made len; made = made }))
+length_answer A before now made len own m seen long = record {
+  turn_is = look_turn A before now Length (Measured made len) own seen (unforeseen false, ap (λ (n : ℕ). Measured n len) m ∙ ap (Measured before.made) long, refl);
+  made = m ∙ sym seen.made;
+  own = own_stays before now own seen;
+}
+
+pub input_turn : (A : Type 0) (before now : SeatContent A) (made at k : ℕ) (input : Input) (r : Result Reply RunFault) → BeginsWithOwn before → made ≡ before.made → HasSeen before now → at ≡ length now.front
+    → answer_input (movie_of now.front) k ≡ Some input → r ≡ checked_reply made at (Pressed at input) → MatchResult r (λ reply. IsTurn A (front_of before) (InputAt k) reply (front_of now)) (IsDeskFault now)
+input_turn A before now made at k input r own m seen here found is =
+    checked_ends made at (Pressed at input) r (λ reply. IsTurn A (front_of before) (InputAt k) reply (front_of now)) (IsDeskFault now) is
+    (λ (same : at ≡ made).
+    look_turn A before now (InputAt k) (Pressed at input) own seen
+    (unforeseen false, ap (λ (n : ℕ). Pressed n input) (same ∙ m) ∙ ap (input_reply (front_of before)) (sym found ∙ ap (λ (x : MovieContent). answer_input x k) (own_movie before now own seen (sym here ∙ same ∙ m))), refl))
+    (λ (other : at ≡ made → ⊥). foreign before now made at seen m here other)
+
+pub no_input_turn : (A : Type 0) (before now : SeatContent A) (made at len k : ℕ) (r : Result Reply RunFault) → BeginsWithOwn before → made ≡ before.made → HasSeen before now → at ≡ length now.front
+    → len ≡ length (movie_of now.front).inputs → len ≤ k → r ≡ checked_reply made at (NoFrame at len) → MatchResult r (λ reply. IsTurn A (front_of before) (InputAt k) reply (front_of now)) (IsDeskFault now)
+no_input_turn A before now made at len k r own m seen here long past is =
+    checked_ends made at (NoFrame at len) r (λ reply. IsTurn A (front_of before) (InputAt k) reply (front_of now)) (IsDeskFault now) is
+    (λ (same : at ≡ made).
+    let movie = own_movie before now own seen (sym here ∙ same ∙ m) in
+    let length_is : len ≡ length (front_of before).movie.inputs = long ∙ ap (λ (x : MovieContent). length x.inputs) movie in
+    let none : answer_input (front_of before).movie k ≡ None = slice_get_past (front_of before).movie.inputs k (subst (λ (n : ℕ). n ≤ k) length_is past) in
+    look_turn A before now (InputAt k) (NoFrame at len) own seen
+    (unforeseen false, ap (λ (n : ℕ). NoFrame n len) (same ∙ m) ∙ ap (NoFrame before.made) length_is ∙ ap (input_reply (front_of before)) (sym none), refl))
+    (λ (other : at ≡ made → ⊥). foreign before now made at seen m here other)
+
+-- ---- shots
+
+-- a name of an error
+pub shot_error_is : {A : Type 0} (history : List (Entry A)) (k : ℕ) (error said : ShotError) → error ≡ said → IsShotAt {B = A} history k (Err error) → IsShotAt {B = A} history k (Err said)
+shot_error_is {A} history k error said is found = subst (λ (x : ShotError). IsShotAt {B = A} history k (Err x)) is found
+
+pub shot_turn : (A : Type 0) (before now : SeatContent A) (made at frame k ran lit : ℕ) (picture : List ℕ) (r : Result Reply RunFault) → BeginsWithOwn before → made ≡ before.made → HasSeen before now → at ≡ length now.front
+    → frame ≡ k → answer_shot (movie_of now.front) k ≡ Some (Ok picture) → lit ≡ lit_count picture → r ≡ checked_reply made at (Drawn at frame ran lit)
+    → MatchResult r (λ reply. IsTurn A (front_of before) (Shot k) reply (front_of now)) (IsDeskFault now)
+shot_turn A before now made at frame k ran lit picture r own m seen here which shows l is =
+    checked_ends made at (Drawn at frame ran lit) r (λ reply. IsTurn A (front_of before) (Shot k) reply (front_of now)) (IsDeskFault now) is
+    (λ (same : at ≡ made).
+    let u : Unforeseen = record { refused = false; ran = ran; kept = 0; stale = 0 } in
+    let movie = own_movie before now own seen (sym here ∙ same ∙ m) in
+    look_turn A before now (Shot k) (Drawn at frame ran lit) own seen (
+      u,
+      ap (λ (n : ℕ). Drawn n frame ran lit) (same ∙ m) ∙ ap (λ (n : ℕ). Drawn before.made n ran lit) which ∙ ap (Drawn before.made k ran) l
+          ∙ ap (shot_reply u (front_of before) k) (sym shows ∙ ap (λ (x : MovieContent). answer_shot x k) movie),
+      refl,
+    ))
+    (λ (other : at ≡ made → ⊥). foreign before now made at seen m here other)
+
+pub no_frame_turn : (A : Type 0) (seat : SeatContent A) (made at len k : ℕ) (r : Result Reply RunFault) → BeginsWithOwn seat → made ≡ seat.made → answer_shot (movie_of seat.front) k ≡ None → at ≡ length seat.front
+    → len ≡ length (movie_of seat.front).inputs → r ≡ checked_reply made at (NoFrame at len) → MatchResult r (λ reply. IsTurn A (front_of seat) (Shot k) reply (front_of seat)) (IsDeskFault seat)
+no_frame_turn A seat made at len k r own m none here long is =
+    checked_ends made at (NoFrame at len) r (λ reply. IsTurn A (front_of seat) (Shot k) reply (front_of seat)) (IsDeskFault seat) is
+    (λ (same : at ≡ made).
+    let movie = own_movie seat seat own (seen_self seat) (sym here ∙ same ∙ m) in
+    look_turn A seat seat (Shot k) (NoFrame at len) own (seen_self seat) (
+      unforeseen false,
+      ap (λ (n : ℕ). NoFrame n len) (same ∙ m) ∙ ap (NoFrame seat.made) (long ∙ ap (λ (x : MovieContent). length x.inputs) movie)
+          ∙ ap (shot_reply (unforeseen false) (front_of seat) k) (sym none ∙ ap (λ (x : MovieContent). answer_shot x k) movie),
+      refl,
+    ))
+    (λ (other : at ≡ made → ⊥). foreign seat seat made at (seen_self seat) m here other)
+
+pub halted_turn : (A : Type 0) (seat : SeatContent A) (made at k : ℕ) (halt : Halt) (reply : Reply) (r : Result Reply RunFault) → BeginsWithOwn seat → made ≡ seat.made → answer_shot (movie_of seat.front) k ≡ Some (Err halt)
+    → at ≡ length seat.front → reply ≡ halted_reply at halt → r ≡ checked_reply made at reply → MatchResult r (λ reply'. IsTurn A (front_of seat) (Shot k) reply' (front_of seat)) (IsDeskFault seat)
+halted_turn A seat made at k halt reply r own m shows here says is =
+    checked_ends made at reply r (λ reply'. IsTurn A (front_of seat) (Shot k) reply' (front_of seat)) (IsDeskFault seat) is
+    (λ (same : at ≡ made).
+    let movie = own_movie seat seat own (seen_self seat) (sym here ∙ same ∙ m) in
+    look_turn A seat seat (Shot k) reply own (seen_self seat)
+    (unforeseen false, says ∙ ap (λ (n : ℕ). halted_reply n halt) (same ∙ m) ∙ ap (shot_reply (unforeseen false) (front_of seat) k) (sym shows ∙ ap (λ (x : MovieContent). answer_shot x k) movie), refl))
+    (λ (other : at ≡ made → ⊥). foreign seat seat made at (seen_self seat) m here other)
+
+pub shot_without_memory : (A : Type 0) (before now : SeatContent A) (k : ℕ) → BeginsWithOwn before → HasSeen before now → length now.front ≡ before.made → k < length (movie_of before.front).inputs
+    → IsTurn A (front_of before) (Shot k) OutOfMemory (front_of now)
+shot_without_memory A before now k own seen at within =
+    let movie = own_movie before before own (seen_self before) (first_front before now own seen at) in
+    let inside : k < length (front_of before).movie.inputs = subst (λ (x : MovieContent). k < length x.inputs) movie within in
+    look_turn A before now (Shot k) OutOfMemory own seen (unforeseen true, rw (lt-ltb k (length (front_of before).movie.inputs) inside) refl, refl)
+
+pub work_refused : (A : Type 0) (before now : SeatContent A) (k : ℕ) → BeginsWithOwn before → HasSeen before now → IsTurn A (front_of before) (Work k) OutOfMemory (front_of now)
+work_refused A before now k own seen = look_turn A before now (Work k) OutOfMemory own seen (unforeseen true, refl, refl)
+
+pub worked_turn : (A : Type 0) (before now : SeatContent A) (k jobs kept stale : ℕ) → BeginsWithOwn before → HasSeen before now → jobs ≡ 1 → IsTurn A (front_of before) (Work k) (Worked jobs kept stale) (front_of now)
+worked_turn A before now k jobs kept stale own seen one =
+    look_turn A before now (Work k) (Worked jobs kept stale) own seen (record { refused = false; ran = 0; kept = kept; stale = stale }, ap (λ (n : ℕ). Worked n kept stale) one, refl)

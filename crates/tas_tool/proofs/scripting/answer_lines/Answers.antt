@@ -1,0 +1,56 @@
+use Rattle.std.proofs.Common.{◌≡◌, ◌++◌, ◌∷◌, [], refl, sym, ◌∙◌, arith, rules}
+use Rattle.tas_tool.specs.Turns.{Front, front_of}
+use Rattle.tas_tool.specs.Scripts.{Turn}
+use Rattle.tas_tool.proofs.ScriptLemmas.{reads_none, begun, reads_more, front_answered, replies_answered, count_more, unclear_unsplit, unclear_line, split_length, reads_all, desk_stop}
+use Rattle.tas_tool.proofs.scripting.answer_lines.Goals as goal
+
+pub loop-rest-init : goal.loop-rest-init
+loop-rest-init g c =
+    let b = begun g.row.A.Denot (front_of c.args.seat.now) in
+    ([], record { reads = reads_none c.args.bytes.now; own = c.requires.own; made = sym c.requires.fresh; front = b.0; number = refl; room = omega arith; replies = c.requires.empty ∙ sym b.1 })
+
+pub returns-in_default : goal.returns-in_default
+returns-in_default g c =
+    let (turns, i) = c.loop-rest.invariant in
+    (turns, c.loop-rest.rest.now, i.reads, i.replies, (i.number, c.loop-rest-test.true, unclear_unsplit _ c.in_default.ensures.none))
+
+pub returns-in_default-parse_line : goal.returns-in_default-parse_line
+returns-in_default-parse_line g c =
+    let (turns, i) = c.loop-rest.invariant in
+    (turns, c.loop-rest.rest.now, i.reads, i.replies, (i.number, c.loop-rest-test.true, unclear_line _ c.in-Some.line.now c.in-Some.after.now c.in-Some.ensures.some.0 c.in-Some.ensures.some.1 c.in_default-parse_line.ensures.none))
+
+pub returns-in-Err : goal.returns-in-Err
+returns-in-Err g c =
+    let (turns, i) = c.loop-rest.invariant in
+    (turns, c.loop-rest.rest.now, i.reads, i.replies, desk_stop c.answer_command.new.seat c.in-Err.fault turns c.loop-rest.rest.now c.loop-rest-test.true c.in-Err.ensures)
+
+pub returns-in_default-reply_line : goal.returns-in_default-reply_line
+returns-in_default-reply_line g c =
+    let (turns, i) = c.loop-rest.invariant in
+    (turns, c.loop-rest.rest.now, i.reads, i.replies, tt)
+
+pub loop-rest-preserved : goal.loop-rest-preserved
+loop-rest-preserved g c =
+    let (turns, i) = c.loop-rest.invariant in
+    let told = c.in-Ok.ensures in
+    let t = told.turn_is in
+    let start : Front = front_of c.args.seat.now in
+    let turn : Turn = record { said = c.in-Some.line.now; command = c.in-Some-parse_line.command; unforeseen = t.0 } in
+    let shorter = split_length c.loop-rest.rest.now c.in-Some.line.now c.in-Some.after.now c.in-Some.ensures.some.0 in
+    let put : c.extend_from_slice.new.self.items ≡ c.loop-rest.text.items ++ c.in-Ok-reply_line.words.items = search rules in (
+      turns ++ turn ∷ [],
+      record {
+        reads = reads_more _ c.loop-rest.rest.now c.in-Some.line.now c.in-Some.after.now turns turn i.reads refl c.in-Some.ensures.some.0 c.in-Some.ensures.some.1 c.in-Some-parse_line.ensures.some;
+        own = told.own;
+        made = told.made;
+        front = front_answered _ start _ _ turns turn c.in-Ok.answered.reply i.front t.2;
+        number = omega (arith, i.number, count_more turns turn);
+        room = omega (arith, i.room, shorter);
+        replies = replies_answered _ start _ turns turn c.in-Ok.answered.reply _ c.in-Ok-reply_line.words.items _ i.front t.1 i.replies c.in-Ok-reply_line.ensures put;
+      },
+    )
+
+pub returns : goal.returns
+returns g c =
+    let (turns, i) = c.loop-rest.invariant in
+    (turns, reads_all _ _ turns (omega arith) i.reads, i.replies)

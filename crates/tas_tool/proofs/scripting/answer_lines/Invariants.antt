@@ -1,0 +1,18 @@
+use Rattle.std.proofs.Common.{◌≡◌, ◌≤◌, ◌+◌, List, length}
+use Rattle.tas_tool.specs.Turns.{front_of, BeginsWithOwn}
+use Rattle.tas_tool.specs.Scripts.{Turn, Reads, front_after_all, replies_to_all}
+use Rattle.tas_tool.proofs.scripting.answer_lines.Given as goal
+
+abbrev pub invariant-loop-rest : goal.invariant-loop-rest
+invariant-loop-rest g l = (turns : List Turn) × record {
+  reads : Reads l.bytes turns l.rest;
+  own : BeginsWithOwn l.seat;
+  made : l.made ≡ l.seat.made;
+  front : front_after_all g.row.A.Denot (front_of l.fn.seat) turns ≡ front_of l.seat;
+  number : l.number ≡ length turns + 1;
+  room : l.number + length l.rest ≤ length l.bytes + 1;
+  replies : l.text.items ≡ replies_to_all g.row.A.Denot (front_of l.fn.seat) turns;
+}
+
+abbrev pub decreases-loop-rest : goal.decreases-loop-rest
+decreases-loop-rest g l = length l.rest

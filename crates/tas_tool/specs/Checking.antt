@@ -1,0 +1,41 @@
+-- What a desk's replies are told as. Private functions cite this file.
+use Rattle.std.specs.Prelude.{◌≡◌, ℕ, ◌+◌, ◌==◌, nat_lt, List, if◌then◌else◌, Option, Some, None, Result, Ok, Err}
+use Rattle.tas_movie.specs.declared.edit.Edit.{Edit}
+use Rattle.tas_movie.specs.declared.edit.EditRefusal.{EditRefusal}
+use Rattle.tas_movie.specs.declared.edit.EditRefusal.TheVariants.{Place, Long}
+use Rattle.tas_desk.specs.Seats.{SeatContent}
+use Rattle.tas_engines.specs.declared.fault.RunFault.{RunFault}
+use Rattle.tas_engines.specs.declared.fault.RunFault.TheVariants.{Foreign}
+use Rattle.tas_script.specs.declared.command.Command.{Command}
+use Rattle.tas_script.specs.declared.reply.Reply.{Reply}
+use Rattle.tas_tool.specs.declared.answering.Answered.{Answered}
+use Rattle.tas_tool.specs.Turns.{front_of, BeginsWithOwn, IsDeskFault, IsEditTurn, IsTurn}
+
+-- a reply that stands at so many edits, where these are just the script's own
+abbrev pub checked_reply : ℕ → ℕ → Reply → Result Reply RunFault
+checked_reply made at reply = if at == made then Ok reply else Err Foreign
+
+-- why so many inputs can't be put in
+abbrev pub insert_refusal : ℕ → ℕ → ℕ → Option EditRefusal
+insert_refusal len at count = if nat_lt len at then Some (Place at len) else if nat_lt 65536 (len + count) then Some (Long len) else None
+
+-- the answer of a command that makes no edit
+abbrev pub looked : Result Reply RunFault → ℕ → Result Answered RunFault
+looked (Ok reply) made = Ok (record { reply = reply; made = made })
+looked (Err fault) made = Err fault
+
+-- a seat is answered: the reply stands at just its own edits, which are its first ones still
+pub record IsTold {A : Type 0} (now : SeatContent A) (answered : Answered) (turn : Type 0) : Type 0 where
+  pub turn_is : turn
+  pub made : answered.made ≡ now.made
+  pub own : BeginsWithOwn now
+
+-- the answer to an edit
+abbrev pub IsEditAnswer : {A : Type 0} → SeatContent A → SeatContent A → Edit A → Result Answered RunFault → Type 0
+IsEditAnswer before now edit (Ok answered) = IsTold now answered (IsEditTurn (front_of before) edit answered.reply (front_of now))
+IsEditAnswer before now edit (Err fault) = IsDeskFault now fault
+
+-- the answer to a command
+abbrev pub IsAnswer : (A : Type 0) → SeatContent A → SeatContent A → Command → Result Answered RunFault → Type 0
+IsAnswer A before now command (Ok answered) = IsTold now answered (IsTurn A (front_of before) command answered.reply (front_of now))
+IsAnswer A before now command (Err fault) = IsDeskFault now fault

@@ -1,0 +1,89 @@
+-- Whole scripts (own).
+use Rattle.std.specs.Prelude.{◌≡◌, ℕ, ◌+◌, ◌<◌, List, [], ◌∷◌, ◌++◌, length, Option, Result, Ok, Err, ◌⊎◌}
+use Rattle.std.specs.List.{flat_map}
+use Rattle.std.specs.Io.KnownBytes.{Appends}
+use Rattle.tas_movie.specs.Text.{line}
+use Rattle.tas_desk.specs.History.{blank_movie}
+use Rattle.tas_engines.specs.declared.fault.RunFault.{RunFault}
+use Rattle.tas_engines.specs.declared.fault.RunFault.TheVariants.{Script, NoPlace, NoEntry, Foreign, Memory}
+use Rattle.tas_engines.specs.declared.fault.ToolFault.{ToolFault}
+use Rattle.tas_engines.specs.Input.{IsReadWhole, StopsReading}
+use Rattle.tas_engines.specs.Output.{StopsWriting, EndsAfter}
+use Rattle.tas_script.specs.declared.command.Command.{Command}
+use Rattle.tas_script.specs.Commands.{Says, NoByte}
+use Rattle.tas_script.specs.Replies.{reply_text}
+use Rattle.tas_tool.specs.Turns.{Unforeseen, Front, reply_to, front_after}
+
+-- a line, the command that it is, and what no session of cartridge and inputs alone can tell of its reply
+pub record Turn : Type 0 where
+  pub said : List ℕ
+  pub command : Command
+  pub unforeseen : Unforeseen
+
+abbrev pub turn_line : Turn → List ℕ
+turn_line turn = line turn.said
+
+-- each line says its command
+unfoldable pub AreSaid : List Turn → Type 0
+AreSaid [] = Unit {0}
+AreSaid (turn ∷ turns) = (Says turn.said turn.command × NoByte 10 turn.said) × AreSaid turns
+
+-- what is made after some lines
+unfoldable pub front_after_all : Type 0 → Front → List Turn → Front
+front_after_all A front [] = front
+front_after_all A front (turn ∷ turns) = front_after_all A (front_after A turn.unforeseen front turn.command) turns
+
+-- the replies to some lines, each at what the lines before it made
+unfoldable pub replies_to_all : Type 0 → Front → List Turn → List ℕ
+replies_to_all A front [] = []
+replies_to_all A front (turn ∷ turns) =
+    reply_text (reply_to A turn.unforeseen front turn.command) ++ replies_to_all A (front_after A turn.unforeseen front turn.command) turns
+
+-- the first line isn't understood, or no newline ends it
+abbrev pub IsUnclear : List ℕ → Type 0
+IsUnclear bytes = (said more : List ℕ) (command : Command) → NoByte 10 said → bytes ≡ said ++ 10 ∷ more → Says said command → ⊥
+
+-- some lines were read, and the rest wasn't
+pub record Reads (bytes : List ℕ) (turns : List Turn) (rest : List ℕ) : Type 0 where
+  pub text : bytes ≡ flat_map turn_line turns ++ rest
+  pub said : AreSaid turns
+
+-- why the lines after some are not answered: the next one isn't understood, and its number is told; or there was no place on
+-- the desk, before the first line; or memory, a reader's entry or a reply at just the script's own edits was refused
+abbrev pub IsStop : List ℕ → List Turn → RunFault → Type 0
+IsStop rest turns (Script number) = (number ≡ length turns + 1) × (0 < length rest) × IsUnclear rest
+IsStop rest turns NoPlace = turns ≡ []
+IsStop rest turns Memory = Unit {0}
+IsStop rest turns NoEntry = 0 < length rest
+IsStop rest turns Foreign = 0 < length rest
+IsStop rest turns _ = ⊥
+
+-- the replies to a script from a front on, and how it ends: all lines are answered, or the first ones up to a fault
+abbrev pub Answers : Type 0 → Front → List ℕ → List ℕ → Result (Unit {0}) RunFault → Type 0
+Answers A start bytes text (Ok _) = (turns : List Turn) × Reads bytes turns [] × (text ≡ replies_to_all A start turns)
+Answers A start bytes text (Err fault) = (turns : List Turn) × (rest : List ℕ) × Reads bytes turns rest × (text ≡ replies_to_all A start turns) × IsStop rest turns fault
+
+-- nothing is made yet
+abbrev pub start_front : Front
+start_front = record { movie = blank_movie; made = 0 }
+
+-- the replies to a script stand written, and the script ended so
+abbrev pub WritesReplies : Type 0 → List ℕ → Option (List ℕ) → Option (List ℕ) → Result (Unit {0}) RunFault → Type 0
+WritesReplies A bytes old new end = (text : List ℕ) × Answers A start_front bytes text end × Appends old new text
+
+-- a write of the replies failed
+pub record BreaksOffReplies (A : Type 0) (bytes : List ℕ) (old new : Option (List ℕ)) (fault : RunFault) : Type 0 where
+  pub text : List ℕ
+  pub end : Result (Unit {0}) RunFault
+  pub answers : Answers A start_front bytes text end
+  pub stops : StopsWriting old new text fault
+
+-- how a script that was read ends
+abbrev pub RunsScript : Type 0 → List ℕ → Option (List ℕ) → Option (List ℕ) → Result (Unit {0}) RunFault → Type 0
+RunsScript A bytes old new (Ok u) = WritesReplies A bytes old new (Ok u)
+RunsScript A bytes old new (Err fault) = WritesReplies A bytes old new (Err fault) ⊎ BreaksOffReplies A bytes old new fault
+
+-- `tas script`, from what the reader has and the writer holds before to what they have and hold afterwards
+abbrev pub IsScriptRun : Type 0 → (input input' output output' : Option (List ℕ)) → Result (Unit {0}) ToolFault → Type 0
+IsScriptRun A input input' output output' result =
+    EndsAfter (StopsReading input input') (λ end. (bytes : List ℕ) × IsReadWhole input input' bytes × RunsScript A bytes output output' end) output output' result

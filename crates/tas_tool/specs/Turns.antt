@@ -1,0 +1,132 @@
+-- What a line of a script is answered, and what it makes (own).
+use Rattle.std.specs.Prelude.{◌≡◌, ◌≢◌, ℕ, ◌+◌, ◌==◌, ◌≤◌, List, length, take, Bool, if◌then◌else◌, Option, Some, None, Result, Ok, Err}
+use Rattle.vcs_cpu.specs.declared.halt.Halt.{Halt}
+use Rattle.vcs_cpu.specs.declared.halt.Halt.TheVariants.{Undocumented}
+use Rattle.vcs_tia.specs.Picture.{lit_count}
+use Rattle.vcs_machine.specs.declared.input.Input.{Input}
+use Rattle.tas_movie.specs.Content.{MovieContent}
+use Rattle.tas_movie.specs.declared.edit.Edit.{Edit}
+use Rattle.tas_movie.specs.declared.edit.EditRefusal.{EditRefusal}
+use Rattle.tas_movie.specs.declared.edit.EditRefusal.TheVariants.{Place, Long}
+use Rattle.tas_movie.specs.Edit.{refusal, edited}
+use Rattle.tas_desk.specs.History.{movie_of, entries_of}
+use Rattle.tas_desk.specs.Answers.{answer_input, answer_shot}
+use Rattle.tas_desk.specs.Seats.{SeatContent}
+use Rattle.tas_engines.specs.declared.fault.RunFault.{RunFault}
+use Rattle.tas_engines.specs.declared.fault.RunFault.TheVariants.{Foreign, NoEntry}
+use Rattle.tas_script.specs.declared.command.Command.{Command}
+use Rattle.tas_script.specs.declared.command.Command.TheVariants.{Load, Insert, Replace, Delete, Length, InputAt, Shot, Work}
+use Rattle.tas_script.specs.declared.reply.Reply.{Reply}
+use Rattle.tas_script.specs.declared.reply.Reply.TheVariants.{Edited, Misplaced, TooLong, Full, Measured, Pressed, NoFrame, Drawn, Halted, Worked, OutOfMemory}
+use Rattle.tas_tool.specs.Edits.{load_edit, insert_edit, replace_edit, delete_edit}
+
+-- what a session of cartridge and inputs alone can't tell: whether memory was refused, how many frames were played, and how
+-- many states a job gained and whether it was stale
+pub record Unforeseen : Type 0 where
+  pub refused : Bool
+  pub ran : ℕ
+  pub kept : ℕ
+  pub stale : ℕ
+
+-- what the script's own edits made so far: the movie, and how many edits they are
+pub record Front : Type 0 where
+  pub movie : MovieContent
+  pub made : ℕ
+
+-- the same of the script's seat: its own edits are the first ones of what it has seen
+abbrev pub front_of : {A : Type 0} → SeatContent A → Front
+front_of seat = record { movie = movie_of (take seat.made seat.front); made = seat.made }
+
+-- what the seat has seen begins with just its own edits
+pub record BeginsWithOwn {A : Type 0} (seat : SeatContent A) : Type 0 where
+  pub seen : seat.made ≤ length seat.front
+  pub own : entries_of seat.number (take seat.made seat.front) ≡ seat.made
+
+-- what the seat has seen isn't just its own edits
+abbrev pub HasForeign : {A : Type 0} → SeatContent A → Type 0
+HasForeign seat = length seat.front ≢ seat.made
+
+-- why a desk gave the script no reply that stands at just its own edits
+abbrev pub IsDeskFault : {A : Type 0} → SeatContent A → RunFault → Type 0
+IsDeskFault seat Foreign = HasForeign seat
+IsDeskFault seat NoEntry = Unit {0}
+IsDeskFault seat _ = ⊥
+
+-- ---- edits
+
+abbrev pub refusal_reply : ℕ → Option EditRefusal → Option Reply
+refusal_reply made None = None
+refusal_reply made (Some (Place at len)) = Some (Misplaced made len)
+refusal_reply made (Some (Long len)) = Some (TooLong made len)
+
+-- the reply to an edit that is refused, whatever memory there is: so many edits were made, or the movie doesn't allow it
+abbrev pub refused_reply : ℕ → Option EditRefusal → Option Reply
+refused_reply made refused = if made == 1000000 then Some (Full made) else refusal_reply made refused
+
+abbrev pub edit_reply : Option Reply → Bool → ℕ → ℕ → Reply
+edit_reply None no_memory made len = if no_memory then OutOfMemory else Edited (made + 1) len
+edit_reply (Some reply) no_memory made len = reply
+
+abbrev pub edited_front : {A : Type 0} → Option Reply → Bool → Front → Edit A → Front
+edited_front None no_memory front edit = if no_memory then front else record { movie = edited front.movie edit; made = front.made + 1 }
+edited_front (Some reply) no_memory front edit = front
+
+-- the reply to an edit: where nothing refuses it and memory is there, it is made
+abbrev pub reply_to_edit : {A : Type 0} → Bool → Front → Edit A → Reply
+reply_to_edit no_memory front edit = edit_reply (refused_reply front.made (refusal front.movie edit)) no_memory front.made (length (edited front.movie edit).inputs)
+
+-- what is made after an edit
+abbrev pub front_after_edit : {A : Type 0} → Bool → Front → Edit A → Front
+front_after_edit no_memory front edit = edited_front (refused_reply front.made (refusal front.movie edit)) no_memory front edit
+
+-- the reply to an edit, and what is made then
+abbrev pub IsEditTurn : {A : Type 0} → Front → Edit A → Reply → Front → Type 0
+IsEditTurn front edit reply next = (no_memory : Bool) × (reply ≡ reply_to_edit no_memory front edit) × (next ≡ front_after_edit no_memory front edit)
+
+-- ---- other lines
+
+abbrev pub input_reply : Front → Option Input → Reply
+input_reply front None = NoFrame front.made (length front.movie.inputs)
+input_reply front (Some input) = Pressed front.made input
+
+abbrev pub halted_reply : ℕ → Halt → Reply
+halted_reply made (Undocumented at opcode) = Halted made at opcode
+
+abbrev pub frame_reply : Unforeseen → ℕ → ℕ → Result (List ℕ) Halt → Reply
+frame_reply unforeseen made k (Ok picture) = Drawn made k unforeseen.ran (lit_count picture)
+frame_reply unforeseen made k (Err halt) = halted_reply made halt
+
+abbrev pub shot_reply : Unforeseen → Front → ℕ → Option (Result (List ℕ) Halt) → Reply
+shot_reply unforeseen front k None = NoFrame front.made (length front.movie.inputs)
+shot_reply unforeseen front k (Some answer) = if unforeseen.refused then OutOfMemory else frame_reply unforeseen front.made k answer
+
+abbrev pub work_reply : Unforeseen → Reply
+work_reply unforeseen = if unforeseen.refused then OutOfMemory else Worked 1 unforeseen.kept unforeseen.stale
+
+-- ---- any line
+
+-- the reply to a command at what was made so far
+abbrev pub reply_to : Type 0 → Unforeseen → Front → Command → Reply
+reply_to A unforeseen front (Load image) = reply_to_edit unforeseen.refused front (load_edit A image)
+reply_to A unforeseen front (Insert at count input) = reply_to_edit unforeseen.refused front (insert_edit A at count input)
+reply_to A unforeseen front (Replace at count input) = reply_to_edit unforeseen.refused front (replace_edit A at count input)
+reply_to A unforeseen front (Delete at count) = reply_to_edit unforeseen.refused front (delete_edit A at count)
+reply_to A unforeseen front Length = Measured front.made (length front.movie.inputs)
+reply_to A unforeseen front (InputAt k) = input_reply front (answer_input front.movie k)
+reply_to A unforeseen front (Shot k) = shot_reply unforeseen front k (answer_shot front.movie k)
+reply_to A unforeseen front (Work k) = work_reply unforeseen
+
+-- what is made after a command
+abbrev pub front_after : Type 0 → Unforeseen → Front → Command → Front
+front_after A unforeseen front (Load image) = front_after_edit unforeseen.refused front (load_edit A image)
+front_after A unforeseen front (Insert at count input) = front_after_edit unforeseen.refused front (insert_edit A at count input)
+front_after A unforeseen front (Replace at count input) = front_after_edit unforeseen.refused front (replace_edit A at count input)
+front_after A unforeseen front (Delete at count) = front_after_edit unforeseen.refused front (delete_edit A at count)
+front_after A unforeseen front Length = front
+front_after A unforeseen front (InputAt k) = front
+front_after A unforeseen front (Shot k) = front
+front_after A unforeseen front (Work k) = front
+
+-- the reply to a command, and what is made then
+abbrev pub IsTurn : Type 0 → Front → Command → Reply → Front → Type 0
+IsTurn A front command reply next = (unforeseen : Unforeseen) × (reply ≡ reply_to A unforeseen front command) × (next ≡ front_after A unforeseen front command)

@@ -1,0 +1,440 @@
+//! Answering a command on a desk whose one seat is the script's.
+
+ghost use Rattle.std.specs.Prelude.{◌≡◌, ℕ, ◌+◌, Err, IfOk, MatchResult, length, replicate};
+ghost use Rattle.tas_movie.specs.declared.edit.Edit.{Edit as EditContent};
+ghost use Rattle.tas_movie.specs.Edit.{place_refusal};
+ghost use Rattle.tas_desk.specs.Session.{refusal_at, IsEditError};
+ghost use Rattle.tas_desk.specs.Seats.{HasSeen};
+ghost use Rattle.tas_desk.specs.Shots.{IsShotAt};
+ghost use Rattle.tas_tool.specs.Turns.{front_of, refused_reply, halted_reply, BeginsWithOwn, IsDeskFault, IsEditTurn, IsTurn};
+ghost use Rattle.tas_tool.specs.Checking.{checked_reply, insert_refusal, looked, IsAnswer, IsEditAnswer};
+ghost use Rattle.tas_script.specs.declared.command.Command.TheVariants.{Load as LoadLine, Insert as InsertLine, Replace as ReplaceLine, InputAt as InputLine, Shot as ShotLine, Work as WorkLine};
+
+use std::alloc::{AllocError, Allocator};
+use std::sync::Wait;
+use tas_desk::{CloseOnDrop, Desk, EditError, Gate, InputError, MAX_EDITS, Name, Seat, ShotError};
+use tas_engines::RunFault;
+use tas_movie::{Edit, EditRefusal, Inputs, MAX_FRAMES};
+use tas_script::{Command, IMAGE_SIZE, Reply};
+use vcs_cpu::Halt;
+use vcs_machine::{Cart, Input};
+
+/// The answer to a command.
+#[derive(Clone, Copy, Debug, PartialEq, Eq)]
+pub struct Answered {
+    /// What is told.
+    pub reply: Reply,
+    /// How many edits the script has made with it.
+    pub made: u64,
+}
+
+/// A reply, where it stands at just the script's own edits.
+fn checked(made: u64, at: u64, reply: Reply) -> Result<Reply, RunFault>
+    ensures { result ≡ checked_reply made at reply }
+{
+    if at == made {
+        Ok(reply)
+    } else {
+        Err(RunFault::Foreign)
+    }
+}
+
+/// The movie's length, where it stands at just the script's own edits.
+fn own_len<N: Name, W: CloseOnDrop, A: Allocator>(
+    desk: &Desk<N, W, A>,
+    seat: &mut Seat<N, A>,
+    made: u64,
+) -> Result<usize, RunFault>
+    requires own { BeginsWithOwn seat.old }
+    requires made { made ≡ seat.old.made }
+    ensures seen { HasSeen seat.old seat.new }
+    ensures reply { MatchResult result
+        (λ len. (length seat.new.front ≡ made) × (len ≡ length (front_of seat.old).movie.inputs)) (IsDeskFault seat.new) }
+{
+    let (at, len) = match desk.len(seat) {
+        Ok(found) => found,
+        Err(_) => return Err(RunFault::NoEntry),
+    };
+    if at == made {
+        Ok(len)
+    } else {
+        Err(RunFault::Foreign)
+    }
+}
+
+// ---- edits
+
+/// The reply to an edit that the desk refused at the seat's front. Want of memory is told where that front is the script's
+/// own.
+fn refused_edit<N: Name, W: CloseOnDrop, A: Allocator>(
+    desk: &Desk<N, W, A>,
+    seat: &mut Seat<N, A>,
+    made: u64,
+    error: EditError,
+) -> Result<Reply, RunFault>
+    requires own { BeginsWithOwn seat.old }
+    requires made { made ≡ seat.old.made }
+    ensures seen { HasSeen seat.old seat.new }
+    ensures reply { (edit : EditContent A) → IsEditError (refusal_at seat.old.front seat.old.number seat.old.made edit) error
+        → MatchResult result (λ reply. IsEditTurn (front_of seat.old) edit reply (front_of seat.new)) (IsDeskFault seat.new) }
+{
+    match error {
+        EditError::Serial { .. } => Err(RunFault::Foreign),
+        EditError::Full { at } => checked(made, at, Reply::Full { at }),
+        EditError::Place { at, place: _, len } => checked(made, at, Reply::Misplaced { at, len }),
+        EditError::Long { at, len } => checked(made, at, Reply::TooLong { at, len }),
+        EditError::Memory => match own_len(desk, seat, made) {
+            Ok(_) => Ok(Reply::OutOfMemory),
+            Err(fault) => Err(fault),
+        },
+    }
+}
+
+/// Makes an edit right behind the script's own edits.
+fn make_edit<N: Name, W: CloseOnDrop, A: Allocator + Copy, R: Wait>(
+    rt: &R,
+    desk: &Desk<N, W, A>,
+    seat: &mut Seat<N, A>,
+    made: u64,
+    edit: Edit<A>,
+) -> Result<Answered, RunFault>
+    requires own { BeginsWithOwn seat.old }
+    requires made { made ≡ seat.old.made }
+    ensures { IsEditAnswer seat.old seat.new edit result }
+{
+    let error = match desk.edit(rt, seat, edit) {
+        Ok(receipt) => {
+            if receipt.at - 1 != made {
+                return Err(RunFault::Foreign);
+            }
+            let reply = Reply::Edited {
+                at: receipt.at,
+                len: receipt.len,
+            };
+            return Ok(Answered {
+                reply,
+                made: receipt.at,
+            });
+        }
+        Err(error) => error,
+    };
+    match refused_edit(desk, seat, made, error) {
+        Ok(reply) => Ok(Answered { reply, made }),
+        Err(fault) => Err(fault),
+    }
+}
+
+/// The reply to an edit that is refused, whatever memory there is.
+fn refused_reply(made: u64, refusal: Option<EditRefusal>) -> Option<Reply>
+    ensures { result ≡ refused_reply made refusal }
+{
+    if made == MAX_EDITS {
+        return Some(Reply::Full { at: made });
+    }
+    match refusal {
+        None => None,
+        Some(EditRefusal::Place { at: _, len }) => Some(Reply::Misplaced { at: made, len }),
+        Some(EditRefusal::Long { len }) => Some(Reply::TooLong { at: made, len }),
+    }
+}
+
+/// Why `count` inputs can't be put in at the place `at` of `len`.
+fn insert_refusal(len: usize, at: usize, count: usize) -> Option<EditRefusal>
+    ensures { result ≡ insert_refusal len at count }
+{
+    if at > len {
+        return Some(EditRefusal::Place { at, len });
+    }
+    if len.saturating_add(count) > MAX_FRAMES {
+        return Some(EditRefusal::Long { len });
+    }
+    None
+}
+
+/// Why the `count` inputs from the place `at` on, of `len`, can't be replaced.
+fn replace_refusal(len: usize, at: usize, count: usize) -> Option<EditRefusal>
+    ensures { result ≡ place_refusal len at (at + count) }
+{
+    if at > len {
+        return Some(EditRefusal::Place { at, len });
+    }
+    if count > len - at {
+        return Some(EditRefusal::Place { at, len });
+    }
+    None
+}
+
+/// So many copies of one input.
+fn copies<A: Allocator>(alloc: A, input: Input, count: usize) -> Result<Inputs<A>, AllocError>
+    ensures { IfOk result (λ inputs. inputs ≡ replicate count input) }
+{
+    let list = vec![in alloc; input; count]?;
+    Ok(Inputs::from_vec(list))
+}
+
+/// A `load` line. Memory is asked for once nothing else refuses the edit.
+fn load<N: Name, W: CloseOnDrop, A: Allocator + Copy, R: Wait>(
+    rt: &R,
+    alloc: A,
+    desk: &Desk<N, W, A>,
+    seat: &mut Seat<N, A>,
+    made: u64,
+    image: [u8; IMAGE_SIZE],
+) -> Result<Answered, RunFault>
+    requires own { BeginsWithOwn seat.old }
+    requires made { made ≡ seat.old.made }
+    ensures { IsAnswer A seat.old seat.new (LoadLine image) result }
+{
+    match own_len(desk, seat, made) {
+        Ok(_) => {}
+        Err(fault) => return Err(fault),
+    }
+    if let Some(reply) = refused_reply(made, None) {
+        return Ok(Answered { reply, made });
+    }
+    match Cart::from_bytes(alloc, &image) {
+        Ok(cart) => make_edit(rt, desk, seat, made, Edit::Load(cart)),
+        Err(_) => Ok(Answered {
+            reply: Reply::OutOfMemory,
+            made,
+        }),
+    }
+}
+
+/// An `insert` line. Memory is asked for once nothing else refuses the edit.
+fn insert<N: Name, W: CloseOnDrop, A: Allocator + Copy, R: Wait>(
+    rt: &R,
+    alloc: A,
+    desk: &Desk<N, W, A>,
+    seat: &mut Seat<N, A>,
+    made: u64,
+    at: usize,
+    count: usize,
+    input: Input,
+) -> Result<Answered, RunFault>
+    requires own { BeginsWithOwn seat.old }
+    requires made { made ≡ seat.old.made }
+    ensures { IsAnswer A seat.old seat.new (InsertLine at count input) result }
+{
+    let len = match own_len(desk, seat, made) {
+        Ok(len) => len,
+        Err(fault) => return Err(fault),
+    };
+    if let Some(reply) = refused_reply(made, insert_refusal(len, at, count)) {
+        return Ok(Answered { reply, made });
+    }
+    match copies(alloc, input, count) {
+        Ok(inputs) => make_edit(rt, desk, seat, made, Edit::Insert { at, inputs }),
+        Err(_) => Ok(Answered {
+            reply: Reply::OutOfMemory,
+            made,
+        }),
+    }
+}
+
+/// A `replace` line. Memory is asked for once nothing else refuses the edit.
+fn replace<N: Name, W: CloseOnDrop, A: Allocator + Copy, R: Wait>(
+    rt: &R,
+    alloc: A,
+    desk: &Desk<N, W, A>,
+    seat: &mut Seat<N, A>,
+    made: u64,
+    at: usize,
+    count: usize,
+    input: Input,
+) -> Result<Answered, RunFault>
+    requires own { BeginsWithOwn seat.old }
+    requires made { made ≡ seat.old.made }
+    ensures { IsAnswer A seat.old seat.new (ReplaceLine at count input) result }
+{
+    let len = match own_len(desk, seat, made) {
+        Ok(len) => len,
+        Err(fault) => return Err(fault),
+    };
+    if let Some(reply) = refused_reply(made, replace_refusal(len, at, count)) {
+        return Ok(Answered { reply, made });
+    }
+    match copies(alloc, input, count) {
+        Ok(inputs) => make_edit(rt, desk, seat, made, Edit::Replace { at, inputs }),
+        Err(_) => Ok(Answered {
+            reply: Reply::OutOfMemory,
+            made,
+        }),
+    }
+}
+
+// ---- looks
+
+/// An `input` line.
+fn show_input<N: Name, W: CloseOnDrop, A: Allocator>(
+    desk: &Desk<N, W, A>,
+    seat: &mut Seat<N, A>,
+    made: u64,
+    frame: usize,
+) -> Result<Reply, RunFault>
+    requires own { BeginsWithOwn seat.old }
+    requires made { made ≡ seat.old.made }
+    ensures seen { HasSeen seat.old seat.new }
+    ensures reply { MatchResult result (λ reply. IsTurn A (front_of seat.old) (InputLine frame) reply (front_of seat.new)) (IsDeskFault seat.new) }
+{
+    match desk.input(seat, frame) {
+        Ok((at, input)) => checked(made, at, Reply::Pressed { at, input }),
+        Err(InputError::NoEntry) => Err(RunFault::NoEntry),
+        Err(InputError::NoFrame { at, len }) => checked(made, at, Reply::NoFrame { at, len }),
+    }
+}
+
+fn halted_reply(at: u64, halt: Halt) -> Reply
+    ensures { result ≡ halted_reply at halt }
+{
+    let Halt::Undocumented {
+        at: address,
+        opcode,
+    } = halt;
+    Reply::Halted {
+        at,
+        address,
+        opcode,
+    }
+}
+
+/// The reply to a shot that shows no picture, at the seat's front. Want of memory is told where that front is the script's
+/// own.
+fn unshown<N: Name, W: CloseOnDrop, A: Allocator>(
+    desk: &Desk<N, W, A>,
+    seat: &mut Seat<N, A>,
+    made: u64,
+    frame: usize,
+    error: ShotError,
+) -> Result<Reply, RunFault>
+    requires own { BeginsWithOwn seat.old }
+    requires made { made ≡ seat.old.made }
+    requires error { IsShotAt {B = A} seat.old.front frame (Err error) }
+    ensures seen { HasSeen seat.old seat.new }
+    ensures reply { MatchResult result (λ reply. IsTurn A (front_of seat.old) (ShotLine frame) reply (front_of seat.new)) (IsDeskFault seat.new) }
+{
+    match error {
+        ShotError::NoEntry => Err(RunFault::NoEntry),
+        ShotError::NoFrame { at, len } => checked(made, at, Reply::NoFrame { at, len }),
+        ShotError::Halted { at, halt } => checked(made, at, halted_reply(at, halt)),
+        ShotError::Memory => match own_len(desk, seat, made) {
+            Ok(_) => Ok(Reply::OutOfMemory),
+            Err(fault) => Err(fault),
+        },
+    }
+}
+
+/// A `shot` line.
+fn draw<N: Name, W: CloseOnDrop, A: Allocator + Copy>(
+    alloc: A,
+    desk: &Desk<N, W, A>,
+    seat: &mut Seat<N, A>,
+    made: u64,
+    frame: usize,
+) -> Result<Reply, RunFault>
+    requires own { BeginsWithOwn seat.old }
+    requires made { made ≡ seat.old.made }
+    ensures seen { HasSeen seat.old seat.new }
+    ensures reply { MatchResult result (λ reply. IsTurn A (front_of seat.old) (ShotLine frame) reply (front_of seat.new)) (IsDeskFault seat.new) }
+{
+    let shot = match desk.shot(alloc, seat, frame) {
+        Ok(shot) => shot,
+        Err(error) => return unshown(desk, seat, made, frame, error),
+    };
+    let lit = shot.picture.lit();
+    let reply = Reply::Drawn {
+        at: shot.at,
+        frame: shot.frame,
+        ran: shot.ran,
+        lit,
+    };
+    checked(made, shot.at, reply)
+}
+
+/// A gate that stands open.
+struct OpenGate;
+
+impl Gate for OpenGate {
+    fn pass(&self, _piece: usize) {}
+}
+
+/// A `work` line: the states up to a frame are filled, and the seat's zone gains them.
+fn work<N: Name, W: CloseOnDrop, A: Allocator + Copy, R: Wait>(
+    rt: &R,
+    alloc: A,
+    desk: &Desk<N, W, A>,
+    seat: &mut Seat<N, A>,
+    frame: usize,
+) -> Reply
+    requires own { BeginsWithOwn seat.old }
+    ensures seen { HasSeen seat.old seat.new }
+    ensures reply { IsTurn A (front_of seat.old) (WorkLine frame) result (front_of seat.new) }
+{
+    let Ok(worked) = desk.work(rt, alloc, seat, &[frame], &OpenGate) else {
+        return Reply::OutOfMemory;
+    };
+    let Ok(_) = desk.share(rt, seat) else {
+        return Reply::OutOfMemory;
+    };
+    Reply::Worked {
+        jobs: worked.jobs,
+        kept: worked.kept,
+        stale: worked.stale,
+    }
+}
+
+// ---- commands
+
+/// The answer of a command that makes no edit.
+fn looked(reply: Result<Reply, RunFault>, made: u64) -> Result<Answered, RunFault>
+    ensures { result ≡ looked reply made }
+{
+    match reply {
+        Ok(reply) => Ok(Answered { reply, made }),
+        Err(fault) => Err(fault),
+    }
+}
+
+/// Does what a command asks for, as the seat that has made so many edits, all of the script, and answers it. `OutOfMemory`
+/// changes nothing of the movie.
+///
+/// Faults: `Foreign` where the seat's front isn't just the script's own edits; `NoEntry`.
+pub fn answer_command<N: Name, W: CloseOnDrop, A: Allocator + Copy, R: Wait>(
+    rt: &R,
+    alloc: A,
+    desk: &Desk<N, W, A>,
+    seat: &mut Seat<N, A>,
+    made: u64,
+    command: Command,
+) -> Result<Answered, RunFault>
+    requires own { BeginsWithOwn seat.old }
+    requires made { made ≡ seat.old.made }
+    ensures { IsAnswer A seat.old seat.new command result }
+{
+    match command {
+        Command::Load { image } => load(rt, alloc, desk, seat, made, image),
+        Command::Insert { at, count, input } => {
+            insert(rt, alloc, desk, seat, made, at, count, input)
+        }
+        Command::Replace { at, count, input } => {
+            replace(rt, alloc, desk, seat, made, at, count, input)
+        }
+        Command::Delete { at, count } => {
+            make_edit(rt, desk, seat, made, Edit::Delete { at, count })
+        }
+        Command::Length => {
+            let len = match own_len(desk, seat, made) {
+                Ok(len) => len,
+                Err(fault) => return Err(fault),
+            };
+            let reply = Reply::Measured { at: made, len };
+            Ok(Answered { reply, made })
+        }
+        Command::InputAt { frame } => looked(show_input(desk, seat, made, frame), made),
+        Command::Shot { frame } => looked(draw(alloc, desk, seat, made, frame), made),
+        Command::Work { frame } => {
+            let reply = work(rt, alloc, desk, seat, frame);
+            Ok(Answered { reply, made })
+        }
+    }
+}

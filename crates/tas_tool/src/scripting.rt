@@ -1,0 +1,125 @@
+//! `tas script`.
+
+ghost use Rattle.std.specs.Prelude.{◌≡◌, []};
+ghost use Rattle.tas_desk.specs.Seats.{name_of};
+ghost use Rattle.tas_tool.specs.Turns.{front_of, BeginsWithOwn};
+ghost use Rattle.tas_tool.specs.Scripts.{start_front, Answers, RunsScript, IsScriptRun};
+
+use crate::answering::answer_command;
+use std::alloc::Allocator;
+use std::io::{Read, Write};
+use std::marker::Brand;
+use std::sync::Wait;
+use tas_desk::{CloseOnDrop, Desk, Name, OpenError, Seat, Unopened};
+use tas_engines::{RunFault, ToolFault, read_input, write_all};
+use tas_script::{parse_line, reply_line, split_once};
+
+/// Does what the lines ask for, as a seat that has made no edit, and puts the replies into the empty text.
+fn answer_lines<N: Name, W: CloseOnDrop, A: Allocator + Copy, R: Wait>(
+    rt: &R,
+    alloc: A,
+    desk: &Desk<N, W, A>,
+    seat: &mut Seat<N, A>,
+    bytes: &[u8],
+    text: &mut Vec<u8, A>,
+) -> Result<(), RunFault>
+    requires own { BeginsWithOwn seat.old }
+    requires fresh { seat.old.made ≡ 0 }
+    requires empty { text.old.items ≡ [] }
+    ensures { Answers A (front_of seat.old) bytes.now text.new.items result }
+{
+    let mut rest = bytes;
+    let mut number = 1;
+    let mut made = 0;
+    while 0 < rest.len() {
+        let Some((line, after)) = split_once(rest, b'\n') else {
+            return Err(RunFault::Script { line: number });
+        };
+        let Some(command) = parse_line(line) else {
+            return Err(RunFault::Script { line: number });
+        };
+        let answered = match answer_command(rt, alloc, desk, seat, made, command) {
+            Ok(answered) => answered,
+            Err(fault) => return Err(fault),
+        };
+        let Ok(words) = reply_line(alloc, answered.reply) else {
+            return Err(RunFault::Memory);
+        };
+        let Ok(()) = text.extend_from_slice(words.as_slice()) else {
+            return Err(RunFault::Memory);
+        };
+        made = answered.made;
+        rest = after;
+        number += 1;
+    }
+    Ok(())
+}
+
+/// Does what the lines ask for on a desk of one seat, and puts the replies into the empty text.
+fn answer_script<N: Name, A: Allocator + Copy, R: Wait>(
+    rt: &R,
+    alloc: A,
+    unopened: Unopened<A>,
+    bytes: &[u8],
+    text: &mut Vec<u8, A>,
+) -> Result<(), RunFault>
+    requires name { unopened ≡ name_of N.registry N.name N.seats }
+    requires one { unopened.seats ≡ 1 }
+    requires empty { text.old.items ≡ [] }
+    ensures { Answers A start_front bytes.now text.new.items result }
+{
+    let (desk, mut seats) = match Desk::<N, &R, A>::open(rt, alloc, unopened) {
+        Ok(opened) => opened,
+        Err(OpenError::Memory) => return Err(RunFault::Memory),
+        Err(OpenError::NoPlace) => return Err(RunFault::NoPlace),
+    };
+    let seat = &mut seats.as_mut_slice()[0];
+    answer_lines(rt, alloc, &desk, seat, bytes, text)
+}
+
+/// Writes a reply for each line of a script.
+fn run_script<A: Allocator + Copy, R: Wait, W: Write>(
+    rt: &R,
+    alloc: A,
+    bytes: &[u8],
+    output: &mut W,
+) -> Result<(), RunFault>
+    ensures { RunsScript A bytes.now (W.contents output.old) (W.contents output.new) result }
+{
+    let unopened = match Unopened::new(alloc, 1) {
+        Ok(unopened) => unopened,
+        Err(OpenError::Memory) => return Err(RunFault::Memory),
+        Err(OpenError::NoPlace) => return Err(RunFault::NoPlace),
+    };
+    let mut text = Vec::new(alloc);
+    let end = answer_script::<Brand, A, R>(rt, alloc, unopened, bytes, &mut text);
+    match write_all(output, text.as_slice()) {
+        Ok(()) => {}
+        Err(fault) => return Err(fault),
+    }
+    end
+}
+
+/// Reads a script and writes a reply for each of its lines, up to the first line that isn't understood (own). The script
+/// runs on a desk of one seat.
+///
+/// Faults: those of [`read_input`] with nothing written; `NoPlace` with nothing written; `Script` with the line's number,
+/// `NoEntry`, `Foreign` where a reply doesn't stand at just the script's own edits, and `Memory`, with the replies to the
+/// lines before written; `Write` with the first bytes of the replies written, and how many.
+pub fn script_run<A: Allocator + Copy, T: Wait, R: Read, W: Write>(
+    rt: &T,
+    alloc: A,
+    input: &mut R,
+    output: &mut W,
+) -> Result<(), ToolFault>
+    ensures { IsScriptRun A (R.remaining input.old) (R.remaining input.new) (W.contents output.old) (W.contents output.new) result }
+{
+    let bytes = match read_input(alloc, input) {
+        Ok(bytes) => bytes,
+        Err(fault) => return Err(ToolFault::from(fault)),
+    };
+    match run_script(rt, alloc, bytes.as_slice(), output) {
+        Ok(()) => Ok(()),
+        Err(fault) => Err(ToolFault::from(fault)),
+    }
+}
