@@ -146,6 +146,7 @@ impl<N: Name, W: CloseOnDrop + Wait, A: Allocator + Copy> Desk<N, W, A> {
         unopened: Unopened<A>,
     ) -> Result<(Desk<N, W, A>, Vec<Seat<N, A>, A>), OpenError>
         requires name { unopened ≡ name_of N.registry N.name N.seats }
+        requires named { N.parts ≡ N.seats }
         ensures seats { IfOk result (λ opened. length opened.1.items ≡ unopened.seats) }
         ensures fresh { IfOk result (λ opened. (k : ℕ) → k < unopened.seats → slice_get opened.1.items k ≡ Some (seat_of k 0 [] (blank_zone N.registry))) }
     {

@@ -64,6 +64,7 @@ fn answer_script<N: Name, A: Allocator + Copy, R: Wait>(
     text: &mut Vec<u8, A>,
 ) -> Result<(), RunFault>
     requires name { unopened ≡ name_of N.registry N.name N.seats }
+    requires named { N.parts ≡ N.seats }
     requires one { unopened.seats ≡ 1 }
     requires empty { text.old.items ≡ [] }
     ensures { Answers A start_front bytes.now text.new.items result }
