@@ -96,7 +96,8 @@ fn play_at<N: Name + Send + Sync, R: Threads + Wait + Abort + Sync>(
     unopened: Unopened,
     task: Task<'_>,
 ) -> Result<(Closed, Vec<Notes>), Fail>
-    requires { unopened ≡ name_of N.registry N.name N.seats }
+    requires name { unopened ≡ name_of N.registry N.name N.seats }
+    requires named { N.parts ≡ N.seats }
 {
     let (desk, seats) = Desk::<N, &R>::open(rt, alloc, unopened).map_err(|_| AllocError)?;
     let (seats, notes) = take(rt, alloc, &desk, seats, task)?;
