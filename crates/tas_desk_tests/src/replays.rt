@@ -212,7 +212,7 @@ fn at_front(
     notes: &Notes,
     from: usize,
 ) -> Result<(usize, bool), AllocError> {
-    let mut count = 0;
+    let mut count = 0usize;
     for note in notes.notes.iter().skip(from) {
         if note.at != front.len() as u64 {
             break;
@@ -220,7 +220,7 @@ fn at_front(
         if !is_right(alloc, front, movie, notes.seat, &note.told)? {
             return Ok((count, false));
         }
-        count += 1;
+        count = count.saturating_add(1);
     }
     Ok((count, true))
 }
