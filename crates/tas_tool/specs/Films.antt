@@ -1,13 +1,12 @@
 -- What `tas export` writes, and why it ends without it (own).
-use Rattle.std.specs.Prelude.{◌≡◌, ℕ, ◌-◌, ◌<◌, List, length, Result, Ok, Err, ◌⊎◌}
+use Rattle.std.specs.Prelude.{◌≡◌, ℕ, ◌-◌, List, length, Result, Ok, Err, ◌⊎◌}
 use Rattle.vcs_cpu.specs.declared.halt.Halt.TheVariants.{Undocumented}
 use Rattle.tas_movie.specs.Content.{MovieContent}
 use Rattle.tas_desk.specs.Exports.{IsInRange}
 use Rattle.tas_desk.specs.Frames.{AllDrawn, IsLeastHalted, pixmaps_of}
-use Rattle.tas_desk.specs.Seats.{SeatContent}
 use Rattle.tas_engines.specs.Movies.{IsMovieOf, IsMovieFault}
 use Rattle.tas_engines.specs.declared.fault.RunFault.{RunFault}
-use Rattle.tas_engines.specs.declared.fault.RunFault.TheVariants.{Range, Halted, NoPlace, Foreign, Memory}
+use Rattle.tas_engines.specs.declared.fault.RunFault.TheVariants.{Range, Halted, NoPlace, Memory}
 
 -- the frames from `from` to the one before `to` are few enough and not halted, and these are their pixmaps, one after the other
 pub record IsFilm (movie : MovieContent) (from to : ℕ) (bytes : List ℕ) : Type 0 where

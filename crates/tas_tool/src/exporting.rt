@@ -6,7 +6,7 @@ ghost use Rattle.tas_desk.specs.Seats.{name_of};
 ghost use Rattle.tas_engines.specs.Movies.{IsMovieRun};
 ghost use Rattle.tas_engines.specs.Output.{Ends};
 ghost use Rattle.tas_tool.specs.Films.{IsFilmAnswer, IsExportAnswer};
-ghost use Rattle.tas_tool.specs.TwoEdits.{edit_fault, HoldsMovie, IsMakingFault, StandsAtOwn};
+ghost use Rattle.tas_tool.specs.TwoEdits.{edit_fault, own_end, HoldsMovie, IsMakingFault, StandsAtOwn};
 
 use crate::answering::OpenGate;
 use std::alloc::{AllocError, Global};
@@ -64,7 +64,9 @@ fn make_movie<N: Name, W: CloseOnDrop, R: Wait>(
 }
 
 /// An answer that stands at the two edits of [`make_movie`].
-fn at_own(at: u64, end: Result<(), RunFault>) -> Result<(), RunFault> {
+fn at_own(at: u64, end: Result<(), RunFault>) -> Result<(), RunFault>
+    ensures { result ≡ own_end at end }
+{
     if at == 2 {
         end
     } else {
