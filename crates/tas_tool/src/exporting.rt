@@ -54,8 +54,9 @@ fn make_movie<N: Name, W: CloseOnDrop, R: Wait>(
     ensures made { OnOk result (HoldsMovie seat.new (record { cart = cart; inputs = inputs })) }
     ensures fault { IfErr result (IsMakingFault seat.new) }
 {
-    if let Err(error) = desk.edit(rt, seat, Edit::Load(cart)) {
-        return Err(edit_fault(error));
+    match desk.edit(rt, seat, Edit::Load(cart)) {
+        Ok(_) => {}
+        Err(error) => return Err(edit_fault(error)),
     }
     match desk.edit(rt, seat, Edit::Insert { at: 0, inputs }) {
         Ok(_) => Ok(()),
