@@ -14,7 +14,7 @@ use Rattle.tas_green.specs.declared.savestate.Savestate.{Savestate}
 use Rattle.tas_desk.specs.declared.drawing.HaltedFrame.{HaltedFrame}
 use Rattle.tas_desk.specs.declared.runs.Plan.{Plan}
 use Rattle.tas_desk.specs.declared.runs.RunEnd.{RunEnd}
-use Rattle.tas_desk.specs.Frames.{Shows, pictures_of, pixmaps_of}
+use Rattle.tas_desk.specs.Frames.{AllDrawn, Shows, pictures_of, pixmaps_of}
 use Rattle.tas_desk.specs.Runs.{first_of_run, AreRunsEnd}
 use Rattle.tas_desk.proofs.RunLemmas.{begins}
 
@@ -66,6 +66,16 @@ pixmaps_is movie from n ps is = ap (flat_map ppm_bytes) is ∙ flat_map-map ppm_
 all_shown : (movie : MovieContent) (first from n : ℕ) (ps : List (List ℕ)) (h : Option HaltedFrame) → first ≡ from → length ps ≡ n → h ≡ None → Shows movie first ps h → ps ≡ pictures_of movie from n
 all_shown movie first from n ps None at size none shown = shown.are ∙ ap (pictures_of movie first) size ∙ ap (λ (k : ℕ). pictures_of movie k n) at
 all_shown movie first from n ps (Some x) at size none shown = absurd cc
+
+-- where no frame was halted, all are drawn
+none_halted : (movie : MovieContent) (first from to : ℕ) (ps : List (List ℕ)) (h : Option HaltedFrame) → first ≡ from → length ps ≡ to - from → h ≡ None → Shows movie first ps h → AllDrawn movie from to
+none_halted movie first from to ps None at size none shown = λ f above below. shown.all f (omega (arith, at, above)) (omega (arith, at, size, above, below))
+none_halted movie first from to ps (Some x) at size none shown = absurd cc
+
+pub runs_drawn : (movie : MovieContent) (plan : Plan) (zone : List Savestate) (old new : List (List ℕ)) (n : ℕ) (end : RunEnd) → AreRunsEnd movie zone plan 0 old new end → end.halted ≡ None → length old ≡ n → n ≡ plan.to - plan.from
+    → AllDrawn movie plan.from plan.to
+runs_drawn movie plan zone old new n end runs none size count =
+    none_halted movie (first_of_run plan 0) plan.from plan.to new end.halted (begins plan) (runs.len ∙ size ∙ count) none runs.shows
 
 -- a list that was written back whole
 written_back : (new rest out : List (List ℕ)) (n : ℕ) → out ≡ take n (new ++ rest) → length new ≡ n → out ≡ new

@@ -8,7 +8,7 @@ use Rattle.tas_desk.specs.declared.export.Exported.{Exported}
 use Rattle.tas_desk.specs.declared.export.ExportError.{ExportError}
 use Rattle.tas_desk.specs.declared.export.ExportError.TheVariants.{Range, Memory, Halted, Write}
 use Rattle.tas_desk.specs.declared.runs.Plan.{Plan}
-use Rattle.tas_desk.specs.Frames.{IsDrawn, IsLeastHalted, pixmaps_of}
+use Rattle.tas_desk.specs.Frames.{AllDrawn, IsLeastHalted, pixmaps_of}
 use Rattle.tas_desk.specs.Runs.{costs}
 use Rattle.tas_desk.specs.Exporting.{BrokeOff}
 use Rattle.tas_desk.specs.Zones.{ZoneContent}
@@ -28,7 +28,7 @@ pub record IsInRange (len from to : ℕ) : Type 0 where
 pub record IsExported {A : Type 0} (zone : ZoneContent A) (movie : MovieContent) (plan : Plan) (old new : Option (List ℕ)) (played : ℕ) : Type 0 where
   pub range : IsInRange (length movie.inputs) plan.from plan.to
   pub written : Appends old new (pixmaps_of movie plan.from (plan.to - plan.from))
-  pub drawn : (f : ℕ) → plan.from ≤ f → f < plan.to → IsDrawn movie f
+  pub drawn : AllDrawn movie plan.from plan.to
   pub left : List Savestate
   pub moved : IsMoved zone.movie movie zone.states left
   pub cost : played ≡ costs left plan 0 plan.workers
@@ -39,7 +39,7 @@ IsExport zone movie edits plan old new (Ok exported) = (exported.at ≡ edits) �
 IsExport zone movie edits plan old new (Err (Range at len)) = (at ≡ edits) × (len ≡ length movie.inputs) × (IsInRange (length movie.inputs) plan.from plan.to → ⊥) × (new ≡ old)
 IsExport zone movie edits plan old new (Err Memory) = IsInRange (length movie.inputs) plan.from plan.to × (new ≡ old)
 IsExport zone movie edits plan old new (Err (Halted at frame halt)) = (at ≡ edits) × IsInRange (length movie.inputs) plan.from plan.to × IsLeastHalted movie plan.from plan.to (record { frame = frame; halt = halt }) × (new ≡ old)
-IsExport zone movie edits plan old new (Err (Write written error)) = IsInRange (length movie.inputs) plan.from plan.to × BrokeOff old new (pixmaps_of movie plan.from (plan.to - plan.from)) written
+IsExport zone movie edits plan old new (Err (Write written error)) = IsInRange (length movie.inputs) plan.from plan.to × AllDrawn movie plan.from plan.to × BrokeOff old new (pixmaps_of movie plan.from (plan.to - plan.from)) written
 
 -- a copy of a movie that so many edits made, where it has these frames
 abbrev pub FoundRange : MovieContent → ℕ → ℕ → ℕ → Result (ℕ × MovieContent) ExportError → Type 0

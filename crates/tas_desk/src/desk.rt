@@ -12,6 +12,7 @@ ghost use Rattle.tas_desk.specs.History.{movie_of, IsLegal};
 ghost use Rattle.tas_desk.specs.Shots.{IsShotAt};
 ghost use Rattle.tas_desk.specs.Zones.{IsShared, IsShort, blank_zone};
 ghost use Rattle.tas_green.specs.Grid.{most_states};
+ghost use Rattle.tas_desk.specs.Closing.{made_by};
 ghost use Rattle.tas_desk.specs.Seats.{name_of, seat_of, HasSeen, HasLooked, IsZoneShot, IsEdited, IsWhole, IsSettled, IsInput};
 ghost use Rattle.tas_desk.specs.Work.{IsJobOf, IsTaken};
 
@@ -122,12 +123,13 @@ impl<N: Name, W: CloseOnDrop, A: Allocator> Desk<N, W, A> {
     }
 
     /// Ends the desk, with all its seats, for which [`Desk::whole`] is the test. It answers the movie and the history that made it,
-    /// in which each seat has just as many entries as edits that it made.
+    /// in which each seat has just as many entries as edits that it made, and nobody else has any.
     pub fn close<R: Wait>(self, rt: &R, seats: Vec<Seat<N, A>, A>) -> Closed<A>
         requires named { N.parts ≡ N.seats }
         requires whole { IsWhole N.seats seats.items }
         ensures movie { result.movie ≡ movie_of result.journal.items }
         ensures legal { IsLegal result.journal.items }
+        ensures count { length result.journal.items ≡ made_by seats.items }
         ensures seats { All (IsSettled result.journal.items) seats.items }
     {
         let Desk { locked, seats: _ } = self;

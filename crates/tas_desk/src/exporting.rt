@@ -5,7 +5,7 @@ ghost use Rattle.std.specs.List.{flat_map};
 ghost use Rattle.std.specs.Io.KnownBytes.{Appends};
 ghost use Rattle.vcs_tia.specs.Image.{ppm_bytes};
 ghost use Rattle.tas_green.specs.Green.{IsLawful};
-ghost use Rattle.tas_desk.specs.Frames.{IsDrawn, pixmaps_of};
+ghost use Rattle.tas_desk.specs.Frames.{AllDrawn, pixmaps_of};
 ghost use Rattle.tas_desk.specs.Runs.{IsPlan, costs};
 ghost use Rattle.tas_desk.specs.Exporting.{IsExportFault};
 
@@ -89,7 +89,7 @@ pub fn export_frames<R: Threads + Sync, G: Gate + Sync, W: Write>(
     requires plan { IsPlan movie.now plan }
     ensures ok { OnOk result (Appends (W.contents to.old) (W.contents to.new)
         (pixmaps_of movie.now plan.from (plan.to - plan.from))) }
-    ensures drawn { OnOk result ((f : ℕ) → plan.from ≤ f → f < plan.to → IsDrawn movie.now f) }
+    ensures drawn { OnOk result (AllDrawn movie.now plan.from plan.to) }
     ensures played { IfOk result (λ played. played ≡ costs zone.now plan 0 plan.workers) }
     ensures fault { IfErr result (IsExportFault movie.now plan (W.contents to.old) (W.contents to.new)) }
 {

@@ -10,6 +10,7 @@ ghost use Rattle.tas_desk.specs.Zones.{IsShared};
 ghost use Rattle.tas_desk.specs.Exports.{FoundRange};
 ghost use Rattle.tas_desk.specs.Work.{IsJobOf, IsTaken};
 ghost use Rattle.tas_green.specs.Grid.{most_states};
+ghost use Rattle.tas_desk.specs.Closing.{made_by};
 ghost use Rattle.tas_desk.specs.Seats.{seat_of, entry_of, IsWhole, IsSettled};
 
 use crate::export::{ExportError, is_in_range};
@@ -98,6 +99,7 @@ impl<N: Name, W: CloseOnDrop, A: Allocator> LockedSession<N, W, A> {
         ensures journal { result.journal.items ≡ self }
         ensures movie { result.movie ≡ movie_of self }
         ensures legal { IsLegal self }
+        ensures count { length self ≡ made_by seats.items }
         ensures seats { All (IsSettled self) seats.items }
     {
         let LockedSession {

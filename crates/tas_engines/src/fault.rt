@@ -37,7 +37,16 @@ pub enum RunFault {
         /// The movie's length in frames.
         len: usize,
     },
-    /// The machine is halted in the frame that was asked for.
+    /// The movie hasn't the frames that were asked for, or they are too many for one export.
+    Range {
+        /// The first frame, counted from 0.
+        from: usize,
+        /// The frame behind the last one.
+        to: usize,
+        /// The movie's length in frames.
+        len: usize,
+    },
+    /// The machine is halted in the frame that was asked for, or in one of them; this is the least one's halt.
     Halted {
         /// The address of the undocumented byte.
         at: u16,
@@ -90,7 +99,18 @@ pub enum ToolFault {
         /// The movie's length in frames.
         len: usize,
     },
-    /// The machine is halted in the frame that was asked for. Nothing was written.
+    /// The movie hasn't the frames that were asked for, or they are too many for one export. Nothing was written.
+    #[error("fault: range {from} to {to} of {len}")]
+    Range {
+        /// The first frame, counted from 0.
+        from: usize,
+        /// The frame behind the last one.
+        to: usize,
+        /// The movie's length in frames.
+        len: usize,
+    },
+    /// The machine is halted in the frame that was asked for, or in one of them; this is the least one's halt. Nothing was
+    /// written.
     #[error("fault: halted at {at:04X} by {opcode:02X}")]
     Halted {
         /// The address of the undocumented byte.
@@ -140,6 +160,7 @@ impl From<RunFault> for ToolFault {
             RunFault::Size(len) => ToolFault::Size(len),
             RunFault::Text(error) => ToolFault::Text(error),
             RunFault::NoFrame { frame, len } => ToolFault::NoFrame { frame, len },
+            RunFault::Range { from, to, len } => ToolFault::Range { from, to, len },
             RunFault::Halted { at, opcode } => ToolFault::Halted { at, opcode },
             RunFault::Script { line } => ToolFault::Script { line },
             RunFault::NoPlace => ToolFault::NoPlace,

@@ -20,6 +20,6 @@ pub use checking::check_run;
 pub use fault::{ReadFault, RunFault, ToolFault};
 pub use movies::movie_of;
 pub use reading::{INPUT_LIMIT, read_input, read_two};
-pub use shooting::shot_run;
+pub use shooting::{halt_fault, shot_run};
 pub use tracing::trace_run;
 pub use writing::write_all;

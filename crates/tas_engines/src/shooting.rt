@@ -14,7 +14,7 @@ use vcs_machine::Meter;
 use vcs_tia::{Picture, ppm};
 
 /// The fault that tells a halt.
-fn halt_fault(halt: Halt) -> RunFault
+pub fn halt_fault(halt: Halt) -> RunFault
     ensures { result ≡ halt_fault halt }
 {
     match halt {

@@ -277,6 +277,14 @@ fn faults_read_as_their_lines(rt: HostRuntime) -> Result<(), Fail> {
             "fault: no frame 1 of 1",
         ),
         (
+            ToolFault::Range {
+                from: 0,
+                to: 2,
+                len: 1,
+            },
+            "fault: range 0 to 2 of 1",
+        ),
+        (
             ToolFault::Halted {
                 at: 0xf00d,
                 opcode: 2,

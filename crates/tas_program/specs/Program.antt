@@ -8,12 +8,13 @@ use Rattle.tas_engines.specs.Movies.{IsCheckAnswer, IsShotAnswer, IsMovieRun}
 use Rattle.tas_engines.specs.Output.{StopsWriting}
 use Rattle.tas_engines.specs.Tracing.{IsTraceRun}
 use Rattle.tas_tool.specs.Scripts.{IsScriptRun}
+use Rattle.tas_tool.specs.Films.{IsExportAnswer}
 use Rattle.tas_program.specs.declared.request.Request.{Request}
 use Rattle.tas_program.specs.declared.request.Request.TheVariants.{Do, Show, Refuse, NoMemory}
 use Rattle.tas_program.specs.declared.status.Status.{Status}
 use Rattle.tas_program.specs.declared.status.Status.TheVariants.{Done, Fault, Misuse}
 use Rattle.tas_program.specs.declared.task.Task.{Task}
-use Rattle.tas_program.specs.declared.task.Task.TheVariants.{Trace, Check, Shot, Script}
+use Rattle.tas_program.specs.declared.task.Task.TheVariants.{Trace, Check, Shot, Script, Export}
 use Rattle.tas_program.specs.Task.{IsInRange}
 
 -- the number that the system is told
@@ -46,6 +47,8 @@ DoesTask A files (Check cart) old new end =
 DoesTask A files (Shot cart k) old new end =
     EndsOver (files cart.now) (λ file left. IsMovieRun (IsShotAnswer k) file left old.input new.input old.output new.output end) old new end
 DoesTask A files Script old new end = IsScriptRun A old.input new.input old.output new.output end
+DoesTask A files (Export cart from to workers) old new end =
+    EndsOver (files cart.now) (λ file left. IsMovieRun (IsExportAnswer from to) file left old.input new.input old.output new.output end) old new end
 
 -- the program's end after a task: done where the task is, else a fault
 abbrev pub TaskEnds : Type 0 → (List ℕ → Option (List ℕ)) → Task → Streams → Streams → Status → Type 0

@@ -1,7 +1,7 @@
 -- The commands' names and the ranges of their numbers (own).
 use Rattle.std.specs.Prelude.{ℕ, ◌≤◌, List, codes}
 use Rattle.tas_program.specs.declared.task.Task.{Task}
-use Rattle.tas_program.specs.declared.task.Task.TheVariants.{Trace, Check, Shot, Script}
+use Rattle.tas_program.specs.declared.task.Task.TheVariants.{Trace, Check, Shot, Script, Export}
 
 -- the word that names a command
 abbrev pub command_name : Task → List ℕ
@@ -9,6 +9,7 @@ command_name (Trace instructions) = codes "trace"
 command_name (Check cart) = codes "check"
 command_name (Shot cart frame) = codes "shot"
 command_name Script = codes "script"
+command_name (Export cart from to workers) = codes "export"
 
 -- the numbers that the commands take
 abbrev pub IsInRange : Task → Type 0
@@ -16,3 +17,4 @@ IsInRange (Trace instructions) = instructions ≤ 1000000
 IsInRange (Check cart) = Unit {0}
 IsInRange (Shot cart frame) = frame ≤ 9999999
 IsInRange Script = Unit {0}
+IsInRange (Export cart from to workers) = (from ≤ 9999999) × (to ≤ 9999999) × (1 ≤ workers) × (workers ≤ 16)

@@ -5,6 +5,7 @@ ghost use Rattle.std.specs.Io.KnownBytes.{Appends};
 ghost use Rattle.tas_engines.specs.declared.fault.RunFault.{RunFault};
 ghost use Rattle.tas_engines.specs.Movies.{IsMovieRun, IsCheckAnswer, IsShotAnswer};
 ghost use Rattle.tas_engines.specs.Output.{StopsWriting};
+ghost use Rattle.tas_tool.specs.Films.{IsExportAnswer};
 ghost use Rattle.tas_program.specs.Program.{EndsOver, DoesTask, CarriesOut, ProgramEnds, end_status};
 ghost use Rattle.std.specs.Global.{Global};
 
@@ -15,8 +16,9 @@ use std::env::Args;
 use std::io;
 use std::io::{Read, Write};
 use std::sync::Wait;
+use std::thread::Threads;
 use tas_engines::write_all;
-use tas_tool::{ToolFault, check_run, script_run, shot_run, trace_run};
+use tas_tool::{ToolFault, check_run, export_run, script_run, shot_run, trace_run};
 
 /// Opens the file of a cartridge.
 fn open_cart<F: Folder>(folder: &F, name: &str) -> Result<F::File, ToolFault>
@@ -68,17 +70,40 @@ fn shoot_file<A: Allocator + Copy, F: Folder, R: Read, W: Write>(
     }
 }
 
+/// `tas export` of some frames, with the cartridge in a file.
+fn export_file<T: Wait + Threads + Sync, F: Folder, R: Read, W: Write>(
+    rt: &T,
+    alloc: Global,
+    cart: &str,
+    range: (usize, usize),
+    workers: usize,
+    folder: &F,
+    input: &mut R,
+    output: &mut W,
+) -> Result<(), ToolFault>
+    ensures { EndsOver (F.bytes_of folder.now cart.now)
+        (λ file left. IsMovieRun (IsExportAnswer range.0 range.1) file left (R.remaining input.old) (R.remaining input.new) (W.contents output.old) (W.contents output.new) result)
+        (record { input = R.remaining input.old; output = W.contents output.old })
+        (record { input = R.remaining input.new; output = W.contents output.new }) result }
+{
+    let (from, to) = range;
+    match open_cart(folder, cart) {
+        Ok(mut file) => export_run(rt, alloc, from, to, workers, &mut file, input, output),
+        Err(fault) => Err(fault),
+    }
+}
+
 /// Does a task by its engine: the file that it names is opened first, a failure being `Read`, then
 /// the engine reads it and the input, and writes its answer to the output.
-pub fn run_task<A: Allocator + Copy, T: Wait, F: Folder, R: Read, W: Write>(
+pub fn run_task<T: Wait + Threads + Sync, F: Folder, R: Read, W: Write>(
     rt: &T,
-    alloc: A,
+    alloc: Global,
     task: Task<'_>,
     folder: &F,
     input: &mut R,
     output: &mut W,
 ) -> Result<(), ToolFault>
-    ensures { DoesTask A (F.bytes_of folder.now) task.entry
+    ensures { DoesTask Global (F.bytes_of folder.now) task.entry
         (record { input = R.remaining input.old; output = W.contents output.old })
         (record { input = R.remaining input.new; output = W.contents output.new }) result }
 {
@@ -89,6 +114,15 @@ pub fn run_task<A: Allocator + Copy, T: Wait, F: Folder, R: Read, W: Write>(
             shoot_file(alloc, cart, frame as usize, folder, input, output)
         }
         Task::Script => script_run(rt, alloc, input, output),
+        Task::Export {
+            cart,
+            from,
+            to,
+            workers,
+        } => {
+            let range = (from as usize, to as usize);
+            export_file(rt, alloc, cart, range, workers as usize, folder, input, output)
+        }
     }
 }
 
@@ -119,16 +153,16 @@ fn show<W: Write>(output: &mut W, text: &str) -> Result<(), ToolFault>
 
 /// Carries a request out, and answers the program's status: 0 where it was done, 1 after a fault, whose
 /// line is written to `errors`, and 2 where the words weren't understood, whose text goes there too.
-pub fn carry_out<A: Allocator + Copy, T: Wait, F: Folder, R: Read, W: Write, E: Write>(
+pub fn carry_out<T: Wait + Threads + Sync, F: Folder, R: Read, W: Write, E: Write>(
     rt: &T,
-    alloc: A,
+    alloc: Global,
     request: Request<'_>,
     folder: &F,
     input: &mut R,
     output: &mut W,
     errors: &mut E,
 ) -> Status
-    ensures { CarriesOut A (F.bytes_of folder.now) request.entry
+    ensures { CarriesOut Global (F.bytes_of folder.now) request.entry
         (record { input = R.remaining input.old; output = W.contents output.old })
         (record { input = R.remaining input.new; output = W.contents output.new }) result }
 {
@@ -144,7 +178,7 @@ pub fn carry_out<A: Allocator + Copy, T: Wait, F: Folder, R: Read, W: Write, E: 
 }
 
 /// The whole program: reads the words, the first of which is its name, and does what they ask for.
-pub fn run_program<T: Wait, F: Folder, R: Read, W: Write, E: Write>(
+pub fn run_program<T: Wait + Threads + Sync, F: Folder, R: Read, W: Write, E: Write>(
     rt: &T,
     alloc: Global,
     words: io::Result<Args>,

@@ -6,6 +6,9 @@ pub const MAX_INSTRUCTIONS: u32 = 1_000_000;
 /// The greatest number of a frame (own).
 pub const MAX_FRAME: u32 = 9_999_999;
 
+/// The most workers of one export (own).
+pub const MAX_WORKERS: u32 = 16;
+
 /// A command with its words.
 #[derive(Clone, Copy, Debug, PartialEq, Eq)]
 pub enum Task<'a> {
@@ -28,4 +31,15 @@ pub enum Task<'a> {
     },
     /// Run the script on standard input.
     Script,
+    /// Draw some frames of the movie on standard input.
+    Export {
+        /// The name of the cartridge's file.
+        cart: &'a str,
+        /// The first frame, counted from 0, up to 9,999,999.
+        from: u32,
+        /// The frame behind the last one, up to 9,999,999.
+        to: u32,
+        /// How many workers play them, 1 to 16.
+        workers: u32,
+    },
 }

@@ -104,7 +104,7 @@ static ONE_FRAME: &[u8] =
     b"a26movie 1\ncart 820c64e9933496de683a000c5e11f0510fb7b1699b2ce86471295236b284906d\n..... ..... .....\n";
 
 /// Words that name a task, and the task.
-static TASKS: [(&[&str], Task<'static>); 8] = [
+static TASKS: [(&[&str], Task<'static>); 10] = [
     (&["trace", "0"], Task::Trace { instructions: 0 }),
     (&["trace", "3"], Task::Trace { instructions: 3 }),
     (
@@ -136,6 +136,24 @@ static TASKS: [(&[&str], Task<'static>); 8] = [
         },
     ),
     (&["script"], Task::Script),
+    (
+        &["export", "a.bin", "0", "9999999", "1"],
+        Task::Export {
+            cart: "a.bin",
+            from: 0,
+            to: 9_999_999,
+            workers: 1,
+        },
+    ),
+    (
+        &["export", "7", "9999999", "0", "16"],
+        Task::Export {
+            cart: "7",
+            from: 9_999_999,
+            to: 0,
+            workers: 16,
+        },
+    ),
 ];
 
 #[test]
@@ -153,7 +171,7 @@ fn each_command_is_its_task(rt: HostRuntime) -> Result<(), Fail> {
 
 /// Words that are no task: none, an unknown one, too few, too many, numbers past their ranges and
 /// texts that are no numbers, unknown flags.
-static MISUSES: [&[&str]; 22] = [
+static MISUSES: [&[&str]; 31] = [
     &[],
     &[""],
     &["play"],
@@ -176,6 +194,15 @@ static MISUSES: [&[&str]; 22] = [
     &["shot", "game.bin", "0", "1"],
     &["script", "game.bin"],
     &["Trace", "1"],
+    &["export", "game.bin"],
+    &["export", "game.bin", "0", "1"],
+    &["export", "game.bin", "0", "1", "1", "1"],
+    &["export", "0", "1", "1"],
+    &["export", "game.bin", "0", "1", "0"],
+    &["export", "game.bin", "0", "1", "17"],
+    &["export", "game.bin", "10000000", "1", "1"],
+    &["export", "game.bin", "0", "10000000", "1"],
+    &["export", "game.bin", "0", "-1", "1"],
 ];
 
 #[test]
@@ -204,7 +231,7 @@ fn other_words_end_with_status_2(rt: HostRuntime) -> Result<(), Fail> {
 }
 
 /// Words that ask for help, and the beginning of the text.
-static HELPS: [(&[&str], &[u8]); 6] = [
+static HELPS: [(&[&str], &[u8]); 7] = [
     (
         &["--help"],
         b"Replays movies of Atari 2600 cartridges, exactly and from power-on\n\nUsage: tas <COMMAND>\n",
@@ -228,6 +255,10 @@ static HELPS: [(&[&str], &[u8]); 6] = [
     (
         &["script", "--help"],
         b"Edits a movie by a script and writes the replies\n\nUsage: tas script\n",
+    ),
+    (
+        &["export", "--help"],
+        b"Writes the pictures of some frames of a movie, one after the other\n\nUsage: tas export <CART> <FROM> <TO> <WORKERS>\n",
     ),
 ];
 
@@ -280,11 +311,26 @@ fn each_command_writes_its_answer(rt: HostRuntime) -> Result<(), Fail> {
     let stores = image_of(alloc, STORES)?;
     let cart = image_of(alloc, PLAYFIELD)?;
     let picture = playfield_picture(alloc)?;
-    let cases: [(&[&str], &[u8], &[u8]); 4] = [
+    let mut movie = Vec::from_slice(alloc, ONE_FRAME)?;
+    movie.extend_from_slice(b"R.... ..... .....\n")?;
+    let mut film = Vec::from_slice(alloc, picture.as_slice())?;
+    film.extend_from_slice(picture.as_slice())?;
+    let cases: [(&[&str], &[u8], &[u8]); 7] = [
         (&["trace", "3"], stores.as_slice(), TRACE),
         (&["check", "game.bin"], ONE_FRAME, b"ok 1 frames\n"),
         (&["shot", "game.bin", "0"], ONE_FRAME, picture.as_slice()),
         (&["script"], SCRIPT, REPLIES),
+        (
+            &["export", "game.bin", "0", "1", "4"],
+            ONE_FRAME,
+            picture.as_slice(),
+        ),
+        (
+            &["export", "game.bin", "0", "2", "3"],
+            movie.as_slice(),
+            film.as_slice(),
+        ),
+        (&["export", "game.bin", "0", "0", "3"], ONE_FRAME, b""),
     ];
     for (number, (words, input, answer)) in cases.iter().enumerate() {
         let ran = run(&rt, words, cart.as_slice(), input)?;
@@ -300,7 +346,7 @@ fn faults_end_with_status_1(rt: HostRuntime) -> Result<(), Fail> {
     let alloc = rt.alloc();
     let cart = image_of(alloc, PLAYFIELD)?;
     let cart = cart.as_slice();
-    let cases: [(&[&str], &[u8], &[u8], &[u8], &[u8]); 7] = [
+    let cases: [(&[&str], &[u8], &[u8], &[u8], &[u8]); 9] = [
         (
             &["trace", "1"],
             cart,
@@ -342,6 +388,20 @@ fn faults_end_with_status_1(rt: HostRuntime) -> Result<(), Fail> {
             ONE_FRAME,
             b"",
             b"fault: no frame 9999999 of 1\n",
+        ),
+        (
+            &["export", "other.bin", "0", "1", "1"],
+            cart,
+            ONE_FRAME,
+            b"",
+            b"fault: read failed\n",
+        ),
+        (
+            &["export", "game.bin", "0", "2", "1"],
+            cart,
+            ONE_FRAME,
+            b"",
+            b"fault: range 0 to 2 of 1\n",
         ),
         (
             &["script"],

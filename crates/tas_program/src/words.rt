@@ -4,7 +4,7 @@ ghost use Rattle.std.specs.Prelude.{◌≡◌, ◌≤◌, IfOk, IfSome, Some};
 ghost use Rattle.clap.specs.Matches.{subcommand_name_of};
 ghost use Rattle.tas_program.specs.Task.{IsInRange, command_name};
 
-use crate::{MAX_FRAME, MAX_INSTRUCTIONS, Task};
+use crate::{MAX_FRAME, MAX_INSTRUCTIONS, MAX_WORKERS, Task};
 use clap::error::ErrorKind;
 use clap::{Arg, ArgAction, ArgMatches, Command, Error, value_parser};
 use std::alloc::{AllocError, Global};
@@ -70,6 +70,17 @@ ends the script.
 Example:
   tas script < examples/edits.script";
 
+static EXPORT_HELP: &str = "\
+Standard input is the movie text, as for 'tas check'.
+Standard output is the pictures of the frames FROM to TO - 1, each as for 'tas shot', one after the
+other; they are at most 1024. The movie is replayed from power-on by WORKERS threads, which share the
+frames; the pictures are the same for every number of them. Nothing is written before all are there.
+
+Example:
+  examples/cart joystick > joystick.bin
+  tas export joystick.bin 0 120 4 < examples/joystick.movie |
+    ffmpeg -f image2pipe -framerate 60 -c:v ppm -i - film.mp4";
+
 static TAS_HELP: &str = "\
 Each command reads standard input whole before it writes anything to standard output.
 Status: 0 done, 1 a fault (one line on standard error), 2 words that aren't understood.";
@@ -112,6 +123,35 @@ fn script_command<'a>(alloc: Global) -> Command<'a> {
         .after_help(SCRIPT_HELP)
 }
 
+/// `tas export`.
+fn export_command<'a>(alloc: Global) -> Result<Command<'a>, AllocError> {
+    Command::new(alloc, "export")
+        .about("Writes the pictures of some frames of a movie, one after the other")
+        .after_help(EXPORT_HELP)
+        .arg(cartridge(alloc))?
+        .arg(number(
+            alloc,
+            "FROM",
+            "The first frame, counted from 0",
+            0,
+            MAX_FRAME,
+        ))?
+        .arg(number(
+            alloc,
+            "TO",
+            "The frame behind the last one",
+            0,
+            MAX_FRAME,
+        ))?
+        .arg(number(
+            alloc,
+            "WORKERS",
+            "How many threads play them, 1 to 16",
+            1,
+            MAX_WORKERS,
+        ))
+}
+
 /// The program's command line.
 fn command<'a>(alloc: Global) -> Result<Command<'a>, AllocError> {
     Command::new(alloc, "tas")
@@ -124,7 +164,8 @@ fn command<'a>(alloc: Global) -> Result<Command<'a>, AllocError> {
         .subcommand(trace_command(alloc)?)?
         .subcommand(check_command(alloc)?)?
         .subcommand(shot_command(alloc)?)?
-        .subcommand(script_command(alloc))
+        .subcommand(script_command(alloc))?
+        .subcommand(export_command(alloc)?)
 }
 
 /// The number of this name, where it is in its range.
@@ -158,6 +199,12 @@ fn task_of<'a>(matches: &ArgMatches<'a>) -> Option<Task<'a>>
             frame: number_of(rest, "K", 0, MAX_FRAME)?,
         }),
         "script" => Some(Task::Script),
+        "export" => Some(Task::Export {
+            cart: rest.get_str("CART")?,
+            from: number_of(rest, "FROM", 0, MAX_FRAME)?,
+            to: number_of(rest, "TO", 0, MAX_FRAME)?,
+            workers: number_of(rest, "WORKERS", 1, MAX_WORKERS)?,
+        }),
         _ => None,
     }
 }

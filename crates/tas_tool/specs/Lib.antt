@@ -2,3 +2,5 @@ pub mod Edits
 pub mod Turns
 pub mod Checking
 pub mod Scripts
+pub mod Films
+pub mod TwoEdits

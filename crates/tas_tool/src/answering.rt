@@ -352,7 +352,7 @@ fn draw<N: Name, W: CloseOnDrop, A: Allocator + Copy>(
 }
 
 /// A gate that stands open.
-struct OpenGate;
+pub struct OpenGate;
 
 impl Gate for OpenGate {
     fn pass(&self, _piece: usize) {}

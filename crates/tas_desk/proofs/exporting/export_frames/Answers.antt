@@ -1,7 +1,7 @@
 use Rattle.std.proofs.Common.{◌≡◌, ◌-◌, ◌<◌, ◌∙◌, ap, subst, ℕ, List, length, get_or, take, rules, arith}
 use Rattle.std.specs.Io.KnownBytes.{Appends}
 use Rattle.tas_desk.specs.Frames.{pictures_of}
-use Rattle.tas_desk.proofs.WriteLemmas.{shown_back, pixmaps_is, pictures_whole}
+use Rattle.tas_desk.proofs.WriteLemmas.{shown_back, runs_drawn, pixmaps_is, pictures_whole}
 use Rattle.tas_desk.proofs.exporting.export_frames.Goals as goal
 
 pub write_pictures-requires-clause-whole : goal.write_pictures-requires-clause-whole
@@ -26,8 +26,10 @@ returns-clause-fault g c =
     let movie = c.args.movie.now in
     let plan = c.args.plan in
     let is = shown_back movie plan c.args.zone.now c.as_mut_slice.result.now c.play_runs-end.new.pictures _ c.as_slice.result.now c.in-Ok.pictures.len c.play_runs-end.result c.play_runs-end.ensures c.in_default-halted.is c.as_slice.ensures.value c.as_mut_slice.ensures.len c.in-Ok.ensures in
-    let all = pixmaps_is movie plan.from (plan.to - plan.from) c.as_slice.result.now is in
-    record {
-      front = subst (Appends _ _) (ap (take c.in-Err.fault.written) all) c.in-Err.ensures.fault;
-      missing = subst (λ (bytes : List ℕ). c.in-Err.fault.written < length bytes) all c.in-Err.ensures.short;
-    }
+    let all = pixmaps_is movie plan.from (plan.to - plan.from) c.as_slice.result.now is in (
+      runs_drawn movie plan c.args.zone.now c.as_mut_slice.result.now c.play_runs-end.new.pictures c.in-Ok.pictures.len c.play_runs-end.result c.play_runs-end.ensures c.in_default-halted.is c.as_mut_slice.ensures.len c.in-Ok.ensures,
+      record {
+        front = subst (Appends _ _) (ap (take c.in-Err.fault.written) all) c.in-Err.ensures.fault;
+        missing = subst (λ (bytes : List ℕ). c.in-Err.fault.written < length bytes) all c.in-Err.ensures.short;
+      },
+    )

@@ -1,8 +1,8 @@
-use Rattle.std.proofs.Common.{◌≡◌, sym, ◌∙◌, List, subst, All, length, arith}
+use Rattle.std.proofs.Common.{◌≡◌, ap, sym, ◌∙◌, List, subst, All, length, arith}
 use Rattle.tas_desk.specs.declared.entry.Entry.{Entry}
 use Rattle.tas_desk.specs.Seats.{IsSettled}
 use Rattle.tas_desk.specs.History.{IsLegal}
-use Rattle.tas_desk.proofs.SeatLemmas.{joins_as, settles, none_left, joined_none}
+use Rattle.tas_desk.proofs.SeatLemmas.{joins_as, settles, counts_all, none_left, joined_none}
 use Rattle.tas_desk.proofs.locked_session.LockedSession.close.Goals as goal
 
 pub loop-seat-preserved : goal.loop-seat-preserved
@@ -17,6 +17,12 @@ returns-clause-seats g c =
     let none : length left ≡ 0 = omega (arith, c.in_default.ensures.cases.0, c.loop-seat.seats.ok.0) in
     subst (λ (l : List (Entry _)). All (IsSettled l) c.args.seats.items) c.self.view_is
     (settles _ _ _ _ _ _ c.requires.whole c.loop-seat.invariant (none_left left none) (λ p. c.audit.ensures.whole (p ∙ sym c.requires.named) ∙ c.self.invariant.1))
+
+pub returns-clause-count : goal.returns-clause-count
+returns-clause-count g c =
+    let left = c.loop-seat.seats.items in
+    let none : length left ≡ 0 = omega (arith, c.in_default.ensures.cases.0, c.loop-seat.seats.ok.0) in
+    ap length (sym c.self.view_is) ∙ counts_all _ _ _ _ _ _ c.requires.whole c.loop-seat.invariant (none_left left none) (λ p. c.audit.ensures.whole (p ∙ sym c.requires.named) ∙ c.self.invariant.1)
 
 pub loop-seat-init : goal.loop-seat-init
 loop-seat-init g c = joined_none _ _ _ _ c.self.invariant.2 c.self.invariant.3

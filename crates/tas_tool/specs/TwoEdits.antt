@@ -1,0 +1,38 @@
+-- A desk's seat that makes a movie by its first two edits (own). Private functions cite this file.
+use Rattle.std.specs.Prelude.{◌≡◌, ℕ, ◌==◌, ◌<◌, ◌≤◌, length, if◌then◌else◌, Result, Ok, Err}
+use Rattle.tas_movie.specs.Content.{MovieContent}
+use Rattle.tas_desk.specs.History.{movie_of}
+use Rattle.tas_desk.specs.Seats.{SeatContent}
+use Rattle.tas_desk.specs.declared.replies.EditError.{EditError}
+use Rattle.tas_desk.specs.declared.replies.EditError.TheVariants.{Memory as NoRoom}
+use Rattle.tas_engines.specs.declared.fault.RunFault.{RunFault}
+use Rattle.tas_engines.specs.declared.fault.RunFault.TheVariants.{Range, Halted, Foreign, Memory}
+
+-- the seat made two edits, and where it has seen no others, its movie is this one
+pub record HoldsMovie {A : Type 0} (seat : SeatContent A) (movie : MovieContent) : Type 0 where
+  pub made : seat.made ≡ 2
+  pub seen : 2 ≤ length seat.front
+  pub own : length seat.front ≡ 2 → movie_of seat.front ≡ movie
+
+-- what a refused edit is told as
+abbrev pub edit_fault : EditError → RunFault
+edit_fault NoRoom = Memory
+edit_fault _ = Foreign
+
+-- an end that stands at so many edits
+abbrev pub own_end : ℕ → Result (Unit {0}) RunFault → Result (Unit {0}) RunFault
+own_end at end = if at == 2 then end else Err Foreign
+
+-- why the two edits weren't made: want of memory, or the seat has seen more edits than its own
+abbrev pub IsMakingFault : {A : Type 0} → SeatContent A → RunFault → Type 0
+IsMakingFault seat Memory = Unit {0}
+IsMakingFault seat Foreign = seat.made < length seat.front
+IsMakingFault seat _ = ⊥
+
+-- an answer that tells of the movie's frames stands at just the seat's own edits, and one that tells of others' edits doesn't
+abbrev pub StandsAtOwn : {A : Type 0} → SeatContent A → Result (Unit {0}) RunFault → Type 0
+StandsAtOwn seat (Ok _) = length seat.front ≡ seat.made
+StandsAtOwn seat (Err (Range from to len)) = length seat.front ≡ seat.made
+StandsAtOwn seat (Err (Halted at opcode)) = length seat.front ≡ seat.made
+StandsAtOwn seat (Err Foreign) = seat.made < length seat.front
+StandsAtOwn seat (Err _) = Unit {0}
