@@ -49,6 +49,16 @@ pub enum RunFault {
         /// The line's number, counted from 1.
         line: usize,
     },
+    /// A line of a script of changes reaches past the movie's last input.
+    EditPlace {
+        /// The line's number, counted from 1.
+        line: usize,
+    },
+    /// A line of a script of changes would make the movie too long.
+    EditLong {
+        /// The line's number, counted from 1.
+        line: usize,
+    },
     /// A desk's seat got no place to read from.
     NoPlace,
     /// A seat's reader got no entry.
@@ -104,6 +114,18 @@ pub enum ToolFault {
         /// The line's number, counted from 1.
         line: usize,
     },
+    /// A line of a script of changes reaches past the movie's last input. Nothing was written.
+    #[error("fault: script line {line}: place")]
+    EditPlace {
+        /// The line's number, counted from 1.
+        line: usize,
+    },
+    /// A line of a script of changes would make the movie too long. Nothing was written.
+    #[error("fault: script line {line}: long")]
+    EditLong {
+        /// The line's number, counted from 1.
+        line: usize,
+    },
     /// A desk's seat got no place to read from. Nothing was written.
     #[error("fault: no place")]
     NoPlace,
@@ -142,6 +164,8 @@ impl From<RunFault> for ToolFault {
             RunFault::NoFrame { frame, len } => ToolFault::NoFrame { frame, len },
             RunFault::Halted { at, opcode } => ToolFault::Halted { at, opcode },
             RunFault::Script { line } => ToolFault::Script { line },
+            RunFault::EditPlace { line } => ToolFault::EditPlace { line },
+            RunFault::EditLong { line } => ToolFault::EditLong { line },
             RunFault::NoPlace => ToolFault::NoPlace,
             RunFault::NoEntry => ToolFault::NoEntry,
             RunFault::Foreign => ToolFault::Foreign,

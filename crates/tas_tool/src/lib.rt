@@ -1,14 +1,15 @@
 //! The engines of the program `tas`: one public function for each command, over any readers and
 //! any writer.
 //!
-//! Those of one movie stand in `tas_engines`, and this crate hands them out; those that edit a movie
-//! stand here.
+//! Those of one movie stand in `tas_engines` and those that change a movie's text in `tas_edit`, and this
+//! crate hands them out; those of a desk stand here.
 #![tactic(auto)]
 
 mod answering;
 mod scripting;
 
 pub use scripting::script_run;
+pub use tas_edit::{diff_run, edit_run};
 pub use tas_engines::{
     INPUT_LIMIT, ReadFault, RunFault, ToolFault, check_run, shot_run, trace_run,
 };
