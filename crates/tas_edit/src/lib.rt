@@ -4,6 +4,8 @@
 
 mod change;
 mod comparing;
+#[cfg(test)]
+mod engine_tests;
 mod making;
 mod running;
 mod scripts;

@@ -8,13 +8,14 @@ use Rattle.tas_engines.specs.Movies.{IsCheckAnswer, IsShotAnswer, IsMovieRun}
 use Rattle.tas_engines.specs.Output.{StopsWriting}
 use Rattle.tas_engines.specs.Tracing.{IsTraceRun}
 use Rattle.tas_tool.specs.Scripts.{IsScriptRun}
+use Rattle.tas_tool.specs.MovieScripts.{IsMovieScriptRun}
 use Rattle.tas_edit.specs.Runs.{IsEditRun, IsDiffRun}
 use Rattle.tas_program.specs.declared.request.Request.{Request}
 use Rattle.tas_program.specs.declared.request.Request.TheVariants.{Do, Show, Refuse, NoMemory}
 use Rattle.tas_program.specs.declared.status.Status.{Status}
 use Rattle.tas_program.specs.declared.status.Status.TheVariants.{Done, Fault, Misuse}
 use Rattle.tas_program.specs.declared.task.Task.{Task}
-use Rattle.tas_program.specs.declared.task.Task.TheVariants.{Trace, Check, Shot, Edit, Diff, Script}
+use Rattle.tas_program.specs.declared.task.Task.TheVariants.{Trace, Check, Shot, Edit, Diff, Script, MovieScript}
 use Rattle.tas_program.specs.Task.{IsInRange}
 
 -- the number that the system is told
@@ -55,6 +56,8 @@ DoesTask A files (Edit cart script) old new end =
 DoesTask A files (Diff cart before) old new end =
     EndsOverTwo (files cart.now) (files before.now) (λ file left file' left'. IsDiffRun A file left file' left' old.input new.input old.output new.output end) old new end
 DoesTask A files Script old new end = IsScriptRun A old.input new.input old.output new.output end
+DoesTask A files (MovieScript cart movie) old new end =
+    EndsOverTwo (files cart.now) (files movie.now) (λ file left file' left'. IsMovieScriptRun A file left file' left' old.input new.input old.output new.output end) old new end
 
 -- the program's end after a task: done where the task is, else a fault
 abbrev pub TaskEnds : Type 0 → (List ℕ → Option (List ℕ)) → Task → Streams → Streams → Status → Type 0

@@ -1,7 +1,7 @@
 -- The commands' names and the ranges of their numbers (own).
 use Rattle.std.specs.Prelude.{ℕ, ◌≤◌, List, codes}
 use Rattle.tas_program.specs.declared.task.Task.{Task}
-use Rattle.tas_program.specs.declared.task.Task.TheVariants.{Trace, Check, Shot, Edit, Diff, Script}
+use Rattle.tas_program.specs.declared.task.Task.TheVariants.{Trace, Check, Shot, Edit, Diff, Script, MovieScript}
 
 -- the word that names a command
 abbrev pub command_name : Task → List ℕ
@@ -11,6 +11,7 @@ command_name (Shot cart frame) = codes "shot"
 command_name (Edit cart script) = codes "edit"
 command_name (Diff cart old) = codes "diff"
 command_name Script = codes "script"
+command_name (MovieScript cart movie) = codes "script"
 
 -- the numbers that the commands take
 abbrev pub IsInRange : Task → Type 0
@@ -20,3 +21,4 @@ IsInRange (Shot cart frame) = frame ≤ 9999999
 IsInRange (Edit cart script) = Unit {0}
 IsInRange (Diff cart old) = Unit {0}
 IsInRange Script = Unit {0}
+IsInRange (MovieScript cart movie) = Unit {0}

@@ -6,6 +6,7 @@ ghost use Rattle.tas_engines.specs.declared.fault.RunFault.{RunFault};
 ghost use Rattle.tas_engines.specs.Movies.{IsMovieRun, IsCheckAnswer, IsShotAnswer};
 ghost use Rattle.tas_engines.specs.Output.{StopsWriting};
 ghost use Rattle.tas_edit.specs.Runs.{IsEditRun, IsDiffRun};
+ghost use Rattle.tas_tool.specs.MovieScripts.{IsMovieScriptRun};
 ghost use Rattle.tas_program.specs.Program.{EndsOver, EndsOverTwo, DoesTask, CarriesOut, ProgramEnds, end_status};
 ghost use Rattle.std.specs.Global.{Global};
 
@@ -17,7 +18,9 @@ use std::io;
 use std::io::{Read, Write};
 use std::sync::Wait;
 use tas_engines::write_all;
-use tas_tool::{ToolFault, check_run, diff_run, edit_run, script_run, shot_run, trace_run};
+use tas_tool::{
+    ToolFault, check_run, diff_run, edit_run, movie_script_run, script_run, shot_run, trace_run,
+};
 
 /// Opens a file of this name.
 fn open_file<F: Folder>(folder: &F, name: &str) -> Result<F::File, ToolFault>
@@ -119,8 +122,34 @@ fn compare_files<A: Allocator + Copy, F: Folder, R: Read, W: Write>(
     }
 }
 
-/// Does a task by its engine: the file that it names is opened first, a failure being `Read`, then
-/// the engine reads it and the input, and writes its answer to the output.
+/// `tas script` from the movie of the cartridge and the text in these files on.
+fn script_files<A: Allocator + Copy, T: Wait, F: Folder, R: Read, W: Write>(
+    rt: &T,
+    alloc: A,
+    cart: &str,
+    other: &str,
+    folder: &F,
+    input: &mut R,
+    output: &mut W,
+) -> Result<(), ToolFault>
+    ensures { EndsOverTwo (F.bytes_of folder.now cart.now) (F.bytes_of folder.now other.now)
+        (λ file left file' left'. IsMovieScriptRun A file left file' left' (R.remaining input.old) (R.remaining input.new)
+        (W.contents output.old) (W.contents output.new) result)
+        (record { input = R.remaining input.old; output = W.contents output.old })
+        (record { input = R.remaining input.new; output = W.contents output.new }) result }
+{
+    let mut cart = match open_file(folder, cart) {
+        Ok(file) => file,
+        Err(fault) => return Err(fault),
+    };
+    match open_file(folder, other) {
+        Ok(mut file) => movie_script_run(rt, alloc, &mut cart, &mut file, input, output),
+        Err(fault) => Err(fault),
+    }
+}
+
+/// Does a task by its engine: the files that it names are opened first, a failure being `Read`, then
+/// the engine reads them and the input, and writes its answer to the output.
 pub fn run_task<A: Allocator + Copy, T: Wait, F: Folder, R: Read, W: Write>(
     rt: &T,
     alloc: A,
@@ -142,6 +171,9 @@ pub fn run_task<A: Allocator + Copy, T: Wait, F: Folder, R: Read, W: Write>(
         Task::Edit { cart, script } => edit_files(alloc, cart, script, folder, input, output),
         Task::Diff { cart, old } => compare_files(alloc, cart, old, folder, input, output),
         Task::Script => script_run(rt, alloc, input, output),
+        Task::MovieScript { cart, movie } => {
+            script_files(rt, alloc, cart, movie, folder, input, output)
+        }
     }
 }
 

@@ -42,4 +42,11 @@ pub enum Task<'a> {
     },
     /// Run the script on standard input.
     Script,
+    /// Run the script on standard input from a movie on.
+    MovieScript {
+        /// The name of the cartridge's file.
+        cart: &'a str,
+        /// The name of the file with the movie's text.
+        movie: &'a str,
+    },
 }

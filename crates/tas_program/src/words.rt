@@ -1,6 +1,6 @@
 //! The words of the command line.
 
-ghost use Rattle.std.specs.Prelude.{◌≡◌, ◌≤◌, IfOk, IfSome, Some};
+ghost use Rattle.std.specs.Prelude.{◌≡◌, ◌≤◌, IfOk, IfSome, Some, codes};
 ghost use Rattle.clap.specs.Matches.{subcommand_name_of};
 ghost use Rattle.tas_program.specs.Task.{IsInRange, command_name};
 
@@ -86,10 +86,12 @@ Standard input is the script: edits of a movie and looks at it, a line each:
   delete AT COUNT            delete COUNT frames
   len, input K, shot K       tell the length, an input, or what frame K shows
 Standard output has a reply for each line; refusals are replies, too. A line that isn't understood
-ends the script.
+ends the script. With --cart and --movie the script starts from this movie, which is made by two
+edits; else from a blank cartridge with no frames.
 
-Example:
-  tas script < examples/edits.script";
+Examples:
+  tas script < examples/edits.script
+  echo shot 60 | tas script --cart joystick.bin --movie examples/joystick.movie";
 
 static TAS_HELP: &str = "\
 Each command reads standard input whole before it writes anything to standard output.
@@ -152,11 +154,24 @@ fn diff_command<'a>(alloc: Global) -> Result<Command<'a>, AllocError> {
         .arg(file(alloc, "OLD", "The file with the older movie's text"))
 }
 
+/// A word that names a file, behind a flag.
+fn flag<'a>(alloc: Global, name: &'a str, flag: &'a str, help: &'a str) -> Arg<'a> {
+    Arg::new(alloc, name)
+        .long(flag)
+        .action(ArgAction::Set)
+        .value_name(name)
+        .help(help)
+}
+
 /// `tas script`.
-fn script_command<'a>(alloc: Global) -> Command<'a> {
+fn script_command<'a>(alloc: Global) -> Result<Command<'a>, AllocError> {
+    let cart = flag(alloc, "CART", "cart", "The cartridge's file of a movie to start from");
+    let movie = flag(alloc, "MOVIE", "movie", "The file with this movie's text");
     Command::new(alloc, "script")
         .about("Edits a movie by a script and writes the replies")
         .after_help(SCRIPT_HELP)
+        .arg(cart.requires_arg("MOVIE")?)?
+        .arg(movie.requires_arg("CART")?)
 }
 
 /// The program's command line.
@@ -173,7 +188,7 @@ fn command<'a>(alloc: Global) -> Result<Command<'a>, AllocError> {
         .subcommand(shot_command(alloc)?)?
         .subcommand(edit_command(alloc)?)?
         .subcommand(diff_command(alloc)?)?
-        .subcommand(script_command(alloc))
+        .subcommand(script_command(alloc)?)
 }
 
 /// The number of this name, where it is in its range.
@@ -186,6 +201,18 @@ fn number_of(matches: &ArgMatches<'_>, name: &str, least: u32, most: u32) -> Opt
         Some(n)
     } else {
         None
+    }
+}
+
+/// What the words of `tas script` ask for; `None` where they name one file.
+fn script_task<'a>(matches: &ArgMatches<'a>) -> Option<Task<'a>>
+    ensures range { IfSome result IsInRange }
+    ensures named { IfSome result (λ task. command_name task ≡ codes "script") }
+{
+    match (matches.get_str("CART"), matches.get_str("MOVIE")) {
+        (None, None) => Some(Task::Script),
+        (Some(cart), Some(movie)) => Some(Task::MovieScript { cart, movie }),
+        _ => None,
     }
 }
 
@@ -214,7 +241,7 @@ fn task_of<'a>(matches: &ArgMatches<'a>) -> Option<Task<'a>>
             cart: rest.get_str("CART")?,
             old: rest.get_str("OLD")?,
         }),
-        "script" => Some(Task::Script),
+        "script" => script_task(rest),
         _ => None,
     }
 }

@@ -2,3 +2,4 @@ pub mod Edits
 pub mod Turns
 pub mod Checking
 pub mod Scripts
+pub mod MovieScripts

@@ -6,8 +6,10 @@
 #![tactic(auto)]
 
 mod answering;
+mod movie_scripting;
 mod scripting;
 
+pub use movie_scripting::movie_script_run;
 pub use scripting::script_run;
 pub use tas_edit::{diff_run, edit_run};
 pub use tas_engines::{
@@ -16,5 +18,7 @@ pub use tas_engines::{
 
 #[cfg(test)]
 mod long_script_tests;
+#[cfg(test)]
+mod movie_script_tests;
 #[cfg(test)]
 mod tests;
