@@ -1,4 +1,4 @@
-use Rattle.std.proofs.Common.{inl, inr}
+use Rattle.std.proofs.Common.{inl, inr, ◌∙◌}
 use Rattle.std.proofs.KnownBytes.{Keeps-refl}
 use Rattle.tas_engines.proofs.EngineEnds.{ends-written}
 use Rattle.tas_edit.specs.Runs.{IsEditAnswer}
@@ -14,4 +14,4 @@ returns-in-Err-edit_movie g c =
 pub returns : goal.returns
 returns g c =
     ends-written (IsEditAnswer g.row.A.Denot c.args.image.now c.args.script.now c.args.bytes.now) _ _ c.as_slice.result.now _
-    (c.in-Ok.movie, c.edit_movie.new.movie, c.in-Ok.ensures, c.in-Ok-edit_movie.ensures, ?) c.write_all.ensures.ok c.write_all.ensures.fault
+    (c.in-Ok.movie, c.edit_movie.new.movie, c.in-Ok.ensures, c.in-Ok-edit_movie.ensures, c.as_slice.ensures.value ∙ c.in-Ok-print_text.ensures) c.write_all.ensures.ok c.write_all.ensures.fault
