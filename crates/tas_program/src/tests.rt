@@ -117,7 +117,7 @@ static ONE_FRAME: &[u8] =
     b"a26movie 1\ncart 820c64e9933496de683a000c5e11f0510fb7b1699b2ce86471295236b284906d\n..... ..... .....\n";
 
 /// Words that name a task, and the task.
-static TASKS: [(&[&str], Task<'static>); 10] = [
+static TASKS: [(&[&str], Task<'static>); 12] = [
     (&["trace", "0"], Task::Trace { instructions: 0 }),
     (&["trace", "3"], Task::Trace { instructions: 3 }),
     (
@@ -163,6 +163,20 @@ static TASKS: [(&[&str], Task<'static>); 10] = [
         },
     ),
     (&["script"], Task::Script),
+    (
+        &["script", "--cart", "a.bin", "--movie", "b"],
+        Task::MovieScript {
+            cart: "a.bin",
+            movie: "b",
+        },
+    ),
+    (
+        &["script", "--movie=b", "--cart=a.bin"],
+        Task::MovieScript {
+            cart: "a.bin",
+            movie: "b",
+        },
+    ),
 ];
 
 #[test]
@@ -180,7 +194,7 @@ fn each_command_is_its_task(rt: HostRuntime) -> Result<(), Fail> {
 
 /// Words that are no task: none, an unknown one, too few, too many, numbers past their ranges and
 /// texts that are no numbers, unknown flags.
-static MISUSES: [&[&str]; 26] = [
+static MISUSES: [&[&str]; 31] = [
     &[],
     &[""],
     &["play"],
@@ -206,6 +220,11 @@ static MISUSES: [&[&str]; 26] = [
     &["diff"],
     &["diff", "game.bin", "other", "0"],
     &["script", "game.bin"],
+    &["script", "--cart", "game.bin"],
+    &["script", "--movie", "other"],
+    &["script", "--cart", "--movie", "other"],
+    &["script", "--cart", "game.bin", "--movie"],
+    &["script", "--cart", "game.bin", "--movie", "other", "other"],
     &["Trace", "1"],
 ];
 
@@ -270,7 +289,7 @@ static HELPS: [(&[&str], &[u8]); 8] = [
     ),
     (
         &["script", "--help"],
-        b"Edits a movie by a script and writes the replies\n\nUsage: tas script\n",
+        b"Edits a movie by a script and writes the replies\n\nUsage: tas script [OPTIONS]\n",
     ),
 ];
 
@@ -450,11 +469,11 @@ static THREE_FRAMES: &[u8] =
     b"a26movie 1\ncart 820c64e9933496de683a000c5e11f0510fb7b1699b2ce86471295236b284906d\n..... ..... .....\nR.... ..... .....\n....F ..... .....\n";
 
 #[test]
-fn movies_are_edited_and_compared(rt: HostRuntime) -> Result<(), Fail> {
+fn commands_of_two_files_write_their_answers(rt: HostRuntime) -> Result<(), Fail> {
     let alloc = rt.alloc();
     let cart = image_of(alloc, PLAYFIELD)?;
     // The words, the file `other`, the input, and what the program then writes and tells, by hand.
-    let cases: [(&[&str], &[u8], &[u8], &[u8], &[u8]); 10] = [
+    let cases: [(&[&str], &[u8], &[u8], &[u8], &[u8]); 14] = [
         (
             &["edit", "game.bin", "other"],
             b"insert 1 1 R.... ..... .....\ninsert 2 1 ....F ..... .....\n",
@@ -522,6 +541,34 @@ fn movies_are_edited_and_compared(rt: HostRuntime) -> Result<(), Fail> {
             &["diff", "game.bin", "other"],
             b"a26movie 1\n",
             THREE_FRAMES,
+            b"",
+            b"fault: movie line 2: end\n",
+        ),
+        (
+            &["script", "--cart", "game.bin", "--movie", "other"],
+            THREE_FRAMES,
+            b"len\ndelete 0 1\ninput 0\nshot 0\n",
+            b"len 2 3\nedit 3 len 2\ninput 3 R.... ..... .....\nshot 3 0 ran 1 lit 1680\n",
+            b"",
+        ),
+        (
+            &["script", "--cart", "game.bin", "--movie", "other"],
+            ONE_FRAME,
+            b"",
+            b"",
+            b"",
+        ),
+        (
+            &["script", "--cart", "nothing", "--movie", "other"],
+            ONE_FRAME,
+            b"len\n",
+            b"",
+            b"fault: read failed\n",
+        ),
+        (
+            &["script", "--cart", "game.bin", "--movie", "other"],
+            b"a26movie 1\n",
+            b"len\n",
             b"",
             b"fault: movie line 2: end\n",
         ),
