@@ -115,11 +115,17 @@ fn the_longest_movies_are_edited_and_compared(rt: HostRuntime) -> Result<(), Fai
     let full = long_movie(alloc, 65536, 65536)?;
     let other = long_movie(alloc, 65536, 40000)?;
     let script = go_round(alloc, none.as_slice(), full.as_slice())?;
-    assert_eq!(rt; script.as_slice(), b"insert 0 65536 ..... ..... .....\n".as_slice());
+    assert_eq!(rt;
+        script.as_slice(),
+        b"insert 0 65536 ..... ..... .....\n".as_slice()
+    );
     let script = go_round(alloc, full.as_slice(), none.as_slice())?;
     assert_eq!(rt; script.as_slice(), b"delete 0 65536\n".as_slice());
     let script = go_round(alloc, full.as_slice(), other.as_slice())?;
-    assert_eq!(rt; script.as_slice(), b"replace 40000 1 ....F ..... .....\n".as_slice());
+    assert_eq!(rt;
+        script.as_slice(),
+        b"replace 40000 1 ....F ..... .....\n".as_slice()
+    );
     let (text, end) = edited(
         alloc,
         &BLANK,
@@ -145,10 +151,7 @@ static FAULTS: [(&[u8], ToolFault); 8] = [
         b"delete 0 1\ndelete 1 1\n",
         ToolFault::EditPlace { line: 2 },
     ),
-    (
-        b"delete 0 3\nlen\n",
-        ToolFault::EditPlace { line: 1 },
-    ),
+    (b"delete 0 3\nlen\n", ToolFault::EditPlace { line: 1 }),
     (
         b"delete 0 1\ninsert 0 65535 ..... ..... .....\ninsert 0 1 ..... ..... .....\n",
         ToolFault::EditLong { line: 3 },
@@ -179,7 +182,12 @@ fn faults_of_the_movies_come_in_order(rt: HostRuntime) -> Result<(), Fail> {
     let edits: [(&[u8], &[u8], &[u8], ToolFault); 3] = [
         (b"1234567", b"len\n", bad, ToolFault::Size(7)),
         (&BLANK, b"len\n", bad, text),
-        (&BLANK, b"len\n", two.as_slice(), ToolFault::Script { line: 1 }),
+        (
+            &BLANK,
+            b"len\n",
+            two.as_slice(),
+            ToolFault::Script { line: 1 },
+        ),
     ];
     for (cart, script, input, fault) in edits {
         let (output, end) = edited(alloc, cart, script, input);
@@ -310,7 +318,10 @@ fn texts_go_out_in_small_pieces(rt: HostRuntime) -> Result<(), Fail> {
         let ended = edit_run(alloc, &mut cart, &mut script, &mut input, &mut output);
         assert_eq!(rt; ended, end, "room {room}");
         let written = room.min(new.len());
-        assert!(rt; output.taken.as_slice() == &new.as_slice()[..written], "room {room}");
+        assert!(rt;
+            output.taken.as_slice() == &new.as_slice()[..written],
+            "room {room}"
+        );
     }
     Ok(())
 }

@@ -120,7 +120,13 @@ fn faults_over_a_movie_come_in_order(rt: HostRuntime) -> Result<(), Fail> {
     };
     let cases: [(&[u8], &[u8], &[u8], &[u8], ToolFault); 4] = [
         (b"1234567", bad, b"len\nx\n", b"", ToolFault::Size(7)),
-        (cart.as_slice(), bad, b"len\nx\n", b"", ToolFault::Text(text)),
+        (
+            cart.as_slice(),
+            bad,
+            b"len\nx\n",
+            b"",
+            ToolFault::Text(text),
+        ),
         (
             cart.as_slice(),
             movie.as_slice(),
