@@ -15,6 +15,7 @@ use Rattle.tas_engines.specs.Input.{IsReadWhole}
 use Rattle.tas_engines.specs.Movies.{IsMovieRun}
 use Rattle.tas_engines.specs.Tracing.{IsTraceAnswer, IsTraceRun}
 use Rattle.tas_engines.specs.Output.{Ends, EndsAfter, StopsWriting}
+use Rattle.tas_engines.specs.ThreeInputs.{EndsAfterThree}
 
 -- a write of a whole answer ends an engine
 pub ends-written : (answers : Result (List ℕ) RunFault → Type 0) (old new : Option (List ℕ)) (bytes : List ℕ) (r : Result (Unit {0}) RunFault) → answers (Ok bytes) →
@@ -56,3 +57,10 @@ pub movie_ran : (answers : List ℕ → List ℕ → Result (List ℕ) RunFault 
     → IsMovieRun answers cart cart' input input' output output' result
 movie_ran answers cart cart' input input' output output' read image read' bytes end result whole same whole' same' ends is =
     inr (end, is, (image, subst (IsReadWhole cart cart') (sym same) whole, (bytes, subst (IsReadWhole input input') (sym same') whole', ends)))
+
+-- an engine ran on the three inputs that it had read
+pub three_ran : (runs : List ℕ → List ℕ → List ℕ → Result (Unit {0}) RunFault → Type 0) (a a' b b' c c' output output' : Option (List ℕ)) (read first read' second read'' third : List ℕ)
+    (end : Result (Unit {0}) RunFault) (result : Result (Unit {0}) ToolFault) → IsReadWhole a a' read → first ≡ read → IsReadWhole b b' read' → second ≡ read' → IsReadWhole c c' read'' → third ≡ read''
+    → runs first second third end → result ≡ told end → EndsAfterThree runs a a' b b' c c' output output' result
+three_ran runs a a' b b' c c' output output' read first read' second read'' third end result one is one' is' one'' is'' ends tells =
+    inr (end, tells, (first, subst (IsReadWhole a a') (sym is) one, (second, subst (IsReadWhole b b') (sym is') one', (third, subst (IsReadWhole c c') (sym is'') one'', ends))))

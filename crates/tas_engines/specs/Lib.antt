@@ -3,3 +3,4 @@ pub mod Input
 pub mod Movies
 pub mod Output
 pub mod Tracing
+pub mod ThreeInputs

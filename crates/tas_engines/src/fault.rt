@@ -58,6 +58,16 @@ pub enum RunFault {
         /// The line's number, counted from 1.
         line: usize,
     },
+    /// A line of a script of changes reaches past the movie's last input.
+    EditPlace {
+        /// The line's number, counted from 1.
+        line: usize,
+    },
+    /// A line of a script of changes would make the movie too long.
+    EditLong {
+        /// The line's number, counted from 1.
+        line: usize,
+    },
     /// A desk's seat got no place to read from.
     NoPlace,
     /// A seat's reader got no entry.
@@ -124,6 +134,18 @@ pub enum ToolFault {
         /// The line's number, counted from 1.
         line: usize,
     },
+    /// A line of a script of changes reaches past the movie's last input. Nothing was written.
+    #[error("fault: script line {line}: place")]
+    EditPlace {
+        /// The line's number, counted from 1.
+        line: usize,
+    },
+    /// A line of a script of changes would make the movie too long. Nothing was written.
+    #[error("fault: script line {line}: long")]
+    EditLong {
+        /// The line's number, counted from 1.
+        line: usize,
+    },
     /// A desk's seat got no place to read from. Nothing was written.
     #[error("fault: no place")]
     NoPlace,
@@ -163,6 +185,8 @@ impl From<RunFault> for ToolFault {
             RunFault::Range { from, to, len } => ToolFault::Range { from, to, len },
             RunFault::Halted { at, opcode } => ToolFault::Halted { at, opcode },
             RunFault::Script { line } => ToolFault::Script { line },
+            RunFault::EditPlace { line } => ToolFault::EditPlace { line },
+            RunFault::EditLong { line } => ToolFault::EditLong { line },
             RunFault::NoPlace => ToolFault::NoPlace,
             RunFault::NoEntry => ToolFault::NoEntry,
             RunFault::Foreign => ToolFault::Foreign,

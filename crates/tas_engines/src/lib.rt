@@ -19,7 +19,7 @@ mod writing;
 pub use checking::check_run;
 pub use fault::{ReadFault, RunFault, ToolFault};
 pub use movies::movie_of;
-pub use reading::{INPUT_LIMIT, read_input, read_two};
+pub use reading::{INPUT_LIMIT, ThreeInputs, read_input, read_three, read_two};
 pub use shooting::{halt_fault, shot_run};
 pub use tracing::trace_run;
 pub use writing::write_all;

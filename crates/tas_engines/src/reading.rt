@@ -4,6 +4,7 @@
 ghost use Rattle.std.specs.Prelude.{◌≡◌, ◌≤◌, ◌<◌, length, take, IfOk, IfErr, IfSome, IfNone};
 ghost use Rattle.std.specs.Io.KnownBytes.{Consumes, Keeps, IsAtEnd};
 ghost use Rattle.tas_engines.specs.Input.{IsReadWhole, StopsReading, StopsReadingTwo};
+ghost use Rattle.tas_engines.specs.ThreeInputs.{StopsReadingThree};
 
 use crate::ReadFault;
 use std::alloc::Allocator;
@@ -73,6 +74,45 @@ pub fn read_two<A: Allocator + Copy, C: Read, R: Read>(
     };
     match read_input(alloc, second) {
         Ok(more) => Ok((bytes, more)),
+        Err(fault) => Err(fault),
+    }
+}
+
+/// The bytes of three inputs that were read whole.
+#[derive(Drop)]
+pub struct ThreeInputs<A: Allocator> {
+    /// Those of the input that was read first.
+    pub first: Vec<u8, A>,
+    /// Those of the next one.
+    pub second: Vec<u8, A>,
+    /// Those of the last one.
+    pub third: Vec<u8, A>,
+}
+
+/// Reads three inputs, each as [`read_input`] does. Where reading one fails, those behind it are left
+/// untouched.
+pub fn read_three<A: Allocator + Copy, F: Read, S: Read, T: Read>(
+    alloc: A,
+    first: &mut F,
+    second: &mut S,
+    third: &mut T,
+) -> Result<ThreeInputs<A>, ReadFault>
+    ensures first { IfOk result (λ read. IsReadWhole (F.remaining first.old) (F.remaining first.new) read.first.items) }
+    ensures second { IfOk result (λ read. IsReadWhole (S.remaining second.old) (S.remaining second.new) read.second.items) }
+    ensures third { IfOk result (λ read. IsReadWhole (T.remaining third.old) (T.remaining third.new) read.third.items) }
+    ensures fault { IfErr result (StopsReadingThree (F.remaining first.old) (F.remaining first.new)
+        (S.remaining second.old) (S.remaining second.new) (T.remaining third.old) (T.remaining third.new)) }
+{
+    let front = match read_input(alloc, first) {
+        Ok(bytes) => bytes,
+        Err(fault) => return Err(fault),
+    };
+    match read_two(alloc, second, third) {
+        Ok((second, third)) => Ok(ThreeInputs {
+            first: front,
+            second,
+            third,
+        }),
         Err(fault) => Err(fault),
     }
 }

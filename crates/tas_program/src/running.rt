@@ -5,8 +5,10 @@ ghost use Rattle.std.specs.Io.KnownBytes.{Appends};
 ghost use Rattle.tas_engines.specs.declared.fault.RunFault.{RunFault};
 ghost use Rattle.tas_engines.specs.Movies.{IsMovieRun, IsCheckAnswer, IsShotAnswer};
 ghost use Rattle.tas_engines.specs.Output.{StopsWriting};
+ghost use Rattle.tas_edit.specs.Runs.{IsEditRun, IsDiffRun};
 ghost use Rattle.tas_tool.specs.Films.{IsExportAnswer};
-ghost use Rattle.tas_program.specs.Program.{EndsOver, DoesTask, CarriesOut, ProgramEnds, end_status};
+ghost use Rattle.tas_tool.specs.MovieScripts.{IsMovieScriptRun};
+ghost use Rattle.tas_program.specs.Program.{EndsOver, EndsOverTwo, DoesTask, CarriesOut, ProgramEnds, end_status};
 ghost use Rattle.std.specs.Global.{Global};
 
 use crate::request::collect_words;
@@ -18,10 +20,13 @@ use std::io::{Read, Write};
 use std::sync::Wait;
 use std::thread::Threads;
 use tas_engines::write_all;
-use tas_tool::{ToolFault, check_run, export_run, script_run, shot_run, trace_run};
+use tas_tool::{
+    ToolFault, check_run, diff_run, edit_run, export_run, movie_script_run, script_run, shot_run,
+    trace_run,
+};
 
-/// Opens the file of a cartridge.
-fn open_cart<F: Folder>(folder: &F, name: &str) -> Result<F::File, ToolFault>
+/// Opens a file of this name.
+fn open_file<F: Folder>(folder: &F, name: &str) -> Result<F::File, ToolFault>
     ensures file { IfOk result (λ file. F.File.remaining file ≡ F.bytes_of folder.now name.now) }
     ensures fault { IfErr result (λ fault. fault ≡ ToolFault.Read) }
 {
@@ -44,7 +49,7 @@ fn check_file<A: Allocator + Copy, F: Folder, R: Read, W: Write>(
         (record { input = R.remaining input.old; output = W.contents output.old })
         (record { input = R.remaining input.new; output = W.contents output.new }) result }
 {
-    match open_cart(folder, cart) {
+    match open_file(folder, cart) {
         Ok(mut file) => check_run(alloc, &mut file, input, output),
         Err(fault) => Err(fault),
     }
@@ -64,8 +69,84 @@ fn shoot_file<A: Allocator + Copy, F: Folder, R: Read, W: Write>(
         (record { input = R.remaining input.old; output = W.contents output.old })
         (record { input = R.remaining input.new; output = W.contents output.new }) result }
 {
-    match open_cart(folder, cart) {
+    match open_file(folder, cart) {
         Ok(mut file) => shot_run(alloc, frame, &mut file, input, output),
+        Err(fault) => Err(fault),
+    }
+}
+
+/// `tas edit` of the cartridge and the script in these files.
+fn edit_files<A: Allocator + Copy, F: Folder, R: Read, W: Write>(
+    alloc: A,
+    cart: &str,
+    other: &str,
+    folder: &F,
+    input: &mut R,
+    output: &mut W,
+) -> Result<(), ToolFault>
+    ensures { EndsOverTwo (F.bytes_of folder.now cart.now) (F.bytes_of folder.now other.now)
+        (λ file left file' left'. IsEditRun A file left file' left' (R.remaining input.old) (R.remaining input.new)
+        (W.contents output.old) (W.contents output.new) result)
+        (record { input = R.remaining input.old; output = W.contents output.old })
+        (record { input = R.remaining input.new; output = W.contents output.new }) result }
+{
+    let mut cart = match open_file(folder, cart) {
+        Ok(file) => file,
+        Err(fault) => return Err(fault),
+    };
+    match open_file(folder, other) {
+        Ok(mut file) => edit_run(alloc, &mut cart, &mut file, input, output),
+        Err(fault) => Err(fault),
+    }
+}
+
+/// `tas diff` of the cartridge and the older movie in these files.
+fn compare_files<A: Allocator + Copy, F: Folder, R: Read, W: Write>(
+    alloc: A,
+    cart: &str,
+    other: &str,
+    folder: &F,
+    input: &mut R,
+    output: &mut W,
+) -> Result<(), ToolFault>
+    ensures { EndsOverTwo (F.bytes_of folder.now cart.now) (F.bytes_of folder.now other.now)
+        (λ file left file' left'. IsDiffRun A file left file' left' (R.remaining input.old) (R.remaining input.new)
+        (W.contents output.old) (W.contents output.new) result)
+        (record { input = R.remaining input.old; output = W.contents output.old })
+        (record { input = R.remaining input.new; output = W.contents output.new }) result }
+{
+    let mut cart = match open_file(folder, cart) {
+        Ok(file) => file,
+        Err(fault) => return Err(fault),
+    };
+    match open_file(folder, other) {
+        Ok(mut file) => diff_run(alloc, &mut cart, &mut file, input, output),
+        Err(fault) => Err(fault),
+    }
+}
+
+/// `tas script` from the movie of the cartridge and the text in these files on.
+fn script_files<A: Allocator + Copy, T: Wait, F: Folder, R: Read, W: Write>(
+    rt: &T,
+    alloc: A,
+    cart: &str,
+    other: &str,
+    folder: &F,
+    input: &mut R,
+    output: &mut W,
+) -> Result<(), ToolFault>
+    ensures { EndsOverTwo (F.bytes_of folder.now cart.now) (F.bytes_of folder.now other.now)
+        (λ file left file' left'. IsMovieScriptRun A file left file' left' (R.remaining input.old) (R.remaining input.new)
+        (W.contents output.old) (W.contents output.new) result)
+        (record { input = R.remaining input.old; output = W.contents output.old })
+        (record { input = R.remaining input.new; output = W.contents output.new }) result }
+{
+    let mut cart = match open_file(folder, cart) {
+        Ok(file) => file,
+        Err(fault) => return Err(fault),
+    };
+    match open_file(folder, other) {
+        Ok(mut file) => movie_script_run(rt, alloc, &mut cart, &mut file, input, output),
         Err(fault) => Err(fault),
     }
 }
@@ -87,14 +168,14 @@ fn export_file<T: Wait + Threads + Sync, F: Folder, R: Read, W: Write>(
         (record { input = R.remaining input.new; output = W.contents output.new }) result }
 {
     let (from, to) = range;
-    match open_cart(folder, cart) {
+    match open_file(folder, cart) {
         Ok(mut file) => export_run(rt, alloc, from, to, workers, &mut file, input, output),
         Err(fault) => Err(fault),
     }
 }
 
-/// Does a task by its engine: the file that it names is opened first, a failure being `Read`, then
-/// the engine reads it and the input, and writes its answer to the output.
+/// Does a task by its engine: the files that it names are opened first, a failure being `Read`, then
+/// the engine reads them and the input, and writes its answer to the output.
 pub fn run_task<T: Wait + Threads + Sync, F: Folder, R: Read, W: Write>(
     rt: &T,
     alloc: Global,
@@ -113,7 +194,12 @@ pub fn run_task<T: Wait + Threads + Sync, F: Folder, R: Read, W: Write>(
         Task::Shot { cart, frame } => {
             shoot_file(alloc, cart, frame as usize, folder, input, output)
         }
+        Task::Edit { cart, script } => edit_files(alloc, cart, script, folder, input, output),
+        Task::Diff { cart, old } => compare_files(alloc, cart, old, folder, input, output),
         Task::Script => script_run(rt, alloc, input, output),
+        Task::MovieScript { cart, movie } => {
+            script_files(rt, alloc, cart, movie, folder, input, output)
+        }
         Task::Export {
             cart,
             from,
@@ -121,7 +207,16 @@ pub fn run_task<T: Wait + Threads + Sync, F: Folder, R: Read, W: Write>(
             workers,
         } => {
             let range = (from as usize, to as usize);
-            export_file(rt, alloc, cart, range, workers as usize, folder, input, output)
+            export_file(
+                rt,
+                alloc,
+                cart,
+                range,
+                workers as usize,
+                folder,
+                input,
+                output,
+            )
         }
     }
 }

@@ -1,29 +1,35 @@
 //! The whole program over words, files and streams of the tests' own.
 
-ghost use Rattle.std.specs.Prelude.{Some};
+ghost use Rattle.std.specs.Prelude.{Some, if◌then◌else◌, codes};
+ghost use Rattle.std.specs.Prelude.{nat_eq};
+ghost use Rattle.std.specs.Cmp.Lexicographic.{pointwise};
 
 use super::*;
 use std::alloc::Global;
 use std::env::Args;
 use std::io;
 use std::io::{Error, ErrorKind};
+use std::sync::Wait;
 use std::test::Fail;
+use std::thread::Threads;
 
-/// A folder of one file.
+/// A folder with the files `game.bin` and `other`.
 #[derive(Clone, Copy, Drop)]
-struct OneFile<'a> {
-    name: &'a str,
-    bytes: &'a [u8],
+struct TwoFiles<'a> {
+    game: &'a [u8],
+    other: &'a [u8],
 }
 
-impl<'a> Folder for OneFile<'a> {
+impl<'a> Folder for TwoFiles<'a> {
     type File = &'a [u8];
 
-    ghost bytes_of = { λ s _. Some s.bytes.now };
+    ghost bytes_of = { λ s name. Some (if pointwise nat_eq name (codes "game.bin") then s.game.now else s.other.now) };
 
     fn open(&self, name: &str) -> io::Result<&'a [u8]> {
-        if name == self.name {
-            Ok(self.bytes)
+        if name == "game.bin" {
+            Ok(self.game)
+        } else if name == "other" {
+            Ok(self.other)
         } else {
             Err(Error::from(ErrorKind::NotFound))
         }
@@ -48,12 +54,13 @@ fn words_of(alloc: Global, words: &[&str]) -> Result<Vec<String>, Fail> {
     Ok(all)
 }
 
-fn run_words(rt: &HostRuntime, words: io::Result<Args>, cart: &[u8], input: &[u8]) -> Ran {
-    let alloc = rt.alloc();
-    let folder = OneFile {
-        name: "game.bin",
-        bytes: cart,
-    };
+fn run_words<T: Threads + Wait + Sync>(
+    rt: &T,
+    alloc: Global,
+    words: io::Result<Args>,
+    folder: TwoFiles<'_>,
+    input: &[u8],
+) -> Ran {
     let mut input = input;
     let mut output = Vec::new(alloc);
     let mut errors = Vec::new(alloc);
@@ -74,9 +81,16 @@ fn run_words(rt: &HostRuntime, words: io::Result<Args>, cart: &[u8], input: &[u8
 }
 
 /// Runs the program where the file `game.bin` is this cartridge.
-fn run(rt: &HostRuntime, words: &[&str], cart: &[u8], input: &[u8]) -> Result<Ran, Fail> {
-    let words = words_of(rt.alloc(), words)?.into_iter();
-    Ok(run_words(rt, Ok(words), cart, input))
+fn run<T: Threads + Wait + Sync>(
+    rt: &T,
+    alloc: Global,
+    words: &[&str],
+    cart: &[u8],
+    input: &[u8],
+) -> Result<Ran, Fail> {
+    let words = words_of(alloc, words)?.into_iter();
+    let other: &[u8] = b"";
+    Ok(run_words(rt, alloc, Ok(words), TwoFiles { game: cart, other }, input))
 }
 
 /// A cartridge of zeros with these bytes at its start, where execution starts too.
@@ -104,7 +118,7 @@ static ONE_FRAME: &[u8] =
     b"a26movie 1\ncart 820c64e9933496de683a000c5e11f0510fb7b1699b2ce86471295236b284906d\n..... ..... .....\n";
 
 /// Words that name a task, and the task.
-static TASKS: [(&[&str], Task<'static>); 10] = [
+static TASKS: [(&[&str], Task<'static>); 14] = [
     (&["trace", "0"], Task::Trace { instructions: 0 }),
     (&["trace", "3"], Task::Trace { instructions: 3 }),
     (
@@ -135,7 +149,35 @@ static TASKS: [(&[&str], Task<'static>); 10] = [
             frame: 9_999_999,
         },
     ),
+    (
+        &["edit", "a.bin", "b"],
+        Task::Edit {
+            cart: "a.bin",
+            script: "b",
+        },
+    ),
+    (
+        &["diff", "a.bin", "b"],
+        Task::Diff {
+            cart: "a.bin",
+            old: "b",
+        },
+    ),
     (&["script"], Task::Script),
+    (
+        &["script", "--cart", "a.bin", "--movie", "b"],
+        Task::MovieScript {
+            cart: "a.bin",
+            movie: "b",
+        },
+    ),
+    (
+        &["script", "--movie=b", "--cart=a.bin"],
+        Task::MovieScript {
+            cart: "a.bin",
+            movie: "b",
+        },
+    ),
     (
         &["export", "a.bin", "0", "9999999", "1"],
         Task::Export {
@@ -192,7 +234,16 @@ static MISUSES: [&[&str]; 31] = [
     &["shot", "game.bin", "-1"],
     &["shot", "0", "game.bin"],
     &["shot", "game.bin", "0", "1"],
+    &["edit", "game.bin"],
+    &["edit", "game.bin", "other", "other"],
+    &["diff"],
+    &["diff", "game.bin", "other", "0"],
     &["script", "game.bin"],
+    &["script", "--cart", "game.bin"],
+    &["script", "--movie", "other"],
+    &["script", "--cart", "--movie", "other"],
+    &["script", "--cart", "game.bin", "--movie"],
+    &["script", "--cart", "game.bin", "--movie", "other", "other"],
     &["Trace", "1"],
     &["export", "game.bin"],
     &["export", "game.bin", "0", "1"],
@@ -210,15 +261,19 @@ fn other_words_end_with_status_2(rt: HostRuntime) -> Result<(), Fail> {
     let alloc = rt.alloc();
     let cart = image_of(alloc, PLAYFIELD)?;
     for (number, words) in MISUSES.iter().enumerate() {
-        let ran = run(&rt, words, cart.as_slice(), ONE_FRAME)?;
+        let ran = run(&rt, alloc, words, cart.as_slice(), ONE_FRAME)?;
         assert_eq!(rt; ran.code, 2, "words {number}");
         assert!(rt; ran.output.is_empty(), "words {number}");
         assert!(rt; ran.errors.starts_with(b"error: "), "words {number}");
     }
     let ran = run_words(
         &rt,
+        alloc,
         Err(Error::from(ErrorKind::InvalidData)),
-        cart.as_slice(),
+        TwoFiles {
+            game: cart.as_slice(),
+            other: b"",
+        },
         ONE_FRAME,
     );
     assert_eq!(rt; ran.code, 2);
@@ -231,7 +286,7 @@ fn other_words_end_with_status_2(rt: HostRuntime) -> Result<(), Fail> {
 }
 
 /// Words that ask for help, and the beginning of the text.
-static HELPS: [(&[&str], &[u8]); 7] = [
+static HELPS: [(&[&str], &[u8]); 9] = [
     (
         &["--help"],
         b"Replays movies of Atari 2600 cartridges, exactly and from power-on\n\nUsage: tas <COMMAND>\n",
@@ -253,8 +308,16 @@ static HELPS: [(&[&str], &[u8]); 7] = [
         b"Writes the picture of one frame of a movie\n\nUsage: tas shot <CART> <K>\n",
     ),
     (
+        &["edit", "--help"],
+        b"Makes the changes of a script on a movie and writes its text\n\nUsage: tas edit <CART> <SCRIPT>\n",
+    ),
+    (
+        &["diff", "--help"],
+        b"Writes the script that makes one movie of another\n\nUsage: tas diff <CART> <OLD>\n",
+    ),
+    (
         &["script", "--help"],
-        b"Edits a movie by a script and writes the replies\n\nUsage: tas script\n",
+        b"Edits a movie by a script and writes the replies\n\nUsage: tas script [OPTIONS]\n",
     ),
     (
         &["export", "--help"],
@@ -266,12 +329,12 @@ static HELPS: [(&[&str], &[u8]); 7] = [
 fn help_and_version_are_shown(rt: HostRuntime) -> Result<(), Fail> {
     let alloc = rt.alloc();
     for (number, (words, text)) in HELPS.iter().enumerate() {
-        let ran = run(&rt, words, b"", b"")?;
+        let ran = run(&rt, alloc, words, b"", b"")?;
         assert_eq!(rt; ran.code, 0, "help {number}");
         assert!(rt; ran.output.starts_with(text), "help {number}");
         assert!(rt; ran.errors.is_empty(), "help {number}");
     }
-    let ran = run(&rt, &["--version"], b"", b"")?;
+    let ran = run(&rt, alloc, &["--version"], b"", b"")?;
     assert_eq!(rt; ran.code, 0);
     assert_eq!(rt;
         ran.output.as_slice(),
@@ -333,7 +396,7 @@ fn each_command_writes_its_answer(rt: HostRuntime) -> Result<(), Fail> {
         (&["export", "game.bin", "0", "0", "3"], ONE_FRAME, b""),
     ];
     for (number, (words, input, answer)) in cases.iter().enumerate() {
-        let ran = run(&rt, words, cart.as_slice(), input)?;
+        let ran = run(&rt, alloc, words, cart.as_slice(), input)?;
         assert_eq!(rt; ran.code, 0, "command {number}");
         assert!(rt; ran.output.as_slice() == *answer, "command {number}");
         assert!(rt; ran.errors.is_empty(), "command {number}");
@@ -412,15 +475,19 @@ fn faults_end_with_status_1(rt: HostRuntime) -> Result<(), Fail> {
         ),
     ];
     for (number, (words, file, input, output, line)) in cases.iter().enumerate() {
-        let ran = run(&rt, words, file, input)?;
+        let ran = run(&rt, alloc, words, file, input)?;
         assert_eq!(rt; ran.code, 1, "fault {number}");
         assert!(rt; ran.output.as_slice() == *output, "fault {number}");
         assert!(rt; ran.errors.as_slice() == *line, "fault {number}");
     }
     let ran = run_words(
         &rt,
+        alloc,
         Err(Error::from(ErrorKind::OutOfMemory)),
-        cart,
+        TwoFiles {
+            game: cart,
+            other: b"",
+        },
         ONE_FRAME,
     );
     assert_eq!(rt; ran.code, 1);
@@ -433,9 +500,9 @@ fn faults_end_with_status_1(rt: HostRuntime) -> Result<(), Fail> {
 fn help_that_cannot_be_written_is_a_fault(rt: HostRuntime) -> Result<(), Fail> {
     let alloc = rt.alloc();
     let words = words_of(alloc, &["--version"])?.into_iter();
-    let folder = OneFile {
-        name: "",
-        bytes: b"",
+    let folder = TwoFiles {
+        game: b"",
+        other: b"",
     };
     let mut input: &[u8] = b"";
     let mut room = [0u8; 20];
@@ -455,5 +522,128 @@ fn help_that_cannot_be_written_is_a_fault(rt: HostRuntime) -> Result<(), Fail> {
         errors.as_slice(),
         b"fault: write failed after 20 bytes\n".as_slice()
     );
+    Ok(())
+}
+
+/// A movie of the playfield's cartridge with three frames.
+static THREE_FRAMES: &[u8] =
+    b"a26movie 1\ncart 820c64e9933496de683a000c5e11f0510fb7b1699b2ce86471295236b284906d\n..... ..... .....\nR.... ..... .....\n....F ..... .....\n";
+
+#[test]
+fn commands_of_two_files_write_their_answers(rt: HostRuntime) -> Result<(), Fail> {
+    let alloc = rt.alloc();
+    let cart = image_of(alloc, PLAYFIELD)?;
+    // The words, the file `other`, the input, and what the program then writes and tells, by hand.
+    let cases: [(&[&str], &[u8], &[u8], &[u8], &[u8]); 14] = [
+        (
+            &["edit", "game.bin", "other"],
+            b"insert 1 1 R.... ..... .....\ninsert 2 1 ....F ..... .....\n",
+            ONE_FRAME,
+            THREE_FRAMES,
+            b"",
+        ),
+        (
+            &["edit", "game.bin", "other"],
+            b"",
+            ONE_FRAME,
+            ONE_FRAME,
+            b"",
+        ),
+        (
+            &["edit", "game.bin", "other"],
+            b"delete 1 2\n",
+            THREE_FRAMES,
+            ONE_FRAME,
+            b"",
+        ),
+        (
+            &["edit", "game.bin", "other"],
+            b"delete 0 1\ndelete 2 1\n",
+            THREE_FRAMES,
+            b"",
+            b"fault: script line 2: place\n",
+        ),
+        (
+            &["edit", "game.bin", "other"],
+            b"insert 3 65534 ..... ..... .....\n",
+            THREE_FRAMES,
+            b"",
+            b"fault: script line 1: long\n",
+        ),
+        (
+            &["edit", "game.bin", "other"],
+            b"len\n",
+            THREE_FRAMES,
+            b"",
+            b"fault: script line 1\n",
+        ),
+        (
+            &["edit", "game.bin", "nothing"],
+            b"",
+            THREE_FRAMES,
+            b"",
+            b"fault: read failed\n",
+        ),
+        (
+            &["diff", "game.bin", "other"],
+            ONE_FRAME,
+            THREE_FRAMES,
+            b"insert 1 1 R.... ..... .....\ninsert 2 1 ....F ..... .....\n",
+            b"",
+        ),
+        (
+            &["diff", "game.bin", "other"],
+            THREE_FRAMES,
+            THREE_FRAMES,
+            b"",
+            b"",
+        ),
+        (
+            &["diff", "game.bin", "other"],
+            b"a26movie 1\n",
+            THREE_FRAMES,
+            b"",
+            b"fault: movie line 2: end\n",
+        ),
+        (
+            &["script", "--cart", "game.bin", "--movie", "other"],
+            THREE_FRAMES,
+            b"len\ndelete 0 1\ninput 0\nshot 0\n",
+            b"len 2 3\nedit 3 len 2\ninput 3 R.... ..... .....\nshot 3 0 ran 1 lit 1680\n",
+            b"",
+        ),
+        (
+            &["script", "--cart", "game.bin", "--movie", "other"],
+            ONE_FRAME,
+            b"",
+            b"",
+            b"",
+        ),
+        (
+            &["script", "--cart", "nothing", "--movie", "other"],
+            ONE_FRAME,
+            b"len\n",
+            b"",
+            b"fault: read failed\n",
+        ),
+        (
+            &["script", "--cart", "game.bin", "--movie", "other"],
+            b"a26movie 1\n",
+            b"len\n",
+            b"",
+            b"fault: movie line 2: end\n",
+        ),
+    ];
+    for (number, (words, other, input, output, line)) in cases.iter().enumerate() {
+        let words = words_of(alloc, words)?.into_iter();
+        let folder = TwoFiles {
+            game: cart.as_slice(),
+            other,
+        };
+        let ran = run_words(&rt, alloc, Ok(words), folder, input);
+        assert_eq!(rt; ran.code, u8::from(!line.is_empty()), "edit {number}");
+        assert!(rt; ran.output.as_slice() == *output, "edit {number}");
+        assert!(rt; ran.errors.as_slice() == *line, "edit {number}");
+    }
     Ok(())
 }

@@ -1,6 +1,6 @@
 //! The words of the command line.
 
-ghost use Rattle.std.specs.Prelude.{◌≡◌, ◌≤◌, IfOk, IfSome, Some};
+ghost use Rattle.std.specs.Prelude.{◌≡◌, ◌≤◌, IfOk, IfSome, Some, codes};
 ghost use Rattle.clap.specs.Matches.{subcommand_name_of};
 ghost use Rattle.tas_program.specs.Task.{IsInRange, command_name};
 
@@ -23,10 +23,11 @@ fn number<'a>(alloc: Global, name: &'a str, help: &'a str, least: u32, most: u32
 
 /// The required word that names the cartridge's file.
 fn cartridge<'a>(alloc: Global) -> Arg<'a> {
-    Arg::new(alloc, "CART")
-        .required(true)
-        .action(ArgAction::Set)
-        .help("The cartridge's file: its image of 4096 bytes")
+    file(
+        alloc,
+        "CART",
+        "The cartridge's file: its image of 4096 bytes",
+    )
 }
 
 static TRACE_HELP: &str = "\
@@ -57,6 +58,26 @@ Example:
   examples/cart joystick > joystick.bin
   tas shot joystick.bin 60 < examples/joystick.movie > frame60.ppm";
 
+static EDIT_HELP: &str = "\
+Standard input is the movie text, as for 'tas check'. The script's file has changes, a line each:
+  insert AT COUNT FRAME      insert COUNT frames such as 'R.... ..... .....'
+  replace AT COUNT FRAME     replace COUNT frames
+  delete AT COUNT            delete COUNT frames
+Standard output is the text of the movie that they make, in order. A line that isn't understood, or
+whose change reaches past the last frame or makes the movie too long, ends the command with its fault
+and nothing written.
+
+Example:
+  tas edit joystick.bin examples/mend.script < examples/joystick.movie > mended.movie";
+
+static DIFF_HELP: &str = "\
+Standard input is a movie text, as for 'tas check', and OLD is the file with the text of an older one.
+Standard output is a script for 'tas edit' that makes the new movie of the old one: nothing where they
+are equal.
+
+Example:
+  tas diff joystick.bin examples/joystick.movie < mended.movie";
+
 static SCRIPT_HELP: &str = "\
 Standard input is the script: edits of a movie and looks at it, a line each:
   load OFF=HEX ..            take a cartridge of zeros with these bytes
@@ -65,10 +86,12 @@ Standard input is the script: edits of a movie and looks at it, a line each:
   delete AT COUNT            delete COUNT frames
   len, input K, shot K       tell the length, an input, or what frame K shows
 Standard output has a reply for each line; refusals are replies, too. A line that isn't understood
-ends the script.
+ends the script. With --cart and --movie the script starts from this movie, which is made by two
+edits; else from a blank cartridge with no frames.
 
-Example:
-  tas script < examples/edits.script";
+Examples:
+  tas script < examples/edits.script
+  echo shot 60 | tas script --cart joystick.bin --movie examples/joystick.movie";
 
 static EXPORT_HELP: &str = "\
 Standard input is the movie text, as for 'tas check'.
@@ -116,11 +139,55 @@ fn shot_command<'a>(alloc: Global) -> Result<Command<'a>, AllocError> {
         .arg(number(alloc, "K", "The frame, counted from 0", 0, MAX_FRAME))
 }
 
+/// A required word that names a file.
+fn file<'a>(alloc: Global, name: &'a str, help: &'a str) -> Arg<'a> {
+    Arg::new(alloc, name)
+        .required(true)
+        .action(ArgAction::Set)
+        .help(help)
+}
+
+/// `tas edit`.
+fn edit_command<'a>(alloc: Global) -> Result<Command<'a>, AllocError> {
+    Command::new(alloc, "edit")
+        .about("Makes the changes of a script on a movie and writes its text")
+        .after_help(EDIT_HELP)
+        .arg(cartridge(alloc))?
+        .arg(file(alloc, "SCRIPT", "The script's file: a change a line"))
+}
+
+/// `tas diff`.
+fn diff_command<'a>(alloc: Global) -> Result<Command<'a>, AllocError> {
+    Command::new(alloc, "diff")
+        .about("Writes the script that makes one movie of another")
+        .after_help(DIFF_HELP)
+        .arg(cartridge(alloc))?
+        .arg(file(alloc, "OLD", "The file with the older movie's text"))
+}
+
+/// A word that names a file, behind a flag.
+fn flag<'a>(alloc: Global, name: &'a str, flag: &'a str, help: &'a str) -> Arg<'a> {
+    Arg::new(alloc, name)
+        .long(flag)
+        .action(ArgAction::Set)
+        .value_name(name)
+        .help(help)
+}
+
 /// `tas script`.
-fn script_command<'a>(alloc: Global) -> Command<'a> {
+fn script_command<'a>(alloc: Global) -> Result<Command<'a>, AllocError> {
+    let cart = flag(
+        alloc,
+        "CART",
+        "cart",
+        "The cartridge's file of a movie to start from",
+    );
+    let movie = flag(alloc, "MOVIE", "movie", "The file with this movie's text");
     Command::new(alloc, "script")
         .about("Edits a movie by a script and writes the replies")
         .after_help(SCRIPT_HELP)
+        .arg(cart.requires_arg("MOVIE")?)?
+        .arg(movie.requires_arg("CART")?)
 }
 
 /// `tas export`.
@@ -136,13 +203,7 @@ fn export_command<'a>(alloc: Global) -> Result<Command<'a>, AllocError> {
             0,
             MAX_FRAME,
         ))?
-        .arg(number(
-            alloc,
-            "TO",
-            "The frame behind the last one",
-            0,
-            MAX_FRAME,
-        ))?
+        .arg(number(alloc, "TO", "The frame behind the last one", 0, MAX_FRAME))?
         .arg(number(
             alloc,
             "WORKERS",
@@ -164,7 +225,9 @@ fn command<'a>(alloc: Global) -> Result<Command<'a>, AllocError> {
         .subcommand(trace_command(alloc)?)?
         .subcommand(check_command(alloc)?)?
         .subcommand(shot_command(alloc)?)?
-        .subcommand(script_command(alloc))?
+        .subcommand(edit_command(alloc)?)?
+        .subcommand(diff_command(alloc)?)?
+        .subcommand(script_command(alloc)?)?
         .subcommand(export_command(alloc)?)
 }
 
@@ -178,6 +241,18 @@ fn number_of(matches: &ArgMatches<'_>, name: &str, least: u32, most: u32) -> Opt
         Some(n)
     } else {
         None
+    }
+}
+
+/// What the words of `tas script` ask for; `None` where they name one file.
+fn script_task<'a>(matches: &ArgMatches<'a>) -> Option<Task<'a>>
+    ensures range { IfSome result IsInRange }
+    ensures named { IfSome result (λ task. command_name task ≡ codes "script") }
+{
+    match (matches.get_str("CART"), matches.get_str("MOVIE")) {
+        (None, None) => Some(Task::Script),
+        (Some(cart), Some(movie)) => Some(Task::MovieScript { cart, movie }),
+        _ => None,
     }
 }
 
@@ -198,7 +273,15 @@ fn task_of<'a>(matches: &ArgMatches<'a>) -> Option<Task<'a>>
             cart: rest.get_str("CART")?,
             frame: number_of(rest, "K", 0, MAX_FRAME)?,
         }),
-        "script" => Some(Task::Script),
+        "edit" => Some(Task::Edit {
+            cart: rest.get_str("CART")?,
+            script: rest.get_str("SCRIPT")?,
+        }),
+        "diff" => Some(Task::Diff {
+            cart: rest.get_str("CART")?,
+            old: rest.get_str("OLD")?,
+        }),
+        "script" => script_task(rest),
         "export" => Some(Task::Export {
             cart: rest.get_str("CART")?,
             from: number_of(rest, "FROM", 0, MAX_FRAME)?,

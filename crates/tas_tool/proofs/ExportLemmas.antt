@@ -251,4 +251,3 @@ written_back (y ∷ []) rest out x n one short is = is ∙ ap (λ (k : ℕ). tak
 written_back (y ∷ z ∷ ys) rest out x n one short is = absurd (omega (arith, one))
 
 -- ---- the engine
-

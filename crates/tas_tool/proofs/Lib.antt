@@ -1,3 +1,4 @@
 pub mod TurnLemmas
 pub mod ScriptLemmas
 pub mod ExportLemmas
+pub mod MovieScriptLemmas

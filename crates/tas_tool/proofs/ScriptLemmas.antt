@@ -5,7 +5,7 @@ use Rattle.std.specs.List.{flat_map}
 use Rattle.std.specs.Io.KnownBytes.{Appends}
 use Rattle.std.proofs.KnownBytes.{Appends-nil}
 use Rattle.tas_engines.specs.declared.fault.RunFault.{RunFault}
-use Rattle.tas_engines.specs.declared.fault.RunFault.TheVariants.{Write, Size, Text, NoFrame as OffMovie, Range as OffRange, Halted as Stopped, Script, NoPlace, NoEntry, Foreign, Memory}
+use Rattle.tas_engines.specs.declared.fault.RunFault.TheVariants.{Write, Size, Text, NoFrame as OffMovie, Range as OffRange, Halted as Stopped, Script, EditPlace, EditLong, NoPlace, NoEntry, Foreign, Memory}
 use Rattle.tas_engines.specs.declared.fault.ToolFault.{ToolFault}
 use Rattle.tas_engines.specs.Faults.{told}
 use Rattle.tas_engines.specs.Input.{IsReadWhole}
@@ -20,7 +20,7 @@ use Rattle.tas_desk.specs.Zones.{ZoneContent}
 use Rattle.tas_desk.specs.Seats.{SeatContent, seat_of}
 use Rattle.tas_desk.proofs.HistoryLemmas.{movie_of-none}
 use Rattle.tas_tool.specs.Turns.{Unforeseen, Front, front_of, BeginsWithOwn, IsDeskFault, reply_to, front_after}
-use Rattle.tas_tool.specs.Scripts.{Turn, turn_line, AreSaid, front_after_all, replies_to_all, IsUnclear, IsStop, Reads, Answers, start_front, RunsScript, IsScriptRun}
+use Rattle.tas_tool.specs.Scripts.{Turn, turn_line, AreSaid, front_after_all, replies_to_all, IsUnclear, IsStop, Reads, Answers, start_front, EndsWithReplies, RunsScript, IsScriptRun}
 use Rattle.tas_script.proofs.WordLemmas.{no_parts, same_front}
 
 -- ---- one line more
@@ -144,23 +144,20 @@ desk_stop seat (OffMovie frame len) turns rest some is = absurd is
 desk_stop seat (OffRange from to len) turns rest some is = absurd is
 desk_stop seat (Stopped at opcode) turns rest some is = absurd is
 desk_stop seat (Script line) turns rest some is = absurd is
+desk_stop seat (EditPlace line) turns rest some is = absurd is
+desk_stop seat (EditLong line) turns rest some is = absurd is
 desk_stop seat NoPlace turns rest some is = absurd is
 desk_stop seat Memory turns rest some is = absurd is
 
-pub written : (A : Type 0) (bytes items text : List ℕ) (old new : Option (List ℕ)) (front : Front) (end : Result (Unit {0}) RunFault) → front ≡ start_front → Answers A front bytes items end → text ≡ items
-    → Appends old new text → RunsScript A bytes old new end
-written A bytes items text old new front (Ok u) at answers is out = (items, subst (λ (f : Front). Answers A f bytes items (Ok u)) at answers, subst (Appends old new) is out)
-written A bytes items text old new front (Err f) at answers is out = inl (items, subst (λ (x : Front). Answers A x bytes items (Err f)) at answers, subst (Appends old new) is out)
+-- the replies are written, or a write of them failed
+pub written : (answers : List ℕ → Result (Unit {0}) RunFault → Type 0) (items text : List ℕ) (old new : Option (List ℕ)) (end : Result (Unit {0}) RunFault) → answers items end → text ≡ items → Appends old new text
+    → EndsWithReplies answers old new end
+written answers items text old new (Ok u) at is out = (items, at, subst (Appends old new) is out)
+written answers items text old new (Err f) at is out = inl (items, at, subst (Appends old new) is out)
 
-pub broken_off : (A : Type 0) (bytes items text : List ℕ) (old new : Option (List ℕ)) (front : Front) (end : Result (Unit {0}) RunFault) (fault : RunFault) → front ≡ start_front → Answers A front bytes items end → text ≡ items
-    → StopsWriting old new text fault → RunsScript A bytes old new (Err fault)
-broken_off A bytes items text old new front end fault at answers is stops =
-    inr (record {
-      text = text;
-      end = end;
-      answers = subst (λ (t : List ℕ). Answers A start_front bytes t end) (sym is) (subst (λ (f : Front). Answers A f bytes items end) at answers);
-      stops = stops;
-    })
+pub broken_off : (answers : List ℕ → Result (Unit {0}) RunFault → Type 0) (items text : List ℕ) (old new : Option (List ℕ)) (end : Result (Unit {0}) RunFault) (fault : RunFault) → answers items end → text ≡ items
+    → StopsWriting old new text fault → EndsWithReplies answers old new (Err fault)
+broken_off answers items text old new end fault at is stops = inr (record { text = text; end = end; answer = subst (λ (t : List ℕ). answers t end) (sym is) at; stops = stops })
 
 -- a script was read and run
 pub script_ran : (A : Type 0) (input input' output output' : Option (List ℕ)) (read bytes : List ℕ) (end : Result (Unit {0}) RunFault) (result : Result (Unit {0}) ToolFault) → IsReadWhole input input' read → bytes ≡ read

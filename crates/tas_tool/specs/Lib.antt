@@ -4,3 +4,4 @@ pub mod Checking
 pub mod Scripts
 pub mod Films
 pub mod TwoEdits
+pub mod MovieScripts

@@ -68,20 +68,24 @@ abbrev pub start_front : Front
 start_front = record { movie = blank_movie; made = 0 }
 
 -- the replies to a script stand written, and the script ended so
-abbrev pub WritesReplies : Type 0 → List ℕ → Option (List ℕ) → Option (List ℕ) → Result (Unit {0}) RunFault → Type 0
-WritesReplies A bytes old new end = (text : List ℕ) × Answers A start_front bytes text end × Appends old new text
+abbrev pub WritesReplies : (List ℕ → Result (Unit {0}) RunFault → Type 0) → Option (List ℕ) → Option (List ℕ) → Result (Unit {0}) RunFault → Type 0
+WritesReplies answers old new end = (text : List ℕ) × answers text end × Appends old new text
 
 -- a write of the replies failed
-pub record BreaksOffReplies (A : Type 0) (bytes : List ℕ) (old new : Option (List ℕ)) (fault : RunFault) : Type 0 where
+pub record BreaksOffReplies (answers : List ℕ → Result (Unit {0}) RunFault → Type 0) (old new : Option (List ℕ)) (fault : RunFault) : Type 0 where
   pub text : List ℕ
   pub end : Result (Unit {0}) RunFault
-  pub answers : Answers A start_front bytes text end
+  pub answer : answers text end
   pub stops : StopsWriting old new text fault
+
+-- how a script with such replies ends
+abbrev pub EndsWithReplies : (List ℕ → Result (Unit {0}) RunFault → Type 0) → Option (List ℕ) → Option (List ℕ) → Result (Unit {0}) RunFault → Type 0
+EndsWithReplies answers old new (Ok u) = WritesReplies answers old new (Ok u)
+EndsWithReplies answers old new (Err fault) = WritesReplies answers old new (Err fault) ⊎ BreaksOffReplies answers old new fault
 
 -- how a script that was read ends
 abbrev pub RunsScript : Type 0 → List ℕ → Option (List ℕ) → Option (List ℕ) → Result (Unit {0}) RunFault → Type 0
-RunsScript A bytes old new (Ok u) = WritesReplies A bytes old new (Ok u)
-RunsScript A bytes old new (Err fault) = WritesReplies A bytes old new (Err fault) ⊎ BreaksOffReplies A bytes old new fault
+RunsScript A bytes old new end = EndsWithReplies (Answers A start_front bytes) old new end
 
 -- `tas script`, from what the reader has and the writer holds before to what they have and hold afterwards
 abbrev pub IsScriptRun : Type 0 → (input input' output output' : Option (List ℕ)) → Result (Unit {0}) ToolFault → Type 0

@@ -91,7 +91,7 @@ fn refused_edit<N: Name, W: CloseOnDrop, A: Allocator>(
 }
 
 /// Makes an edit right behind the script's own edits.
-fn make_edit<N: Name, W: CloseOnDrop, A: Allocator + Copy, R: Wait>(
+pub fn make_edit<N: Name, W: CloseOnDrop, A: Allocator + Copy, R: Wait>(
     rt: &R,
     desk: &Desk<N, W, A>,
     seat: &mut Seat<N, A>,

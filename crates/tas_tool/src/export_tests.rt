@@ -159,18 +159,21 @@ fn export<R: Wait + Threads + Sync>(
     let mut cart = image;
     let mut input = text.as_bytes();
     let (from, to) = range;
-    let end = export_run(rt, alloc, from, to, workers, &mut cart, &mut input, &mut output);
+    let end = export_run(
+        rt,
+        alloc,
+        from,
+        to,
+        workers,
+        &mut cart,
+        &mut input,
+        &mut output,
+    );
     (end, output)
 }
 
 /// The pictures of a movie's frames, each by a shot of its own, which replays from power-on.
-fn shots(
-    alloc: Global,
-    image: &[u8],
-    text: &str,
-    from: usize,
-    to: usize,
-) -> Result<Vec<u8>, Fail> {
+fn shots(alloc: Global, image: &[u8], text: &str, from: usize, to: usize) -> Result<Vec<u8>, Fail> {
     let mut output = Vec::new(alloc);
     for frame in from..to {
         let mut cart = image;

@@ -68,11 +68,7 @@ fn make_movie<N: Name, W: CloseOnDrop, R: Wait>(
 fn at_own(at: u64, end: Result<(), RunFault>) -> Result<(), RunFault>
     ensures { result ≡ own_end at end }
 {
-    if at == 2 {
-        end
-    } else {
-        Err(RunFault::Foreign)
-    }
+    if at == 2 { end } else { Err(RunFault::Foreign) }
 }
 
 /// Makes a movie by the seat's first two edits, and writes the pictures of some of its frames.
@@ -201,7 +197,14 @@ pub fn export_run<T: Wait + Threads + Sync, C: Read, R: Read, W: Write>(
         to,
         workers: workers.clamp(1, MAX_WORKERS),
     };
-    match export_movie(rt, alloc, frames, image.as_slice(), bytes.as_slice(), output) {
+    match export_movie(
+        rt,
+        alloc,
+        frames,
+        image.as_slice(),
+        bytes.as_slice(),
+        output,
+    ) {
         Ok(()) => Ok(()),
         Err(fault) => Err(ToolFault::from(fault)),
     }

@@ -1,16 +1,19 @@
 //! The engines of the program `tas`: one public function for each command, over any readers and
 //! any writer.
 //!
-//! Those of one movie stand in `tas_engines`, and this crate hands them out; those that have a desk
-//! stand here.
+//! Those of one movie stand in `tas_engines` and those that change a movie's text in `tas_edit`, and this
+//! crate hands them out; those of a desk stand here.
 #![tactic(auto)]
 
 mod answering;
 mod exporting;
+mod movie_scripting;
 mod scripting;
 
 pub use exporting::export_run;
+pub use movie_scripting::movie_script_run;
 pub use scripting::script_run;
+pub use tas_edit::{diff_run, edit_run};
 pub use tas_engines::{
     INPUT_LIMIT, ReadFault, RunFault, ToolFault, check_run, shot_run, trace_run,
 };
@@ -19,5 +22,7 @@ pub use tas_engines::{
 mod export_tests;
 #[cfg(test)]
 mod long_script_tests;
+#[cfg(test)]
+mod movie_script_tests;
 #[cfg(test)]
 mod tests;

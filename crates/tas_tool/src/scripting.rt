@@ -14,23 +14,24 @@ use tas_desk::{CloseOnDrop, Desk, Name, OpenError, Seat, Unopened};
 use tas_engines::{RunFault, ToolFault, read_input, write_all};
 use tas_script::{parse_line, reply_line, split_once};
 
-/// Does what the lines ask for, as a seat that has made no edit, and puts the replies into the empty text.
-fn answer_lines<N: Name, W: CloseOnDrop, A: Allocator + Copy, R: Wait>(
+/// Does what the lines ask for, as a seat that has made so many edits, and puts the replies into the empty text.
+pub fn answer_lines<N: Name, W: CloseOnDrop, A: Allocator + Copy, R: Wait>(
     rt: &R,
     alloc: A,
     desk: &Desk<N, W, A>,
     seat: &mut Seat<N, A>,
+    before: u64,
     bytes: &[u8],
     text: &mut Vec<u8, A>,
 ) -> Result<(), RunFault>
     requires own { BeginsWithOwn seat.old }
-    requires fresh { seat.old.made ≡ 0 }
+    requires made { before ≡ seat.old.made }
     requires empty { text.old.items ≡ [] }
     ensures { Answers A (front_of seat.old) bytes.now text.new.items result }
 {
     let mut rest = bytes;
     let mut number = 1;
-    let mut made = 0;
+    let mut made = before;
     while 0 < rest.len() {
         let Some((line, after)) = split_once(rest, b'\n') else {
             return Err(RunFault::Script { line: number });
@@ -75,7 +76,7 @@ fn answer_script<N: Name, A: Allocator + Copy, R: Wait>(
         Err(OpenError::NoPlace) => return Err(RunFault::NoPlace),
     };
     let seat = &mut seats.as_mut_slice()[0];
-    answer_lines(rt, alloc, &desk, seat, bytes, text)
+    answer_lines(rt, alloc, &desk, seat, 0, bytes, text)
 }
 
 /// Writes a reply for each line of a script.

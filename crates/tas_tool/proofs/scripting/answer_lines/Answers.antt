@@ -7,7 +7,7 @@ use Rattle.tas_tool.proofs.scripting.answer_lines.Goals as goal
 pub loop-rest-init : goal.loop-rest-init
 loop-rest-init g c =
     let b = begun g.row.A.Denot (front_of c.args.seat.now) in
-    ([], record { reads = reads_none c.args.bytes.now; own = c.requires.own; made = sym c.requires.fresh; front = b.0; number = refl; room = omega arith; replies = c.requires.empty ∙ sym b.1 })
+    ([], record { reads = reads_none c.args.bytes.now; own = c.requires.own; made = c.requires.made; front = b.0; number = refl; room = omega arith; replies = c.requires.empty ∙ sym b.1 })
 
 pub returns-in_default : goal.returns-in_default
 returns-in_default g c =

@@ -1,4 +1,4 @@
-use Rattle.std.proofs.Common.{◌∙◌, ap, arith, subst}
+use Rattle.std.proofs.Common.{◌∙◌, ap, sym, arith, subst}
 use Rattle.std.specs.Prelude.{slice_get}
 use Rattle.tas_tool.specs.Turns.{front_of}
 use Rattle.tas_tool.specs.Scripts.{Answers}
@@ -15,9 +15,9 @@ pub answer_lines-requires-clause-own : goal.answer_lines-requires-clause-own
 answer_lines-requires-clause-own g c =
     fresh_own _ _ (first_of c.as_mut_slice.result.now _ c.index-as_mut_slice-0.result (ap (λ l. slice_get l 0) c.as_mut_slice.ensures.value ∙ c.in-Ok.ensures.fresh 0 (omega (arith, c.requires.one))))
 
-pub answer_lines-requires-clause-fresh : goal.answer_lines-requires-clause-fresh
-answer_lines-requires-clause-fresh g c =
-    fresh_made _ _ (first_of c.as_mut_slice.result.now _ c.index-as_mut_slice-0.result (ap (λ l. slice_get l 0) c.as_mut_slice.ensures.value ∙ c.in-Ok.ensures.fresh 0 (omega (arith, c.requires.one))))
+pub answer_lines-requires-clause-made : goal.answer_lines-requires-clause-made
+answer_lines-requires-clause-made g c =
+    sym (fresh_made _ _ (first_of c.as_mut_slice.result.now _ c.index-as_mut_slice-0.result (ap (λ l. slice_get l 0) c.as_mut_slice.ensures.value ∙ c.in-Ok.ensures.fresh 0 (omega (arith, c.requires.one)))))
 
 pub returns : goal.returns
 returns g c =

@@ -1,0 +1,4 @@
+pub mod Changes
+pub mod Differences
+pub mod Scripts
+pub mod Runs

@@ -1,0 +1,43 @@
+-- Scripts that start from a movie (own).
+use Rattle.std.specs.Prelude.{◌≡◌, ℕ, List, [], Option, Result, Ok, Err, ◌⊎◌}
+use Rattle.std.specs.Io.KnownBytes.{Keeps}
+use Rattle.tas_movie.specs.Content.{MovieContent}
+use Rattle.tas_engines.specs.declared.fault.RunFault.{RunFault}
+use Rattle.tas_engines.specs.declared.fault.RunFault.TheVariants.{NoPlace, NoEntry, Foreign, Memory}
+use Rattle.tas_engines.specs.declared.fault.ToolFault.{ToolFault}
+use Rattle.tas_engines.specs.Movies.{IsMovieOf, IsMovieFault}
+use Rattle.tas_engines.specs.ThreeInputs.{EndsAfterThree}
+use Rattle.tas_tool.specs.Turns.{Front}
+use Rattle.tas_tool.specs.Scripts.{Answers, EndsWithReplies}
+
+-- a movie is made by two edits: its cartridge is loaded, then its inputs are put in
+abbrev pub movie_front : MovieContent → Front
+movie_front movie = record { movie = movie; made = 2 }
+
+-- why a desk wasn't given its movie: there was no place on it; or memory, a reader's entry or a reply at just the two edits was
+-- refused
+abbrev pub IsUnmade : RunFault → Type 0
+IsUnmade NoPlace = Unit {0}
+IsUnmade NoEntry = Unit {0}
+IsUnmade Foreign = Unit {0}
+IsUnmade Memory = Unit {0}
+IsUnmade _ = ⊥
+
+-- the replies to a script that starts from a movie, and how it ends: the movie isn't made, and there are none; or they are
+-- those from its front on
+abbrev pub AnswersOver : Type 0 → MovieContent → List ℕ → List ℕ → Result (Unit {0}) RunFault → Type 0
+AnswersOver A movie bytes text (Ok u) = Answers A (movie_front movie) bytes text (Ok u)
+AnswersOver A movie bytes text (Err fault) = ((text ≡ []) × IsUnmade fault) ⊎ Answers A (movie_front movie) bytes text (Err fault)
+
+-- how a script ends that was read with a cartridge and a movie's text: there is no such movie, and nothing is written; or it
+-- is answered from the movie on
+abbrev pub RunsOver : Type 0 → (image said bytes : List ℕ) → Option (List ℕ) → Option (List ℕ) → Result (Unit {0}) RunFault → Type 0
+RunsOver A image said bytes old new (Ok u) = (movie : MovieContent) × IsMovieOf image said movie × EndsWithReplies (AnswersOver A movie bytes) old new (Ok u)
+RunsOver A image said bytes old new (Err fault) =
+    (IsMovieFault image said fault × Keeps old new) ⊎ ((movie : MovieContent) × IsMovieOf image said movie × EndsWithReplies (AnswersOver A movie bytes) old new (Err fault))
+
+-- `tas script` over a movie, from what its readers (a cartridge, a movie text and a script) have and the writer holds before to
+-- what they have and hold afterwards
+abbrev pub IsMovieScriptRun : Type 0 → (cart cart' movie movie' input input' output output' : Option (List ℕ)) → Result (Unit {0}) ToolFault → Type 0
+IsMovieScriptRun A cart cart' movie movie' input input' output output' result =
+    EndsAfterThree (λ image said bytes end. RunsOver A image said bytes output output' end) cart cart' movie movie' input input' output output' result

@@ -1,0 +1,164 @@
+//! `tas script` over a movie.
+
+ghost use Rattle.std.specs.Prelude.{◌≡◌, [], ◌+◌, MatchResult};
+ghost use Rattle.tas_movie.specs.Edit.{edited};
+ghost use Rattle.tas_desk.specs.Seats.{name_of};
+ghost use Rattle.tas_tool.specs.Turns.{front_of, BeginsWithOwn};
+ghost use Rattle.tas_tool.specs.Scripts.{start_front};
+ghost use Rattle.tas_tool.specs.MovieScripts.{movie_front, IsUnmade, AnswersOver, RunsOver, IsMovieScriptRun};
+
+use crate::answering::make_edit;
+use crate::scripting::answer_lines;
+use std::alloc::Allocator;
+use std::io::{Read, Write};
+use std::marker::Brand;
+use std::sync::Wait;
+use tas_desk::{CloseOnDrop, Desk, Name, OpenError, Seat, Unopened};
+use tas_engines::{RunFault, ToolFault, movie_of, read_three, write_all};
+use tas_movie::{Edit, Inputs, Movie};
+use tas_script::Reply;
+
+/// Makes an edit right behind the script's own edits. A refusal is a fault: `Memory`, or `Foreign` for another cause, as where
+/// the seat's front isn't just these edits; or `NoEntry`.
+fn make_allowed<N: Name, W: CloseOnDrop, A: Allocator + Copy, R: Wait>(
+    rt: &R,
+    desk: &Desk<N, W, A>,
+    seat: &mut Seat<N, A>,
+    made: u64,
+    edit: Edit<A>,
+) -> Result<(), RunFault>
+    requires own { BeginsWithOwn seat.old }
+    requires made { made ≡ seat.old.made }
+    ensures own { MatchResult result (λ _. BeginsWithOwn seat.new) IsUnmade }
+    ensures front { MatchResult result
+        (λ _. front_of seat.new ≡ record { movie = edited (front_of seat.old).movie edit; made = made + 1 }) IsUnmade }
+{
+    match make_edit(rt, desk, seat, made, edit) {
+        Ok(answered) => match answered.reply {
+            Reply::Edited { .. } => Ok(()),
+            Reply::OutOfMemory => Err(RunFault::Memory),
+            _ => Err(RunFault::Foreign),
+        },
+        Err(fault) => Err(fault),
+    }
+}
+
+/// Gives a desk without edits its movie, by two edits: the cartridge is loaded, then the inputs are put in.
+///
+/// Faults: `Memory`, `NoEntry`, and `Foreign` where the seat's front isn't just these edits.
+fn put_movie<N: Name, W: CloseOnDrop, A: Allocator + Copy, R: Wait>(
+    rt: &R,
+    alloc: A,
+    desk: &Desk<N, W, A>,
+    seat: &mut Seat<N, A>,
+    movie: &Movie<A>,
+) -> Result<(), RunFault>
+    requires own { BeginsWithOwn seat.old }
+    requires fresh { front_of seat.old ≡ start_front }
+    ensures own { MatchResult result (λ _. BeginsWithOwn seat.new) IsUnmade }
+    ensures front { MatchResult result (λ _. front_of seat.new ≡ movie_front movie.now) IsUnmade }
+{
+    let Ok(cart) = movie.cart().copy(alloc) else {
+        return Err(RunFault::Memory);
+    };
+    let Ok(inputs) = Vec::from_slice(alloc, movie.inputs()) else {
+        return Err(RunFault::Memory);
+    };
+    match make_allowed(rt, desk, seat, 0, Edit::Load(cart)) {
+        Ok(()) => {}
+        Err(fault) => return Err(fault),
+    }
+    let inputs = Inputs::from_vec(inputs);
+    make_allowed(rt, desk, seat, 1, Edit::Insert { at: 0, inputs })
+}
+
+/// Does what the lines ask for on a desk of one seat that has the movie, and puts the replies into the empty text.
+fn answer_over<N: Name, A: Allocator + Copy, R: Wait>(
+    rt: &R,
+    alloc: A,
+    unopened: Unopened<A>,
+    movie: &Movie<A>,
+    bytes: &[u8],
+    text: &mut Vec<u8, A>,
+) -> Result<(), RunFault>
+    requires name { unopened ≡ name_of N.registry N.name N.seats }
+    requires named { N.parts ≡ N.seats }
+    requires one { unopened.seats ≡ 1 }
+    requires empty { text.old.items ≡ [] }
+    ensures { AnswersOver A movie.now bytes.now text.new.items result }
+{
+    let (desk, mut seats) = match Desk::<N, &R, A>::open(rt, alloc, unopened) {
+        Ok(opened) => opened,
+        Err(OpenError::Memory) => return Err(RunFault::Memory),
+        Err(OpenError::NoPlace) => return Err(RunFault::NoPlace),
+    };
+    let seat = &mut seats.as_mut_slice()[0];
+    match put_movie(rt, alloc, &desk, seat, movie) {
+        Ok(()) => {}
+        Err(fault) => return Err(fault),
+    }
+    answer_lines(rt, alloc, &desk, seat, 2, bytes, text)
+}
+
+/// Writes a reply for each line of a script over the movie whose cartridge and text these are.
+fn run_over<A: Allocator + Copy, R: Wait, W: Write>(
+    rt: &R,
+    alloc: A,
+    image: &[u8],
+    said: &[u8],
+    bytes: &[u8],
+    output: &mut W,
+) -> Result<(), RunFault>
+    ensures { RunsOver A image.now said.now bytes.now (W.contents output.old) (W.contents output.new) result }
+{
+    let movie = match movie_of(alloc, image, said) {
+        Ok(movie) => movie,
+        Err(fault) => return Err(fault),
+    };
+    let unopened = match Unopened::new(alloc, 1) {
+        Ok(unopened) => unopened,
+        Err(OpenError::Memory) => return Err(RunFault::Memory),
+        Err(OpenError::NoPlace) => return Err(RunFault::NoPlace),
+    };
+    let mut text = Vec::new(alloc);
+    let end = answer_over::<Brand, A, R>(rt, alloc, unopened, &movie, bytes, &mut text);
+    match write_all(output, text.as_slice()) {
+        Ok(()) => {}
+        Err(fault) => return Err(fault),
+    }
+    end
+}
+
+/// Reads a cartridge, a movie text and a script, and writes a reply for each line of the script, as
+/// [`script_run`](crate::script_run) does, but from this movie on: its cartridge is loaded and its inputs are put in before the
+/// first line, by two edits, which no reply tells (own).
+///
+/// Faults, in order: those of reading the three, then `Size` and `Text`, each with nothing written; `NoPlace`, and `NoEntry`,
+/// `Foreign` and `Memory` before the first line, with nothing written; then those of `script_run`.
+pub fn movie_script_run<A: Allocator + Copy, T: Wait, C: Read, M: Read, R: Read, W: Write>(
+    rt: &T,
+    alloc: A,
+    cart: &mut C,
+    movie: &mut M,
+    input: &mut R,
+    output: &mut W,
+) -> Result<(), ToolFault>
+    ensures { IsMovieScriptRun A (C.remaining cart.old) (C.remaining cart.new) (M.remaining movie.old) (M.remaining movie.new)
+        (R.remaining input.old) (R.remaining input.new) (W.contents output.old) (W.contents output.new) result }
+{
+    let read = match read_three(alloc, cart, movie, input) {
+        Ok(read) => read,
+        Err(fault) => return Err(ToolFault::from(fault)),
+    };
+    match run_over(
+        rt,
+        alloc,
+        read.first.as_slice(),
+        read.second.as_slice(),
+        read.third.as_slice(),
+        output,
+    ) {
+        Ok(()) => Ok(()),
+        Err(fault) => Err(ToolFault::from(fault)),
+    }
+}
