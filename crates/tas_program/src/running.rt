@@ -121,7 +121,16 @@ pub fn run_task<T: Wait + Threads + Sync, F: Folder, R: Read, W: Write>(
             workers,
         } => {
             let range = (from as usize, to as usize);
-            export_file(rt, alloc, cart, range, workers as usize, folder, input, output)
+            export_file(
+                rt,
+                alloc,
+                cart,
+                range,
+                workers as usize,
+                folder,
+                input,
+                output,
+            )
         }
     }
 }

@@ -136,13 +136,7 @@ fn export_command<'a>(alloc: Global) -> Result<Command<'a>, AllocError> {
             0,
             MAX_FRAME,
         ))?
-        .arg(number(
-            alloc,
-            "TO",
-            "The frame behind the last one",
-            0,
-            MAX_FRAME,
-        ))?
+        .arg(number(alloc, "TO", "The frame behind the last one", 0, MAX_FRAME))?
         .arg(number(
             alloc,
             "WORKERS",
