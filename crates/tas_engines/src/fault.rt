@@ -46,7 +46,8 @@ pub enum RunFault {
         /// The movie's length in frames.
         len: usize,
     },
-    /// The machine is halted in the frame that was asked for, or in one of them; this is the least one's halt.
+    /// The machine is halted in the frame that was asked for, or in one of them; this is the least one's
+    /// halt.
     Halted {
         /// The address of the undocumented byte.
         at: u16,
@@ -109,7 +110,8 @@ pub enum ToolFault {
         /// The movie's length in frames.
         len: usize,
     },
-    /// The movie hasn't the frames that were asked for, or they are too many for one export. Nothing was written.
+    /// The movie hasn't the frames that were asked for, or they are too many for one export. Nothing was
+    /// written.
     #[error("fault: range {from} to {to} of {len}")]
     Range {
         /// The first frame, counted from 0.
@@ -119,8 +121,8 @@ pub enum ToolFault {
         /// The movie's length in frames.
         len: usize,
     },
-    /// The machine is halted in the frame that was asked for, or in one of them; this is the least one's halt. Nothing was
-    /// written.
+    /// The machine is halted in the frame that was asked for, or in one of them; this is the least one's
+    /// halt. Nothing was written.
     #[error("fault: halted at {at:04X} by {opcode:02X}")]
     Halted {
         /// The address of the undocumented byte.

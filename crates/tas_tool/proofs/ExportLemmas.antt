@@ -1,12 +1,10 @@
 -- A movie that is made by two edits, and its export.
-use Rattle.std.proofs.Common.{◌≡◌, ℕ, zero, suc, ◌+◌, ◌-◌, ◌<◌, ◌≤◌, List, [], ◌∷◌, ◌++◌, length, take, set, Bool, true, false, cond, Option, Some, None, Result, Ok, Err, inl, inr, refl, sym, ap, subst, ◌∙◌, arith, length-append, append-nil}
-use Rattle.std.specs.Prelude.{All, ◌==◌, if◌then◌else◌}
-use Rattle.std.proofs.lemmas.Bool.{eqb-true, eq-eqb, le-ltb, cases_lt}
+use Rattle.std.proofs.Common.{◌≡◌, ℕ, zero, ◌+◌, ◌-◌, ◌<◌, ◌≤◌, List, [], ◌∷◌, ◌++◌, length, take, set, Bool, cond, Option, Some, None, Result, Ok, Err, inl, inr, refl, sym, ap, subst, ◌∙◌, arith, length-append, append-nil}
+use Rattle.std.specs.Prelude.{All, ◌==◌}
+use Rattle.std.proofs.lemmas.Bool.{eq-eqb, le-ltb, cases_lt}
 use Rattle.std.proofs.KnownBytes.{Keeps-refl}
 use Rattle.std.specs.Io.KnownBytes.{Keeps}
 use mathlib.Core.List.{IsPrefix}
-use Rattle.vcs_cpu.specs.declared.halt.Halt.{Halt}
-use Rattle.vcs_cpu.specs.declared.halt.Halt.TheVariants.{Undocumented}
 use Rattle.vcs_machine.specs.declared.input.Input.{Input}
 use Rattle.tas_movie.specs.Content.{MovieContent}
 use Rattle.tas_movie.specs.declared.edit.Edit.{Edit}
@@ -19,24 +17,21 @@ use Rattle.tas_desk.specs.declared.replies.EditError.{EditError}
 use Rattle.tas_desk.specs.declared.replies.EditError.TheVariants.{Serial, Full, Place, Long, Memory as NoRoom}
 use Rattle.tas_desk.specs.declared.export.Exported.{Exported}
 use Rattle.tas_desk.specs.declared.runs.Plan.{Plan}
-use Rattle.tas_desk.specs.declared.export.ExportError.{ExportError}
-use Rattle.tas_desk.specs.declared.export.ExportError.TheVariants.{Range as OffRange, Halted as Stopped, Memory as NoPictures}
+use Rattle.tas_desk.specs.declared.export.ExportError.TheVariants.{Range as OffRange}
 use Rattle.tas_desk.specs.History.{movie_of, entries_of}
 use Rattle.tas_desk.specs.Session.{refusal_at, IsEditError}
-use Rattle.tas_desk.specs.Seats.{SeatContent, seat_of, entry_of, HasSeen, IsEdited, IsSettled, IsWhole}
+use Rattle.tas_desk.specs.Seats.{SeatContent, seat_of, entry_of, HasSeen, IsEdited, IsSettled}
 use Rattle.tas_desk.specs.Zones.{ZoneContent}
 use Rattle.tas_desk.specs.Closing.{made_by}
-use Rattle.tas_desk.specs.Exports.{IsInRange, IsExport}
-use Rattle.tas_desk.specs.Exporting.{BrokeOff}
-use Rattle.tas_desk.specs.Frames.{AllDrawn, pixmaps_of}
+use Rattle.tas_desk.specs.Exports.{IsExport}
+use Rattle.tas_desk.specs.Frames.{pixmaps_of}
 use Rattle.tas_desk.proofs.HistoryLemmas.{movie_of-push, movie_of-none}
 use Rattle.tas_desk.proofs.SeatLemmas.{count_by-cons}
 use Rattle.tas_engines.specs.declared.fault.RunFault.{RunFault}
-use Rattle.tas_engines.specs.declared.fault.RunFault.TheVariants.{Write, Size, Text, NoFrame, Range, Halted, Script, NoPlace, NoEntry, Foreign, Memory}
-use Rattle.tas_engines.specs.Movies.{halt_fault, IsMovieOf}
+use Rattle.tas_engines.specs.declared.fault.RunFault.TheVariants.{Range}
 use Rattle.tas_engines.specs.Output.{Ends}
-use Rattle.tas_tool.specs.Films.{IsFilm, IsFilmFault, IsFilmAnswer, IsExportAnswer}
-use Rattle.tas_tool.specs.TwoEdits.{edit_fault, own_end, HoldsMovie, IsMakingFault, StandsAtOwn}
+use Rattle.tas_tool.specs.Films.{IsFilmAnswer}
+use Rattle.tas_tool.specs.TwoEdits.{edit_fault, own_end, HoldsMovie, IsMakingFault}
 
 -- ---- the first edit
 

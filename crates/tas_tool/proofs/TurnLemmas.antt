@@ -1,8 +1,8 @@
 -- Turns of a script on a desk whose one seat is the script's.
 use Rattle.std.proofs.Common.{◌≡◌, ℕ, ◌+◌, ◌<◌, ◌≤◌, List, [], ◌∷◌, ◌++◌, length, take, Bool, true, false, Option, Some, None, Result, Ok, Err, refl, sym, ap, subst, ◌∙◌, arith, length-append, append_assoc, append-nil}
-use Rattle.std.specs.Prelude.{◌≢◌, ◌==◌, if◌then◌else◌, replicate, slice_get, MatchResult, nat_lt}
+use Rattle.std.specs.Prelude.{◌==◌, if◌then◌else◌, replicate, MatchResult, nat_lt}
 use Rattle.std.proofs.lemmas.List.{take-append-le, take_all, length-replicate}
-use Rattle.std.proofs.lemmas.Bool.{eqb-true, eq-eqb, lt-ltb, le-ltb}
+use Rattle.std.proofs.lemmas.Bool.{eqb-true, eq-eqb, lt-ltb}
 use Rattle.std.proofs.lemmas.Option.{slice_get_past}
 use Rattle.std.proofs.lemmas.List.Sums.{sum_by-append}
 use mathlib.Core.List.{IsPrefix}
@@ -19,7 +19,6 @@ use Rattle.tas_desk.specs.declared.entry.Entry.{Entry}
 use Rattle.tas_desk.specs.declared.replies.Receipt.{Receipt}
 use Rattle.tas_desk.specs.declared.replies.EditError.{EditError}
 use Rattle.tas_desk.specs.declared.replies.EditError.TheVariants.{Serial, Full as AllMade, Place as OutOfPlace, Long as OverLong, Memory as NoRoom}
-use Rattle.tas_desk.specs.declared.replies.Shot.{Shot as ShotReply}
 use Rattle.tas_desk.specs.History.{movie_of, entries_of}
 use Rattle.tas_desk.specs.declared.replies.ShotError.{ShotError}
 use Rattle.tas_desk.specs.Shots.{IsShotAt}
@@ -37,7 +36,7 @@ use Rattle.tas_script.specs.declared.reply.Reply.TheVariants.{Edited, Misplaced,
 use Rattle.tas_tool.specs.declared.answering.Answered.{Answered}
 use Rattle.tas_tool.specs.Edits.{load_edit, insert_edit, replace_edit, delete_edit}
 use Rattle.tas_tool.specs.Turns.{Unforeseen, Front, front_of, BeginsWithOwn, HasForeign, IsDeskFault, refused_reply, refusal_reply, edit_reply, edited_front, input_reply, halted_reply, shot_reply, reply_to, front_after, IsEditTurn, IsTurn}
-use Rattle.tas_tool.specs.Checking.{checked_reply, insert_refusal, looked, IsTold, IsAnswer, IsEditAnswer}
+use Rattle.tas_tool.specs.Checking.{checked_reply, insert_refusal, looked, IsAnswer, IsEditAnswer}
 
 -- ---- what a seat has seen
 

@@ -27,8 +27,8 @@ static HALTING: Program = (
     "c914dfbc057cd1e5dd9cefcba07cec773cc85a8be3a04676377b60ded704d22d",
 );
 
-/// `000=AD80026580858085094C00F0 FFC=00F0`: folds what the joysticks show into the background's colour, so that a picture
-/// depends on all inputs up to it.
+/// `000=AD80026580858085094C00F0 FFC=00F0`: folds what the joysticks show into the background's colour, so
+/// that a picture depends on all inputs up to it.
 static FOLDING: Program = (
     b"\xAD\x80\x02\x65\x80\x85\x80\x85\x09\x4C\x00\xF0",
     "01cd4f43e4064c0915ec1dde6c9364a0d994bc18d980d88e45a83ec89a41c425",
@@ -63,8 +63,8 @@ fn text_of(alloc: Global, program: Program, frames: usize) -> Result<String, Fai
     Ok(text)
 }
 
-/// A reader of some bytes that fails at one of its reads, or ends, and gives the bytes again after that. It counts its
-/// reads.
+/// A reader of some bytes that fails at one of its reads, or ends, and gives the bytes again after that. It
+/// counts its reads.
 #[derive(Drop)]
 struct Again<'a> {
     bytes: &'a [u8],
@@ -117,7 +117,8 @@ impl Read for Zeros {
     }
 }
 
-/// A writer with room for so many bytes that takes at most 1,000 at a time and then fails. It counts the writes that failed.
+/// A writer with room for so many bytes that takes at most 1,000 at a time and then fails. It counts the
+/// writes that failed.
 #[derive(Drop)]
 struct Room {
     taken: Vec<u8>,

@@ -103,8 +103,8 @@ fn export_made<N: Name, C: CloseOnDrop, R: Wait + Threads + Sync, W: Write>(
     }
 }
 
-/// Makes a movie on a desk of one seat, writes the pictures of some of its frames, and closes the desk. That nobody else
-/// made an edit is known once it is closed.
+/// Makes a movie on a desk of one seat, writes the pictures of some of its frames, and closes the desk.
+/// That nobody else made an edit is known once it is closed.
 fn export_from_desk<N: Name, R: Wait + Threads + Sync, W: Write>(
     rt: &R,
     alloc: Global,
@@ -167,14 +167,15 @@ fn export_movie<R: Wait + Threads + Sync, W: Write>(
     export_from_desk::<Brand, R, W>(rt, alloc, unopened, cart, inputs, frames, output)
 }
 
-/// Reads a cartridge and a movie text, and writes the pictures of the movie's frames from `from` to the one before `to`,
-/// counted from 0, as binary portable pixmaps, one after the other. They are played by `workers` workers, each on a thread of
-/// its own: by one where the number is 0, and by 16 where it is more. What is written doesn't depend on it.
+/// Reads a cartridge and a movie text, and writes the pictures of the movie's frames from `from` to the one
+/// before `to`, counted from 0, as binary portable pixmaps, one after the other. They are played by
+/// `workers` workers, each on a thread of its own: by one where the number is 0, and by 16 where it is
+/// more. What is written doesn't depend on it.
 ///
-/// Faults, in order: those of [`read_two`], those of [`movie_of`], then `Range` where the movie hasn't these frames or they
-/// are more than 1,024, then `Halted` with the least halted frame's halt, each with nothing written; `Memory` and `NoPlace`
-/// with nothing written; `Write` with the first bytes written, and how many. `Foreign` would tell of an edit that isn't the
-/// engine's own, and never comes.
+/// Faults, in order: those of [`read_two`], those of [`movie_of`], then `Range` where the movie hasn't
+/// these frames or they are more than 1,024, then `Halted` with the least halted frame's halt, each with
+/// nothing written; `Memory` and `NoPlace` with nothing written; `Write` with the first bytes written, and
+/// how many. `Foreign` would tell of an edit that isn't the engine's own, and never comes.
 pub fn export_run<T: Wait + Threads + Sync, C: Read, R: Read, W: Write>(
     rt: &T,
     alloc: Global,

@@ -1,6 +1,4 @@
-use Rattle.std.proofs.Common.{◌≡◌, ◌∙◌, refl, sym, subst}
-use Rattle.tas_desk.specs.Session.{refusal_at, IsEditError}
-use Rattle.tas_desk.specs.declared.replies.EditError.{EditError}
+use Rattle.std.proofs.Common.{◌∙◌, refl}
 use Rattle.tas_desk.specs.declared.replies.EditError.TheVariants.{Full as AllMade, Place as OutOfPlace, Long as OverLong}
 use Rattle.tas_tool.proofs.TurnLemmas.{error_is, refused_at, refused_serial, refused_memory}
 use Rattle.tas_tool.proofs.answering.refused_edit.Goals as goal

@@ -1,4 +1,3 @@
-use Rattle.std.proofs.Common.{sym, ◌∙◌}
 use Rattle.tas_tool.proofs.TurnLemmas.{input_error_is, input_turn, no_input_turn}
 use Rattle.tas_tool.proofs.answering.show_input.Goals as goal
 

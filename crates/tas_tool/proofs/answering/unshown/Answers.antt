@@ -1,5 +1,4 @@
-use Rattle.std.proofs.Common.{◌∙◌, Err, subst}
-use Rattle.tas_desk.specs.Shots.{IsShotAt}
+use Rattle.std.proofs.Common.{◌∙◌}
 use Rattle.tas_tool.proofs.TurnLemmas.{shot_error_is, no_frame_turn, halted_turn, shot_without_memory}
 use Rattle.tas_tool.proofs.answering.unshown.Goals as goal
 

@@ -1,6 +1,5 @@
 use Rattle.std.proofs.Common.{◌∙◌, ap, sym, arith, subst}
 use Rattle.std.specs.Prelude.{slice_get}
-use Rattle.tas_tool.specs.Turns.{front_of}
 use Rattle.tas_tool.specs.Scripts.{Answers}
 use Rattle.tas_tool.proofs.ScriptLemmas.{unanswered, unplaced, first_of, fresh_own, fresh_made, fresh_front}
 use Rattle.tas_tool.proofs.scripting.answer_script.Goals as goal
