@@ -165,7 +165,12 @@ fn flag<'a>(alloc: Global, name: &'a str, flag: &'a str, help: &'a str) -> Arg<'
 
 /// `tas script`.
 fn script_command<'a>(alloc: Global) -> Result<Command<'a>, AllocError> {
-    let cart = flag(alloc, "CART", "cart", "The cartridge's file of a movie to start from");
+    let cart = flag(
+        alloc,
+        "CART",
+        "cart",
+        "The cartridge's file of a movie to start from",
+    );
     let movie = flag(alloc, "MOVIE", "movie", "The file with this movie's text");
     Command::new(alloc, "script")
         .about("Edits a movie by a script and writes the replies")
