@@ -1,12 +1,12 @@
 -- How requests end.
-use Rattle.std.proofs.Common.{ℕ, List, Option, Result, Ok, Err}
+use Rattle.std.proofs.Common.{◌≡◌, ℕ, List, Option, Result, Ok, Err, inr, subst}
 use Rattle.std.specs.Prelude.{OnOk, OnErr}
 use Rattle.std.specs.Io.KnownBytes.{Appends}
 use Rattle.tas_engines.specs.declared.fault.RunFault.{RunFault}
 use Rattle.tas_engines.specs.declared.fault.ToolFault.{ToolFault}
 use Rattle.tas_engines.specs.Output.{StopsWriting}
 use Rattle.tas_program.specs.declared.task.Task.{Task}
-use Rattle.tas_program.specs.Program.{Streams, end_status, DoesTask, TaskEnds, TextEnds}
+use Rattle.tas_program.specs.Program.{Streams, end_status, EndsOverTwo, DoesTask, TaskEnds, TextEnds}
 
 pub task_ends : (A : Type 0) (files : List ℕ → Option (List ℕ)) (task : Task) (old new : Streams) (end : Result (Unit {0}) ToolFault) → DoesTask A files task old new end → TaskEnds A files task old new (end_status end)
 task_ends A files task old new (Ok u) does = does
@@ -15,3 +15,9 @@ task_ends A files task old new (Err fault) does = (fault, does)
 pub text_ends : (text : List ℕ) (old new : Option (List ℕ)) (end : Result (Unit {0}) ToolFault) → OnOk end (Appends old new text) → OnErr end ((fault : RunFault) × StopsWriting old new text fault) → TextEnds text old new (end_status end)
 text_ends text old new (Ok u) all stops = all
 text_ends text old new (Err fault) all stops = stops
+
+-- an engine ran over two files that were opened
+pub over_two : (runs : (file left file' left' : Option (List ℕ)) → Type 0) (one two file left file' left' : Option (List ℕ)) (old new : Streams) (end : Result (Unit {0}) ToolFault) → file ≡ one → file' ≡ two
+    → runs file left file' left' → EndsOverTwo one two runs old new end
+over_two runs one two file left file' left' old new end is is' ran =
+    inr (left, left', subst (λ (f : Option (List ℕ)). runs f left two left') is (subst (λ (f : Option (List ℕ)). runs file left f left') is' ran))

@@ -1,5 +1,6 @@
-use Rattle.std.proofs.Common.{refl, inl, inr, subst, ap, Err}
+use Rattle.std.proofs.Common.{refl, inl, ap, Err}
 use Rattle.tas_edit.specs.Runs.{IsDiffRun}
+use Rattle.tas_program.proofs.ProgramLemmas.{over_two}
 use Rattle.tas_program.proofs.running.compare_files.Goals as goal
 
 pub returns-in-Err : goal.returns-in-Err
@@ -7,12 +8,13 @@ returns-in-Err g c = inl (ap Err c.in-Err.ensures.fault, refl)
 
 pub returns-in-Ok-open_file : goal.returns-in-Ok-open_file
 returns-in-Ok-open_file g c =
-    inr (
-      _,
-      _,
-      subst (λ file'. IsDiffRun g.row.A.Denot _ _ file' _ _ _ _ _ _) c.in-Ok-open_file.ensures.file
-          (subst (λ file. IsDiffRun g.row.A.Denot file _ _ _ _ _ _ _ _) c.in-Ok.ensures.file c.diff_run.ensures),
-    )
+    let input = g.R.Read.remaining c.args.input.now in
+    let input' = g.R.Read.remaining c.diff_run.new.input in
+    let output = g.W.Write.contents c.args.output.now in
+    let output' = g.W.Write.contents c.diff_run.new.output in
+    over_two (λ file left file' left'. IsDiffRun g.row.A.Denot file left file' left' input input' output output' c.diff_run.result) (g.F.Folder.bytes_of c.args.folder.now c.args.cart.now)
+    (g.F.Folder.bytes_of c.args.folder.now c.args.other.now) (g.F.File.Read.remaining c.in-Ok.file) (g.F.File.Read.remaining c.diff_run.new.cart) (g.F.File.Read.remaining c.in-Ok-open_file.file)
+    (g.F.File.Read.remaining c.diff_run.new.before) (record { input = input; output = output }) (record { input = input'; output = output' }) c.diff_run.result c.in-Ok.ensures.file c.in-Ok-open_file.ensures.file c.diff_run.ensures
 
 pub returns : goal.returns
 returns g c = inl (ap Err c.in-Err-open_file.ensures.fault, refl)
