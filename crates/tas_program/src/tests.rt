@@ -7,7 +7,9 @@ use std::alloc::Global;
 use std::env::Args;
 use std::io;
 use std::io::{Error, ErrorKind};
+use std::sync::Wait;
 use std::test::Fail;
+use std::thread::Threads;
 
 /// A folder of one file.
 #[derive(Clone, Copy, Drop)]
@@ -48,8 +50,13 @@ fn words_of(alloc: Global, words: &[&str]) -> Result<Vec<String>, Fail> {
     Ok(all)
 }
 
-fn run_words(rt: &HostRuntime, words: io::Result<Args>, cart: &[u8], input: &[u8]) -> Ran {
-    let alloc = rt.alloc();
+fn run_words<T: Threads + Wait + Sync>(
+    rt: &T,
+    alloc: Global,
+    words: io::Result<Args>,
+    cart: &[u8],
+    input: &[u8],
+) -> Ran {
     let folder = OneFile {
         name: "game.bin",
         bytes: cart,
@@ -74,9 +81,15 @@ fn run_words(rt: &HostRuntime, words: io::Result<Args>, cart: &[u8], input: &[u8
 }
 
 /// Runs the program where the file `game.bin` is this cartridge.
-fn run(rt: &HostRuntime, words: &[&str], cart: &[u8], input: &[u8]) -> Result<Ran, Fail> {
-    let words = words_of(rt.alloc(), words)?.into_iter();
-    Ok(run_words(rt, Ok(words), cart, input))
+fn run<T: Threads + Wait + Sync>(
+    rt: &T,
+    alloc: Global,
+    words: &[&str],
+    cart: &[u8],
+    input: &[u8],
+) -> Result<Ran, Fail> {
+    let words = words_of(alloc, words)?.into_iter();
+    Ok(run_words(rt, alloc, Ok(words), cart, input))
 }
 
 /// A cartridge of zeros with these bytes at its start, where execution starts too.
@@ -210,13 +223,14 @@ fn other_words_end_with_status_2(rt: HostRuntime) -> Result<(), Fail> {
     let alloc = rt.alloc();
     let cart = image_of(alloc, PLAYFIELD)?;
     for (number, words) in MISUSES.iter().enumerate() {
-        let ran = run(&rt, words, cart.as_slice(), ONE_FRAME)?;
+        let ran = run(&rt, alloc, words, cart.as_slice(), ONE_FRAME)?;
         assert_eq!(rt; ran.code, 2, "words {number}");
         assert!(rt; ran.output.is_empty(), "words {number}");
         assert!(rt; ran.errors.starts_with(b"error: "), "words {number}");
     }
     let ran = run_words(
         &rt,
+        alloc,
         Err(Error::from(ErrorKind::InvalidData)),
         cart.as_slice(),
         ONE_FRAME,
@@ -266,12 +280,12 @@ static HELPS: [(&[&str], &[u8]); 7] = [
 fn help_and_version_are_shown(rt: HostRuntime) -> Result<(), Fail> {
     let alloc = rt.alloc();
     for (number, (words, text)) in HELPS.iter().enumerate() {
-        let ran = run(&rt, words, b"", b"")?;
+        let ran = run(&rt, alloc, words, b"", b"")?;
         assert_eq!(rt; ran.code, 0, "help {number}");
         assert!(rt; ran.output.starts_with(text), "help {number}");
         assert!(rt; ran.errors.is_empty(), "help {number}");
     }
-    let ran = run(&rt, &["--version"], b"", b"")?;
+    let ran = run(&rt, alloc, &["--version"], b"", b"")?;
     assert_eq!(rt; ran.code, 0);
     assert_eq!(rt;
         ran.output.as_slice(),
@@ -333,7 +347,7 @@ fn each_command_writes_its_answer(rt: HostRuntime) -> Result<(), Fail> {
         (&["export", "game.bin", "0", "0", "3"], ONE_FRAME, b""),
     ];
     for (number, (words, input, answer)) in cases.iter().enumerate() {
-        let ran = run(&rt, words, cart.as_slice(), input)?;
+        let ran = run(&rt, alloc, words, cart.as_slice(), input)?;
         assert_eq!(rt; ran.code, 0, "command {number}");
         assert!(rt; ran.output.as_slice() == *answer, "command {number}");
         assert!(rt; ran.errors.is_empty(), "command {number}");
@@ -412,13 +426,14 @@ fn faults_end_with_status_1(rt: HostRuntime) -> Result<(), Fail> {
         ),
     ];
     for (number, (words, file, input, output, line)) in cases.iter().enumerate() {
-        let ran = run(&rt, words, file, input)?;
+        let ran = run(&rt, alloc, words, file, input)?;
         assert_eq!(rt; ran.code, 1, "fault {number}");
         assert!(rt; ran.output.as_slice() == *output, "fault {number}");
         assert!(rt; ran.errors.as_slice() == *line, "fault {number}");
     }
     let ran = run_words(
         &rt,
+        alloc,
         Err(Error::from(ErrorKind::OutOfMemory)),
         cart,
         ONE_FRAME,
