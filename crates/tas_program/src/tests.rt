@@ -213,7 +213,7 @@ fn each_command_is_its_task(rt: HostRuntime) -> Result<(), Fail> {
 
 /// Words that are no task: none, an unknown one, too few, too many, numbers past their ranges and
 /// texts that are no numbers, unknown flags.
-static MISUSES: [&[&str]; 31] = [
+static MISUSES: [&[&str]; 40] = [
     &[],
     &[""],
     &["play"],
