@@ -232,7 +232,11 @@ fn every_number_of_workers_writes_the_shots(rt: HostRuntime) -> Result<(), Fail>
     let (image, text) = (image.as_slice(), text.as_str());
     let pictures = shots(alloc, image, text, 2, 19)?;
     assert_eq!(rt; pictures.len(), 17 * PICTURE);
-    assert!(rt; pictures[..PICTURE] != pictures[2 * PICTURE..3 * PICTURE]);
+    let (third, fifth) = (
+        shots(alloc, image, text, 2, 3)?,
+        shots(alloc, image, text, 4, 5)?,
+    );
+    assert!(rt; third != fifth);
     for workers in [1, 2, 3, 16, 0, 17, usize::MAX] {
         let (end, output) = export(&rt, alloc, image, text, (2, 19), workers);
         assert_eq!(rt; end, Ok(()), "{workers} workers");
@@ -290,7 +294,11 @@ fn a_writer_that_fails_has_the_first_bytes(rt: HostRuntime) -> Result<(), Fail> 
         let mut input = text.as_bytes();
         let end = export_run(&rt, alloc, 1, 3, 2, &mut cart, &mut input, &mut output);
         assert_eq!(rt; end, Err(ToolFault::Write { written: room }));
-        assert!(rt; output.taken.as_slice() == &pictures[..room], "room {room}");
+        assert_eq!(rt; output.taken.len(), room);
+        assert!(rt;
+            pictures.as_slice().starts_with(output.taken.as_slice()),
+            "room {room}"
+        );
         assert_eq!(rt; output.failed, 1, "room {room}");
     }
     Ok(())
