@@ -1,0 +1,3 @@
+pub mod ChangeLemmas
+pub mod DifferenceLemmas
+pub mod ScriptLemmas

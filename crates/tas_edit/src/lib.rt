@@ -1,0 +1,15 @@
+//! Movies in, movies out: a script of changes made on a movie, and the script that makes one movie of
+//! another.
+#![tactic(auto)]
+
+mod change;
+mod comparing;
+mod making;
+mod scripts;
+#[cfg(test)]
+mod tests;
+
+pub use change::{Change, change_line, read_change};
+pub use comparing::changes_between;
+pub use making::{ChangeError, make_change};
+pub use scripts::{ScriptFault, edit_movie, print_changes};
