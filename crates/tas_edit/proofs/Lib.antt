@@ -1,3 +1,4 @@
 pub mod ChangeLemmas
 pub mod DifferenceLemmas
 pub mod ScriptLemmas
+pub mod RunLemmas

@@ -1,3 +1,4 @@
 pub mod Changes
 pub mod Differences
 pub mod Scripts
+pub mod Runs

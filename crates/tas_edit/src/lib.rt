@@ -5,6 +5,7 @@
 mod change;
 mod comparing;
 mod making;
+mod running;
 mod scripts;
 #[cfg(test)]
 mod tests;
@@ -12,4 +13,5 @@ mod tests;
 pub use change::{Change, change_line, read_change};
 pub use comparing::changes_between;
 pub use making::{ChangeError, make_change};
+pub use running::{diff_run, edit_run};
 pub use scripts::{ScriptFault, edit_movie, print_changes};

@@ -3,9 +3,9 @@ use Rattle.std.specs.Prelude.{Result, Ok, Err}
 use Rattle.tas_engines.specs.declared.fault.ReadFault.{ReadFault}
 use Rattle.tas_engines.specs.declared.fault.ReadFault.TheVariants.{TooLong as PastLimit, Read as ReadFailed, Memory as NoRoom}
 use Rattle.tas_engines.specs.declared.fault.RunFault.{RunFault}
-use Rattle.tas_engines.specs.declared.fault.RunFault.TheVariants.{Write as WriteFailed, Size as WrongSize, Text as WrongText, NoFrame as OffMovie, Halted as Stopped, Script as Unclear, Memory as Refused}
+use Rattle.tas_engines.specs.declared.fault.RunFault.TheVariants.{Write as WriteFailed, Size as WrongSize, Text as WrongText, NoFrame as OffMovie, Halted as Stopped, Script as Unclear, EditPlace as PastTheEnd, EditLong as OverLong, Memory as Refused}
 use Rattle.tas_engines.specs.declared.fault.ToolFault.{ToolFault}
-use Rattle.tas_engines.specs.declared.fault.ToolFault.TheVariants.{TooLong, Read, Write, Size, Text, NoFrame, Halted, Script, Memory}
+use Rattle.tas_engines.specs.declared.fault.ToolFault.TheVariants.{TooLong, Read, Write, Size, Text, NoFrame, Halted, Script, EditPlace, EditLong, Memory}
 
 -- a fault of reading
 abbrev pub unread_fault : ReadFault → ToolFault
@@ -21,6 +21,8 @@ run_fault (WrongText error) = Text error
 run_fault (OffMovie frame len) = NoFrame frame len
 run_fault (Stopped at opcode) = Halted at opcode
 run_fault (Unclear line) = Script line
+run_fault (PastTheEnd line) = EditPlace line
+run_fault (OverLong line) = EditLong line
 run_fault Refused = Memory
 
 -- how an engine ends that has read its inputs

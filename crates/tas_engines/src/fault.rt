@@ -49,6 +49,16 @@ pub enum RunFault {
         /// The line's number, counted from 1.
         line: usize,
     },
+    /// A line of a script of changes reaches past the movie's last input.
+    EditPlace {
+        /// The line's number, counted from 1.
+        line: usize,
+    },
+    /// A line of a script of changes would make the movie too long.
+    EditLong {
+        /// The line's number, counted from 1.
+        line: usize,
+    },
     /// Memory was refused.
     Memory,
 }
@@ -98,6 +108,18 @@ pub enum ToolFault {
         /// The line's number, counted from 1.
         line: usize,
     },
+    /// A line of a script of changes reaches past the movie's last input. Nothing was written.
+    #[error("fault: script line {line}: place")]
+    EditPlace {
+        /// The line's number, counted from 1.
+        line: usize,
+    },
+    /// A line of a script of changes would make the movie too long. Nothing was written.
+    #[error("fault: script line {line}: long")]
+    EditLong {
+        /// The line's number, counted from 1.
+        line: usize,
+    },
     /// Memory was refused. Nothing was written, but by a script the replies before.
     #[error("fault: out of memory")]
     Memory,
@@ -126,6 +148,8 @@ impl From<RunFault> for ToolFault {
             RunFault::NoFrame { frame, len } => ToolFault::NoFrame { frame, len },
             RunFault::Halted { at, opcode } => ToolFault::Halted { at, opcode },
             RunFault::Script { line } => ToolFault::Script { line },
+            RunFault::EditPlace { line } => ToolFault::EditPlace { line },
+            RunFault::EditLong { line } => ToolFault::EditLong { line },
             RunFault::Memory => ToolFault::Memory,
         }
     }

@@ -8,12 +8,13 @@ use Rattle.tas_engines.specs.Movies.{IsCheckAnswer, IsShotAnswer, IsMovieRun}
 use Rattle.tas_engines.specs.Output.{StopsWriting}
 use Rattle.tas_engines.specs.Tracing.{IsTraceRun}
 use Rattle.tas_tool.specs.Scripts.{IsScriptRun}
+use Rattle.tas_edit.specs.Runs.{IsThreeRun, IsEditAnswer, IsDiffAnswer}
 use Rattle.tas_program.specs.declared.request.Request.{Request}
 use Rattle.tas_program.specs.declared.request.Request.TheVariants.{Do, Show, Refuse, NoMemory}
 use Rattle.tas_program.specs.declared.status.Status.{Status}
 use Rattle.tas_program.specs.declared.status.Status.TheVariants.{Done, Fault, Misuse}
 use Rattle.tas_program.specs.declared.task.Task.{Task}
-use Rattle.tas_program.specs.declared.task.Task.TheVariants.{Trace, Check, Shot, Script}
+use Rattle.tas_program.specs.declared.task.Task.TheVariants.{Trace, Check, Shot, Edit, Diff, Script}
 use Rattle.tas_program.specs.Task.{IsInRange}
 
 -- the number that the system is told
@@ -37,6 +38,10 @@ pub record Streams : Type 0 where
 abbrev pub EndsOver : Option (List ℕ) → (Option (List ℕ) → Option (List ℕ) → Type 0) → Streams → Streams → Result (Unit {0}) ToolFault → Type 0
 EndsOver file runs old new end = ((end ≡ Err Read) × (new ≡ old)) ⊎ ((left : Option (List ℕ)) × runs file left)
 
+-- the same of an engine that reads two files first
+abbrev pub EndsOverTwo : Option (List ℕ) → Option (List ℕ) → (Option (List ℕ) → Option (List ℕ) → Option (List ℕ) → Option (List ℕ) → Type 0) → Streams → Streams → Result (Unit {0}) ToolFault → Type 0
+EndsOverTwo one two runs old new end = ((end ≡ Err Read) × (new ≡ old)) ⊎ ((left left' : Option (List ℕ)) × runs one left two left')
+
 -- a task ends as the definition of its command says, over its file and the streams. A is the allocator, on which no
 -- answer depends
 abbrev pub DoesTask : Type 0 → (List ℕ → Option (List ℕ)) → Task → Streams → Streams → Result (Unit {0}) ToolFault → Type 0
@@ -45,6 +50,10 @@ DoesTask A files (Check cart) old new end =
     EndsOver (files cart.now) (λ file left. IsMovieRun IsCheckAnswer file left old.input new.input old.output new.output end) old new end
 DoesTask A files (Shot cart k) old new end =
     EndsOver (files cart.now) (λ file left. IsMovieRun (IsShotAnswer k) file left old.input new.input old.output new.output end) old new end
+DoesTask A files (Edit cart script) old new end =
+    EndsOverTwo (files cart.now) (files script.now) (λ file left file' left'. IsThreeRun (IsEditAnswer A) file left file' left' old.input new.input old.output new.output end) old new end
+DoesTask A files (Diff cart before) old new end =
+    EndsOverTwo (files cart.now) (files before.now) (λ file left file' left'. IsThreeRun (IsDiffAnswer A) file left file' left' old.input new.input old.output new.output end) old new end
 DoesTask A files Script old new end = IsScriptRun A old.input new.input old.output new.output end
 
 -- the program's end after a task: done where the task is, else a fault

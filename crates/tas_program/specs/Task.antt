@@ -1,13 +1,15 @@
 -- The commands' names and the ranges of their numbers (own).
 use Rattle.std.specs.Prelude.{ℕ, ◌≤◌, List, codes}
 use Rattle.tas_program.specs.declared.task.Task.{Task}
-use Rattle.tas_program.specs.declared.task.Task.TheVariants.{Trace, Check, Shot, Script}
+use Rattle.tas_program.specs.declared.task.Task.TheVariants.{Trace, Check, Shot, Edit, Diff, Script}
 
 -- the word that names a command
 abbrev pub command_name : Task → List ℕ
 command_name (Trace instructions) = codes "trace"
 command_name (Check cart) = codes "check"
 command_name (Shot cart frame) = codes "shot"
+command_name (Edit cart script) = codes "edit"
+command_name (Diff cart old) = codes "diff"
 command_name Script = codes "script"
 
 -- the numbers that the commands take
@@ -15,4 +17,6 @@ abbrev pub IsInRange : Task → Type 0
 IsInRange (Trace instructions) = instructions ≤ 1000000
 IsInRange (Check cart) = Unit {0}
 IsInRange (Shot cart frame) = frame ≤ 9999999
+IsInRange (Edit cart script) = Unit {0}
+IsInRange (Diff cart old) = Unit {0}
 IsInRange Script = Unit {0}

@@ -5,7 +5,8 @@ ghost use Rattle.std.specs.Io.KnownBytes.{Appends};
 ghost use Rattle.tas_engines.specs.declared.fault.RunFault.{RunFault};
 ghost use Rattle.tas_engines.specs.Movies.{IsMovieRun, IsCheckAnswer, IsShotAnswer};
 ghost use Rattle.tas_engines.specs.Output.{StopsWriting};
-ghost use Rattle.tas_program.specs.Program.{EndsOver, DoesTask, CarriesOut, ProgramEnds, end_status};
+ghost use Rattle.tas_edit.specs.Runs.{IsThreeRun, IsEditAnswer, IsDiffAnswer};
+ghost use Rattle.tas_program.specs.Program.{EndsOver, EndsOverTwo, DoesTask, CarriesOut, ProgramEnds, end_status};
 ghost use Rattle.std.specs.Global.{Global};
 
 use crate::request::collect_words;
@@ -14,11 +15,12 @@ use std::alloc::{Allocator, Global};
 use std::env::Args;
 use std::io;
 use std::io::{Read, Write};
+use tas_edit::{diff_run, edit_run};
 use tas_engines::write_all;
 use tas_tool::{ToolFault, check_run, script_run, shot_run, trace_run};
 
-/// Opens the file of a cartridge.
-fn open_cart<F: Folder>(folder: &F, name: &str) -> Result<F::File, ToolFault>
+/// Opens a file of this name.
+fn open_file<F: Folder>(folder: &F, name: &str) -> Result<F::File, ToolFault>
     ensures file { IfOk result (λ file. F.File.remaining file ≡ F.bytes_of folder.now name.now) }
     ensures fault { IfErr result (λ fault. fault ≡ ToolFault.Read) }
 {
@@ -41,7 +43,7 @@ fn check_file<A: Allocator + Copy, F: Folder, R: Read, W: Write>(
         (record { input = R.remaining input.old; output = W.contents output.old })
         (record { input = R.remaining input.new; output = W.contents output.new }) result }
 {
-    match open_cart(folder, cart) {
+    match open_file(folder, cart) {
         Ok(mut file) => check_run(alloc, &mut file, input, output),
         Err(fault) => Err(fault),
     }
@@ -61,8 +63,58 @@ fn shoot_file<A: Allocator + Copy, F: Folder, R: Read, W: Write>(
         (record { input = R.remaining input.old; output = W.contents output.old })
         (record { input = R.remaining input.new; output = W.contents output.new }) result }
 {
-    match open_cart(folder, cart) {
+    match open_file(folder, cart) {
         Ok(mut file) => shot_run(alloc, frame, &mut file, input, output),
+        Err(fault) => Err(fault),
+    }
+}
+
+/// `tas edit` of the cartridge and the script in these files.
+fn edit_files<A: Allocator + Copy, F: Folder, R: Read, W: Write>(
+    alloc: A,
+    cart: &str,
+    other: &str,
+    folder: &F,
+    input: &mut R,
+    output: &mut W,
+) -> Result<(), ToolFault>
+    ensures { EndsOverTwo (F.bytes_of folder.now cart.now) (F.bytes_of folder.now other.now)
+        (λ file left file' left'. IsThreeRun (IsEditAnswer A) file left file' left' (R.remaining input.old) (R.remaining input.new)
+        (W.contents output.old) (W.contents output.new) result)
+        (record { input = R.remaining input.old; output = W.contents output.old })
+        (record { input = R.remaining input.new; output = W.contents output.new }) result }
+{
+    let mut cart = match open_file(folder, cart) {
+        Ok(file) => file,
+        Err(fault) => return Err(fault),
+    };
+    match open_file(folder, other) {
+        Ok(mut file) => edit_run(alloc, &mut cart, &mut file, input, output),
+        Err(fault) => Err(fault),
+    }
+}
+
+/// `tas diff` of the cartridge and the older movie in these files.
+fn compare_files<A: Allocator + Copy, F: Folder, R: Read, W: Write>(
+    alloc: A,
+    cart: &str,
+    other: &str,
+    folder: &F,
+    input: &mut R,
+    output: &mut W,
+) -> Result<(), ToolFault>
+    ensures { EndsOverTwo (F.bytes_of folder.now cart.now) (F.bytes_of folder.now other.now)
+        (λ file left file' left'. IsThreeRun (IsDiffAnswer A) file left file' left' (R.remaining input.old) (R.remaining input.new)
+        (W.contents output.old) (W.contents output.new) result)
+        (record { input = R.remaining input.old; output = W.contents output.old })
+        (record { input = R.remaining input.new; output = W.contents output.new }) result }
+{
+    let mut cart = match open_file(folder, cart) {
+        Ok(file) => file,
+        Err(fault) => return Err(fault),
+    };
+    match open_file(folder, other) {
+        Ok(mut file) => diff_run(alloc, &mut cart, &mut file, input, output),
         Err(fault) => Err(fault),
     }
 }
@@ -86,6 +138,8 @@ pub fn run_task<A: Allocator + Copy, F: Folder, R: Read, W: Write>(
         Task::Shot { cart, frame } => {
             shoot_file(alloc, cart, frame as usize, folder, input, output)
         }
+        Task::Edit { cart, script } => edit_files(alloc, cart, script, folder, input, output),
+        Task::Diff { cart, old } => compare_files(alloc, cart, old, folder, input, output),
         Task::Script => script_run(alloc, input, output),
     }
 }

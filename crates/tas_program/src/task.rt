@@ -26,6 +26,20 @@ pub enum Task<'a> {
         /// The frame, counted from 0, up to 9,999,999.
         frame: u32,
     },
+    /// Make the changes of a script on the movie on standard input.
+    Edit {
+        /// The name of the cartridge's file.
+        cart: &'a str,
+        /// The name of the script's file.
+        script: &'a str,
+    },
+    /// Write the script that makes the movie on standard input of an older one.
+    Diff {
+        /// The name of the cartridge's file.
+        cart: &'a str,
+        /// The name of the file with the older movie's text.
+        old: &'a str,
+    },
     /// Run the script on standard input.
     Script,
 }

@@ -1,7 +1,5 @@
 //! The whole program over words, files and streams of the tests' own.
 
-ghost use Rattle.std.specs.Prelude.{Some};
-
 use super::*;
 use std::alloc::Global;
 use std::env::Args;
@@ -9,23 +7,21 @@ use std::io;
 use std::io::{Error, ErrorKind};
 use std::test::Fail;
 
-/// A folder of one file.
+/// A folder with the files `game.bin` and `other`.
 #[derive(Clone, Copy, Drop)]
-struct OneFile<'a> {
-    name: &'a str,
-    bytes: &'a [u8],
+struct TwoFiles<'a> {
+    game: &'a [u8],
+    other: &'a [u8],
 }
 
-impl<'a> Folder for OneFile<'a> {
+impl<'a> Folder for TwoFiles<'a> {
     type File = &'a [u8];
 
-    ghost bytes_of = { λ s _. Some s.bytes.now };
-
     fn open(&self, name: &str) -> io::Result<&'a [u8]> {
-        if name == self.name {
-            Ok(self.bytes)
-        } else {
-            Err(Error::from(ErrorKind::NotFound))
+        match name {
+            "game.bin" => Ok(self.game),
+            "other" => Ok(self.other),
+            _ => Err(Error::from(ErrorKind::NotFound)),
         }
     }
 }
@@ -48,11 +44,7 @@ fn words_of(alloc: Global, words: &[&str]) -> Result<Vec<String>, Fail> {
     Ok(all)
 }
 
-fn run_words(alloc: Global, words: io::Result<Args>, cart: &[u8], input: &[u8]) -> Ran {
-    let folder = OneFile {
-        name: "game.bin",
-        bytes: cart,
-    };
+fn run_words(alloc: Global, words: io::Result<Args>, folder: TwoFiles<'_>, input: &[u8]) -> Ran {
     let mut input = input;
     let mut output = Vec::new(alloc);
     let mut errors = Vec::new(alloc);
@@ -67,7 +59,8 @@ fn run_words(alloc: Global, words: io::Result<Args>, cart: &[u8], input: &[u8]) 
 /// Runs the program where the file `game.bin` is this cartridge.
 fn run(alloc: Global, words: &[&str], cart: &[u8], input: &[u8]) -> Result<Ran, Fail> {
     let words = words_of(alloc, words)?.into_iter();
-    Ok(run_words(alloc, Ok(words), cart, input))
+    let other: &[u8] = b"";
+    Ok(run_words(alloc, Ok(words), TwoFiles { game: cart, other }, input))
 }
 
 /// A cartridge of zeros with these bytes at its start, where execution starts too.
@@ -95,7 +88,7 @@ static ONE_FRAME: &[u8] =
     b"a26movie 1\ncart 820c64e9933496de683a000c5e11f0510fb7b1699b2ce86471295236b284906d\n..... ..... .....\n";
 
 /// Words that name a task, and the task.
-static TASKS: [(&[&str], Task<'static>); 8] = [
+static TASKS: [(&[&str], Task<'static>); 10] = [
     (&["trace", "0"], Task::Trace { instructions: 0 }),
     (&["trace", "3"], Task::Trace { instructions: 3 }),
     (
@@ -126,6 +119,20 @@ static TASKS: [(&[&str], Task<'static>); 8] = [
             frame: 9_999_999,
         },
     ),
+    (
+        &["edit", "a.bin", "b"],
+        Task::Edit {
+            cart: "a.bin",
+            script: "b",
+        },
+    ),
+    (
+        &["diff", "a.bin", "b"],
+        Task::Diff {
+            cart: "a.bin",
+            old: "b",
+        },
+    ),
     (&["script"], Task::Script),
 ];
 
@@ -144,7 +151,7 @@ fn each_command_is_its_task(rt: HostRuntime) -> Result<(), Fail> {
 
 /// Words that are no task: none, an unknown one, too few, too many, numbers past their ranges and
 /// texts that are no numbers, unknown flags.
-static MISUSES: [&[&str]; 22] = [
+static MISUSES: [&[&str]; 26] = [
     &[],
     &[""],
     &["play"],
@@ -165,6 +172,10 @@ static MISUSES: [&[&str]; 22] = [
     &["shot", "game.bin", "-1"],
     &["shot", "0", "game.bin"],
     &["shot", "game.bin", "0", "1"],
+    &["edit", "game.bin"],
+    &["edit", "game.bin", "other", "other"],
+    &["diff"],
+    &["diff", "game.bin", "other", "0"],
     &["script", "game.bin"],
     &["Trace", "1"],
 ];
@@ -182,7 +193,10 @@ fn other_words_end_with_status_2(rt: HostRuntime) -> Result<(), Fail> {
     let ran = run_words(
         alloc,
         Err(Error::from(ErrorKind::InvalidData)),
-        cart.as_slice(),
+        TwoFiles {
+            game: cart.as_slice(),
+            other: b"",
+        },
         ONE_FRAME,
     );
     assert_eq!(rt; ran.code, 2);
@@ -195,7 +209,7 @@ fn other_words_end_with_status_2(rt: HostRuntime) -> Result<(), Fail> {
 }
 
 /// Words that ask for help, and the beginning of the text.
-static HELPS: [(&[&str], &[u8]); 6] = [
+static HELPS: [(&[&str], &[u8]); 8] = [
     (
         &["--help"],
         b"Replays movies of Atari 2600 cartridges, exactly and from power-on\n\nUsage: tas <COMMAND>\n",
@@ -215,6 +229,14 @@ static HELPS: [(&[&str], &[u8]); 6] = [
     (
         &["shot", "--help"],
         b"Writes the picture of one frame of a movie\n\nUsage: tas shot <CART> <K>\n",
+    ),
+    (
+        &["edit", "--help"],
+        b"Makes the changes of a script on a movie and writes its text\n\nUsage: tas edit <CART> <SCRIPT>\n",
+    ),
+    (
+        &["diff", "--help"],
+        b"Writes the script that makes one movie of another\n\nUsage: tas diff <CART> <OLD>\n",
     ),
     (
         &["script", "--help"],
@@ -351,7 +373,10 @@ fn faults_end_with_status_1(rt: HostRuntime) -> Result<(), Fail> {
     let ran = run_words(
         alloc,
         Err(Error::from(ErrorKind::OutOfMemory)),
-        cart,
+        TwoFiles {
+            game: cart,
+            other: b"",
+        },
         ONE_FRAME,
     );
     assert_eq!(rt; ran.code, 1);
@@ -364,9 +389,9 @@ fn faults_end_with_status_1(rt: HostRuntime) -> Result<(), Fail> {
 fn help_that_cannot_be_written_is_a_fault(rt: HostRuntime) -> Result<(), Fail> {
     let alloc = rt.alloc();
     let words = words_of(alloc, &["--version"])?.into_iter();
-    let folder = OneFile {
-        name: "",
-        bytes: b"",
+    let folder = TwoFiles {
+        game: b"",
+        other: b"",
     };
     let mut input: &[u8] = b"";
     let mut room = [0u8; 20];
@@ -385,5 +410,100 @@ fn help_that_cannot_be_written_is_a_fault(rt: HostRuntime) -> Result<(), Fail> {
         errors.as_slice(),
         b"fault: write failed after 20 bytes\n".as_slice()
     );
+    Ok(())
+}
+
+/// A movie of the playfield's cartridge with three frames.
+static THREE_FRAMES: &[u8] =
+    b"a26movie 1\ncart 820c64e9933496de683a000c5e11f0510fb7b1699b2ce86471295236b284906d\n..... ..... .....\nR.... ..... .....\n....F ..... .....\n";
+
+#[test]
+fn movies_are_edited_and_compared(rt: HostRuntime) -> Result<(), Fail> {
+    let alloc = rt.alloc();
+    let cart = image_of(alloc, PLAYFIELD)?;
+    // The words, the file `other`, the input, and what the program then writes and tells, by hand.
+    let cases: [(&[&str], &[u8], &[u8], &[u8], &[u8]); 10] = [
+        (
+            &["edit", "game.bin", "other"],
+            b"insert 1 1 R.... ..... .....\ninsert 2 1 ....F ..... .....\n",
+            ONE_FRAME,
+            THREE_FRAMES,
+            b"",
+        ),
+        (
+            &["edit", "game.bin", "other"],
+            b"",
+            ONE_FRAME,
+            ONE_FRAME,
+            b"",
+        ),
+        (
+            &["edit", "game.bin", "other"],
+            b"delete 1 2\n",
+            THREE_FRAMES,
+            ONE_FRAME,
+            b"",
+        ),
+        (
+            &["edit", "game.bin", "other"],
+            b"delete 0 1\ndelete 2 1\n",
+            THREE_FRAMES,
+            b"",
+            b"fault: script line 2: place\n",
+        ),
+        (
+            &["edit", "game.bin", "other"],
+            b"insert 3 65534 ..... ..... .....\n",
+            THREE_FRAMES,
+            b"",
+            b"fault: script line 1: long\n",
+        ),
+        (
+            &["edit", "game.bin", "other"],
+            b"len\n",
+            THREE_FRAMES,
+            b"",
+            b"fault: script line 1\n",
+        ),
+        (
+            &["edit", "game.bin", "nothing"],
+            b"",
+            THREE_FRAMES,
+            b"",
+            b"fault: read failed\n",
+        ),
+        (
+            &["diff", "game.bin", "other"],
+            ONE_FRAME,
+            THREE_FRAMES,
+            b"insert 1 1 R.... ..... .....\ninsert 2 1 ....F ..... .....\n",
+            b"",
+        ),
+        (
+            &["diff", "game.bin", "other"],
+            THREE_FRAMES,
+            THREE_FRAMES,
+            b"",
+            b"",
+        ),
+        (
+            &["diff", "game.bin", "other"],
+            b"a26movie 1\n",
+            THREE_FRAMES,
+            b"",
+            b"fault: movie line 2: end\n",
+        ),
+    ];
+    for (number, (words, other, input, output, line)) in cases.iter().enumerate() {
+        let words = words_of(alloc, words)?.into_iter();
+        let folder = TwoFiles {
+            game: cart.as_slice(),
+            other,
+        };
+        let ran = run_words(alloc, Ok(words), folder, input);
+        assert_eq!(rt; ran.code, u8::from(!line.is_empty()), "edit {number}");
+        assert!(rt; ran.output.as_slice() == *output, "edit {number}");
+        assert!(rt; ran.errors.as_slice() == *line, "edit {number}");
+    }
     Ok(())
 }

@@ -23,10 +23,11 @@ fn number<'a>(alloc: Global, name: &'a str, help: &'a str, least: u32, most: u32
 
 /// The required word that names the cartridge's file.
 fn cartridge<'a>(alloc: Global) -> Arg<'a> {
-    Arg::new(alloc, "CART")
-        .required(true)
-        .action(ArgAction::Set)
-        .help("The cartridge's file: its image of 4096 bytes")
+    file(
+        alloc,
+        "CART",
+        "The cartridge's file: its image of 4096 bytes",
+    )
 }
 
 static TRACE_HELP: &str = "\
@@ -56,6 +57,26 @@ replayed from power-on.
 Example:
   examples/cart joystick > joystick.bin
   tas shot joystick.bin 60 < examples/joystick.movie > frame60.ppm";
+
+static EDIT_HELP: &str = "\
+Standard input is the movie text, as for 'tas check'. The script's file has changes, a line each:
+  insert AT COUNT FRAME      insert COUNT frames such as 'R.... ..... .....'
+  replace AT COUNT FRAME     replace COUNT frames
+  delete AT COUNT            delete COUNT frames
+Standard output is the text of the movie that they make, in order. A line that isn't understood, or
+whose change reaches past the last frame or makes the movie too long, ends the command with its fault
+and nothing written.
+
+Example:
+  tas edit joystick.bin examples/mend.script < examples/joystick.movie > mended.movie";
+
+static DIFF_HELP: &str = "\
+Standard input is a movie text, as for 'tas check', and OLD is the file with the text of an older one.
+Standard output is a script for 'tas edit' that makes the new movie of the old one: nothing where they
+are equal.
+
+Example:
+  tas diff joystick.bin examples/joystick.movie < mended.movie";
 
 static SCRIPT_HELP: &str = "\
 Standard input is the script: edits of a movie and looks at it, a line each:
@@ -105,6 +126,32 @@ fn shot_command<'a>(alloc: Global) -> Result<Command<'a>, AllocError> {
         .arg(number(alloc, "K", "The frame, counted from 0", 0, MAX_FRAME))
 }
 
+/// A required word that names a file.
+fn file<'a>(alloc: Global, name: &'a str, help: &'a str) -> Arg<'a> {
+    Arg::new(alloc, name)
+        .required(true)
+        .action(ArgAction::Set)
+        .help(help)
+}
+
+/// `tas edit`.
+fn edit_command<'a>(alloc: Global) -> Result<Command<'a>, AllocError> {
+    Command::new(alloc, "edit")
+        .about("Makes the changes of a script on a movie and writes its text")
+        .after_help(EDIT_HELP)
+        .arg(cartridge(alloc))?
+        .arg(file(alloc, "SCRIPT", "The script's file: a change a line"))
+}
+
+/// `tas diff`.
+fn diff_command<'a>(alloc: Global) -> Result<Command<'a>, AllocError> {
+    Command::new(alloc, "diff")
+        .about("Writes the script that makes one movie of another")
+        .after_help(DIFF_HELP)
+        .arg(cartridge(alloc))?
+        .arg(file(alloc, "OLD", "The file with the older movie's text"))
+}
+
 /// `tas script`.
 fn script_command<'a>(alloc: Global) -> Command<'a> {
     Command::new(alloc, "script")
@@ -124,6 +171,8 @@ fn command<'a>(alloc: Global) -> Result<Command<'a>, AllocError> {
         .subcommand(trace_command(alloc)?)?
         .subcommand(check_command(alloc)?)?
         .subcommand(shot_command(alloc)?)?
+        .subcommand(edit_command(alloc)?)?
+        .subcommand(diff_command(alloc)?)?
         .subcommand(script_command(alloc))
 }
 
@@ -156,6 +205,14 @@ fn task_of<'a>(matches: &ArgMatches<'a>) -> Option<Task<'a>>
         "shot" => Some(Task::Shot {
             cart: rest.get_str("CART")?,
             frame: number_of(rest, "K", 0, MAX_FRAME)?,
+        }),
+        "edit" => Some(Task::Edit {
+            cart: rest.get_str("CART")?,
+            script: rest.get_str("SCRIPT")?,
+        }),
+        "diff" => Some(Task::Diff {
+            cart: rest.get_str("CART")?,
+            old: rest.get_str("OLD")?,
         }),
         "script" => Some(Task::Script),
         _ => None,
