@@ -1,7 +1,7 @@
 use super::*;
 use std::alloc::{AllocError, Global};
 use std::test::Fail;
-use vcs_machine::{Cart, Input};
+use vcs_machine::{Cart, CartError, Input};
 
 /// `000=A910850DA91E85084C08F0 FFC=00F0`, all other bytes 0.
 fn playfield_cart(alloc: Global) -> Result<Cart, Fail> {
@@ -124,13 +124,20 @@ fn texts_are_read_and_printed_again(rt: HostRuntime) -> Result<(), Fail> {
         alloc,
         &[HEAD, CART_LINE, NONE, b"RL..F .LDU. r.bAB\n", NONE],
     )?;
-    for (text, size, frames) in [(one, 99, 1), (none, 81, 0), (other, 135, 3)] {
-        assert_eq!(rt; text.len(), size);
-        let movie = read_text(alloc, &text, &cart)?;
+    let blank = Cart::blank(alloc)?;
+    let zeros = joined(alloc, &[HEAD, BLANK_LINE, NONE, NONE])?;
+    for (text, cart, size, frames) in [
+        (one, &cart, 99, 1),
+        (none, &cart, 81, 0),
+        (other, &cart, 135, 3),
+        (zeros, &blank, 117, 2),
+    ] {
+        assert_eq!(rt; text.len(), size, "{frames} frames");
+        let movie = read_text(alloc, &text, cart)?;
         assert_eq!(rt; movie.len(), frames);
-        assert!(rt; movie.cart().bytes() == cart.bytes());
+        assert!(rt; movie.cart().bytes() == cart.bytes(), "{frames} frames");
         let printed = print_text(alloc, &movie)?;
-        assert!(rt; printed.as_slice() == text.as_slice());
+        assert!(rt; printed.as_slice() == text.as_slice(), "{frames} frames");
     }
     most_inputs_is_exact();
     one_movie_per_text();
@@ -154,14 +161,16 @@ fn first_two_lines_at_fault(rt: HostRuntime) -> Result<(), Fail> {
         assert_eq!(rt; cut, want, "{count} bytes before {byte}");
     }
     let heads: [&[u8]; 4] = [b"a26movie 3\n", b"A26movie 1\n", b"\n", b"a26movie 1 \n"];
-    for head in heads {
+    for (number, head) in heads.iter().enumerate() {
         let bytes = joined(alloc, &[head, CART_LINE, NONE])?;
-        assert_eq!(rt; read(alloc, &bytes, &cart), at(1, TextErrorKind::Head));
+        let told = read(alloc, &bytes, &cart);
+        assert_eq!(rt; told, at(1, TextErrorKind::Head), "head {number}");
     }
     let digests: [&[u8]; 4] = [BLANK_LINE, CAPITALS, NONE, b"\n"];
-    for digest in digests {
+    for (number, digest) in digests.iter().enumerate() {
         let bytes = joined(alloc, &[HEAD, digest, NONE])?;
-        assert_eq!(rt; read(alloc, &bytes, &cart), at(2, TextErrorKind::Digest));
+        let told = read(alloc, &bytes, &cart);
+        assert_eq!(rt; told, at(2, TextErrorKind::Digest), "digest {number}");
     }
     Ok(())
 }
@@ -178,13 +187,17 @@ fn frames_at_fault(rt: HostRuntime) -> Result<(), Fail> {
         b"...........\n",
         b"\n",
     ];
-    for line in wrong {
-        let first = joined(alloc, &[HEAD, CART_LINE, line, NONE, NONE])?;
-        assert_eq!(rt; read(alloc, &first, &cart), at(3, TextErrorKind::Frame));
-        let middle = joined(alloc, &[HEAD, CART_LINE, NONE, line, line])?;
-        assert_eq!(rt; read(alloc, &middle, &cart), at(4, TextErrorKind::Frame));
-        let last = joined(alloc, &[HEAD, CART_LINE, NONE, NONE, line])?;
-        assert_eq!(rt; read(alloc, &last, &cart), at(5, TextErrorKind::Frame));
+    for (number, line) in wrong.iter().enumerate() {
+        let texts = [
+            joined(alloc, &[HEAD, CART_LINE, line, NONE, NONE])?,
+            joined(alloc, &[HEAD, CART_LINE, NONE, line, line])?,
+            joined(alloc, &[HEAD, CART_LINE, NONE, NONE, line])?,
+        ];
+        for (place, text) in texts.iter().enumerate() {
+            let told = read(alloc, text, &cart);
+            let want = at(place.saturating_add(3), TextErrorKind::Frame);
+            assert_eq!(rt; told, want, "line {number} at frame {place}");
+        }
     }
     let open = joined(alloc, &[HEAD, CART_LINE, NONE, NONE, b"."])?;
     assert_eq!(rt; read(alloc, &open, &cart), at(5, TextErrorKind::End));
@@ -200,18 +213,19 @@ fn too_many_frames(rt: HostRuntime) -> Result<(), Fail> {
         text.extend_from_slice(NONE)?;
     }
     assert_eq!(rt; read(alloc, &text, &cart), Ok(65536));
-    text.extend_from_slice(b"..")?;
-    assert_eq!(rt; read(alloc, &text, &cart), at(65539, TextErrorKind::End));
-    text.extend_from_slice(b"\n")?;
-    assert_eq!(rt;
-        read(alloc, &text, &cart),
-        at(65539, TextErrorKind::TooMany)
-    );
-    text.extend_from_slice(NONE)?;
-    assert_eq!(rt;
-        read(alloc, &text, &cart),
-        at(65539, TextErrorKind::TooMany)
-    );
+    let most = text.len();
+    let further: [(&[u8], TextErrorKind); 4] = [
+        (NONE, TextErrorKind::TooMany),
+        (b"..", TextErrorKind::End),
+        (b"..\n", TextErrorKind::TooMany),
+        (b"\n..... ..... .....\n", TextErrorKind::TooMany),
+    ];
+    for (number, (lines, kind)) in further.iter().enumerate() {
+        text.truncate(most);
+        text.extend_from_slice(lines)?;
+        let told = read(alloc, &text, &cart);
+        assert_eq!(rt; told, at(65539, *kind), "lines {number}");
+    }
     Ok(())
 }
 
@@ -317,5 +331,44 @@ fn edits_of_a_list(rt: HostRuntime) -> Result<(), Fail> {
     assert!(rt; movie.inputs() == [none, none, fire].as_slice());
     assert!(rt; movie.len() == 3);
     assert_eq!(rt; movie.input(2), fire);
+    Ok(())
+}
+
+#[test]
+fn errors_in_words(rt: HostRuntime) -> Result<(), Fail> {
+    let alloc = rt.alloc();
+    let kinds = [
+        (TextErrorKind::Head, "head"),
+        (TextErrorKind::Digest, "digest"),
+        (TextErrorKind::Frame, "frame"),
+        (TextErrorKind::End, "end"),
+        (TextErrorKind::TooMany, "too many"),
+    ];
+    for (kind, word) in kinds {
+        let error = TextError { line: 65539, kind };
+        let line = format!(in alloc; "movie line 65539: {word}")?;
+        assert!(rt; error.to_string(alloc)?.as_str() == line.as_str(), "{word}");
+        let error = ReadError::Text(error);
+        assert!(rt; error.to_string(alloc)?.as_str() == line.as_str(), "{word}");
+    }
+    let words = [
+        (ReadError::Memory.to_string(alloc)?, "out of memory"),
+        (CartError::Memory.to_string(alloc)?, "out of memory"),
+        (
+            CartError::Size(7).to_string(alloc)?,
+            "cartridge has 7 bytes",
+        ),
+        (
+            EditRefusal::Place { at: 9, len: 8 }.to_string(alloc)?,
+            "place 9 of 8",
+        ),
+        (
+            EditRefusal::Long { len: 65536 }.to_string(alloc)?,
+            "too long at 65536",
+        ),
+    ];
+    for (text, word) in words {
+        assert!(rt; text.as_str() == word, "{word}");
+    }
     Ok(())
 }
