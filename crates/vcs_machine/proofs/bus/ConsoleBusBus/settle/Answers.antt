@@ -1,12 +1,14 @@
 use Rattle.std.proofs.Common.{◌∙◌, ap, sym, arith}
+use Rattle.vcs_tia.specs.declared.chip.Sync.{Sync}
+use Rattle.vcs_tia.proofs.Later.{sync-after_clocks}
 use Rattle.vcs_tia.proofs.Traces.{clocks_passed-after_clocks}
-use Rattle.vcs_machine.specs.Bus.{Observed}
-use Rattle.vcs_machine.specs.Frame.{is_frame_over}
+use Rattle.vcs_machine.specs.Bus.{lagging_of}
 use Rattle.vcs_machine.proofs.Clocks.{clocks-instruction}
+use Rattle.vcs_machine.proofs.Lagging.{after_wait-none, not_over-early}
 use Rattle.vcs_machine.proofs.bus.ConsoleBusBus.settle.Goals as goal
 
-pub wait-requires : goal.wait-requires
-wait-requires g c =
+pub settle_chips-requires : goal.settle_chips-requires
+settle_chips-requires g c =
     let b = c.args.self.now in
     let r = c.requires in
     let clocks = clocks-instruction g.O.Observer.observe r.cycles r.writes r.before _ r.is in
@@ -15,15 +17,34 @@ wait-requires g c =
     let most = r.most in
     omega (arith, clocks, behind, first, most)
 
-pub returns-clause-content : goal.returns-clause-content
-returns-clause-content g c = c.is_frame_over.ensures.content ∙ c.wait.ensures.content
+pub returns-then-self-clause-content : goal.returns-then-self-clause-content
+returns-then-self-clause-content g c =
+    let b = c.args.self.now in
+    let quiet = b.still b.clocks (omega (arith, c.if-self.true)) in
+    sym (after_wait-none g.O.Observer.observe g.met.O.Observer.observe_nil g.met.O.Observer.observe_append
+    (lagging_of g.O.Observer.observe b.rom.now b.pins b.riot.now b.tia.now (g.O.Observer.seen b.observer.now) b.ticks b.clocks)
+    (ap (λ (s : Sync). s.wait_owed) (sync-after_clocks b.clocks b.tia.now) ∙ quiet.waits))
+
+pub returns-then-self-clause-over : goal.returns-then-self-clause-over
+returns-then-self-clause-over g c =
+    let b = c.args.self.now in
+    let quiet = b.still b.clocks (omega (arith, c.if-self.true)) in
+    sym (not_over-early b.clocks b.tia.now quiet.rose quiet.low)
+
+pub returns-then-self-clause-ready : goal.returns-then-self-clause-ready
+returns-then-self-clause-ready g c = λ on.
+    let b = c.args.self.now in
+    let quiet = b.still b.clocks (omega (arith, c.if-self.true)) in
+    let behind = clocks_passed-after_clocks b.clocks b.tia.now in
+    let low = quiet.low in
+    (omega (arith, behind, low), λ n few. omega (arith, behind, low, few))
 
 pub returns-clause-over : goal.returns-clause-over
-returns-clause-over g c = c.is_frame_over.ensures.over ∙ ap (λ (o : Observed g.O.Observer.Seen). is_frame_over o.board.tia) (sym c.is_frame_over.ensures.content)
+returns-clause-over g c = c.settle_chips.ensures.over
 
 pub returns-clause-ready : goal.returns-clause-ready
 returns-clause-ready g c = λ on.
-    let b = c.is_frame_over.new.bus in
+    let b = c.settle_chips.new.self in
     let behind = clocks_passed-after_clocks b.clocks b.tia.now in
-    let low = c.is_frame_over.ensures.low on in
+    let low = c.settle_chips.ensures.low on in
     (omega (arith, behind, low), λ n few. omega (arith, behind, low, few))
