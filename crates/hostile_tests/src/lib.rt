@@ -1,0 +1,11 @@
+//! What images and texts do that were made to break the machine and its readers.
+#![tactic(auto)]
+
+#[cfg(test)]
+mod image_tests;
+#[cfg(test)]
+mod images;
+#[cfg(test)]
+mod plain_reader;
+#[cfg(test)]
+mod text_tests;
