@@ -8,7 +8,7 @@ use Rattle.tas_engines.specs.Movies.{IsCheckAnswer, IsShotAnswer, IsMovieRun}
 use Rattle.tas_engines.specs.Output.{StopsWriting}
 use Rattle.tas_engines.specs.Tracing.{IsTraceRun}
 use Rattle.tas_tool.specs.Scripts.{IsScriptRun}
-use Rattle.tas_tool.specs.Films.{IsExportAnswer}
+use Rattle.tas_tool.specs.Pixmaps.{IsExportAnswer}
 use Rattle.tas_tool.specs.MovieScripts.{IsMovieScriptRun}
 use Rattle.tas_edit.specs.Runs.{IsEditRun, IsDiffRun}
 use Rattle.tas_program.specs.declared.request.Request.{Request}

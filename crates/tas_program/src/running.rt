@@ -6,7 +6,7 @@ ghost use Rattle.tas_engines.specs.declared.fault.RunFault.{RunFault};
 ghost use Rattle.tas_engines.specs.Movies.{IsMovieRun, IsCheckAnswer, IsShotAnswer};
 ghost use Rattle.tas_engines.specs.Output.{StopsWriting};
 ghost use Rattle.tas_edit.specs.Runs.{IsEditRun, IsDiffRun};
-ghost use Rattle.tas_tool.specs.Films.{IsExportAnswer};
+ghost use Rattle.tas_tool.specs.Pixmaps.{IsExportAnswer};
 ghost use Rattle.tas_tool.specs.MovieScripts.{IsMovieScriptRun};
 ghost use Rattle.tas_program.specs.Program.{EndsOver, EndsOverTwo, DoesTask, CarriesOut, ProgramEnds, end_status};
 ghost use Rattle.std.specs.Global.{Global};

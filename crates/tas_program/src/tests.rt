@@ -376,8 +376,8 @@ fn each_command_writes_its_answer(rt: HostRuntime) -> Result<(), Fail> {
     let picture = playfield_picture(alloc)?;
     let mut movie = Vec::from_slice(alloc, ONE_FRAME)?;
     movie.extend_from_slice(b"R.... ..... .....\n")?;
-    let mut film = Vec::from_slice(alloc, picture.as_slice())?;
-    film.extend_from_slice(picture.as_slice())?;
+    let mut pictures = Vec::from_slice(alloc, picture.as_slice())?;
+    pictures.extend_from_slice(picture.as_slice())?;
     let cases: [(&[&str], &[u8], &[u8]); 7] = [
         (&["trace", "3"], stores.as_slice(), TRACE),
         (&["check", "game.bin"], ONE_FRAME, b"ok 1 frames\n"),
@@ -391,7 +391,7 @@ fn each_command_writes_its_answer(rt: HostRuntime) -> Result<(), Fail> {
         (
             &["export", "game.bin", "0", "2", "3"],
             movie.as_slice(),
-            film.as_slice(),
+            pictures.as_slice(),
         ),
         (&["export", "game.bin", "0", "0", "3"], ONE_FRAME, b""),
     ];

@@ -30,7 +30,7 @@ use Rattle.tas_desk.proofs.SeatLemmas.{count_by-cons}
 use Rattle.tas_engines.specs.declared.fault.RunFault.{RunFault}
 use Rattle.tas_engines.specs.declared.fault.RunFault.TheVariants.{Range}
 use Rattle.tas_engines.specs.Output.{Ends}
-use Rattle.tas_tool.specs.Films.{IsFilmAnswer}
+use Rattle.tas_tool.specs.Pixmaps.{IsPixmapsAnswer}
 use Rattle.tas_tool.specs.TwoEdits.{edit_fault, own_end, HoldsMovie, IsMakingFault}
 
 -- ---- the first edit
@@ -209,25 +209,25 @@ own_movie {A} seat movie holds le =
 
 -- what an export does at the movie that the seat sees, it does at this one
 pub at_movie : {A : Type 0} (seat : SeatContent A) (movie : MovieContent) (from to : ℕ) (old new : Option (List ℕ)) (end : Result (Unit {0}) RunFault) → HoldsMovie seat movie
-    → Ends (IsFilmAnswer (movie_of seat.front) from to) old new end → length seat.front ≤ seat.made → Ends (IsFilmAnswer movie from to) old new end
-at_movie {A} seat movie from to old new end holds ends le = subst (λ (m : MovieContent). Ends (IsFilmAnswer m from to) old new end) (own_movie seat movie holds le) ends
+    → Ends (IsPixmapsAnswer (movie_of seat.front) from to) old new end → length seat.front ≤ seat.made → Ends (IsPixmapsAnswer movie from to) old new end
+at_movie {A} seat movie from to old new end holds ends le = subst (λ (m : MovieContent). Ends (IsPixmapsAnswer m from to) old new end) (own_movie seat movie holds le) ends
 
 -- the same where the answer was compared
 pub told_at : {A : Type 0} (seat : SeatContent A) (movie : MovieContent) (at from to : ℕ) (old new : Option (List ℕ)) (end told : Result (Unit {0}) RunFault) → HoldsMovie seat movie → at ≡ length seat.front
-    → Ends (IsFilmAnswer (movie_of seat.front) from to) old new end → told ≡ own_end at end → length seat.front ≤ seat.made → Ends (IsFilmAnswer movie from to) old new told
+    → Ends (IsPixmapsAnswer (movie_of seat.front) from to) old new end → told ≡ own_end at end → length seat.front ≤ seat.made → Ends (IsPixmapsAnswer movie from to) old new told
 told_at {A} seat movie at from to old new end told holds is ends same le =
-    subst (λ (r : Result (Unit {0}) RunFault). Ends (IsFilmAnswer movie from to) old new r) (sym (same ∙ own_is seat movie at end holds is le)) (at_movie seat movie from to old new end holds ends le)
+    subst (λ (r : Result (Unit {0}) RunFault). Ends (IsPixmapsAnswer movie from to) old new r) (sym (same ∙ own_is seat movie at end holds is le)) (at_movie seat movie from to old new end holds ends le)
 
 kept : (old new : Option (List ℕ)) → new ≡ old → Keeps old new
 kept old new same = subst (λ (o : Option (List ℕ)). Keeps old o) (sym same) (Keeps-refl old)
 
-pub film_ends : {A : Type 0} (zone : ZoneContent A) (movie : MovieContent) (edits : ℕ) (plan : Plan) (old new : Option (List ℕ)) (exported : Exported) → IsExport zone movie edits plan old new (Ok exported)
-    → Ends (IsFilmAnswer movie plan.from plan.to) old new (Ok tt)
-film_ends zone movie edits plan old new exported is =
+pub pixmaps_end : {A : Type 0} (zone : ZoneContent A) (movie : MovieContent) (edits : ℕ) (plan : Plan) (old new : Option (List ℕ)) (exported : Exported) → IsExport zone movie edits plan old new (Ok exported)
+    → Ends (IsPixmapsAnswer movie plan.from plan.to) old new (Ok tt)
+pixmaps_end zone movie edits plan old new exported is =
     (pixmaps_of movie plan.from (plan.to - plan.from), record { range = is.1.range; drawn = is.1.drawn; pixmaps = refl }, is.1.written)
 
 pub range_ends : {A : Type 0} (zone : ZoneContent A) (movie : MovieContent) (edits : ℕ) (plan : Plan) (old new : Option (List ℕ)) (at len : ℕ) → IsExport zone movie edits plan old new (Err (OffRange at len))
-    → Ends (IsFilmAnswer movie plan.from plan.to) old new (Err (Range plan.from plan.to len))
+    → Ends (IsPixmapsAnswer movie plan.from plan.to) old new (Err (Range plan.from plan.to len))
 range_ends zone movie edits plan old new at len is = inl ((refl, refl, is.1, is.2), kept old new is.3)
 
 -- ---- the desk that is closed

@@ -2,6 +2,6 @@ pub mod Edits
 pub mod Turns
 pub mod Checking
 pub mod Scripts
-pub mod Films
+pub mod Pixmaps
 pub mod TwoEdits
 pub mod MovieScripts

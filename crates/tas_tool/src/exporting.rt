@@ -5,7 +5,7 @@ ghost use Rattle.tas_movie.specs.Content.{most_inputs};
 ghost use Rattle.tas_desk.specs.Seats.{name_of};
 ghost use Rattle.tas_engines.specs.Movies.{IsMovieRun};
 ghost use Rattle.tas_engines.specs.Output.{Ends};
-ghost use Rattle.tas_tool.specs.Films.{IsFilmAnswer, IsExportAnswer};
+ghost use Rattle.tas_tool.specs.Pixmaps.{IsPixmapsAnswer, IsExportAnswer};
 ghost use Rattle.tas_tool.specs.TwoEdits.{edit_fault, own_end, HoldsMovie, IsMakingFault, StandsAtOwn};
 
 use crate::answering::OpenGate;
@@ -87,7 +87,7 @@ fn export_made<N: Name, C: CloseOnDrop, R: Wait + Threads + Sync, W: Write>(
     requires workers { (1 ≤ frames.workers) × (frames.workers ≤ 16) }
     ensures number { seat.new.number ≡ 0 }
     ensures own { StandsAtOwn seat.new result }
-    ensures ends { length seat.new.front ≤ seat.new.made → Ends (IsFilmAnswer (record { cart = cart; inputs = inputs }) frames.from frames.to) (W.contents output.old) (W.contents output.new) result }
+    ensures ends { length seat.new.front ≤ seat.new.made → Ends (IsPixmapsAnswer (record { cart = cart; inputs = inputs }) frames.from frames.to) (W.contents output.old) (W.contents output.new) result }
 {
     match make_movie(rt, desk, seat, cart, inputs) {
         Ok(()) => {}
@@ -119,7 +119,7 @@ fn export_from_desk<N: Name, R: Wait + Threads + Sync, W: Write>(
     requires one { unopened.seats ≡ 1 }
     requires few { length inputs ≤ most_inputs }
     requires workers { (1 ≤ frames.workers) × (frames.workers ≤ 16) }
-    ensures { Ends (IsFilmAnswer (record { cart = cart; inputs = inputs }) frames.from frames.to) (W.contents output.old) (W.contents output.new) result }
+    ensures { Ends (IsPixmapsAnswer (record { cart = cart; inputs = inputs }) frames.from frames.to) (W.contents output.old) (W.contents output.new) result }
 {
     let (desk, mut seats) = match Desk::<N, &R>::open(rt, alloc, unopened) {
         Ok(opened) => opened,

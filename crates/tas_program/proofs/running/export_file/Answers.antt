@@ -1,6 +1,6 @@
 use Rattle.std.proofs.Common.{refl, inl, inr, subst, ap, Err}
 use Rattle.tas_engines.specs.Movies.{IsMovieRun}
-use Rattle.tas_tool.specs.Films.{IsExportAnswer}
+use Rattle.tas_tool.specs.Pixmaps.{IsExportAnswer}
 use Rattle.tas_program.proofs.running.export_file.Goals as goal
 
 pub returns-in-Ok : goal.returns-in-Ok

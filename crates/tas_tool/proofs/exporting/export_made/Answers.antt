@@ -3,7 +3,7 @@ use Rattle.tas_movie.specs.Content.{MovieContent}
 use Rattle.tas_desk.specs.declared.runs.Plan.{Plan}
 use Rattle.tas_desk.specs.History.{movie_of}
 use Rattle.tas_engines.specs.declared.fault.RunFault.TheVariants.{Range}
-use Rattle.tas_tool.proofs.ExportLemmas.{still_holds, told_at, film_ends, range_ends}
+use Rattle.tas_tool.proofs.ExportLemmas.{still_holds, told_at, pixmaps_end, range_ends}
 use Rattle.tas_tool.proofs.exporting.export_made.Goals as goal
 
 pub returns-in-Ok-export-clause-ends : goal.returns-in-Ok-export-clause-ends
@@ -11,7 +11,7 @@ returns-in-Ok-export-clause-ends g c =
     let holds = still_holds c.make_movie.new.seat c.export.new.seat _ c.export.ensures.seat.seen c.in-Ok.ensures.made in
     let movie : MovieContent = record { cart = c.args.cart; inputs = c.args.inputs } in
     let reply = c.in-Ok-export.ensures.reply in
-    told_at c.export.new.seat movie c.in-Ok-export.exported.at c.args.frames.from c.args.frames.to _ _ (Ok tt) c.at_own.result holds reply.0 (film_ends _ _ _ _ _ _ c.in-Ok-export.exported reply) c.at_own.ensures
+    told_at c.export.new.seat movie c.in-Ok-export.exported.at c.args.frames.from c.args.frames.to _ _ (Ok tt) c.at_own.result holds reply.0 (pixmaps_end _ _ _ _ _ _ c.in-Ok-export.exported reply) c.at_own.ensures
 
 pub returns-in-Err-Range-clause-ends : goal.returns-in-Err-Range-clause-ends
 returns-in-Err-Range-clause-ends g c =

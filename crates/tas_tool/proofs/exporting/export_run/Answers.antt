@@ -1,6 +1,6 @@
 use Rattle.std.proofs.Common.{ap, refl, Ok, Err}
 use Rattle.tas_engines.proofs.EngineEnds.{unread, movie_ran}
-use Rattle.tas_tool.specs.Films.{IsExportAnswer}
+use Rattle.tas_tool.specs.Pixmaps.{IsExportAnswer}
 use Rattle.tas_tool.proofs.exporting.export_run.Goals as goal
 
 pub returns-in-Err : goal.returns-in-Err
