@@ -1,4 +1,6 @@
 pub mod TurnLemmas
 pub mod ScriptLemmas
+pub mod OneSeatLemmas
+pub mod MakingLemmas
 pub mod ExportLemmas
 pub mod MovieScriptLemmas

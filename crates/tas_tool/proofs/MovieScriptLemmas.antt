@@ -1,10 +1,49 @@
 -- Scripts that start from a movie.
-use Rattle.std.proofs.Common.{◌≡◌, ℕ, List, Result, Ok, Err, inr, subst}
+use Rattle.std.proofs.Common.{◌≡◌, ℕ, ◌≤◌, List, [], length, take, Result, Ok, Err, inl, inr, sym, ap, subst, ◌∙◌, arith}
 use Rattle.tas_movie.specs.Content.{MovieContent}
+use Rattle.tas_desk.specs.History.{movie_of, entries_of}
+use Rattle.tas_desk.specs.Seats.{SeatContent}
 use Rattle.tas_engines.specs.declared.fault.RunFault.{RunFault}
-use Rattle.tas_tool.specs.Turns.{Front}
+use Rattle.tas_engines.specs.declared.fault.RunFault.TheVariants.{Write, Size, Text, NoFrame as OffMovie, Range as OffRange, Halted as Stopped, Script, EditPlace, EditLong, NoPlace, NoEntry, Foreign, Memory}
+use Rattle.tas_tool.specs.Turns.{Front, front_of, BeginsWithOwn}
+use Rattle.tas_tool.specs.TwoEdits.{HoldsMovie, IsMakingFault}
 use Rattle.tas_tool.specs.Scripts.{Answers}
-use Rattle.tas_tool.specs.MovieScripts.{movie_front, AnswersOver}
+use Rattle.tas_tool.specs.MovieScripts.{movie_front, IsUnmade, AnswersOver}
+
+-- a seat that holds a movie begins with its own edits
+pub holds_own : {A : Type 0} (seat : SeatContent A) (movie : MovieContent) → HoldsMovie seat movie → BeginsWithOwn seat
+holds_own {A} seat movie holds =
+    let made = holds.made in
+    let seen = holds.seen in
+    record {
+      seen = omega (arith, made, seen);
+      own = ap (λ (n : ℕ). entries_of seat.number (take n seat.front)) made ∙ holds.own ∙ sym made;
+    }
+
+-- which make the movie
+pub holds_front : {A : Type 0} (seat : SeatContent A) (movie : MovieContent) → HoldsMovie seat movie → front_of seat ≡ movie_front movie
+holds_front {A} seat movie holds =
+    ap (λ (n : ℕ). let f : Front = record { movie = movie_of (take n seat.front); made = n } in f) holds.made
+    ∙ ap (λ (m : MovieContent). let f : Front = record { movie = m; made = 2 } in f) holds.movie_is
+
+-- the movie isn't made
+unmade_by : {A : Type 0} (seat : SeatContent A) (fault : RunFault) → IsMakingFault seat fault → length seat.front ≤ seat.made → IsUnmade fault
+unmade_by seat Memory is own = tt
+unmade_by seat Foreign is own = absurd (omega (arith, is, own))
+unmade_by seat NoEntry is own = absurd is
+unmade_by seat NoPlace is own = absurd is
+unmade_by seat (Write written) is own = absurd is
+unmade_by seat (Size n) is own = absurd is
+unmade_by seat (Text error) is own = absurd is
+unmade_by seat (OffMovie frame len) is own = absurd is
+unmade_by seat (OffRange from to len) is own = absurd is
+unmade_by seat (Stopped at opcode) is own = absurd is
+unmade_by seat (Script line) is own = absurd is
+unmade_by seat (EditPlace line) is own = absurd is
+unmade_by seat (EditLong line) is own = absurd is
+
+pub unmade : (A : Type 0) (movie : MovieContent) (bytes text : List ℕ) (seat : SeatContent A) (fault : RunFault) → text ≡ [] → IsMakingFault seat fault → length seat.front ≤ seat.made → AnswersOver A movie bytes text (Err fault)
+unmade A movie bytes text seat fault none is own = inl (none, unmade_by seat fault is own)
 
 -- the lines are answered from the movie's front on
 pub answered_over : (A : Type 0) (movie : MovieContent) (front : Front) (bytes text : List ℕ) (end : Result (Unit {0}) RunFault) → front ≡ movie_front movie → Answers A front bytes text end → AnswersOver A movie bytes text end

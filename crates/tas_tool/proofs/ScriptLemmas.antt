@@ -14,12 +14,8 @@ use Rattle.tas_script.specs.declared.command.Command.{Command}
 use Rattle.tas_script.specs.declared.reply.Reply.{Reply}
 use Rattle.tas_script.specs.Commands.{Says, NoByte}
 use Rattle.tas_script.specs.Replies.{reply_text}
-use Rattle.std.specs.Prelude.{slice_get, slice_index_or}
-use Rattle.tas_movie.specs.Content.{MovieContent}
-use Rattle.tas_desk.specs.Zones.{ZoneContent}
-use Rattle.tas_desk.specs.Seats.{SeatContent, seat_of}
-use Rattle.tas_desk.proofs.HistoryLemmas.{movie_of-none}
-use Rattle.tas_tool.specs.Turns.{Unforeseen, Front, front_of, BeginsWithOwn, IsDeskFault, reply_to, front_after}
+use Rattle.tas_desk.specs.Seats.{SeatContent}
+use Rattle.tas_tool.specs.Turns.{Unforeseen, Front, IsDeskFault, reply_to, front_after}
 use Rattle.tas_tool.specs.Scripts.{Turn, turn_line, AreSaid, front_after_all, replies_to_all, IsUnclear, IsStop, Reads, Answers, start_front, EndsWithReplies, RunsScript, IsScriptRun}
 use Rattle.tas_script.proofs.WordLemmas.{no_parts, same_front}
 
@@ -118,36 +114,21 @@ unanswered A bytes text is = ([], bytes, reads_none bytes, is ∙ sym (begun A s
 pub unplaced : (A : Type 0) (bytes text : List ℕ) → text ≡ [] → Answers A start_front bytes text (Err NoPlace)
 unplaced A bytes text is = ([], bytes, reads_none bytes, is ∙ sym (begun A start_front).1, refl)
 
--- ---- the seat of a desk that was just opened
-
-pub first_of : {X : Type 0} (xs : List X) (x d : X) → slice_get xs 0 ≡ Some x → slice_index_or xs 0 d ≡ x
-first_of [] x d e = absurd (cc e)
-first_of (y ∷ xs) x d e = cc e
-
-pub fresh_own : {A : Type 0} (seat : SeatContent A) (zone : ZoneContent A) → seat ≡ seat_of 0 0 [] zone → BeginsWithOwn seat
-fresh_own seat zone is = subst BeginsWithOwn (sym is) (record { seen = omega arith; own = refl })
-
-pub fresh_made : {A : Type 0} (seat : SeatContent A) (zone : ZoneContent A) → seat ≡ seat_of 0 0 [] zone → seat.made ≡ 0
-fresh_made {A} seat zone is = ap (λ (s : SeatContent A). s.made) is
-
-pub fresh_front : {A : Type 0} (seat : SeatContent A) (zone : ZoneContent A) → seat ≡ seat_of 0 0 [] zone → front_of seat ≡ start_front
-fresh_front {A} seat zone is = ap (λ (s : SeatContent A). front_of s) is ∙ ap (λ (m : MovieContent). let f : Front = record { movie = m; made = 0 } in f) (movie_of-none A)
-
--- a fault of the desk's stops the script
-pub desk_stop : {A : Type 0} (seat : SeatContent A) (fault : RunFault) (turns : List Turn) (rest : List ℕ) → 0 < length rest → IsDeskFault seat fault → IsStop rest turns fault
-desk_stop seat Foreign turns rest some is = some
-desk_stop seat NoEntry turns rest some is = some
-desk_stop seat (Write written) turns rest some is = absurd is
-desk_stop seat (Size n) turns rest some is = absurd is
-desk_stop seat (Text error) turns rest some is = absurd is
-desk_stop seat (OffMovie frame len) turns rest some is = absurd is
-desk_stop seat (OffRange from to len) turns rest some is = absurd is
-desk_stop seat (Stopped at opcode) turns rest some is = absurd is
-desk_stop seat (Script line) turns rest some is = absurd is
-desk_stop seat (EditPlace line) turns rest some is = absurd is
-desk_stop seat (EditLong line) turns rest some is = absurd is
-desk_stop seat NoPlace turns rest some is = absurd is
-desk_stop seat Memory turns rest some is = absurd is
+-- a fault of the desk's stops the script, where the seat has seen just its own edits
+pub desk_stop : {A : Type 0} (seat : SeatContent A) (fault : RunFault) (turns : List Turn) (rest : List ℕ) → 0 < length rest → IsDeskFault seat fault → length seat.front ≤ seat.made → IsStop rest turns fault
+desk_stop seat Foreign turns rest some is own = absurd (omega (arith, is, own))
+desk_stop seat NoEntry turns rest some is own = some
+desk_stop seat (Write written) turns rest some is own = absurd is
+desk_stop seat (Size n) turns rest some is own = absurd is
+desk_stop seat (Text error) turns rest some is own = absurd is
+desk_stop seat (OffMovie frame len) turns rest some is own = absurd is
+desk_stop seat (OffRange from to len) turns rest some is own = absurd is
+desk_stop seat (Stopped at opcode) turns rest some is own = absurd is
+desk_stop seat (Script line) turns rest some is own = absurd is
+desk_stop seat (EditPlace line) turns rest some is own = absurd is
+desk_stop seat (EditLong line) turns rest some is own = absurd is
+desk_stop seat NoPlace turns rest some is own = absurd is
+desk_stop seat Memory turns rest some is own = absurd is
 
 -- the replies are written, or a write of them failed
 pub written : (answers : List ℕ → Result (Unit {0}) RunFault → Type 0) (items text : List ℕ) (old new : Option (List ℕ)) (end : Result (Unit {0}) RunFault) → answers items end → text ≡ items → Appends old new text

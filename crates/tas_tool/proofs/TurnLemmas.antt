@@ -1,8 +1,8 @@
 -- Turns of a script on a desk whose one seat is the script's.
-use Rattle.std.proofs.Common.{◌≡◌, ℕ, ◌+◌, ◌<◌, ◌≤◌, List, [], ◌∷◌, ◌++◌, length, take, Bool, true, false, Option, Some, None, Result, Ok, Err, refl, sym, ap, subst, ◌∙◌, arith, length-append, append_assoc, append-nil}
+use Rattle.std.proofs.Common.{◌≡◌, ℕ, ◌+◌, ◌<◌, ◌≤◌, List, [], ◌∷◌, ◌++◌, length, take, Bool, true, false, Option, Some, None, Result, Ok, Err, inl, inr, refl, sym, ap, subst, ◌∙◌, arith, length-append, append_assoc, append-nil}
 use Rattle.std.specs.Prelude.{◌==◌, if◌then◌else◌, replicate, MatchResult, nat_lt}
 use Rattle.std.proofs.lemmas.List.{take-append-le, take_all, length-replicate}
-use Rattle.std.proofs.lemmas.Bool.{eqb-true, eq-eqb, lt-ltb}
+use Rattle.std.proofs.lemmas.Bool.{eqb-true, eq-eqb, lt-ltb, cases_lt}
 use Rattle.std.proofs.lemmas.Option.{slice_get_past}
 use Rattle.std.proofs.lemmas.List.Sums.{sum_by-append}
 use mathlib.Core.List.{IsPrefix}
@@ -52,7 +52,7 @@ front_stays {A} before now own seen =
     ap (λ (l : List (Entry A)). let f : Front = record { movie = movie_of l; made = now.made } in f) (stays before now own seen)
     ∙ ap (λ (n : ℕ). let f : Front = record { movie = movie_of (take before.made before.front); made = n } in f) seen.made
 
-longer : {A : Type 0} (before now : SeatContent A) → HasSeen before now → length before.front ≤ length now.front
+pub longer : {A : Type 0} (before now : SeatContent A) → HasSeen before now → length before.front ≤ length now.front
 longer before now seen = omega (arith, sym (ap length seen.begins.1) ∙ length-append before.front seen.begins.0)
 
 pub own_stays : {A : Type 0} (before now : SeatContent A) → BeginsWithOwn before → HasSeen before now → BeginsWithOwn now
@@ -79,8 +79,19 @@ seen_more {A} a b c p q = record {
   begins = (p.begins.0 ++ q.begins.0, sym (append_assoc a.front p.begins.0 q.begins.0) ∙ ap (λ (l : List (Entry A)). l ++ q.begins.0) p.begins.1 ∙ q.begins.1);
 }
 
-pub foreign : {A : Type 0} (before now : SeatContent A) (made at : ℕ) → HasSeen before now → made ≡ before.made → at ≡ length now.front → (at ≡ made → ⊥) → HasForeign now
-foreign before now made at seen m is other = λ (e : length now.front ≡ now.made). other (is ∙ e ∙ seen.made ∙ sym m)
+-- a number that isn't the least one is more
+pub more_than : (a b : ℕ) → a ≤ b → (b ≡ a → ⊥) → a < b
+more_than a b le other = elim (cases_lt a b) [
+  | inl h ↦ h
+  | inr h ↦ absurd (other (omega (arith, le, h)))
+]
+
+-- a front of another length than the seat's own edits has more
+pub has_foreign : {A : Type 0} (seat : SeatContent A) → BeginsWithOwn seat → (length seat.front ≡ seat.made → ⊥) → HasForeign seat
+has_foreign seat own other = more_than seat.made (length seat.front) own.seen other
+
+pub foreign : {A : Type 0} (before now : SeatContent A) (made at : ℕ) → BeginsWithOwn before → HasSeen before now → made ≡ before.made → at ≡ length now.front → (at ≡ made → ⊥) → HasForeign now
+foreign before now made at own seen m is other = has_foreign now (own_stays before now own seen) (λ (e : length now.front ≡ now.made). other (is ∙ e ∙ seen.made ∙ sym m))
 
 -- ---- checked replies
 
@@ -190,12 +201,14 @@ refused_at seat made at error reply r edit own m told place is found =
     ∙ place_is (entries_of seat.number seat.front == seat.made) (length seat.front == 1000000) (length seat.front) (entries_of seat.number seat.front) (refusal (movie_of seat.front) edit) error found in
     checked_ends made at reply r (λ reply'. IsEditTurn (front_of seat) edit reply' (front_of seat)) (IsDeskFault seat) is
     (λ (same : at ≡ made). turn_refused (front_of seat) edit reply (own_told seat edit (Some error) own (sym here ∙ same ∙ m) found ∙ told))
-    (λ (other : at ≡ made → ⊥). foreign seat seat made at (seen_self seat) m here other)
+    (λ (other : at ≡ made → ⊥). foreign seat seat made at own (seen_self seat) m here other)
 
 -- another number of the seat's entries than it made
 pub refused_serial : {A : Type 0} (seat : SeatContent A) (at counted : ℕ) (edit : Edit A) → BeginsWithOwn seat → refusal_at seat.front seat.number seat.made edit ≡ Some (Serial at counted) → HasForeign seat
-refused_serial seat at counted edit own found = λ (e : length seat.front ≡ seat.made).
-    not_serial (length seat.front == 1000000) (length seat.front) at counted (refusal (movie_of seat.front) edit) (sym (own_refusal seat edit own e) ∙ found)
+refused_serial seat at counted edit own found =
+    has_foreign seat own
+    (λ (e : length seat.front ≡ seat.made).
+    not_serial (length seat.front == 1000000) (length seat.front) at counted (refusal (movie_of seat.front) edit) (sym (own_refusal seat edit own e) ∙ found))
 
 -- a front that is followed by one as long as the seat's own edits
 first_front : {A : Type 0} (before now : SeatContent A) → BeginsWithOwn before → HasSeen before now → length now.front ≡ before.made → length before.front ≡ before.made
@@ -217,7 +230,7 @@ at_history before history = seat_of before.number before.made history before.zon
 seen_history : {A : Type 0} (before : SeatContent A) (history : List (Entry A)) → IsPrefix before.front history → HasSeen before (at_history before history)
 seen_history before history begins = record { number = refl; made = refl; begins = begins }
 
-entries_push : {A : Type 0} (history : List (Entry A)) (entry : Entry A) (k : ℕ) → entry.seat ≡ k → entries_of k (history ++ entry ∷ []) ≡ entries_of k history + 1
+pub entries_push : {A : Type 0} (history : List (Entry A)) (entry : Entry A) (k : ℕ) → entry.seat ≡ k → entries_of k (history ++ entry ∷ []) ≡ entries_of k history + 1
 entries_push {A} history entry k is =
     let e = sum_by-append (λ (y : Entry A). if y.seat == k then 1 else 0) history (entry ∷ []) in
     let one : ◌≡◌ {A = ℕ} (if entry.seat == k then 1 else 0) 1 = rw (eq-eqb entry.seat k is) refl in
@@ -253,13 +266,14 @@ edit_made {A} before now edit receipt made own m e at =
       });
     }
 
-pub edit_foreign : {A : Type 0} (before now : SeatContent A) (edit : Edit A) (receipt : Receipt) (made : ℕ) → made ≡ before.made → IsEdited before now edit (Ok receipt) → (receipt.at ≡ made + 1 → ⊥)
-    → HasForeign now
-edit_foreign {A} before now edit receipt made m e other =
+pub edit_foreign : {A : Type 0} (before now : SeatContent A) (edit : Edit A) (receipt : Receipt) (made : ℕ) → BeginsWithOwn before → made ≡ before.made → IsEdited before now edit (Ok receipt)
+    → (receipt.at ≡ made + 1 → ⊥) → HasForeign now
+edit_foreign {A} before now edit receipt made own m e other =
     let counted : receipt.at ≡ length e.at + 1 = ap (λ (r : Receipt). r.at) e.receipt in
     let long : length now.front ≡ length e.at + 1 = ap (λ (s : SeatContent A). length s.front) e.seat ∙ length-append e.at (entry_of before.number before.made edit ∷ []) in
     let so_many : now.made ≡ before.made + 1 = ap (λ (s : SeatContent A). s.made) e.seat in
-    λ (same : length now.front ≡ now.made). other (omega (arith, counted, long, so_many, same, m))
+    let more = longer before (at_history before e.at) (seen_history before e.at e.begins) in
+    more_than now.made (length now.front) (omega (arith, so_many, long, more, own.seen)) (λ (same : length now.front ≡ now.made). other (omega (arith, counted, long, so_many, same, m)))
 
 -- an edit that was refused, with what was told then
 pub edit_refused : {A : Type 0} (before mid now : SeatContent A) (edit : Edit A) (error : EditError) (made : ℕ) (r : Result Reply RunFault) (answer : Result Answered RunFault) → BeginsWithOwn before → made ≡ before.made
@@ -433,7 +447,7 @@ input_turn A before now made at k input r own m seen here found is =
     (λ (same : at ≡ made).
     look_turn A before now (InputAt k) (Pressed at input) own seen
     (unforeseen false, ap (λ (n : ℕ). Pressed n input) (same ∙ m) ∙ ap (input_reply (front_of before)) (sym found ∙ ap (λ (x : MovieContent). answer_input x k) (own_movie before now own seen (sym here ∙ same ∙ m))), refl))
-    (λ (other : at ≡ made → ⊥). foreign before now made at seen m here other)
+    (λ (other : at ≡ made → ⊥). foreign before now made at own seen m here other)
 
 pub no_input_turn : (A : Type 0) (before now : SeatContent A) (made at len k : ℕ) (r : Result Reply RunFault) → BeginsWithOwn before → made ≡ before.made → HasSeen before now → at ≡ length now.front
     → len ≡ length (movie_of now.front).inputs → len ≤ k → r ≡ checked_reply made at (NoFrame at len) → MatchResult r (λ reply. IsTurn A (front_of before) (InputAt k) reply (front_of now)) (IsDeskFault now)
@@ -445,7 +459,7 @@ no_input_turn A before now made at len k r own m seen here long past is =
     let none : answer_input (front_of before).movie k ≡ None = slice_get_past (front_of before).movie.inputs k (subst (λ (n : ℕ). n ≤ k) length_is past) in
     look_turn A before now (InputAt k) (NoFrame at len) own seen
     (unforeseen false, ap (λ (n : ℕ). NoFrame n len) (same ∙ m) ∙ ap (NoFrame before.made) length_is ∙ ap (input_reply (front_of before)) (sym none), refl))
-    (λ (other : at ≡ made → ⊥). foreign before now made at seen m here other)
+    (λ (other : at ≡ made → ⊥). foreign before now made at own seen m here other)
 
 -- ---- shots
 
@@ -467,7 +481,7 @@ shot_turn A before now made at frame k ran lit picture r own m seen here which s
           ∙ ap (shot_reply u (front_of before) k) (sym shows ∙ ap (λ (x : MovieContent). answer_shot x k) movie),
       refl,
     ))
-    (λ (other : at ≡ made → ⊥). foreign before now made at seen m here other)
+    (λ (other : at ≡ made → ⊥). foreign before now made at own seen m here other)
 
 pub no_frame_turn : (A : Type 0) (seat : SeatContent A) (made at len k : ℕ) (r : Result Reply RunFault) → BeginsWithOwn seat → made ≡ seat.made → answer_shot (movie_of seat.front) k ≡ None → at ≡ length seat.front
     → len ≡ length (movie_of seat.front).inputs → r ≡ checked_reply made at (NoFrame at len) → MatchResult r (λ reply. IsTurn A (front_of seat) (Shot k) reply (front_of seat)) (IsDeskFault seat)
@@ -481,7 +495,7 @@ no_frame_turn A seat made at len k r own m none here long is =
           ∙ ap (shot_reply (unforeseen false) (front_of seat) k) (sym none ∙ ap (λ (x : MovieContent). answer_shot x k) movie),
       refl,
     ))
-    (λ (other : at ≡ made → ⊥). foreign seat seat made at (seen_self seat) m here other)
+    (λ (other : at ≡ made → ⊥). foreign seat seat made at own (seen_self seat) m here other)
 
 pub halted_turn : (A : Type 0) (seat : SeatContent A) (made at k : ℕ) (halt : Halt) (reply : Reply) (r : Result Reply RunFault) → BeginsWithOwn seat → made ≡ seat.made → answer_shot (movie_of seat.front) k ≡ Some (Err halt)
     → at ≡ length seat.front → reply ≡ halted_reply at halt → r ≡ checked_reply made at reply → MatchResult r (λ reply'. IsTurn A (front_of seat) (Shot k) reply' (front_of seat)) (IsDeskFault seat)
@@ -491,7 +505,7 @@ halted_turn A seat made at k halt reply r own m shows here says is =
     let movie = own_movie seat seat own (seen_self seat) (sym here ∙ same ∙ m) in
     look_turn A seat seat (Shot k) reply own (seen_self seat)
     (unforeseen false, says ∙ ap (λ (n : ℕ). halted_reply n halt) (same ∙ m) ∙ ap (shot_reply (unforeseen false) (front_of seat) k) (sym shows ∙ ap (λ (x : MovieContent). answer_shot x k) movie), refl))
-    (λ (other : at ≡ made → ⊥). foreign seat seat made at (seen_self seat) m here other)
+    (λ (other : at ≡ made → ⊥). foreign seat seat made at own (seen_self seat) m here other)
 
 pub shot_without_memory : (A : Type 0) (before now : SeatContent A) (k : ℕ) → BeginsWithOwn before → HasSeen before now → length now.front ≡ before.made → k < length (movie_of before.front).inputs
     → IsTurn A (front_of before) (Shot k) OutOfMemory (front_of now)

@@ -3,7 +3,7 @@ use Rattle.std.specs.Prelude.{◌≡◌, ℕ, List, [], Option, Result, Ok, Err,
 use Rattle.std.specs.Io.KnownBytes.{Keeps}
 use Rattle.tas_movie.specs.Content.{MovieContent}
 use Rattle.tas_engines.specs.declared.fault.RunFault.{RunFault}
-use Rattle.tas_engines.specs.declared.fault.RunFault.TheVariants.{NoPlace, NoEntry, Foreign, Memory}
+use Rattle.tas_engines.specs.declared.fault.RunFault.TheVariants.{NoPlace, Memory}
 use Rattle.tas_engines.specs.declared.fault.ToolFault.{ToolFault}
 use Rattle.tas_engines.specs.Movies.{IsMovieOf, IsMovieFault}
 use Rattle.tas_engines.specs.ThreeInputs.{EndsAfterThree}
@@ -14,12 +14,9 @@ use Rattle.tas_tool.specs.Scripts.{Answers, EndsWithReplies}
 abbrev pub movie_front : MovieContent → Front
 movie_front movie = record { movie = movie; made = 2 }
 
--- why a desk wasn't given its movie: there was no place on it; or memory, a reader's entry or a reply at just the two edits was
--- refused
+-- why a desk wasn't given its movie: there was no place on it, or memory was refused
 abbrev pub IsUnmade : RunFault → Type 0
 IsUnmade NoPlace = Unit {0}
-IsUnmade NoEntry = Unit {0}
-IsUnmade Foreign = Unit {0}
 IsUnmade Memory = Unit {0}
 IsUnmade _ = ⊥
 

@@ -5,7 +5,7 @@ use Rattle.std.specs.Io.KnownBytes.{Appends}
 use Rattle.tas_movie.specs.Text.{line}
 use Rattle.tas_desk.specs.History.{blank_movie}
 use Rattle.tas_engines.specs.declared.fault.RunFault.{RunFault}
-use Rattle.tas_engines.specs.declared.fault.RunFault.TheVariants.{Script, NoPlace, NoEntry, Foreign, Memory}
+use Rattle.tas_engines.specs.declared.fault.RunFault.TheVariants.{Script, NoPlace, NoEntry, Memory}
 use Rattle.tas_engines.specs.declared.fault.ToolFault.{ToolFault}
 use Rattle.tas_engines.specs.Input.{IsReadWhole, StopsReading}
 use Rattle.tas_engines.specs.Output.{StopsWriting, EndsAfter}
@@ -49,13 +49,12 @@ pub record Reads (bytes : List ℕ) (turns : List Turn) (rest : List ℕ) : Type
   pub said : AreSaid turns
 
 -- why the lines after some are not answered: the next one isn't understood, and its number is told; or there was no place on
--- the desk, before the first line; or memory, a reader's entry or a reply at just the script's own edits was refused
+-- the desk, before the first line; or memory or a reader's entry was refused. That a desk has another's edit is no cause
 abbrev pub IsStop : List ℕ → List Turn → RunFault → Type 0
 IsStop rest turns (Script number) = (number ≡ length turns + 1) × (0 < length rest) × IsUnclear rest
 IsStop rest turns NoPlace = turns ≡ []
 IsStop rest turns Memory = Unit {0}
 IsStop rest turns NoEntry = 0 < length rest
-IsStop rest turns Foreign = 0 < length rest
 IsStop rest turns _ = ⊥
 
 -- the replies to a script from a front on, and how it ends: all lines are answered, or the first ones up to a fault

@@ -1,5 +1,5 @@
 -- What a line of a script is answered, and what it makes (own).
-use Rattle.std.specs.Prelude.{◌≡◌, ◌≢◌, ℕ, ◌+◌, ◌==◌, ◌≤◌, List, length, take, Bool, if◌then◌else◌, Option, Some, None, Result, Ok, Err}
+use Rattle.std.specs.Prelude.{◌≡◌, ℕ, ◌+◌, ◌==◌, ◌<◌, ◌≤◌, List, length, take, Bool, if◌then◌else◌, Option, Some, None, Result, Ok, Err}
 use Rattle.vcs_cpu.specs.declared.halt.Halt.{Halt}
 use Rattle.vcs_cpu.specs.declared.halt.Halt.TheVariants.{Undocumented}
 use Rattle.vcs_tia.specs.Picture.{lit_count}
@@ -42,9 +42,9 @@ pub record BeginsWithOwn {A : Type 0} (seat : SeatContent A) : Type 0 where
   pub seen : seat.made ≤ length seat.front
   pub own : entries_of seat.number (take seat.made seat.front) ≡ seat.made
 
--- what the seat has seen isn't just its own edits
+-- the seat has seen more edits than it made
 abbrev pub HasForeign : {A : Type 0} → SeatContent A → Type 0
-HasForeign seat = length seat.front ≢ seat.made
+HasForeign seat = seat.made < length seat.front
 
 -- why a desk gave the script no reply that stands at just its own edits
 abbrev pub IsDeskFault : {A : Type 0} → SeatContent A → RunFault → Type 0

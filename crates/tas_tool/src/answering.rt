@@ -100,7 +100,8 @@ pub fn make_edit<N: Name, W: CloseOnDrop, A: Allocator + Copy, R: Wait>(
 ) -> Result<Answered, RunFault>
     requires own { BeginsWithOwn seat.old }
     requires made { made ≡ seat.old.made }
-    ensures { IsEditAnswer seat.old seat.new edit result }
+    ensures number { seat.new.number ≡ seat.old.number }
+    ensures answer { IsEditAnswer seat.old seat.new edit result }
 {
     let error = match desk.edit(rt, seat, edit) {
         Ok(receipt) => {
@@ -183,7 +184,8 @@ fn load<N: Name, W: CloseOnDrop, A: Allocator + Copy, R: Wait>(
 ) -> Result<Answered, RunFault>
     requires own { BeginsWithOwn seat.old }
     requires made { made ≡ seat.old.made }
-    ensures { IsAnswer A seat.old seat.new (LoadLine image) result }
+    ensures number { seat.new.number ≡ seat.old.number }
+    ensures answer { IsAnswer A seat.old seat.new (LoadLine image) result }
 {
     match own_len(desk, seat, made) {
         Ok(_) => {}
@@ -214,7 +216,8 @@ fn insert<N: Name, W: CloseOnDrop, A: Allocator + Copy, R: Wait>(
 ) -> Result<Answered, RunFault>
     requires own { BeginsWithOwn seat.old }
     requires made { made ≡ seat.old.made }
-    ensures { IsAnswer A seat.old seat.new (InsertLine at count input) result }
+    ensures number { seat.new.number ≡ seat.old.number }
+    ensures answer { IsAnswer A seat.old seat.new (InsertLine at count input) result }
 {
     let len = match own_len(desk, seat, made) {
         Ok(len) => len,
@@ -245,7 +248,8 @@ fn replace<N: Name, W: CloseOnDrop, A: Allocator + Copy, R: Wait>(
 ) -> Result<Answered, RunFault>
     requires own { BeginsWithOwn seat.old }
     requires made { made ≡ seat.old.made }
-    ensures { IsAnswer A seat.old seat.new (ReplaceLine at count input) result }
+    ensures number { seat.new.number ≡ seat.old.number }
+    ensures answer { IsAnswer A seat.old seat.new (ReplaceLine at count input) result }
 {
     let len = match own_len(desk, seat, made) {
         Ok(len) => len,
@@ -409,7 +413,8 @@ pub fn answer_command<N: Name, W: CloseOnDrop, A: Allocator + Copy, R: Wait>(
 ) -> Result<Answered, RunFault>
     requires own { BeginsWithOwn seat.old }
     requires made { made ≡ seat.old.made }
-    ensures { IsAnswer A seat.old seat.new command result }
+    ensures number { seat.new.number ≡ seat.old.number }
+    ensures answer { IsAnswer A seat.old seat.new command result }
 {
     match command {
         Command::Load { image } => load(rt, alloc, desk, seat, made, image),

@@ -1,23 +1,22 @@
 //! `tas export`.
 
-ghost use Rattle.std.specs.Prelude.{◌≡◌, ◌≤◌, [], length, OnOk, IfOk, IfErr};
-ghost use Rattle.tas_movie.specs.Content.{most_inputs};
+ghost use Rattle.std.specs.Prelude.{◌≡◌, ◌≤◌, [], length};
 ghost use Rattle.tas_desk.specs.Seats.{name_of};
 ghost use Rattle.tas_engines.specs.Movies.{IsMovieRun};
 ghost use Rattle.tas_engines.specs.Output.{Ends};
 ghost use Rattle.tas_tool.specs.Pixmaps.{IsPixmapsAnswer, IsExportAnswer};
-ghost use Rattle.tas_tool.specs.TwoEdits.{edit_fault, own_end, HoldsMovie, IsMakingFault, StandsAtOwn};
+ghost use Rattle.tas_tool.specs.TwoEdits.{StandsAtOwn};
 
 use crate::answering::OpenGate;
-use std::alloc::{AllocError, Global};
+use crate::making::{at_own, put_movie};
+use std::alloc::Global;
 use std::io::{Read, Write};
 use std::marker::Brand;
 use std::sync::Wait;
 use std::thread::Threads;
-use tas_desk::{CloseOnDrop, Desk, EditError, ExportError, Name, OpenError, Seat, Unopened};
+use tas_desk::{CloseOnDrop, Desk, ExportError, Name, OpenError, Seat, Unopened};
 use tas_engines::{RunFault, ToolFault, halt_fault, movie_of, read_two};
-use tas_movie::{Edit, Inputs, Movie};
-use vcs_machine::Cart;
+use tas_movie::Movie;
 
 /// The most workers of one export (own).
 const MAX_WORKERS: usize = 16;
@@ -30,66 +29,23 @@ struct Frames {
     workers: usize,
 }
 
-/// What a refused edit is told as: only want of memory can refuse one, where the desk has no other edits.
-fn edit_fault(error: EditError) -> RunFault
-    ensures { result ≡ edit_fault error }
-{
-    match error {
-        EditError::Memory => RunFault::Memory,
-        _ => RunFault::Foreign,
-    }
-}
-
-/// Makes a movie by the seat's first two edits.
-fn make_movie<N: Name, W: CloseOnDrop, R: Wait>(
-    rt: &R,
-    desk: &Desk<N, W>,
-    seat: &mut Seat<N>,
-    cart: Cart,
-    inputs: Inputs,
-) -> Result<(), RunFault>
-    requires first { (seat.old.number ≡ 0) × (seat.old.made ≡ 0) × (seat.old.front ≡ []) }
-    requires few { length inputs ≤ most_inputs }
-    ensures number { seat.new.number ≡ 0 }
-    ensures made { OnOk result (HoldsMovie seat.new (record { cart = cart; inputs = inputs })) }
-    ensures fault { IfErr result (IsMakingFault seat.new) }
-{
-    match desk.edit(rt, seat, Edit::Load(cart)) {
-        Ok(_) => {}
-        Err(error) => return Err(edit_fault(error)),
-    }
-    match desk.edit(rt, seat, Edit::Insert { at: 0, inputs }) {
-        Ok(_) => Ok(()),
-        Err(error) => Err(edit_fault(error)),
-    }
-}
-
-/// An answer that stands at the two edits of [`make_movie`].
-fn at_own(at: u64, end: Result<(), RunFault>) -> Result<(), RunFault>
-    ensures { result ≡ own_end at end }
-{
-    if at == 2 { end } else { Err(RunFault::Foreign) }
-}
-
 /// Makes a movie by the seat's first two edits, and writes the pictures of some of its frames.
 fn export_made<N: Name, C: CloseOnDrop, R: Wait + Threads + Sync, W: Write>(
     rt: &R,
     alloc: Global,
     desk: &Desk<N, C>,
     seat: &mut Seat<N>,
-    cart: Cart,
-    inputs: Inputs,
+    movie: &Movie,
     frames: Frames,
     output: &mut W,
 ) -> Result<(), RunFault>
     requires first { (seat.old.number ≡ 0) × (seat.old.made ≡ 0) × (seat.old.front ≡ []) }
-    requires few { length inputs ≤ most_inputs }
     requires workers { (1 ≤ frames.workers) × (frames.workers ≤ 16) }
     ensures number { seat.new.number ≡ 0 }
     ensures own { StandsAtOwn seat.new result }
-    ensures ends { length seat.new.front ≤ seat.new.made → Ends (IsPixmapsAnswer (record { cart = cart; inputs = inputs }) frames.from frames.to) (W.contents output.old) (W.contents output.new) result }
+    ensures ends { length seat.new.front ≤ seat.new.made → Ends (IsPixmapsAnswer movie.now frames.from frames.to) (W.contents output.old) (W.contents output.new) result }
 {
-    match make_movie(rt, desk, seat, cart, inputs) {
+    match put_movie(rt, alloc, desk, seat, movie) {
         Ok(()) => {}
         Err(fault) => return Err(fault),
     }
@@ -109,17 +65,15 @@ fn export_from_desk<N: Name, R: Wait + Threads + Sync, W: Write>(
     rt: &R,
     alloc: Global,
     unopened: Unopened,
-    cart: Cart,
-    inputs: Inputs,
+    movie: &Movie,
     frames: Frames,
     output: &mut W,
 ) -> Result<(), RunFault>
     requires name { unopened ≡ name_of N.registry N.name N.seats }
     requires named { N.parts ≡ N.seats }
     requires one { unopened.seats ≡ 1 }
-    requires few { length inputs ≤ most_inputs }
     requires workers { (1 ≤ frames.workers) × (frames.workers ≤ 16) }
-    ensures { Ends (IsPixmapsAnswer (record { cart = cart; inputs = inputs }) frames.from frames.to) (W.contents output.old) (W.contents output.new) result }
+    ensures { Ends (IsPixmapsAnswer movie.now frames.from frames.to) (W.contents output.old) (W.contents output.new) result }
 {
     let (desk, mut seats) = match Desk::<N, &R>::open(rt, alloc, unopened) {
         Ok(opened) => opened,
@@ -127,19 +81,9 @@ fn export_from_desk<N: Name, R: Wait + Threads + Sync, W: Write>(
         Err(OpenError::NoPlace) => return Err(RunFault::NoPlace),
     };
     let seat = &mut seats.as_mut_slice()[0];
-    let end = export_made(rt, alloc, &desk, seat, cart, inputs, frames, output);
+    let end = export_made(rt, alloc, &desk, seat, movie, frames, output);
     drop(desk.close(rt, seats));
     end
-}
-
-/// Copies of a movie's cartridge and inputs.
-fn parts_of(alloc: Global, movie: &Movie) -> Result<(Cart, Inputs), AllocError>
-    ensures whole { IfOk result (λ parts. movie.now ≡ record { cart = parts.0; inputs = parts.1 }) }
-    ensures few { IfOk result (λ parts. length parts.1 ≤ most_inputs) }
-{
-    let cart = movie.cart().copy(alloc)?;
-    let inputs = Vec::from_slice(alloc, movie.inputs())?;
-    Ok((cart, Inputs::from_vec(inputs)))
 }
 
 /// Writes the pictures of some frames of the movie whose cartridge and text these are.
@@ -158,13 +102,10 @@ fn export_movie<R: Wait + Threads + Sync, W: Write>(
         Ok(movie) => movie,
         Err(fault) => return Err(fault),
     };
-    let Ok((cart, inputs)) = parts_of(alloc, &movie) else {
-        return Err(RunFault::Memory);
-    };
     let Ok(unopened) = Unopened::new(alloc, 1) else {
         return Err(RunFault::Memory);
     };
-    export_from_desk::<Brand, R, W>(rt, alloc, unopened, cart, inputs, frames, output)
+    export_from_desk::<Brand, R, W>(rt, alloc, unopened, &movie, frames, output)
 }
 
 /// Reads a cartridge and a movie text, and writes the pictures of the movie's frames from `from` to the one

@@ -7,6 +7,7 @@
 
 mod answering;
 mod exporting;
+mod making;
 mod movie_scripting;
 mod scripting;
 

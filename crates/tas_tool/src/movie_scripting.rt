@@ -1,13 +1,10 @@
 //! `tas script` over a movie.
 
-ghost use Rattle.std.specs.Prelude.{◌≡◌, [], ◌+◌, MatchResult};
-ghost use Rattle.tas_movie.specs.Edit.{edited};
+ghost use Rattle.std.specs.Prelude.{◌≡◌, ◌≤◌, [], length};
 ghost use Rattle.tas_desk.specs.Seats.{name_of};
-ghost use Rattle.tas_tool.specs.Turns.{front_of, BeginsWithOwn};
-ghost use Rattle.tas_tool.specs.Scripts.{start_front};
-ghost use Rattle.tas_tool.specs.MovieScripts.{movie_front, IsUnmade, AnswersOver, RunsOver, IsMovieScriptRun};
+ghost use Rattle.tas_tool.specs.MovieScripts.{AnswersOver, RunsOver, IsMovieScriptRun};
 
-use crate::answering::make_edit;
+use crate::making::put_movie;
 use crate::scripting::answer_lines;
 use std::alloc::Allocator;
 use std::io::{Read, Write};
@@ -15,64 +12,32 @@ use std::marker::Brand;
 use std::sync::Wait;
 use tas_desk::{CloseOnDrop, Desk, Name, OpenError, Seat, Unopened};
 use tas_engines::{RunFault, ToolFault, movie_of, read_three, write_all};
-use tas_movie::{Edit, Inputs, Movie};
-use tas_script::Reply;
+use tas_movie::Movie;
 
-/// Makes an edit right behind the script's own edits. A refusal is a fault: `Memory`, or `Foreign` for another cause, as where
-/// the seat's front isn't just these edits; or `NoEntry`.
-fn make_allowed<N: Name, W: CloseOnDrop, A: Allocator + Copy, R: Wait>(
-    rt: &R,
-    desk: &Desk<N, W, A>,
-    seat: &mut Seat<N, A>,
-    made: u64,
-    edit: Edit<A>,
-) -> Result<(), RunFault>
-    requires own { BeginsWithOwn seat.old }
-    requires made { made ≡ seat.old.made }
-    ensures own { MatchResult result (λ _. BeginsWithOwn seat.new) IsUnmade }
-    ensures front { MatchResult result
-        (λ _. front_of seat.new ≡ record { movie = edited (front_of seat.old).movie edit; made = made + 1 }) IsUnmade }
-{
-    match make_edit(rt, desk, seat, made, edit) {
-        Ok(answered) => match answered.reply {
-            Reply::Edited { .. } => Ok(()),
-            Reply::OutOfMemory => Err(RunFault::Memory),
-            _ => Err(RunFault::Foreign),
-        },
-        Err(fault) => Err(fault),
-    }
-}
-
-/// Gives a desk without edits its movie, by two edits: the cartridge is loaded, then the inputs are put in.
-///
-/// Faults: `Memory`, `NoEntry`, and `Foreign` where the seat's front isn't just these edits.
-fn put_movie<N: Name, W: CloseOnDrop, A: Allocator + Copy, R: Wait>(
+/// Gives a desk without edits its movie, does what the lines ask for, and puts the replies into the empty text.
+fn answer_made<N: Name, W: CloseOnDrop, A: Allocator + Copy, R: Wait>(
     rt: &R,
     alloc: A,
     desk: &Desk<N, W, A>,
     seat: &mut Seat<N, A>,
     movie: &Movie<A>,
+    bytes: &[u8],
+    text: &mut Vec<u8, A>,
 ) -> Result<(), RunFault>
-    requires own { BeginsWithOwn seat.old }
-    requires fresh { front_of seat.old ≡ start_front }
-    ensures own { MatchResult result (λ _. BeginsWithOwn seat.new) IsUnmade }
-    ensures front { MatchResult result (λ _. front_of seat.new ≡ movie_front movie.now) IsUnmade }
+    requires first { (seat.old.number ≡ 0) × (seat.old.made ≡ 0) × (seat.old.front ≡ []) }
+    requires empty { text.old.items ≡ [] }
+    ensures number { seat.new.number ≡ 0 }
+    ensures answers { length seat.new.front ≤ seat.new.made → AnswersOver A movie.now bytes.now text.new.items result }
 {
-    let Ok(cart) = movie.cart().copy(alloc) else {
-        return Err(RunFault::Memory);
-    };
-    let Ok(inputs) = Vec::from_slice(alloc, movie.inputs()) else {
-        return Err(RunFault::Memory);
-    };
-    match make_allowed(rt, desk, seat, 0, Edit::Load(cart)) {
+    match put_movie(rt, alloc, desk, seat, movie) {
         Ok(()) => {}
         Err(fault) => return Err(fault),
     }
-    let inputs = Inputs::from_vec(inputs);
-    make_allowed(rt, desk, seat, 1, Edit::Insert { at: 0, inputs })
+    answer_lines(rt, alloc, desk, seat, 2, bytes, text)
 }
 
-/// Does what the lines ask for on a desk of one seat that has the movie, and puts the replies into the empty text.
+/// Does what the lines ask for on a desk of one seat that has the movie, puts the replies into the empty text, and closes the
+/// desk. That nobody else made an edit is known once it is closed.
 fn answer_over<N: Name, A: Allocator + Copy, R: Wait>(
     rt: &R,
     alloc: A,
@@ -93,11 +58,9 @@ fn answer_over<N: Name, A: Allocator + Copy, R: Wait>(
         Err(OpenError::NoPlace) => return Err(RunFault::NoPlace),
     };
     let seat = &mut seats.as_mut_slice()[0];
-    match put_movie(rt, alloc, &desk, seat, movie) {
-        Ok(()) => {}
-        Err(fault) => return Err(fault),
-    }
-    answer_lines(rt, alloc, &desk, seat, 2, bytes, text)
+    let end = answer_made(rt, alloc, &desk, seat, movie, bytes, text);
+    drop(desk.close(rt, seats));
+    end
 }
 
 /// Writes a reply for each line of a script over the movie whose cartridge and text these are.
@@ -133,8 +96,8 @@ fn run_over<A: Allocator + Copy, R: Wait, W: Write>(
 /// [`script_run`](crate::script_run) does, but from this movie on: its cartridge is loaded and its inputs are put in before the
 /// first line, by two edits, which no reply tells (own).
 ///
-/// Faults, in order: those of reading the three, then `Size` and `Text`, each with nothing written; `NoPlace`, and `NoEntry`,
-/// `Foreign` and `Memory` before the first line, with nothing written; then those of `script_run`.
+/// Faults, in order: those of reading the three, then `Size` and `Text`, each with nothing written; `NoPlace`, and `Memory` before
+/// the first line, with nothing written; then those of `script_run`.
 pub fn movie_script_run<A: Allocator + Copy, T: Wait, C: Read, M: Read, R: Read, W: Write>(
     rt: &T,
     alloc: A,

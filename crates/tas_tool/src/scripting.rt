@@ -1,6 +1,6 @@
 //! `tas script`.
 
-ghost use Rattle.std.specs.Prelude.{◌≡◌, []};
+ghost use Rattle.std.specs.Prelude.{◌≡◌, ◌≤◌, [], length};
 ghost use Rattle.tas_desk.specs.Seats.{name_of};
 ghost use Rattle.tas_tool.specs.Turns.{front_of, BeginsWithOwn};
 ghost use Rattle.tas_tool.specs.Scripts.{start_front, Answers, RunsScript, IsScriptRun};
@@ -14,7 +14,8 @@ use tas_desk::{CloseOnDrop, Desk, Name, OpenError, Seat, Unopened};
 use tas_engines::{RunFault, ToolFault, read_input, write_all};
 use tas_script::{parse_line, reply_line, split_once};
 
-/// Does what the lines ask for, as a seat that has made so many edits, and puts the replies into the empty text.
+/// Does what the lines ask for, as a seat that has made so many edits, and puts the replies into the empty text. `Foreign` comes
+/// only where the seat has seen more than its own edits.
 pub fn answer_lines<N: Name, W: CloseOnDrop, A: Allocator + Copy, R: Wait>(
     rt: &R,
     alloc: A,
@@ -27,7 +28,8 @@ pub fn answer_lines<N: Name, W: CloseOnDrop, A: Allocator + Copy, R: Wait>(
     requires own { BeginsWithOwn seat.old }
     requires made { before ≡ seat.old.made }
     requires empty { text.old.items ≡ [] }
-    ensures { Answers A (front_of seat.old) bytes.now text.new.items result }
+    ensures number { seat.new.number ≡ seat.old.number }
+    ensures answers { length seat.new.front ≤ seat.new.made → Answers A (front_of seat.old) bytes.now text.new.items result }
 {
     let mut rest = bytes;
     let mut number = 1;
@@ -56,7 +58,8 @@ pub fn answer_lines<N: Name, W: CloseOnDrop, A: Allocator + Copy, R: Wait>(
     Ok(())
 }
 
-/// Does what the lines ask for on a desk of one seat, and puts the replies into the empty text.
+/// Does what the lines ask for on a desk of one seat, puts the replies into the empty text, and closes the desk. That nobody
+/// else made an edit is known once it is closed.
 fn answer_script<N: Name, A: Allocator + Copy, R: Wait>(
     rt: &R,
     alloc: A,
@@ -76,7 +79,9 @@ fn answer_script<N: Name, A: Allocator + Copy, R: Wait>(
         Err(OpenError::NoPlace) => return Err(RunFault::NoPlace),
     };
     let seat = &mut seats.as_mut_slice()[0];
-    answer_lines(rt, alloc, &desk, seat, 0, bytes, text)
+    let end = answer_lines(rt, alloc, &desk, seat, 0, bytes, text);
+    drop(desk.close(rt, seats));
+    end
 }
 
 /// Writes a reply for each line of a script.
@@ -106,8 +111,8 @@ fn run_script<A: Allocator + Copy, R: Wait, W: Write>(
 /// runs on a desk of one seat.
 ///
 /// Faults: those of [`read_input`] with nothing written; `NoPlace` with nothing written; `Script` with the line's number,
-/// `NoEntry`, `Foreign` where a reply doesn't stand at just the script's own edits, and `Memory`, with the replies to the
-/// lines before written; `Write` with the first bytes of the replies written, and how many.
+/// `NoEntry` and `Memory`, with the replies to the lines before written; `Write` with the first bytes of the replies written,
+/// and how many. `Foreign` would tell of an edit that isn't the script's own, and never comes.
 pub fn script_run<A: Allocator + Copy, T: Wait, R: Read, W: Write>(
     rt: &T,
     alloc: A,

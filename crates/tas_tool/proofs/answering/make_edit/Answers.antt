@@ -2,15 +2,15 @@ use Rattle.std.proofs.Common.{refl, ap, arith, Ok, Err}
 use Rattle.tas_tool.proofs.TurnLemmas.{edit_made, edit_refused}
 use Rattle.tas_tool.proofs.answering.make_edit.Goals as goal
 
-pub returns-in-Ok : goal.returns-in-Ok
-returns-in-Ok g c = edit_made c.args.seat.now c.edit.new.seat c.args.edit c.in-Ok.receipt c.args.made c.requires.own c.requires.made c.in-Ok.ensures (omega (arith, ap (λ r. r.at) c.in-Ok.ensures.receipt))
+pub returns-in-Ok-clause-answer : goal.returns-in-Ok-clause-answer
+returns-in-Ok-clause-answer g c = edit_made c.args.seat.now c.edit.new.seat c.args.edit c.in-Ok.receipt c.args.made c.requires.own c.requires.made c.in-Ok.ensures (omega (arith, ap (λ r. r.at) c.in-Ok.ensures.receipt))
 
-pub returns-in-Ok-refused_edit : goal.returns-in-Ok-refused_edit
-returns-in-Ok-refused_edit g c =
+pub returns-in-Ok-refused_edit-clause-answer : goal.returns-in-Ok-refused_edit-clause-answer
+returns-in-Ok-refused_edit-clause-answer g c =
     edit_refused c.args.seat.now c.edit.new.seat c.refused_edit.new.seat c.args.edit c.in-Err.error c.args.made (Ok c.in-Ok-refused_edit.reply) _ c.requires.own c.requires.made c.in-Err.ensures c.refused_edit.ensures.seen
     c.in-Ok-refused_edit.ensures.reply refl
 
-pub returns-in-Err-refused_edit : goal.returns-in-Err-refused_edit
-returns-in-Err-refused_edit g c =
+pub returns-in-Err-refused_edit-clause-answer : goal.returns-in-Err-refused_edit-clause-answer
+returns-in-Err-refused_edit-clause-answer g c =
     edit_refused c.args.seat.now c.edit.new.seat c.refused_edit.new.seat c.args.edit c.in-Err.error c.args.made (Err c.in-Err-refused_edit.fault) _ c.requires.own c.requires.made c.in-Err.ensures c.refused_edit.ensures.seen
     c.in-Err-refused_edit.ensures.reply refl

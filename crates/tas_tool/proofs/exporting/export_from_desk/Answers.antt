@@ -1,5 +1,5 @@
 use Rattle.std.proofs.Common.{◌≡◌, ◌∙◌, length, refl, sym, ap}
-use Rattle.tas_tool.proofs.ExportLemmas.{sees_own, written_back}
+use Rattle.tas_tool.proofs.OneSeatLemmas.{sees_own, written_back}
 use Rattle.tas_tool.proofs.exporting.export_from_desk.Goals as goal
 
 pub returns : goal.returns

@@ -1,5 +1,4 @@
 use Rattle.std.proofs.Common.{length, Ok, Err}
-use Rattle.tas_movie.specs.Content.{MovieContent}
 use Rattle.tas_desk.specs.declared.runs.Plan.{Plan}
 use Rattle.tas_desk.specs.History.{movie_of}
 use Rattle.tas_engines.specs.declared.fault.RunFault.TheVariants.{Range}
@@ -8,17 +7,15 @@ use Rattle.tas_tool.proofs.exporting.export_made.Goals as goal
 
 pub returns-in-Ok-export-clause-ends : goal.returns-in-Ok-export-clause-ends
 returns-in-Ok-export-clause-ends g c =
-    let holds = still_holds c.make_movie.new.seat c.export.new.seat _ c.export.ensures.seat.seen c.in-Ok.ensures.made in
-    let movie : MovieContent = record { cart = c.args.cart; inputs = c.args.inputs } in
+    let holds = still_holds c.put_movie.new.seat c.export.new.seat _ c.export.ensures.seat.seen c.in-Ok.ensures.holds in
     let reply = c.in-Ok-export.ensures.reply in
-    told_at c.export.new.seat movie c.in-Ok-export.exported.at c.args.frames.from c.args.frames.to _ _ (Ok tt) c.at_own.result holds reply.0 (pixmaps_end _ _ _ _ _ _ c.in-Ok-export.exported reply) c.at_own.ensures
+    told_at c.export.new.seat c.args.movie.now c.in-Ok-export.exported.at c.args.frames.from c.args.frames.to _ _ (Ok tt) c.at_own.result holds reply.0 (pixmaps_end _ _ _ _ _ _ c.in-Ok-export.exported reply) c.at_own.ensures
 
 pub returns-in-Err-Range-clause-ends : goal.returns-in-Err-Range-clause-ends
 returns-in-Err-Range-clause-ends g c =
-    let holds = still_holds c.make_movie.new.seat c.export.new.seat _ c.export.ensures.seat.seen c.in-Ok.ensures.made in
+    let holds = still_holds c.put_movie.new.seat c.export.new.seat _ c.export.ensures.seat.seen c.in-Ok.ensures.holds in
     let plan : Plan = record { from = c.args.frames.from; to = c.args.frames.to; workers = c.args.frames.workers } in
-    let movie : MovieContent = record { cart = c.args.cart; inputs = c.args.inputs } in
     let seat = c.export.new.seat in
     let reply = rw c.in-Err-Range.field-0-is at c.in-Err-Range.ensures.reply in
-    told_at seat movie c.in-Err-Range.at c.args.frames.from c.args.frames.to _ _ (Err (Range c.args.frames.from c.args.frames.to c.in-Err-Range.len)) c.at_own-in-Err-Range.result holds reply.0
-    (range_ends c.make_movie.new.seat.zone (movie_of seat.front) (length seat.front) plan _ _ c.in-Err-Range.at c.in-Err-Range.len reply) c.at_own-in-Err-Range.ensures
+    told_at seat c.args.movie.now c.in-Err-Range.at c.args.frames.from c.args.frames.to _ _ (Err (Range c.args.frames.from c.args.frames.to c.in-Err-Range.len)) c.at_own-in-Err-Range.result holds reply.0
+    (range_ends c.put_movie.new.seat.zone (movie_of seat.front) (length seat.front) plan _ _ c.in-Err-Range.at c.in-Err-Range.len reply) c.at_own-in-Err-Range.ensures

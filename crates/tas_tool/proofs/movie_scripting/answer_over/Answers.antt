@@ -1,16 +1,20 @@
-use Rattle.std.proofs.Common.{◌∙◌, ap, arith}
+use Rattle.std.proofs.Common.{◌≡◌, ◌∙◌, length, refl, sym, ap, arith}
 use Rattle.std.specs.Prelude.{slice_get}
-use Rattle.tas_tool.proofs.ScriptLemmas.{first_of, fresh_own, fresh_front}
-use Rattle.tas_tool.proofs.MovieScriptLemmas.{answered_over}
+use Rattle.tas_tool.proofs.OneSeatLemmas.{first_of, fresh_first, whole_alone, sees_own, written_back}
 use Rattle.tas_tool.proofs.movie_scripting.answer_over.Goals as goal
 
-pub put_movie-requires-clause-own : goal.put_movie-requires-clause-own
-put_movie-requires-clause-own g c =
-    fresh_own _ _ (first_of c.as_mut_slice.result.now _ c.index-as_mut_slice-0.result (ap (λ l. slice_get l 0) c.as_mut_slice.ensures.value ∙ c.in-Ok.ensures.fresh 0 (omega (arith, c.requires.one))))
+pub answer_made-end-requires-clause-first : goal.answer_made-end-requires-clause-first
+answer_made-end-requires-clause-first g c = fresh_first _ _ (first_of c.as_mut_slice.result.now _ c.index-as_mut_slice-0.result (ap (λ l. slice_get l 0) c.as_mut_slice.ensures.value ∙ c.in-Ok.ensures.fresh 0 (omega (arith, c.requires.one))))
 
-pub put_movie-requires-clause-fresh : goal.put_movie-requires-clause-fresh
-put_movie-requires-clause-fresh g c =
-    fresh_front _ _ (first_of c.as_mut_slice.result.now _ c.index-as_mut_slice-0.result (ap (λ l. slice_get l 0) c.as_mut_slice.ensures.value ∙ c.in-Ok.ensures.fresh 0 (omega (arith, c.requires.one))))
+pub close-requires-clause-whole : goal.close-requires-clause-whole
+close-requires-clause-whole g c =
+    let lent = c.as_mut_slice.ensures in
+    let one : length c.as_mut_slice.result.now ≡ 1 = ap (λ l. length l) lent.value ∙ c.in-Ok.ensures.seats ∙ c.requires.one in
+    whole_alone _ c.answer_made-end.new.seat _ (written_back c.as_mut_slice.result.now _ _ c.answer_made-end.new.seat c.in-Ok.opened.1.len one (sym lent.len ∙ one) refl) (sym (ap (λ u. u.seats) c.requires.name) ∙ c.requires.one) c.answer_made-end.ensures.number
 
 pub returns : goal.returns
-returns g c = answered_over g.row.A.Denot c.args.movie.now _ c.args.bytes.now c.answer_lines.new.text.items c.answer_lines.result c.in-Ok-put_movie.ensures.front c.answer_lines.ensures
+returns g c =
+    let lent = c.as_mut_slice.ensures in
+    let one : length c.as_mut_slice.result.now ≡ 1 = ap (λ l. length l) lent.value ∙ c.in-Ok.ensures.seats ∙ c.requires.one in
+    let alone = written_back c.as_mut_slice.result.now _ _ c.answer_made-end.new.seat c.in-Ok.opened.1.len one (sym lent.len ∙ one) refl in
+    c.answer_made-end.ensures.answers (sees_own _ _ c.answer_made-end.new.seat alone c.close.ensures.seats c.close.ensures.count)

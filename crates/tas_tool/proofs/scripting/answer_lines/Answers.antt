@@ -7,32 +7,52 @@ use Rattle.tas_tool.proofs.scripting.answer_lines.Goals as goal
 pub loop-rest-init : goal.loop-rest-init
 loop-rest-init g c =
     let b = begun g.row.A.Denot (front_of c.args.seat.now) in
-    ([], record { reads = reads_none c.args.bytes.now; own = c.requires.own; made = c.requires.made; front = b.0; number = refl; room = omega arith; replies = c.requires.empty ∙ sym b.1 })
+    ([], record { reads = reads_none c.args.bytes.now; seat = refl; own = c.requires.own; made = c.requires.made; front = b.0; number = refl; room = omega arith; replies = c.requires.empty ∙ sym b.1 })
 
-pub returns-in_default : goal.returns-in_default
-returns-in_default g c =
+pub returns-in_default-clause-number : goal.returns-in_default-clause-number
+returns-in_default-clause-number g c =
+    let (turns, i) = c.loop-rest.invariant in
+    i.seat
+
+pub returns-in_default-clause-answers : goal.returns-in_default-clause-answers
+returns-in_default-clause-answers g c = λ own.
     let (turns, i) = c.loop-rest.invariant in
     (turns, c.loop-rest.rest.now, i.reads, i.replies, (i.number, c.loop-rest-test.true, unclear_unsplit _ c.in_default.ensures.none))
 
-pub returns-in_default-parse_line : goal.returns-in_default-parse_line
-returns-in_default-parse_line g c =
+pub returns-in_default-parse_line-clause-number : goal.returns-in_default-parse_line-clause-number
+returns-in_default-parse_line-clause-number g c =
+    let (turns, i) = c.loop-rest.invariant in
+    i.seat
+
+pub returns-in_default-parse_line-clause-answers : goal.returns-in_default-parse_line-clause-answers
+returns-in_default-parse_line-clause-answers g c = λ own.
     let (turns, i) = c.loop-rest.invariant in
     (turns, c.loop-rest.rest.now, i.reads, i.replies, (i.number, c.loop-rest-test.true, unclear_line _ c.in-Some.line.now c.in-Some.after.now c.in-Some.ensures.some.0 c.in-Some.ensures.some.1 c.in_default-parse_line.ensures.none))
 
-pub returns-in-Err : goal.returns-in-Err
-returns-in-Err g c =
+pub returns-in-Err-clause-number : goal.returns-in-Err-clause-number
+returns-in-Err-clause-number g c =
     let (turns, i) = c.loop-rest.invariant in
-    (turns, c.loop-rest.rest.now, i.reads, i.replies, desk_stop c.answer_command.new.seat c.in-Err.fault turns c.loop-rest.rest.now c.loop-rest-test.true c.in-Err.ensures)
+    c.answer_command.ensures.number ∙ i.seat
 
-pub returns-in_default-reply_line : goal.returns-in_default-reply_line
-returns-in_default-reply_line g c =
+pub returns-in-Err-clause-answers : goal.returns-in-Err-clause-answers
+returns-in-Err-clause-answers g c = λ own.
+    let (turns, i) = c.loop-rest.invariant in
+    (turns, c.loop-rest.rest.now, i.reads, i.replies, desk_stop c.answer_command.new.seat c.in-Err.fault turns c.loop-rest.rest.now c.loop-rest-test.true c.in-Err.ensures.answer own)
+
+pub returns-in_default-reply_line-clause-number : goal.returns-in_default-reply_line-clause-number
+returns-in_default-reply_line-clause-number g c =
+    let (turns, i) = c.loop-rest.invariant in
+    c.answer_command.ensures.number ∙ i.seat
+
+pub returns-in_default-reply_line-clause-answers : goal.returns-in_default-reply_line-clause-answers
+returns-in_default-reply_line-clause-answers g c = λ own.
     let (turns, i) = c.loop-rest.invariant in
     (turns, c.loop-rest.rest.now, i.reads, i.replies, tt)
 
 pub loop-rest-preserved : goal.loop-rest-preserved
 loop-rest-preserved g c =
     let (turns, i) = c.loop-rest.invariant in
-    let told = c.in-Ok.ensures in
+    let told = c.in-Ok.ensures.answer in
     let t = told.turn_is in
     let start : Front = front_of c.args.seat.now in
     let turn : Turn = record { said = c.in-Some.line.now; command = c.in-Some-parse_line.command; unforeseen = t.0 } in
@@ -41,6 +61,7 @@ loop-rest-preserved g c =
       turns ++ turn ∷ [],
       record {
         reads = reads_more _ c.loop-rest.rest.now c.in-Some.line.now c.in-Some.after.now turns turn i.reads refl c.in-Some.ensures.some.0 c.in-Some.ensures.some.1 c.in-Some-parse_line.ensures.some;
+        seat = c.in-Ok.ensures.number ∙ i.seat;
         own = told.own;
         made = told.made;
         front = front_answered _ start _ _ turns turn c.in-Ok.answered.reply i.front t.2;
@@ -50,7 +71,12 @@ loop-rest-preserved g c =
       },
     )
 
-pub returns : goal.returns
-returns g c =
+pub returns-clause-number : goal.returns-clause-number
+returns-clause-number g c =
+    let (turns, i) = c.loop-rest.invariant in
+    i.seat
+
+pub returns-clause-answers : goal.returns-clause-answers
+returns-clause-answers g c = λ own.
     let (turns, i) = c.loop-rest.invariant in
     (turns, reads_all _ _ turns (omega arith) i.reads, i.replies)

@@ -6,6 +6,7 @@ use Rattle.tas_tool.proofs.scripting.answer_lines.Given as goal
 abbrev pub invariant-loop-rest : goal.invariant-loop-rest
 invariant-loop-rest g l = (turns : List Turn) × record {
   reads : Reads l.bytes turns l.rest;
+  seat : l.seat.number ≡ l.fn.seat.number;
   own : BeginsWithOwn l.seat;
   made : l.made ≡ l.seat.made;
   front : front_after_all g.row.A.Denot (front_of l.fn.seat) turns ≡ front_of l.seat;

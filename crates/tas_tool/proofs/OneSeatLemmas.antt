@@ -1,0 +1,70 @@
+-- A desk of one seat, from its opening to its end.
+use Rattle.std.proofs.Common.{◌≡◌, ℕ, zero, suc, ◌+◌, ◌<◌, ◌≤◌, List, [], ◌∷◌, ◌++◌, length, take, set, Bool, true, false, cond, Some, refl, sym, ap, subst, ◌∙◌, arith, length-append}
+use Rattle.std.specs.Prelude.{All, count_by, ◌==◌, slice_get, slice_index_or}
+use Rattle.tas_movie.specs.Content.{MovieContent}
+use Rattle.tas_desk.specs.declared.entry.Entry.{Entry}
+use Rattle.tas_desk.specs.Seats.{SeatContent, seat_of, IsSettled, IsWhole}
+use Rattle.tas_desk.specs.Zones.{ZoneContent}
+use Rattle.tas_desk.specs.Closing.{made_by}
+use Rattle.tas_desk.proofs.HistoryLemmas.{movie_of-none}
+use Rattle.tas_desk.proofs.SeatLemmas.{count_by-cons}
+use Rattle.tas_tool.specs.Turns.{Front, front_of, BeginsWithOwn}
+use Rattle.tas_tool.specs.Scripts.{start_front}
+
+-- ---- the seat of a desk that was just opened
+
+pub first_of : {X : Type 0} (xs : List X) (x d : X) → slice_get xs 0 ≡ Some x → slice_index_or xs 0 d ≡ x
+first_of [] x d e = absurd (cc e)
+first_of (y ∷ xs) x d e = cc e
+
+pub fresh_own : {A : Type 0} (seat : SeatContent A) (zone : ZoneContent A) → seat ≡ seat_of 0 0 [] zone → BeginsWithOwn seat
+fresh_own seat zone is = subst BeginsWithOwn (sym is) (record { seen = omega arith; own = refl })
+
+pub fresh_made : {A : Type 0} (seat : SeatContent A) (zone : ZoneContent A) → seat ≡ seat_of 0 0 [] zone → seat.made ≡ 0
+fresh_made {A} seat zone is = ap (λ (s : SeatContent A). s.made) is
+
+pub fresh_front : {A : Type 0} (seat : SeatContent A) (zone : ZoneContent A) → seat ≡ seat_of 0 0 [] zone → front_of seat ≡ start_front
+fresh_front {A} seat zone is = ap (λ (s : SeatContent A). front_of s) is ∙ ap (λ (m : MovieContent). let f : Front = record { movie = m; made = 0 } in f) (movie_of-none A)
+
+pub fresh_first : {A : Type 0} (seat : SeatContent A) (zone : ZoneContent A) → seat ≡ seat_of 0 0 [] zone → (seat.number ≡ 0) × (seat.made ≡ 0) × (seat.front ≡ [])
+fresh_first {A} seat zone is = (ap (λ (s : SeatContent A). s.number) is, ap (λ (s : SeatContent A). s.made) is, ap (λ (s : SeatContent A). s.front) is)
+
+-- ---- the desk that is closed
+
+abbrev one_if : Bool → ℕ
+one_if b = cond b 1 0
+
+at_most_one : (b : Bool) → one_if b ≤ 1
+at_most_one true = omega arith
+at_most_one false = omega arith
+
+below_alone : {A : Type 0} (seat : SeatContent A) (n : ℕ) → seat.number < n → All (λ s. s.number < n) (seat ∷ [])
+below_alone seat n lt zero d h = lt
+below_alone seat n lt (suc k) d h = absurd (omega (arith, h))
+
+once_alone : {A : Type 0} (seat : SeatContent A) (k : ℕ) → count_by (λ (s : SeatContent A). s.number == k) (seat ∷ []) ≤ 1
+once_alone {A} seat k =
+    let e = count_by-cons (λ (s : SeatContent A). s.number == k) seat [] in
+    omega (arith, e, at_most_one (seat.number == k))
+
+-- one seat with the number 0 is all
+pub whole_alone : {A : Type 0} (seats : List (SeatContent A)) (seat : SeatContent A) (n : ℕ) → seats ≡ seat ∷ [] → n ≡ 1 → seat.number ≡ 0 → IsWhole n seats
+whole_alone {A} seats seat n is one nought =
+    subst (λ (l : List (SeatContent A)). IsWhole n l) (sym is) (record {
+      all = sym one;
+      below = below_alone seat n (omega (arith, one, nought));
+      once = once_alone seat;
+    })
+
+pub sees_own : {A : Type 0} (journal : List (Entry A)) (seats : List (SeatContent A)) (seat : SeatContent A) → seats ≡ seat ∷ [] → All (IsSettled journal) seats → length journal ≡ made_by seats → length seat.front ≤ seat.made
+sees_own {A} journal seats seat is settled count =
+    let one : All (IsSettled journal) (seat ∷ []) = subst (λ (l : List (SeatContent A)). All (IsSettled journal) l) is settled in
+    let mine : IsSettled journal seat = one zero seat (omega arith) in
+    let sum : length journal ≡ seat.made + 0 = count ∙ ap (λ (l : List (SeatContent A)). made_by l) is in
+    omega (arith, length-append seat.front mine.begins.0, ap (λ (l : List (Entry A)). length l) mine.begins.1, sum)
+
+-- the one seat, written back
+pub written_back : {X : Type 0} (xs rest out : List X) (x : X) (n : ℕ) → length xs ≡ 1 → n ≡ 1 → out ≡ take n (set xs 0 x ++ rest) → out ≡ x ∷ []
+written_back [] rest out x n one short is = absurd (cc one)
+written_back (y ∷ []) rest out x n one short is = is ∙ ap (λ (k : ℕ). take k (x ∷ rest)) short
+written_back (y ∷ z ∷ ys) rest out x n one short is = absurd (omega (arith, one))

@@ -1,0 +1,20 @@
+use Rattle.std.proofs.Common.{subst, sym}
+use Rattle.tas_tool.specs.TwoEdits.{IsMakingFault}
+use Rattle.tas_tool.proofs.MakingLemmas.{loaded, movie_made, insert_refused}
+use Rattle.tas_tool.proofs.making.put_movie.Goals as goal
+
+pub returns-in-Ok-edit-2-clause-holds : goal.returns-in-Ok-edit-2-clause-holds
+returns-in-Ok-edit-2-clause-holds g c =
+    let first = loaded c.args.seat.now c.edit.new.seat c.in-Ok.cart c.in-Ok-edit.field-0 c.requires.first.0 c.requires.first.1 c.in-Ok-edit.ensures in
+    (movie_made c.edit.new.seat c.edit-2.new.seat c.args.movie.now c.in-Ok.cart c.in-Ok.inputs c.in-Ok-edit-2.receipt _ c.in-Ok.ensures.whole c.in-Ok.ensures.few first c.in-Ok-edit-2.ensures c.at_own.ensures).0
+
+pub returns-in-Ok-edit-2-clause-fault : goal.returns-in-Ok-edit-2-clause-fault
+returns-in-Ok-edit-2-clause-fault g c =
+    let first = loaded c.args.seat.now c.edit.new.seat c.in-Ok.cart c.in-Ok-edit.field-0 c.requires.first.0 c.requires.first.1 c.in-Ok-edit.ensures in
+    (movie_made c.edit.new.seat c.edit-2.new.seat c.args.movie.now c.in-Ok.cart c.in-Ok.inputs c.in-Ok-edit-2.receipt _ c.in-Ok.ensures.whole c.in-Ok.ensures.few first c.in-Ok-edit-2.ensures c.at_own.ensures).1
+
+pub returns-in-Err-edit-clause-fault : goal.returns-in-Err-edit-clause-fault
+returns-in-Err-edit-clause-fault g c =
+    let first = loaded c.args.seat.now c.edit.new.seat c.in-Ok.cart c.in-Ok-edit.field-0 c.requires.first.0 c.requires.first.1 c.in-Ok-edit.ensures in
+    subst (IsMakingFault c.edit-2.new.seat) (sym c.edit_fault-in-Err-edit.ensures)
+    (insert_refused c.edit.new.seat c.edit-2.new.seat c.in-Ok.cart c.in-Ok.inputs c.in-Err-edit.error c.in-Ok.ensures.few first c.in-Err-edit.ensures)

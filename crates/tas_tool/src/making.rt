@@ -1,0 +1,70 @@
+//! A movie that a desk's seat makes by its first two edits.
+
+ghost use Rattle.std.specs.Prelude.{◌≡◌, ◌≤◌, [], length, OnOk, IfOk, IfErr};
+ghost use Rattle.tas_movie.specs.Content.{most_inputs};
+ghost use Rattle.tas_tool.specs.TwoEdits.{edit_fault, own_end, HoldsMovie, IsMakingFault};
+
+use std::alloc::{AllocError, Allocator};
+use std::sync::Wait;
+use tas_desk::{CloseOnDrop, Desk, EditError, Name, Seat};
+use tas_engines::RunFault;
+use tas_movie::{Edit, Inputs, Movie};
+use vcs_machine::Cart;
+
+/// What a refused edit is told as: only want of memory can refuse one, where the desk has no other edits.
+fn edit_fault(error: EditError) -> RunFault
+    ensures { result ≡ edit_fault error }
+{
+    match error {
+        EditError::Memory => RunFault::Memory,
+        _ => RunFault::Foreign,
+    }
+}
+
+/// An answer that stands at the two edits of [`put_movie`].
+pub fn at_own(at: u64, end: Result<(), RunFault>) -> Result<(), RunFault>
+    ensures { result ≡ own_end at end }
+{
+    if at == 2 { end } else { Err(RunFault::Foreign) }
+}
+
+/// Copies of a movie's cartridge and inputs.
+fn parts_of<A: Allocator + Copy>(
+    alloc: A,
+    movie: &Movie<A>,
+) -> Result<(Cart<A>, Inputs<A>), AllocError>
+    ensures whole { IfOk result (λ parts. movie.now ≡ record { cart = parts.0; inputs = parts.1 }) }
+    ensures few { IfOk result (λ parts. length parts.1 ≤ most_inputs) }
+{
+    let cart = movie.cart().copy(alloc)?;
+    let inputs = Vec::from_slice(alloc, movie.inputs())?;
+    Ok((cart, Inputs::from_vec(inputs)))
+}
+
+/// Gives a desk without edits its movie, by a seat's first two edits: the cartridge is loaded, then the inputs are put in.
+///
+/// Faults: `Memory`, and `Foreign` where the desk has other edits.
+pub fn put_movie<N: Name, W: CloseOnDrop, A: Allocator + Copy, R: Wait>(
+    rt: &R,
+    alloc: A,
+    desk: &Desk<N, W, A>,
+    seat: &mut Seat<N, A>,
+    movie: &Movie<A>,
+) -> Result<(), RunFault>
+    requires first { (seat.old.number ≡ 0) × (seat.old.made ≡ 0) × (seat.old.front ≡ []) }
+    ensures number { seat.new.number ≡ 0 }
+    ensures holds { OnOk result (HoldsMovie seat.new movie.now) }
+    ensures fault { IfErr result (IsMakingFault seat.new) }
+{
+    let Ok((cart, inputs)) = parts_of(alloc, movie) else {
+        return Err(RunFault::Memory);
+    };
+    match desk.edit(rt, seat, Edit::Load(cart)) {
+        Ok(_) => {}
+        Err(error) => return Err(edit_fault(error)),
+    }
+    match desk.edit(rt, seat, Edit::Insert { at: 0, inputs }) {
+        Ok(receipt) => at_own(receipt.at, Ok(())),
+        Err(error) => Err(edit_fault(error)),
+    }
+}
