@@ -1,7 +1,8 @@
 use super::*;
 use std::alloc::{AllocError, Global};
+use std::fmt::Display;
 use std::test::Fail;
-use vcs_machine::{Cart, Input};
+use vcs_machine::{Cart, CartError, Input};
 
 /// `000=A910850DA91E85084C08F0 FFC=00F0`, all other bytes 0.
 fn playfield_cart(alloc: Global) -> Result<Cart, Fail> {
@@ -15,6 +16,7 @@ fn playfield_cart(alloc: Global) -> Result<Cart, Fail> {
 const CART_LINE: &[u8] = b"cart 820c64e9933496de683a000c5e11f0510fb7b1699b2ce86471295236b284906d\n";
 
 const CAPITALS: &[u8] = b"cart 820C64E9933496DE683A000C5E11F0510FB7B1699B2CE86471295236B284906D\n";
+
 /// That of 4,096 zeros, by another program.
 const BLANK_LINE: &[u8] =
     b"cart ad7facb2586fc6e966c004d7d1d16b024f5805ff7cb47c7a85dabd8b48892ca7\n";
@@ -57,8 +59,12 @@ fn read(alloc: Global, bytes: &[u8], cart: &Cart) -> Result<usize, ReadError> {
     Ok(movie.len())
 }
 
+fn text_error(line: usize, kind: TextErrorKind) -> ReadError {
+    ReadError::Text(TextError { line, kind })
+}
+
 fn at(line: usize, kind: TextErrorKind) -> Result<usize, ReadError> {
-    Err(ReadError::Text(TextError { line, kind }))
+    Err(text_error(line, kind))
 }
 
 #[test]
@@ -114,23 +120,38 @@ fn places_past_the_end(rt: HostRuntime) -> Result<(), Fail> {
     Ok(())
 }
 
+/// Whether a text is read as a movie with this cartridge and so many frames, and printed again.
+fn is_read_and_printed(
+    alloc: Global,
+    cart: &Cart,
+    text: &[u8],
+    frames: usize,
+) -> Result<bool, Fail> {
+    let movie = read_text(alloc, text, cart)?;
+    let printed = print_text(alloc, &movie)?;
+    let same_cart = movie.cart().bytes() == cart.bytes();
+    Ok(same_cart && movie.len() == frames && printed.as_slice() == text)
+}
+
 #[test]
 fn texts_are_read_and_printed_again(rt: HostRuntime) -> Result<(), Fail> {
     let alloc = rt.alloc();
     let cart = playfield_cart(alloc)?;
-    let one = joined(alloc, &[HEAD, CART_LINE, NONE])?;
-    let none = joined(alloc, &[HEAD, CART_LINE])?;
-    let other = joined(
-        alloc,
-        &[HEAD, CART_LINE, NONE, b"RL..F .LDU. r.bAB\n", NONE],
-    )?;
-    for (text, size, frames) in [(one, 99, 1), (none, 81, 0), (other, 135, 3)] {
-        assert_eq!(rt; text.len(), size);
-        let movie = read_text(alloc, &text, &cart)?;
-        assert_eq!(rt; movie.len(), frames);
-        assert!(rt; movie.cart().bytes() == cart.bytes());
-        let printed = print_text(alloc, &movie)?;
-        assert!(rt; printed.as_slice() == text.as_slice());
+    let blank = Cart::blank(alloc)?;
+    let three: &[u8] = b"..... ..... .....\nRL..F .LDU. r.bAB\n..... ..... .....\n";
+    let cases = [
+        (&cart, CART_LINE, NONE, 99, 1),
+        (&cart, CART_LINE, b"".as_slice(), 81, 0),
+        (&cart, CART_LINE, three, 135, 3),
+        (&blank, BLANK_LINE, NONE, 99, 1),
+    ];
+    for (number, (cart, line, frames, size, count)) in cases.iter().enumerate() {
+        let text = joined(alloc, &[HEAD, line, frames])?;
+        assert_eq!(rt; text.len(), *size, "text {number}");
+        assert!(rt;
+            is_read_and_printed(alloc, cart, &text, *count)?,
+            "text {number}"
+        );
     }
     most_inputs_is_exact();
     one_movie_per_text();
@@ -139,7 +160,7 @@ fn texts_are_read_and_printed_again(rt: HostRuntime) -> Result<(), Fail> {
 }
 
 #[test]
-fn first_two_lines_at_fault(rt: HostRuntime) -> Result<(), Fail> {
+fn cut_texts(rt: HostRuntime) -> Result<(), Fail> {
     let alloc = rt.alloc();
     let cart = playfield_cart(alloc)?;
     let text = joined(alloc, &[HEAD, CART_LINE, NONE])?;
@@ -153,15 +174,32 @@ fn first_two_lines_at_fault(rt: HostRuntime) -> Result<(), Fail> {
         };
         assert_eq!(rt; cut, want, "{count} bytes before {byte}");
     }
-    let heads: [&[u8]; 4] = [b"a26movie 3\n", b"A26movie 1\n", b"\n", b"a26movie 1 \n"];
-    for head in heads {
-        let bytes = joined(alloc, &[head, CART_LINE, NONE])?;
-        assert_eq!(rt; read(alloc, &bytes, &cart), at(1, TextErrorKind::Head));
-    }
-    let digests: [&[u8]; 4] = [BLANK_LINE, CAPITALS, NONE, b"\n"];
-    for digest in digests {
-        let bytes = joined(alloc, &[HEAD, digest, NONE])?;
-        assert_eq!(rt; read(alloc, &bytes, &cart), at(2, TextErrorKind::Digest));
+    Ok(())
+}
+
+/// How many frames a text of these lines has, or its line at fault, with the playfield's cartridge.
+fn told(alloc: Global, lines: &[&[u8]]) -> Result<Result<usize, ReadError>, Fail> {
+    let cart = playfield_cart(alloc)?;
+    let text = joined(alloc, lines)?;
+    Ok(read(alloc, &text, &cart))
+}
+
+#[test]
+fn first_two_lines_at_fault(rt: HostRuntime) -> Result<(), Fail> {
+    let alloc = rt.alloc();
+    let cases: [(&[u8], &[u8], usize, TextErrorKind); 8] = [
+        (b"a26movie 3\n", CART_LINE, 1, TextErrorKind::Head),
+        (b"A26movie 1\n", CART_LINE, 1, TextErrorKind::Head),
+        (b"\n", CART_LINE, 1, TextErrorKind::Head),
+        (b"a26movie 1 \n", CART_LINE, 1, TextErrorKind::Head),
+        (HEAD, BLANK_LINE, 2, TextErrorKind::Digest),
+        (HEAD, CAPITALS, 2, TextErrorKind::Digest),
+        (HEAD, NONE, 2, TextErrorKind::Digest),
+        (HEAD, b"\n", 2, TextErrorKind::Digest),
+    ];
+    for (number, (first, second, line, kind)) in cases.iter().enumerate() {
+        let answer = told(alloc, &[first, second, NONE])?;
+        assert_eq!(rt; answer, at(*line, *kind), "text {number}");
     }
     Ok(())
 }
@@ -169,7 +207,6 @@ fn first_two_lines_at_fault(rt: HostRuntime) -> Result<(), Fail> {
 #[test]
 fn frames_at_fault(rt: HostRuntime) -> Result<(), Fail> {
     let alloc = rt.alloc();
-    let cart = playfield_cart(alloc)?;
     let wrong: [&[u8]; 6] = [
         b"r.... ..... .....\n",
         b"..... ..... ....\n",
@@ -178,40 +215,87 @@ fn frames_at_fault(rt: HostRuntime) -> Result<(), Fail> {
         b"...........\n",
         b"\n",
     ];
-    for line in wrong {
-        let first = joined(alloc, &[HEAD, CART_LINE, line, NONE, NONE])?;
-        assert_eq!(rt; read(alloc, &first, &cart), at(3, TextErrorKind::Frame));
-        let middle = joined(alloc, &[HEAD, CART_LINE, NONE, line, line])?;
-        assert_eq!(rt; read(alloc, &middle, &cart), at(4, TextErrorKind::Frame));
-        let last = joined(alloc, &[HEAD, CART_LINE, NONE, NONE, line])?;
-        assert_eq!(rt; read(alloc, &last, &cart), at(5, TextErrorKind::Frame));
+    for (number, line) in wrong.iter().enumerate() {
+        let first = told(alloc, &[HEAD, CART_LINE, line, NONE, NONE])?;
+        assert_eq!(rt; first, at(3, TextErrorKind::Frame), "line {number}");
+        let middle = told(alloc, &[HEAD, CART_LINE, NONE, line, line])?;
+        assert_eq!(rt; middle, at(4, TextErrorKind::Frame), "line {number}");
+        let last = told(alloc, &[HEAD, CART_LINE, NONE, NONE, line])?;
+        assert_eq!(rt; last, at(5, TextErrorKind::Frame), "line {number}");
     }
-    let open = joined(alloc, &[HEAD, CART_LINE, NONE, NONE, b"."])?;
-    assert_eq!(rt; read(alloc, &open, &cart), at(5, TextErrorKind::End));
+    let open = told(alloc, &[HEAD, CART_LINE, NONE, NONE, b"."])?;
+    assert_eq!(rt; open, at(5, TextErrorKind::End));
     Ok(())
+}
+
+/// So many lines of a frame with nothing pressed, and then these bytes.
+fn idle_lines(alloc: Global, count: usize, end: &[u8]) -> Result<Vec<u8>, AllocError> {
+    let mut lines = Vec::new(alloc);
+    for _ in 0..count {
+        lines.extend_from_slice(NONE)?;
+    }
+    lines.extend_from_slice(end)?;
+    Ok(lines)
 }
 
 #[test]
 fn too_many_frames(rt: HostRuntime) -> Result<(), Fail> {
     let alloc = rt.alloc();
-    let cart = playfield_cart(alloc)?;
-    let mut text = joined(alloc, &[HEAD, CART_LINE])?;
-    for _ in 0..65536 {
-        text.extend_from_slice(NONE)?;
+    let cases: [(usize, &[u8], Result<usize, ReadError>); 5] = [
+        (65536, b"", Ok(65536)),
+        (65537, b"", at(65539, TextErrorKind::TooMany)),
+        (65536, b"..", at(65539, TextErrorKind::End)),
+        (65536, b"..\n", at(65539, TextErrorKind::TooMany)),
+        (65536, b"..\n.", at(65539, TextErrorKind::TooMany)),
+    ];
+    for (number, (count, end, want)) in cases.iter().enumerate() {
+        let lines = idle_lines(alloc, *count, end)?;
+        let answer = told(alloc, &[HEAD, CART_LINE, lines.as_slice()])?;
+        assert_eq!(rt; answer, *want, "text {number}");
     }
-    assert_eq!(rt; read(alloc, &text, &cart), Ok(65536));
-    text.extend_from_slice(b"..")?;
-    assert_eq!(rt; read(alloc, &text, &cart), at(65539, TextErrorKind::End));
-    text.extend_from_slice(b"\n")?;
-    assert_eq!(rt;
-        read(alloc, &text, &cart),
-        at(65539, TextErrorKind::TooMany)
-    );
-    text.extend_from_slice(NONE)?;
-    assert_eq!(rt;
-        read(alloc, &text, &cart),
-        at(65539, TextErrorKind::TooMany)
-    );
+    Ok(())
+}
+
+/// Whether an error reads as these words.
+fn reads_as<E: Display>(alloc: Global, error: &E, words: &str) -> Result<bool, AllocError> {
+    let text = format!(in alloc; "{error}")?;
+    Ok(text.as_str() == words)
+}
+
+#[test]
+fn errors_of_reading_in_words(rt: HostRuntime) -> Result<(), Fail> {
+    let alloc = rt.alloc();
+    for (error, words) in [
+        (text_error(1, TextErrorKind::Head), "movie line 1: head"),
+        (text_error(2, TextErrorKind::Digest), "movie line 2: digest"),
+        (text_error(4, TextErrorKind::Frame), "movie line 4: frame"),
+        (text_error(3, TextErrorKind::End), "movie line 3: end"),
+        (
+            text_error(65539, TextErrorKind::TooMany),
+            "movie line 65539: too many",
+        ),
+        (ReadError::Memory, "out of memory"),
+    ] {
+        assert!(rt; reads_as(alloc, &error, words)?, "{words}");
+    }
+    Ok(())
+}
+
+#[test]
+fn refusals_in_words(rt: HostRuntime) -> Result<(), Fail> {
+    let alloc = rt.alloc();
+    for (refusal, words) in [
+        (EditRefusal::Place { at: 9, len: 8 }, "place 9 of 8"),
+        (EditRefusal::Long { len: 65536 }, "too long at 65536"),
+    ] {
+        assert!(rt; reads_as(alloc, &refusal, words)?, "{words}");
+    }
+    for (error, words) in [
+        (CartError::Size(7), "cartridge has 7 bytes"),
+        (CartError::Memory, "out of memory"),
+    ] {
+        assert!(rt; reads_as(alloc, &error, words)?, "{words}");
+    }
     Ok(())
 }
 
