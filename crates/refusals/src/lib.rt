@@ -1,0 +1,93 @@
+//! An allocator that refuses one of its growths, so that a test can see what a call leaves behind where memory is refused in
+//! its middle.
+#![tactic(auto)]
+
+ghost use Rattle.std.specs.Prelude.{◌≡◌, ◌↔◌, ◌≤◌, ◌-◌, IsTrue};
+
+use std::alloc::{AllocError, Allocator};
+use std::cell::Cell;
+
+/// An allocator that hands each call on to another one, but for one growth, which it refuses (own). A growth is a call of
+/// `allocate`; those of `grow` and `shrink` call it once each.
+///
+/// It is lent: `&Refusing` is an allocator, and `Copy`, so it fits each call that takes its memory from one.
+pub struct Refusing<B: Allocator> {
+    to_come: Cell<u64>,
+    inner: B,
+}
+
+impl<B: Allocator> Refusing<B> {
+    /// Refuses the growth with this number, counted from 1, and no other.
+    pub fn new(inner: B, number: u64) -> Refusing<B>
+        requires { 1 ≤ number }
+    {
+        Refusing {
+            to_come: Cell::new(number),
+            inner,
+        }
+    }
+
+    /// Counts anew: refuses the growth with this number from now on, counted from 1, and no other.
+    pub fn refuse(&self, number: u64)
+        requires { 1 ≤ number }
+    {
+        self.to_come.set(number);
+    }
+
+    /// Whether the growth that is refused has been asked for.
+    pub fn has_refused(&self) -> bool {
+        is_behind(self.to_come.get())
+    }
+}
+
+impl<B: Allocator> Drop for Refusing<B> {
+    fn drop(self) {
+        let Refusing {
+            to_come: _,
+            inner: _,
+        } = self;
+    }
+}
+
+/// Whether no growth up to the one that is refused is still to come.
+fn is_behind(to_come: u64) -> bool
+    ensures { IsTrue result ↔ to_come ≡ 0 }
+{
+    to_come == 0
+}
+
+/// Whether the next growth is the one that is refused, where so many are to come up to that one.
+fn is_next(to_come: u64) -> bool
+    ensures { IsTrue result ↔ to_come ≡ 1 }
+{
+    to_come == 1
+}
+
+/// How many are to come after the next growth.
+fn after_next(to_come: u64) -> u64
+    ensures { result ≡ to_come - 1 }
+{
+    to_come.saturating_sub(1)
+}
+
+/// Counts a growth, and answers whether it is the one that is refused.
+fn refuses_next(to_come: &Cell<u64>) -> bool {
+    let before = to_come.get();
+    to_come.set(after_next(before));
+    is_next(before)
+}
+
+unsafe impl<B: Allocator> Allocator for Refusing<B> {
+    ghost dealloc_token = { λ heap ty ptr. B.dealloc_token heap.inner ty ptr };
+
+    fn allocate(&self, size: usize, align: usize) -> Result<*mut u8, AllocError> {
+        if refuses_next(&self.to_come) {
+            return Err(AllocError);
+        }
+        self.inner.allocate(size, align)
+    }
+
+    unsafe fn deallocate(&self, ptr: *mut u8, size: usize, align: usize) {
+        self.inner.deallocate(ptr, size, align);
+    }
+}
