@@ -1,0 +1,67 @@
+//! What the calls are made on, in memory that isn't refused.
+
+use std::alloc::{AllocError, Allocator, Global};
+use std::test::Fail;
+use tas_movie::{Edit, Inputs, Movie, apply, check};
+use vcs_machine::{Cart, Input};
+
+/// `000=A910850DA91E85084C08F0 FFC=00F0`: a playfield of 1,680 lit pixels in each frame.
+pub const PLAYFIELD: &[u8] = b"\xA9\x10\x85\x0D\xA9\x1E\x85\x08\x4C\x08\xF0";
+
+/// `000=A9028500A90085004C00F0 FFC=00F0`: ends frame after frame by vertical sync, so that they are soon played. Their pictures
+/// are black.
+pub const BRIEF: &[u8] = b"\xA9\x02\x85\x00\xA9\x00\x85\x00\x4C\x00\xF0";
+
+/// The cartridge with a program at F000, byte by byte.
+pub fn image(program: &[u8]) -> [u8; 4096] {
+    let mut image = [0u8; 4096];
+    for (at, byte) in program.iter().enumerate() {
+        if at < 4096 {
+            image[at] = *byte;
+        }
+    }
+    image[4093] = 0xF0;
+    image
+}
+
+/// The left stick pushed right.
+pub fn right() -> Input {
+    let mut input = Input::none();
+    input.left.right = true;
+    input
+}
+
+/// So many equal inputs.
+pub fn copies<A: Allocator>(alloc: A, input: Input, count: usize) -> Result<Inputs<A>, AllocError> {
+    Ok(Inputs::from_vec(vec![in alloc; input; count]?))
+}
+
+/// A movie of so many frames with nothing pressed.
+pub fn movie_of(alloc: Global, program: &[u8], count: usize) -> Result<Movie, Fail> {
+    let cart = Cart::from_bytes(alloc, &image(program))?;
+    let mut movie = Movie::new(alloc, &cart)?;
+    let insert = Edit::Insert {
+        at: 0,
+        inputs: copies(alloc, Input::none(), count)?,
+    };
+    check(&movie, &insert)?;
+    apply(&mut movie, &insert);
+    Ok(movie)
+}
+
+/// The same movie with another input in the frame `at`.
+pub fn replaced(alloc: Global, movie: &Movie, at: usize) -> Result<Movie, Fail> {
+    let mut other = movie.copy(alloc)?;
+    let replace = Edit::Replace {
+        at,
+        inputs: copies(alloc, right(), 1)?,
+    };
+    check(&other, &replace)?;
+    apply(&mut other, &replace);
+    Ok(other)
+}
+
+/// Whether two movies have the same cartridge and the same inputs.
+pub fn are_equal<A: Allocator, B: Allocator>(one: &Movie<A>, other: &Movie<B>) -> bool {
+    one.cart().bytes() == other.cart().bytes() && one.inputs() == other.inputs()
+}
