@@ -1,0 +1,107 @@
+//! The engines, called alike.
+
+use crate::inputs::Bytes;
+use std::alloc::{Allocator, Global};
+use std::io::{Read, Write};
+use std::sync::Wait;
+use std::thread::Threads;
+use tas_tool::{
+    ToolFault, check_run, diff_run, edit_run, export_run, movie_script_run, script_run, shot_run,
+    trace_run,
+};
+
+/// An engine of the program.
+#[derive(Clone, Copy, Debug, PartialEq, Eq)]
+pub enum Engine {
+    Trace,
+    Check,
+    Shot,
+    Edit,
+    Diff,
+    Script,
+    MovieScript,
+    Export,
+}
+
+/// All of them.
+pub const ENGINES: [Engine; 8] = [
+    Engine::Trace,
+    Engine::Check,
+    Engine::Shot,
+    Engine::Edit,
+    Engine::Diff,
+    Engine::Script,
+    Engine::MovieScript,
+    Engine::Export,
+];
+
+impl Engine {
+    /// The input that it reads at this place, counted from 0; an empty one behind its last.
+    pub fn input<'a>(self, bytes: &'a Bytes, place: usize) -> &'a [u8] {
+        match (self, place) {
+            (Engine::Script, 0) | (Engine::MovieScript, 2) => bytes.script.as_slice(),
+            (_, 0) => bytes.cart.as_slice(),
+            (Engine::Trace | Engine::Script, _) => bytes.none.as_slice(),
+            (Engine::Edit, 1) => bytes.changes.as_slice(),
+            (Engine::Edit, 2) | (_, 1) => bytes.old.as_slice(),
+            (Engine::Diff, 2) => bytes.new.as_slice(),
+            _ => bytes.none.as_slice(),
+        }
+    }
+
+    /// How many inputs it reads.
+    pub fn count(self) -> usize {
+        match self {
+            Engine::Trace | Engine::Script => 1,
+            Engine::Check | Engine::Shot | Engine::Export => 2,
+            Engine::Edit | Engine::Diff | Engine::MovieScript => 3,
+        }
+    }
+}
+
+/// Runs an engine over good inputs into a writer.
+pub fn run_whole<T: Wait + Threads + Sync, A: Allocator + Copy, W: Write>(
+    rt: &T,
+    global: Global,
+    alloc: A,
+    engine: Engine,
+    bytes: &Bytes,
+    output: &mut W,
+) -> Result<(), ToolFault> {
+    let mut first = engine.input(bytes, 0);
+    let mut second = engine.input(bytes, 1);
+    let mut third = engine.input(bytes, 2);
+    run(
+        rt,
+        global,
+        alloc,
+        engine,
+        &mut first,
+        &mut second,
+        &mut third,
+        output,
+    )
+}
+
+/// Runs an engine. An export takes its memory from `global`, the others from `alloc`.
+pub fn run<T: Wait + Threads + Sync, A: Allocator + Copy, R: Read, W: Write>(
+    rt: &T,
+    global: Global,
+    alloc: A,
+    engine: Engine,
+    first: &mut R,
+    second: &mut R,
+    third: &mut R,
+    output: &mut W,
+) -> Result<(), ToolFault> {
+    match engine {
+        Engine::Trace => trace_run(alloc, 3, first, output),
+        Engine::Check => check_run(alloc, first, second, output),
+        Engine::Shot => shot_run(alloc, 1, first, second, output),
+        Engine::Edit => edit_run(alloc, first, second, third, output),
+        Engine::Diff => diff_run(alloc, first, second, third, output),
+        Engine::Script => script_run(rt, alloc, first, output),
+        Engine::MovieScript => movie_script_run(rt, alloc, first, second, third, output),
+        Engine::Export => export_run(rt, global, 1, 2, 1, first, second, output),
+    }
+}

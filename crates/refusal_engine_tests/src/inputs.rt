@@ -1,0 +1,62 @@
+//! What the engines read.
+
+use std::alloc::{AllocError, Global};
+use std::test::Fail;
+use tas_movie::{Edit, Inputs, Movie, apply, check, print_text};
+use vcs_machine::{Cart, Input};
+
+/// `000=A9028500A90085004C00F0 FFC=00F0`: ends frame after frame by vertical sync, so that they are soon played. Their pictures
+/// are black.
+const BRIEF: &[u8] = b"\xA9\x02\x85\x00\xA9\x00\x85\x00\x4C\x00\xF0";
+
+/// The bytes of a cartridge, of the texts of two movies of it, of the changes that make the second of the first, and of a
+/// script of edits and looks; and none.
+#[derive(Drop)]
+pub struct Bytes {
+    pub cart: Vec<u8>,
+    pub old: Vec<u8>,
+    pub new: Vec<u8>,
+    pub changes: Vec<u8>,
+    pub script: Vec<u8>,
+    pub none: Vec<u8>,
+}
+
+/// Seven lines on a movie.
+const SCRIPT: &[u8] =
+    b"insert 0 3 R.... ..... .....\nlen\ninput 1\nshot 2\ndelete 0 1\nwork 1\nlen\n";
+
+fn cart(alloc: Global) -> Result<Cart, AllocError> {
+    let mut image = [0u8; 4096];
+    for (at, byte) in BRIEF.iter().enumerate() {
+        if at < 4096 {
+            image[at] = *byte;
+        }
+    }
+    image[4093] = 0xF0;
+    Cart::from_bytes(alloc, &image).map_err(|_| AllocError)
+}
+
+/// The text of a movie with so many frames of nothing pressed.
+fn text_of(alloc: Global, cart: &Cart, count: usize) -> Result<Vec<u8>, Fail> {
+    let mut movie = Movie::new(alloc, cart)?;
+    let insert = Edit::Insert {
+        at: 0,
+        inputs: Inputs::from_vec(vec![in alloc; Input::none(); count]?),
+    };
+    check(&movie, &insert)?;
+    apply(&mut movie, &insert);
+    Ok(print_text(alloc, &movie)?)
+}
+
+/// All inputs.
+pub fn make_inputs(alloc: Global) -> Result<Bytes, Fail> {
+    let cart = cart(alloc)?;
+    Ok(Bytes {
+        old: text_of(alloc, &cart, 3)?,
+        new: text_of(alloc, &cart, 2)?,
+        cart: Vec::from_slice(alloc, cart.bytes())?,
+        changes: Vec::from_slice(alloc, b"delete 0 1\n")?,
+        script: Vec::from_slice(alloc, SCRIPT)?,
+        none: Vec::new(alloc),
+    })
+}

@@ -1,0 +1,189 @@
+//! Reads that fail, give one byte, or end early.
+
+use crate::engines::{ENGINES, Engine, run, run_whole};
+use crate::inputs::{Bytes, make_inputs};
+use crate::pieces::Giver;
+use std::alloc::Global;
+use std::sync::Wait;
+use std::test::Fail;
+use std::thread::Threads;
+use tas_tool::ToolFault;
+
+/// No engine reads one input so often here.
+const MOST: usize = 100;
+
+/// What an engine did: how it ended, how often it read each input, and what it wrote.
+#[derive(Drop)]
+struct Done {
+    end: Result<(), ToolFault>,
+    reads: [usize; 3],
+    written: Vec<u8>,
+}
+
+/// Runs an engine whose readers give so many bytes at most at each read; one of them fails at a read.
+fn run_failing<T: Wait + Threads + Sync>(
+    rt: &T,
+    alloc: Global,
+    engine: Engine,
+    bytes: &Bytes,
+    at_once: usize,
+    fails_at: [usize; 3],
+) -> Done {
+    let mut first = Giver::new(engine.input(bytes, 0), at_once, fails_at[0]);
+    let mut second = Giver::new(engine.input(bytes, 1), at_once, fails_at[1]);
+    let mut third = Giver::new(engine.input(bytes, 2), at_once, fails_at[2]);
+    let mut written = Vec::new(alloc);
+    let end = run(
+        rt,
+        alloc,
+        alloc,
+        engine,
+        &mut first,
+        &mut second,
+        &mut third,
+        &mut written,
+    );
+    Done {
+        end,
+        reads: [first.reads(), second.reads(), third.reads()],
+        written,
+    }
+}
+
+/// The input of this number fails at that read, and no other.
+fn failing(input: usize, read: usize) -> [usize; 3] {
+    match input {
+        0 => [read, 0, 0],
+        1 => [0, read, 0],
+        _ => [0, 0, read],
+    }
+}
+
+/// A failed read is the last one of all inputs; nothing is written after it.
+fn is_stopped(done: &Done, input: usize, read: usize) -> bool {
+    let reads = done.reads;
+    let is_last = match input {
+        0 => reads == [read, 0, 0],
+        1 => reads[1] == read && reads[2] == 0,
+        _ => reads[2] == read,
+    };
+    done.end == Err(ToolFault::Read) && is_last && done.written.is_empty()
+}
+
+#[test]
+fn each_read_failing(rt: HostRuntime) -> Result<(), Fail> {
+    let alloc = rt.alloc();
+    let bytes = make_inputs(alloc)?;
+    for engine in ENGINES {
+        let mut whole = Vec::new(alloc);
+        assert_eq!(rt;
+            run_whole(&rt, alloc, alloc, engine, &bytes, &mut whole),
+            Ok(())
+        );
+        for input in 0..engine.count() {
+            let mut failed = 0;
+            for read in 1..MOST {
+                let done = run_failing(&rt, alloc, engine, &bytes, 2000, failing(input, read));
+                if done.end.is_ok() {
+                    assert!(rt; done.written.as_slice() == whole.as_slice(), "{engine:?}");
+                    break;
+                }
+                assert!(rt;
+                    is_stopped(&done, input, read),
+                    "{engine:?} {input}, read {read}"
+                );
+                failed = read;
+            }
+            // A read that gives the last bytes, and one that gives none.
+            let size = engine.input(&bytes, input).len();
+            assert_eq!(rt;
+                failed,
+                size.div_ceil(2000).saturating_add(1),
+                "{engine:?} {input}"
+            );
+        }
+    }
+    Ok(())
+}
+
+#[test]
+fn one_byte_at_each_read(rt: HostRuntime) -> Result<(), Fail> {
+    let alloc = rt.alloc();
+    let bytes = make_inputs(alloc)?;
+    for engine in ENGINES {
+        let mut whole = Vec::new(alloc);
+        assert_eq!(rt;
+            run_whole(&rt, alloc, alloc, engine, &bytes, &mut whole),
+            Ok(())
+        );
+        let done = run_failing(&rt, alloc, engine, &bytes, 1, [0, 0, 0]);
+        assert_eq!(rt; done.end, Ok(()), "{engine:?}");
+        assert!(rt; done.written.as_slice() == whole.as_slice(), "{engine:?}");
+    }
+    Ok(())
+}
+
+/// The bytes without the last one.
+fn cut_short(bytes: &[u8]) -> &[u8] {
+    &bytes[..bytes.len().saturating_sub(1)]
+}
+
+/// Whether a fault tells what is wrong with an input without its last byte: a cartridge, a script or a movie's text.
+fn tells_early_end(engine: Engine, input: usize, fault: ToolFault) -> bool {
+    match fault {
+        ToolFault::Size(size) => input == 0 && size == 4095,
+        ToolFault::Script { line } => match engine {
+            Engine::Script => line == 7,
+            Engine::MovieScript => input == 2 && line == 7,
+            Engine::Edit => input == 1 && line == 1,
+            _ => false,
+        },
+        ToolFault::Text(_) => input > 0,
+        _ => false,
+    }
+}
+
+/// Runs an engine over one input without its last byte: how it ended.
+fn run_cut<T: Wait + Threads + Sync>(
+    rt: &T,
+    alloc: Global,
+    engine: Engine,
+    bytes: &Bytes,
+    input: usize,
+) -> Result<(), ToolFault> {
+    let mut first = engine.input(bytes, 0);
+    let mut second = engine.input(bytes, 1);
+    let mut third = engine.input(bytes, 2);
+    match input {
+        0 => first = cut_short(first),
+        1 => second = cut_short(second),
+        _ => third = cut_short(third),
+    }
+    let mut written = Vec::new(alloc);
+    run(
+        rt,
+        alloc,
+        alloc,
+        engine,
+        &mut first,
+        &mut second,
+        &mut third,
+        &mut written,
+    )
+}
+
+#[test]
+fn inputs_that_end_early(rt: HostRuntime) -> Result<(), Fail> {
+    let alloc = rt.alloc();
+    let bytes = make_inputs(alloc)?;
+    for engine in ENGINES {
+        for input in 0..engine.count() {
+            let is_told = match run_cut(&rt, alloc, engine, &bytes, input) {
+                Ok(()) => false,
+                Err(fault) => tells_early_end(engine, input, fault),
+            };
+            assert!(rt; is_told, "{engine:?} {input}");
+        }
+    }
+    Ok(())
+}

@@ -1,0 +1,85 @@
+//! Writes that fail, take a few bytes, or take none.
+
+use crate::engines::{Engine, run_whole};
+use crate::inputs::make_inputs;
+use crate::pieces::{Failure, Taker};
+use std::alloc::Global;
+use std::process::Abort;
+use std::sync::Wait;
+use std::test::Fail;
+use std::thread::Threads;
+use tas_tool::ToolFault;
+
+/// No engine writes so often here.
+const MOST: usize = 1000;
+
+/// Each write of an engine fails in turn, into a writer that takes so many bytes at most at each write. A failed write is the
+/// last one, and what `Write` counts is just what was taken before it: the answer's first bytes.
+fn fail_each<T: Wait + Threads + Abort + Sync>(
+    rt: &T,
+    alloc: Global,
+    engine: Engine,
+    at_once: usize,
+    failure: Failure,
+) -> Result<(), Fail> {
+    let bytes = make_inputs(alloc)?;
+    let mut whole = Vec::new(alloc);
+    let end = run_whole(rt, alloc, alloc, engine, &bytes, &mut whole);
+    assert_eq!(rt; end, Ok(()));
+    let mut failed = 0;
+    for write in 1..MOST {
+        let mut output = Taker::new(alloc, at_once, write, failure);
+        let end = run_whole(rt, alloc, alloc, engine, &bytes, &mut output);
+        if end.is_ok() {
+            assert!(rt; output.taken() == whole.as_slice(), "{engine:?}");
+            break;
+        }
+        let written = output.taken().len();
+        assert_eq!(rt;
+            end,
+            Err(ToolFault::Write { written }),
+            "{engine:?} {write}"
+        );
+        assert!(rt;
+            whole.as_slice().starts_with(output.taken()),
+            "{engine:?} {write}"
+        );
+        assert!(rt;
+            output.writes() == write && written < whole.len(),
+            "{engine:?} {write}"
+        );
+        failed = write;
+    }
+    assert!(rt; failed > 0, "{engine:?}");
+    Ok(())
+}
+
+/// Seven bytes at a time.
+#[test]
+fn each_write_of_a_text(rt: HostRuntime) -> Result<(), Fail> {
+    let engines = [
+        Engine::Trace,
+        Engine::Check,
+        Engine::Edit,
+        Engine::Diff,
+        Engine::Script,
+        Engine::MovieScript,
+    ];
+    for engine in engines {
+        for failure in [Failure::Error, Failure::Nothing] {
+            fail_each(&rt, rt.alloc(), engine, 7, failure)?;
+        }
+    }
+    Ok(())
+}
+
+/// A row at a time.
+#[test]
+fn each_write_of_a_shot(rt: HostRuntime) -> Result<(), Fail> {
+    fail_each(&rt, rt.alloc(), Engine::Shot, 1000, Failure::Error)
+}
+
+#[test]
+fn each_write_of_an_export(rt: HostRuntime) -> Result<(), Fail> {
+    fail_each(&rt, rt.alloc(), Engine::Export, 1000, Failure::Nothing)
+}
