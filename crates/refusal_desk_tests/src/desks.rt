@@ -1,0 +1,159 @@
+//! Desks with two seats over a heap: opened, set up, lent and closed.
+
+ghost use Rattle.std.specs.Prelude.{◌≡◌, ◌≤◌};
+ghost use Rattle.tas_desk.specs.Seats.{name_of};
+
+use crate::desk_tests::{Call, take_call};
+use crate::edits::{Change, edit_of, history};
+use crate::runs::{Heap, NEVER, Run};
+use refusals::Refusing;
+use std::alloc::{AllocError, Global};
+use std::marker::Brand;
+use std::sync::Wait;
+use std::test::Fail;
+use tas_desk::{Desk, Gate, Name, OpenError, Seat, Unopened};
+
+/// A gate that nobody waits at.
+#[derive(Drop)]
+pub struct OpenGate;
+
+impl Gate for OpenGate {
+    fn pass(&self, _piece: usize) {}
+}
+
+/// Four edits of a seat, which make 400 brief frames.
+const BEFORE: [Change; 4] = [
+    Change::Load,
+    Change::Insert(0, 200),
+    Change::Insert(200, 200),
+    Change::Delete(0, 0),
+];
+
+/// Two edits, which make 200 frames of the playfield.
+const PLAYFIELD_OF_200: [Change; 2] = [Change::LoadPlayfield, Change::Insert(0, 200)];
+
+/// The seat makes these edits.
+fn make_edits<'a, N: Name, R: Wait>(
+    rt: &R,
+    heap: &'a Heap,
+    desk: &Desk<N, &R, &'a Heap>,
+    seat: &mut Seat<N, &'a Heap>,
+    changes: &[Change],
+) -> Result<(), Fail> {
+    for change in changes {
+        let edit = edit_of(heap, *change)?;
+        desk.edit(rt, seat, edit)
+            .map_err(|_| "an edit that is made")?;
+    }
+    Ok(())
+}
+
+/// Seat 0 makes the four edits; the states after 64 and 128 frames are kept by the desk and by the seat.
+fn set_up<'a, N: Name, R: Wait>(
+    rt: &R,
+    heap: &'a Heap,
+    desk: &Desk<N, &R, &'a Heap>,
+    seat: &mut Seat<N, &'a Heap>,
+) -> Result<(), Fail> {
+    make_edits(rt, heap, desk, seat, &BEFORE)?;
+    desk.work(rt, heap, seat, &[128], &OpenGate)
+        .map_err(|_| "work that is done")?;
+    desk.share(rt, seat)?;
+    Ok(())
+}
+
+/// A call at a new desk with one growth refused, and the same call after it.
+fn run_at<'a, N: Name, R: Wait>(
+    rt: &R,
+    alloc: Global,
+    heap: &'a Heap,
+    unopened: Unopened<&'a Heap>,
+    call: Call,
+    number: u64,
+) -> Result<Run, Fail>
+    requires name { unopened ≡ name_of N.registry N.name N.seats }
+    requires named { N.parts ≡ N.seats }
+    requires number { 1 ≤ number }
+{
+    let (desk, mut seats) = Desk::<N, &R, &'a Heap>::open(rt, heap, unopened).map_err(
+        |_| AllocError,
+    )?;
+    if seats.len() != 2 {
+        return Err("two seats".into());
+    }
+    let (one, rest) = seats.split_at_mut(1);
+    let (Some(one), Some(other)) = (one.first_mut(), rest.first_mut()) else {
+        return Err("two seats".into());
+    };
+    if call == Call::TwoJobs {
+        make_edits(rt, heap, &desk, one, &PLAYFIELD_OF_200)?;
+    } else {
+        set_up(rt, heap, &desk, one)?;
+    }
+    let run = take_call(rt, alloc, heap, &desk, (one, other), call, number)?;
+    if !desk.whole(seats.as_slice()) {
+        return Err("all seats come back".into());
+    }
+    let closed = desk.close(rt, seats);
+    if history(alloc, closed.journal.as_slice())?.as_str() != history_after(call) {
+        return Ok(Run::Wrong);
+    }
+    Ok(run)
+}
+
+/// The history at the end: no entry is there twice, and none of a refused edit.
+fn history_after(call: Call) -> &'static str {
+    match call {
+        Call::Edit(Change::Load) => {
+            "0 0 load\n0 1 insert 0 200\n0 2 insert 200 200\n0 3 delete 0 0\n1 0 load\n"
+        }
+        Call::Edit(Change::Insert(..)) => {
+            "0 0 load\n0 1 insert 0 200\n0 2 insert 200 200\n0 3 delete 0 0\n1 0 insert 400 3\n"
+        }
+        Call::Edit(Change::ReplaceRight(_)) => {
+            "0 0 load\n0 1 insert 0 200\n0 2 insert 200 200\n0 3 delete 0 0\n1 0 replace 399 1\n"
+        }
+        Call::Edit(Change::Delete(..)) => {
+            "0 0 load\n0 1 insert 0 200\n0 2 insert 200 200\n0 3 delete 0 0\n1 0 delete 100 7\n"
+        }
+        Call::TwoJobs => "0 0 load\n0 1 insert 0 200\n",
+        _ => "0 0 load\n0 1 insert 0 200\n0 2 insert 200 200\n0 3 delete 0 0\n",
+    }
+}
+
+/// A call at a desk with one growth refused, and the same call after it.
+pub fn run_call<R: Wait>(rt: &R, alloc: Global, call: Call, number: u64) -> Result<Run, Fail>
+    requires { 1 ≤ number }
+{
+    let heap = Refusing::new(alloc, NEVER);
+    let unopened = Unopened::new(&heap, 2).map_err(|_| AllocError)?;
+    run_at::<Brand, R>(rt, alloc, &heap, unopened, call, number)
+}
+
+/// The opening of a desk with one growth refused.
+fn open_at<'a, N: Name, R: Wait>(
+    rt: &R,
+    heap: &'a Heap,
+    unopened: Unopened<&'a Heap>,
+    number: u64,
+) -> Run
+    requires name { unopened ≡ name_of N.registry N.name N.seats }
+    requires named { N.parts ≡ N.seats }
+    requires number { 1 ≤ number }
+{
+    heap.refuse(number);
+    match Desk::<N, &R, &'a Heap>::open(rt, heap, unopened) {
+        Ok((_desk, seats)) => Run::ended(heap.has_refused(), seats.len() == 2),
+        Err(OpenError::Memory) => Run::ended(heap.has_refused(), true),
+        Err(OpenError::NoPlace) => Run::Wrong,
+    }
+}
+
+/// The opening of a desk with two seats, with one growth refused. What was to be opened is given up then.
+pub fn run_open<R: Wait>(rt: &R, alloc: Global, number: u64) -> Result<Run, Fail>
+    requires { 1 ≤ number }
+{
+    let heap = Refusing::new(alloc, NEVER);
+    let unopened = Unopened::new(&heap, 2).map_err(|_| AllocError)?;
+    Ok(open_at::<Brand, R>(rt, &heap, unopened, number))
+}

@@ -1,0 +1,13 @@
+//! What sessions and desks do where memory is refused: each growth of each call in turn.
+#![tactic(auto)]
+
+#[cfg(test)]
+mod desk_tests;
+#[cfg(test)]
+mod desks;
+#[cfg(test)]
+mod edits;
+#[cfg(test)]
+mod runs;
+#[cfg(test)]
+mod session_tests;
