@@ -2,7 +2,7 @@
 
 ghost use Rattle.std.specs.Prelude.{◌≤◌};
 
-use crate::desks::{OpenGate, run_call, run_open};
+use crate::desks::{OpenGate, run_call, run_open, run_unopened};
 use crate::edits::{Change, edit_of};
 use crate::runs::{Heap, MOST, Run};
 use std::alloc::Global;
@@ -318,5 +318,21 @@ fn the_opening_of_a_desk(rt: HostRuntime) -> Result<(), Fail> {
         refused = number;
     }
     assert_eq!(rt; refused, 5);
+    Ok(())
+}
+
+#[test]
+fn a_desk_to_be_opened(rt: HostRuntime) -> Result<(), Fail> {
+    let alloc = rt.alloc();
+    let mut refused = 0;
+    for number in 1..MOST {
+        let run = run_unopened(&rt, alloc, number);
+        if run == Run::Done {
+            break;
+        }
+        assert_eq!(rt; run, Run::Refused, "growth {number}");
+        refused = number;
+    }
+    assert_eq!(rt; refused, 12);
     Ok(())
 }

@@ -157,3 +157,31 @@ pub fn run_open<R: Wait>(rt: &R, alloc: Global, number: u64) -> Result<Run, Fail
     let unopened = Unopened::new(&heap, 2).map_err(|_| AllocError)?;
     Ok(open_at::<Brand, R>(rt, &heap, unopened, number))
 }
+
+/// Whether what was to be opened is, and then opens; nothing where memory is refused to its making.
+fn is_unopened<R: Wait>(rt: &R, heap: &Heap) -> Option<bool> {
+    match Unopened::new(heap, 2) {
+        Ok(unopened) => {
+            let has_refused = heap.has_refused();
+            let run = open_at::<Brand, R>(rt, heap, unopened, NEVER);
+            Some(!has_refused && run == Run::Done)
+        }
+        Err(OpenError::Memory) => None,
+        Err(OpenError::NoPlace) => Some(false),
+    }
+}
+
+/// The making of a desk that isn't opened yet, with one growth refused, and another one after it.
+pub fn run_unopened<R: Wait>(rt: &R, alloc: Global, number: u64) -> Run
+    requires { 1 ≤ number }
+{
+    let heap = Refusing::new(alloc, number);
+    match is_unopened(rt, &heap) {
+        Some(is_right) => Run::ended(false, is_right),
+        None => {
+            let has_refused = heap.has_refused();
+            heap.refuse(NEVER);
+            Run::ended(true, has_refused && is_unopened(rt, &heap) == Some(true))
+        }
+    }
+}
