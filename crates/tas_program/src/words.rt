@@ -1,8 +1,11 @@
 //! The words of the command line.
 
-ghost use Rattle.std.specs.Prelude.{◌≡◌, ◌≤◌, IfOk, IfSome, Some, codes};
+ghost use Rattle.std.specs.Prelude.{◌≡◌, ◌≤◌, ◌∷◌, [], Option, IfOk, IfSome, None, Some, false, codes, map, string_bytes};
+ghost use Rattle.clap.specs.Words.{rule_of};
 ghost use Rattle.clap.specs.Matches.{subcommand_name_of};
+ghost use Rattle.clap.specs.declared.builder.value_parser.ValueParser.{ValueParser as Parser};
 ghost use Rattle.tas_program.specs.Task.{IsInRange, command_name};
+ghost use Rattle.tas_program.specs.CommandLine.{flag_rule, word_rule, named_command, HasRules, IsCommandLine};
 
 use crate::{MAX_FRAME, MAX_INSTRUCTIONS, MAX_WORKERS, Task};
 use clap::error::ErrorKind;
@@ -13,7 +16,10 @@ use std::alloc::{AllocError, Global};
 static VERSION: &str = "0.1.0, machine profile 1";
 
 /// A required word that is a number in a range.
-fn number<'a>(alloc: Global, name: &'a str, help: &'a str, least: u32, most: u32) -> Arg<'a> {
+fn number<'a>(alloc: Global, name: &'a str, help: &'a str, least: u32, most: u32) -> Arg<'a>
+    ensures local { result.global ≡ false }
+    ensures rule { rule_of result ≡ word_rule name.now result.value_parser }
+{
     Arg::new(alloc, name)
         .required(true)
         .action(ArgAction::Set)
@@ -22,7 +28,10 @@ fn number<'a>(alloc: Global, name: &'a str, help: &'a str, least: u32, most: u32
 }
 
 /// The required word that names the cartridge's file.
-fn cartridge<'a>(alloc: Global) -> Arg<'a> {
+fn cartridge<'a>(alloc: Global) -> Arg<'a>
+    ensures local { result.global ≡ false }
+    ensures rule { rule_of result ≡ word_rule (codes "CART") None }
+{
     file(
         alloc,
         "CART",
@@ -109,7 +118,9 @@ Each command reads standard input whole before it writes anything to standard ou
 Status: 0 done, 1 a fault (one line on standard error), 2 words that aren't understood.";
 
 /// `tas trace`.
-fn trace_command<'a>(alloc: Global) -> Result<Command<'a>, AllocError> {
+fn trace_command<'a>(alloc: Global) -> Result<Command<'a>, AllocError>
+    ensures { IfOk result (λ c. (parser : Option Parser) × HasRules (codes "trace") (word_rule (codes "N") parser ∷ []) c) }
+{
     Command::new(alloc, "trace")
         .about("Writes the first instructions of a cartridge, a line for each")
         .after_help(TRACE_HELP)
@@ -123,7 +134,9 @@ fn trace_command<'a>(alloc: Global) -> Result<Command<'a>, AllocError> {
 }
 
 /// `tas check`.
-fn check_command<'a>(alloc: Global) -> Result<Command<'a>, AllocError> {
+fn check_command<'a>(alloc: Global) -> Result<Command<'a>, AllocError>
+    ensures { IfOk result (λ c. HasRules (codes "check") (word_rule (codes "CART") None ∷ []) c) }
+{
     Command::new(alloc, "check")
         .about("Checks a movie text and tells its length")
         .after_help(CHECK_HELP)
@@ -131,7 +144,9 @@ fn check_command<'a>(alloc: Global) -> Result<Command<'a>, AllocError> {
 }
 
 /// `tas shot`.
-fn shot_command<'a>(alloc: Global) -> Result<Command<'a>, AllocError> {
+fn shot_command<'a>(alloc: Global) -> Result<Command<'a>, AllocError>
+    ensures { IfOk result (λ c. (parser : Option Parser) × HasRules (codes "shot") (word_rule (codes "CART") None ∷ word_rule (codes "K") parser ∷ []) c) }
+{
     Command::new(alloc, "shot")
         .about("Writes the picture of one frame of a movie")
         .after_help(SHOT_HELP)
@@ -140,7 +155,10 @@ fn shot_command<'a>(alloc: Global) -> Result<Command<'a>, AllocError> {
 }
 
 /// A required word that names a file.
-fn file<'a>(alloc: Global, name: &'a str, help: &'a str) -> Arg<'a> {
+fn file<'a>(alloc: Global, name: &'a str, help: &'a str) -> Arg<'a>
+    ensures local { result.global ≡ false }
+    ensures rule { rule_of result ≡ word_rule name.now None }
+{
     Arg::new(alloc, name)
         .required(true)
         .action(ArgAction::Set)
@@ -148,7 +166,9 @@ fn file<'a>(alloc: Global, name: &'a str, help: &'a str) -> Arg<'a> {
 }
 
 /// `tas edit`.
-fn edit_command<'a>(alloc: Global) -> Result<Command<'a>, AllocError> {
+fn edit_command<'a>(alloc: Global) -> Result<Command<'a>, AllocError>
+    ensures { IfOk result (λ c. HasRules (codes "edit") (word_rule (codes "CART") None ∷ word_rule (codes "SCRIPT") None ∷ []) c) }
+{
     Command::new(alloc, "edit")
         .about("Makes the changes of a script on a movie and writes its text")
         .after_help(EDIT_HELP)
@@ -157,7 +177,9 @@ fn edit_command<'a>(alloc: Global) -> Result<Command<'a>, AllocError> {
 }
 
 /// `tas diff`.
-fn diff_command<'a>(alloc: Global) -> Result<Command<'a>, AllocError> {
+fn diff_command<'a>(alloc: Global) -> Result<Command<'a>, AllocError>
+    ensures { IfOk result (λ c. HasRules (codes "diff") (word_rule (codes "CART") None ∷ word_rule (codes "OLD") None ∷ []) c) }
+{
     Command::new(alloc, "diff")
         .about("Writes the script that makes one movie of another")
         .after_help(DIFF_HELP)
@@ -165,33 +187,54 @@ fn diff_command<'a>(alloc: Global) -> Result<Command<'a>, AllocError> {
         .arg(file(alloc, "OLD", "The file with the older movie's text"))
 }
 
-/// A word that names a file, behind a flag.
-fn flag<'a>(alloc: Global, name: &'a str, flag: &'a str, help: &'a str) -> Arg<'a> {
+/// A word that names a file, behind a flag, and goes with another one.
+fn flag<'a>(
+    alloc: Global,
+    name: &'a str,
+    flag: &'a str,
+    other: &'a str,
+    help: &'a str,
+) -> Result<Arg<'a>, AllocError>
+    ensures local { IfOk result (λ arg. arg.global ≡ false) }
+    ensures rule { IfOk result (λ arg. rule_of arg ≡ flag_rule name.now flag.now) }
+{
     Arg::new(alloc, name)
         .long(flag)
         .action(ArgAction::Set)
         .value_name(name)
         .help(help)
+        .requires_arg(other)
 }
 
 /// `tas script`.
-fn script_command<'a>(alloc: Global) -> Result<Command<'a>, AllocError> {
+fn script_command<'a>(alloc: Global) -> Result<Command<'a>, AllocError>
+    ensures { IfOk result (λ c. HasRules (codes "script") (flag_rule (codes "CART") (codes "cart") ∷ flag_rule (codes "MOVIE") (codes "movie") ∷ []) c) }
+{
     let cart = flag(
         alloc,
         "CART",
         "cart",
+        "MOVIE",
         "The cartridge's file of a movie to start from",
-    );
-    let movie = flag(alloc, "MOVIE", "movie", "The file with this movie's text");
+    )?;
+    let movie = flag(
+        alloc,
+        "MOVIE",
+        "movie",
+        "CART",
+        "The file with this movie's text",
+    )?;
     Command::new(alloc, "script")
         .about("Edits a movie by a script and writes the replies")
         .after_help(SCRIPT_HELP)
-        .arg(cart.requires_arg("MOVIE")?)?
-        .arg(movie.requires_arg("CART")?)
+        .arg(cart)?
+        .arg(movie)
 }
 
 /// `tas export`.
-fn export_command<'a>(alloc: Global) -> Result<Command<'a>, AllocError> {
+fn export_command<'a>(alloc: Global) -> Result<Command<'a>, AllocError>
+    ensures { IfOk result (λ c. (from to workers : Option Parser) × HasRules (codes "export") (word_rule (codes "CART") None ∷ word_rule (codes "FROM") from ∷ word_rule (codes "TO") to ∷ word_rule (codes "WORKERS") workers ∷ []) c) }
+{
     Command::new(alloc, "export")
         .about("Writes the pictures of some frames of a movie, one after the other")
         .after_help(EXPORT_HELP)
@@ -214,7 +257,9 @@ fn export_command<'a>(alloc: Global) -> Result<Command<'a>, AllocError> {
 }
 
 /// The program's command line.
-fn command<'a>(alloc: Global) -> Result<Command<'a>, AllocError> {
+fn command<'a>(alloc: Global) -> Result<Command<'a>, AllocError>
+    ensures { IfOk result IsCommandLine }
+{
     Command::new(alloc, "tas")
         .bin_name("tas")?
         .version(VERSION)
@@ -292,10 +337,11 @@ fn task_of<'a>(matches: &ArgMatches<'a>) -> Option<Task<'a>>
     }
 }
 
-/// What the words ask for; the first of them is the program's name. An error is clap's: a text that was
-/// asked for, or words that aren't understood, or no memory.
+/// What the words ask for; the first of them is the program's name. The task is that of the command that they name. An error is
+/// clap's: a text that was asked for, or words that aren't understood, or no memory.
 pub fn read_words<'a>(alloc: Global, words: &'a [String]) -> Result<Task<'a>, Error>
-    ensures { IfOk result IsInRange }
+    ensures range { IfOk result IsInRange }
+    ensures named { IfOk result (λ task. named_command (map string_bytes words.entry.now) ≡ Some (command_name task)) }
 {
     let mut command = command(alloc)?;
     let matches = command.try_get_matches_from_mut(words)?;

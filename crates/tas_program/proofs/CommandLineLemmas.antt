@@ -1,0 +1,118 @@
+-- What clap says of the command line.
+use Rattle.std.proofs.Common.{◌≡◌, ℕ, List, [], ◌∷◌, ◌++◌, Bool, true, false, Option, Some, None, codes, map, refl, sym, ap, ap₂, subst, ◌∙◌, option_map}
+use Rattle.std.specs.Prelude.{Box, IfSome, drop, find}
+use Rattle.std.proofs.lemmas.Slice.Eq.{bytes_eq-Decides}
+use Rattle.std.specs.Str.{bytes_eq}
+use Rattle.std.specs.Borrow.{Bor}
+use Rattle.std.specs.Box.{box_value}
+use Rattle.clap.specs.Built.{AddsArg, AddsSubcommand}
+use Rattle.clap.specs.Matches.{subcommand_name_of}
+use Rattle.clap.specs.Simple.{App, Shape, HasMatchesOf, app_of, app_of_fields, new_app, with_rule, with_subcommand, label_of, on_top, rows_at, entered, built, names_of, is_simple, subcommand_of, subcommand_rows, subcommand_rows_of}
+use Rattle.clap.specs.Walk.{Row, Rule, Text, answers_to, rule_of, stop_after}
+use Rattle.clap.specs.declared.builder.arg.Arg.{Arg}
+use Rattle.clap.specs.declared.builder.command.Command.{Command}
+use Rattle.clap.specs.declared.builder.command.Command.TheViews.{out-Command}
+use Rattle.clap.specs.declared.builder.value_parser.ValueParser.{ValueParser}
+use Rattle.clap.specs.declared.parser.matches.ArgMatches.{ArgMatches}
+use Rattle.clap.specs.declared.parser.matches.ArgMatches.TheViews.{out-ArgMatches, out-SubCommand}
+use Rattle.clap.specs.declared.parser.matches.SubCommand.{SubCommand}
+use Rattle.clap.proofs.OnLiterals.{clap_on_literals}
+use Rattle.clap.proofs.SimpleLemmas.{label_first}
+use Rattle.tas_program.specs.CommandLine.{command_names, labels, own_flags, named_command, shape_with, HasRules, command_line}
+
+-- ---- the commands
+
+-- a command with a text and a help
+pub described : (name : Text) (new told helped : Command) (about after : Option (Bor Text)) → app_of new ≡ new_app name → (out-Command new).has_globals ≡ false → out-Command told ≡ record (out-Command new) { about = about }
+    → out-Command helped ≡ record (out-Command told) { after_help = after } → HasRules name [] helped
+described name new told helped about after app local e e' = record {
+  local = ap (λ f. f.has_globals) e' ∙ ap (λ f. f.has_globals) e ∙ local;
+  app = ap app_of_fields e' ∙ ap app_of_fields e ∙ app;
+}
+
+-- a command with one word more
+pub with_word : (name : Text) (rules : List Rule) (old new : Command) (arg : Arg) (rule : Rule) → HasRules name rules old → arg.global ≡ false → rule_of arg ≡ rule → AddsArg old arg new → HasRules name (rules ++ rule ∷ []) new
+with_word name rules old new arg rule has local is added = record {
+  local = added.globals ∙ rw (has.local, local) refl;
+  app = added.shape local ∙ ap₂ with_rule has.app is;
+}
+
+abbrev with_version : Shape → Shape
+with_version s = record s { has_version = true }
+
+abbrev with_required : Shape → Shape
+with_required s = record s { subcommand_required = true }
+
+abbrev without_help : Shape → Shape
+without_help s = record s { disable_help_subcommand = true }
+
+-- the command line before it has commands
+abbrev empty_line : App
+empty_line = on_top without_help (on_top with_required (on_top with_version (new_app (codes "tas"))))
+
+pub line_start : (new named versioned told helped required last : Command) (version : Bor Text) (about after : Option (Bor Text)) → app_of new ≡ new_app (codes "tas")
+    → out-Command named ≡ record (out-Command new) { bin_name = (out-Command named).bin_name } → out-Command versioned ≡ record (out-Command named) { version = Some version }
+    → out-Command told ≡ record (out-Command versioned) { about = about } → out-Command helped ≡ record (out-Command told) { after_help = after }
+    → out-Command required ≡ record (out-Command helped) { subcommand_required = true } → out-Command last ≡ record (out-Command required) { disable_help_subcommand = true } → app_of last ≡ empty_line
+line_start new named versioned told helped required last version about after app n v t h r l =
+    ap app_of_fields l
+    ∙ ap (on_top without_help) (ap app_of_fields r ∙ ap (on_top with_required) (ap app_of_fields h ∙ ap app_of_fields t ∙ ap app_of_fields v ∙ ap (on_top with_version) (ap app_of_fields n ∙ app)))
+
+-- a command line with one command more
+pub with_command : (old sub new : Command) (app : App) (name : Text) (rules : List Rule) → app_of old ≡ app → HasRules name rules sub → AddsSubcommand old sub new → app_of new ≡ with_subcommand app (shape_with name rules)
+with_command old sub new app name rules is has added = added.shape has.local ∙ ap₂ with_subcommand is (ap (λ (x : App). x.top) has.app)
+
+-- ---- the command that a parse met
+
+only_name : (word : Text) (names : List Text) → IfSome (find (answers_to word) (labels names)) (λ e. e.0 ≡ word)
+only_name word [] = tt
+only_name word (n ∷ names) = go (bytes_eq n word) refl (only_name word names)
+  where
+    go : (b : Bool) → bytes_eq n word ≡ b → IfSome (find (answers_to word) (labels names)) (λ e. e.0 ≡ word) → IfSome (find (answers_to word) (labels (n ∷ names))) (λ e. e.0 ≡ word)
+    go true e rest = rw e ((bytes_eq-Decides n word).0 e)
+    go false e rest = rw e rest
+
+same_name : (word name : Text) (found : Option (Text × List Text)) → IfSome found (λ e. e.0 ≡ word) → option_map (λ p. p.0) found ≡ Some name → Some word ≡ Some name
+same_name word name None is e = absurd (cc e)
+same_name word name (Some p) is e = ap Some (sym is) ∙ e
+
+name_of_rows : (rest : List Text) (found : Option Shape) → option_map (λ (p : Text × List Row). p.0) (option_map (λ s. rows_at s rest) found) ≡ option_map (λ s. s.name) found
+name_of_rows rest None = refl
+name_of_rows rest (Some s) = refl
+
+entered_by : (app : App) (stop : Option (Text × List Text)) (name : Text) → map label_of app.subs ≡ labels command_names → option_map (λ (p : Text × List Row). p.0) (entered app stop) ≡ Some name
+    → option_map (λ (p : Text × List Text). p.0) stop ≡ Some name
+entered_by app None name is e = absurd (cc e)
+entered_by app (Some p) name is e =
+    let labelled : option_map (λ (q : Text × List Text). q.0) (find (answers_to p.0) (labels command_names)) ≡ Some name =
+    ap (λ (l : List (Text × List Text)). option_map (λ (q : Text × List Text). q.0) (find (answers_to p.0) l)) (sym is)
+    ∙ sym (label_first p.0 app.subs)
+    ∙ sym (name_of_rows p.1 (find (λ s. answers_to p.0 (label_of s)) app.subs))
+    ∙ e in
+    same_name p.0 name (find (answers_to p.0) (labels command_names)) (only_name p.0 command_names) labelled
+
+is_simple_line : (instructions frame from to workers : Option ValueParser) → is_simple (command_line instructions frame from to workers) ≡ true
+unfolding clap_on_literals
+is_simple_line instructions frame from to workers = refl
+
+has_flags : (instructions frame from to workers : Option ValueParser) → (built (command_line instructions frame from to workers)).top.rules ≡ own_flags
+has_flags instructions frame from to workers = refl
+
+has_names : (instructions frame from to workers : Option ValueParser) → names_of (built (command_line instructions frame from to workers)) ≡ labels command_names
+has_names instructions frame from to workers = refl
+
+name_in_rows : {Z : Type 0} (o : Option (Box SubCommand Z)) → option_map (λ b. (out-SubCommand (box_value b)).name.now) o ≡ option_map (λ (p : Text × List Row). p.0) (subcommand_rows o)
+name_in_rows None = refl
+name_in_rows (Some s) = refl
+
+met_name : (m : ArgMatches) → subcommand_name_of m ≡ option_map (λ (p : Text × List Row). p.0) (subcommand_rows_of m)
+met_name m = name_in_rows (out-ArgMatches m).subcommand
+
+-- the command that a parse met is the one that the words name
+pub met_named : (line : Command) (words : List Text) (m : ArgMatches) (name : Text) (instructions frame from to workers : Option ValueParser) → app_of line ≡ command_line instructions frame from to workers
+    → HasMatchesOf (app_of line) words m → subcommand_name_of m ≡ Some name → named_command words ≡ Some name
+met_named line words m name instructions frame from to workers is matches met =
+    let app : App = command_line instructions frame from to workers in
+    let rows : subcommand_rows_of m ≡ subcommand_of app words = (matches (ap is_simple is ∙ is_simple_line instructions frame from to workers)).1 ∙ ap (λ (a : App). subcommand_of a words) is in
+    entered_by (built app) (stop_after own_flags (labels command_names) (drop 1 words)) name (has_names instructions frame from to workers)
+    (ap (option_map (λ (p : Text × List Row). p.0)) (sym rows) ∙ sym (met_name m) ∙ met)

@@ -1,0 +1,75 @@
+-- The command line, as clap's definitions see it (own).
+use Rattle.std.specs.Prelude.{◌≡◌, List, [], ◌∷◌, Option, Some, None, true, false, codes, drop, map, option_map}
+use Rattle.clap.specs.Simple.{App, Shape, app_of, filled_from, help_rule, version_rule, new_rule, new_shape}
+use Rattle.clap.specs.Walk.{Names, Rule, Text, stop_after}
+use Rattle.clap.specs.declared.builder.action.ArgAction.TheVariants.{Set}
+use Rattle.clap.specs.declared.builder.command.Command.{Command}
+use Rattle.clap.specs.declared.builder.command.Command.TheViews.{out-Command}
+use Rattle.clap.specs.declared.builder.value_parser.ValueParser.{ValueParser}
+
+-- ---- which command some words name
+
+abbrev pub command_names : List Text
+command_names = codes "trace" ∷ codes "check" ∷ codes "shot" ∷ codes "edit" ∷ codes "diff" ∷ codes "script" ∷ codes "export" ∷ []
+
+-- names that no other names stand beside
+abbrev pub labels : List Text → Names
+labels names = map (λ name. (name, [])) names
+
+-- the flags that stand before a command: help and version
+abbrev pub own_flags : List Rule
+own_flags = filled_from 1 (help_rule ∷ version_rule ∷ [])
+
+-- the command that the words name, the first of which is the program's name
+abbrev pub named_command : List Text → Option Text
+named_command words = option_map (λ p. p.0) (stop_after own_flags (labels command_names) (drop 1 words))
+
+-- ---- the commands. Private functions cite what follows
+
+-- a required word
+abbrev pub word_rule : Text → Option ValueParser → Rule
+word_rule name parser = record (new_rule name) {
+  action = Some Set;
+  parser = parser;
+  required = true;
+}
+
+-- a word behind a flag, which goes with another one
+abbrev pub flag_rule : Text → Text → Rule
+flag_rule name flag = record (new_rule name) {
+  long = Some flag;
+  action = Some Set;
+  value_names = 1;
+  is_free = false;
+}
+
+abbrev pub shape_with : Text → List Rule → Shape
+shape_with name rules = record (new_shape name) { rules = rules }
+
+-- a command with these words
+pub record HasRules (name : Text) (rules : List Rule) (command : Command) : Type 0 where
+  pub local : (out-Command command).has_globals ≡ false
+  pub app : app_of command ≡ record { top = shape_with name rules; subs = [] }
+
+-- the program's command line, with the readers of its numbers
+abbrev pub command_line : (instructions frame from to workers : Option ValueParser) → App
+command_line instructions frame from to workers = record {
+  top = record (new_shape (codes "tas")) {
+    is_leaf = false;
+    disable_help_subcommand = true;
+    has_version = true;
+    subcommand_required = true;
+  };
+  subs =
+      shape_with (codes "trace") (word_rule (codes "N") instructions ∷ [])
+      ∷ shape_with (codes "check") (word_rule (codes "CART") None ∷ [])
+      ∷ shape_with (codes "shot") (word_rule (codes "CART") None ∷ word_rule (codes "K") frame ∷ [])
+      ∷ shape_with (codes "edit") (word_rule (codes "CART") None ∷ word_rule (codes "SCRIPT") None ∷ [])
+      ∷ shape_with (codes "diff") (word_rule (codes "CART") None ∷ word_rule (codes "OLD") None ∷ [])
+      ∷ shape_with (codes "script") (flag_rule (codes "CART") (codes "cart") ∷ flag_rule (codes "MOVIE") (codes "movie") ∷ [])
+      ∷ shape_with (codes "export") (word_rule (codes "CART") None ∷ word_rule (codes "FROM") from ∷ word_rule (codes "TO") to ∷ word_rule (codes "WORKERS") workers ∷ [])
+      ∷ [];
+}
+
+abbrev pub IsCommandLine : Command → Type 0
+IsCommandLine command = (instructions frame from to workers : Option ValueParser) × (app_of command ≡ command_line instructions frame from to workers)
