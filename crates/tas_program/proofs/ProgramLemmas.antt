@@ -6,7 +6,7 @@ use Rattle.tas_engines.specs.declared.fault.RunFault.{RunFault}
 use Rattle.tas_engines.specs.declared.fault.ToolFault.{ToolFault}
 use Rattle.tas_engines.specs.Output.{StopsWriting}
 use Rattle.tas_program.specs.declared.task.Task.{Task}
-use Rattle.tas_program.specs.Program.{Streams, end_status, EndsOverTwo, DoesTask, TaskEnds, TextEnds}
+use Rattle.tas_program.specs.Program.{Streams, end_status, EndsOver, EndsOverTwo, DoesTask, TaskEnds, TextEnds}
 
 pub task_ends : (A : Type 0) (files : List ℕ → Option (List ℕ)) (task : Task) (old new : Streams) (end : Result (Unit {0}) ToolFault) → DoesTask A files task old new end → TaskEnds A files task old new (end_status end)
 task_ends A files task old new (Ok u) does = does
@@ -16,7 +16,11 @@ pub text_ends : (text : List ℕ) (old new : Option (List ℕ)) (end : Result (U
 text_ends text old new (Ok u) all stops = all
 text_ends text old new (Err fault) all stops = stops
 
--- an engine ran over two files that were opened
+-- an engine ran over a file that was opened
+pub over_one : (runs : (file left : Option (List ℕ)) → Type 0) (one file left : Option (List ℕ)) (old new : Streams) (end : Result (Unit {0}) ToolFault) → file ≡ one → runs file left → EndsOver one runs old new end
+over_one runs one file left old new end is ran = inr (left, subst (λ (f : Option (List ℕ)). runs f left) is ran)
+
+-- the same of two files
 pub over_two : (runs : (file left file' left' : Option (List ℕ)) → Type 0) (one two file left file' left' : Option (List ℕ)) (old new : Streams) (end : Result (Unit {0}) ToolFault) → file ≡ one → file' ≡ two
     → runs file left file' left' → EndsOverTwo one two runs old new end
 over_two runs one two file left file' left' old new end is is' ran =

@@ -3,17 +3,13 @@
 ghost use Rattle.std.specs.Prelude.{◌≡◌, IfOk, IfErr, OnOk, OnErr};
 ghost use Rattle.std.specs.Io.KnownBytes.{Appends};
 ghost use Rattle.tas_engines.specs.declared.fault.RunFault.{RunFault};
-ghost use Rattle.tas_engines.specs.Movies.{IsMovieRun, IsCheckAnswer, IsShotAnswer};
 ghost use Rattle.tas_engines.specs.Output.{StopsWriting};
-ghost use Rattle.tas_edit.specs.Runs.{IsEditRun, IsDiffRun};
-ghost use Rattle.tas_tool.specs.Pixmaps.{IsExportAnswer};
-ghost use Rattle.tas_tool.specs.MovieScripts.{IsMovieScriptRun};
-ghost use Rattle.tas_program.specs.Program.{EndsOver, EndsOverTwo, DoesTask, CarriesOut, ProgramEnds, end_status};
+ghost use Rattle.tas_program.specs.Program.{DoesTask, CarriesOut, ProgramEnds, end_status};
 ghost use Rattle.std.specs.Global.{Global};
 
 use crate::request::collect_words;
 use crate::{Folder, Request, Status, Task, read_request};
-use std::alloc::{Allocator, Global};
+use std::alloc::Global;
 use std::env::Args;
 use std::io;
 use std::io::{Read, Write};
@@ -36,140 +32,17 @@ fn open_file<F: Folder>(folder: &F, name: &str) -> Result<F::File, ToolFault>
     }
 }
 
-/// `tas check` of the cartridge in a file.
-fn check_file<A: Allocator + Copy, F: Folder, R: Read, W: Write>(
-    alloc: A,
-    cart: &str,
-    folder: &F,
-    input: &mut R,
-    output: &mut W,
-) -> Result<(), ToolFault>
-    ensures { EndsOver (F.bytes_of folder.now cart.now)
-        (λ file left. IsMovieRun IsCheckAnswer file left (R.remaining input.old) (R.remaining input.new) (W.contents output.old) (W.contents output.new) result)
-        (record { input = R.remaining input.old; output = W.contents output.old })
-        (record { input = R.remaining input.new; output = W.contents output.new }) result }
+/// Opens two files of these names.
+fn open_two<F: Folder>(folder: &F, one: &str, two: &str) -> Result<(F::File, F::File), ToolFault>
+    ensures files { IfOk result (λ files. (F.File.remaining files.0 ≡ F.bytes_of folder.now one.now) × (F.File.remaining files.1 ≡ F.bytes_of folder.now two.now)) }
+    ensures fault { IfErr result (λ fault. fault ≡ ToolFault.Read) }
 {
-    match open_file(folder, cart) {
-        Ok(mut file) => check_run(alloc, &mut file, input, output),
-        Err(fault) => Err(fault),
-    }
-}
-
-/// `tas shot` of a frame, with the cartridge in a file.
-fn shoot_file<A: Allocator + Copy, F: Folder, R: Read, W: Write>(
-    alloc: A,
-    cart: &str,
-    frame: usize,
-    folder: &F,
-    input: &mut R,
-    output: &mut W,
-) -> Result<(), ToolFault>
-    ensures { EndsOver (F.bytes_of folder.now cart.now)
-        (λ file left. IsMovieRun (IsShotAnswer frame) file left (R.remaining input.old) (R.remaining input.new) (W.contents output.old) (W.contents output.new) result)
-        (record { input = R.remaining input.old; output = W.contents output.old })
-        (record { input = R.remaining input.new; output = W.contents output.new }) result }
-{
-    match open_file(folder, cart) {
-        Ok(mut file) => shot_run(alloc, frame, &mut file, input, output),
-        Err(fault) => Err(fault),
-    }
-}
-
-/// `tas edit` of the cartridge and the script in these files.
-fn edit_files<A: Allocator + Copy, F: Folder, R: Read, W: Write>(
-    alloc: A,
-    cart: &str,
-    other: &str,
-    folder: &F,
-    input: &mut R,
-    output: &mut W,
-) -> Result<(), ToolFault>
-    ensures { EndsOverTwo (F.bytes_of folder.now cart.now) (F.bytes_of folder.now other.now)
-        (λ file left file' left'. IsEditRun A file left file' left' (R.remaining input.old) (R.remaining input.new)
-        (W.contents output.old) (W.contents output.new) result)
-        (record { input = R.remaining input.old; output = W.contents output.old })
-        (record { input = R.remaining input.new; output = W.contents output.new }) result }
-{
-    let mut cart = match open_file(folder, cart) {
+    let first = match open_file(folder, one) {
         Ok(file) => file,
         Err(fault) => return Err(fault),
     };
-    match open_file(folder, other) {
-        Ok(mut file) => edit_run(alloc, &mut cart, &mut file, input, output),
-        Err(fault) => Err(fault),
-    }
-}
-
-/// `tas diff` of the cartridge and the older movie in these files.
-fn compare_files<A: Allocator + Copy, F: Folder, R: Read, W: Write>(
-    alloc: A,
-    cart: &str,
-    other: &str,
-    folder: &F,
-    input: &mut R,
-    output: &mut W,
-) -> Result<(), ToolFault>
-    ensures { EndsOverTwo (F.bytes_of folder.now cart.now) (F.bytes_of folder.now other.now)
-        (λ file left file' left'. IsDiffRun A file left file' left' (R.remaining input.old) (R.remaining input.new)
-        (W.contents output.old) (W.contents output.new) result)
-        (record { input = R.remaining input.old; output = W.contents output.old })
-        (record { input = R.remaining input.new; output = W.contents output.new }) result }
-{
-    let mut cart = match open_file(folder, cart) {
-        Ok(file) => file,
-        Err(fault) => return Err(fault),
-    };
-    match open_file(folder, other) {
-        Ok(mut file) => diff_run(alloc, &mut cart, &mut file, input, output),
-        Err(fault) => Err(fault),
-    }
-}
-
-/// `tas script` from the movie of the cartridge and the text in these files on.
-fn script_files<A: Allocator + Copy, T: Wait, F: Folder, R: Read, W: Write>(
-    rt: &T,
-    alloc: A,
-    cart: &str,
-    other: &str,
-    folder: &F,
-    input: &mut R,
-    output: &mut W,
-) -> Result<(), ToolFault>
-    ensures { EndsOverTwo (F.bytes_of folder.now cart.now) (F.bytes_of folder.now other.now)
-        (λ file left file' left'. IsMovieScriptRun A file left file' left' (R.remaining input.old) (R.remaining input.new)
-        (W.contents output.old) (W.contents output.new) result)
-        (record { input = R.remaining input.old; output = W.contents output.old })
-        (record { input = R.remaining input.new; output = W.contents output.new }) result }
-{
-    let mut cart = match open_file(folder, cart) {
-        Ok(file) => file,
-        Err(fault) => return Err(fault),
-    };
-    match open_file(folder, other) {
-        Ok(mut file) => movie_script_run(rt, alloc, &mut cart, &mut file, input, output),
-        Err(fault) => Err(fault),
-    }
-}
-
-/// `tas export` of some frames, with the cartridge in a file.
-fn export_file<T: Wait + Threads + Sync, F: Folder, R: Read, W: Write>(
-    rt: &T,
-    alloc: Global,
-    cart: &str,
-    range: (usize, usize),
-    workers: usize,
-    folder: &F,
-    input: &mut R,
-    output: &mut W,
-) -> Result<(), ToolFault>
-    ensures { EndsOver (F.bytes_of folder.now cart.now)
-        (λ file left. IsMovieRun (IsExportAnswer range.0 range.1) file left (R.remaining input.old) (R.remaining input.new) (W.contents output.old) (W.contents output.new) result)
-        (record { input = R.remaining input.old; output = W.contents output.old })
-        (record { input = R.remaining input.new; output = W.contents output.new }) result }
-{
-    let (from, to) = range;
-    match open_file(folder, cart) {
-        Ok(mut file) => export_run(rt, alloc, from, to, workers, &mut file, input, output),
+    match open_file(folder, two) {
+        Ok(second) => Ok((first, second)),
         Err(fault) => Err(fault),
     }
 }
@@ -190,34 +63,47 @@ pub fn run_task<T: Wait + Threads + Sync, F: Folder, R: Read, W: Write>(
 {
     match task {
         Task::Trace { instructions } => trace_run(alloc, instructions, input, output),
-        Task::Check { cart } => check_file(alloc, cart, folder, input, output),
-        Task::Shot { cart, frame } => {
-            shoot_file(alloc, cart, frame as usize, folder, input, output)
-        }
-        Task::Edit { cart, script } => edit_files(alloc, cart, script, folder, input, output),
-        Task::Diff { cart, old } => compare_files(alloc, cart, old, folder, input, output),
+        Task::Check { cart } => match open_file(folder, cart) {
+            Ok(mut file) => check_run(alloc, &mut file, input, output),
+            Err(fault) => Err(fault),
+        },
+        Task::Shot { cart, frame } => match open_file(folder, cart) {
+            Ok(mut file) => shot_run(alloc, frame as usize, &mut file, input, output),
+            Err(fault) => Err(fault),
+        },
+        Task::Edit { cart, script } => match open_two(folder, cart, script) {
+            Ok((mut file, mut other)) => edit_run(alloc, &mut file, &mut other, input, output),
+            Err(fault) => Err(fault),
+        },
+        Task::Diff { cart, old } => match open_two(folder, cart, old) {
+            Ok((mut file, mut other)) => diff_run(alloc, &mut file, &mut other, input, output),
+            Err(fault) => Err(fault),
+        },
         Task::Script => script_run(rt, alloc, input, output),
-        Task::MovieScript { cart, movie } => {
-            script_files(rt, alloc, cart, movie, folder, input, output)
-        }
+        Task::MovieScript { cart, movie } => match open_two(folder, cart, movie) {
+            Ok((mut file, mut other)) => {
+                movie_script_run(rt, alloc, &mut file, &mut other, input, output)
+            }
+            Err(fault) => Err(fault),
+        },
         Task::Export {
             cart,
             from,
             to,
             workers,
-        } => {
-            let range = (from as usize, to as usize);
-            export_file(
+        } => match open_file(folder, cart) {
+            Ok(mut file) => export_run(
                 rt,
                 alloc,
-                cart,
-                range,
+                from as usize,
+                to as usize,
                 workers as usize,
-                folder,
+                &mut file,
                 input,
                 output,
-            )
-        }
+            ),
+            Err(fault) => Err(fault),
+        },
     }
 }
 
