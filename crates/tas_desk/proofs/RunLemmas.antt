@@ -1,24 +1,25 @@
 -- Runs of frames, one after the other.
-use Rattle.std.proofs.Common.{◌≡◌, ℕ, zero, suc, ◌+◌, ◌-◌, ◌*◌, ◌/◌, ◌<◌, ◌≤◌, Bool, cond, List, [], ◌∷◌, ◌++◌, length, map, Option, Some, None, refl, sym, ap, ◌∙◌, inl, inr, arith}
-use Rattle.std.specs.List.{range_with_len}
-use Rattle.std.proofs.lemmas.Bool.{cases_lt, lt-ltb}
-use Rattle.std.proofs.lemmas.List.{length-append, map-append}
+use Rattle.std.proofs.Common.{◌≡◌, ℕ, zero, suc, ◌+◌, ◌-◌, ◌*◌, ◌/◌, ◌<◌, ◌≤◌, Bool, cond, List, [], ◌∷◌, ◌++◌, length, map, Option, Some, None, refl, sym, ap, subst, ◌∙◌, inl, inr, arith}
+use Rattle.std.specs.List.{All, range_with_len, concat}
+use Rattle.std.proofs.lemmas.Bool.{cases_lt, lt-ltb, le-ltb}
+use Rattle.std.proofs.lemmas.List.Elements.{All-append}
 use Rattle.std.proofs.lemmas.List.Sums.{sum_by-cons}
 use Rattle.std.proofs.Math.Nat.{mul-div_cancel_left}
 use Rattle.tas_movie.specs.Content.{MovieContent}
 use Rattle.tas_green.specs.declared.savestate.Savestate.{Savestate}
-use Rattle.tas_green.specs.Run.{picture_of}
 use Rattle.tas_green.specs.Zone.{nearest, first_of}
 use Rattle.tas_green.proofs.GridLemmas.{div_mono}
-use Rattle.tas_desk.specs.declared.drawing.HaltedFrame.{HaltedFrame}
+use Rattle.tas_desk.specs.declared.reel.Stop.{Stop}
+use Rattle.tas_desk.specs.declared.reel.Stop.TheVariants.{Halted, Memory}
 use Rattle.tas_desk.specs.declared.runs.RunEnd.{RunEnd}
 use Rattle.tas_desk.specs.declared.runs.Plan.{Plan}
-use Rattle.tas_desk.specs.Frames.{IsDrawn, AreDrawn, Shows, pictures_of}
+use Rattle.tas_desk.specs.Frames.{AllDrawn, Shows, pixmaps_of}
 use Rattle.tas_desk.specs.Runs.{first_of_run, cost, costs, IsPlan, IsRunEnd, AreRunsEnd}
+use Rattle.tas_desk.proofs.DrawingLemmas.{pixmaps_none, pixmaps_joined}
 
 -- what a run that isn't empty costs
-pub cost_some : (zone : List Savestate) (first n : ℕ) → 0 < n → cost zone first (first + n) ≡ (first + n) - nearest first zone
-cost_some zone first n pos = ap (λ (b : Bool). cond b ((first + n) - nearest first zone) 0) (lt-ltb first (first + n) (omega arith))
+pub cost_some : (zone : List Savestate) (first next : ℕ) → first < next → cost zone first next ≡ next - nearest first zone
+cost_some zone first next lt = ap (λ (b : Bool). cond b (next - nearest first zone) 0) (lt-ltb first next lt)
 
 -- ---- where runs begin
 
@@ -47,103 +48,119 @@ next_within plan i pos le lt =
     scaled : (a b n : ℕ) → a ≤ b → a * n ≤ b * n
     scaled a b n le = grind arith
 
--- ---- pictures of frames, joined
+-- ---- parts of the frames, joined
 
-range_joined : (a m n : ℕ) → range_with_len a (m + n) ≡ range_with_len a m ++ range_with_len (a + m) n
-range_joined a zero n =
-    let none : 0 + n ≡ n = omega arith in
-    let here : a ≡ a + 0 = omega arith in
-    ap (range_with_len a) none ∙ ap (λ (k : ℕ). range_with_len k n) here
-range_joined a (suc m) n =
-    let more : suc m + n ≡ suc (m + n) = omega arith in
-    let behind : (a + 1) + m ≡ a + suc m = omega arith in
-    ap (range_with_len a) more ∙ ap (λ (xs : List ℕ). a ∷ xs) (range_joined (a + 1) m n ∙ ap (λ (k : ℕ). range_with_len (a + 1) m ++ range_with_len k n) behind)
+-- a part without frames
+shows_none : (movie : MovieContent) (from to : ℕ) → from ≡ to → Shows movie from to [] None
+shows_none movie from to same = record {
+  all = λ f le lt. absurd (omega arith);
+  are = pixmaps_none movie from ∙ ap (λ (n : ℕ). pixmaps_of movie from (n - from)) same;
+}
 
-pictures_joined : (movie : MovieContent) (a m n : ℕ) → pictures_of movie a (m + n) ≡ pictures_of movie a m ++ pictures_of movie (a + m) n
-pictures_joined movie a m n = ap (map (picture_of movie)) (range_joined a m n) ∙ map-append (picture_of movie) (range_with_len a m) (range_with_len (a + m) n)
-
-drawn_joined : (movie : MovieContent) (first next : ℕ) (a b : List (List ℕ)) → first + length a ≡ next → AreDrawn movie first a → AreDrawn movie next b
-    → (f : ℕ) → first ≤ f → f < first + length (a ++ b) → IsDrawn movie f
-drawn_joined movie first next a b is left right f le lt =
-    elim (cases_lt f next) [
-      | inl front ↦ left.all f le (omega arith)
-      | inr back ↦ right.all f back (omega (arith, length-append a b))
+drawn_joined : (movie : MovieContent) (from mid to : ℕ) → AllDrawn movie from mid → AllDrawn movie mid to → AllDrawn movie from to
+drawn_joined movie from mid to left right f le lt =
+    elim (cases_lt f mid) [
+      | inl front ↦ left f le front
+      | inr back ↦ right f back lt
     ]
 
-pub shows_joined : (movie : MovieContent) (first next : ℕ) (a b : List (List ℕ)) → first + length a ≡ next → (h k : Option HaltedFrame) → Shows movie first a h → Shows movie next b k
-    → Shows movie first (a ++ b) (first_of h k)
-shows_joined movie first next a b is (Some h) k left right = record {
+pub shows_joined : (movie : MovieContent) (from mid to : ℕ) (a b : List ℕ) → from ≤ mid → mid ≤ to → (h k : Option Stop) → Shows movie from mid a h → Shows movie mid to b k → Shows movie from to (a ++ b) (first_of h k)
+shows_joined movie from mid to a b low high (Some (Halted x)) k left right = record {
   above = left.above;
-  below = omega (arith, left.below, length-append a b);
+  below = omega (arith, left.below);
   halt = left.halt;
   before = left.before;
 }
-shows_joined movie first next a b is None None left right = record {
-  all = drawn_joined movie first next a b is left right;
+shows_joined movie from mid to a b low high (Some Memory) k left right = tt
+shows_joined movie from mid to a b low high None None left right = record {
+  all = drawn_joined movie from mid to left.all right.all;
   are =
-      ap (λ (xs : List (List ℕ)). xs ++ b) left.are ∙ ap (λ (xs : List (List ℕ)). pictures_of movie first (length a) ++ xs) right.are
-      ∙ ap (λ (n : ℕ). pictures_of movie first (length a) ++ pictures_of movie n (length b)) (sym is)
-      ∙ sym (pictures_joined movie first (length a) (length b))
-      ∙ ap (pictures_of movie first) (sym (length-append a b));
+      ap (λ (bs : List ℕ). bs ++ b) left.are ∙ ap (λ (bs : List ℕ). pixmaps_of movie from (mid - from) ++ bs) right.are
+      ∙ sym (pixmaps_joined movie from mid to low high);
 }
-shows_joined movie first next a b is None (Some k) left right = record {
+shows_joined movie from mid to a b low high None (Some (Halted x)) left right = record {
   above = omega (arith, right.above);
-  below = omega (arith, right.below, length-append a b);
+  below = right.below;
   halt = right.halt;
-  before = λ f le lt. elim (cases_lt f next) [
-    | inl front ↦ left.all f le (omega arith)
+  before = λ f le lt. elim (cases_lt f mid) [
+    | inl front ↦ left.all f le front
     | inr back ↦ right.before f back lt
   ];
 }
+shows_joined movie from mid to a b low high None (Some Memory) left right = tt
 
 -- ---- runs, joined
 
-none_parts : (h k : Option HaltedFrame) → first_of h k ≡ None → (h ≡ None) × (k ≡ None)
+-- a run without frames
+pub run_none : (movie : MovieContent) (zone : List Savestate) (first next : ℕ) (reel : List ℕ) (end : RunEnd) → reel ≡ [] → first ≡ next → end ≡ record { played = 0; stop = None }
+    → IsRunEnd movie zone first next reel end
+run_none movie zone first next reel end empty same ended =
+    rw (ended, empty) (record {
+      shows = shows_none movie first next same;
+      played = λ none. sym (ap (λ (b : Bool). cond b (next - nearest first zone) 0) (le-ltb first next (omega arith)));
+      most = omega arith;
+    })
+
+none_parts : (h k : Option Stop) → first_of h k ≡ None → (h ≡ None) × (k ≡ None)
 none_parts (Some h) k e = absurd cc
 none_parts None k e = (refl, e)
 
-none_left : (xs : List (List ℕ)) → length xs ≡ 0 → xs ≡ []
-none_left [] e = refl
-none_left (x ∷ xs) e = absurd (omega arith)
-
 -- no run is left
-pub runs_none : (movie : MovieContent) (zone : List Savestate) (plan : Plan) (i : ℕ) (pictures : List (List ℕ)) (end : RunEnd) → IsPlan movie plan → i ≡ plan.workers
-    → first_of_run plan i + length pictures ≡ plan.to → end ≡ record { played = 0; halted = None } → AreRunsEnd movie zone plan i pictures pictures end
-runs_none movie zone plan i pictures end is all fits ended =
+pub runs_none : (movie : MovieContent) (zone : List Savestate) (plan : Plan) (i : ℕ) (reels : List (List ℕ)) (end : RunEnd) → IsPlan movie plan → i + length reels ≡ plan.workers → length reels ≡ 0
+    → end ≡ record { played = 0; stop = None } → AreRunsEnd movie zone plan i reels end
+runs_none movie zone plan i [] end is all none ended =
     let last = ends plan is.some is.order in
-    let at : first_of_run plan i ≡ plan.to = ap (first_of_run plan) all ∙ last in
-    let empty : length pictures ≡ 0 = omega arith in
+    let here : i ≡ plan.workers = omega arith in
+    let at : first_of_run plan i ≡ plan.to = ap (first_of_run plan) here ∙ last in
     let left : plan.workers - i ≡ 0 = omega arith in
     rw ended (record {
-      len = refl;
-      shows = record {
-        all = λ f le lt. absurd (omega arith);
-        are = none_left pictures empty ∙ sym (ap (pictures_of movie (first_of_run plan i)) empty);
-      };
+      shows = shows_none movie (first_of_run plan i) plan.to at;
       played = λ none. sym (ap (costs zone plan i) left);
       most = omega arith;
     })
+runs_none movie zone plan i (reel ∷ reels) end is all none ended = absurd (omega arith)
 
 costs_more : (zone : List Savestate) (plan : Plan) (i k : ℕ) → costs zone plan i (suc k) ≡ cost zone (first_of_run plan i) (first_of_run plan (i + 1)) + costs zone plan (i + 1) k
 costs_more zone plan i k =
     sum_by-cons (λ (x : ℕ). x) (cost zone (first_of_run plan i) (first_of_run plan (i + 1))) (map (λ j. cost zone (first_of_run plan j) (first_of_run plan (j + 1))) (range_with_len (i + 1) k))
 
-pub runs_more : (movie : MovieContent) (zone : List Savestate) (plan : Plan) (i : ℕ) (mine mine' others others' : List (List ℕ)) (front back end : RunEnd)
-    → i < plan.workers → first_of_run plan i + length mine ≡ first_of_run plan (i + 1)
-    → IsRunEnd movie zone (first_of_run plan i) mine mine' front → AreRunsEnd movie zone plan (i + 1) others others' back
-    → end.played ≡ front.played + back.played → end.halted ≡ first_of front.halted back.halted
-    → AreRunsEnd movie zone plan i (mine ++ others) (mine' ++ others') end
-runs_more movie zone plan i mine mine' others others' front back end lt next one rest played halted =
+pub runs_more : (movie : MovieContent) (zone : List Savestate) (plan : Plan) (i : ℕ) (mine : List ℕ) (others : List (List ℕ)) (front back end : RunEnd)
+    → IsPlan movie plan → i < plan.workers
+    → IsRunEnd movie zone (first_of_run plan i) (first_of_run plan (i + 1)) mine front → AreRunsEnd movie zone plan (i + 1) others back
+    → end.played ≡ front.played + back.played → end.stop ≡ first_of front.stop back.stop
+    → AreRunsEnd movie zone plan i (mine ∷ others) end
+runs_more movie zone plan i mine others front back end is lt one rest played stop =
     let left : plan.workers - i ≡ suc (plan.workers - (i + 1)) = omega arith in
+    let low = next_behind plan i is.some in
+    let high = next_within plan (i + 1) is.some is.order (omega arith) in
     record {
-      len = length-append mine' others' ∙ ap (λ (n : ℕ). n + length others') one.len ∙ ap (λ (n : ℕ). length mine + n) rest.len ∙ sym (length-append mine others);
-      shows = rw halted (shows_joined movie (first_of_run plan i) (first_of_run plan (i + 1)) mine' others' (ap (λ (n : ℕ). first_of_run plan i + n) one.len ∙ next) front.halted back.halted one.shows rest.shows);
+      shows = rw stop (shows_joined movie (first_of_run plan i) (first_of_run plan (i + 1)) plan.to mine (concat others) low high front.stop back.stop one.shows rest.shows);
       played = λ none.
-          let both = none_parts front.halted back.halted (sym halted ∙ none) in
+          let both = none_parts front.stop back.stop (sym stop ∙ none) in
           played
-          ∙ ap (λ (n : ℕ). n + back.played) (one.played both.0 ∙ ap (cost zone (first_of_run plan i)) next)
+          ∙ ap (λ (n : ℕ). n + back.played) (one.played both.0)
           ∙ ap (λ (n : ℕ). cost zone (first_of_run plan i) (first_of_run plan (i + 1)) + n) (rest.played both.1)
           ∙ sym (costs_more zone plan i (plan.workers - (i + 1)))
           ∙ sym (ap (costs zone plan i) left);
       most = omega (arith, one.most, rest.most, played);
     }
+
+-- all runs show all frames
+pub runs_shown : (movie : MovieContent) (zone : List Savestate) (plan : Plan) (reels : List (List ℕ)) (end : RunEnd) → AreRunsEnd movie zone plan 0 reels end → Shows movie plan.from plan.to (concat reels) end.stop
+runs_shown movie zone plan reels end runs = subst (λ (n : ℕ). Shows movie n plan.to (concat reels) end.stop) (begins plan) runs.shows
+
+-- one reel more is empty
+pub empty_more : (reels more : List (List ℕ)) (reel : List ℕ) → All (λ (r : List ℕ). r ≡ []) reels → reel ≡ [] → more ≡ reels ++ reel ∷ [] → All (λ (r : List ℕ). r ≡ []) more
+empty_more reels more reel so_far none is =
+    subst (All (λ (r : List ℕ). r ≡ [])) (sym is) (All-append (λ (r : List ℕ). r ≡ []) reels (reel ∷ []) so_far (one reel none))
+  where
+    one : (x : List ℕ) → x ≡ [] → All (λ (r : List ℕ). r ≡ []) (x ∷ [])
+    one x e zero d lt = e
+    one x e (suc k) d lt = absurd (omega arith)
+
+-- the first reel and the others are empty
+pub empty_first : (reels others : List (List ℕ)) (reel : List ℕ) → All (λ (r : List ℕ). r ≡ []) reels → reels ≡ reel ∷ others → reel ≡ []
+empty_first reels others reel all is = (subst (All (λ (r : List ℕ). r ≡ [])) is all) 0 [] (omega arith)
+
+pub empty_others : (reels others : List (List ℕ)) (reel : List ℕ) → All (λ (r : List ℕ). r ≡ []) reels → reels ≡ reel ∷ others → All (λ (r : List ℕ). r ≡ []) others
+empty_others reels others reel all is k d lt = (subst (All (λ (r : List ℕ). r ≡ [])) is all) (suc k) d (omega arith)

@@ -1,6 +1,6 @@
 -- Frames split into runs (own).
 use Rattle.std.specs.Prelude.{◌≡◌, ℕ, ◌+◌, ◌-◌, ◌*◌, ◌/◌, ◌<◌, ◌≤◌, nat_lt, if◌then◌else◌, List, length, map, sum, None}
-use Rattle.std.specs.List.{range_with_len}
+use Rattle.std.specs.List.{range_with_len, concat}
 use Rattle.tas_movie.specs.Content.{MovieContent, most_inputs}
 use Rattle.tas_green.specs.declared.savestate.Savestate.{Savestate}
 use Rattle.tas_green.specs.Zone.{nearest}
@@ -28,16 +28,14 @@ pub record IsPlan (movie : MovieContent) (plan : Plan) : Type 0 where
   pub within : plan.to ≤ length movie.inputs
   pub few : plan.to ≤ most_inputs
 
--- how one run ends
-pub record IsRunEnd (movie : MovieContent) (zone : List Savestate) (first : ℕ) (old new : List (List ℕ)) (end : RunEnd) : Type 0 where
-  pub len : length new ≡ length old
-  pub shows : Shows movie first new end.halted
-  pub played : end.halted ≡ None → end.played ≡ cost zone first (first + length old)
+-- how the run of the frames from `first` to the one before `next` ends
+pub record IsRunEnd (movie : MovieContent) (zone : List Savestate) (first next : ℕ) (reel : List ℕ) (end : RunEnd) : Type 0 where
+  pub shows : Shows movie first next reel end.stop
+  pub played : end.stop ≡ None → end.played ≡ cost zone first next
   pub most : end.played ≤ 65536
 
--- how the runs from run i on end
-pub record AreRunsEnd (movie : MovieContent) (zone : List Savestate) (plan : Plan) (i : ℕ) (old new : List (List ℕ)) (end : RunEnd) : Type 0 where
-  pub len : length new ≡ length old
-  pub shows : Shows movie (first_of_run plan i) new end.halted
-  pub played : end.halted ≡ None → end.played ≡ costs zone plan i (plan.workers - i)
+-- how the runs from run i on end: their reels, one after the other, show all frames from there on
+pub record AreRunsEnd (movie : MovieContent) (zone : List Savestate) (plan : Plan) (i : ℕ) (reels : List (List ℕ)) (end : RunEnd) : Type 0 where
+  pub shows : Shows movie (first_of_run plan i) plan.to (concat reels) end.stop
+  pub played : end.stop ≡ None → end.played ≡ costs zone plan i (plan.workers - i)
   pub most : end.played ≤ (plan.workers - i) * 65536

@@ -1,24 +1,14 @@
 //! Frames one after the other.
 
-ghost use Rattle.std.specs.Prelude.{◌≡◌, ◌+◌, ◌-◌, ◌^◌, ◌<◌, ◌≤◌, length, None};
+ghost use Rattle.std.specs.Prelude.{◌≡◌, ◌+◌, ◌-◌, ◌^◌, ◌<◌, ◌≤◌, [], length, None};
 ghost use Rattle.tas_green.specs.Run.{state_after};
 ghost use Rattle.tas_desk.specs.Frames.{Shows};
 
+use crate::reel::{Reel, Stop};
 use std::alloc::Allocator;
 use tas_green::Savestate;
 use tas_movie::Movie;
-use vcs_cpu::Halt;
-use vcs_machine::{Meter, State, play, play_unseen};
-use vcs_tia::Picture;
-
-/// A frame in which the machine is halted.
-#[derive(Clone, Copy, Debug, PartialEq, Eq)]
-pub struct HaltedFrame {
-    /// The frame, counted from 0.
-    pub frame: usize,
-    /// The halt.
-    pub halt: Halt,
-}
+use vcs_machine::{Meter, State, play_unseen};
 
 /// Plays the frames from a state's place to the one before `end`, without pictures.
 pub fn play_up_to<A: Allocator>(
@@ -42,34 +32,28 @@ pub fn play_up_to<A: Allocator>(
     state
 }
 
-/// Plays the frames from `first` on, one into each picture, up to the first that is halted, which it
-/// answers.
-pub fn draw_frames<A: Allocator, B: Allocator>(
+/// Shoots the frames from `first` to the one before `end`, up to where it has to stop, and answers
+/// why.
+pub fn draw_frames<A: Allocator>(
     movie: &Movie<A>,
     first: usize,
+    end: usize,
     state: &mut State,
-    pictures: &mut [Picture<B>],
+    reel: &mut Reel,
     meter: &mut Meter,
-) -> Option<HaltedFrame>
-    requires within { first + length pictures.old ≤ length movie.now.inputs }
+) -> Option<Stop>
+    requires order { first ≤ end }
+    requires within { end ≤ length movie.now.inputs }
     requires start { state.old ≡ state_after movie.now first }
-    requires meter { meter.old + length pictures.old < 2 ^ 64 }
-    ensures len { length pictures.new ≡ length pictures.old }
-    ensures shows { Shows movie.now first pictures.new result }
-    ensures meter { result ≡ None → meter.new ≡ meter.old + length pictures.old }
-    ensures most { meter.new ≤ meter.old + length pictures.old }
+    requires empty { reel.old ≡ [] }
+    requires meter { meter.old + (end - first) < 2 ^ 64 }
+    ensures shows { Shows movie.now first end reel.new result }
+    ensures meter { result ≡ None → meter.new ≡ meter.old + (end - first) }
+    ensures most { meter.new ≤ meter.old + (end - first) }
 {
-    let inputs = movie.inputs();
-    for i in 0..pictures.len() {
-        let input = inputs[first + i];
-        match play(movie.cart(), state, input, &mut pictures[i], meter) {
-            Ok(()) => {}
-            Err(halt) => {
-                return Some(HaltedFrame {
-                    frame: first + i,
-                    halt,
-                });
-            }
+    for frame in first..end {
+        if let Err(stop) = reel.shoot(movie, frame, state, meter) {
+            return Some(stop);
         }
     }
     None

@@ -66,9 +66,10 @@ pub(crate) fn is_in_range(len: usize, from: usize, to: usize) -> bool
 
 impl<N: Name, W: CloseOnDrop, A: Allocator + Copy> Desk<N, W, A> {
     /// Writes the portable pixmaps of the frames from `from` to the one before `to`, one after the other. The movie is
-    /// copied under the lock. The frames are split into `workers` runs in order, which are played outside it, each on a
-    /// thread of its own, which passes the gate first; a run starts from the nearest state of the seat's zone that a cut for
-    /// the movie would leave. Nothing is written before all pictures are there. The seat's zone isn't changed.
+    /// copied under the lock. The frames are split into `workers` runs in order, which are played and made into pixmaps
+    /// outside it, each on a thread of its own, which passes the gate first; a run starts from the nearest state of the
+    /// seat's zone that a cut for the movie would leave. Nothing is written before all pixmaps are there: their room, 100,815
+    /// bytes a frame and so 103 MB for 1,024, is asked for before the first frame is played. The seat's zone isn't changed.
     pub fn export<G: Gate + Sync, O: Write, R: Wait + Threads + Sync>(
         &self,
         rt: &R,

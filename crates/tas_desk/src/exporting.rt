@@ -1,23 +1,21 @@
 //! Pictures written in order.
 
-ghost use Rattle.std.specs.Prelude.{◌≡◌, ◌-◌, ◌≤◌, ◌<◌, ℕ, List, length, take, slice_index_or, IfOk, IfErr, OnOk, vec_len};
-ghost use Rattle.std.specs.List.{flat_map};
+ghost use Rattle.std.specs.Prelude.{◌≡◌, ◌-◌, IfOk, IfErr, OnOk};
 ghost use Rattle.std.specs.Io.KnownBytes.{Appends};
-ghost use Rattle.vcs_tia.specs.Image.{ppm_bytes};
 ghost use Rattle.tas_green.specs.Green.{IsLawful};
 ghost use Rattle.tas_desk.specs.Frames.{AllDrawn, pixmaps_of};
 ghost use Rattle.tas_desk.specs.Runs.{IsPlan, costs};
 ghost use Rattle.tas_desk.specs.Exporting.{IsExportFault};
 
 use crate::Gate;
-use crate::drawing::HaltedFrame;
+use crate::reel::{HaltedFrame, Stop};
 use crate::runs::{Plan, play_runs};
-use std::alloc::{AllocError, Allocator, Global};
+use crate::writing::write_reels;
+use std::alloc::Global;
 use std::io::{Error, Write};
 use std::thread::Threads;
 use tas_green::Green;
 use tas_movie::Movie;
-use vcs_tia::{Picture, PpmFault, ppm};
 
 /// Why an export isn't whole.
 #[derive(Drop)]
@@ -35,47 +33,9 @@ pub enum ExportFault {
     },
 }
 
-/// So many black pictures.
-fn blank_pictures(alloc: Global, count: usize) -> Result<Vec<Picture>, AllocError>
-    ensures { IfOk result (λ pictures. vec_len pictures ≡ count) }
-{
-    let mut pictures = Vec::with_capacity(alloc, count)?;
-    for _made in 0..count {
-        pictures.push(Picture::blank(alloc)?)?;
-    }
-    Ok(pictures)
-}
-
-/// Writes pictures as portable pixmaps, one after the other.
-fn write_pictures<A: Allocator, W: Write>(
-    pictures: &[Picture<A>],
-    to: &mut W,
-) -> Result<(), PpmFault>
-    requires few { length pictures.now ≤ 65536 }
-    requires whole { (i : ℕ) (d : List ℕ) → i < length pictures.now → length (slice_index_or pictures.now i d) ≡ 33600 }
-    ensures ok { OnOk result (Appends (W.contents to.old) (W.contents to.new) (flat_map ppm_bytes pictures.now)) }
-    ensures fault { IfErr result (λ f. Appends (W.contents to.old) (W.contents to.new)
-        (take f.written (flat_map ppm_bytes pictures.now))) }
-    ensures short { IfErr result (λ f. f.written < length (flat_map ppm_bytes pictures.now)) }
-{
-    let mut before = 0;
-    for picture in pictures {
-        match ppm(picture, to) {
-            Ok(()) => before += 100_815,
-            Err(fault) => {
-                return Err(PpmFault {
-                    written: before + fault.written,
-                    error: fault.error,
-                });
-            }
-        }
-    }
-    Ok(())
-}
-
 /// Draws the frames of a plan, each run of them by a worker on a thread of its own, which passes the
-/// gate first, and writes their pictures in order once all are there. A run starts from the nearest
-/// kept state at its first frame or before it. Answers how many frames were played.
+/// gate first and makes the pixmaps of its frames too, and writes all of these in order once they are there. A run
+/// starts from the nearest kept state at its first frame or before it. Answers how many frames were played.
 pub fn export_frames<R: Threads + Sync, G: Gate + Sync, W: Write>(
     rt: &R,
     alloc: Global,
@@ -93,14 +53,16 @@ pub fn export_frames<R: Threads + Sync, G: Gate + Sync, W: Write>(
     ensures played { IfOk result (λ played. played ≡ costs zone.now plan 0 plan.workers) }
     ensures fault { IfErr result (IsExportFault movie.now plan (W.contents to.old) (W.contents to.new)) }
 {
-    let Ok(mut pictures) = blank_pictures(alloc, plan.to - plan.from) else {
+    let Ok(mut reels) = plan.reels(alloc) else {
         return Err(ExportFault::Memory);
     };
-    let end = play_runs(rt, movie, zone, gate, plan, 0, pictures.as_mut_slice());
-    if let Some(halted) = end.halted {
-        return Err(ExportFault::Halted(halted));
+    let end = play_runs(rt, movie, zone, gate, plan, 0, reels.as_mut_slice());
+    match end.stop {
+        Some(Stop::Halted(halted)) => return Err(ExportFault::Halted(halted)),
+        Some(Stop::Memory) => return Err(ExportFault::Memory),
+        None => {}
     }
-    match write_pictures(pictures.as_slice(), to) {
+    match write_reels(reels.as_slice(), to) {
         Ok(()) => Ok(end.played),
         Err(fault) => Err(ExportFault::Write {
             written: fault.written,

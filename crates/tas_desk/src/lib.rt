@@ -16,6 +16,7 @@ mod name;
 mod published;
 mod publisher;
 mod reader_view;
+mod reel;
 mod replies;
 mod runs;
 mod seat;
@@ -23,6 +24,7 @@ mod seat_zone;
 mod session;
 mod version;
 mod work;
+mod writing;
 
 pub use desk::{Desk, Unopened};
 pub use entry::Entry;

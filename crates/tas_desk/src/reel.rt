@@ -1,0 +1,94 @@
+//! Pixmaps of frames, one after the other.
+
+ghost use Rattle.std.specs.Prelude.{◌≡◌, ◌+◌, ◌^◌, ◌<◌, ◌≤◌, ◌++◌, List, ℕ, [], length, IfOk, IfErr, OnOk};
+ghost use Rattle.vcs_tia.specs.Image.{ppm_bytes};
+ghost use Rattle.tas_green.specs.Run.{state_after, picture_of};
+ghost use Rattle.tas_desk.specs.Frames.{IsDrawn, IsStopAt};
+
+use std::alloc::{AllocError, Allocator, Global};
+use std::marker::Model;
+use tas_movie::Movie;
+use vcs_cpu::Halt;
+use vcs_machine::{Meter, State, play};
+use vcs_tia::{Picture, ppm};
+
+/// How many bytes the pixmap of a picture has.
+const PIXMAP_SIZE: usize = 100_815;
+
+/// A frame in which the machine is halted.
+#[derive(Clone, Copy, Debug, PartialEq, Eq)]
+pub struct HaltedFrame {
+    /// The frame, counted from 0.
+    pub frame: usize,
+    /// The halt.
+    pub halt: Halt,
+}
+
+/// Why frames weren't drawn to the last one.
+#[derive(Clone, Copy, Debug, PartialEq, Eq)]
+pub enum Stop {
+    /// A frame is halted.
+    Halted(HaltedFrame),
+    /// Memory was refused.
+    Memory,
+}
+
+/// Portable pixmaps, one after the other, in room that was there before the first frame was played.
+#[derive(Drop)]
+pub struct Reel {
+    picture: Picture,
+    pixmaps: Vec<u8>,
+}
+
+impl Model for Reel {
+    ghost Value = { List ℕ };
+
+    ghost view = { λ r. r.pixmaps.items };
+}
+
+impl Reel {
+    /// No pixmap yet, and room for those of so many frames.
+    pub fn new(alloc: Global, frames: usize) -> Result<Reel, AllocError>
+        requires { frames ≤ 65536 }
+        ensures { IfOk result (λ reel. reel ≡ []) }
+    {
+        let picture = Picture::blank(alloc)?;
+        let pixmaps = Vec::with_capacity(alloc, frames * PIXMAP_SIZE)?;
+        Ok(Reel { picture, pixmaps })
+    }
+
+    /// The bytes of all pixmaps.
+    pub fn bytes(&self) -> &[u8]
+        ensures { result.now ≡ self.now }
+    {
+        self.pixmaps.as_slice()
+    }
+
+    /// Plays a frame and appends its pixmap. There is room for it, so memory isn't refused where no more frames
+    /// are shot than it was made for; no clause of a writer says so.
+    pub fn shoot<A: Allocator>(
+        &mut self,
+        movie: &Movie<A>,
+        frame: usize,
+        state: &mut State,
+        meter: &mut Meter,
+    ) -> Result<(), Stop>
+        requires within { frame < length movie.now.inputs }
+        requires start { state.old ≡ state_after movie.now frame }
+        requires meter { meter.old + 1 < 2 ^ 64 }
+        ensures drawn { OnOk result (IsDrawn movie.now frame) }
+        ensures state { OnOk result (state.new ≡ state_after movie.now (frame + 1)) }
+        ensures pixmap { OnOk result (self.new ≡ self.old ++ ppm_bytes (picture_of movie.now frame)) }
+        ensures stop { IfErr result (IsStopAt movie.now frame) }
+        ensures meter { meter.new ≡ meter.old + 1 }
+    {
+        let inputs = movie.inputs();
+        if let Err(halt) = play(movie.cart(), state, inputs[frame], &mut self.picture, meter) {
+            return Err(Stop::Halted(HaltedFrame { frame, halt }));
+        }
+        if let Err(_) = ppm(&self.picture, &mut self.pixmaps) {
+            return Err(Stop::Memory);
+        }
+        Ok(())
+    }
+}
