@@ -14,6 +14,9 @@ pub const HALTING: &[u8] = b"\xA2\x03\xA9\x02\x85\x00\xA9\x00\x85\x00\xCA\xD0\xF
 /// background by it. So a picture depends on all inputs up to it.
 pub const FOLDING: &[u8] = b"\xAD\x80\x02\x65\x80\x85\x80\x85\x09\x4C\x00\xF0";
 
+/// `000=AD80026580858085098502 00B=4C00F0 FFC=00F0`: the same once a line, and waits for the next one.
+pub const WAITING: &[u8] = b"\xAD\x80\x02\x65\x80\x85\x80\x85\x09\x85\x02\x4C\x00\xF0";
+
 /// The halt of the second program.
 pub const HALT: Halt = Halt::Undocumented {
     at: 0xF00D,

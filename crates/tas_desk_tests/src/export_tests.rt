@@ -2,11 +2,11 @@
 
 ghost use Rattle.std.specs.Prelude.{◌≤◌};
 
-use crate::changes::{Change, FOLDING, HALT, HALTING, PLAYFIELD, edit_of};
+use crate::changes::{Change, FOLDING, HALT, HALTING, PLAYFIELD, WAITING, edit_of};
 use crate::desks::{Task, play};
 use crate::gates::{Counting, Open, Ordered};
 use crate::replays::images;
-use crate::sums::Sum;
+use crate::sums::{Compared, Sum};
 use std::alloc::Global;
 use std::io;
 use std::process::Abort;
@@ -230,21 +230,50 @@ fn writers_fail_and_ranges_end(rt: HostRuntime) -> Result<(), Fail> {
     Ok(())
 }
 
-/// As many frames as one export may have, from a full zone: each run starts at a kept state.
+/// How many of 1,024 frames so many runs play that start from the kept states of every 64th frame.
+fn played_from_the_grid(workers: usize) -> u64
+    requires { (1 ≤ workers) × (workers ≤ 16) }
+{
+    let mut played = 0u64;
+    for run in 0..workers {
+        let first = run * 1024 / workers;
+        let next = (run + 1) * 1024 / workers;
+        let start = first / 64 * 64;
+        played = played.saturating_add(next.saturating_sub(start) as u64);
+    }
+    played
+}
+
+/// As many frames as one export may have: from no kept states by one worker, and then by each number of workers from a
+/// full zone, where each run starts at a kept state.
 pub fn export_longest<N: Name, R: Threads + Wait + Abort + Sync>(
     rt: &R,
     alloc: Global,
     desk: &Desk<N, &R>,
     seat: &mut Seat<N>,
 ) -> Result<(), Fail> {
-    fill(rt, alloc, desk, seat, FOLDING, 1024)?;
-    let one = export(rt, alloc, desk, seat, (0, 1024), 1, &Open, usize::MAX);
-    assert_eq!(rt; (one.0, one.1), (Ok((3, 1024)), 103_234_560));
+    fill(rt, alloc, desk, seat, WAITING, 1024)?;
+    let mut bytes = Vec::with_capacity(alloc, 103_234_560)?;
+    let alone = desk.export(rt, alloc, seat, 0, 1024, 1, &Open, &mut bytes);
+    assert_eq!(rt;
+        alone.ok().map(|told| (told.at, told.played)),
+        Some((3, 1024))
+    );
+    assert_eq!(rt; bytes.len(), 103_234_560);
     let worked = desk.work(rt, alloc, seat, &[1024], &Open);
     assert_eq!(rt; worked.map(|worked| worked.kept), Ok(16));
     assert_eq!(rt; desk.share(rt, seat).ok(), Some(16));
-    let four = export(rt, alloc, desk, seat, (0, 1024), 4, &Open, usize::MAX);
-    assert_eq!(rt; four, one);
+    for workers in 1..17usize {
+        let mut out = Compared::new(bytes.as_slice());
+        let told = desk.export(rt, alloc, seat, 0, 1024, workers, &Open, &mut out);
+        let wanted = played_from_the_grid(workers);
+        assert_eq!(rt;
+            told.ok().map(|told| (told.at, told.played)),
+            Some((3, wanted)),
+            "by {workers}"
+        );
+        assert!(rt; out.is_same(), "by {workers}");
+    }
     Ok(())
 }
 

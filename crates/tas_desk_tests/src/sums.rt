@@ -1,4 +1,4 @@
-//! Writers that keep a sum over what they are given, in its order.
+//! Writers that keep a sum over what they are given, in its order, or compare it.
 
 use std::io;
 use std::io::Write;
@@ -37,6 +37,42 @@ impl Write for Sum {
         }
         self.bytes = self.bytes.saturating_add(taken);
         Ok(taken)
+    }
+
+    fn flush(&mut self) -> io::Result<()> {
+        Ok(())
+    }
+}
+
+/// A writer that compares what it is given with known bytes.
+#[derive(Drop)]
+pub struct Compared<'a> {
+    rest: &'a [u8],
+    is_same: bool,
+}
+
+impl<'a> Compared<'a> {
+    /// A writer that wants these bytes.
+    pub fn new(bytes: &'a [u8]) -> Compared<'a> {
+        Compared {
+            rest: bytes,
+            is_same: true,
+        }
+    }
+
+    /// Whether just these bytes came.
+    pub fn is_same(&self) -> bool {
+        self.is_same && self.rest.is_empty()
+    }
+}
+
+impl Write for Compared<'_> {
+    fn write(&mut self, buf: &[u8]) -> io::Result<usize> {
+        let wanted = buf.len().min(self.rest.len());
+        let (front, rest) = self.rest.split_at(wanted);
+        self.is_same = self.is_same && front == buf;
+        self.rest = rest;
+        Ok(buf.len())
     }
 
     fn flush(&mut self) -> io::Result<()> {
