@@ -7,8 +7,8 @@ use Rattle.std.proofs.lemmas.List.{append-nil}
 use Rattle.vcs_tia.specs.Image.{ppm_bytes}
 use Rattle.tas_movie.specs.Content.{MovieContent}
 use Rattle.tas_green.specs.Run.{state_after, picture_of}
-use Rattle.tas_desk.specs.declared.reel.Stop.{Stop}
-use Rattle.tas_desk.specs.declared.reel.Stop.TheVariants.{Halted, Memory}
+use Rattle.tas_desk.specs.declared.pixmaps.Stop.{Stop}
+use Rattle.tas_desk.specs.declared.pixmaps.Stop.TheVariants.{Halted, Memory}
 use Rattle.tas_desk.specs.Frames.{IsDrawn, AllDrawn, IsStopAt, Shows, pixmaps_of}
 
 pub drawn_none : (movie : MovieContent) (first : ℕ) → AllDrawn movie first first

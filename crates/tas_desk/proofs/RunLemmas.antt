@@ -9,8 +9,8 @@ use Rattle.tas_movie.specs.Content.{MovieContent}
 use Rattle.tas_green.specs.declared.savestate.Savestate.{Savestate}
 use Rattle.tas_green.specs.Zone.{nearest, first_of}
 use Rattle.tas_green.proofs.GridLemmas.{div_mono}
-use Rattle.tas_desk.specs.declared.reel.Stop.{Stop}
-use Rattle.tas_desk.specs.declared.reel.Stop.TheVariants.{Halted, Memory}
+use Rattle.tas_desk.specs.declared.pixmaps.Stop.{Stop}
+use Rattle.tas_desk.specs.declared.pixmaps.Stop.TheVariants.{Halted, Memory}
 use Rattle.tas_desk.specs.declared.runs.RunEnd.{RunEnd}
 use Rattle.tas_desk.specs.declared.runs.Plan.{Plan}
 use Rattle.tas_desk.specs.Frames.{AllDrawn, Shows, pixmaps_of}
@@ -92,9 +92,9 @@ shows_joined movie from mid to a b low high None (Some Memory) left right = tt
 -- ---- runs, joined
 
 -- a run without frames
-pub run_none : (movie : MovieContent) (zone : List Savestate) (first next : ℕ) (reel : List ℕ) (end : RunEnd) → reel ≡ [] → first ≡ next → end ≡ record { played = 0; stop = None }
-    → IsRunEnd movie zone first next reel end
-run_none movie zone first next reel end empty same ended =
+pub run_none : (movie : MovieContent) (zone : List Savestate) (first next : ℕ) (pixmaps : List ℕ) (end : RunEnd) → pixmaps ≡ [] → first ≡ next → end ≡ record { played = 0; stop = None }
+    → IsRunEnd movie zone first next pixmaps end
+run_none movie zone first next pixmaps end empty same ended =
     rw (ended, empty) (record {
       shows = shows_none movie first next same;
       played = λ none. sym (ap (λ (b : Bool). cond b (next - nearest first zone) 0) (le-ltb first next (omega arith)));
@@ -106,8 +106,8 @@ none_parts (Some h) k e = absurd cc
 none_parts None k e = (refl, e)
 
 -- no run is left
-pub runs_none : (movie : MovieContent) (zone : List Savestate) (plan : Plan) (i : ℕ) (reels : List (List ℕ)) (end : RunEnd) → IsPlan movie plan → i + length reels ≡ plan.workers → length reels ≡ 0
-    → end ≡ record { played = 0; stop = None } → AreRunsEnd movie zone plan i reels end
+pub runs_none : (movie : MovieContent) (zone : List Savestate) (plan : Plan) (i : ℕ) (all_pixmaps : List (List ℕ)) (end : RunEnd) → IsPlan movie plan → i + length all_pixmaps ≡ plan.workers → length all_pixmaps ≡ 0
+    → end ≡ record { played = 0; stop = None } → AreRunsEnd movie zone plan i all_pixmaps end
 runs_none movie zone plan i [] end is all none ended =
     let last = ends plan is.some is.order in
     let here : i ≡ plan.workers = omega arith in
@@ -118,7 +118,7 @@ runs_none movie zone plan i [] end is all none ended =
       played = λ none. sym (ap (costs zone plan i) left);
       most = omega arith;
     })
-runs_none movie zone plan i (reel ∷ reels) end is all none ended = absurd (omega arith)
+runs_none movie zone plan i (pixmaps ∷ all_pixmaps) end is all none ended = absurd (omega arith)
 
 costs_more : (zone : List Savestate) (plan : Plan) (i k : ℕ) → costs zone plan i (suc k) ≡ cost zone (first_of_run plan i) (first_of_run plan (i + 1)) + costs zone plan (i + 1) k
 costs_more zone plan i k =
@@ -146,21 +146,21 @@ runs_more movie zone plan i mine others front back end is lt one rest played sto
     }
 
 -- all runs show all frames
-pub runs_shown : (movie : MovieContent) (zone : List Savestate) (plan : Plan) (reels : List (List ℕ)) (end : RunEnd) → AreRunsEnd movie zone plan 0 reels end → Shows movie plan.from plan.to (concat reels) end.stop
-runs_shown movie zone plan reels end runs = subst (λ (n : ℕ). Shows movie n plan.to (concat reels) end.stop) (begins plan) runs.shows
+pub runs_shown : (movie : MovieContent) (zone : List Savestate) (plan : Plan) (all_pixmaps : List (List ℕ)) (end : RunEnd) → AreRunsEnd movie zone plan 0 all_pixmaps end → Shows movie plan.from plan.to (concat all_pixmaps) end.stop
+runs_shown movie zone plan all_pixmaps end runs = subst (λ (n : ℕ). Shows movie n plan.to (concat all_pixmaps) end.stop) (begins plan) runs.shows
 
--- one reel more is empty
-pub empty_more : (reels more : List (List ℕ)) (reel : List ℕ) → All (λ (r : List ℕ). r ≡ []) reels → reel ≡ [] → more ≡ reels ++ reel ∷ [] → All (λ (r : List ℕ). r ≡ []) more
-empty_more reels more reel so_far none is =
-    subst (All (λ (r : List ℕ). r ≡ [])) (sym is) (All-append (λ (r : List ℕ). r ≡ []) reels (reel ∷ []) so_far (one reel none))
+-- one pixmaps more is empty
+pub empty_more : (all_pixmaps more : List (List ℕ)) (pixmaps : List ℕ) → All (λ (r : List ℕ). r ≡ []) all_pixmaps → pixmaps ≡ [] → more ≡ all_pixmaps ++ pixmaps ∷ [] → All (λ (r : List ℕ). r ≡ []) more
+empty_more all_pixmaps more pixmaps so_far none is =
+    subst (All (λ (r : List ℕ). r ≡ [])) (sym is) (All-append (λ (r : List ℕ). r ≡ []) all_pixmaps (pixmaps ∷ []) so_far (one pixmaps none))
   where
     one : (x : List ℕ) → x ≡ [] → All (λ (r : List ℕ). r ≡ []) (x ∷ [])
     one x e zero d lt = e
     one x e (suc k) d lt = absurd (omega arith)
 
--- the first reel and the others are empty
-pub empty_first : (reels others : List (List ℕ)) (reel : List ℕ) → All (λ (r : List ℕ). r ≡ []) reels → reels ≡ reel ∷ others → reel ≡ []
-empty_first reels others reel all is = (subst (All (λ (r : List ℕ). r ≡ [])) is all) 0 [] (omega arith)
+-- the first pixmaps and the others are empty
+pub empty_first : (all_pixmaps others : List (List ℕ)) (pixmaps : List ℕ) → All (λ (r : List ℕ). r ≡ []) all_pixmaps → all_pixmaps ≡ pixmaps ∷ others → pixmaps ≡ []
+empty_first all_pixmaps others pixmaps all is = (subst (All (λ (r : List ℕ). r ≡ [])) is all) 0 [] (omega arith)
 
-pub empty_others : (reels others : List (List ℕ)) (reel : List ℕ) → All (λ (r : List ℕ). r ≡ []) reels → reels ≡ reel ∷ others → All (λ (r : List ℕ). r ≡ []) others
-empty_others reels others reel all is k d lt = (subst (All (λ (r : List ℕ). r ≡ [])) is all) (suc k) d (omega arith)
+pub empty_others : (all_pixmaps others : List (List ℕ)) (pixmaps : List ℕ) → All (λ (r : List ℕ). r ≡ []) all_pixmaps → all_pixmaps ≡ pixmaps ∷ others → All (λ (r : List ℕ). r ≡ []) others
+empty_others all_pixmaps others pixmaps all is k d lt = (subst (All (λ (r : List ℕ). r ≡ [])) is all) (suc k) d (omega arith)

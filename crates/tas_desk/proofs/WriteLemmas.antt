@@ -10,7 +10,7 @@ use Rattle.vcs_machine.proofs.Playing.{length-frame_picture}
 use Rattle.tas_movie.specs.Content.{MovieContent}
 use Rattle.tas_green.specs.Run.{picture_of}
 use Rattle.tas_green.specs.declared.savestate.Savestate.{Savestate}
-use Rattle.tas_desk.specs.declared.reel.Stop.{Stop}
+use Rattle.tas_desk.specs.declared.pixmaps.Stop.{Stop}
 use Rattle.tas_desk.specs.declared.runs.Plan.{Plan}
 use Rattle.tas_desk.specs.declared.runs.RunEnd.{RunEnd}
 use Rattle.tas_desk.specs.Frames.{AreDrawn, Shows, pixmaps_of}
@@ -77,9 +77,9 @@ shown_drawn movie from to bytes (Some x) none shown = absurd cc
 written_back : (new rest out : List (List ℕ)) (n : ℕ) → out ≡ take n (new ++ rest) → length new ≡ n → out ≡ new
 written_back new rest out n is size = is ∙ take-append-le n new rest (omega arith) ∙ take_all n new (omega arith)
 
--- the reels that are written where no run stopped
-pub reels_drawn : (movie : MovieContent) (plan : Plan) (zone : List Savestate) (new rest out : List (List ℕ)) (n : ℕ) (end : RunEnd) → AreRunsEnd movie zone plan 0 new end → end.stop ≡ None
+-- the all_pixmaps that are written where no run stopped
+pub runs_drawn : (movie : MovieContent) (plan : Plan) (zone : List Savestate) (new rest out : List (List ℕ)) (n : ℕ) (end : RunEnd) → AreRunsEnd movie zone plan 0 new end → end.stop ≡ None
     → out ≡ take n (new ++ rest) → length new ≡ n → AreDrawn movie plan.from plan.to (concat out)
-reels_drawn movie plan zone new rest out n end runs none is size =
+runs_drawn movie plan zone new rest out n end runs none is size =
     let back = written_back new rest out n is size in
-    subst (λ (reels : List (List ℕ)). AreDrawn movie plan.from plan.to (concat reels)) (sym back) (shown_drawn movie plan.from plan.to (concat new) end.stop none (runs_shown movie zone plan new end runs))
+    subst (λ (all_pixmaps : List (List ℕ)). AreDrawn movie plan.from plan.to (concat all_pixmaps)) (sym back) (shown_drawn movie plan.from plan.to (concat new) end.stop none (runs_shown movie zone plan new end runs))

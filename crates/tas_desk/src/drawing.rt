@@ -4,7 +4,7 @@ ghost use Rattle.std.specs.Prelude.{◌≡◌, ◌+◌, ◌-◌, ◌^◌, ◌<�
 ghost use Rattle.tas_green.specs.Run.{state_after};
 ghost use Rattle.tas_desk.specs.Frames.{Shows};
 
-use crate::reel::{Reel, Stop};
+use crate::pixmaps::{Pixmaps, Stop};
 use std::alloc::Allocator;
 use tas_green::Savestate;
 use tas_movie::Movie;
@@ -39,20 +39,20 @@ pub fn draw_frames<A: Allocator>(
     first: usize,
     end: usize,
     state: &mut State,
-    reel: &mut Reel,
+    pixmaps: &mut Pixmaps,
     meter: &mut Meter,
 ) -> Option<Stop>
     requires order { first ≤ end }
     requires within { end ≤ length movie.now.inputs }
     requires start { state.old ≡ state_after movie.now first }
-    requires empty { reel.old ≡ [] }
+    requires empty { pixmaps.old ≡ [] }
     requires meter { meter.old + (end - first) < 2 ^ 64 }
-    ensures shows { Shows movie.now first end reel.new result }
+    ensures shows { Shows movie.now first end pixmaps.new result }
     ensures meter { result ≡ None → meter.new ≡ meter.old + (end - first) }
     ensures most { meter.new ≤ meter.old + (end - first) }
 {
     for frame in first..end {
-        if let Err(stop) = reel.shoot(movie, frame, state, meter) {
+        if let Err(stop) = pixmaps.append_frame(movie, frame, state, meter) {
             return Some(stop);
         }
     }

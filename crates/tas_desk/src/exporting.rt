@@ -8,9 +8,9 @@ ghost use Rattle.tas_desk.specs.Runs.{IsPlan, costs};
 ghost use Rattle.tas_desk.specs.Exporting.{IsExportFault};
 
 use crate::Gate;
-use crate::reel::{HaltedFrame, Stop};
+use crate::pixmaps::{HaltedFrame, Stop};
 use crate::runs::{Plan, play_runs};
-use crate::writing::write_reels;
+use crate::writing::write_pixmaps;
 use std::alloc::Global;
 use std::io::{Error, Write};
 use std::thread::Threads;
@@ -53,16 +53,16 @@ pub fn export_frames<R: Threads + Sync, G: Gate + Sync, W: Write>(
     ensures played { IfOk result (λ played. played ≡ costs zone.now plan 0 plan.workers) }
     ensures fault { IfErr result (IsExportFault movie.now plan (W.contents to.old) (W.contents to.new)) }
 {
-    let Ok(mut reels) = plan.reels(alloc) else {
+    let Ok(mut all_pixmaps) = plan.all_pixmaps(alloc) else {
         return Err(ExportFault::Memory);
     };
-    let end = play_runs(rt, movie, zone, gate, plan, 0, reels.as_mut_slice());
+    let end = play_runs(rt, movie, zone, gate, plan, 0, all_pixmaps.as_mut_slice());
     match end.stop {
         Some(Stop::Halted(halted)) => return Err(ExportFault::Halted(halted)),
         Some(Stop::Memory) => return Err(ExportFault::Memory),
         None => {}
     }
-    match write_reels(reels.as_slice(), to) {
+    match write_pixmaps(all_pixmaps.as_slice(), to) {
         Ok(()) => Ok(end.played),
         Err(fault) => Err(ExportFault::Write {
             written: fault.written,

@@ -1,10 +1,10 @@
-//! Reels written one after the other.
+//! Pixmaps of runs, written one after the other.
 
 ghost use Rattle.std.specs.Prelude.{◌≡◌, ◌+◌, ◌-◌, ◌≤◌, ◌<◌, ◌^◌, length, take, IfOk, IfErr, OnOk};
 ghost use Rattle.std.specs.List.{concat};
 ghost use Rattle.std.specs.Io.KnownBytes.{Appends};
 
-use crate::reel::Reel;
+use crate::pixmaps::Pixmaps;
 use std::io::{Error, ErrorKind, Write};
 
 /// A write failed, or took no byte, after so many bytes.
@@ -48,17 +48,17 @@ fn send<W: Write>(bytes: &[u8], before: usize, to: &mut W) -> Result<usize, Writ
     Ok(before + sent)
 }
 
-/// Writes the bytes of reels, one after the other.
-pub fn write_reels<W: Write>(reels: &[Reel], to: &mut W) -> Result<(), WriteFault>
-    requires { length (concat reels.now) < 2 ^ 64 }
-    ensures ok { OnOk result (Appends (W.contents to.old) (W.contents to.new) (concat reels.now)) }
+/// Writes the pixmaps of runs, one after the other.
+pub fn write_pixmaps<W: Write>(all_pixmaps: &[Pixmaps], to: &mut W) -> Result<(), WriteFault>
+    requires { length (concat all_pixmaps.now) < 2 ^ 64 }
+    ensures ok { OnOk result (Appends (W.contents to.old) (W.contents to.new) (concat all_pixmaps.now)) }
     ensures fault { IfErr result (λ f. Appends (W.contents to.old) (W.contents to.new)
-        (take f.written (concat reels.now))) }
-    ensures short { IfErr result (λ f. f.written < length (concat reels.now)) }
+        (take f.written (concat all_pixmaps.now))) }
+    ensures short { IfErr result (λ f. f.written < length (concat all_pixmaps.now)) }
 {
     let mut written = 0;
-    for reel in reels {
-        written = send(reel.bytes(), written, to)?;
+    for pixmaps in all_pixmaps {
+        written = send(pixmaps.bytes(), written, to)?;
     }
     Ok(())
 }

@@ -7,6 +7,6 @@ abbrev pub invariant-loop-frame : goal.invariant-loop-frame
 invariant-loop-frame g l = record {
   state : l.state ≡ state_after l.movie l.frame;
   all : AllDrawn l.movie l.first l.frame;
-  are : l.reel ≡ pixmaps_of l.movie l.first (l.frame - l.first);
+  are : l.pixmaps ≡ pixmaps_of l.movie l.first (l.frame - l.first);
   meter : l.meter ≡ l.fn.meter + (l.frame - l.first);
 }

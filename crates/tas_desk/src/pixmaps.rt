@@ -35,38 +35,38 @@ pub enum Stop {
 
 /// Portable pixmaps, one after the other, in room that was there before the first frame was played.
 #[derive(Drop)]
-pub struct Reel {
+pub struct Pixmaps {
     picture: Picture,
-    pixmaps: Vec<u8>,
+    bytes: Vec<u8>,
 }
 
-impl Model for Reel {
+impl Model for Pixmaps {
     ghost Value = { List ℕ };
 
-    ghost view = { λ r. r.pixmaps.items };
+    ghost view = { λ p. p.bytes.items };
 }
 
-impl Reel {
+impl Pixmaps {
     /// No pixmap yet, and room for those of so many frames.
-    pub fn new(alloc: Global, frames: usize) -> Result<Reel, AllocError>
+    pub fn new(alloc: Global, frames: usize) -> Result<Pixmaps, AllocError>
         requires { frames ≤ 65536 }
-        ensures { IfOk result (λ reel. reel ≡ []) }
+        ensures { IfOk result (λ pixmaps. pixmaps ≡ []) }
     {
         let picture = Picture::blank(alloc)?;
-        let pixmaps = Vec::with_capacity(alloc, frames * PIXMAP_SIZE)?;
-        Ok(Reel { picture, pixmaps })
+        let bytes = Vec::with_capacity(alloc, frames * PIXMAP_SIZE)?;
+        Ok(Pixmaps { picture, bytes })
     }
 
     /// The bytes of all pixmaps.
     pub fn bytes(&self) -> &[u8]
         ensures { result.now ≡ self.now }
     {
-        self.pixmaps.as_slice()
+        self.bytes.as_slice()
     }
 
     /// Plays a frame and appends its pixmap. There is room for it, so memory isn't refused where no more frames
-    /// are shot than it was made for; no clause of a writer says so.
-    pub fn shoot<A: Allocator>(
+    /// are appended than it was made for; no clause of a writer says so.
+    pub fn append_frame<A: Allocator>(
         &mut self,
         movie: &Movie<A>,
         frame: usize,
@@ -86,7 +86,7 @@ impl Reel {
         if let Err(halt) = play(movie.cart(), state, inputs[frame], &mut self.picture, meter) {
             return Err(Stop::Halted(HaltedFrame { frame, halt }));
         }
-        if let Err(_) = ppm(&self.picture, &mut self.pixmaps) {
+        if let Err(_) = ppm(&self.picture, &mut self.bytes) {
             return Err(Stop::Memory);
         }
         Ok(())

@@ -1,6 +1,6 @@
 use Rattle.std.proofs.Common.{arith}
 use Rattle.tas_desk.proofs.RunLemmas.{next_behind, empty_more}
-use Rattle.tas_desk.proofs.runs.Plan.reels.Goals as goal
+use Rattle.tas_desk.proofs.runs.Plan.all_pixmaps.Goals as goal
 
 pub overflow_sub-frames : goal.overflow_sub-frames
 overflow_sub-frames c =
@@ -10,5 +10,5 @@ overflow_sub-frames c =
 pub loop-run-preserved : goal.loop-run-preserved
 loop-run-preserved c = record {
   count = omega (arith, c.in_ok-push.ensures.len, c.loop-run.invariant.count);
-  empty = empty_more _ _ c.in_ok-reel.reel c.loop-run.invariant.empty c.in_ok-reel.ensures c.in_ok-push.ensures.items;
+  empty = empty_more _ _ c.in_ok-pixmaps.pixmaps c.loop-run.invariant.empty c.in_ok-pixmaps.ensures c.in_ok-push.ensures.items;
 }

@@ -2,7 +2,7 @@ use Rattle.std.proofs.Common.{Ok, refl, ap}
 use Rattle.vcs_tia.specs.Image.{ppm_bytes}
 use Rattle.tas_green.proofs.RunLemmas.{after_more, picture_drawn}
 use Rattle.tas_desk.proofs.DrawingLemmas.{grown}
-use Rattle.tas_desk.proofs.reel.Reel.shoot.Goals as goal
+use Rattle.tas_desk.proofs.pixmaps.Pixmaps.append_frame.Goals as goal
 
 pub returns-in-Err-clause-stop : goal.returns-in-Err-clause-stop
 returns-in-Err-clause-stop g c =
