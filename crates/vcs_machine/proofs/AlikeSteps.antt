@@ -5,7 +5,6 @@ use Rattle.vcs_cpu.specs.Rows.{Row, row_of}
 use Rattle.vcs_cpu.specs.Operands.{address_after, size_of, operand_of_mode}
 use Rattle.vcs_cpu.specs.Effects.{Effect, effect_of, read_addresses}
 use Rattle.vcs_cpu.specs.Steps.{Step, step_of, step_or_halt, step_by_row, effect_on, content_after, extra_cycles}
-use Rattle.vcs_cpu.specs.declared.addressing.Operand.{Operand}
 use Rattle.vcs_cpu.specs.declared.regs.Regs.{Regs}
 use Rattle.vcs_cpu.specs.declared.halt.Halt.{Halt}
 
@@ -30,20 +29,22 @@ module _ {Content : Type 0} (Alike : Content → Content → Type 0) where
     writes-alike [] x y h = h
     writes-alike (w ∷ ws) x y h = writes-alike ws (d.after_poke x w.0 w.1) (d.after_poke y w.0 w.1) (pokes x y w.0 w.1 h)
 
-    -- an instruction whose operand is known
-    abbrev step_with : Row → Regs → Operand → Content → Step Content
-    step_with row r operand content =
+    -- an instruction whose operand is where the memory m shows it
+    abbrev step_with : Row → Regs → (ℕ → ℕ) → Content → Step Content
+    step_with row r m content =
+        let operand = operand_of_mode row.mode r m in
         let time = row.cycles + extra_cycles row.op row.crossing operand r in
         let later = d.after_advance content time in
         let next = record r { pc = address_after r.pc (size_of row.mode) } in
         record { regs = (effect_on d row.op operand next later).regs; content = content_after d row.op operand next later; cycles = time }
 
-    operand-alike : (row : Row) (r : Regs) (operand : Operand) (x y : Content) → Alike x y → AreAlike (step_with row r operand x) (step_with row r operand y)
-    operand-alike row r operand x y h =
+    operand-alike : (row : Row) (r : Regs) (m : ℕ → ℕ) (x y : Content) → Alike x y → AreAlike (step_with row r m x) (step_with row r m y)
+    operand-alike row r m x y h =
+        let operand = operand_of_mode row.mode r m in
         let time = row.cycles + extra_cycles row.op row.crossing operand r in
         let next = record r { pc = address_after r.pc (size_of row.mode) } in
         let later = advances x y time h in
-        let e = ap (λ (m : ℕ → ℕ). effect_of row.op operand next (map m (read_addresses row.op operand next))) (reads (d.after_advance x time) (d.after_advance y time) later) in
+        let e = ap (λ (f : ℕ → ℕ). effect_of row.op operand next (map f (read_addresses row.op operand next))) (reads (d.after_advance x time) (d.after_advance y time) later) in
         record {
           regs = ap (λ (f : Effect). f.regs) e;
           cycles = refl;
@@ -53,8 +54,7 @@ module _ {Content : Type 0} (Alike : Content → Content → Type 0) where
 
     row-alike : (row : Row) (r : Regs) (x y : Content) → Alike x y → AreAlike (step_by_row d row r x) (step_by_row d row r y)
     row-alike row r x y h =
-        subst (λ (operand : Operand). AreAlike (step_by_row d row r x) (step_with row r operand y)) (ap (operand_of_mode row.mode r) (reads x y h))
-        (operand-alike row r (operand_of_mode row.mode r (d.byte_at x)) x y h)
+        subst (λ (m : ℕ → ℕ). AreAlike (step_by_row d row r x) (step_with row r m y)) (reads x y h) (operand-alike row r (d.byte_at x) x y h)
 
     row_or_halt-alike : (p : Option Row) (opcode : ℕ) (r : Regs) (x y : Content) → Alike x y → EndAlike (step_or_halt d p opcode r x) (step_or_halt d p opcode r y)
     row_or_halt-alike None opcode r x y h = refl
