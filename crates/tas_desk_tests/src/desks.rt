@@ -38,8 +38,8 @@ pub enum Task<'a> {
     ExportUntilHalted,
     /// Exports into writers that fail, and of ranges at their ends.
     ExportToTheEnds,
-    /// The longest export.
-    ExportLongest,
+    /// The longest export, by every fourth number of workers from the first one on, 0 for one worker.
+    ExportLongest(usize),
 }
 
 /// The seats of a desk, in any order, and what they were told.
@@ -62,7 +62,7 @@ fn take_in_turn<N: Name + Send + Sync, R: Threads + Wait + Abort + Sync>(
         Task::ExportThroughGates => export_through_gates(rt, alloc, desk, seat),
         Task::ExportUntilHalted => export_until_halted(rt, alloc, desk, seat),
         Task::ExportToTheEnds => export_to_the_ends(rt, alloc, desk, seat),
-        Task::ExportLongest => export_longest(rt, alloc, desk, seat),
+        Task::ExportLongest(first) => export_longest(rt, alloc, desk, seat, first),
         _ => Err("a task of threads".into()),
     }
 }

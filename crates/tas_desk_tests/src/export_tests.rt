@@ -244,13 +244,14 @@ fn played_from_the_grid(workers: usize) -> u64
     played
 }
 
-/// As many frames as one export may have: from no kept states by one worker, and then by each number of workers from a
-/// full zone, where each run starts at a kept state.
+/// As many frames as one export may have: from no kept states by one worker, and then by every fourth number of workers
+/// from a full zone, where each run starts at a kept state.
 pub fn export_longest<N: Name, R: Threads + Wait + Abort + Sync>(
     rt: &R,
     alloc: Global,
     desk: &Desk<N, &R>,
     seat: &mut Seat<N>,
+    first: usize,
 ) -> Result<(), Fail> {
     fill(rt, alloc, desk, seat, WAITING, 1024)?;
     let mut bytes = Vec::with_capacity(alloc, 103_234_560)?;
@@ -263,7 +264,8 @@ pub fn export_longest<N: Name, R: Threads + Wait + Abort + Sync>(
     let worked = desk.work(rt, alloc, seat, &[1024], &Open);
     assert_eq!(rt; worked.map(|worked| worked.kept), Ok(16));
     assert_eq!(rt; desk.share(rt, seat).ok(), Some(16));
-    for workers in 1..17usize {
+    for group in 0..4usize {
+        let workers = 4 * group + first % 4 + 1;
         let mut out = Compared::new(bytes.as_slice());
         let told = desk.export(rt, alloc, seat, 0, 1024, workers, &Open, &mut out);
         let wanted = played_from_the_grid(workers);
@@ -278,7 +280,25 @@ pub fn export_longest<N: Name, R: Threads + Wait + Abort + Sync>(
 }
 
 #[test]
-fn the_longest_export(rt: HostRuntime) -> Result<(), Fail> {
-    play(&rt, rt.alloc(), 1, Task::ExportLongest)?;
+fn the_longest_export_by_1_5_9_and_13_workers(rt: HostRuntime) -> Result<(), Fail> {
+    play(&rt, rt.alloc(), 1, Task::ExportLongest(0))?;
+    Ok(())
+}
+
+#[test]
+fn the_longest_export_by_2_6_10_and_14_workers(rt: HostRuntime) -> Result<(), Fail> {
+    play(&rt, rt.alloc(), 1, Task::ExportLongest(1))?;
+    Ok(())
+}
+
+#[test]
+fn the_longest_export_by_3_7_11_and_15_workers(rt: HostRuntime) -> Result<(), Fail> {
+    play(&rt, rt.alloc(), 1, Task::ExportLongest(2))?;
+    Ok(())
+}
+
+#[test]
+fn the_longest_export_by_4_8_12_and_16_workers(rt: HostRuntime) -> Result<(), Fail> {
+    play(&rt, rt.alloc(), 1, Task::ExportLongest(3))?;
     Ok(())
 }

@@ -1,10 +1,12 @@
 //! What the program can be asked to do.
 
+use tas_script::MAX_NUMBER;
+
 /// The most instructions of one trace (own).
 pub const MAX_INSTRUCTIONS: u32 = 1_000_000;
 
-/// The greatest number of a frame (own).
-pub const MAX_FRAME: u32 = 9_999_999;
+/// The greatest number of a frame, which is that of a script's numbers (own).
+pub const MAX_FRAME: u32 = MAX_NUMBER as u32;
 
 /// The most workers of one export (own).
 pub const MAX_WORKERS: u32 = 16;

@@ -9,7 +9,8 @@ use Rattle.tas_movie.proofs.TextLemmas.{shown_input-frame}
 use Rattle.tas_script.specs.declared.command.Command.{Command}
 use Rattle.tas_script.specs.declared.command.Command.TheVariants.{Load, Insert, Replace, Delete, Length, InputAt, Shot, Work}
 use Rattle.tas_script.specs.Commands.{Says, IsNumber, pair_text, frames_text}
-use Rattle.tas_script.specs.Parts.{Part, IsPart, AreParts, IsBytes, IsImageOf, hex_text, word_text, part_text, poured, upper_digit}
+use Rattle.vcs_cpu.specs.Lines.{digit_of}
+use Rattle.tas_script.specs.Parts.{Part, IsPart, AreParts, IsBytes, IsImageOf, hex_text, word_text, part_text, poured}
 use Rattle.tas_script.proofs.PartLemmas.{digit_same, offset_same, same_word, word_no_space, end_of_parts}
 use Rattle.tas_script.proofs.WordLemmas.{same_front, decimal_no_space}
 
@@ -18,8 +19,8 @@ use Rattle.tas_script.proofs.WordLemmas.{same_front, decimal_no_space}
 bytes_same : (a b : List ℕ) → IsBytes a → IsBytes b → hex_text a ≡ hex_text b → a ≡ b
 unfolding hex_text
 bytes_same [] [] ha hb e = refl
-bytes_same [] (y ∷ b) ha hb e = let l : 0 ≡ suc (length (upper_digit (y % 16) ∷ hex_text b)) = ap length e in absurd (omega (arith, l))
-bytes_same (x ∷ a) [] ha hb e = let l : suc (length (upper_digit (x % 16) ∷ hex_text a)) ≡ 0 = ap length e in absurd (omega (arith, l))
+bytes_same [] (y ∷ b) ha hb e = let l : 0 ≡ suc (length (digit_of (y % 16) ∷ hex_text b)) = ap length e in absurd (omega (arith, l))
+bytes_same (x ∷ a) [] ha hb e = let l : suc (length (digit_of (x % 16) ∷ hex_text a)) ≡ 0 = ap length e in absurd (omega (arith, l))
 bytes_same (x ∷ a) (y ∷ b) ha hb e =
     let lx : x < 256 = ha 0 in
     let ly : y < 256 = hb 0 in

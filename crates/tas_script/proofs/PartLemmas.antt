@@ -10,25 +10,26 @@ use Rattle.std.proofs.lemmas.Grind.{common_steps}
 use Rattle.std.specs.Prelude.{◌≢◌, replicate}
 use Rattle.std.specs.List.{flat_map}
 use Rattle.tas_script.specs.Commands.{NoByte}
-use Rattle.tas_script.specs.Parts.{Part, IsPart, AreParts, IsBytes, IsWordEnd, IsImageOf, upper_digit, hex_text, offset_text, word_text, part_text, overwritten, poured}
+use Rattle.vcs_cpu.specs.Lines.{digit_of}
+use Rattle.tas_script.specs.Parts.{Part, IsPart, AreParts, IsBytes, IsWordEnd, IsImageOf, hex_text, offset_text, word_text, part_text, overwritten, poured}
 
 -- ---- bytes of two digits
 
-pub pair_read : (byte first second : ℕ) → hex_text (byte ∷ []) ≡ first ∷ second ∷ [] → (first ≡ upper_digit (byte / 16)) × (second ≡ upper_digit (byte % 16))
+pub pair_read : (byte first second : ℕ) → hex_text (byte ∷ []) ≡ first ∷ second ∷ [] → (first ≡ digit_of (byte / 16)) × (second ≡ digit_of (byte % 16))
 unfolding hex_text
 pair_read byte first second is =
-    let a : upper_digit (byte / 16) ≡ first = ap (λ (l : List ℕ). get_or l 0 0) is in
-    let b : upper_digit (byte % 16) ≡ second = ap (λ (l : List ℕ). get_or l 1 0) is in
+    let a : digit_of (byte / 16) ≡ first = ap (λ (l : List ℕ). get_or l 0 0) is in
+    let b : digit_of (byte % 16) ≡ second = ap (λ (l : List ℕ). get_or l 1 0) is in
     (sym a, sym b)
 
-pub pair_made : (high low first second : ℕ) → high < 16 → low < 16 → first ≡ upper_digit high → second ≡ upper_digit low → hex_text ((high * 16 + low) ∷ []) ≡ first ∷ second ∷ []
+pub pair_made : (high low first second : ℕ) → high < 16 → low < 16 → first ≡ digit_of high → second ≡ digit_of low → hex_text ((high * 16 + low) ∷ []) ≡ first ∷ second ∷ []
 unfolding hex_text
 pair_made high low first second lh ll a b =
     let h : (high * 16 + low) / 16 ≡ high = omega arith in
     let l : (high * 16 + low) % 16 ≡ low = omega arith in
-    ap (λ (n : ℕ). upper_digit n ∷ upper_digit ((high * 16 + low) % 16) ∷ []) h
-    ∙ ap (λ (n : ℕ). upper_digit high ∷ upper_digit n ∷ []) l
-    ∙ ap (λ (n : ℕ). n ∷ upper_digit low ∷ []) (sym a)
+    ap (λ (n : ℕ). digit_of n ∷ digit_of ((high * 16 + low) % 16) ∷ []) h
+    ∙ ap (λ (n : ℕ). digit_of high ∷ digit_of n ∷ []) l
+    ∙ ap (λ (n : ℕ). n ∷ digit_of low ∷ []) (sym a)
     ∙ ap (λ (n : ℕ). first ∷ n ∷ []) (sym b)
 
 pub length-hex_text : (bytes : List ℕ) → length (hex_text bytes) ≡ 2 * length bytes
@@ -39,7 +40,7 @@ length-hex_text (b ∷ bytes) = let ih = length-hex_text bytes in omega (arith, 
 pub hex_text-append : (a b : List ℕ) → hex_text (a ++ b) ≡ hex_text a ++ hex_text b
 unfolding hex_text
 hex_text-append [] b = refl
-hex_text-append (x ∷ a) b = ap (λ (l : List ℕ). upper_digit (x / 16) ∷ upper_digit (x % 16) ∷ l) (hex_text-append a b)
+hex_text-append (x ∷ a) b = ap (λ (l : List ℕ). digit_of (x / 16) ∷ digit_of (x % 16) ∷ l) (hex_text-append a b)
 
 -- the k-th byte's digits are the 2 * k-th and the next
 hex_at : (bytes : List ℕ) (k j : ℕ) → j ≡ 2 * k → k < length bytes → hex_text (get_or bytes k 0 ∷ []) ≡ get_or (hex_text bytes) j 0 ∷ get_or (hex_text bytes) (suc j) 0 ∷ []
@@ -89,10 +90,10 @@ unfolding IsWordEnd
 word_end_none [] e = tt
 word_end_none (b ∷ rest) e = absurd (omega arith)
 
-pub digit_same : (a b : ℕ) → upper_digit a ≡ upper_digit b → a < 16 → b < 16 → a ≡ b
+pub digit_same : (a b : ℕ) → digit_of a ≡ digit_of b → a < 16 → b < 16 → a ≡ b
 digit_same a b is la lb = grind (arith, nat_tests)
 
-digit_no_space : (n : ℕ) → upper_digit n ≡ 32 → ⊥
+digit_no_space : (n : ℕ) → digit_of n ≡ 32 → ⊥
 digit_no_space n is = grind (arith, nat_tests)
 
 hex_no_space : (bytes : List ℕ) → NoByte 32 (hex_text bytes)

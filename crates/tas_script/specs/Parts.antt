@@ -1,19 +1,16 @@
 -- What a `load` line says: parts of a cartridge's image, each an offset and the bytes from there on (own).
-use Rattle.std.specs.Prelude.{◌≡◌, ℕ, ◌+◌, ◌/◌, ◌%◌, ◌<◌, ◌≤◌, nat_lt, List, [], ◌∷◌, ◌++◌, length, take, drop, replicate, slice_index, if◌then◌else◌}
+use Rattle.std.specs.Prelude.{◌≡◌, ℕ, ◌+◌, ◌/◌, ◌%◌, ◌<◌, ◌≤◌, List, [], ◌∷◌, ◌++◌, length, take, drop, replicate, slice_index}
 use Rattle.std.specs.List.{flat_map}
-
--- the upper case hexadecimal digit of a number below 16
-abbrev pub upper_digit : ℕ → ℕ
-upper_digit n = if nat_lt n 10 then 48 + n else 55 + n
+use Rattle.vcs_cpu.specs.Lines.{digit_of, hex_byte}
 
 -- each byte as two upper case hexadecimal digits, the high four bits first
 unfoldable pub hex_text : List ℕ → List ℕ
 hex_text [] = []
-hex_text (byte ∷ bytes) = upper_digit (byte / 16) ∷ upper_digit (byte % 16) ∷ hex_text bytes
+hex_text (byte ∷ bytes) = hex_byte byte ++ hex_text bytes
 
 -- an offset as three upper case hexadecimal digits
 abbrev pub offset_text : ℕ → List ℕ
-offset_text offset = upper_digit (offset / 256) ∷ upper_digit (offset % 256 / 16) ∷ upper_digit (offset % 16) ∷ []
+offset_text offset = digit_of (offset / 256) ∷ digit_of (offset % 256 / 16) ∷ digit_of (offset % 16) ∷ []
 
 -- some bytes of the image, and the offset of the first of them
 pub record Part : Type 0 where

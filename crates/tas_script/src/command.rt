@@ -1,9 +1,6 @@
 //! What a line of a script asks for.
 
-use vcs_machine::Input;
-
-/// How many bytes the cartridge of a `load` line has (own).
-pub const IMAGE_SIZE: usize = 4096;
+use vcs_machine::{CART_SIZE, Input};
 
 /// What a line of a script asks for (own). Numbers are at most [`MAX_NUMBER`](crate::MAX_NUMBER).
 #[derive(Clone, Copy, Debug, PartialEq, Eq)]
@@ -11,7 +8,7 @@ pub enum Command {
     /// `load OFF=HEX ..`: another cartridge.
     Load {
         /// The cartridge's bytes.
-        image: [u8; IMAGE_SIZE],
+        image: [u8; CART_SIZE],
     },
     /// `insert AT COUNT FRAME`: copies of one input are put in.
     Insert {

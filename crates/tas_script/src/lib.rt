@@ -9,7 +9,7 @@ mod printing;
 mod reply;
 mod words;
 
-pub use command::{Command, IMAGE_SIZE};
+pub use command::Command;
 pub use laws::one_command_per_line;
 pub use parsing::parse_line;
 pub use printing::reply_line;

@@ -2,14 +2,15 @@
 
 ghost use Rattle.std.specs.Prelude.{◌≡◌, ◌≢◌, ◌<◌, ◌*◌, ◌++◌, ◌∷◌, [], ℕ, List, length, IfSome, IfNone, true, false};
 ghost use Rattle.tas_script.specs.Commands.{NoByte};
-ghost use Rattle.tas_script.specs.Parts.{Part, IsPart, IsBytes, IsWordEnd, IsImageOf, upper_digit, hex_text, offset_text, word_text, part_text, overwritten};
+ghost use Rattle.vcs_cpu.specs.Lines.{digit_of};
+ghost use Rattle.tas_script.specs.Parts.{Part, IsPart, IsBytes, IsWordEnd, IsImageOf, hex_text, offset_text, word_text, part_text, overwritten};
 
-use crate::IMAGE_SIZE;
+use vcs_machine::CART_SIZE;
 
 /// The value of an upper case hexadecimal digit.
 fn digit(byte: u8) -> Option<u8>
-    ensures some { IfSome result (λ n. (n < 16) × (byte ≡ upper_digit n)) }
-    ensures none { IfNone result ((n : ℕ) → n < 16 → byte ≢ upper_digit n) }
+    ensures some { IfSome result (λ n. (n < 16) × (byte ≡ digit_of n)) }
+    ensures none { IfNone result ((n : ℕ) → n < 16 → byte ≢ digit_of n) }
 {
     match byte {
         b'0'..=b'9' => Some(byte - b'0'),
@@ -34,8 +35,8 @@ fn byte_of(first: u8, second: u8) -> Option<u8>
 
 /// The offset of three digits.
 fn offset_of(first: u8, second: u8, third: u8) -> Option<usize>
-    ensures some { IfSome result (λ offset. (offset < IMAGE_SIZE) × (offset_text offset ≡ first ∷ second ∷ third ∷ [])) }
-    ensures none { IfNone result ((offset : ℕ) → offset < IMAGE_SIZE → offset_text offset ≢ first ∷ second ∷ third ∷ []) }
+    ensures some { IfSome result (λ offset. (offset < CART_SIZE) × (offset_text offset ≡ first ∷ second ∷ third ∷ [])) }
+    ensures none { IfNone result ((offset : ℕ) → offset < CART_SIZE → offset_text offset ≢ first ∷ second ∷ third ∷ []) }
 {
     let Some(high) = digit(first) else {
         return None;
@@ -67,7 +68,7 @@ fn write_bytes(digits: &[u8], room: &mut [u8]) -> bool
 }
 
 /// Writes the bytes of a word OFF=HEX into the image. Whether it is such a word.
-fn write_part(word: &[u8], image: &mut [u8; IMAGE_SIZE]) -> bool
+fn write_part(word: &[u8], image: &mut [u8; CART_SIZE]) -> bool
     ensures written { result ≡ true → (part : Part) × IsPart part × (word.now ≡ word_text part) × (image.new ≡ overwritten part image.old) }
     ensures other { result ≡ false → (part : Part) → IsPart part → word.now ≢ word_text part }
 {
@@ -85,7 +86,7 @@ fn write_part(word: &[u8], image: &mut [u8; IMAGE_SIZE]) -> bool
         return false;
     }
     let end = offset + digits.len() / 2;
-    if end > IMAGE_SIZE {
+    if end > CART_SIZE {
         return false;
     }
     write_bytes(digits, &mut image[offset..end])
@@ -106,7 +107,7 @@ fn first_word(bytes: &[u8]) -> (&[u8], &[u8])
 }
 
 /// Writes the first part of the text into the image, and answers what follows it.
-fn read_part<'a>(text: &'a [u8], image: &mut [u8; IMAGE_SIZE]) -> Option<&'a [u8]>
+fn read_part<'a>(text: &'a [u8], image: &mut [u8; CART_SIZE]) -> Option<&'a [u8]>
     ensures some { IfSome result (λ rest. (part : Part) × IsPart part × IsWordEnd rest.now × (text.entry.now ≡ part_text part ++ rest.now) × (image.new ≡ overwritten part image.old)) }
     ensures none { IfNone result ((part : Part) (rest : List ℕ) → IsPart part → IsWordEnd rest → text.entry.now ≢ part_text part ++ rest) }
 {
@@ -126,11 +127,11 @@ fn read_part<'a>(text: &'a [u8], image: &mut [u8; IMAGE_SIZE]) -> Option<&'a [u8
 }
 
 /// The image that the parts of a `load` line give, over zeros; nothing where the text names no parts.
-pub fn load_image(text: &[u8]) -> Option<[u8; IMAGE_SIZE]>
+pub fn load_image(text: &[u8]) -> Option<[u8; CART_SIZE]>
     ensures some { IfSome result (IsImageOf text.now) }
     ensures none { IfNone result ((image : List ℕ) → IsImageOf text.now image → ⊥) }
 {
-    let mut image = [0; IMAGE_SIZE];
+    let mut image = [0; CART_SIZE];
     if text.len() == 0 {
         return None;
     }

@@ -1,44 +1,23 @@
 //! Printing a reply.
 
-ghost use Rattle.std.specs.Prelude.{◌≡◌, ◌<◌, ◌/◌, ◌%◌, ◌∷◌, [], IfOk};
+ghost use Rattle.std.specs.Prelude.{◌≡◌, IfOk};
 ghost use Rattle.tas_script.specs.declared.reply.Reply.TheVariants.{Edited, Misplaced, TooLong, Full, Measured, Pressed, NoFrame, Drawn, Halted, Worked, OutOfMemory};
-ghost use Rattle.tas_script.specs.Parts.{upper_digit, hex_text};
 ghost use Rattle.tas_script.specs.Replies.{reply_text};
+ghost use Rattle.vcs_cpu.specs.Lines.{hex_word};
 
 use crate::Reply;
 use std::alloc::{AllocError, Allocator};
 use tas_movie::print_frame;
+use vcs_cpu::hex_digits;
 use vcs_machine::Input;
 
-/// The upper case hexadecimal digit of a number below 16.
-fn digit(n: u8) -> u8
-    requires { n < 16 }
-    ensures { result ≡ upper_digit n }
-{
-    if n < 10 { b'0' + n } else { b'A' - 10 + n }
-}
-
-/// Two upper case hexadecimal digits.
-#[tactic(auto, unfolding(crate::specs::Parts::hex_text))]
-fn byte_digits(byte: u8) -> [u8; 2]
-    ensures { result ≡ hex_text (byte ∷ []) }
-{
-    [digit(byte / 16), digit(byte % 16)]
-}
-
-/// Four upper case hexadecimal digits.
-#[tactic(auto, unfolding(crate::specs::Parts::hex_text))]
+/// An address as four upper case hexadecimal digits.
 fn address_digits(address: u16) -> [u8; 4]
-    ensures { result ≡ hex_text (address / 256 ∷ address % 256 ∷ []) }
+    ensures { result ≡ hex_word address }
 {
-    let high = (address / 256) as u8;
-    let low = (address % 256) as u8;
-    [
-        digit(high / 16),
-        digit(high % 16),
-        digit(low / 16),
-        digit(low % 16),
-    ]
+    let [a, b] = hex_digits((address / 256) as u8);
+    let [c, d] = hex_digits((address % 256) as u8);
+    [a, b, c, d]
 }
 
 fn edited_line<A: Allocator>(alloc: A, at: u64, len: usize) -> Result<Vec<u8, A>, AllocError>
@@ -109,7 +88,7 @@ fn halted_line<A: Allocator>(
     let mut bytes = format!(in alloc; "halted {at} ")?.into_bytes();
     bytes.extend_from_slice(&address_digits(address))?;
     bytes.push(b' ')?;
-    bytes.extend_from_slice(&byte_digits(opcode))?;
+    bytes.extend_from_slice(&hex_digits(opcode))?;
     bytes.push(b'\n')?;
     Ok(bytes)
 }

@@ -11,8 +11,8 @@ fn pressed_right() -> Input {
 }
 
 /// An image with one byte.
-fn image_of(offset: usize, byte: u8) -> [u8; IMAGE_SIZE] {
-    let mut image = [0; IMAGE_SIZE];
+fn image_of(offset: usize, byte: u8) -> [u8; CART_SIZE] {
+    let mut image = [0; CART_SIZE];
     if let Some(cell) = image.get_mut(offset) {
         *cell = byte;
     }

@@ -15,9 +15,9 @@ use std::sync::Wait;
 use tas_desk::{CloseOnDrop, Desk, EditError, Gate, InputError, MAX_EDITS, Name, Seat, ShotError};
 use tas_engines::RunFault;
 use tas_movie::{Edit, EditRefusal, Inputs, MAX_FRAMES};
-use tas_script::{Command, IMAGE_SIZE, Reply};
+use tas_script::{Command, Reply};
 use vcs_cpu::Halt;
-use vcs_machine::{Cart, Input};
+use vcs_machine::{CART_SIZE, Cart, Input};
 
 /// The answer to a command.
 #[derive(Clone, Copy, Debug, PartialEq, Eq)]
@@ -180,7 +180,7 @@ fn load<N: Name, W: CloseOnDrop, A: Allocator + Copy, R: Wait>(
     desk: &Desk<N, W, A>,
     seat: &mut Seat<N, A>,
     made: u64,
-    image: [u8; IMAGE_SIZE],
+    image: [u8; CART_SIZE],
 ) -> Result<Answered, RunFault>
     requires own { BeginsWithOwn seat.old }
     requires made { made ≡ seat.old.made }

@@ -7,8 +7,8 @@ use Rattle.std.proofs.KnownBytes.{Appends-trans}
 use Rattle.tas_desk.proofs.WriteLemmas.{pieces_more, pieces_front, pieces_long}
 use Rattle.tas_desk.proofs.writing.write_pixmaps.Goals as goal
 
-pub send-requires : goal.send-requires
-send-requires g c =
+pub write_counted-requires : goal.write_counted-requires
+write_counted-requires g c =
     let long = pieces_long c.args.all_pixmaps.now c.loop-pixmaps.pixmaps-index c.pixmaps-item.result c.loop-pixmaps.written c.loop-pixmaps-test.true c.pixmaps-item.is c.loop-pixmaps.invariant.size in
     let same = ap (λ (bs : List ℕ). length bs) c.bytes.ensures in
     omega arith
