@@ -19,11 +19,7 @@ pub struct WriteFault {
 ///
 /// An error of the writer, of any kind, or an `Ok(0)` ends it, and no write is tried again. The fault counts the bytes before, too
 /// (own).
-pub fn write_counted<W: Write>(
-    bytes: &[u8],
-    before: usize,
-    to: &mut W,
-) -> Result<usize, WriteFault>
+pub fn write_counted<W: Write>(bytes: &[u8], before: usize, to: &mut W) -> Result<usize, WriteFault>
     requires { before + length bytes.now < 2 ^ 64 }
     ensures count { IfOk result (λ n. n ≡ before + length bytes.now) }
     ensures all { OnOk result (Appends (W.contents to.old) (W.contents to.new) bytes.now) }
