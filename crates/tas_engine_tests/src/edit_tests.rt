@@ -1,0 +1,250 @@
+//! Whole runs of `tas edit` and `tas diff`, over readers and writers of the tests' own.
+
+use crate::movies::{BLANK, BLANK_DIGEST, text_of};
+use std::alloc::Global;
+use std::test::Fail;
+use tas_edit::{diff_run, edit_run};
+use tas_engines::{INPUT_LIMIT, ToolFault};
+use tas_movie::{TextError, TextErrorKind};
+use test_streams::{Failure, Filler, Room, Taker};
+
+/// The text of a movie of the blank cartridge.
+fn blank_text(alloc: Global, letters: &[u8]) -> Result<Vec<u8>, Fail> {
+    text_of(alloc, BLANK_DIGEST, letters)
+}
+
+/// What an engine wrote, and how it ended.
+type Ran = (Vec<u8>, Result<(), ToolFault>);
+
+/// `tas edit` of these bytes.
+fn edited(alloc: Global, cart: &[u8], script: &[u8], text: &[u8]) -> Ran {
+    let mut cart = cart;
+    let mut script = script;
+    let mut input = text;
+    let mut output = Vec::new(alloc);
+    let end = edit_run(alloc, &mut cart, &mut script, &mut input, &mut output);
+    (output, end)
+}
+
+/// `tas diff` of these bytes.
+fn compared(alloc: Global, cart: &[u8], before: &[u8], after: &[u8]) -> Ran {
+    let mut cart = cart;
+    let mut before = before;
+    let mut input = after;
+    let mut output = Vec::new(alloc);
+    let end = diff_run(alloc, &mut cart, &mut before, &mut input, &mut output);
+    (output, end)
+}
+
+/// Whether the script between two texts makes the one of the other; it is answered.
+fn go_round(alloc: Global, before: &[u8], after: &[u8]) -> Result<Vec<u8>, Fail> {
+    let (script, end) = compared(alloc, &BLANK, before, after);
+    end?;
+    let (text, end) = edited(alloc, &BLANK, script.as_slice(), before);
+    end?;
+    if text.as_slice() != after {
+        return Err("the script makes another text".into());
+    }
+    Ok(script)
+}
+
+/// A few runs of frames, made from a seed.
+fn frames_from(alloc: Global, seed: u32) -> Result<Vec<u8>, Fail> {
+    let mut state = seed;
+    let mut letters = Vec::new(alloc);
+    for _ in 0..seed % 9 {
+        state = state.wrapping_mul(1_664_525).wrapping_add(1_013_904_223);
+        let letter = match (state >> 24) % 3 {
+            0 => b'.',
+            1 => b'R',
+            _ => b'F',
+        };
+        for _ in 0..(state >> 16) % 4 {
+            letters.push(letter)?;
+        }
+    }
+    Ok(letters)
+}
+
+#[test]
+fn a_difference_that_is_made_gives_the_new_text(rt: HostRuntime) -> Result<(), Fail> {
+    let alloc = rt.alloc();
+    for old in 0..24u32 {
+        let before = blank_text(alloc, frames_from(alloc, old * 7)?.as_slice())?;
+        for new in 0..24u32 {
+            let after = blank_text(alloc, frames_from(alloc, new * 7)?.as_slice())?;
+            let script = go_round(alloc, before.as_slice(), after.as_slice())?;
+            let same = before.as_slice() == after.as_slice();
+            assert_eq!(rt; script.is_empty(), same, "{old} to {new}");
+        }
+    }
+    Ok(())
+}
+
+/// So many frames, all alike but one.
+fn long_movie(alloc: Global, len: usize, other: usize) -> Result<Vec<u8>, Fail> {
+    let mut letters = vec![in alloc; b'.'; len]?;
+    if let Some(letter) = letters.get_mut(other) {
+        *letter = b'F';
+    }
+    blank_text(alloc, letters.as_slice())
+}
+
+#[test]
+fn the_longest_movies_are_edited_and_compared(rt: HostRuntime) -> Result<(), Fail> {
+    let alloc = rt.alloc();
+    let none = blank_text(alloc, b"")?;
+    let full = long_movie(alloc, 65536, 65536)?;
+    let other = long_movie(alloc, 65536, 40000)?;
+    let script = go_round(alloc, none.as_slice(), full.as_slice())?;
+    assert_eq!(rt;
+        script.as_slice(),
+        b"insert 0 65536 ..... ..... .....\n".as_slice()
+    );
+    let script = go_round(alloc, full.as_slice(), none.as_slice())?;
+    assert_eq!(rt; script.as_slice(), b"delete 0 65536\n".as_slice());
+    let script = go_round(alloc, full.as_slice(), other.as_slice())?;
+    assert_eq!(rt;
+        script.as_slice(),
+        b"replace 40000 1 ....F ..... .....\n".as_slice()
+    );
+    let (text, end) = edited(
+        alloc,
+        &BLANK,
+        b"insert 65536 1 ..... ..... .....\n",
+        full.as_slice(),
+    );
+    assert_eq!(rt; end, Err(ToolFault::EditLong { line: 1 }));
+    assert!(rt; text.is_empty());
+    let (text, end) = edited(alloc, &BLANK, b"", other.as_slice());
+    assert_eq!(rt; end, Ok(()));
+    assert!(rt; text.as_slice() == other.as_slice());
+    Ok(())
+}
+
+/// Scripts for a movie of two frames, and how each ends.
+static FAULTS: [(&[u8], ToolFault); 8] = [
+    (b"\n", ToolFault::Script { line: 1 }),
+    (b"len\n", ToolFault::Script { line: 1 }),
+    (b"load 000=A9\n", ToolFault::Script { line: 1 }),
+    (b"work 0\n", ToolFault::Script { line: 1 }),
+    (b"delete 0 1", ToolFault::Script { line: 1 }),
+    (
+        b"delete 0 1\ndelete 1 1\n",
+        ToolFault::EditPlace { line: 2 },
+    ),
+    (b"delete 0 3\nlen\n", ToolFault::EditPlace { line: 1 }),
+    (
+        b"delete 0 1\ninsert 0 65535 ..... ..... .....\ninsert 0 1 ..... ..... .....\n",
+        ToolFault::EditLong { line: 3 },
+    ),
+];
+
+#[test]
+fn a_line_at_fault_leaves_nothing_written(rt: HostRuntime) -> Result<(), Fail> {
+    let alloc = rt.alloc();
+    let two = blank_text(alloc, b"R.")?;
+    for (number, (script, fault)) in FAULTS.iter().enumerate() {
+        let (text, end) = edited(alloc, &BLANK, script, two.as_slice());
+        assert_eq!(rt; end, Err(*fault), "script {number}");
+        assert!(rt; text.is_empty(), "script {number}");
+    }
+    Ok(())
+}
+
+#[test]
+fn faults_of_the_movies_come_in_order(rt: HostRuntime) -> Result<(), Fail> {
+    let alloc = rt.alloc();
+    let two = blank_text(alloc, b"R.")?;
+    let bad = b"a26movie 1\n".as_slice();
+    let text = ToolFault::Text(TextError {
+        line: 2,
+        kind: TextErrorKind::End,
+    });
+    let edits: [(&[u8], &[u8], &[u8], ToolFault); 3] = [
+        (b"1234567", b"len\n", bad, ToolFault::Size(7)),
+        (&BLANK, b"len\n", bad, text),
+        (
+            &BLANK,
+            b"len\n",
+            two.as_slice(),
+            ToolFault::Script { line: 1 },
+        ),
+    ];
+    for (cart, script, input, fault) in edits {
+        let (output, end) = edited(alloc, cart, script, input);
+        assert_eq!(rt; end, Err(fault));
+        assert!(rt; output.is_empty());
+    }
+    let comparisons: [(&[u8], &[u8], &[u8], ToolFault); 3] = [
+        (b"", bad, b"", ToolFault::Size(0)),
+        (&BLANK, bad, b"", text),
+        (&BLANK, two.as_slice(), bad, text),
+    ];
+    for (cart, before, after, fault) in comparisons {
+        let (output, end) = compared(alloc, cart, before, after);
+        assert_eq!(rt; end, Err(fault));
+        assert!(rt; output.is_empty());
+    }
+    Ok(())
+}
+
+/// The inputs, how many reads of each succeed where it fails, the fault, and how many reads there were of each.
+static READS: [([usize; 3], [usize; 3], ToolFault, [usize; 3]); 6] = [
+    ([10, 10, 10], [1, 1, 1], ToolFault::Read, [1, 0, 0]),
+    ([10, 10, 10], [0, 2, 1], ToolFault::Read, [2, 2, 0]),
+    ([10, 10, 10], [0, 0, 2], ToolFault::Read, [2, 2, 2]),
+    (
+        [INPUT_LIMIT + 1, 10, 10],
+        [0, 1, 1],
+        ToolFault::TooLong,
+        [4097, 0, 0],
+    ),
+    (
+        [10, INPUT_LIMIT + 1, 10],
+        [0, 0, 1],
+        ToolFault::TooLong,
+        [2, 4097, 0],
+    ),
+    ([10, 10, 10], [0, 0, 0], ToolFault::Size(10), [2, 2, 2]),
+];
+
+#[test]
+fn inputs_are_read_in_order_up_to_a_fault(rt: HostRuntime) {
+    let alloc = rt.alloc();
+    for (lens, fails, fault, reads) in READS {
+        let mut first = Filler::new(0, lens[0], fails[0]);
+        let mut second = Filler::new(0, lens[1], fails[1]);
+        let mut third = Filler::new(0, lens[2], fails[2]);
+        let mut output = Vec::new(alloc);
+        let end = edit_run(alloc, &mut first, &mut second, &mut third, &mut output);
+        assert_eq!(rt; end, Err(fault));
+        assert!(rt; output.is_empty());
+        assert_eq!(rt; [first.reads, second.reads, third.reads], reads);
+    }
+}
+
+#[test]
+fn texts_go_out_in_small_pieces(rt: HostRuntime) -> Result<(), Fail> {
+    let alloc = rt.alloc();
+    let old = blank_text(alloc, b"R.")?;
+    let new = blank_text(alloc, b".")?;
+    for (room, end) in [
+        (1000, Ok(())),
+        (18, Err(ToolFault::Write { written: 18 })),
+        (0, Err(ToolFault::Write { written: 0 })),
+    ] {
+        let mut output = Taker::new(alloc, 7, Room::Bytes(room), Failure::Error);
+        let mut cart = BLANK.as_slice();
+        let mut script = b"delete 0 1\n".as_slice();
+        let mut input = old.as_slice();
+        let ended = edit_run(alloc, &mut cart, &mut script, &mut input, &mut output);
+        assert_eq!(rt; ended, end, "room {room}");
+        let written = room.min(new.len());
+        assert!(rt;
+            output.taken.as_slice() == &new.as_slice()[..written],
+            "room {room}"
+        );
+    }
+    Ok(())
+}

@@ -1,0 +1,192 @@
+//! Lines and replies.
+
+use std::test::Fail;
+use tas_script::{Command, IMAGE_SIZE, Reply, parse_line, reply_line};
+use vcs_machine::Input;
+
+fn pressed_right() -> Input {
+    let mut input = Input::none();
+    input.left.right = true;
+    input
+}
+
+/// An image with one byte.
+fn image_of(offset: usize, byte: u8) -> [u8; CART_SIZE] {
+    let mut image = [0; CART_SIZE];
+    if let Some(cell) = image.get_mut(offset) {
+        *cell = byte;
+    }
+    image
+}
+
+#[test]
+fn each_line_is_its_command(rt: HostRuntime) {
+    let none = Input::none();
+    let right = pressed_right();
+    let cases: [(&[u8], Command); 14] = [
+        (
+            b"load 00A=FF",
+            Command::Load {
+                image: image_of(10, 0xff),
+            },
+        ),
+        (
+            b"load FFF=01",
+            Command::Load {
+                image: image_of(4095, 1),
+            },
+        ),
+        (
+            b"load 00A=FF00 00B=1C 00B=00",
+            Command::Load {
+                image: image_of(10, 0xff),
+            },
+        ),
+        (
+            b"insert 0 200 ..... ..... .....",
+            Command::Insert {
+                at: 0,
+                count: 200,
+                input: none,
+            },
+        ),
+        (
+            b"insert 9999999 0 R.... ..... .....",
+            Command::Insert {
+                at: 9_999_999,
+                count: 0,
+                input: right,
+            },
+        ),
+        (
+            b"replace 64 1 R.... ..... .....",
+            Command::Replace {
+                at: 64,
+                count: 1,
+                input: right,
+            },
+        ),
+        (b"delete 10 191", Command::Delete { at: 10, count: 191 }),
+        (b"len", Command::Length),
+        (b"input 0", Command::InputAt { frame: 0 }),
+        (b"input 9999999", Command::InputAt { frame: 9_999_999 }),
+        (b"shot 191", Command::Shot { frame: 191 }),
+        (b"shot 10", Command::Shot { frame: 10 }),
+        (b"work 0", Command::Work { frame: 0 }),
+        (b"work 9999999", Command::Work { frame: 9_999_999 }),
+    ];
+    for (line, command) in cases {
+        assert_eq!(rt; parse_line(line), Some(command), "{command:?}");
+    }
+}
+
+#[test]
+fn no_other_line_is_understood(rt: HostRuntime) {
+    let lines: [&[u8]; 44] = [
+        b"",
+        b" ",
+        b"len ",
+        b" len",
+        b"Len",
+        b"lenx",
+        b"len 0",
+        b"work",
+        b"shot",
+        b"shot ",
+        b"shot 01",
+        b"shot 00",
+        b"shot -1",
+        b"shot +1",
+        b"shot 1 ",
+        b"shot  1",
+        b"shot 1 1",
+        b"shot 1\r",
+        b"shot\t1",
+        b"shot 10000000",
+        b"shot 99999999999999999999",
+        b"shot \xff",
+        b"input",
+        b"input 1x",
+        b"delete 1",
+        b"delete 1  1",
+        b"delete 1 1 1",
+        b"delete 1,1",
+        b"insert 0 1",
+        b"insert 0 1 ",
+        b"insert 0 1 r.... ..... .....",
+        b"insert 0 1 R.... ..... ..... ",
+        b"insert 0  1 R.... ..... .....",
+        b"insert 0 1 R....  ..... .....",
+        b"replace 1 R.... ..... .....",
+        b"load",
+        b"load ",
+        b"load 000=",
+        b"load 000=A",
+        b"load 000=a9",
+        b"load 00=A9",
+        b"load 000 A9",
+        b"load FFF=A9FF",
+        b"load 000=A9 ",
+    ];
+    for (number, line) in lines.iter().enumerate() {
+        assert!(rt; parse_line(line).is_none(), "line {number}");
+    }
+}
+
+#[test]
+fn replies_read_as_written(rt: HostRuntime) -> Result<(), Fail> {
+    let alloc = rt.alloc();
+    let cases: [(Reply, &[u8]); 12] = [
+        (Reply::Edited { at: 1, len: 0 }, b"edit 1 len 0\n"),
+        (Reply::Misplaced { at: 5, len: 9 }, b"place 5 len 9\n"),
+        (Reply::TooLong { at: 2, len: 65536 }, b"long 2 len 65536\n"),
+        (Reply::Full { at: 1_000_000 }, b"full 1000000\n"),
+        (Reply::Measured { at: 0, len: 0 }, b"len 0 0\n"),
+        (
+            Reply::Pressed {
+                at: 3,
+                input: pressed_right(),
+            },
+            b"input 3 R.... ..... .....\n",
+        ),
+        (Reply::NoFrame { at: 4, len: 0 }, b"no frame 4 len 0\n"),
+        (
+            Reply::Drawn {
+                at: 2,
+                frame: 191,
+                ran: 192,
+                lit: 1680,
+            },
+            b"shot 2 191 ran 192 lit 1680\n",
+        ),
+        (
+            Reply::Halted {
+                at: 2,
+                address: 0xf00d,
+                opcode: 2,
+            },
+            b"halted 2 F00D 02\n",
+        ),
+        (
+            Reply::Halted {
+                at: 2,
+                address: 0x00ab,
+                opcode: 0xef,
+            },
+            b"halted 2 00AB EF\n",
+        ),
+        (
+            Reply::Worked {
+                jobs: 1,
+                kept: 3,
+                stale: 0,
+            },
+            b"work jobs 1 kept 3 stale 0\n",
+        ),
+        (Reply::OutOfMemory, b"out of memory\n"),
+    ];
+    for (reply, line) in cases {
+        assert_eq!(rt; reply_line(alloc, reply)?.as_slice(), line, "{reply:?}");
+    }
+    Ok(())
+}

@@ -1,0 +1,129 @@
+//! Whole scripts over a movie.
+
+use crate::movies::{IDLE, PLAYFIELD, image_of, text_of};
+use std::alloc::Global;
+use std::sync::Wait;
+use std::test::Fail;
+use tas_movie::{TextError, TextErrorKind};
+use tas_tool::{ToolFault, movie_script_run, script_run};
+
+/// The line that loads the playfield's cartridge.
+static LOAD: &[u8] = b"load 000=A910850DA91E85084C08F0 FFC=00F0\n";
+
+/// What a script over a movie writes, and how it ends.
+fn written<R: Wait>(
+    rt: &R,
+    alloc: Global,
+    cart: &[u8],
+    movie: &[u8],
+    script: &[u8],
+) -> (Vec<u8>, Result<(), ToolFault>) {
+    let mut cart = cart;
+    let mut movie = movie;
+    let mut input = script;
+    let mut output = Vec::new(alloc);
+    let end = movie_script_run(rt, alloc, &mut cart, &mut movie, &mut input, &mut output);
+    (output, end)
+}
+
+static LINES: &[u8] =
+    b"len\ninput 1\nshot 2\nreplace 1 1 R.... ..... .....\ninput 1\nshot 1\ninsert 3 65534 ..... ..... .....\ndelete 0 3\nlen\n";
+
+static REPLIES: &[u8] =
+    b"len 2 3\ninput 2 ..... ..... .....\nshot 2 2 ran 3 lit 1680\nedit 3 len 3\ninput 3 R.... ..... .....\nshot 3 1 ran 2 lit 1680\nlong 3 len 3\nedit 4 len 0\nlen 4 0\n";
+
+/// The replies are those of a script that makes the movie by two lines, without the replies to these.
+#[test]
+fn a_script_goes_on_from_its_movie(rt: HostRuntime) -> Result<(), Fail> {
+    let alloc = rt.alloc();
+    let cart = image_of(alloc, PLAYFIELD.bytes)?;
+    let movie = text_of(alloc, PLAYFIELD, 3, IDLE)?;
+    let (output, end) = written(&rt, alloc, cart.as_slice(), movie.as_bytes(), LINES);
+    assert_eq!(rt; end, Ok(()));
+    assert_eq!(rt; output.as_slice(), REPLIES);
+    let mut script = Vec::new(alloc);
+    script.extend_from_slice(LOAD)?;
+    script.extend_from_slice(b"insert 0 3 ..... ..... .....\n")?;
+    script.extend_from_slice(LINES)?;
+    let mut input = script.as_slice();
+    let mut output = Vec::new(alloc);
+    script_run(&rt, alloc, &mut input, &mut output)?;
+    let made = b"edit 1 len 0\nedit 2 len 3\n".as_slice();
+    assert_eq!(rt; output.as_slice().strip_prefix(made), Some(REPLIES));
+    Ok(())
+}
+
+#[test]
+fn movies_of_no_frames_and_of_the_most_are_made(rt: HostRuntime) -> Result<(), Fail> {
+    let alloc = rt.alloc();
+    let cart = image_of(alloc, PLAYFIELD.bytes)?;
+    let cases: [(usize, &[u8], &[u8]); 3] = [
+        (0, b"", b""),
+        (
+            0,
+            b"len\nshot 0\ninsert 0 1 ..... ..... .....\nshot 0\n",
+            b"len 2 0\nno frame 2 len 0\nedit 3 len 1\nshot 3 0 ran 1 lit 1680\n",
+        ),
+        (
+            65536,
+            b"len\ninsert 65536 1 ..... ..... .....\ninput 65535\n",
+            b"len 2 65536\nlong 2 len 65536\ninput 2 ..... ..... .....\n",
+        ),
+    ];
+    for (frames, lines, replies) in cases {
+        let movie = text_of(alloc, PLAYFIELD, frames, IDLE)?;
+        let (output, end) = written(&rt, alloc, cart.as_slice(), movie.as_bytes(), lines);
+        assert_eq!(rt; end, Ok(()), "{frames} frames");
+        assert_eq!(rt; output.as_slice(), replies, "{frames} frames");
+    }
+    Ok(())
+}
+
+#[test]
+fn faults_over_a_movie_come_in_order(rt: HostRuntime) -> Result<(), Fail> {
+    let alloc = rt.alloc();
+    let cart = image_of(alloc, PLAYFIELD.bytes)?;
+    let movie = text_of(alloc, PLAYFIELD, 1, IDLE)?;
+    let bad = b"a26movie 1\n".as_slice();
+    let text = TextError {
+        line: 2,
+        kind: TextErrorKind::End,
+    };
+    let cases: [(&[u8], &[u8], &[u8], &[u8], ToolFault); 4] = [
+        (b"1234567", bad, b"len\nx\n", b"", ToolFault::Size(7)),
+        (
+            cart.as_slice(),
+            bad,
+            b"len\nx\n",
+            b"",
+            ToolFault::Text(text),
+        ),
+        (
+            cart.as_slice(),
+            movie.as_bytes(),
+            b"len\nx\n",
+            b"len 2 1\n",
+            ToolFault::Script { line: 2 },
+        ),
+        (
+            cart.as_slice(),
+            movie.as_bytes(),
+            b"len",
+            b"",
+            ToolFault::Script { line: 1 },
+        ),
+    ];
+    for (number, (cart, movie, script, replies, fault)) in cases.iter().enumerate() {
+        let (output, end) = written(&rt, alloc, cart, movie, script);
+        assert_eq!(rt; end, Err(*fault), "case {number}");
+        assert!(rt; output.as_slice() == *replies, "case {number}");
+    }
+    let mut cart = cart.as_slice();
+    let mut movie = movie.as_bytes();
+    let mut input = b"len\n".as_slice();
+    let mut room = [0u8; 5];
+    let mut output = room.as_mut_slice();
+    let end = movie_script_run(&rt, alloc, &mut cart, &mut movie, &mut input, &mut output);
+    assert_eq!(rt; end, Err(ToolFault::Write { written: 5 }));
+    Ok(())
+}

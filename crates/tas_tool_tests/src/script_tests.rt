@@ -1,0 +1,153 @@
+//! Whole scripts.
+
+use std::alloc::Global;
+use std::sync::Wait;
+use tas_tool::{INPUT_LIMIT, ToolFault, script_run};
+use test_streams::{Failure, Filler, Room, Taker};
+
+/// What a script writes, and how it ends.
+fn written<R: Wait>(rt: &R, alloc: Global, script: &[u8]) -> (Vec<u8>, Result<(), ToolFault>) {
+    let mut output = Vec::new(alloc);
+    let mut input = script;
+    let end = script_run(rt, alloc, &mut input, &mut output);
+    (output, end)
+}
+
+#[test]
+fn edits_and_refusals_are_answered(rt: HostRuntime) {
+    let alloc = rt.alloc();
+    let (output, end) = written(
+        &rt,
+        alloc,
+        b"len\ninput 0\nshot 0\ninsert 0 2 R.... ..... .....\ninput 1\ninput 2\ndelete 1 2\nreplace 1 1 ..... ..... .....\ninput 1\nlen\ninsert 3 1 ..... ..... .....\ninsert 0 65535 ..... ..... .....\ninsert 2 65534 ..... ..... .....\nlen\n",
+    );
+    assert_eq!(rt; end, Ok(()));
+    assert_eq!(rt;
+        output.as_slice(),
+        b"len 0 0\nno frame 0 len 0\nno frame 0 len 0\nedit 1 len 2\ninput 1 R.... ..... .....\nno frame 1 len 2\nplace 1 len 2\nedit 2 len 2\ninput 2 ..... ..... .....\nlen 2 2\nplace 2 len 2\nlong 2 len 2\nedit 3 len 65536\nlen 3 65536\n".as_slice()
+    );
+}
+
+#[test]
+fn a_line_not_understood_ends_with_its_number(rt: HostRuntime) {
+    let alloc = rt.alloc();
+    let cases: [(&[u8], &[u8], usize); 4] = [
+        (b"len\nwork\nlen\n", b"len 0 0\n", 2),
+        (b"\n", b"", 1),
+        (b"len\ndelete 0 0\nlen", b"len 0 0\nedit 1 len 0\n", 3),
+        (b"len", b"", 1),
+    ];
+    for (script, text, line) in cases {
+        let (output, end) = written(&rt, alloc, script);
+        assert_eq!(rt; end, Err(ToolFault::Script { line }));
+        assert_eq!(rt; output.as_slice(), text);
+    }
+    let (output, end) = written(&rt, alloc, b"");
+    assert_eq!(rt; end, Ok(()));
+    assert!(rt; output.is_empty());
+}
+
+/// A cartridge that sets the playfield, its edits, and shots with the greenzone's help.
+static PLAYFIELD: &[u8] =
+    b"load 000=A910850DA91E85084C08F0 FFC=00F0\ninsert 0 200 ..... ..... .....\nshot 191\nreplace 64 1 R.... ..... .....\nshot 64\ndelete 0 200\nshot 0\ndelete 0 0\n";
+
+static PLAYFIELD_REPLIES: &[u8] =
+    b"edit 1 len 0\nedit 2 len 200\nshot 2 191 ran 192 lit 1680\nedit 3 len 200\nshot 3 64 ran 1 lit 1680\nedit 4 len 0\nno frame 4 len 0\nedit 5 len 0\n";
+
+/// Shots between edits.
+static SHOTS: &[u8] =
+    b"load 000=A910850DA91E85084C08F0 FFC=00F0\ninsert 0 200 ..... ..... .....\nshot 199\nshot 150\ninsert 127 1 R.... ..... .....\nshot 200\ndelete 10 191\nshot 9\n";
+
+static SHOTS_REPLIES: &[u8] =
+    b"edit 1 len 0\nedit 2 len 200\nshot 2 199 ran 200 lit 1680\nshot 2 150 ran 23 lit 1680\nedit 3 len 201\nshot 3 200 ran 137 lit 1680\nedit 4 len 10\nshot 4 9 ran 10 lit 1680\n";
+
+/// A cartridge that halts in its fourth frame.
+static HALTS: &[u8] =
+    b"load 000=A203A9028500A9008500CAD0F502 FFC=00F0\ninsert 0 100 ..... ..... .....\nshot 2\nshot 99\nshot 80\n";
+
+static HALTS_REPLIES: &[u8] =
+    b"edit 1 len 0\nedit 2 len 100\nshot 2 2 ran 3 lit 0\nhalted 2 F00D 02\nhalted 2 F00D 02\n";
+
+/// Jobs fill the states that a shot needs.
+static WORKS: &[u8] =
+    b"load 000=A910850DA91E85084C08F0 FFC=00F0\ninsert 0 200 ..... ..... .....\nwork 192\nwork 192\nshot 191\n";
+
+static WORKS_REPLIES: &[u8] =
+    b"edit 1 len 0\nedit 2 len 200\nwork jobs 1 kept 3 stale 0\nwork jobs 1 kept 0 stale 0\nshot 2 191 ran 64 lit 1680\n";
+
+/// An edit and the one that takes it back leave the states that a shot made.
+static TAKEN_BACK: &[u8] =
+    b"load 000=A910850DA91E85084C08F0 FFC=00F0\ninsert 0 200 ..... ..... .....\nshot 191\nreplace 64 1 R.... ..... .....\nreplace 64 1 ..... ..... .....\nshot 191\n";
+
+static TAKEN_BACK_REPLIES: &[u8] =
+    b"edit 1 len 0\nedit 2 len 200\nshot 2 191 ran 192 lit 1680\nedit 3 len 200\nedit 4 len 200\nshot 4 191 ran 64 lit 1680\n";
+
+/// A movie of 32,832 inputs has a grid of every 128th frame, one of 32,831 of every 64th.
+static GRIDS: &[u8] =
+    b"load 000=A910850DA91E85084C08F0 FFC=00F0\ninsert 0 32831 ..... ..... .....\nshot 199\ninsert 32831 1 R.... ..... .....\nshot 150\nshot 100\ndelete 32831 1\nshot 100\nshot 100\n";
+
+static GRIDS_REPLIES: &[u8] =
+    b"edit 1 len 0\nedit 2 len 32831\nshot 2 199 ran 200 lit 1680\nedit 3 len 32832\nshot 3 150 ran 23 lit 1680\nshot 3 100 ran 101 lit 1680\nedit 4 len 32831\nshot 4 100 ran 101 lit 1680\nshot 4 100 ran 37 lit 1680\n";
+
+#[test]
+fn shots_are_answered_as_by_hand(rt: HostRuntime) {
+    let alloc = rt.alloc();
+    for (name, script, text) in [
+        ("playfield", PLAYFIELD, PLAYFIELD_REPLIES),
+        ("shots", SHOTS, SHOTS_REPLIES),
+        ("halts", HALTS, HALTS_REPLIES),
+        ("works", WORKS, WORKS_REPLIES),
+        ("taken back", TAKEN_BACK, TAKEN_BACK_REPLIES),
+        ("grids", GRIDS, GRIDS_REPLIES),
+    ] {
+        let (output, end) = written(&rt, alloc, script);
+        assert_eq!(rt; end, Ok(()), "{name}");
+        assert_eq!(rt; output.as_slice(), text, "{name}");
+    }
+}
+
+/// A write of a few bytes is no failed one, and a failed one is the last; the replies before a line that isn't understood
+/// are written.
+#[test]
+fn replies_go_out_in_small_pieces(rt: HostRuntime) {
+    let alloc = rt.alloc();
+    let text = b"len 0 0\nedit 1 len 0\n".as_slice();
+    for (room, end) in [
+        (100, Err(ToolFault::Script { line: 3 })),
+        (21, Err(ToolFault::Script { line: 3 })),
+        (20, Err(ToolFault::Write { written: 20 })),
+        (7, Err(ToolFault::Write { written: 7 })),
+        (0, Err(ToolFault::Write { written: 0 })),
+    ] {
+        let mut output = Taker::new(alloc, 7, Room::Bytes(room), Failure::Error);
+        let mut input = b"len\ndelete 0 0\nlen".as_slice();
+        assert_eq!(rt;
+            script_run(&rt, alloc, &mut input, &mut output),
+            end,
+            "room {room}"
+        );
+        let written = room.min(21);
+        assert_eq!(rt; output.taken.as_slice(), &text[..written], "room {room}");
+        let failed = if room < 21 { 1 } else { 0 };
+        assert_eq!(rt; output.writes, written.div_ceil(7) + failed, "room {room}");
+    }
+}
+
+#[test]
+fn a_script_that_is_not_read_is_not_answered(rt: HostRuntime) {
+    let alloc = rt.alloc();
+    for (left, fails_at, fault, reads) in [
+        (10, 1, ToolFault::Read, 1),
+        (10, 2, ToolFault::Read, 2),
+        (10, 3, ToolFault::Script { line: 1 }, 2),
+        (INPUT_LIMIT, 0, ToolFault::Script { line: 1 }, 4097),
+        (INPUT_LIMIT + 1, 0, ToolFault::TooLong, 4097),
+    ] {
+        let mut input = Filler::new(b' ', left, fails_at);
+        let mut output = Vec::new(alloc);
+        let end = script_run(&rt, alloc, &mut input, &mut output);
+        assert_eq!(rt; end, Err(fault), "{left} bytes");
+        assert_eq!(rt; input.reads, reads, "{left} bytes");
+        assert!(rt; output.is_empty(), "{left} bytes");
+    }
+}
