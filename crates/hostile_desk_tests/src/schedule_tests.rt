@@ -187,7 +187,7 @@ fn jobs_start_and_are_offered_in_every_order(rt: HostRuntime) -> Result<(), Fail
     let alloc = rt.alloc();
     for (one, starts) in ORDERS.iter().enumerate() {
         for (other, offers) in ORDERS.iter().enumerate() {
-            let steps = job_steps(alloc, *starts, *offers, one + other)?;
+            let steps = job_steps(alloc, *starts, *offers, one.wrapping_add(other))?;
             judge(&rt, alloc, (one, other), steps.as_slice())?;
         }
     }

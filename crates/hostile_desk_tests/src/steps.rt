@@ -36,7 +36,7 @@ pub const EXPORTER: u32 = 3;
 const TARGETS: [usize; 3] = [192, 130, 200];
 
 /// Three things in each order.
-pub const ORDERS: [[usize; 3]; 6] = [
+pub const ORDERS: [[u32; 3]; 6] = [
     [0, 1, 2],
     [0, 2, 1],
     [1, 0, 2],
@@ -91,29 +91,30 @@ fn push_between(steps: &mut Vec<Step>, number: usize, shift: usize) -> Result<()
         seat,
         deed: Deed::Edit(change),
     })?;
-    steps.push(LOOKS[number % 6])
+    steps.push(LOOKS[number % 6])?;
+    Ok(())
 }
 
 /// Three jobs that are taken in one order and offered in another, with edits, loads and looks between; the changes begin with
 /// the one of this number.
 pub fn job_steps(
     alloc: Global,
-    starts: [usize; 3],
-    offers: [usize; 3],
+    starts: [u32; 3],
+    offers: [u32; 3],
     shift: usize,
 ) -> Result<Vec<Step>, AllocError> {
     let mut steps = Vec::new(alloc);
     for (number, hand) in starts.iter().enumerate() {
-        let target = TARGETS[*hand % 3];
+        let target = TARGETS[(*hand % 3) as usize];
         steps.push(Step {
-            seat: *hand as u32,
+            seat: *hand,
             deed: Deed::Start(target),
         })?;
         push_between(&mut steps, number, shift)?;
     }
     for (number, hand) in offers.iter().enumerate() {
         steps.push(Step {
-            seat: *hand as u32,
+            seat: *hand,
             deed: Deed::Offer,
         })?;
         push_between(&mut steps, number.wrapping_add(3), shift)?;
@@ -122,16 +123,12 @@ pub fn job_steps(
 }
 
 /// An export whose three runs pass their gates in an order, with edits, loads and looks between.
-pub fn export_steps(
-    alloc: Global,
-    order: [usize; 3],
-    shift: usize,
-) -> Result<Vec<Step>, AllocError> {
+pub fn export_steps(alloc: Global, order: [u32; 3], shift: usize) -> Result<Vec<Step>, AllocError> {
     let mut steps = Vec::new(alloc);
     for (number, run) in order.iter().enumerate() {
         steps.push(Step {
             seat: EXPORTER,
-            deed: Deed::Pass(*run),
+            deed: Deed::Pass(*run as usize),
         })?;
         push_between(&mut steps, number, shift)?;
     }

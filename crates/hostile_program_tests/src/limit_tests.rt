@@ -168,7 +168,7 @@ fn frames_of_a_movie(rt: HostRuntime) -> Result<(), Fail> {
 fn frames_of_an_edit(rt: HostRuntime) -> Result<(), Fail> {
     let alloc = rt.alloc();
     let (game, text) = (image(alloc)?, movie(alloc, 3)?);
-    let longest = End::Writes(HEAD.len() + 65_536 * FRAME.len(), FRAME);
+    let longest = End::Writes(81 + 65_536 * 18, FRAME);
     let too_long = End::Faults(b"fault: script line 1: long\n");
     let cases: [(&[u8], End); 2] = [
         (b"insert 3 65533 ..... ..... .....\n", longest),
@@ -230,7 +230,7 @@ fn frames_of_one_export(rt: HostRuntime) -> Result<(), Fail> {
 
 /// How many bytes the replies to so many edits have that leave the movie empty.
 fn bytes_of_replies(edits: usize) -> usize {
-    let mut bytes = edits.saturating_mul("edit  len 0\n".len());
+    let mut bytes = edits.saturating_mul(12);
     let mut least = 1usize;
     for _digit in 0..7u32 {
         bytes = bytes.saturating_add(edits.saturating_add(1).saturating_sub(least));
@@ -247,25 +247,11 @@ fn edits_of_a_script(rt: HostRuntime) -> Result<(), Fail> {
         game: b"",
         other: b"",
     };
-    assert_eq!(rt; bytes_of_replies(10), "edit 1 len 0\n".len() * 10 + 1);
-    let full = b"full 1000000\n";
-    let cases: [(usize, usize, &'static [u8]); 2] = [
-        (1_000_000, 0, b"edit 999999 len 0\nedit 1000000 len 0\n"),
-        (1_000_001, full.len(), b"edit 1000000 len 0\nfull 1000000\n"),
-    ];
-    for (edits, more, last) in cases {
-        let script = repeated(alloc, b"", b"delete 0 0\n", edits)?;
-        let bytes = bytes_of_replies(1_000_000).saturating_add(more);
-        ends(
-            &rt,
-            alloc,
-            &["script"],
-            files,
-            script.as_slice(),
-            End::Writes(bytes, last),
-        )?;
-    }
-    Ok(())
+    assert_eq!(rt; bytes_of_replies(10), 9 * 13 + 14);
+    let script = repeated(alloc, b"", b"delete 0 0\n", 1_000_001)?;
+    let bytes = bytes_of_replies(1_000_000).saturating_add("full 1000000\n".len());
+    let end = End::Writes(bytes, b"edit 1000000 len 0\nfull 1000000\n");
+    ends(&rt, alloc, &["script"], files, script.as_slice(), end)
 }
 
 /// As many bytes as one input may have, and one more: of a cartridge, a movie text and a script.

@@ -4,7 +4,7 @@ use crate::plain_script::{Frame, Line, read_line};
 use std::alloc::Global;
 use std::test::Fail;
 use vcs_cpu::Halt;
-use vcs_machine::{Cart, Input, Meter, State, play};
+use vcs_machine::{Cart, Input, Meter, State, Stick, play};
 use vcs_tia::Picture;
 
 /// The most frames of a movie.
@@ -18,23 +18,34 @@ struct Editor {
     frames: Vec<Frame>,
 }
 
+/// Whether a frame has a letter at a place.
+fn is_set(frame: &Frame, place: usize) -> bool {
+    frame.get(place).is_some_and(|letter| *letter != b'.')
+}
+
 /// The input of a frame.
 fn input_of(frame: &Frame) -> Input {
-    let mut input = Input::none();
-    let sticks = [(0usize, &mut input.left), (6, &mut input.right)];
-    for (place, stick) in sticks {
-        stick.right = frame[place] != b'.';
-        stick.left = frame[place + 1] != b'.';
-        stick.down = frame[place + 2] != b'.';
-        stick.up = frame[place + 3] != b'.';
-        stick.fire = frame[place + 4] != b'.';
+    Input {
+        left: Stick {
+            right: is_set(frame, 0),
+            left: is_set(frame, 1),
+            down: is_set(frame, 2),
+            up: is_set(frame, 3),
+            fire: is_set(frame, 4),
+        },
+        right: Stick {
+            right: is_set(frame, 6),
+            left: is_set(frame, 7),
+            down: is_set(frame, 8),
+            up: is_set(frame, 9),
+            fire: is_set(frame, 10),
+        },
+        reset: is_set(frame, 12),
+        select: is_set(frame, 13),
+        mono: is_set(frame, 14),
+        left_a: is_set(frame, 15),
+        right_a: is_set(frame, 16),
     }
-    input.reset = frame[12] != b'.';
-    input.select = frame[13] != b'.';
-    input.mono = frame[14] != b'.';
-    input.left_a = frame[15] != b'.';
-    input.right_a = frame[16] != b'.';
-    input
 }
 
 impl Editor {
@@ -113,7 +124,7 @@ impl Editor {
         if place.saturating_add(taken) > len {
             return Ok(format!(in alloc; "place {at} len {len}\n")?);
         }
-        if (len - taken).saturating_add(count) > MOST {
+        if len.saturating_sub(taken).saturating_add(count) > MOST {
             return Ok(format!(in alloc; "long {at} len {len}\n")?);
         }
         let copies = vec![in alloc; frame; count]?;

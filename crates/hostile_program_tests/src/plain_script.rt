@@ -73,7 +73,7 @@ fn write_part(word: &[u8], image: &mut [u8; 4096]) -> Option<()> {
     }
     let mut place = hexadecimal(offset)?;
     for pair in digits.chunks(2) {
-        *image.get_mut(place)? = hexadecimal(pair)? as u8;
+        *image.get_mut(place)? = u8::try_from(hexadecimal(pair)?).ok()?;
         place = place.saturating_add(1);
     }
     Some(())
