@@ -8,4 +8,6 @@ mod images;
 #[cfg(test)]
 mod plain_reader;
 #[cfg(test)]
+mod register_tests;
+#[cfg(test)]
 mod text_tests;

@@ -1,8 +1,8 @@
 //! Lines and replies.
 
 use std::test::Fail;
-use tas_script::{Command, IMAGE_SIZE, Reply, parse_line, reply_line};
-use vcs_machine::Input;
+use tas_script::{Command, Reply, parse_line, reply_line};
+use vcs_machine::{CART_SIZE, Input};
 
 fn pressed_right() -> Input {
     let mut input = Input::none();

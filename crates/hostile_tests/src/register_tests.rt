@@ -1,0 +1,153 @@
+//! Code in the registers of the TIA and of the RIOT, stacks that start at each place, and frames of two instructions.
+
+use crate::images::{cart_with, frames_of, program, traced};
+use std::alloc::Global;
+use std::test::Fail;
+use vcs_cpu::Halt;
+
+/// What is read right after power-on with nothing pressed, outside the cartridge: from the TIA, the RAM, the ports or the
+/// timer. (docs/MACHINE.md, sections 3, 5 and 6)
+fn first_read(address: u16) -> u8 {
+    if address & 0x80 == 0 {
+        return if (8..14).contains(&(address & 0x0f)) {
+            0x80
+        } else {
+            0
+        };
+    }
+    match address & 0x207 {
+        0x200 => 0xff,
+        0x202 => 0x3f,
+        _ => 0,
+    }
+}
+
+/// The trace of a jump to an address and of what stands there: BRK, which goes back to the jump, or no instruction.
+fn jump_lines(alloc: Global, address: u16) -> Result<String, Fail> {
+    let opcode = first_read(address);
+    let jump = "F000 4C 00 00 00 FD 34 3\n";
+    Ok(if opcode == 0 {
+        format!(in alloc; "{jump}{address:04X} 00 00 00 00 FA 34 7\nF000 4C 00 00 00 FA 34 3\n")?
+    } else {
+        format!(in alloc; "{jump}{address:04X} {opcode:02X} halt\n")?
+    })
+}
+
+#[test]
+fn code_runs_at_each_register(rt: HostRuntime) -> Result<(), Fail> {
+    let alloc = rt.alloc();
+    for address in (0..0x100u16).chain(0x280..0x300) {
+        let [low, high] = address.to_le_bytes();
+        let vectors: &[u8] = &[0x00, 0xf0, 0x00, 0xf0];
+        let cart = cart_with(alloc, &[(0, &[0x4c, low, high]), (0xffc, vectors)])?;
+        let lines = jump_lines(alloc, address)?;
+        assert_eq!(rt;
+            traced(alloc, &cart, 3)?.as_slice(),
+            lines.as_bytes(),
+            "{address:04X}"
+        );
+        let played = frames_of(alloc, &cart, 2)?;
+        assert!(rt; played.alike, "{address:04X}");
+        // Where BRK stands, it writes over the TIA, until a latch may become another instruction.
+        let is_halted = played.state.halted().is_some();
+        assert!(rt; is_halted || first_read(address) == 0, "{address:04X}");
+    }
+    Ok(())
+}
+
+// The timer is set to EB with one cycle left, so that its count is EA, NOP, for the next 1,024; it has not underflowed, so
+// its other register reads 0, BRK.
+#[test]
+fn code_runs_in_the_timer(rt: HostRuntime) -> Result<(), Fail> {
+    let alloc = rt.alloc();
+    let cart = program(alloc, b"\xa9\xeb\x8d\x97\x02\x4c\x84\x02")?;
+    let lines: &[u8] =
+        b"F000 A9 EB 00 00 FD B4 2\nF002 8D EB 00 00 FD B4 4\nF005 4C EB 00 00 FD B4 3\n\
+        0284 EA EB 00 00 FD B4 2\n0285 00 EB 00 00 FA B4 7\n";
+    assert_eq!(rt; traced(alloc, &cart, 5)?.as_slice(), lines);
+    Ok(())
+}
+
+// Player 0, ball and playfield meet on pixel 0 of line 0. So two latches of one byte are set, which is C0: CPY with the next
+// byte, where none is.
+#[test]
+fn code_runs_in_the_collision_latches(rt: HostRuntime) -> Result<(), Fail> {
+    let alloc = rt.alloc();
+    let cart = program(
+        alloc,
+        b"\xa2\xff\x86\x1b\x86\x1f\x86\x0d\x86\x02\x4c\x02\x00",
+    )?;
+    let lines: &[u8] =
+        b"F000 A2 00 FF 00 FD B4 2\nF002 86 00 FF 00 FD B4 3\nF004 86 00 FF 00 FD B4 3\n\
+        F006 86 00 FF 00 FD B4 3\nF008 86 00 FF 00 FD B4 3\nF00A 4C 00 FF 00 FD B4 3\n\
+        0002 C0 00 FF 00 FD 37 2\n0004 00 00 FF 00 FA 37 7\n";
+    assert_eq!(rt; traced(alloc, &cart, 8)?.as_slice(), lines);
+    Ok(())
+}
+
+/// The status byte after a load of a value at power-on: N, I and Z.
+fn status_of(value: u8) -> u8 {
+    0x34 | value & 0x80 | if value == 0 { 2 } else { 0 }
+}
+
+/// The trace of LDX, TXS, LDA 5A, PHA, PLA and no instruction, with the stack at this place of page 1: the RAM is its upper
+/// half, and the TIA, which doesn't show what is written, its lower one.
+fn stack_lines(alloc: Global, place: u8) -> Result<String, Fail> {
+    let before = status_of(place);
+    let pulled = if place < 0x80 {
+        first_read(u16::from(place))
+    } else {
+        0x5a
+    };
+    let (below, after) = (place.wrapping_sub(1), status_of(pulled));
+    let placed = format!(in alloc;
+        "F000 A2 00 {place:02X} 00 FD {before:02X} 2\nF002 9A 00 {place:02X} 00 {place:02X} {before:02X} 2\n"
+    )?;
+    let pushed = format!(in alloc;
+        "F003 A9 5A {place:02X} 00 {place:02X} 34 2\nF005 48 5A {place:02X} 00 {below:02X} 34 3\n"
+    )?;
+    Ok(format!(in alloc;
+        "{placed}{pushed}F006 68 {pulled:02X} {place:02X} 00 {place:02X} {after:02X} 4\nF007 02 halt\n"
+    )?)
+}
+
+#[test]
+fn stacks_start_at_each_place(rt: HostRuntime) -> Result<(), Fail> {
+    let alloc = rt.alloc();
+    for place in 0..=255u8 {
+        let cart = program(alloc, &[0xa2, place, 0x9a, 0xa9, 0x5a, 0x48, 0x68, 0x02])?;
+        let lines = stack_lines(alloc, place)?;
+        assert_eq!(rt;
+            traced(alloc, &cart, 9)?.as_slice(),
+            lines.as_bytes(),
+            "{place}"
+        );
+        assert!(rt; frames_of(alloc, &cart, 2)?.alike, "{place}");
+    }
+    Ok(())
+}
+
+// After two loads 1,000 pairs of STA VSYNC, by which it rises and a frame ends, and STX VSYNC, and then no instruction. So
+// 1,000 frames end, and the next one halts behind the last pair.
+#[test]
+fn each_instruction_writes_vsync(rt: HostRuntime) -> Result<(), Fail> {
+    let alloc = rt.alloc();
+    let mut code = Vec::new(alloc);
+    code.extend_from_slice(b"\xa9\x02\xa2\x00")?;
+    for _ in 0..1000u32 {
+        code.extend_from_slice(b"\x85\x00\x86\x00")?;
+    }
+    code.push(0x02)?;
+    let cart = program(alloc, &code)?;
+    let before = frames_of(alloc, &cart, 1000)?;
+    assert!(rt; before.alike);
+    assert_eq!(rt; before.state.halted(), None);
+    let after = frames_of(alloc, &cart, 1001)?;
+    assert!(rt; after.alike);
+    let halt = Halt::Undocumented {
+        at: 0xffa4,
+        opcode: 2,
+    };
+    assert_eq!(rt; after.state.halted(), Some(halt));
+    Ok(())
+}
