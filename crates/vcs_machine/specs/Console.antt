@@ -1,5 +1,5 @@
 -- What a bus holds and shows as a whole. Only the private functions of the bus cite this file.
-use Rattle.std.specs.Prelude.{◌+◌, ℕ, List}
+use Rattle.std.specs.Prelude.{ℕ, List}
 use Rattle.vcs_riot.specs.declared.chip.Pins.{Pins}
 use Rattle.vcs_machine.specs.Bus.{Observed, observed_of, after_time}
 use Rattle.vcs_machine.specs.declared.bus.Observer.{Ghosts}
