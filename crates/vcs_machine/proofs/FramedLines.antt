@@ -8,7 +8,7 @@ use Rattle.vcs_machine.specs.Bus.{Observed, board_byte_at, nothing_seen}
 use Rattle.vcs_machine.specs.Step.{console_step}
 use Rattle.vcs_machine.specs.TraceFrames.{traced_step, step_into_next_frame, board_into_next_frame}
 use Rattle.vcs_machine.specs.TraceText.{lines_from, line_then, text_of_halt, trace_text, board_at_power_on}
-use Rattle.vcs_machine.specs.Machine.{regs_at_power_on}
+use Rattle.vcs_machine.specs.Machine.{regs_at_power_on, power_on}
 use Rattle.vcs_machine.proofs.AlikeSteps.{EndAlike}
 use Rattle.vcs_machine.proofs.AlikeBoards.{BoardsAlike, byte-alike, console_step-alike, next_frame-alike}
 
@@ -41,7 +41,7 @@ lines-alike (suc n) r o p h =
     ∙ ap (λ opcode. line_then r.pc opcode (console_step nothing_seen r p) (λ (step : Step (Observed (Unit {0}))). lines_from n step.regs step.content)) (byte-alike r.pc o p h)
 
 -- the text of a trace is that of steps from frame to frame
-pub trace_text-framed : (rom : List ℕ) (n : ℕ) → framed_lines_from n (regs_at_power_on rom) (board_at_power_on rom) ≡ trace_text rom n
-unfolding trace_text
+pub trace_text-framed : (rom : List ℕ) (n : ℕ) → framed_lines_from n (power_on rom).regs (board_at_power_on rom) ≡ trace_text rom n
+unfolding trace_text power_on
 trace_text-framed rom n =
     lines-alike n (regs_at_power_on rom) (board_at_power_on rom) (board_at_power_on rom) (record { same = refl; none_pressed = refl })

@@ -1,4 +1,5 @@
--- The steps as src/tracing.rt takes them: where a frame is over, the next one starts. The text of a trace knows nothing of it.
+-- The steps as src/tracing.rt takes them: where a frame is over, the next one starts. The text of a trace knows nothing of it:
+-- only private functions cite this file.
 use Rattle.std.specs.Prelude.{false, Result, Ok, Err, if◌then◌else◌}
 use Rattle.vcs_cpu.specs.Steps.{Step}
 use Rattle.vcs_cpu.specs.declared.regs.Regs.{Regs}
