@@ -1,0 +1,45 @@
+//! A reader of one byte over and over.
+
+ghost use Rattle.std.specs.Prelude.{◌≡◌};
+
+use std::io;
+use std::io::{Error, ErrorKind, Read};
+
+/// A reader of so many equal bytes that fails at one of its reads.
+#[derive(Drop)]
+pub struct Filler {
+    /// How many bytes it still gives.
+    pub left: usize,
+    /// How many reads there were.
+    pub reads: usize,
+    byte: u8,
+    fails_at: usize,
+}
+
+impl Filler {
+    /// Reads are counted from 1; at 0 none fails.
+    pub fn new(byte: u8, left: usize, fails_at: usize) -> Filler
+        ensures left { result.left ≡ left }
+        ensures reads { result.reads ≡ 0 }
+    {
+        Filler {
+            left,
+            reads: 0,
+            byte,
+            fails_at,
+        }
+    }
+}
+
+impl Read for Filler {
+    fn read(&mut self, buf: &mut [u8]) -> io::Result<usize> {
+        self.reads = self.reads.saturating_add(1);
+        if self.reads == self.fails_at {
+            return Err(Error::from(ErrorKind::Other));
+        }
+        let n = buf.len().min(self.left);
+        buf[..n].fill(self.byte);
+        self.left -= n;
+        Ok(n)
+    }
+}
