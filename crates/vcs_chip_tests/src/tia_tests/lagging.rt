@@ -1,10 +1,9 @@
 //! TIAs that lag behind, against the slow one that draws each clock as it comes.
 
-use super::plain::Plain;
-use super::{next_random, run, same_pictures};
-use crate::Tia;
-use crate::screen::Picture;
+use super::plain::{Drawing, Plain};
+use super::{next_random, run};
 use std::test::Fail;
+use vcs_tia::{Picture, Tia};
 
 /// A TIA that lags behind: clocks are owed until a write may be seen. Either it draws them then, or they only pass.
 #[derive(Drop)]
@@ -96,7 +95,7 @@ fn is_strobe(number: u16) -> bool {
 #[test]
 fn long_debts_against_the_plain_program(rt: HostRuntime) -> Result<(), Fail> {
     let mut fast = Picture::blank(rt.alloc())?;
-    let mut slow = Picture::blank(rt.alloc())?;
+    let mut slow = Drawing::blank(rt.alloc())?;
     let mut drawing = Lagging::new(true);
     let mut passing = Lagging::new(false);
     let mut plain = Plain::new();
@@ -136,7 +135,7 @@ fn long_debts_against_the_plain_program(rt: HostRuntime) -> Result<(), Fail> {
             drawing.catch_up(&mut fast);
             passing.catch_up(&mut fast);
             assert!(rt; drawing.tia == passing.tia, "step {step}");
-            assert!(rt; same_pictures(&fast, &slow), "step {step}");
+            assert!(rt; slow.is_shown(&fast), "step {step}");
             drawing.tia.end_frame();
             passing.tia.end_frame();
             plain.end_frame();

@@ -1,0 +1,9 @@
+//! What the three chips do when they run: the manual's tables, worked rows, and the TIA against a slow one.
+#![tactic(auto)]
+
+#[cfg(test)]
+mod cpu_tests;
+#[cfg(test)]
+mod riot_tests;
+#[cfg(test)]
+mod tia_tests;
