@@ -19,6 +19,3 @@ pub use laws::{most_inputs_is_exact, one_movie_per_text, texts_have_no_fault};
 pub use movie::{MAX_FRAMES, Movie};
 pub use printing::{print_frame, print_text};
 pub use reading::{read_frame, read_text};
-
-#[cfg(test)]
-mod tests;

@@ -1,18 +1,17 @@
-use super::*;
+//! Movies: limits, edits, copies, and texts with their faults.
+
+use crate::movies::{PLAYFIELD, cart_of, idle};
 use std::alloc::{AllocError, Global};
 use std::fmt::Display;
 use std::test::Fail;
+use tas_movie::{
+    Edit, EditRefusal, Inputs, Movie, ReadError, TextError, TextErrorKind, apply, check,
+    most_inputs_is_exact, one_movie_per_text, print_frame, print_text, read_frame, read_text,
+    texts_have_no_fault,
+};
 use vcs_machine::{Cart, CartError, Input};
 
-/// `000=A910850DA91E85084C08F0 FFC=00F0`, all other bytes 0.
-fn playfield_cart(alloc: Global) -> Result<Cart, Fail> {
-    let mut image = [0u8; 4096];
-    image[..11].copy_from_slice(b"\xA9\x10\x85\x0D\xA9\x1E\x85\x08\x4C\x08\xF0");
-    image[4093] = 0xF0;
-    Ok(Cart::from_bytes(alloc, &image)?)
-}
-
-/// Its SHA-256, by another program.
+/// The second line of a movie of the playfield's cartridge, with its SHA-256 by another program.
 const CART_LINE: &[u8] = b"cart 820c64e9933496de683a000c5e11f0510fb7b1699b2ce86471295236b284906d\n";
 
 const CAPITALS: &[u8] = b"cart 820C64E9933496DE683A000C5E11F0510FB7B1699B2CE86471295236B284906D\n";
@@ -31,10 +30,6 @@ fn joined(alloc: Global, parts: &[&[u8]]) -> Result<Vec<u8>, AllocError> {
         bytes.extend_from_slice(part)?;
     }
     Ok(bytes)
-}
-
-fn idle(alloc: Global, count: usize) -> Result<Inputs, AllocError> {
-    Ok(Inputs::from_vec(vec![in alloc; Input::none(); count]?))
 }
 
 fn make(movie: &mut Movie, edit: &Edit) -> Result<(), EditRefusal> {
@@ -71,7 +66,7 @@ fn at(line: usize, kind: TextErrorKind) -> Result<usize, ReadError> {
 fn limits(rt: HostRuntime) -> Result<(), Fail> {
     let alloc = rt.alloc();
     let blank = Movie::blank(alloc)?;
-    let cart = playfield_cart(alloc)?;
+    let cart = cart_of(alloc, PLAYFIELD)?;
     for mut movie in [blank, Movie::new(alloc, &cart)?] {
         assert!(rt; movie.is_empty());
         let long = Err(EditRefusal::Long { len: 0 });
@@ -136,7 +131,7 @@ fn is_read_and_printed(
 #[test]
 fn texts_are_read_and_printed_again(rt: HostRuntime) -> Result<(), Fail> {
     let alloc = rt.alloc();
-    let cart = playfield_cart(alloc)?;
+    let cart = cart_of(alloc, PLAYFIELD)?;
     let blank = Cart::blank(alloc)?;
     let three: &[u8] = b"..... ..... .....\nRL..F .LDU. r.bAB\n..... ..... .....\n";
     let cases = [
@@ -162,7 +157,7 @@ fn texts_are_read_and_printed_again(rt: HostRuntime) -> Result<(), Fail> {
 #[test]
 fn cut_texts(rt: HostRuntime) -> Result<(), Fail> {
     let alloc = rt.alloc();
-    let cart = playfield_cart(alloc)?;
+    let cart = cart_of(alloc, PLAYFIELD)?;
     let text = joined(alloc, &[HEAD, CART_LINE, NONE])?;
     for (count, byte) in text.iter().enumerate() {
         let cut = read(alloc, &text[..count], &cart);
@@ -179,7 +174,7 @@ fn cut_texts(rt: HostRuntime) -> Result<(), Fail> {
 
 /// How many frames a text of these lines has, or its line at fault, with the playfield's cartridge.
 fn told(alloc: Global, lines: &[&[u8]]) -> Result<Result<usize, ReadError>, Fail> {
-    let cart = playfield_cart(alloc)?;
+    let cart = cart_of(alloc, PLAYFIELD)?;
     let text = joined(alloc, lines)?;
     Ok(read(alloc, &text, &cart))
 }
@@ -301,7 +296,7 @@ fn refusals_in_words(rt: HostRuntime) -> Result<(), Fail> {
 
 /// Whether the edit's copy makes the movie's copy what the edit makes of the movie.
 fn copied_alike(alloc: Global, edit: &Edit) -> Result<bool, Fail> {
-    let cart = playfield_cart(alloc)?;
+    let cart = cart_of(alloc, PLAYFIELD)?;
     let text = joined(
         alloc,
         &[HEAD, CART_LINE, NONE, b"R.... ..... .....\n", NONE],
@@ -319,7 +314,7 @@ fn copied_alike(alloc: Global, edit: &Edit) -> Result<bool, Fail> {
 #[test]
 fn copies(rt: HostRuntime) -> Result<(), Fail> {
     let alloc = rt.alloc();
-    let cart = playfield_cart(alloc)?;
+    let cart = cart_of(alloc, PLAYFIELD)?;
     let copy = cart.copy(alloc)?;
     assert!(rt; copy.bytes() == cart.bytes());
     assert!(rt; copied_alike(alloc, &Edit::Load(Cart::blank(alloc)?))?);

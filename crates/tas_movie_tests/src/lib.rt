@@ -1,0 +1,9 @@
+//! What movies and greenzones do when they run: edits, texts and their faults, shots, jobs and merges.
+#![tactic(auto)]
+
+#[cfg(test)]
+mod green_tests;
+#[cfg(test)]
+mod movie_tests;
+#[cfg(test)]
+mod movies;

@@ -1,0 +1,26 @@
+//! Cartridges and inputs of the tests.
+
+use std::alloc::{AllocError, Global};
+use std::test::Fail;
+use tas_movie::Inputs;
+use vcs_machine::{Cart, Input};
+
+/// `000=A910850DA91E85084C08F0 FFC=00F0`: a playfield of 1,680 lit pixels in each frame.
+pub const PLAYFIELD: &[u8] = b"\xA9\x10\x85\x0D\xA9\x1E\x85\x08\x4C\x08\xF0";
+
+/// The cartridge with a program at F000, where execution starts too; all other bytes are 0.
+pub fn cart_of(alloc: Global, program: &[u8]) -> Result<Cart, Fail> {
+    let mut image = [0u8; 4096];
+    for (at, byte) in program.iter().enumerate() {
+        if at < 4096 {
+            image[at] = *byte;
+        }
+    }
+    image[4093] = 0xF0;
+    Ok(Cart::from_bytes(alloc, &image)?)
+}
+
+/// So many inputs with nothing pressed.
+pub fn idle(alloc: Global, count: usize) -> Result<Inputs, AllocError> {
+    Ok(Inputs::from_vec(vec![in alloc; Input::none(); count]?))
+}
