@@ -4,13 +4,9 @@
 
 mod change;
 mod comparing;
-#[cfg(test)]
-mod engine_tests;
 mod making;
 mod running;
 mod scripts;
-#[cfg(test)]
-mod tests;
 
 pub use change::{Change, change_line, read_change};
 pub use comparing::changes_between;

@@ -11,8 +11,6 @@ mod fault;
 mod movies;
 mod reading;
 mod shooting;
-#[cfg(test)]
-mod tests;
 mod tracing;
 mod writing;
 

@@ -15,6 +15,3 @@ pub use parsing::parse_line;
 pub use printing::reply_line;
 pub use reply::Reply;
 pub use words::{MAX_NUMBER, split_once};
-
-#[cfg(test)]
-mod tests;

@@ -1,7 +1,7 @@
 //! Lines and replies.
 
-use super::*;
 use std::test::Fail;
+use tas_script::{Command, IMAGE_SIZE, Reply, parse_line, reply_line};
 use vcs_machine::Input;
 
 fn pressed_right() -> Input {

@@ -1,21 +1,17 @@
 //! Changes, scripts of them, and differences, on lists of inputs by hand.
 
-use super::*;
+use crate::movies::frame_of;
 use std::alloc::Global;
 use std::test::Fail;
+use tas_edit::{ScriptFault, changes_between, edit_movie, print_changes};
 use tas_movie::{Edit, Inputs, MAX_FRAMES, Movie, apply, check, read_frame};
 use vcs_machine::Input;
 
-/// The inputs that letters stand for: '.' nothing, 'R' the left stick to the right, 'F' its fire button.
+/// The inputs that letters stand for.
 fn inputs_of(alloc: Global, letters: &str) -> Result<Vec<Input>, Fail> {
     let mut list = Vec::new(alloc);
     for letter in letters.bytes() {
-        let frame: &[u8] = match letter {
-            b'R' => b"R.... ..... .....",
-            b'F' => b"....F ..... .....",
-            _ => b"..... ..... .....",
-        };
-        list.push(read_frame(frame).ok_or("no frame")?)?;
+        list.push(read_frame(frame_of(letter)).ok_or("no frame")?)?;
     }
     Ok(list)
 }

@@ -1,174 +1,17 @@
 //! Engines over readers and writers that give and take as a test says.
-#![tactic(auto)]
 
-use super::*;
+use crate::movies::{
+    HALTING, HALTING_DIGEST, PLAYFIELD, PLAYFIELD_DIGEST, STORES, image_of, text_of,
+};
 use std::alloc::Global;
-use std::io;
-use std::io::{Error, ErrorKind, Read, Write};
+use std::io::{Read, Write};
 use std::test::Fail;
+use tas_engines::{INPUT_LIMIT, ToolFault, check_run, shot_run, trace_run};
 use tas_movie::{TextError, TextErrorKind};
-
-/// A reader of so many zeros that fails at one of its reads, and counts them all.
-#[derive(Drop)]
-struct Zeros {
-    left: usize,
-    reads: usize,
-    fails_at: usize,
-}
-
-impl Read for Zeros {
-    fn read(&mut self, buf: &mut [u8]) -> io::Result<usize> {
-        self.reads = self.reads.saturating_add(1);
-        if self.reads == self.fails_at {
-            return Err(Error::from(ErrorKind::Other));
-        }
-        let n = buf.len().min(self.left);
-        buf[..n].fill(0);
-        self.left -= n;
-        Ok(n)
-    }
-}
-
-fn make_zeros(left: usize, fails_at: usize) -> Zeros {
-    Zeros {
-        left,
-        reads: 0,
-        fails_at,
-    }
-}
-
-/// A reader of some bytes that fails at one of its reads, or ends, and gives the bytes again after that. It counts its
-/// reads.
-#[derive(Drop)]
-struct Again<'a> {
-    bytes: &'a [u8],
-    given: usize,
-    reads: usize,
-    fails_at: usize,
-}
-
-impl<'a> Read for Again<'a> {
-    fn read(&mut self, buf: &mut [u8]) -> io::Result<usize> {
-        self.reads = self.reads.saturating_add(1);
-        if self.reads == self.fails_at {
-            return Err(Error::from(ErrorKind::Other));
-        }
-        let rest = self.bytes.get(self.given..).unwrap_or(&[]);
-        let n = buf.len().min(rest.len());
-        buf[..n].copy_from_slice(&rest[..n]);
-        self.given = if n == 0 {
-            0
-        } else {
-            self.given.saturating_add(n)
-        };
-        Ok(n)
-    }
-}
-
-fn make_again<'a>(bytes: &'a [u8], fails_at: usize) -> Again<'a> {
-    Again {
-        bytes,
-        given: 0,
-        reads: 0,
-        fails_at,
-    }
-}
-
-/// A writer with room for so many bytes that takes a few at each call; past its room it fails, or
-/// takes nothing. It counts its writes.
-#[derive(Drop)]
-struct Narrow {
-    taken: Vec<u8>,
-    room: usize,
-    at_once: usize,
-    takes_nothing: bool,
-    writes: usize,
-}
-
-impl Write for Narrow {
-    fn write(&mut self, buf: &[u8]) -> io::Result<usize> {
-        self.writes = self.writes.saturating_add(1);
-        let n = buf.len().min(self.at_once).min(self.room);
-        if n == 0 && !self.takes_nothing {
-            return Err(Error::from(ErrorKind::Other));
-        }
-        match self.taken.extend_from_slice(&buf[..n]) {
-            Ok(()) => {
-                self.room -= n;
-                Ok(n)
-            }
-            Err(_) => Err(Error::from(ErrorKind::OutOfMemory)),
-        }
-    }
-
-    fn flush(&mut self) -> io::Result<()> {
-        Ok(())
-    }
-}
-
-fn make_narrow(alloc: Global, room: usize, at_once: usize, takes_nothing: bool) -> Narrow {
-    Narrow {
-        taken: Vec::new(alloc),
-        room,
-        at_once,
-        takes_nothing,
-        writes: 0,
-    }
-}
-
-/// LDA #42, STA 80, JMP F000.
-fn image(alloc: Global) -> Result<Vec<u8>, Fail> {
-    let mut bytes = vec![in alloc; 0u8; 4096]?;
-    for (place, byte) in [0xa9, 0x42, 0x85, 0x80, 0x4c, 0x00, 0xf0]
-        .into_iter()
-        .enumerate()
-    {
-        if let Some(cell) = bytes.get_mut(place) {
-            *cell = byte;
-        }
-    }
-    if let Some(cell) = bytes.get_mut(0xffd) {
-        *cell = 0xf0;
-    }
-    Ok(bytes)
-}
+use test_streams::{Failure, Filler, Giver, Room, Taker};
 
 fn text_fault(line: usize, kind: TextErrorKind) -> ToolFault {
     ToolFault::Text(TextError { line, kind })
-}
-
-/// A cartridge with these bytes at its start and at the start vector; all others are 0.
-fn image_of(alloc: Global, program: &[u8], start: &[u8]) -> Result<Vec<u8>, Fail> {
-    let mut bytes = Vec::new(alloc);
-    bytes.extend_from_slice(program)?;
-    for _ in 0..4096u32 {
-        if bytes.len() < 0xffc {
-            bytes.push(0)?;
-        }
-    }
-    bytes.extend_from_slice(start)?;
-    bytes.push(0)?;
-    bytes.push(0)?;
-    Ok(bytes)
-}
-
-/// A playfield at the left edge of each half, drawn for ever: PF0 is 10 and COLUPF 1E.
-static PLAYFIELD: [u8; 11] = [
-    0xa9, 0x10, 0x85, 0x0d, 0xa9, 0x1e, 0x85, 0x08, 0x4c, 0x08, 0xf0,
-];
-
-/// Ends three frames by vertical sync, and halts at F00D in the fourth.
-static HALTING: [u8; 14] = [
-    0xa2, 0x03, 0xa9, 0x02, 0x85, 0x00, 0xa9, 0x00, 0x85, 0x00, 0xca, 0xd0, 0xf5, 0x02,
-];
-
-/// The movie text for a cartridge whose SHA-256 is given, with so many frames of nothing pressed.
-fn movie_text(alloc: Global, digest: &str, frames: usize) -> Result<String, Fail> {
-    let mut text = format!(in alloc; "a26movie 1\ncart {digest}\n")?;
-    for _ in 0..frames {
-        text.push_str("..... ..... .....\n")?;
-    }
-    Ok(text)
 }
 
 static TRACE: &[u8] =
@@ -177,7 +20,7 @@ static TRACE: &[u8] =
 #[test]
 fn a_trace_is_written_as_by_hand(rt: HostRuntime) -> Result<(), Fail> {
     let alloc = rt.alloc();
-    let bytes = image(alloc)?;
+    let bytes = image_of(alloc, STORES)?;
     let mut written = Vec::new(alloc);
     assert_eq!(rt;
         trace_run(alloc, 3, &mut bytes.as_slice(), &mut written),
@@ -190,8 +33,8 @@ fn a_trace_is_written_as_by_hand(rt: HostRuntime) -> Result<(), Fail> {
 #[test]
 fn a_trace_goes_out_in_small_pieces(rt: HostRuntime) -> Result<(), Fail> {
     let alloc = rt.alloc();
-    let bytes = image(alloc)?;
-    let mut output = make_narrow(alloc, 1000, 7, false);
+    let bytes = image_of(alloc, STORES)?;
+    let mut output = Taker::new(alloc, 7, Room::Bytes(1000), Failure::Error);
     assert_eq!(rt;
         trace_run(alloc, 3, &mut bytes.as_slice(), &mut output),
         Ok(())
@@ -203,10 +46,10 @@ fn a_trace_goes_out_in_small_pieces(rt: HostRuntime) -> Result<(), Fail> {
 #[test]
 fn a_writer_that_stops_has_the_first_bytes(rt: HostRuntime) -> Result<(), Fail> {
     let alloc = rt.alloc();
-    let bytes = image(alloc)?;
-    for takes_nothing in [false, true] {
+    let bytes = image_of(alloc, STORES)?;
+    for failure in [Failure::Error, Failure::Nothing] {
         for room in [0, 1, 20, 25, 26, 74] {
-            let mut output = make_narrow(alloc, room, 9, takes_nothing);
+            let mut output = Taker::new(alloc, 9, Room::Bytes(room), failure);
             let answer = trace_run(alloc, 3, &mut bytes.as_slice(), &mut output);
             assert_eq!(rt;
                 answer,
@@ -226,7 +69,7 @@ fn other_sizes_are_refused(rt: HostRuntime) -> Result<(), Fail> {
     let alloc = rt.alloc();
     for size in [0, 1, 7, 2047, 4095, 4097, INPUT_LIMIT] {
         let mut written = Vec::new(alloc);
-        let answer = trace_run(alloc, 3, &mut make_zeros(size, 0), &mut written);
+        let answer = trace_run(alloc, 3, &mut Filler::new(0, size, 0), &mut written);
         assert_eq!(rt; answer, Err(ToolFault::Size(size)), "size {size}");
         assert!(rt; written.is_empty(), "size {size}");
     }
@@ -237,7 +80,7 @@ fn other_sizes_are_refused(rt: HostRuntime) -> Result<(), Fail> {
 fn one_byte_past_the_limit_is_too_long(rt: HostRuntime) -> Result<(), Fail> {
     let alloc = rt.alloc();
     for more in [1, 100_000] {
-        let mut input = make_zeros(INPUT_LIMIT + more, 0);
+        let mut input = Filler::new(0, INPUT_LIMIT + more, 0);
         let mut written = Vec::new(alloc);
         let answer = trace_run(alloc, 3, &mut input, &mut written);
         assert_eq!(rt; answer, Err(ToolFault::TooLong));
@@ -251,7 +94,7 @@ fn one_byte_past_the_limit_is_too_long(rt: HostRuntime) -> Result<(), Fail> {
 fn a_failed_read_is_the_last_one(rt: HostRuntime) -> Result<(), Fail> {
     let alloc = rt.alloc();
     for fails_at in [1, 2] {
-        let mut input = make_zeros(4096, fails_at);
+        let mut input = Filler::new(0, 4096, fails_at);
         let mut written = Vec::new(alloc);
         let answer = trace_run(alloc, 3, &mut input, &mut written);
         assert_eq!(rt; answer, Err(ToolFault::Read));
@@ -350,19 +193,19 @@ fn run<C: Read, R: Read, W: Write>(
 #[test]
 fn no_engine_reads_on(rt: HostRuntime) -> Result<(), Fail> {
     let alloc = rt.alloc();
-    let image = image_of(alloc, &PLAYFIELD, &[0x00, 0xf0])?;
-    let movie = movie_text(alloc, PLAYFIELD_DIGEST, 1)?;
+    let image = image_of(alloc, PLAYFIELD)?;
+    let movie = text_of(alloc, PLAYFIELD_DIGEST, b".")?;
     for (engine, texts) in [(Engine::Trace, 0), (Engine::Check, 2), (Engine::Shot, 2)] {
         let mut written = Vec::new(alloc);
-        let mut cart = make_again(image.as_slice(), 0);
-        let mut text = make_again(movie.as_bytes(), 0);
+        let mut cart = Giver::new(image.as_slice(), usize::MAX, 0);
+        let mut text = Giver::new(movie.as_slice(), usize::MAX, 0);
         let answer = run(alloc, engine, &mut cart, &mut text, &mut written);
         assert_eq!(rt; answer, Ok(()), "{engine:?}");
         assert_eq!(rt; (cart.reads, text.reads), (2, texts), "{engine:?}");
         for fails_at in [1, 2] {
             let mut none = Vec::new(alloc);
-            let mut cart = make_again(image.as_slice(), fails_at);
-            let mut text = make_again(movie.as_bytes(), 0);
+            let mut cart = Giver::new(image.as_slice(), usize::MAX, fails_at);
+            let mut text = Giver::new(movie.as_slice(), usize::MAX, 0);
             let answer = run(alloc, engine, &mut cart, &mut text, &mut none);
             assert_eq!(rt; answer, Err(ToolFault::Read), "{engine:?} {fails_at}");
             assert_eq!(rt;
@@ -376,8 +219,8 @@ fn no_engine_reads_on(rt: HostRuntime) -> Result<(), Fail> {
     for engine in [Engine::Check, Engine::Shot] {
         for fails_at in [1, 2] {
             let mut none = Vec::new(alloc);
-            let mut cart = make_again(image.as_slice(), 0);
-            let mut text = make_again(movie.as_bytes(), fails_at);
+            let mut cart = Giver::new(image.as_slice(), usize::MAX, 0);
+            let mut text = Giver::new(movie.as_slice(), usize::MAX, fails_at);
             let answer = run(alloc, engine, &mut cart, &mut text, &mut none);
             assert_eq!(rt; answer, Err(ToolFault::Read), "{engine:?} {fails_at}");
             assert_eq!(rt;
@@ -395,26 +238,26 @@ fn no_engine_reads_on(rt: HostRuntime) -> Result<(), Fail> {
 #[test]
 fn no_engine_writes_on(rt: HostRuntime) -> Result<(), Fail> {
     let alloc = rt.alloc();
-    let image = image_of(alloc, &PLAYFIELD, &[0x00, 0xf0])?;
-    let movie = movie_text(alloc, PLAYFIELD_DIGEST, 1)?;
+    let image = image_of(alloc, PLAYFIELD)?;
+    let movie = text_of(alloc, PLAYFIELD_DIGEST, b".")?;
     let line = b"ok 1 frames\n".as_slice();
-    let mut output = make_narrow(alloc, 100, 7, false);
+    let mut output = Taker::new(alloc, 7, Room::Bytes(100), Failure::Error);
     let answer = check_run(
         alloc,
         &mut image.as_slice(),
-        &mut movie.as_bytes(),
+        &mut movie.as_slice(),
         &mut output,
     );
     assert_eq!(rt; answer, Ok(()));
     assert_eq!(rt; output.taken.as_slice(), line);
     assert_eq!(rt; output.writes, 2);
-    for takes_nothing in [false, true] {
+    for failure in [Failure::Error, Failure::Nothing] {
         for room in [0, 3, 7, 11] {
-            let mut output = make_narrow(alloc, room, 7, takes_nothing);
+            let mut output = Taker::new(alloc, 7, Room::Bytes(room), failure);
             let answer = check_run(
                 alloc,
                 &mut image.as_slice(),
-                &mut movie.as_bytes(),
+                &mut movie.as_slice(),
                 &mut output,
             );
             assert_eq!(rt;
@@ -424,12 +267,12 @@ fn no_engine_writes_on(rt: HostRuntime) -> Result<(), Fail> {
             );
             assert_eq!(rt; output.taken.as_slice(), &line[..room], "room {room}");
             assert_eq!(rt; output.writes, room.div_ceil(7) + 1, "room {room}");
-            let mut picture = make_narrow(alloc, 100 * room, 1000, takes_nothing);
+            let mut picture = Taker::new(alloc, 1000, Room::Bytes(100 * room), failure);
             let answer = shot_run(
                 alloc,
                 0,
                 &mut image.as_slice(),
-                &mut movie.as_bytes(),
+                &mut movie.as_slice(),
                 &mut picture,
             );
             assert_eq!(rt;
@@ -444,28 +287,23 @@ fn no_engine_writes_on(rt: HostRuntime) -> Result<(), Fail> {
     Ok(())
 }
 
-/// The SHA-256 of the cartridges, by another program.
-static PLAYFIELD_DIGEST: &str = "820c64e9933496de683a000c5e11f0510fb7b1699b2ce86471295236b284906d";
-
-static HALTING_DIGEST: &str = "c914dfbc057cd1e5dd9cefcba07cec773cc85a8be3a04676377b60ded704d22d";
-
 #[test]
 fn a_movie_is_as_long_as_its_frames(rt: HostRuntime) -> Result<(), Fail> {
     let alloc = rt.alloc();
-    let cart = image_of(alloc, &PLAYFIELD, &[0x00, 0xf0])?;
-    let cases = [
-        (0, 81, "ok 0 frames\n"),
-        (1, 99, "ok 1 frames\n"),
-        (5, 171, "ok 5 frames\n"),
+    let cart = image_of(alloc, PLAYFIELD)?;
+    let cases: [(&[u8], usize, &str); 3] = [
+        (b"", 81, "ok 0 frames\n"),
+        (b".", 99, "ok 1 frames\n"),
+        (b".....", 171, "ok 5 frames\n"),
     ];
     for (frames, length, line) in cases {
-        let text = movie_text(alloc, PLAYFIELD_DIGEST, frames)?;
+        let text = text_of(alloc, PLAYFIELD_DIGEST, frames)?;
         assert_eq!(rt; text.len(), length);
         let mut written = Vec::new(alloc);
         let answer = check_run(
             alloc,
             &mut cart.as_slice(),
-            &mut text.as_bytes(),
+            &mut text.as_slice(),
             &mut written,
         );
         assert_eq!(rt; answer, Ok(()));
@@ -477,37 +315,37 @@ fn a_movie_is_as_long_as_its_frames(rt: HostRuntime) -> Result<(), Fail> {
 #[test]
 fn faults_of_a_movie_come_in_order(rt: HostRuntime) -> Result<(), Fail> {
     let alloc = rt.alloc();
-    let cart = image_of(alloc, &PLAYFIELD, &[0x00, 0xf0])?;
-    let text = movie_text(alloc, PLAYFIELD_DIGEST, 1)?;
-    let other = movie_text(alloc, HALTING_DIGEST, 1)?;
+    let cart = image_of(alloc, PLAYFIELD)?;
+    let text = text_of(alloc, PLAYFIELD_DIGEST, b".")?;
+    let other = text_of(alloc, HALTING_DIGEST, b".")?;
     let mut written = Vec::new(alloc);
     // Reading the cartridge comes before reading the text, this before the size, and this before the text's faults.
-    let mut unread = make_zeros(10, 1);
-    let answer = check_run(alloc, &mut make_zeros(7, 1), &mut unread, &mut written);
+    let mut unread = Filler::new(0, 10, 1);
+    let answer = check_run(alloc, &mut Filler::new(0, 7, 1), &mut unread, &mut written);
     assert_eq!(rt; answer, Err(ToolFault::Read));
     assert_eq!(rt; unread.reads, 0);
     let answer = check_run(
         alloc,
-        &mut make_zeros(7, 0),
-        &mut make_zeros(10, 1),
+        &mut Filler::new(0, 7, 0),
+        &mut Filler::new(0, 10, 1),
         &mut written,
     );
     assert_eq!(rt; answer, Err(ToolFault::Read));
     let answer = check_run(
         alloc,
-        &mut make_zeros(7, 0),
-        &mut other.as_bytes(),
+        &mut Filler::new(0, 7, 0),
+        &mut other.as_slice(),
         &mut written,
     );
     assert_eq!(rt; answer, Err(ToolFault::Size(7)));
     let answer = check_run(
         alloc,
         &mut cart.as_slice(),
-        &mut other.as_bytes(),
+        &mut other.as_slice(),
         &mut written,
     );
     assert_eq!(rt; answer, Err(text_fault(2, TextErrorKind::Digest)));
-    let mut unended = text.as_bytes().get(..98).unwrap_or(&[]);
+    let mut unended = text.as_slice().get(..98).unwrap_or(&[]);
     let answer = check_run(alloc, &mut cart.as_slice(), &mut unended, &mut written);
     assert_eq!(rt; answer, Err(text_fault(3, TextErrorKind::End)));
     assert!(rt; written.is_empty());
@@ -517,14 +355,14 @@ fn faults_of_a_movie_come_in_order(rt: HostRuntime) -> Result<(), Fail> {
 #[test]
 fn a_playfield_is_drawn(rt: HostRuntime) -> Result<(), Fail> {
     let alloc = rt.alloc();
-    let cart = image_of(alloc, &PLAYFIELD, &[0x00, 0xf0])?;
-    let text = movie_text(alloc, PLAYFIELD_DIGEST, 1)?;
+    let cart = image_of(alloc, PLAYFIELD)?;
+    let text = text_of(alloc, PLAYFIELD_DIGEST, b".")?;
     let mut written = Vec::new(alloc);
     let answer = shot_run(
         alloc,
         0,
         &mut cart.as_slice(),
-        &mut text.as_bytes(),
+        &mut text.as_slice(),
         &mut written,
     );
     assert_eq!(rt; answer, Ok(()));
@@ -545,17 +383,17 @@ fn a_playfield_is_drawn(rt: HostRuntime) -> Result<(), Fail> {
         alloc,
         1,
         &mut cart.as_slice(),
-        &mut text.as_bytes(),
+        &mut text.as_slice(),
         &mut none,
     );
     assert_eq!(rt; answer, Err(ToolFault::NoFrame { frame: 1, len: 1 }));
     assert!(rt; none.is_empty());
-    let mut output = make_narrow(alloc, 20, 1000, false);
+    let mut output = Taker::new(alloc, 1000, Room::Bytes(20), Failure::Error);
     let answer = shot_run(
         alloc,
         0,
         &mut cart.as_slice(),
-        &mut text.as_bytes(),
+        &mut text.as_slice(),
         &mut output,
     );
     assert_eq!(rt; answer, Err(ToolFault::Write { written: 20 }));
@@ -565,8 +403,8 @@ fn a_playfield_is_drawn(rt: HostRuntime) -> Result<(), Fail> {
 #[test]
 fn a_halted_frame_has_no_picture(rt: HostRuntime) -> Result<(), Fail> {
     let alloc = rt.alloc();
-    let cart = image_of(alloc, &HALTING, &[0x00, 0xf0])?;
-    let text = movie_text(alloc, HALTING_DIGEST, 5)?;
+    let cart = image_of(alloc, HALTING)?;
+    let text = text_of(alloc, HALTING_DIGEST, b".....")?;
     assert_eq!(rt; text.len(), 171);
     for frame in [0, 1, 2] {
         let mut written = Vec::new(alloc);
@@ -574,7 +412,7 @@ fn a_halted_frame_has_no_picture(rt: HostRuntime) -> Result<(), Fail> {
             alloc,
             frame,
             &mut cart.as_slice(),
-            &mut text.as_bytes(),
+            &mut text.as_slice(),
             &mut written,
         );
         assert_eq!(rt; answer, Ok(()));
@@ -587,7 +425,7 @@ fn a_halted_frame_has_no_picture(rt: HostRuntime) -> Result<(), Fail> {
             alloc,
             frame,
             &mut cart.as_slice(),
-            &mut text.as_bytes(),
+            &mut text.as_slice(),
             &mut written,
         );
         assert_eq!(rt;

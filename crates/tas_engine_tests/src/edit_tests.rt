@@ -1,34 +1,16 @@
 //! Whole runs of `tas edit` and `tas diff`, over readers and writers of the tests' own.
 
-use super::*;
+use crate::movies::{BLANK, BLANK_DIGEST, text_of};
 use std::alloc::Global;
-use std::io;
-use std::io::{Error, ErrorKind, Read, Write};
 use std::test::Fail;
+use tas_edit::{diff_run, edit_run};
 use tas_engines::{INPUT_LIMIT, ToolFault};
 use tas_movie::{TextError, TextErrorKind};
+use test_streams::{Failure, Filler, Room, Taker};
 
-/// A cartridge of zeros.
-static BLANK: [u8; 4096] = [0; 4096];
-
-/// The two first lines of a movie of the blank cartridge. The digest comes from another program.
-static HEAD: &[u8] =
-    b"a26movie 1\ncart ad7facb2586fc6e966c004d7d1d16b024f5805ff7cb47c7a85dabd8b48892ca7\n";
-
-/// The text of a movie of the blank cartridge. A letter stands for a frame: '.' nothing, 'R' the left stick to the right, 'F' its
-/// fire button.
-fn text_of(alloc: Global, letters: &[u8]) -> Result<Vec<u8>, Fail> {
-    let mut text = Vec::new(alloc);
-    text.extend_from_slice(HEAD)?;
-    for letter in letters {
-        let line: &[u8] = match *letter {
-            b'R' => b"R.... ..... .....\n",
-            b'F' => b"....F ..... .....\n",
-            _ => b"..... ..... .....\n",
-        };
-        text.extend_from_slice(line)?;
-    }
-    Ok(text)
+/// The text of a movie of the blank cartridge.
+fn blank_text(alloc: Global, letters: &[u8]) -> Result<Vec<u8>, Fail> {
+    text_of(alloc, BLANK_DIGEST, letters)
 }
 
 /// What an engine wrote, and how it ended.
@@ -88,9 +70,9 @@ fn frames_from(alloc: Global, seed: u32) -> Result<Vec<u8>, Fail> {
 fn a_difference_that_is_made_gives_the_new_text(rt: HostRuntime) -> Result<(), Fail> {
     let alloc = rt.alloc();
     for old in 0..24u32 {
-        let before = text_of(alloc, frames_from(alloc, old * 7)?.as_slice())?;
+        let before = blank_text(alloc, frames_from(alloc, old * 7)?.as_slice())?;
         for new in 0..24u32 {
-            let after = text_of(alloc, frames_from(alloc, new * 7)?.as_slice())?;
+            let after = blank_text(alloc, frames_from(alloc, new * 7)?.as_slice())?;
             let script = go_round(alloc, before.as_slice(), after.as_slice())?;
             let same = before.as_slice() == after.as_slice();
             assert_eq!(rt; script.is_empty(), same, "{old} to {new}");
@@ -105,13 +87,13 @@ fn long_movie(alloc: Global, len: usize, other: usize) -> Result<Vec<u8>, Fail> 
     if let Some(letter) = letters.get_mut(other) {
         *letter = b'F';
     }
-    text_of(alloc, letters.as_slice())
+    blank_text(alloc, letters.as_slice())
 }
 
 #[test]
 fn the_longest_movies_are_edited_and_compared(rt: HostRuntime) -> Result<(), Fail> {
     let alloc = rt.alloc();
-    let none = text_of(alloc, b"")?;
+    let none = blank_text(alloc, b"")?;
     let full = long_movie(alloc, 65536, 65536)?;
     let other = long_movie(alloc, 65536, 40000)?;
     let script = go_round(alloc, none.as_slice(), full.as_slice())?;
@@ -161,7 +143,7 @@ static FAULTS: [(&[u8], ToolFault); 8] = [
 #[test]
 fn a_line_at_fault_leaves_nothing_written(rt: HostRuntime) -> Result<(), Fail> {
     let alloc = rt.alloc();
-    let two = text_of(alloc, b"R.")?;
+    let two = blank_text(alloc, b"R.")?;
     for (number, (script, fault)) in FAULTS.iter().enumerate() {
         let (text, end) = edited(alloc, &BLANK, script, two.as_slice());
         assert_eq!(rt; end, Err(*fault), "script {number}");
@@ -173,7 +155,7 @@ fn a_line_at_fault_leaves_nothing_written(rt: HostRuntime) -> Result<(), Fail> {
 #[test]
 fn faults_of_the_movies_come_in_order(rt: HostRuntime) -> Result<(), Fail> {
     let alloc = rt.alloc();
-    let two = text_of(alloc, b"R.")?;
+    let two = blank_text(alloc, b"R.")?;
     let bad = b"a26movie 1\n".as_slice();
     let text = ToolFault::Text(TextError {
         line: 2,
@@ -207,35 +189,6 @@ fn faults_of_the_movies_come_in_order(rt: HostRuntime) -> Result<(), Fail> {
     Ok(())
 }
 
-/// A reader of so many zeros that fails at one of its reads, and counts them.
-#[derive(Drop)]
-struct Zeros {
-    left: usize,
-    reads: usize,
-    fails_at: usize,
-}
-
-impl Read for Zeros {
-    fn read(&mut self, buf: &mut [u8]) -> io::Result<usize> {
-        self.reads = self.reads.saturating_add(1);
-        if self.reads == self.fails_at {
-            return Err(Error::from(ErrorKind::Other));
-        }
-        let n = buf.len().min(self.left);
-        buf[..n].fill(0);
-        self.left -= n;
-        Ok(n)
-    }
-}
-
-fn make_zeros(left: usize, fails_at: usize) -> Zeros {
-    Zeros {
-        left,
-        reads: 0,
-        fails_at,
-    }
-}
-
 /// The inputs, how many reads of each succeed where it fails, the fault, and how many reads there were of each.
 static READS: [([usize; 3], [usize; 3], ToolFault, [usize; 3]); 6] = [
     ([10, 10, 10], [1, 1, 1], ToolFault::Read, [1, 0, 0]),
@@ -260,9 +213,9 @@ static READS: [([usize; 3], [usize; 3], ToolFault, [usize; 3]); 6] = [
 fn inputs_are_read_in_order_up_to_a_fault(rt: HostRuntime) {
     let alloc = rt.alloc();
     for (lens, fails, fault, reads) in READS {
-        let mut first = make_zeros(lens[0], fails[0]);
-        let mut second = make_zeros(lens[1], fails[1]);
-        let mut third = make_zeros(lens[2], fails[2]);
+        let mut first = Filler::new(0, lens[0], fails[0]);
+        let mut second = Filler::new(0, lens[1], fails[1]);
+        let mut third = Filler::new(0, lens[2], fails[2]);
         let mut output = Vec::new(alloc);
         let end = edit_run(alloc, &mut first, &mut second, &mut third, &mut output);
         assert_eq!(rt; end, Err(fault));
@@ -271,47 +224,17 @@ fn inputs_are_read_in_order_up_to_a_fault(rt: HostRuntime) {
     }
 }
 
-/// A writer that takes seven bytes at each call, up to so many in all.
-#[derive(Drop)]
-struct Narrow {
-    taken: Vec<u8>,
-    room: usize,
-}
-
-impl Write for Narrow {
-    fn write(&mut self, buf: &[u8]) -> io::Result<usize> {
-        let n = buf.len().min(7).min(self.room);
-        if n == 0 {
-            return Err(Error::from(ErrorKind::Other));
-        }
-        match self.taken.extend_from_slice(&buf[..n]) {
-            Ok(()) => {
-                self.room -= n;
-                Ok(n)
-            }
-            Err(_) => Err(Error::from(ErrorKind::OutOfMemory)),
-        }
-    }
-
-    fn flush(&mut self) -> io::Result<()> {
-        Ok(())
-    }
-}
-
 #[test]
 fn texts_go_out_in_small_pieces(rt: HostRuntime) -> Result<(), Fail> {
     let alloc = rt.alloc();
-    let old = text_of(alloc, b"R.")?;
-    let new = text_of(alloc, b".")?;
+    let old = blank_text(alloc, b"R.")?;
+    let new = blank_text(alloc, b".")?;
     for (room, end) in [
         (1000, Ok(())),
         (18, Err(ToolFault::Write { written: 18 })),
         (0, Err(ToolFault::Write { written: 0 })),
     ] {
-        let mut output = Narrow {
-            taken: Vec::new(alloc),
-            room,
-        };
+        let mut output = Taker::new(alloc, 7, Room::Bytes(room), Failure::Error);
         let mut cart = BLANK.as_slice();
         let mut script = b"delete 0 1\n".as_slice();
         let mut input = old.as_slice();

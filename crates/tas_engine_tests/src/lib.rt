@@ -1,0 +1,13 @@
+//! What the engines of one movie, the lines of scripts, and changes of movies do when they run.
+#![tactic(auto)]
+
+#[cfg(test)]
+mod change_tests;
+#[cfg(test)]
+mod edit_tests;
+#[cfg(test)]
+mod engine_tests;
+#[cfg(test)]
+mod movies;
+#[cfg(test)]
+mod script_tests;

@@ -1,0 +1,61 @@
+//! Cartridges and movies of the tests. The digests come from another program.
+
+use std::alloc::Global;
+use std::test::Fail;
+
+/// LDA #42, STA 80, JMP F000.
+pub static STORES: &[u8] = b"\xa9\x42\x85\x80\x4c\x00\xf0";
+
+/// A playfield at the left edge of each half, drawn for ever: PF0 is 10 and COLUPF 1E.
+pub static PLAYFIELD: &[u8] = b"\xa9\x10\x85\x0d\xa9\x1e\x85\x08\x4c\x08\xf0";
+
+/// The SHA-256 of its cartridge.
+pub static PLAYFIELD_DIGEST: &str =
+    "820c64e9933496de683a000c5e11f0510fb7b1699b2ce86471295236b284906d";
+
+/// Ends three frames by vertical sync, and halts at F00D in the fourth.
+pub static HALTING: &[u8] = b"\xa2\x03\xa9\x02\x85\x00\xa9\x00\x85\x00\xca\xd0\xf5\x02";
+
+/// The SHA-256 of its cartridge.
+pub static HALTING_DIGEST: &str =
+    "c914dfbc057cd1e5dd9cefcba07cec773cc85a8be3a04676377b60ded704d22d";
+
+/// A cartridge of zeros.
+pub static BLANK: [u8; 4096] = [0; 4096];
+
+/// Its SHA-256.
+pub static BLANK_DIGEST: &str = "ad7facb2586fc6e966c004d7d1d16b024f5805ff7cb47c7a85dabd8b48892ca7";
+
+/// The cartridge with a program at F000, where execution starts too; all other bytes are 0.
+pub fn image_of(alloc: Global, program: &[u8]) -> Result<Vec<u8>, Fail> {
+    let mut bytes = vec![in alloc; 0u8; 4096]?;
+    for (place, byte) in program.iter().enumerate() {
+        if let Some(cell) = bytes.get_mut(place) {
+            *cell = *byte;
+        }
+    }
+    if let Some(cell) = bytes.get_mut(0xffd) {
+        *cell = 0xf0;
+    }
+    Ok(bytes)
+}
+
+/// The frame that a letter stands for: 'R' the left stick to the right, 'F' its fire button, '.' nothing.
+pub fn frame_of(letter: u8) -> &'static [u8] {
+    match letter {
+        b'R' => b"R.... ..... .....",
+        b'F' => b"....F ..... .....",
+        _ => b"..... ..... .....",
+    }
+}
+
+/// The text of a movie for the cartridge with this SHA-256, a letter for each frame.
+pub fn text_of(alloc: Global, digest: &str, letters: &[u8]) -> Result<Vec<u8>, Fail> {
+    let head = format!(in alloc; "a26movie 1\ncart {digest}\n")?;
+    let mut text = Vec::from_slice(alloc, head.as_bytes())?;
+    for letter in letters {
+        text.extend_from_slice(frame_of(*letter))?;
+        text.push(b'\n')?;
+    }
+    Ok(text)
+}
