@@ -10,8 +10,6 @@ mod request;
 mod running;
 mod status;
 mod task;
-#[cfg(test)]
-mod tests;
 mod words;
 
 pub use folder::Folder;

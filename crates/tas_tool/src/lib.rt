@@ -18,12 +18,3 @@ pub use tas_edit::{diff_run, edit_run};
 pub use tas_engines::{
     INPUT_LIMIT, ReadFault, RunFault, ToolFault, check_run, shot_run, trace_run,
 };
-
-#[cfg(test)]
-mod export_tests;
-#[cfg(test)]
-mod long_script_tests;
-#[cfg(test)]
-mod movie_script_tests;
-#[cfg(test)]
-mod tests;

@@ -1,151 +1,23 @@
 //! Exports of whole movies.
 
-use super::*;
+use crate::movies::{HALTING, PLAYFIELD, Program, RIGHT, image_of, text_of};
 use std::alloc::Global;
-use std::io;
-use std::io::{Error, ErrorKind, Read, Write};
 use std::sync::Wait;
 use std::test::Fail;
 use std::thread::Threads;
 use tas_movie::{TextError, TextErrorKind};
+use tas_tool::{INPUT_LIMIT, ToolFault, export_run, shot_run};
+use test_streams::{Failure, Filler, Giver, Room, Taker};
 
 /// How many bytes a picture has.
 const PICTURE: usize = 100_815;
 
-/// A program at F000, and the SHA-256 of its cartridge by another program.
-type Program = (&'static [u8], &'static str);
-
-/// `000=A910850DA91E85084C08F0 FFC=00F0`: a playfield.
-static PLAYFIELD: Program = (
-    b"\xA9\x10\x85\x0D\xA9\x1E\x85\x08\x4C\x08\xF0",
-    "820c64e9933496de683a000c5e11f0510fb7b1699b2ce86471295236b284906d",
-);
-
-/// `000=A203A9028500A9008500CAD0F502 FFC=00F0`: three frames, then the undocumented opcode 02 at F00D.
-static HALTING: Program = (
-    b"\xA2\x03\xA9\x02\x85\x00\xA9\x00\x85\x00\xCA\xD0\xF5\x02",
-    "c914dfbc057cd1e5dd9cefcba07cec773cc85a8be3a04676377b60ded704d22d",
-);
-
 /// `000=AD80026580858085094C00F0 FFC=00F0`: folds what the joysticks show into the background's colour, so
 /// that a picture depends on all inputs up to it.
-static FOLDING: Program = (
-    b"\xAD\x80\x02\x65\x80\x85\x80\x85\x09\x4C\x00\xF0",
-    "01cd4f43e4064c0915ec1dde6c9364a0d994bc18d980d88e45a83ec89a41c425",
-);
-
-/// The cartridge of a program.
-fn image_of(alloc: Global, program: Program) -> Result<Vec<u8>, Fail> {
-    let mut image = vec![in alloc; 0u8; 4096]?;
-    for (at, byte) in program.0.iter().enumerate() {
-        if let Some(cell) = image.get_mut(at) {
-            *cell = *byte;
-        }
-    }
-    if let Some(cell) = image.get_mut(0xFFD) {
-        *cell = 0xF0;
-    }
-    Ok(image)
-}
-
-/// The text of a movie of so many frames; in every third one the left stick is pushed right.
-fn text_of(alloc: Global, program: Program, frames: usize) -> Result<String, Fail> {
-    let digest = program.1;
-    let mut text = format!(in alloc; "a26movie 1\ncart {digest}\n")?;
-    for frame in 0..frames {
-        let line = if frame % 3 == 1 {
-            "R.... ..... .....\n"
-        } else {
-            "..... ..... .....\n"
-        };
-        text.push_str(line)?;
-    }
-    Ok(text)
-}
-
-/// A reader of some bytes that fails at one of its reads, or ends, and gives the bytes again after that. It
-/// counts its reads.
-#[derive(Drop)]
-struct Again<'a> {
-    bytes: &'a [u8],
-    given: usize,
-    reads: usize,
-    fails_at: usize,
-}
-
-impl<'a> Read for Again<'a> {
-    fn read(&mut self, buf: &mut [u8]) -> io::Result<usize> {
-        self.reads = self.reads.saturating_add(1);
-        if self.reads == self.fails_at {
-            return Err(Error::from(ErrorKind::Other));
-        }
-        let rest = self.bytes.get(self.given..).unwrap_or(&[]);
-        let n = buf.len().min(rest.len());
-        buf[..n].copy_from_slice(&rest[..n]);
-        self.given = if n == 0 {
-            0
-        } else {
-            self.given.saturating_add(n)
-        };
-        Ok(n)
-    }
-}
-
-fn make_again<'a>(bytes: &'a [u8], fails_at: usize) -> Again<'a> {
-    Again {
-        bytes,
-        given: 0,
-        reads: 0,
-        fails_at,
-    }
-}
-
-/// A reader of so many zeros, which counts its reads.
-#[derive(Drop)]
-struct Zeros {
-    left: usize,
-    reads: usize,
-}
-
-impl Read for Zeros {
-    fn read(&mut self, buf: &mut [u8]) -> io::Result<usize> {
-        self.reads = self.reads.saturating_add(1);
-        let n = buf.len().min(self.left);
-        buf[..n].fill(0);
-        self.left -= n;
-        Ok(n)
-    }
-}
-
-/// A writer with room for so many bytes that takes at most 1,000 at a time and then fails. It counts the
-/// writes that failed.
-#[derive(Drop)]
-struct Room {
-    taken: Vec<u8>,
-    room: usize,
-    failed: usize,
-}
-
-impl Write for Room {
-    fn write(&mut self, buf: &[u8]) -> io::Result<usize> {
-        let n = buf.len().min(1000).min(self.room);
-        if n == 0 {
-            self.failed = self.failed.saturating_add(1);
-            return Err(Error::from(ErrorKind::Other));
-        }
-        match self.taken.extend_from_slice(&buf[..n]) {
-            Ok(()) => {
-                self.room -= n;
-                Ok(n)
-            }
-            Err(_) => Err(Error::from(ErrorKind::OutOfMemory)),
-        }
-    }
-
-    fn flush(&mut self) -> io::Result<()> {
-        Ok(())
-    }
-}
+const FOLDING: Program = Program {
+    bytes: b"\xAD\x80\x02\x65\x80\x85\x80\x85\x09\x4C\x00\xF0",
+    digest: "01cd4f43e4064c0915ec1dde6c9364a0d994bc18d980d88e45a83ec89a41c425",
+};
 
 /// How an export of a movie ends, and what it has written.
 fn export<R: Wait + Threads + Sync>(
@@ -187,8 +59,8 @@ fn shots(alloc: Global, image: &[u8], text: &str, from: usize, to: usize) -> Res
 #[test]
 fn one_frame_is_its_shot(rt: HostRuntime) -> Result<(), Fail> {
     let alloc = rt.alloc();
-    let image = image_of(alloc, PLAYFIELD)?;
-    let text = text_of(alloc, PLAYFIELD, 1)?;
+    let image = image_of(alloc, PLAYFIELD.bytes)?;
+    let text = text_of(alloc, PLAYFIELD, 1, RIGHT)?;
     let (image, text) = (image.as_slice(), text.as_str());
     let (end, output) = export(&rt, alloc, image, text, (0, 1), 4);
     assert_eq!(rt; end, Ok(()));
@@ -205,7 +77,7 @@ fn one_frame_is_its_shot(rt: HostRuntime) -> Result<(), Fail> {
 #[test]
 fn other_ranges_are_refused(rt: HostRuntime) -> Result<(), Fail> {
     let alloc = rt.alloc();
-    let image = image_of(alloc, PLAYFIELD)?;
+    let image = image_of(alloc, PLAYFIELD.bytes)?;
     for (from, to, len) in [
         (0, 2, 1),
         (1, 0, 1),
@@ -216,7 +88,7 @@ fn other_ranges_are_refused(rt: HostRuntime) -> Result<(), Fail> {
         (0, 1025, 1025),
         (1, 1026, 1026),
     ] {
-        let text = text_of(alloc, PLAYFIELD, len)?;
+        let text = text_of(alloc, PLAYFIELD, len, RIGHT)?;
         let (end, output) = export(&rt, alloc, image.as_slice(), text.as_str(), (from, to), 1);
         assert_eq!(rt; end, Err(ToolFault::Range { from, to, len }));
         assert!(rt; output.is_empty(), "{from} to {to} of {len}");
@@ -227,8 +99,8 @@ fn other_ranges_are_refused(rt: HostRuntime) -> Result<(), Fail> {
 #[test]
 fn every_number_of_workers_writes_the_shots(rt: HostRuntime) -> Result<(), Fail> {
     let alloc = rt.alloc();
-    let image = image_of(alloc, FOLDING)?;
-    let text = text_of(alloc, FOLDING, 20)?;
+    let image = image_of(alloc, FOLDING.bytes)?;
+    let text = text_of(alloc, FOLDING, 20, RIGHT)?;
     let (image, text) = (image.as_slice(), text.as_str());
     let pictures = shots(alloc, image, text, 2, 19)?;
     assert_eq!(rt; pictures.len(), 17 * PICTURE);
@@ -248,8 +120,8 @@ fn every_number_of_workers_writes_the_shots(rt: HostRuntime) -> Result<(), Fail>
 #[test]
 fn halted_frames_are_not_written(rt: HostRuntime) -> Result<(), Fail> {
     let alloc = rt.alloc();
-    let image = image_of(alloc, HALTING)?;
-    let text = text_of(alloc, HALTING, 5)?;
+    let image = image_of(alloc, HALTING.bytes)?;
+    let text = text_of(alloc, HALTING, 5, RIGHT)?;
     let (image, text) = (image.as_slice(), text.as_str());
     for range in [(1, 5), (3, 4), (4, 5), (0, 5)] {
         let (end, output) = export(&rt, alloc, image, text, range, 2);
@@ -269,8 +141,8 @@ fn halted_frames_are_not_written(rt: HostRuntime) -> Result<(), Fail> {
 #[test]
 fn the_longest_movie_is_exported(rt: HostRuntime) -> Result<(), Fail> {
     let alloc = rt.alloc();
-    let image = image_of(alloc, PLAYFIELD)?;
-    let text = text_of(alloc, PLAYFIELD, 65_536)?;
+    let image = image_of(alloc, PLAYFIELD.bytes)?;
+    let text = text_of(alloc, PLAYFIELD, 65_536, RIGHT)?;
     let (end, output) = export(&rt, alloc, image.as_slice(), text.as_str(), (0, 1), 1);
     assert_eq!(rt; end, Ok(()));
     assert_eq!(rt; output.len(), PICTURE);
@@ -281,15 +153,11 @@ fn the_longest_movie_is_exported(rt: HostRuntime) -> Result<(), Fail> {
 #[test]
 fn a_writer_that_fails_has_the_first_bytes(rt: HostRuntime) -> Result<(), Fail> {
     let alloc = rt.alloc();
-    let image = image_of(alloc, FOLDING)?;
-    let text = text_of(alloc, FOLDING, 4)?;
+    let image = image_of(alloc, FOLDING.bytes)?;
+    let text = text_of(alloc, FOLDING, 4, RIGHT)?;
     let pictures = shots(alloc, image.as_slice(), text.as_str(), 1, 3)?;
     for room in [0, 1, 20, PICTURE, PICTURE + 1, 2 * PICTURE - 1] {
-        let mut output = Room {
-            taken: Vec::new(alloc),
-            room,
-            failed: 0,
-        };
+        let mut output = Taker::new(alloc, 1000, Room::Bytes(room), Failure::Error);
         let mut cart = image.as_slice();
         let mut input = text.as_bytes();
         let end = export_run(&rt, alloc, 1, 3, 2, &mut cart, &mut input, &mut output);
@@ -308,8 +176,8 @@ fn a_writer_that_fails_has_the_first_bytes(rt: HostRuntime) -> Result<(), Fail> 
 #[test]
 fn an_export_does_not_read_on(rt: HostRuntime) -> Result<(), Fail> {
     let alloc = rt.alloc();
-    let image = image_of(alloc, PLAYFIELD)?;
-    let text = text_of(alloc, PLAYFIELD, 1)?;
+    let image = image_of(alloc, PLAYFIELD.bytes)?;
+    let text = text_of(alloc, PLAYFIELD, 1, RIGHT)?;
     for (cart_fails, text_fails, end, reads) in [
         (0, 0, Ok(()), (2, 2)),
         (1, 0, Err(ToolFault::Read), (1, 0)),
@@ -318,8 +186,8 @@ fn an_export_does_not_read_on(rt: HostRuntime) -> Result<(), Fail> {
         (0, 2, Err(ToolFault::Read), (2, 2)),
     ] {
         let mut output = Vec::new(alloc);
-        let mut cart = make_again(image.as_slice(), cart_fails);
-        let mut input = make_again(text.as_bytes(), text_fails);
+        let mut cart = Giver::new(image.as_slice(), usize::MAX, cart_fails);
+        let mut input = Giver::new(text.as_bytes(), usize::MAX, text_fails);
         let ended = export_run(&rt, alloc, 0, 1, 1, &mut cart, &mut input, &mut output);
         assert_eq!(rt; ended, end, "{reads:?}");
         assert_eq!(rt; (cart.reads, input.reads), reads);
@@ -331,20 +199,14 @@ fn an_export_does_not_read_on(rt: HostRuntime) -> Result<(), Fail> {
 #[test]
 fn an_input_past_the_limit_is_too_long(rt: HostRuntime) -> Result<(), Fail> {
     let alloc = rt.alloc();
-    let image = image_of(alloc, PLAYFIELD)?;
+    let image = image_of(alloc, PLAYFIELD.bytes)?;
     let mut output = Vec::new(alloc);
-    let mut cart = Zeros {
-        left: INPUT_LIMIT + 2,
-        reads: 0,
-    };
-    let mut input = Zeros { left: 10, reads: 0 };
+    let mut cart = Filler::new(0, INPUT_LIMIT + 2, 0);
+    let mut input = Filler::new(0, 10, 0);
     let end = export_run(&rt, alloc, 0, 1, 1, &mut cart, &mut input, &mut output);
     assert_eq!(rt; end, Err(ToolFault::TooLong));
     assert_eq!(rt; (cart.left, input.reads), (1, 0));
-    let mut text = Zeros {
-        left: INPUT_LIMIT + 2,
-        reads: 0,
-    };
+    let mut text = Filler::new(0, INPUT_LIMIT + 2, 0);
     let mut whole = image.as_slice();
     let end = export_run(&rt, alloc, 0, 1, 1, &mut whole, &mut text, &mut output);
     assert_eq!(rt; end, Err(ToolFault::TooLong));
@@ -357,8 +219,8 @@ fn an_input_past_the_limit_is_too_long(rt: HostRuntime) -> Result<(), Fail> {
 #[test]
 fn faults_of_an_export_come_in_order(rt: HostRuntime) -> Result<(), Fail> {
     let alloc = rt.alloc();
-    let image = image_of(alloc, PLAYFIELD)?;
-    let other = text_of(alloc, HALTING, 1)?;
+    let image = image_of(alloc, PLAYFIELD.bytes)?;
+    let other = text_of(alloc, HALTING, 1, RIGHT)?;
     let digest = ToolFault::Text(TextError {
         line: 2,
         kind: TextErrorKind::Digest,

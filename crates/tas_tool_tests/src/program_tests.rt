@@ -4,7 +4,7 @@ ghost use Rattle.std.specs.Prelude.{Some, if◌then◌else◌, codes};
 ghost use Rattle.std.specs.Prelude.{nat_eq};
 ghost use Rattle.std.specs.Cmp.Lexicographic.{pointwise};
 
-use super::*;
+use crate::movies::{PLAYFIELD, image_of};
 use std::alloc::Global;
 use std::env::Args;
 use std::io;
@@ -12,6 +12,7 @@ use std::io::{Error, ErrorKind};
 use std::sync::Wait;
 use std::test::Fail;
 use std::thread::Threads;
+use tas_program::{Folder, Task, read_words, run_program};
 
 /// A folder with the files `game.bin` and `other`.
 #[derive(Clone, Copy, Drop)]
@@ -93,27 +94,10 @@ fn run<T: Threads + Wait + Sync>(
     Ok(run_words(rt, alloc, Ok(words), TwoFiles { game: cart, other }, input))
 }
 
-/// A cartridge of zeros with these bytes at its start, where execution starts too.
-fn image_of(alloc: Global, program: &[u8]) -> Result<Vec<u8>, Fail> {
-    let mut bytes = vec![in alloc; 0u8; 4096]?;
-    for (place, byte) in program.iter().enumerate() {
-        if let Some(cell) = bytes.get_mut(place) {
-            *cell = *byte;
-        }
-    }
-    if let Some(cell) = bytes.get_mut(0xffd) {
-        *cell = 0xf0;
-    }
-    Ok(bytes)
-}
-
 /// LDA #42, STA 80, JMP F000.
 static STORES: &[u8] = b"\xa9\x42\x85\x80\x4c\x00\xf0";
 
-/// A playfield at the left edge of each half, drawn for ever: PF0 is 10 and COLUPF 1E.
-static PLAYFIELD: &[u8] = b"\xa9\x10\x85\x0d\xa9\x1e\x85\x08\x4c\x08\xf0";
-
-/// A movie of that cartridge, with one frame of nothing pressed. The digest comes from another program.
+/// A movie of the playfield's cartridge, with one frame of nothing pressed. The digest comes from another program.
 static ONE_FRAME: &[u8] =
     b"a26movie 1\ncart 820c64e9933496de683a000c5e11f0510fb7b1699b2ce86471295236b284906d\n..... ..... .....\n";
 
@@ -259,7 +243,7 @@ static MISUSES: [&[&str]; 40] = [
 #[test]
 fn other_words_end_with_status_2(rt: HostRuntime) -> Result<(), Fail> {
     let alloc = rt.alloc();
-    let cart = image_of(alloc, PLAYFIELD)?;
+    let cart = image_of(alloc, PLAYFIELD.bytes)?;
     for (number, words) in MISUSES.iter().enumerate() {
         let ran = run(&rt, alloc, words, cart.as_slice(), ONE_FRAME)?;
         assert_eq!(rt; ran.code, 2, "words {number}");
@@ -372,7 +356,7 @@ fn playfield_picture(alloc: Global) -> Result<Vec<u8>, Fail> {
 fn each_command_writes_its_answer(rt: HostRuntime) -> Result<(), Fail> {
     let alloc = rt.alloc();
     let stores = image_of(alloc, STORES)?;
-    let cart = image_of(alloc, PLAYFIELD)?;
+    let cart = image_of(alloc, PLAYFIELD.bytes)?;
     let picture = playfield_picture(alloc)?;
     let mut movie = Vec::from_slice(alloc, ONE_FRAME)?;
     movie.extend_from_slice(b"R.... ..... .....\n")?;
@@ -407,7 +391,7 @@ fn each_command_writes_its_answer(rt: HostRuntime) -> Result<(), Fail> {
 #[test]
 fn faults_end_with_status_1(rt: HostRuntime) -> Result<(), Fail> {
     let alloc = rt.alloc();
-    let cart = image_of(alloc, PLAYFIELD)?;
+    let cart = image_of(alloc, PLAYFIELD.bytes)?;
     let cart = cart.as_slice();
     let cases: [(&[&str], &[u8], &[u8], &[u8], &[u8]); 9] = [
         (
@@ -532,7 +516,7 @@ static THREE_FRAMES: &[u8] =
 #[test]
 fn commands_of_two_files_write_their_answers(rt: HostRuntime) -> Result<(), Fail> {
     let alloc = rt.alloc();
-    let cart = image_of(alloc, PLAYFIELD)?;
+    let cart = image_of(alloc, PLAYFIELD.bytes)?;
     // The words, the file `other`, the input, and what the program then writes and tells, by hand.
     let cases: [(&[&str], &[u8], &[u8], &[u8], &[u8]); 14] = [
         (

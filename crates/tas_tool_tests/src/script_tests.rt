@@ -1,10 +1,9 @@
 //! Whole scripts.
 
-use super::*;
 use std::alloc::Global;
-use std::io;
-use std::io::{Error, ErrorKind, Read, Write};
 use std::sync::Wait;
+use tas_tool::{INPUT_LIMIT, ToolFault, script_run};
+use test_streams::{Failure, Filler, Room, Taker};
 
 /// What a script writes, and how it ends.
 fn written<R: Wait>(rt: &R, alloc: Global, script: &[u8]) -> (Vec<u8>, Result<(), ToolFault>) {
@@ -107,35 +106,6 @@ fn shots_are_answered_as_by_hand(rt: HostRuntime) {
     }
 }
 
-/// A writer that takes seven bytes at each call, up to so many in all, and counts its calls.
-#[derive(Drop)]
-struct Narrow {
-    taken: Vec<u8>,
-    room: usize,
-    writes: usize,
-}
-
-impl Write for Narrow {
-    fn write(&mut self, buf: &[u8]) -> io::Result<usize> {
-        self.writes = self.writes.saturating_add(1);
-        let n = buf.len().min(7).min(self.room);
-        if n == 0 {
-            return Err(Error::from(ErrorKind::Other));
-        }
-        match self.taken.extend_from_slice(&buf[..n]) {
-            Ok(()) => {
-                self.room -= n;
-                Ok(n)
-            }
-            Err(_) => Err(Error::from(ErrorKind::OutOfMemory)),
-        }
-    }
-
-    fn flush(&mut self) -> io::Result<()> {
-        Ok(())
-    }
-}
-
 /// A write of a few bytes is no failed one, and a failed one is the last; the replies before a line that isn't understood
 /// are written.
 #[test]
@@ -149,11 +119,7 @@ fn replies_go_out_in_small_pieces(rt: HostRuntime) {
         (7, Err(ToolFault::Write { written: 7 })),
         (0, Err(ToolFault::Write { written: 0 })),
     ] {
-        let mut output = Narrow {
-            taken: Vec::new(alloc),
-            room,
-            writes: 0,
-        };
+        let mut output = Taker::new(alloc, 7, Room::Bytes(room), Failure::Error);
         let mut input = b"len\ndelete 0 0\nlen".as_slice();
         assert_eq!(rt;
             script_run(&rt, alloc, &mut input, &mut output),
@@ -167,27 +133,6 @@ fn replies_go_out_in_small_pieces(rt: HostRuntime) {
     }
 }
 
-/// A reader of so many spaces that fails at one of its reads, and counts them.
-#[derive(Drop)]
-struct Spaces {
-    left: usize,
-    reads: usize,
-    fails_at: usize,
-}
-
-impl Read for Spaces {
-    fn read(&mut self, buf: &mut [u8]) -> io::Result<usize> {
-        self.reads = self.reads.saturating_add(1);
-        if self.reads == self.fails_at {
-            return Err(Error::from(ErrorKind::Other));
-        }
-        let n = buf.len().min(self.left);
-        buf[..n].fill(b' ');
-        self.left -= n;
-        Ok(n)
-    }
-}
-
 #[test]
 fn a_script_that_is_not_read_is_not_answered(rt: HostRuntime) {
     let alloc = rt.alloc();
@@ -198,11 +143,7 @@ fn a_script_that_is_not_read_is_not_answered(rt: HostRuntime) {
         (INPUT_LIMIT, 0, ToolFault::Script { line: 1 }, 4097),
         (INPUT_LIMIT + 1, 0, ToolFault::TooLong, 4097),
     ] {
-        let mut input = Spaces {
-            left,
-            reads: 0,
-            fails_at,
-        };
+        let mut input = Filler::new(b' ', left, fails_at);
         let mut output = Vec::new(alloc);
         let end = script_run(&rt, alloc, &mut input, &mut output);
         assert_eq!(rt; end, Err(fault), "{left} bytes");

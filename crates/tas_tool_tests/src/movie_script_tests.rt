@@ -1,43 +1,14 @@
 //! Whole scripts over a movie.
 
-use super::*;
+use crate::movies::{IDLE, PLAYFIELD, image_of, text_of};
 use std::alloc::Global;
 use std::sync::Wait;
 use std::test::Fail;
 use tas_movie::{TextError, TextErrorKind};
+use tas_tool::{ToolFault, movie_script_run, script_run};
 
-/// A playfield, drawn for ever.
-static PROGRAM: &[u8] = b"\xa9\x10\x85\x0d\xa9\x1e\x85\x08\x4c\x08\xf0";
-
-/// The line that loads its cartridge.
+/// The line that loads the playfield's cartridge.
 static LOAD: &[u8] = b"load 000=A910850DA91E85084C08F0 FFC=00F0\n";
-
-/// The two first lines of a movie of that cartridge. The digest comes from another program.
-static HEAD: &[u8] =
-    b"a26movie 1\ncart 820c64e9933496de683a000c5e11f0510fb7b1699b2ce86471295236b284906d\n";
-
-fn image_of(alloc: Global) -> Result<Vec<u8>, Fail> {
-    let mut bytes = vec![in alloc; 0u8; 4096]?;
-    for (place, byte) in PROGRAM.iter().enumerate() {
-        if let Some(cell) = bytes.get_mut(place) {
-            *cell = *byte;
-        }
-    }
-    if let Some(cell) = bytes.get_mut(0xffd) {
-        *cell = 0xf0;
-    }
-    Ok(bytes)
-}
-
-/// The text of a movie of so many frames of nothing pressed.
-fn text_of(alloc: Global, frames: usize) -> Result<Vec<u8>, Fail> {
-    let mut text = Vec::new(alloc);
-    text.extend_from_slice(HEAD)?;
-    for _ in 0..frames {
-        text.extend_from_slice(b"..... ..... .....\n")?;
-    }
-    Ok(text)
-}
 
 /// What a script over a movie writes, and how it ends.
 fn written<R: Wait>(
@@ -65,9 +36,9 @@ static REPLIES: &[u8] =
 #[test]
 fn a_script_goes_on_from_its_movie(rt: HostRuntime) -> Result<(), Fail> {
     let alloc = rt.alloc();
-    let cart = image_of(alloc)?;
-    let movie = text_of(alloc, 3)?;
-    let (output, end) = written(&rt, alloc, cart.as_slice(), movie.as_slice(), LINES);
+    let cart = image_of(alloc, PLAYFIELD.bytes)?;
+    let movie = text_of(alloc, PLAYFIELD, 3, IDLE)?;
+    let (output, end) = written(&rt, alloc, cart.as_slice(), movie.as_bytes(), LINES);
     assert_eq!(rt; end, Ok(()));
     assert_eq!(rt; output.as_slice(), REPLIES);
     let mut script = Vec::new(alloc);
@@ -85,7 +56,7 @@ fn a_script_goes_on_from_its_movie(rt: HostRuntime) -> Result<(), Fail> {
 #[test]
 fn movies_of_no_frames_and_of_the_most_are_made(rt: HostRuntime) -> Result<(), Fail> {
     let alloc = rt.alloc();
-    let cart = image_of(alloc)?;
+    let cart = image_of(alloc, PLAYFIELD.bytes)?;
     let cases: [(usize, &[u8], &[u8]); 3] = [
         (0, b"", b""),
         (
@@ -100,8 +71,8 @@ fn movies_of_no_frames_and_of_the_most_are_made(rt: HostRuntime) -> Result<(), F
         ),
     ];
     for (frames, lines, replies) in cases {
-        let movie = text_of(alloc, frames)?;
-        let (output, end) = written(&rt, alloc, cart.as_slice(), movie.as_slice(), lines);
+        let movie = text_of(alloc, PLAYFIELD, frames, IDLE)?;
+        let (output, end) = written(&rt, alloc, cart.as_slice(), movie.as_bytes(), lines);
         assert_eq!(rt; end, Ok(()), "{frames} frames");
         assert_eq!(rt; output.as_slice(), replies, "{frames} frames");
     }
@@ -111,8 +82,8 @@ fn movies_of_no_frames_and_of_the_most_are_made(rt: HostRuntime) -> Result<(), F
 #[test]
 fn faults_over_a_movie_come_in_order(rt: HostRuntime) -> Result<(), Fail> {
     let alloc = rt.alloc();
-    let cart = image_of(alloc)?;
-    let movie = text_of(alloc, 1)?;
+    let cart = image_of(alloc, PLAYFIELD.bytes)?;
+    let movie = text_of(alloc, PLAYFIELD, 1, IDLE)?;
     let bad = b"a26movie 1\n".as_slice();
     let text = TextError {
         line: 2,
@@ -129,14 +100,14 @@ fn faults_over_a_movie_come_in_order(rt: HostRuntime) -> Result<(), Fail> {
         ),
         (
             cart.as_slice(),
-            movie.as_slice(),
+            movie.as_bytes(),
             b"len\nx\n",
             b"len 2 1\n",
             ToolFault::Script { line: 2 },
         ),
         (
             cart.as_slice(),
-            movie.as_slice(),
+            movie.as_bytes(),
             b"len",
             b"",
             ToolFault::Script { line: 1 },
@@ -148,7 +119,7 @@ fn faults_over_a_movie_come_in_order(rt: HostRuntime) -> Result<(), Fail> {
         assert!(rt; output.as_slice() == *replies, "case {number}");
     }
     let mut cart = cart.as_slice();
-    let mut movie = movie.as_slice();
+    let mut movie = movie.as_bytes();
     let mut input = b"len\n".as_slice();
     let mut room = [0u8; 5];
     let mut output = room.as_mut_slice();

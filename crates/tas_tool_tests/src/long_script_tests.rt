@@ -15,11 +15,11 @@
 //! - `000=A910850DA91E85084C08F0 FFC=00F0` draws four pixels in each half of each line, so `lit` is 1,680.
 //! - `000=A203A9028500A9008500CAD0F502 FFC=00F0` ends three frames at once, and halts at F00D in its fourth.
 
-use super::*;
 use std::alloc::Global;
 use std::process::Abort;
 use std::test::Fail;
 use tas_script::split_once;
+use tas_tool::script_run;
 
 /// Each line, a bar, and its reply.
 static TURNS: &str = "\

@@ -1,0 +1,15 @@
+//! What scripts, exports and the whole program do when they run, over readers, writers, words and files of the tests' own.
+#![tactic(auto)]
+
+#[cfg(test)]
+mod export_tests;
+#[cfg(test)]
+mod long_script_tests;
+#[cfg(test)]
+mod movie_script_tests;
+#[cfg(test)]
+mod movies;
+#[cfg(test)]
+mod program_tests;
+#[cfg(test)]
+mod script_tests;

@@ -1,0 +1,58 @@
+//! Cartridges and movies of the tests.
+
+use std::alloc::Global;
+use std::test::Fail;
+
+/// A program at F000, and the SHA-256 of its cartridge by another program.
+#[derive(Clone, Copy, Drop)]
+pub struct Program {
+    pub bytes: &'static [u8],
+    pub digest: &'static str,
+}
+
+/// `000=A910850DA91E85084C08F0 FFC=00F0`: a playfield at the left edge of each half, drawn for ever.
+pub const PLAYFIELD: Program = Program {
+    bytes: b"\xA9\x10\x85\x0D\xA9\x1E\x85\x08\x4C\x08\xF0",
+    digest: "820c64e9933496de683a000c5e11f0510fb7b1699b2ce86471295236b284906d",
+};
+
+/// `000=A203A9028500A9008500CAD0F502 FFC=00F0`: three frames, then the undocumented opcode 02 at F00D.
+pub const HALTING: Program = Program {
+    bytes: b"\xA2\x03\xA9\x02\x85\x00\xA9\x00\x85\x00\xCA\xD0\xF5\x02",
+    digest: "c914dfbc057cd1e5dd9cefcba07cec773cc85a8be3a04676377b60ded704d22d",
+};
+
+/// Nothing pressed.
+pub const IDLE: &str = "..... ..... .....\n";
+
+/// The left stick pushed right.
+pub const RIGHT: &str = "R.... ..... .....\n";
+
+/// The cartridge with a program at F000, where execution starts too; all other bytes are 0.
+pub fn image_of(alloc: Global, program: &[u8]) -> Result<Vec<u8>, Fail> {
+    let mut image = vec![in alloc; 0u8; 4096]?;
+    for (at, byte) in program.iter().enumerate() {
+        if let Some(cell) = image.get_mut(at) {
+            *cell = *byte;
+        }
+    }
+    if let Some(cell) = image.get_mut(0xFFD) {
+        *cell = 0xF0;
+    }
+    Ok(image)
+}
+
+/// The text of a movie of so many frames: frames 1, 4, 7 and so on are the line `third`, all others have nothing pressed.
+pub fn text_of(
+    alloc: Global,
+    program: Program,
+    frames: usize,
+    third: &str,
+) -> Result<String, Fail> {
+    let digest = program.digest;
+    let mut text = format!(in alloc; "a26movie 1\ncart {digest}\n")?;
+    for frame in 0..frames {
+        text.push_str(if frame % 3 == 1 { third } else { IDLE })?;
+    }
+    Ok(text)
+}
