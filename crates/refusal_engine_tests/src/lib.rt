@@ -8,8 +8,6 @@ mod growth_tests;
 #[cfg(test)]
 mod inputs;
 #[cfg(test)]
-mod pieces;
-#[cfg(test)]
 mod read_tests;
 #[cfg(test)]
 mod write_tests;

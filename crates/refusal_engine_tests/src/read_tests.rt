@@ -2,12 +2,12 @@
 
 use crate::engines::{ENGINES, Engine, run, run_whole};
 use crate::inputs::{Bytes, make_inputs};
-use crate::pieces::Giver;
 use std::alloc::Global;
 use std::sync::Wait;
 use std::test::Fail;
 use std::thread::Threads;
 use tas_tool::ToolFault;
+use test_streams::Giver;
 
 /// No engine reads one input so often here.
 const MOST: usize = 100;
@@ -45,7 +45,7 @@ fn run_failing<T: Wait + Threads + Sync>(
     );
     Done {
         end,
-        reads: [first.reads(), second.reads(), third.reads()],
+        reads: [first.reads, second.reads, third.reads],
         written,
     }
 }

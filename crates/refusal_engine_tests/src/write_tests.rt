@@ -2,13 +2,13 @@
 
 use crate::engines::{Engine, run_whole};
 use crate::inputs::make_inputs;
-use crate::pieces::{Failure, Taker};
 use std::alloc::Global;
 use std::process::Abort;
 use std::sync::Wait;
 use std::test::Fail;
 use std::thread::Threads;
 use tas_tool::ToolFault;
+use test_streams::{Failure, Room, Taker};
 
 /// No engine writes so often here.
 const MOST: usize = 1000;
@@ -27,28 +27,28 @@ fn fail_each<T: Wait + Threads + Abort + Sync>(
     let end = run_whole(rt, alloc, alloc, engine, &bytes, &mut whole);
     assert_eq!(rt; end, Ok(()));
     let mut failed = 0;
-    for write in 1..MOST {
-        let mut output = Taker::new(alloc, at_once, write, failure);
+    for taken in 0..MOST {
+        let mut output = Taker::new(alloc, at_once, Room::Writes(taken), failure);
         let end = run_whole(rt, alloc, alloc, engine, &bytes, &mut output);
         if end.is_ok() {
-            assert!(rt; output.taken() == whole.as_slice(), "{engine:?}");
+            assert!(rt; output.taken == whole, "{engine:?}");
             break;
         }
-        let written = output.taken().len();
+        let written = output.taken.len();
         assert_eq!(rt;
             end,
             Err(ToolFault::Write { written }),
-            "{engine:?} {write}"
+            "{engine:?} {taken}"
         );
         assert!(rt;
-            whole.as_slice().starts_with(output.taken()),
-            "{engine:?} {write}"
+            whole.starts_with(output.taken.as_slice()),
+            "{engine:?} {taken}"
         );
         assert!(rt;
-            output.writes() == write && written < whole.len(),
-            "{engine:?} {write}"
+            output.writes == taken + 1 && output.failed == 1 && written < whole.len(),
+            "{engine:?} {taken}"
         );
-        failed = write;
+        failed = taken + 1;
     }
     assert!(rt; failed > 0, "{engine:?}");
     Ok(())
