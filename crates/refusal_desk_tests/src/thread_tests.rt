@@ -120,7 +120,7 @@ fn were_right<'a, N: Name, R: Wait>(
     let mut refused = 0u64;
     for player in players {
         refused = refused.saturating_add(player.refused);
-        let is_right = player.wrong.is_none() && player.edits.len() <= 2;
+        let is_right = player.wrong.is_none() && player.edits.is_empty();
         if !is_right || !player.looks(desk) || !player.shot(heap, desk, sums) {
             return Run::Wrong;
         }
