@@ -3,15 +3,10 @@ use Rattle.std.proofs.Common.{ℕ, ◌+◌, [], ◌∷◌}
 use Rattle.std.proofs.alloc.Calls.{Al, α}
 use mir.Syntax.{Args, a_type, dnil, dcons}
 use prog.Memory.{align, up}
-use denote.Builtin.{u64, RefOf}
+use denote.Builtin.{RefOf}
 use denote.Param.{bounded, param}
-use denote.RattleType.{RattleType}
 use denote.Signature.{Slot, plain}
-use Rattle.std.specs.contracts.cell.Cell as cell
 use Rattle.refusals.specs.contracts.Refusing as refusing
-
-abbrev pub Count : RattleType
-Count = cell.the_row u64
 
 module _ (inner : Al) where
   abbrev pub arguments : Args

@@ -1,18 +1,18 @@
 //! An allocator that refuses one of its growths, so that a test can see what a call leaves behind where memory is refused in
-//! its middle.
+//! its middle. Threads may share it.
 #![tactic(auto)]
 
 ghost use Rattle.std.specs.Prelude.{◌≡◌, ◌↔◌, ◌≤◌, ◌-◌, IsTrue};
 
 use std::alloc::{AllocError, Allocator};
-use std::cell::Cell;
+use std::sync::atomic::{AtomicU64, Ordering};
 
 /// An allocator that hands each call on to another one, but for one growth, which it refuses (own). A growth is a call of
 /// `allocate`; those of `grow` and `shrink` call it once each.
 ///
 /// It is lent: `&Refusing` is an allocator, and `Copy`, so it fits each call that takes its memory from one.
 pub struct Refusing<B: Allocator> {
-    to_come: Cell<u64>,
+    to_come: AtomicU64,
     inner: B,
 }
 
@@ -22,7 +22,7 @@ impl<B: Allocator> Refusing<B> {
         requires { 1 ≤ number }
     {
         Refusing {
-            to_come: Cell::new(number),
+            to_come: AtomicU64::new(number),
             inner,
         }
     }
@@ -31,12 +31,12 @@ impl<B: Allocator> Refusing<B> {
     pub fn refuse(&self, number: u64)
         requires { 1 ≤ number }
     {
-        self.to_come.set(number);
+        self.to_come.store(number, Ordering::SeqCst);
     }
 
     /// Whether the growth that is refused has been asked for.
     pub fn has_refused(&self) -> bool {
-        is_behind(self.to_come.get())
+        is_behind(self.to_come.load(Ordering::SeqCst))
     }
 }
 
@@ -71,10 +71,13 @@ fn after_next(to_come: u64) -> u64
 }
 
 /// Counts a growth, and answers whether it is the one that is refused.
-fn refuses_next(to_come: &Cell<u64>) -> bool {
-    let before = to_come.get();
-    to_come.set(after_next(before));
-    is_next(before)
+fn refuses_next(to_come: &AtomicU64) -> bool {
+    let before = to_come.fetch_update(
+        Ordering::SeqCst,
+        Ordering::SeqCst,
+        |to_come| Some(after_next(to_come)),
+    );
+    before.is_ok_and(is_next)
 }
 
 unsafe impl<B: Allocator> Allocator for Refusing<B> {

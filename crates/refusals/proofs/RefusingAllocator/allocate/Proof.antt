@@ -45,7 +45,7 @@ allocate_spec 𝓤 𝓛 𝓜 𝓡 wired B laws ghosts dict drops inner_met _ =
     enter ! 𝓣.C 𝓣.Λ here _ _ $ alloc_all ! (λ l. pass_all ! refl ((tt, tt), ((tt, record { fits = are.1.0.1 }), ((tt, record { fits = are.1.1.0.1 }), tt))) $
     sets ! (addr ! (through ! refl (fld ! refl (stop !)))) refl (tt, tt) $
     let G = triple_of 𝓛 g.signature (g.spec 𝓛 𝓜.mem 𝓡.returns) in let p = count_at inner at in
-    let z : G.Ghost = (((κ, tt), (q, tt), tt, (record { ref_ptr = p; now = record { value = tt } }, tt), (vptr p.0 p.1 ∷ [], tt)), tt) in
+    let z : G.Ghost = (((κ, tt), (q, tt), tt, (record { ref_ptr = p; now = tt }, tt), (vptr p.0 p.1 ∷ [], tt)), tt) in
     feq_i ! (List Val) (vptr p.0 p.1 ∷ []) (vptr p.0 p.1 ∷ []) refl $ fjoin ! $ nothing ! $ move ! (1 ∷ 0 ∷ []) $ fjoin ! $
     nothing ! $ move ! (2 ∷ 0 ∷ []) $ join ! $ join ! $ nothing ! $ move ! (1 ∷ 0 ∷ []) $ use2 𝓛 (raw (G.pre z)) (id⊢ 𝓤 _) $
     calls_at ! (framed 𝓤 𝓛.H 𝓜 𝓣) G (met 𝓤 𝓛 𝓜 𝓡 (code.calls-refusals::refuses_next 𝓡.env wired)) z (and_then ! (get ! refl) (no_more !)) (λ u.
