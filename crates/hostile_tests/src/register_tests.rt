@@ -4,6 +4,7 @@ use crate::images::{cart_with, frames_of, program, traced};
 use std::alloc::Global;
 use std::test::Fail;
 use vcs_cpu::Halt;
+use vcs_machine::Cart;
 
 /// What is read right after power-on with nothing pressed, outside the cartridge: from the TIA, the RAM, the ports or the
 /// timer. (docs/MACHINE.md, sections 3, 5 and 6)
@@ -33,22 +34,38 @@ fn jump_lines(alloc: Global, address: u16) -> Result<String, Fail> {
     })
 }
 
+/// The cartridge that jumps to an address, and to its start again at BRK.
+fn jump_to(alloc: Global, address: u16) -> Result<Cart, Fail> {
+    let [low, high] = address.to_le_bytes();
+    let vectors: &[u8] = &[0x00, 0xf0, 0x00, 0xf0];
+    cart_with(alloc, &[(0, &[0x4c, low, high]), (0xffc, vectors)])
+}
+
 #[test]
-fn code_runs_at_each_register(rt: HostRuntime) -> Result<(), Fail> {
+fn code_runs_at_each_address(rt: HostRuntime) -> Result<(), Fail> {
     let alloc = rt.alloc();
     for address in (0..0x100u16).chain(0x280..0x300) {
-        let [low, high] = address.to_le_bytes();
-        let vectors: &[u8] = &[0x00, 0xf0, 0x00, 0xf0];
-        let cart = cart_with(alloc, &[(0, &[0x4c, low, high]), (0xffc, vectors)])?;
+        let cart = jump_to(alloc, address)?;
         let lines = jump_lines(alloc, address)?;
         assert_eq!(rt;
             traced(alloc, &cart, 3)?.as_slice(),
             lines.as_bytes(),
             "{address:04X}"
         );
+    }
+    Ok(())
+}
+
+// Where BRK stands it writes all over the TIA and the RAM, again and again. The addresses are those of the TIA's sixteen
+// registers, the RAM's first byte, the ports' four and the timer's two; the others show the same ones again.
+#[test]
+fn frames_of_code_at_each_register(rt: HostRuntime) -> Result<(), Fail> {
+    let alloc = rt.alloc();
+    for address in (0..0x10u16).chain(0x80..0x81).chain(0x280..0x286) {
+        let cart = jump_to(alloc, address)?;
         let played = frames_of(alloc, &cart, 2)?;
         assert!(rt; played.alike, "{address:04X}");
-        // Where BRK stands, it writes over the TIA, until a latch may become another instruction.
+        // A latch may become another instruction, so BRK may come to a halt too.
         let is_halted = played.state.halted().is_some();
         assert!(rt; is_halted || first_read(address) == 0, "{address:04X}");
     }
