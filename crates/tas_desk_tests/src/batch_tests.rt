@@ -6,7 +6,6 @@ use std::alloc::Global;
 use std::process::Abort;
 use std::sync::Wait;
 use std::test::Fail;
-use std::thread::Threads;
 use tas_desk::{CloseOnDrop, Desk, Name, OfferError, Offered, Seat};
 use tas_green::Batch;
 
@@ -44,28 +43,51 @@ fn change<N: Name, W: CloseOnDrop, R: Wait + Abort>(
     Ok(())
 }
 
-/// Three batches of 200 frames: two are offered once input 100 is another one, the third behind another cartridge.
-pub fn offer_three_batches<N: Name, R: Threads + Wait + Abort + Sync>(
+/// A movie of 200 frames, and three batches of all of them.
+fn make_batches<N: Name, W: CloseOnDrop, R: Wait + Abort>(
     rt: &R,
     alloc: Global,
-    desk: &Desk<N, &R>,
+    desk: &Desk<N, W>,
     seat: &mut Seat<N>,
-) -> Result<(), Fail> {
+) -> Result<(Batch, Batch, Batch), Fail> {
     change(rt, alloc, desk, seat, Change::Load(PLAYFIELD))?;
     change(rt, alloc, desk, seat, Change::Insert(0, 200))?;
-    let first = desk.job(rt, alloc, seat, 200)?.run();
-    let second = desk.job(rt, alloc, seat, 200)?.run();
-    let third = desk.job(rt, alloc, seat, 200)?.run();
-    change(rt, alloc, desk, seat, Change::ReplaceRight(100))?;
+    let first = desk.job(rt, alloc, seat, 200)?;
+    let second = desk.job(rt, alloc, seat, 200)?;
+    let third = desk.job(rt, alloc, seat, 200)?;
+    Ok((first.run(), second.run(), third.run()))
+}
+
+/// Makes an edit and offers a batch behind it: the answer, and how many states the seat's zone gains then.
+fn offer_behind<N: Name, W: CloseOnDrop, R: Wait + Abort>(
+    rt: &R,
+    alloc: Global,
+    desk: &Desk<N, W>,
+    seat: &mut Seat<N>,
+    edit: Change,
+    batch: Batch,
+) -> Result<(Answered, usize), Fail> {
+    change(rt, alloc, desk, seat, edit)?;
+    let answered = offer(rt, desk, seat, batch);
+    Ok((answered, desk.share(rt, seat)?))
+}
+
+/// Three batches of 200 frames: two are offered once input 100 is another one, the third behind another cartridge.
+pub fn offer_three_batches<N: Name, W: CloseOnDrop, R: Wait + Abort>(
+    rt: &R,
+    alloc: Global,
+    desk: &Desk<N, W>,
+    seat: &mut Seat<N>,
+) -> Result<(), Fail> {
+    let (first, second, third) = make_batches(rt, alloc, desk, seat)?;
     let (at, front) = (3, 100);
-    let gained = Offered { at, front, kept: 1 };
-    assert_eq!(rt; offer(rt, desk, seat, first), Answered::Taken(gained));
-    let nothing = Offered { at, front, kept: 0 };
-    assert_eq!(rt; offer(rt, desk, seat, second), Answered::Taken(nothing));
-    assert_eq!(rt; desk.share(rt, seat).ok(), Some(1));
-    change(rt, alloc, desk, seat, Change::Load(HALTING))?;
-    assert_eq!(rt; offer(rt, desk, seat, third), Answered::OtherCartridge(4));
-    assert_eq!(rt; desk.share(rt, seat).ok(), Some(0));
+    let gained = Answered::Taken(Offered { at, front, kept: 1 });
+    let told = offer_behind(rt, alloc, desk, seat, Change::ReplaceRight(100), first)?;
+    assert!(rt; told == (gained, 1), "{told:?}");
+    let nothing = Answered::Taken(Offered { at, front, kept: 0 });
+    assert_eq!(rt; offer(rt, desk, seat, second), nothing);
+    let told = offer_behind(rt, alloc, desk, seat, Change::Load(HALTING), third)?;
+    assert!(rt; told == (Answered::OtherCartridge(4), 0), "{told:?}");
     Ok(())
 }
 
