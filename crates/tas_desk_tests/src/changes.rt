@@ -32,6 +32,8 @@ pub enum Change {
     Insert(usize, usize),
     /// One input with the left stick pushed right, at a place.
     InsertRight(usize),
+    /// One input with the left fire pressed, at a place.
+    InsertFire(usize),
     /// So many inputs with nothing pressed over those at a place.
     Replace(usize, usize),
     /// One input with the left stick pushed right over that at a place.
@@ -59,6 +61,13 @@ pub fn right() -> Input {
     input
 }
 
+/// The left fire pressed.
+pub fn fire() -> Input {
+    let mut input = Input::none();
+    input.left.fire = true;
+    input
+}
+
 /// So many equal inputs.
 pub fn copies(alloc: Global, input: Input, count: usize) -> Result<Inputs, AllocError> {
     Ok(Inputs::from_vec(vec![in alloc; input; count]?))
@@ -75,6 +84,10 @@ pub fn edit_of(alloc: Global, change: Change) -> Result<Edit, AllocError> {
         Change::InsertRight(at) => Edit::Insert {
             at,
             inputs: copies(alloc, right(), 1)?,
+        },
+        Change::InsertFire(at) => Edit::Insert {
+            at,
+            inputs: copies(alloc, fire(), 1)?,
         },
         Change::Replace(at, count) => Edit::Replace {
             at,

@@ -1,7 +1,7 @@
 //! Desks by hand, on one thread: each call with its answer.
 
 use crate::calls::Call;
-use crate::changes::{Change, HALT, HALTING, PLAYFIELD, right};
+use crate::changes::{Change, HALT, HALTING, PLAYFIELD, fire};
 use crate::desks::{Task, play};
 use crate::sessions::history;
 use std::test::Fail;
@@ -50,9 +50,10 @@ fn a_fresh_desk_has_no_frames(rt: HostRuntime) -> Result<(), Fail> {
 fn a_seat_sees_the_other_s_edit(rt: HostRuntime) -> Result<(), Fail> {
     let calls = [
         Call::Len(1, 0, 0),
-        Call::Made(0, Change::InsertRight(0), 1, 1),
+        Call::Made(0, Change::InsertFire(0), 1, 1),
         Call::Len(1, 1, 1),
-        Call::Input(1, 0, Ok((1, right()))),
+        Call::Input(1, 0, Ok((1, fire()))),
+        Call::Meet(1),
         Call::Made(0, Change::Insert(0, 1), 2, 2),
         Call::Input(1, 0, Ok((2, Input::none()))),
         Call::NotDrawn(1, 2, ShotError::NoFrame { at: 2, len: 2 }),

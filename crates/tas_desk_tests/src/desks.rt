@@ -3,6 +3,7 @@
 ghost use Rattle.std.specs.Prelude.{◌≡◌, ◌≤◌};
 ghost use Rattle.tas_desk.specs.Seats.{name_of};
 
+use crate::batch_tests::offer_three_batches;
 use crate::calls::{Call, take_calls};
 use crate::changes::Change;
 use crate::export_tests::{
@@ -30,6 +31,8 @@ pub enum Task<'a> {
     Turns(&'a [Habit], usize),
     /// One seat edits while the other's job stands in its gate, and what the work answers.
     EditInTheGate(Change, Worked),
+    /// Three batches are offered, with edits between them.
+    ThreeBatches,
     /// Exports of so many frames by each number of workers.
     ExportByEach(usize),
     /// Exports whose workers wait for each other.
@@ -58,6 +61,7 @@ fn take_in_turn<N: Name + Send + Sync, R: Threads + Wait + Abort + Sync>(
     }
     let seat = seats.first_mut().ok_or("a seat")?;
     match task {
+        Task::ThreeBatches => offer_three_batches(rt, alloc, desk, seat),
         Task::ExportByEach(frames) => export_by_each(rt, alloc, desk, seat, frames),
         Task::ExportThroughGates => export_through_gates(rt, alloc, desk, seat),
         Task::ExportUntilHalted => export_until_halted(rt, alloc, desk, seat),

@@ -1,6 +1,6 @@
 //! Movies played plainly from power-on, and what the calls of a desk tell of them.
 
-use crate::changes::{Change, cart, edit_of, right};
+use crate::changes::{Change, cart, edit_of, fire, right};
 use crate::sums::{Sum, sum_of};
 use std::alloc::{AllocError, Global};
 use tas_desk::{Entry, MAX_EXPORT};
@@ -103,6 +103,9 @@ pub fn is_change(alloc: Global, edit: &Edit, change: Change) -> Result<bool, All
         }
         (Edit::Insert { at, inputs }, Change::InsertRight(place)) => {
             *at == place && are_copies(inputs.as_slice(), right(), 1)
+        }
+        (Edit::Insert { at, inputs }, Change::InsertFire(place)) => {
+            *at == place && are_copies(inputs.as_slice(), fire(), 1)
         }
         (Edit::Replace { at, inputs }, Change::Replace(place, count)) => {
             *at == place && are_copies(inputs.as_slice(), Input::none(), count)

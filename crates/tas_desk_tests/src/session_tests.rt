@@ -8,7 +8,7 @@ use std::sync::Wait;
 use std::test::Fail;
 use tas_desk::{
     EditError, InputError, MAX_EDITS, NoEntry, OfferError, Offered, OpenError, Receipt, Session,
-    ShotError,
+    ShotError, WorkError, Worked,
 };
 use tas_green::Batch;
 use vcs_machine::{Cart, Input, Meter};
@@ -562,7 +562,14 @@ fn batches_go_from_one_session_to_another(rt: HostRuntime) -> Result<(), Fail> {
 fn errors_read_as_written(rt: HostRuntime) -> Result<(), Fail> {
     let alloc = rt.alloc();
     let (at, len) = (7, 30);
+    let done = Worked {
+        jobs: 1,
+        kept: 2,
+        stale: 3,
+    };
+    let worked = WorkError::Memory { done };
     let texts = [
+        (format!(in alloc; "{worked}")?, "out of memory"),
         (format!(in alloc; "{}", OpenError::Memory)?, "out of memory"),
         (format!(in alloc; "{}", OpenError::NoPlace)?, "no place"),
         (format!(in alloc; "{NoEntry}")?, "no entry"),

@@ -9,7 +9,7 @@ pub const MAX_INSTRUCTIONS: u32 = 1_000_000;
 pub const MAX_FRAME: u32 = MAX_NUMBER as u32;
 
 /// The most workers of one export (own).
-pub const MAX_WORKERS: u32 = 16;
+pub const MAX_WORKERS: u32 = tas_tool::MAX_WORKERS as u32;
 
 /// A command with its words.
 #[derive(Clone, Copy, Debug, PartialEq, Eq)]

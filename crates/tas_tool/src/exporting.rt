@@ -19,7 +19,7 @@ use tas_engines::{RunFault, ToolFault, halt_fault, movie_of, read_two};
 use tas_movie::Movie;
 
 /// The most workers of one export (own).
-const MAX_WORKERS: usize = 16;
+pub const MAX_WORKERS: usize = 16;
 
 /// Which frames are written, from `from` to the one before `to`, and by how many workers.
 #[derive(Clone, Copy)]

@@ -11,7 +11,7 @@ mod making;
 mod movie_scripting;
 mod scripting;
 
-pub use exporting::export_run;
+pub use exporting::{MAX_WORKERS, export_run};
 pub use movie_scripting::movie_script_run;
 pub use scripting::script_run;
 pub use tas_edit::{diff_run, edit_run};

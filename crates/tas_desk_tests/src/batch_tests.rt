@@ -1,0 +1,99 @@
+//! Batches of jobs, offered to a desk.
+
+use crate::changes::{Change, HALTING, PLAYFIELD, edit_of};
+use crate::desks::{Task, play};
+use std::alloc::Global;
+use std::process::Abort;
+use std::sync::Wait;
+use std::test::Fail;
+use tas_desk::{CloseOnDrop, Desk, Name, OfferError, Offered, Seat};
+use tas_green::Batch;
+
+/// An offer's answer, without the batch that it may hand back.
+#[derive(Clone, Copy, Debug, PartialEq, Eq)]
+enum Answered {
+    Taken(Offered),
+    OtherCartridge(u64),
+    OutOfMemory,
+}
+
+fn offer<N: Name, W: CloseOnDrop, R: Wait>(
+    rt: &R,
+    desk: &Desk<N, W>,
+    seat: &mut Seat<N>,
+    batch: Batch,
+) -> Answered {
+    match desk.offer(rt, seat, batch) {
+        Ok(offered) => Answered::Taken(offered),
+        Err(OfferError::Cartridge { at }) => Answered::OtherCartridge(at),
+        Err(OfferError::Memory(_)) => Answered::OutOfMemory,
+    }
+}
+
+/// Makes an edit of the seat, which is accepted.
+fn change<N: Name, W: CloseOnDrop, R: Wait + Abort>(
+    rt: &R,
+    alloc: Global,
+    desk: &Desk<N, W>,
+    seat: &mut Seat<N>,
+    change: Change,
+) -> Result<(), Fail> {
+    let edit = edit_of(alloc, change)?;
+    assert!(rt; desk.edit(rt, seat, edit).is_ok(), "{change:?}");
+    Ok(())
+}
+
+/// A movie of 200 frames, and three batches of all of them.
+fn make_batches<N: Name, W: CloseOnDrop, R: Wait + Abort>(
+    rt: &R,
+    alloc: Global,
+    desk: &Desk<N, W>,
+    seat: &mut Seat<N>,
+) -> Result<(Batch, Batch, Batch), Fail> {
+    change(rt, alloc, desk, seat, Change::Load(PLAYFIELD))?;
+    change(rt, alloc, desk, seat, Change::Insert(0, 200))?;
+    let first = desk.job(rt, alloc, seat, 200)?;
+    let second = desk.job(rt, alloc, seat, 200)?;
+    let third = desk.job(rt, alloc, seat, 200)?;
+    Ok((first.run(), second.run(), third.run()))
+}
+
+/// Makes an edit and offers a batch behind it: the answer, and how many states the seat's zone gains then.
+fn offer_behind<N: Name, W: CloseOnDrop, R: Wait + Abort>(
+    rt: &R,
+    alloc: Global,
+    desk: &Desk<N, W>,
+    seat: &mut Seat<N>,
+    edit: Change,
+    batch: Batch,
+) -> Result<(Answered, usize), Fail> {
+    change(rt, alloc, desk, seat, edit)?;
+    let answered = offer(rt, desk, seat, batch);
+    Ok((answered, desk.share(rt, seat)?))
+}
+
+/// Three batches of 200 frames: two are offered once input 100 is another one, the third behind another cartridge.
+pub fn offer_three_batches<N: Name, W: CloseOnDrop, R: Wait + Abort>(
+    rt: &R,
+    alloc: Global,
+    desk: &Desk<N, W>,
+    seat: &mut Seat<N>,
+) -> Result<(), Fail> {
+    let (first, second, third) = make_batches(rt, alloc, desk, seat)?;
+    let (at, front) = (3, 100);
+    let gained = Answered::Taken(Offered { at, front, kept: 1 });
+    let told = offer_behind(rt, alloc, desk, seat, Change::ReplaceRight(100), first)?;
+    assert!(rt; told == (gained, 1), "{told:?}");
+    let nothing = Answered::Taken(Offered { at, front, kept: 0 });
+    assert_eq!(rt; offer(rt, desk, seat, second), nothing);
+    let told = offer_behind(rt, alloc, desk, seat, Change::Load(HALTING), third)?;
+    assert!(rt; told == (Answered::OtherCartridge(4), 0), "{told:?}");
+    Ok(())
+}
+
+#[test]
+fn three_batches_are_offered_to_a_desk(rt: HostRuntime) -> Result<(), Fail> {
+    let (closed, _) = play(&rt, rt.alloc(), 1, Task::ThreeBatches)?;
+    assert_eq!(rt; closed.journal.len(), 4);
+    Ok(())
+}
