@@ -70,6 +70,18 @@ fn is_stopped(done: &Done, input: usize, read: usize) -> bool {
     done.end == Err(ToolFault::Read) && is_last && done.written.is_empty()
 }
 
+/// How often each input is read where no read fails: so many for its bytes, and one that gives none.
+fn whole_reads(engine: Engine, bytes: &Bytes) -> [usize; 3] {
+    let mut reads = [0; 3];
+    for input in 0..engine.count() {
+        if input < 3 {
+            let size = engine.input(bytes, input).len();
+            reads[input] = size.div_ceil(2000).saturating_add(1);
+        }
+    }
+    reads
+}
+
 #[test]
 fn each_read_failing(rt: HostRuntime) -> Result<(), Fail> {
     let alloc = rt.alloc();
@@ -86,6 +98,7 @@ fn each_read_failing(rt: HostRuntime) -> Result<(), Fail> {
                 let done = run_failing(&rt, alloc, engine, &bytes, 2000, failing(input, read));
                 if done.end.is_ok() {
                     assert!(rt; done.written.as_slice() == whole.as_slice(), "{engine:?}");
+                    assert_eq!(rt; done.reads, whole_reads(engine, &bytes), "{engine:?}");
                     break;
                 }
                 assert!(rt;

@@ -7,7 +7,7 @@ use crate::runs::{Answer, Heap, MOST, NEVER, Run};
 use refusals::Refusing;
 use std::alloc::Global;
 use std::test::Fail;
-use tas_movie::{Edit, Inputs, Movie, ReadError, print_text, read_text};
+use tas_movie::{Edit, Inputs, Movie, ReadError, TextError, TextErrorKind, print_text, read_text};
 use vcs_machine::{Cart, CartError};
 use vcs_tia::Picture;
 
@@ -152,6 +152,29 @@ fn run_making(alloc: Global, made: &Made, making: Making, number: u64) -> Run
         answer = make(&heap, made, making);
     }
     Run::ended(has_refused, answer == Answer::Right)
+}
+
+/// Memory is asked for before the text is looked at.
+#[test]
+fn memory_comes_before_a_fault_of_the_text(rt: HostRuntime) -> Result<(), Fail> {
+    let alloc = rt.alloc();
+    let cart = Cart::blank(alloc)?;
+    let text = b"a26movie 3\n".as_slice();
+    let head = ReadError::Text(TextError {
+        line: 1,
+        kind: TextErrorKind::Head,
+    });
+    for (number, wanted) in [
+        (1, ReadError::Memory),
+        (2, ReadError::Memory),
+        (NEVER, head),
+    ] {
+        let heap = Refusing::new(alloc, number);
+        let fault = read_text(&heap, text, &cart).err();
+        assert!(rt; fault == Some(wanted), "growth {number}");
+        assert!(rt; heap.has_refused() == (number < NEVER), "growth {number}");
+    }
+    Ok(())
 }
 
 #[test]

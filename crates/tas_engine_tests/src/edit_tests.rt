@@ -171,20 +171,20 @@ fn faults_of_the_movies_come_in_order(rt: HostRuntime) -> Result<(), Fail> {
             ToolFault::Script { line: 1 },
         ),
     ];
-    for (cart, script, input, fault) in edits {
+    for (number, (cart, script, input, fault)) in edits.iter().enumerate() {
         let (output, end) = edited(alloc, cart, script, input);
-        assert_eq!(rt; end, Err(fault));
-        assert!(rt; output.is_empty());
+        assert_eq!(rt; end, Err(*fault), "edit {number}");
+        assert!(rt; output.is_empty(), "edit {number}");
     }
     let comparisons: [(&[u8], &[u8], &[u8], ToolFault); 3] = [
         (b"", bad, b"", ToolFault::Size(0)),
         (&BLANK, bad, b"", text),
         (&BLANK, two.as_slice(), bad, text),
     ];
-    for (cart, before, after, fault) in comparisons {
+    for (number, (cart, before, after, fault)) in comparisons.iter().enumerate() {
         let (output, end) = compared(alloc, cart, before, after);
-        assert_eq!(rt; end, Err(fault));
-        assert!(rt; output.is_empty());
+        assert_eq!(rt; end, Err(*fault), "comparison {number}");
+        assert!(rt; output.is_empty(), "comparison {number}");
     }
     Ok(())
 }
@@ -212,15 +212,19 @@ static READS: [([usize; 3], [usize; 3], ToolFault, [usize; 3]); 6] = [
 #[test]
 fn inputs_are_read_in_order_up_to_a_fault(rt: HostRuntime) {
     let alloc = rt.alloc();
-    for (lens, fails, fault, reads) in READS {
+    for (number, (lens, fails, fault, reads)) in READS.iter().enumerate() {
         let mut first = Filler::new(0, lens[0], fails[0]);
         let mut second = Filler::new(0, lens[1], fails[1]);
         let mut third = Filler::new(0, lens[2], fails[2]);
         let mut output = Vec::new(alloc);
         let end = edit_run(alloc, &mut first, &mut second, &mut third, &mut output);
-        assert_eq!(rt; end, Err(fault));
-        assert!(rt; output.is_empty());
-        assert_eq!(rt; [first.reads, second.reads, third.reads], reads);
+        assert_eq!(rt; end, Err(*fault), "case {number}");
+        assert!(rt; output.is_empty(), "case {number}");
+        assert_eq!(rt;
+            [first.reads, second.reads, third.reads],
+            *reads,
+            "case {number}"
+        );
     }
 }
 
@@ -245,6 +249,59 @@ fn texts_go_out_in_small_pieces(rt: HostRuntime) -> Result<(), Fail> {
             output.taken.as_slice() == &new.as_slice()[..written],
             "room {room}"
         );
+    }
+    Ok(())
+}
+
+/// Runs of equal frames.
+type Runs<'a> = &'a [(usize, &'a str)];
+
+/// The frames of examples/joystick.movie.
+static JOYSTICK: Runs<'static> = &[
+    (5, "..... ..... ....."),
+    (30, "R.... ..... ....."),
+    (20, "R.D.. ..... ....."),
+    (15, "..D.. ..... ....."),
+    (5, "..D.F ..... ....."),
+    (10, "....F ..... ....."),
+    (25, ".L.U. ..... ....."),
+    (10, "...U. ..... ....."),
+];
+
+/// The frames of examples/motion.movie.
+static MOTION: Runs<'static> = &[(180, "..... ..... .....")];
+
+/// The text of a movie of the blank cartridge with these frames.
+fn text_of_runs(alloc: Global, runs: Runs<'_>) -> Result<Vec<u8>, Fail> {
+    let mut text = blank_text(alloc, b"")?;
+    for (count, frame) in runs {
+        for _ in 0..*count {
+            text.extend_from_slice(frame.as_bytes())?;
+            text.push(b'\n')?;
+        }
+    }
+    Ok(text)
+}
+
+#[test]
+fn the_movies_of_the_examples_go_round(rt: HostRuntime) -> Result<(), Fail> {
+    let alloc = rt.alloc();
+    let rows: [(Runs<'_>, usize, &[u8]); 2] = [
+        (
+            JOYSTICK,
+            2241,
+            b"delete 0 10\nreplace 0 5 R.... ..... .....\ninsert 5 3 ....F ..... .....\n",
+        ),
+        (MOTION, 3321, b"delete 40 9\n"),
+    ];
+    for (number, (runs, size, changes)) in rows.iter().enumerate() {
+        let old = text_of_runs(alloc, *runs)?;
+        assert_eq!(rt; old.len(), *size, "movie {number}");
+        let (new, end) = edited(alloc, &BLANK, *changes, old.as_slice());
+        assert_eq!(rt; end, Ok(()), "movie {number}");
+        assert!(rt; new.as_slice() != old.as_slice(), "movie {number}");
+        go_round(alloc, old.as_slice(), new.as_slice())?;
+        go_round(alloc, new.as_slice(), old.as_slice())?;
     }
     Ok(())
 }

@@ -94,6 +94,7 @@ Standard input is the script: edits of a movie and looks at it, a line each:
   replace AT COUNT FRAME     replace COUNT frames
   delete AT COUNT            delete COUNT frames
   len, input K, shot K       tell the length, an input, or what frame K shows
+  work K                     keep states up to frame K
 Standard output has a reply for each line; refusals are replies, too. A line that isn't understood
 ends the script. With --cart and --movie the script starts from this movie, which is made by two
 edits; else from a blank cartridge with no frames.
