@@ -139,17 +139,18 @@ fn is_history(alloc: Global, closed: &Closed, steps: &[Step]) -> Result<bool, Fa
 /// Whether the entries behind the first two are those of the steps that edit: their seats, and their serials.
 fn are_in_order(journal: &[Entry], steps: &[Step]) -> bool {
     let mut made = [0u64; 8];
-    let mut entries = journal.iter().skip(BEFORE.len());
+    let mut place = BEFORE.len();
     for step in steps {
         if let (Deed::Edit(_), Some(serial)) = (step.deed, made.get_mut(step.seat as usize)) {
-            match entries.next() {
+            match journal.get(place) {
                 Some(entry) if entry.seat == step.seat && entry.serial == *serial => {}
                 _ => return false,
             }
             *serial = serial.saturating_add(1);
+            place = place.saturating_add(1);
         }
     }
-    entries.next().is_none()
+    place == journal.len()
 }
 
 /// Plays a schedule. Each reply is the model's, and the desk leaves the model's movie.
