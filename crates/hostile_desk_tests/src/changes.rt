@@ -1,0 +1,74 @@
+//! Edits in short, and the cartridges that the tests play.
+
+use std::alloc::{AllocError, Global};
+use tas_movie::{Edit, Inputs};
+use vcs_machine::{Cart, Input};
+
+/// `000=A5802A4D800269F585808509A2248502CAD0FBA9028500A90085004C00F0 FFC=00F0`: folds what the joysticks show into one byte and
+/// colours the frame by it, then waits for 36 lines and ends the frame by vertical sync. So a picture depends on all inputs up to
+/// it, and is soon played: of its rows the first two are drawn.
+pub const FOLDING: &[u8] =
+    b"\xA5\x80\x2A\x4D\x80\x02\x69\xF5\x85\x80\x85\x09\xA2\x24\x85\x02\xCA\xD0\xFB\xA9\x02\x85\x00\xA9\x00\x85\x00\x4C\x00\xF0";
+
+/// `000=A203A9028500A9008500CAD0F502 FFC=00F0`: three frames, then the undocumented opcode 02 at F00D.
+pub const HALTING: &[u8] = b"\xA2\x03\xA9\x02\x85\x00\xA9\x00\x85\x00\xCA\xD0\xF5\x02";
+
+/// `000=A910850DA91E85084C08F0 FFC=00F0`: a playfield of 1,680 lit pixels in each frame.
+pub const PLAYFIELD: &[u8] = b"\xA9\x10\x85\x0D\xA9\x1E\x85\x08\x4C\x08\xF0";
+
+/// An edit in short.
+#[derive(Clone, Copy, Debug, PartialEq, Eq)]
+pub enum Change {
+    /// Another cartridge with this program at F000.
+    Load(&'static [u8]),
+    /// So many inputs with nothing pressed, put in at place 0.
+    Fill(usize),
+    /// So many inputs with the left stick pushed right, put in at a place.
+    Insert(usize, usize),
+    /// One such input over that at a place.
+    Press(usize),
+    /// So many inputs taken out at a place.
+    Delete(usize, usize),
+}
+
+/// The cartridge with a program at F000.
+pub fn cart(alloc: Global, program: &[u8]) -> Result<Cart, AllocError> {
+    let mut image = [0u8; 4096];
+    for (cell, byte) in image.iter_mut().zip(program) {
+        *cell = *byte;
+    }
+    image[4093] = 0xF0;
+    Cart::from_bytes(alloc, &image).map_err(|_| AllocError)
+}
+
+/// The left stick pushed right.
+pub fn right() -> Input {
+    let mut input = Input::none();
+    input.left.right = true;
+    input
+}
+
+/// So many equal inputs.
+fn copies(alloc: Global, input: Input, count: usize) -> Result<Inputs, AllocError> {
+    Ok(Inputs::from_vec(vec![in alloc; input; count]?))
+}
+
+/// The edit.
+pub fn edit_of(alloc: Global, change: Change) -> Result<Edit, AllocError> {
+    Ok(match change {
+        Change::Load(program) => Edit::Load(cart(alloc, program)?),
+        Change::Fill(count) => Edit::Insert {
+            at: 0,
+            inputs: copies(alloc, Input::none(), count)?,
+        },
+        Change::Insert(at, count) => Edit::Insert {
+            at,
+            inputs: copies(alloc, right(), count)?,
+        },
+        Change::Press(at) => Edit::Replace {
+            at,
+            inputs: copies(alloc, right(), 1)?,
+        },
+        Change::Delete(at, count) => Edit::Delete { at, count },
+    })
+}

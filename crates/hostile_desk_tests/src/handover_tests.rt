@@ -1,0 +1,105 @@
+//! A batch that goes from one desk to another, and the most kept states.
+
+use crate::changes::{Change, HALTING, PLAYFIELD, edit_of};
+use crate::desks::{Task, play};
+use std::alloc::{AllocError, Global};
+use std::process::Abort;
+use std::sync::Wait;
+use std::test::Fail;
+use tas_desk::{CloseOnDrop, Desk, Name, Offered, Seat, Session, ShotError};
+use tas_green::Batch;
+use tas_movie::MAX_FRAMES;
+use vcs_cpu::Halt;
+use vcs_machine::Meter;
+
+/// So many frames of the playfield, by two edits of the seat.
+fn fill<N: Name, W: CloseOnDrop, R: Wait + Abort>(
+    rt: &R,
+    alloc: Global,
+    desk: &Desk<N, W>,
+    seat: &mut Seat<N>,
+    frames: usize,
+) -> Result<(), Fail> {
+    for change in [Change::Load(PLAYFIELD), Change::Fill(frames)] {
+        let edit = edit_of(alloc, change)?;
+        assert!(rt; desk.edit(rt, seat, edit).is_ok(), "{change:?}");
+    }
+    Ok(())
+}
+
+/// The batch of a job for all of 200 frames.
+pub fn take_batch<N: Name, W: CloseOnDrop, R: Wait + Abort>(
+    rt: &R,
+    alloc: Global,
+    desk: &Desk<N, W>,
+    seat: &mut Seat<N>,
+) -> Result<Batch, Fail> {
+    fill(rt, alloc, desk, seat, 200)?;
+    Ok(desk.job(rt, alloc, seat, 200)?.run())
+}
+
+/// The batch is offered to a movie of 100 frames of the same cartridge.
+pub fn give_batch<N: Name, W: CloseOnDrop, R: Wait + Abort>(
+    rt: &R,
+    alloc: Global,
+    desk: &Desk<N, W>,
+    seat: &mut Seat<N>,
+    batch: Batch,
+) -> Result<(), Fail> {
+    fill(rt, alloc, desk, seat, 100)?;
+    let offered = Offered {
+        at: 2,
+        front: 100,
+        kept: 1,
+    };
+    assert_eq!(rt; desk.offer(rt, seat, batch).ok(), Some(offered));
+    assert_eq!(rt; desk.share(rt, seat).ok(), Some(1));
+    Ok(())
+}
+
+#[test]
+fn a_batch_goes_from_one_desk_to_another(rt: HostRuntime) -> Result<(), Fail> {
+    let alloc = rt.alloc();
+    let (_, told) = play(&rt, alloc, Task::Job)?;
+    let batch = told.batch.ok_or("a batch")?;
+    assert!(rt; batch.holds(64) && batch.holds(128) && batch.holds(192));
+    let (closed, _) = play(&rt, alloc, Task::Offer(batch))?;
+    assert_eq!(rt; closed.movie.len(), 100);
+    Ok(())
+}
+
+/// The last frame of the longest movie, which halts in its fourth frame, is asked for at a new session: the states of each
+/// 128th frame are kept, all of them halted.
+fn shoot_last<R: Wait + Abort>(rt: &R, alloc: Global, session: &mut Session) -> Result<(), Fail> {
+    for (made, change) in [Change::Load(HALTING), Change::Fill(65_536)]
+        .iter()
+        .enumerate()
+    {
+        session.edit(rt, 0, made as u64, edit_of(alloc, *change)?)?;
+    }
+    let mut meter = Meter::new();
+    let len = session.movie().len();
+    prove!(len <= MAX_FRAMES);
+    let halted = ShotError::Halted {
+        at: 2,
+        halt: Halt::Undocumented {
+            at: 0xF00D,
+            opcode: 2,
+        },
+    };
+    assert_eq!(rt; session.shot(alloc, 65_535, &mut meter).err(), Some(halted));
+    assert_eq!(rt; meter.count(), 65_536);
+    assert_eq!(rt; session.green().count(), 512);
+    Ok(())
+}
+
+#[test]
+fn a_session_keeps_at_most_512_states(rt: HostRuntime) -> Result<(), Fail> {
+    let alloc = rt.alloc();
+    let mut session: Session = Session::new(alloc).map_err(|_| AllocError)?;
+    let answer = shoot_last(&rt, alloc, &mut session);
+    let closed = session.close(&rt);
+    answer?;
+    assert_eq!(rt; closed.journal.len(), 2);
+    Ok(())
+}

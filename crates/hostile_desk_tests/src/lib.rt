@@ -1,0 +1,21 @@
+//! What sessions and desks do at their limits, and in schedules that are laid down step by step.
+#![tactic(auto)]
+
+#[cfg(test)]
+mod changes;
+#[cfg(test)]
+mod desks;
+#[cfg(test)]
+mod handover_tests;
+#[cfg(test)]
+mod model;
+#[cfg(test)]
+mod pictures;
+#[cfg(test)]
+mod players;
+#[cfg(test)]
+mod schedule_tests;
+#[cfg(test)]
+mod score;
+#[cfg(test)]
+mod steps;

@@ -1,0 +1,302 @@
+//! What a schedule's replies should be: a desk as lists and places, whose frames are all played from power-on.
+
+use crate::changes::{Change, right};
+use crate::pictures::images;
+use crate::players::RANGE;
+use crate::steps::{Deed, Step};
+use std::alloc::{AllocError, Global};
+use vcs_cpu::Halt;
+use vcs_machine::Input;
+
+/// A program and inputs.
+#[derive(Drop)]
+pub struct Film {
+    pub program: &'static [u8],
+    pub inputs: Vec<Input>,
+}
+
+/// Whether the states after frames 64, 128 and 192 are kept.
+type Kept = [bool; 3];
+
+/// The kept states up to a frame.
+fn up_to(kept: Kept, frame: usize) -> Kept {
+    let mut left = kept;
+    for (state, place) in left.iter_mut().zip([64, 128, 192]) {
+        *state = *state && place <= frame;
+    }
+    left
+}
+
+/// The last kept state up to a frame; 0 where there is none.
+fn nearest(kept: Kept, frame: usize) -> usize {
+    let mut found = 0;
+    for (state, place) in up_to(kept, frame).iter().zip([64, 128, 192]) {
+        if *state {
+            found = place;
+        }
+    }
+    found
+}
+
+/// The kept states with those of a run from one frame to another, and how many they gain.
+fn with_run(kept: Kept, from: usize, to: usize) -> (Kept, usize) {
+    let mut all = kept;
+    let mut gained = 0usize;
+    for (state, place) in all.iter_mut().zip([64, 128, 192]) {
+        if !*state && from < place && place <= to {
+            *state = true;
+            gained = gained.saturating_add(1);
+        }
+    }
+    (all, gained)
+}
+
+/// The kept states with others, and how many they gain.
+fn with_all(kept: Kept, others: Kept) -> (Kept, usize) {
+    let mut all = kept;
+    let mut gained = 0usize;
+    for (state, other) in all.iter_mut().zip(others) {
+        if !*state && other {
+            *state = true;
+            gained = gained.saturating_add(1);
+        }
+    }
+    (all, gained)
+}
+
+/// With how many equal inputs two lists begin.
+fn common(some: &[Input], others: &[Input]) -> usize {
+    let differing = some
+        .iter()
+        .zip(others)
+        .position(|(one, other)| one != other);
+    differing.unwrap_or(some.len().min(others.len()))
+}
+
+/// A film with the states of it that are kept: a seat's zone, or a job with the state that it starts from.
+#[derive(Drop)]
+struct Zone {
+    film: Film,
+    kept: Kept,
+    start: usize,
+}
+
+/// A desk.
+#[derive(Drop)]
+pub struct Model {
+    pub film: Film,
+    edits: u64,
+    kept: Kept,
+    zones: Vec<Zone>,
+}
+
+impl Model {
+    /// A desk of eight seats with the blank cartridge and no inputs.
+    pub fn new(alloc: Global) -> Result<Model, AllocError> {
+        let blank: &'static [u8] = b"";
+        let mut zones = Vec::new(alloc);
+        for _ in 0..8u32 {
+            let film = Film {
+                program: blank,
+                inputs: Vec::new(alloc),
+            };
+            zones.push(Zone {
+                film,
+                kept: [false; 3],
+                start: 0,
+            })?;
+        }
+        Ok(Model {
+            film: Film {
+                program: blank,
+                inputs: Vec::new(alloc),
+            },
+            edits: 0,
+            kept: [false; 3],
+            zones,
+        })
+    }
+
+    /// Takes some inputs out at a place and puts copies of one in there. Later states go.
+    fn change(
+        &mut self,
+        alloc: Global,
+        at: usize,
+        taken: usize,
+        copies: (Input, usize),
+    ) -> Result<(), AllocError> {
+        let mut inputs = Vec::new(alloc);
+        let (input, count) = copies;
+        for (_, before) in (0..at).zip(self.film.inputs.iter()) {
+            inputs.push(*before)?;
+        }
+        for _ in 0..count {
+            inputs.push(input)?;
+        }
+        for behind in self.film.inputs.iter().skip(at.saturating_add(taken)) {
+            inputs.push(*behind)?;
+        }
+        self.kept = up_to(up_to(self.kept, at), inputs.len());
+        self.film.inputs = inputs;
+        Ok(())
+    }
+
+    /// The reply to an edit.
+    pub fn edit(&mut self, alloc: Global, change: Change) -> Result<String, AllocError> {
+        match change {
+            Change::Load(program) => {
+                self.film.program = program;
+                self.kept = [false; 3];
+            }
+            Change::Fill(count) => self.change(alloc, 0, 0, (Input::none(), count))?,
+            Change::Insert(at, count) => self.change(alloc, at, 0, (right(), count))?,
+            Change::Press(at) => self.change(alloc, at, 1, (right(), 1))?,
+            Change::Delete(at, count) => self.change(alloc, at, count, (right(), 0))?,
+        }
+        self.edits = self.edits.saturating_add(1);
+        format!(in alloc; "edit {} len {}", self.edits, self.film.inputs.len())
+    }
+
+    /// The film's first inputs, up to so many.
+    fn front(&self, alloc: Global, most: usize) -> Result<Film, AllocError> {
+        let mut inputs = Vec::new(alloc);
+        for (_, input) in (0..most).zip(self.film.inputs.iter()) {
+            inputs.push(*input)?;
+        }
+        Ok(Film {
+            program: self.film.program,
+            inputs,
+        })
+    }
+
+    /// The seat takes a job.
+    fn start(&mut self, alloc: Global, seat: usize, near: usize) -> Result<(), AllocError> {
+        let film = self.front(alloc, near)?;
+        let start = nearest(self.kept, film.inputs.len());
+        if let Some(zone) = self.zones.get_mut(seat) {
+            *zone = Zone {
+                film,
+                kept: [false; 3],
+                start,
+            };
+        }
+        Ok(())
+    }
+
+    /// The common beginning of a seat's film and the desk's, its last state, and whether the cartridges differ.
+    fn met(&self, seat: usize) -> (usize, usize, bool) {
+        match self.zones.get(seat) {
+            Some(zone) => {
+                let front = common(&zone.film.inputs, &self.film.inputs);
+                (front, zone.start, zone.film.program != self.film.program)
+            }
+            None => (0, 0, false),
+        }
+    }
+
+    /// The reply to the offer of the seat's job. Seat 1 offers, the others work.
+    fn offer(&mut self, alloc: Global, seat: usize) -> Result<String, AllocError> {
+        let at = self.edits;
+        let (front, start, is_stale) = self.met(seat);
+        if is_stale {
+            return if seat == 1 {
+                format!(in alloc; "other cartridge {at}")
+            } else {
+                String::from_str(alloc, "work jobs 1 kept 0 stale 1")
+            };
+        }
+        let (kept, gained) = with_run(self.kept, start, front);
+        self.kept = kept;
+        if seat == 1 {
+            format!(in alloc; "offer {at} front {front} kept {gained}")
+        } else {
+            format!(in alloc; "work jobs 1 kept {gained} stale 0")
+        }
+    }
+
+    /// What a seat's zone keeps of the present film.
+    fn cut(&self, seat: usize) -> Kept {
+        let (front, _, is_stale) = self.met(seat);
+        match self.zones.get(seat) {
+            Some(zone) if !is_stale => up_to(zone.kept, front),
+            _ => [false; 3],
+        }
+    }
+
+    /// The seat's zone is of the present film now, and keeps these states.
+    fn keep(&mut self, alloc: Global, seat: usize, kept: Kept) -> Result<(), AllocError> {
+        let film = self.front(alloc, self.film.inputs.len())?;
+        if let Some(zone) = self.zones.get_mut(seat) {
+            *zone = Zone {
+                film,
+                kept,
+                start: 0,
+            };
+        }
+        Ok(())
+    }
+
+    /// The reply to a shot, which plays from the seat's last state.
+    fn shot(&mut self, alloc: Global, seat: usize, k: usize) -> Result<String, AllocError> {
+        let kept = self.cut(seat);
+        let next = k.saturating_add(1);
+        let from = nearest(kept, k);
+        self.keep(alloc, seat, with_run(kept, from, next).0)?;
+        let at = self.edits;
+        match images(alloc, self.film.program, &self.film.inputs, (k, next))? {
+            Ok(image) => {
+                let (ran, sum) = (next.saturating_sub(from), image.sum);
+                format!(in alloc; "shot {at} {k} ran {ran} sum {sum}")
+            }
+            Err(Halt::Undocumented { at: address, .. }) => {
+                format!(in alloc; "halted {at} {address:04X}")
+            }
+        }
+    }
+
+    /// The reply to a share.
+    fn share(&mut self, alloc: Global, seat: usize) -> Result<String, AllocError> {
+        let (kept, gained) = with_all(self.cut(seat), self.kept);
+        self.keep(alloc, seat, kept)?;
+        format!(in alloc; "share {gained}")
+    }
+
+    /// The reply to an export by a seat whose zone is empty: each of the three runs has two frames and plays all before them.
+    fn export(&self, alloc: Global) -> Result<String, AllocError> {
+        let (at, played) = (self.edits, 3 * RANGE.0 + 12);
+        match images(alloc, self.film.program, &self.film.inputs, RANGE)? {
+            Ok(image) => {
+                let (bytes, sum) = (image.bytes, image.sum);
+                format!(in alloc; "export {at} played {played} bytes {bytes} sum {sum}")
+            }
+            Err(_) => String::from_str(alloc, "not exported"),
+        }
+    }
+
+    /// The reply in a step; nothing where a job is taken, or where a further run of an export passes its gate.
+    fn reply(&mut self, alloc: Global, number: usize, step: Step) -> Result<String, AllocError> {
+        let seat = step.seat as usize;
+        match step.deed {
+            Deed::Start(near) => {
+                self.start(alloc, seat, near)?;
+                Ok(String::new(alloc))
+            }
+            Deed::Offer => self.offer(alloc, seat),
+            Deed::Pass(_) if number == 0 => self.export(alloc),
+            Deed::Pass(_) => Ok(String::new(alloc)),
+            Deed::Edit(change) => self.edit(alloc, change),
+            Deed::Len => format!(in alloc; "len {} {}", self.edits, self.film.inputs.len()),
+            Deed::Shot(k) => self.shot(alloc, seat, k),
+            Deed::Share => self.share(alloc, seat),
+        }
+    }
+
+    /// The replies in all steps.
+    pub fn replies(&mut self, alloc: Global, steps: &[Step]) -> Result<Vec<String>, AllocError> {
+        let mut replies = Vec::new(alloc);
+        for (number, step) in steps.iter().enumerate() {
+            replies.push(self.reply(alloc, number, *step)?)?;
+        }
+        Ok(replies)
+    }
+}

@@ -1,0 +1,251 @@
+//! Seats that take their steps of a schedule, and write down what they are told.
+
+use crate::changes::{Change, edit_of};
+use crate::pictures::{Sum, sum_of};
+use crate::score::{Pause, Runs, Score};
+use crate::steps::{Deed, EXPORTER, Step, step_of};
+use std::alloc::{AllocError, Global};
+use std::sync::Wait;
+use std::thread::Threads;
+use tas_desk::{CloseOnDrop, Desk, Gate, Name, OfferError, Seat, ShotError};
+use vcs_cpu::Halt;
+
+/// The frames of an export.
+pub const RANGE: (usize, usize) = (60, 66);
+
+/// What was told in a step.
+#[derive(Drop)]
+pub struct Reply {
+    pub step: usize,
+    pub text: String,
+}
+
+/// A seat with its replies. After want of memory it does nothing more.
+#[derive(Drop)]
+pub struct Player<N: Name> {
+    pub seat: Seat<N>,
+    pub replies: Vec<Reply>,
+    pub has_memory: bool,
+}
+
+/// A schedule that is played.
+#[derive(Clone, Copy)]
+pub struct Played<'a> {
+    pub score: &'a Score,
+    pub steps: &'a [Step],
+}
+
+/// The reply to an edit.
+pub fn edit<N: Name, W: CloseOnDrop, R: Wait>(
+    rt: &R,
+    alloc: Global,
+    desk: &Desk<N, W>,
+    seat: &mut Seat<N>,
+    change: Change,
+) -> Result<String, AllocError> {
+    match desk.edit(rt, seat, edit_of(alloc, change)?) {
+        Ok(receipt) => format!(in alloc; "edit {} len {}", receipt.at, receipt.len),
+        Err(_) => String::from_str(alloc, "refused"),
+    }
+}
+
+/// The reply to a shot.
+fn shot<N: Name, W: CloseOnDrop>(
+    alloc: Global,
+    desk: &Desk<N, W>,
+    seat: &mut Seat<N>,
+    k: usize,
+) -> Result<String, AllocError> {
+    match desk.shot(alloc, seat, k) {
+        Ok(shot) => {
+            let sum = sum_of(&shot.picture);
+            format!(in alloc;
+                "shot {} {} ran {} sum {sum}",
+                shot.at, shot.frame, shot.ran
+            )
+        }
+        Err(
+            ShotError::Halted {
+                at,
+                halt: Halt::Undocumented { at: address, .. },
+            },
+        ) => format!(in alloc; "halted {at} {address:04X}"),
+        Err(_) => String::from_str(alloc, "not drawn"),
+    }
+}
+
+/// The reply to a deed that is done in one step.
+fn told<N: Name, W: CloseOnDrop, R: Wait>(
+    rt: &R,
+    alloc: Global,
+    desk: &Desk<N, W>,
+    seat: &mut Seat<N>,
+    deed: Deed,
+) -> Result<String, AllocError> {
+    match deed {
+        Deed::Edit(change) => edit(rt, alloc, desk, seat, change),
+        Deed::Shot(k) => shot(alloc, desk, seat, k),
+        Deed::Len => match desk.len(seat) {
+            Ok((at, len)) => format!(in alloc; "len {at} {len}"),
+            Err(_) => String::from_str(alloc, "no entry"),
+        },
+        Deed::Share => {
+            let gained = desk.share(rt, seat)?;
+            format!(in alloc; "share {gained}")
+        }
+        Deed::Start(_) | Deed::Offer | Deed::Pass(_) => String::from_str(alloc, "no such deed"),
+    }
+}
+
+/// The reply to a work with one target.
+fn work<N: Name, W: CloseOnDrop, R: Wait>(
+    rt: &R,
+    alloc: Global,
+    desk: &Desk<N, W>,
+    seat: &mut Seat<N>,
+    gate: &Pause<'_>,
+    target: usize,
+) -> Result<String, AllocError> {
+    match desk.work(rt, alloc, seat, &[target], gate) {
+        Ok(done) => {
+            format!(in alloc;
+                "work jobs {} kept {} stale {}",
+                done.jobs, done.kept, done.stale
+            )
+        }
+        Err(_) => Err(AllocError),
+    }
+}
+
+/// The reply to the offer of a job that was taken before its gate.
+fn job<N: Name, W: CloseOnDrop, R: Wait>(
+    rt: &R,
+    alloc: Global,
+    desk: &Desk<N, W>,
+    seat: &mut Seat<N>,
+    gate: &Pause<'_>,
+    near: usize,
+) -> Result<String, AllocError> {
+    let job = desk.job(rt, alloc, seat, near)?;
+    gate.pass(0);
+    match desk.offer(rt, seat, job.run()) {
+        Ok(offered) => {
+            format!(in alloc;
+                "offer {} front {} kept {}",
+                offered.at, offered.front, offered.kept
+            )
+        }
+        Err(OfferError::Cartridge { at }) => format!(in alloc; "other cartridge {at}"),
+        Err(OfferError::Memory(_)) => Err(AllocError),
+    }
+}
+
+/// The reply to an export by three workers.
+fn export<N: Name, W: CloseOnDrop, R: Threads + Wait + Sync>(
+    rt: &R,
+    alloc: Global,
+    desk: &Desk<N, W>,
+    seat: &mut Seat<N>,
+    gate: &Runs<'_>,
+) -> Result<String, AllocError> {
+    let mut out = Sum::new();
+    match desk.export(rt, alloc, seat, RANGE.0, RANGE.1, 3, gate, &mut out) {
+        Ok(told) => {
+            let (bytes, sum) = (out.bytes, out.sum);
+            format!(in alloc;
+                "export {} played {} bytes {bytes} sum {sum}",
+                told.at, told.played
+            )
+        }
+        Err(_) => String::from_str(alloc, "not exported"),
+    }
+}
+
+impl<N: Name> Player<N> {
+    /// A player that was told nothing yet.
+    pub fn new(alloc: Global, seat: Seat<N>) -> Player<N> {
+        Player {
+            seat,
+            replies: Vec::new(alloc),
+            has_memory: true,
+        }
+    }
+
+    /// Writes a reply down.
+    fn note(&mut self, step: usize, text: Result<String, AllocError>) {
+        let is_noted = match text {
+            Ok(text) => self.replies.push(Reply { step, text }).is_ok(),
+            Err(_) => false,
+        };
+        self.has_memory = self.has_memory && is_noted;
+    }
+
+    /// Takes a job in one step, for so many frames, and has it run and offered in a later one. Seat 1 calls `job` and `offer`, the
+    /// others `work`.
+    fn start<W: CloseOnDrop, R: Wait>(
+        &mut self,
+        rt: &R,
+        alloc: Global,
+        desk: &Desk<N, W>,
+        played: Played<'_>,
+        start: usize,
+        near: usize,
+    ) {
+        let seat = self.seat.number();
+        let offer = step_of(played.steps, seat, Deed::Offer).unwrap_or(0);
+        let gate = Pause {
+            score: played.score,
+            start,
+            offer,
+        };
+        played.score.wait_for(start);
+        let text = if seat == 1 {
+            job(rt, alloc, desk, &mut self.seat, &gate, near)
+        } else {
+            work(rt, alloc, desk, &mut self.seat, &gate, near)
+        };
+        self.note(offer, text);
+        played.score.done(offer);
+    }
+
+    /// Takes a step.
+    pub fn take<W: CloseOnDrop, R: Wait>(
+        &mut self,
+        rt: &R,
+        alloc: Global,
+        desk: &Desk<N, W>,
+        played: Played<'_>,
+        number: usize,
+        deed: Deed,
+    ) {
+        match deed {
+            Deed::Start(near) => self.start(rt, alloc, desk, played, number, near),
+            Deed::Offer | Deed::Pass(_) => {}
+            _ => {
+                played.score.wait_for(number);
+                let text = told(rt, alloc, desk, &mut self.seat, deed);
+                self.note(number, text);
+                played.score.done(number);
+            }
+        }
+    }
+
+    /// Exports, with each run's gate in its step. The reply is that of the first step.
+    pub fn export<W: CloseOnDrop, R: Threads + Wait + Sync>(
+        &mut self,
+        rt: &R,
+        alloc: Global,
+        desk: &Desk<N, W>,
+        played: Played<'_>,
+    ) {
+        let pass = |run: usize| step_of(played.steps, EXPORTER, Deed::Pass(run));
+        if let (Some(first), Some(second), Some(third)) = (pass(0), pass(1), pass(2)) {
+            let gate = Runs {
+                score: played.score,
+                passes: [first, second, third],
+            };
+            let text = export(rt, alloc, desk, &mut self.seat, &gate);
+            self.note(0, text);
+        }
+    }
+}

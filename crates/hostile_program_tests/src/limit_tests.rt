@@ -1,0 +1,333 @@
+//! Each limit of the program at its last value that is taken and its first one that is refused.
+
+use crate::programs::{Files, run};
+use std::alloc::Global;
+use std::process::Abort;
+use std::sync::Wait;
+use std::test::Fail;
+use std::thread::Threads;
+
+/// `000=A9028500A90085004C00F0 FFC=00F0`: ends frame after frame by vertical sync, so that they are soon played. Their pictures
+/// are black.
+const BRIEF: &[u8] = b"\xA9\x02\x85\x00\xA9\x00\x85\x00\x4C\x00\xF0";
+
+/// The head of the movie texts of this cartridge, with its SHA-256 by another program.
+const HEAD: &[u8] =
+    b"a26movie 1\ncart 6cf6d08d00f622eb70fbc534921dcd728359a14a5b46045bfe15f95ccb9a3543\n";
+
+const FRAME: &[u8] = b"..... ..... .....\n";
+
+/// The most bytes of one input.
+const MOST_BYTES: usize = 16_777_216;
+
+/// How many bytes a picture has.
+const PICTURE: usize = 100_815;
+
+/// The image of the cartridge with a program at F000.
+fn cart(alloc: Global, program: &[u8]) -> Result<Vec<u8>, Fail> {
+    let mut image = vec![in alloc; 0u8; 4096]?;
+    for (cell, byte) in image.iter_mut().zip(program) {
+        *cell = *byte;
+    }
+    if let Some(cell) = image.get_mut(0xffd) {
+        *cell = 0xf0;
+    }
+    Ok(image)
+}
+
+/// Some bytes and then so many copies of others.
+fn repeated(alloc: Global, front: &[u8], copy: &[u8], count: usize) -> Result<Vec<u8>, Fail> {
+    let room = copy.len().saturating_mul(count).saturating_add(front.len());
+    let mut bytes = Vec::with_capacity(alloc, room)?;
+    bytes.extend_from_slice(front)?;
+    for _ in 0..count {
+        bytes.extend_from_slice(copy)?;
+    }
+    Ok(bytes)
+}
+
+/// The text of a movie with so many frames of nothing pressed.
+fn movie(alloc: Global, frames: usize) -> Result<Vec<u8>, Fail> {
+    repeated(alloc, HEAD, FRAME, frames)
+}
+
+/// How the program ends.
+#[derive(Clone, Copy)]
+enum End {
+    /// It writes so many bytes, these last.
+    Writes(usize, &'static [u8]),
+    /// It writes nothing and tells a fault.
+    Faults(&'static [u8]),
+    /// It doesn't understand its words.
+    Misuse,
+}
+
+/// The program, run with these words over the cartridge, ends so.
+fn ends<R: Threads + Wait + Abort + Sync>(
+    rt: &R,
+    alloc: Global,
+    words: &[&str],
+    files: Files<'_>,
+    input: &[u8],
+    end: End,
+) -> Result<(), Fail> {
+    let ran = run(rt, alloc, words, files, input)?;
+    match end {
+        End::Writes(bytes, last) => {
+            assert_eq!(rt; (ran.code, ran.bytes), (0, bytes), "{words:?}");
+            assert!(rt; ran.last.ends_with(last), "{words:?}");
+            assert!(rt; ran.errors.is_empty(), "{words:?}");
+        }
+        End::Faults(line) => {
+            assert_eq!(rt; (ran.code, ran.bytes), (1, 0), "{words:?}");
+            assert_eq!(rt; ran.errors.as_slice(), line, "{words:?}");
+        }
+        End::Misuse => {
+            assert_eq!(rt; (ran.code, ran.bytes), (2, 0), "{words:?}");
+            assert!(rt; ran.errors.starts_with(b"error: "), "{words:?}");
+        }
+    }
+    Ok(())
+}
+
+#[test]
+fn numbers_of_the_words(rt: HostRuntime) -> Result<(), Fail> {
+    let alloc = rt.alloc();
+    let (game, text) = (cart(alloc, BRIEF)?, movie(alloc, 2)?);
+    let files = Files {
+        game: game.as_slice(),
+        other: b"",
+    };
+    let no_frame = End::Faults(b"fault: no frame 9999999 of 2\n");
+    let past = End::Faults(b"fault: range 0 to 9999999 of 2\n");
+    let turned = End::Faults(b"fault: range 9999999 to 0 of 2\n");
+    let both = End::Writes(2 * PICTURE, b"\0");
+    let cases: [(&[&str], End); 11] = [
+        (&["shot", "game.bin", "9999999"], no_frame),
+        (&["shot", "game.bin", "10000000"], End::Misuse),
+        (&["shot", "game.bin", "1"], End::Writes(PICTURE, b"\0")),
+        (&["export", "game.bin", "0", "9999999", "1"], past),
+        (&["export", "game.bin", "0", "10000000", "1"], End::Misuse),
+        (&["export", "game.bin", "9999999", "0", "1"], turned),
+        (&["export", "game.bin", "10000000", "0", "1"], End::Misuse),
+        (&["export", "game.bin", "0", "2", "0"], End::Misuse),
+        (&["export", "game.bin", "0", "2", "1"], both),
+        (&["export", "game.bin", "0", "2", "16"], both),
+        (&["export", "game.bin", "0", "2", "17"], End::Misuse),
+    ];
+    for (words, end) in cases {
+        ends(&rt, alloc, words, files, text.as_slice(), end)?;
+    }
+    // An undocumented opcode at its first instruction ends each trace.
+    let halting = cart(alloc, b"\x02")?;
+    let halt = End::Writes(13, b"F000 02 halt\n");
+    for (number, end) in [
+        ("0", End::Writes(0, b"")),
+        ("1000000", halt),
+        ("1000001", End::Misuse),
+    ] {
+        ends(
+            &rt,
+            alloc,
+            &["trace", number],
+            files,
+            halting.as_slice(),
+            end,
+        )?;
+    }
+    Ok(())
+}
+
+/// A line has 25 bytes; the last one is the jump at the end of a loop of five instructions.
+#[test]
+fn lines_of_a_trace(rt: HostRuntime) -> Result<(), Fail> {
+    let alloc = rt.alloc();
+    let game = cart(alloc, BRIEF)?;
+    let files = Files {
+        game: b"",
+        other: b"",
+    };
+    let all = End::Writes(25_000_000, b"4C 00 00 00 FD 36 3\n");
+    ends(
+        &rt,
+        alloc,
+        &["trace", "1000000"],
+        files,
+        game.as_slice(),
+        all,
+    )
+}
+
+#[test]
+fn frames_of_a_movie(rt: HostRuntime) -> Result<(), Fail> {
+    let alloc = rt.alloc();
+    let (game, longest) = (cart(alloc, BRIEF)?, movie(alloc, 65_536)?);
+    let longer = movie(alloc, 65_537)?;
+    let files = Files {
+        game: game.as_slice(),
+        other: b"",
+    };
+    let too_many = End::Faults(b"fault: movie line 65539: too many\n");
+    let no_frame = End::Faults(b"fault: no frame 65536 of 65536\n");
+    let cases: [(&[&str], &[u8], End); 5] = [
+        (
+            &["check", "game.bin"],
+            &longest,
+            End::Writes(16, b"ok 65536 frames\n"),
+        ),
+        (&["check", "game.bin"], &longer, too_many),
+        (
+            &["shot", "game.bin", "65535"],
+            &longest,
+            End::Writes(PICTURE, b"\0"),
+        ),
+        (&["shot", "game.bin", "65536"], &longest, no_frame),
+        (&["shot", "game.bin", "0"], &longer, too_many),
+    ];
+    for (words, text, end) in cases {
+        ends(&rt, alloc, words, files, text, end)?;
+    }
+    Ok(())
+}
+
+/// Edits at the most frames, by `tas edit` of a movie of three frames and by `tas script`.
+#[test]
+fn frames_of_an_edit(rt: HostRuntime) -> Result<(), Fail> {
+    let alloc = rt.alloc();
+    let (game, text) = (cart(alloc, BRIEF)?, movie(alloc, 3)?);
+    let longest = End::Writes(81 + 65_536 * 18, FRAME);
+    let too_long = End::Faults(b"fault: script line 1: long\n");
+    let cases: [(&[u8], End); 2] = [
+        (b"insert 3 65533 ..... ..... .....\n", longest),
+        (b"insert 3 65534 ..... ..... .....\n", too_long),
+    ];
+    for (other, end) in cases {
+        let files = Files {
+            game: game.as_slice(),
+            other,
+        };
+        ends(
+            &rt,
+            alloc,
+            &["edit", "game.bin", "other"],
+            files,
+            text.as_slice(),
+            end,
+        )?;
+    }
+    let files = Files {
+        game: game.as_slice(),
+        other: b"",
+    };
+    let script =
+        b"insert 0 65537 ..... ..... .....\ninsert 0 65536 ..... ..... .....\ninsert 0 1 ..... ..... .....\n";
+    let replies = b"long 0 len 0\nedit 1 len 65536\nlong 1 len 65536\n";
+    ends(
+        &rt,
+        alloc,
+        &["script"],
+        files,
+        script,
+        End::Writes(replies.len(), replies),
+    )
+}
+
+#[test]
+fn frames_of_one_export(rt: HostRuntime) -> Result<(), Fail> {
+    let alloc = rt.alloc();
+    let (game, text) = (cart(alloc, BRIEF)?, movie(alloc, 1025)?);
+    let files = Files {
+        game: game.as_slice(),
+        other: b"",
+    };
+    let most = End::Writes(1024 * PICTURE, b"\0");
+    let too_many = End::Faults(b"fault: range 0 to 1025 of 1025\n");
+    for (to, end) in [("1024", most), ("1025", too_many)] {
+        ends(
+            &rt,
+            alloc,
+            &["export", "game.bin", "0", to, "16"],
+            files,
+            text.as_slice(),
+            end,
+        )?;
+    }
+    Ok(())
+}
+
+/// How many bytes the replies to so many edits have that leave the movie empty.
+fn bytes_of_replies(edits: usize) -> usize {
+    let mut bytes = edits.saturating_mul(12);
+    let mut least = 1usize;
+    for _digit in 0..7u32 {
+        bytes = bytes.saturating_add(edits.saturating_add(1).saturating_sub(least));
+        least = least.saturating_mul(10);
+    }
+    bytes
+}
+
+/// A million edits, of 11 bytes each, and one more.
+#[test]
+fn edits_of_a_script(rt: HostRuntime) -> Result<(), Fail> {
+    let alloc = rt.alloc();
+    let files = Files {
+        game: b"",
+        other: b"",
+    };
+    assert_eq!(rt; bytes_of_replies(10), 9 * 13 + 14);
+    let script = repeated(alloc, b"", b"delete 0 0\n", 1_000_001)?;
+    let bytes = bytes_of_replies(1_000_000).saturating_add("full 1000000\n".len());
+    let end = End::Writes(bytes, b"edit 1000000 len 0\nfull 1000000\n");
+    ends(&rt, alloc, &["script"], files, script.as_slice(), end)
+}
+
+/// As many bytes as one input may have, and one more: of a cartridge, a movie text and a script.
+#[test]
+fn bytes_of_one_input(rt: HostRuntime) -> Result<(), Fail> {
+    let alloc = rt.alloc();
+    let game = cart(alloc, BRIEF)?;
+    let zeros = vec![in alloc; 0u8; MOST_BYTES]?;
+    let more = vec![in alloc; 0u8; MOST_BYTES + 1]?;
+    let size = End::Faults(b"fault: cartridge has 16777216 bytes\n");
+    let cut = End::Faults(b"fault: movie line 1: end\n");
+    let long = End::Faults(b"fault: input is too long\n");
+    let cases: [(&[&str], &[u8], &[u8], End); 6] = [
+        (&["trace", "1"], &game, &zeros, size),
+        (&["trace", "1"], &game, &more, long),
+        (&["check", "game.bin"], &zeros, b"", size),
+        (&["check", "game.bin"], &more, b"", long),
+        (&["check", "game.bin"], &game, &zeros, cut),
+        (&["check", "game.bin"], &game, &more, long),
+    ];
+    for (words, game, input, end) in cases {
+        let files = Files { game, other: b"" };
+        ends(&rt, alloc, words, files, input, end)?;
+    }
+    Ok(())
+}
+
+/// A line that loads a cartridge of so many bytes EA.
+fn load_line(alloc: Global, bytes: usize) -> Result<Vec<u8>, Fail> {
+    let mut line = repeated(alloc, b"load 000=", b"EA", bytes)?;
+    line.push(b'\n')?;
+    Ok(line)
+}
+
+/// 2,045 lines of 8,202 bytes and one of 4,126 have as many bytes as a script may have; with one byte more no line is answered.
+#[test]
+fn bytes_of_a_script(rt: HostRuntime) -> Result<(), Fail> {
+    let alloc = rt.alloc();
+    let files = Files {
+        game: b"",
+        other: b"",
+    };
+    let (line, last) = (load_line(alloc, 4096)?, load_line(alloc, 2058)?);
+    let mut script = repeated(alloc, b"", line.as_slice(), 2045)?;
+    script.extend_from_slice(last.as_slice())?;
+    assert_eq!(rt; script.len(), MOST_BYTES);
+    let all = End::Writes(bytes_of_replies(2046), b"edit 2046 len 0\n");
+    ends(&rt, alloc, &["script"], files, script.as_slice(), all)?;
+    script.push(b'l')?;
+    let long = End::Faults(b"fault: input is too long\n");
+    ends(&rt, alloc, &["script"], files, script.as_slice(), long)
+}

@@ -1,0 +1,156 @@
+//! A second reader of scripts, as plain as can be.
+
+use std::alloc::Global;
+use std::test::Fail;
+
+/// The letters of a frame, each where it stands when it is pressed or set.
+pub const LETTERS: &[u8; 17] = b"RLDUF RLDUF rsbAB";
+
+/// The letters and dots of a frame.
+pub type Frame = [u8; 17];
+
+/// What a line of a script asks for.
+#[derive(Clone, Copy)]
+pub enum Line {
+    Load([u8; 4096]),
+    Insert(usize, usize, Frame),
+    Replace(usize, usize, Frame),
+    Delete(usize, usize),
+    Len,
+    Input(usize),
+    Shot(usize),
+    Work(usize),
+}
+
+/// The words between the spaces of a line.
+fn words<'a>(alloc: Global, line: &'a [u8]) -> Result<Vec<&'a [u8]>, Fail> {
+    let mut words = Vec::new(alloc);
+    let mut rest = line;
+    for _ in 0..line.len() {
+        let Some(end) = rest.iter().position(|byte| *byte == b' ') else {
+            break;
+        };
+        let (word, others) = rest.split_at(end);
+        words.push(word)?;
+        rest = &others[1..];
+    }
+    words.push(rest)?;
+    Ok(words)
+}
+
+/// A number of one to seven digits, the first of which is 0 only where it is the only one.
+fn number(word: &[u8]) -> Option<usize> {
+    if word.is_empty() || word.len() > 7 || (word.len() > 1 && word.starts_with(b"0")) {
+        return None;
+    }
+    let mut value = 0usize;
+    for digit in word {
+        if !digit.is_ascii_digit() {
+            return None;
+        }
+        value = value
+            .saturating_mul(10)
+            .saturating_add(usize::from(*digit & 15));
+    }
+    Some(value)
+}
+
+/// The number that some upper case hexadecimal digits stand for; at most three are given.
+fn hexadecimal(digits: &[u8]) -> Option<usize> {
+    let mut value = 0usize;
+    for digit in digits {
+        let place = b"0123456789ABCDEF".iter().position(|other| other == digit)?;
+        value = value.saturating_mul(16).saturating_add(place);
+    }
+    Some(value)
+}
+
+/// Writes the bytes of a word `OFF=HEX` into an image. Whether it is such a word.
+fn write_part(word: &[u8], image: &mut [u8; 4096]) -> Option<()> {
+    let (offset, digits) = (word.get(..3)?, word.get(4..)?);
+    if word.get(3) != Some(&b'=') || digits.is_empty() || digits.len() % 2 != 0 {
+        return None;
+    }
+    let mut place = hexadecimal(offset)?;
+    for pair in digits.chunks(2) {
+        *image.get_mut(place)? = u8::try_from(hexadecimal(pair)?).ok()?;
+        place = place.saturating_add(1);
+    }
+    Some(())
+}
+
+/// The image of a `load` line with these parts.
+fn image_of(parts: &[&[u8]]) -> Option<[u8; 4096]> {
+    let mut image = [0u8; 4096];
+    for part in parts {
+        write_part(part, &mut image)?;
+    }
+    if parts.is_empty() { None } else { Some(image) }
+}
+
+/// The frame of three words.
+fn frame_of(words: &[&[u8]]) -> Option<Frame> {
+    let mut frame = [b' '; 17];
+    let mut place = 0usize;
+    for word in words {
+        for byte in word.iter() {
+            *frame.get_mut(place)? = *byte;
+            place = place.saturating_add(1);
+        }
+        place = place.saturating_add(1);
+    }
+    let is_right = frame.iter().zip(LETTERS).all(|(byte, letter)| byte == letter
+        || (*byte == b'.' && *letter != b' '));
+    let is_parted = words.len() == 3 && words.iter().all(|word| word.len() == 5);
+    if is_right && is_parted {
+        Some(frame)
+    } else {
+        None
+    }
+}
+
+/// A place, a count and a frame.
+fn frames(words: &[&[u8]]) -> Option<(usize, usize, Frame)> {
+    let (place, count) = (number(words.first()?)?, number(words.get(1)?)?);
+    Some((place, count, frame_of(words.get(2..)?)?))
+}
+
+/// What a line of one or two words behind a name asks for.
+fn short_line(name: &[u8], words: &[&[u8]]) -> Option<Line> {
+    if name == b"len".as_slice() && words.is_empty() {
+        return Some(Line::Len);
+    }
+    let first = number(words.first()?)?;
+    if name == b"delete".as_slice() && words.len() == 2 {
+        return Some(Line::Delete(first, number(words.get(1)?)?));
+    }
+    if words.len() != 1 {
+        return None;
+    }
+    if name == b"input".as_slice() {
+        Some(Line::Input(first))
+    } else if name == b"shot".as_slice() {
+        Some(Line::Shot(first))
+    } else if name == b"work".as_slice() {
+        Some(Line::Work(first))
+    } else {
+        None
+    }
+}
+
+/// What a line asks for; nothing where it isn't understood.
+pub fn read_line(alloc: Global, line: &[u8]) -> Result<Option<Line>, Fail> {
+    let words = words(alloc, line)?;
+    let Some((name, words)) = words.as_slice().split_first() else {
+        return Ok(None);
+    };
+    Ok(if *name == b"load".as_slice() {
+        image_of(words).map(Line::Load)
+    } else if *name == b"insert".as_slice() {
+        frames(words).map(|(place, count, frame)| Line::Insert(place, count, frame))
+    } else if *name == b"replace".as_slice() {
+        frames(words).map(|(place, count, frame)| Line::Replace(place, count, frame))
+    } else {
+        short_line(name, words)
+    })
+}

@@ -1,0 +1,95 @@
+//! Scripts that are cut off or have one wrong byte.
+
+use crate::plain_editor::answer_plainly;
+use std::alloc::Global;
+use std::process::Abort;
+use std::sync::Wait;
+use std::test::Fail;
+use tas_tool::{ToolFault, script_run};
+
+/// Ten lines. The cartridge colours a frame by what port A shows, turned round, so that it is black where nothing is pressed;
+/// then it waits for 36 lines, of which two are on the picture, and ends the frame by vertical sync.
+static SCRIPT: &[u8] = b"len\n\
+    load 000=AD800249FF8509A2248502CAD0FBA902850086004C00F0 FFC=00F0\n\
+    insert 0 2 R.... ..... .....\n\
+    input 1\n\
+    delete 0 1\n\
+    replace 0 1 ..... ..... .....\n\
+    len\n\
+    insert 1 1 .L..F ...U. rsbAB\n\
+    work 2\n\
+    shot 1\n";
+
+/// Its replies by hand.
+static REPLIES: &[u8] =
+    b"len 0 0\nedit 1 len 0\nedit 2 len 2\ninput 2 R.... ..... .....\nedit 3 len 1\n\
+    edit 4 len 1\nlen 4 1\nedit 5 len 2\nwork jobs 1 kept 0 stale 0\nshot 5 1 ran 2 lit 320\n";
+
+/// Whether a script is answered as the second reader answers it.
+fn is_alike<R: Wait>(rt: &R, alloc: Global, script: &[u8]) -> Result<bool, Fail> {
+    let mut replies = Vec::new(alloc);
+    let mut input = script;
+    let end = script_run(rt, alloc, &mut input, &mut replies);
+    let (wanted, fault) = answer_plainly(alloc, script)?;
+    let wanted_end = match fault {
+        Some(line) => Err(ToolFault::Script { line }),
+        None => Ok(()),
+    };
+    Ok(end == wanted_end && replies == wanted)
+}
+
+#[test]
+fn scripts_are_cut_off_anywhere(rt: HostRuntime) -> Result<(), Fail> {
+    let alloc = rt.alloc();
+    let (replies, fault) = answer_plainly(alloc, SCRIPT)?;
+    assert_eq!(rt; replies.as_slice(), REPLIES);
+    assert_eq!(rt; fault, None);
+    for count in 0..SCRIPT.len() + 1 {
+        if let Some(front) = SCRIPT.get(..count) {
+            assert!(rt; is_alike(&rt, alloc, front)?, "{count} bytes");
+        }
+    }
+    Ok(())
+}
+
+/// Puts each byte in turn at each of these places of the script.
+fn change_each<R: Wait + Abort>(rt: &R, alloc: Global, from: usize, to: usize) -> Result<(), Fail> {
+    let mut script = Vec::new(alloc);
+    script.extend_from_slice(SCRIPT)?;
+    for place in from..to {
+        for byte in 0..=255u8 {
+            if let Some(at) = script.get_mut(place) {
+                let before = *at;
+                *at = byte;
+                assert!(rt;
+                    is_alike(rt, alloc, script.as_slice())?,
+                    "byte {place} is {byte}"
+                );
+                if let Some(at) = script.get_mut(place) {
+                    *at = before;
+                }
+            }
+        }
+    }
+    Ok(())
+}
+
+#[test]
+fn each_byte_of_the_load_line_may_be_wrong(rt: HostRuntime) -> Result<(), Fail> {
+    change_each(&rt, rt.alloc(), 0, 69)
+}
+
+#[test]
+fn each_byte_up_to_the_deletion_may_be_wrong(rt: HostRuntime) -> Result<(), Fail> {
+    change_each(&rt, rt.alloc(), 69, 117)
+}
+
+#[test]
+fn each_byte_of_the_replacement_may_be_wrong(rt: HostRuntime) -> Result<(), Fail> {
+    change_each(&rt, rt.alloc(), 117, 151)
+}
+
+#[test]
+fn each_byte_of_the_last_lines_may_be_wrong(rt: HostRuntime) -> Result<(), Fail> {
+    change_each(&rt, rt.alloc(), 151, SCRIPT.len())
+}
