@@ -2,7 +2,7 @@ use Rattle.std.proofs.Common.{◌∙◌, ap, sym, arith}
 use Rattle.vcs_tia.specs.declared.chip.Sync.{Sync}
 use Rattle.vcs_tia.proofs.Later.{sync-after_clocks}
 use Rattle.vcs_tia.proofs.Traces.{clocks_passed-after_clocks}
-use Rattle.vcs_machine.specs.Bus.{lagging_of}
+use Rattle.vcs_machine.specs.Console.{content_of}
 use Rattle.vcs_machine.proofs.Clocks.{clocks-instruction}
 use Rattle.vcs_machine.proofs.Lagging.{after_wait-none, not_over-early}
 use Rattle.vcs_machine.proofs.bus.ConsoleBusSettle.settle.Goals as goal
@@ -22,7 +22,7 @@ returns-then-self-clause-settled g c =
     let b = c.args.self.now in
     let quiet = b.still b.clocks (omega (arith, c.if-self.true)) in (
       sym (after_wait-none g.O.Observer.observe g.met.O.Observer.observe_nil g.met.O.Observer.observe_append
-          (lagging_of g.O.Observer.observe b.rom.now b.pins b.riot.now b.tia.now (g.O.Observer.seen b.observer.now) b.ticks b.clocks)
+          (content_of b)
           (ap (λ (s : Sync). s.wait_owed) (sync-after_clocks b.clocks b.tia.now) ∙ quiet.waits)),
       sym (not_over-early b.clocks b.tia.now quiet.rose quiet.low),
     )
