@@ -2,7 +2,7 @@
 
 use super::*;
 use std::test::Fail;
-use vcs_machine::Input;
+use vcs_machine::{CART_SIZE, Input};
 
 fn pressed_right() -> Input {
     let mut input = Input::none();
