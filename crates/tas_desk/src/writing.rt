@@ -4,7 +4,8 @@ ghost use Rattle.std.specs.Prelude.{◌≡◌, ◌+◌, ◌-◌, ◌≤◌, ◌<
 ghost use Rattle.std.specs.List.{concat};
 ghost use Rattle.std.specs.Io.KnownBytes.{Appends};
 
-use crate::pixmaps::Pixmaps;
+use crate::runs::Run;
+use std::alloc::Allocator;
 use std::io::{Error, ErrorKind, Write};
 
 /// A write failed, or took no byte, after so many bytes.
@@ -49,16 +50,19 @@ fn send<W: Write>(bytes: &[u8], before: usize, to: &mut W) -> Result<usize, Writ
 }
 
 /// Writes the pixmaps of runs, one after the other.
-pub fn write_pixmaps<W: Write>(all_pixmaps: &[Pixmaps], to: &mut W) -> Result<(), WriteFault>
-    requires { length (concat all_pixmaps.now) < 2 ^ 64 }
-    ensures ok { OnOk result (Appends (W.contents to.old) (W.contents to.new) (concat all_pixmaps.now)) }
+pub fn write_pixmaps<A: Allocator, W: Write>(
+    runs: &[Run<A>],
+    to: &mut W,
+) -> Result<(), WriteFault>
+    requires { length (concat (map (λ run. run.pixmaps) runs.now)) < 2 ^ 64 }
+    ensures ok { OnOk result (Appends (W.contents to.old) (W.contents to.new) (concat (map (λ run. run.pixmaps) runs.now))) }
     ensures fault { IfErr result (λ f. Appends (W.contents to.old) (W.contents to.new)
-        (take f.written (concat all_pixmaps.now))) }
-    ensures short { IfErr result (λ f. f.written < length (concat all_pixmaps.now)) }
+        (take f.written (concat (map (λ run. run.pixmaps) runs.now)))) }
+    ensures short { IfErr result (λ f. f.written < length (concat (map (λ run. run.pixmaps) runs.now))) }
 {
     let mut written = 0;
-    for pixmaps in all_pixmaps {
-        written = send(pixmaps.bytes(), written, to)?;
+    for run in runs {
+        written = send(run.pixmaps.bytes(), written, to)?;
     }
     Ok(())
 }
