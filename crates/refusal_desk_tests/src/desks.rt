@@ -33,7 +33,7 @@ const BEFORE: [Change; 4] = [
 const PLAYFIELD_OF_200: [Change; 2] = [Change::LoadPlayfield, Change::Insert(0, 200)];
 
 /// The seat makes these edits.
-fn make_edits<'a, N: Name, R: Wait>(
+pub fn make_edits<'a, N: Name, R: Wait>(
     rt: &R,
     heap: &'a Heap,
     desk: &Desk<N, &R, &'a Heap>,

@@ -14,6 +14,12 @@ const BRIEF: &[u8] = b"\xA9\x02\x85\x00\xA9\x00\x85\x00\x4C\x00\xF0";
 /// `000=A910850DA91E85084C08F0 FFC=00F0`: a playfield of 1,680 lit pixels in each frame.
 const PLAYFIELD: &[u8] = b"\xA9\x10\x85\x0D\xA9\x1E\x85\x08\x4C\x08\xF0";
 
+/// `000=AD8002C9FFF00D658085808509A2508502 011=CAD0FBA9028500A90085004C00F0 FFC=00F0`: adds what the joysticks show to a byte,
+/// colours the background by it for 80 lines, and ends the frame by vertical sync; while the joysticks are at rest, it ends it at
+/// once. So a picture depends on all inputs up to it, and the frames are soon played.
+const FOLDING: &[u8] =
+    b"\xAD\x80\x02\xC9\xFF\xF0\x0D\x65\x80\x85\x80\x85\x09\xA2\x50\x85\x02\xCA\xD0\xFB\xA9\x02\x85\x00\xA9\x00\x85\x00\x4C\x00\xF0";
+
 /// An edit in short.
 #[derive(Clone, Copy, Debug, PartialEq, Eq)]
 pub enum Change {
@@ -21,8 +27,14 @@ pub enum Change {
     Load,
     /// The playfield's cartridge.
     LoadPlayfield,
+    /// The cartridge that adds up inputs, unless nothing is pressed.
+    LoadFolding,
     /// So many inputs with nothing pressed, at a place.
     Insert(usize, usize),
+    /// So many inputs with the left stick pushed right, at a place.
+    InsertRight(usize, usize),
+    /// One input with the left stick pushed up, at a place.
+    InsertUp(usize),
     /// One input with the left stick pushed right over that at a place.
     ReplaceRight(usize),
     /// So many inputs taken out at a place.
@@ -33,8 +45,10 @@ impl Change {
     /// The length of a movie after it.
     pub fn len_after(self, len: usize) -> usize {
         match self {
-            Change::Load | Change::LoadPlayfield | Change::ReplaceRight(_) => len,
-            Change::Insert(_, count) => len.saturating_add(count),
+            Change::Load | Change::LoadPlayfield | Change::LoadFolding | Change::ReplaceRight(_) =>
+                len,
+            Change::Insert(_, count) | Change::InsertRight(_, count) => len.saturating_add(count),
+            Change::InsertUp(_) => len.saturating_add(1),
             Change::Delete(_, count) => len.saturating_sub(count),
         }
     }
@@ -60,12 +74,23 @@ fn copies<A: Allocator>(alloc: A, input: Input, count: usize) -> Result<Inputs<A
 pub fn edit_of<A: Allocator>(alloc: A, change: Change) -> Result<Edit<A>, AllocError> {
     let mut right = Input::none();
     right.left.right = true;
+    let mut up = Input::none();
+    up.left.up = true;
     Ok(match change {
         Change::Load => Edit::Load(cart_of(alloc, BRIEF)?),
         Change::LoadPlayfield => Edit::Load(cart_of(alloc, PLAYFIELD)?),
+        Change::LoadFolding => Edit::Load(cart_of(alloc, FOLDING)?),
         Change::Insert(at, count) => Edit::Insert {
             at,
             inputs: copies(alloc, Input::none(), count)?,
+        },
+        Change::InsertRight(at, count) => Edit::Insert {
+            at,
+            inputs: copies(alloc, right, count)?,
+        },
+        Change::InsertUp(at) => Edit::Insert {
+            at,
+            inputs: copies(alloc, up, 1)?,
         },
         Change::ReplaceRight(at) => Edit::Replace {
             at,

@@ -8,6 +8,10 @@ mod desks;
 #[cfg(test)]
 mod edits;
 #[cfg(test)]
+mod players;
+#[cfg(test)]
 mod runs;
 #[cfg(test)]
 mod session_tests;
+#[cfg(test)]
+mod thread_tests;

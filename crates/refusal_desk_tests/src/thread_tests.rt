@@ -1,0 +1,251 @@
+//! Desks whose seats call on threads of their own, with one growth of them all refused: the call that met it answers want of
+//! memory and is right when it is made again, and each other call is right.
+
+ghost use Rattle.std.specs.Prelude.{◌≡◌, ◌≤◌};
+ghost use Rattle.tas_desk.specs.Seats.{name_of};
+
+use crate::desks::make_edits;
+use crate::edits::{Change, edit_of};
+use crate::players::{FIRST_AT, FIRST_LEN, FRAME, Player, TURNS, sum_of};
+use crate::runs::{Heap, MOST, NEVER, Run};
+use refusals::Refusing;
+use std::alloc::{AllocError, Global};
+use std::marker::Brand;
+use std::sync::Wait;
+use std::test::Fail;
+use std::thread::{Threads, join_mut};
+use tas_desk::{Closed, Desk, Name, Seat, Unopened};
+use tas_movie::{Edit, Movie, apply, check};
+use vcs_machine::{Meter, State, play};
+use vcs_tia::Picture;
+
+/// How many edits all players make.
+const EDITS: usize = 6;
+
+/// What a player puts in.
+const INSERTED: Change = Change::InsertUp(64);
+
+/// What makes the movie before the players begin.
+const FIRST: [Change; 3] = [
+    Change::LoadFolding,
+    Change::Insert(0, 64),
+    Change::InsertRight(64, 8),
+];
+
+/// The movie's frame, played from power-on: the sum over its picture.
+fn drawn_sum(alloc: Global, movie: &Movie) -> Result<u64, Fail> {
+    let mut picture = Picture::blank(alloc)?;
+    let mut state = State::power_on(movie.cart());
+    for input in movie.inputs().iter().take(FRAME + 1) {
+        let mut meter = Meter::new();
+        let played = play(movie.cart(), &mut state, *input, &mut picture, &mut meter);
+        if played.is_err() {
+            return Err("a frame that is drawn".into());
+        }
+    }
+    Ok(sum_of(&picture))
+}
+
+/// The sums over the frame's picture after no edit of a player, after one, and so on.
+fn drawn_sums(alloc: Global) -> Result<Vec<u64>, Fail> {
+    let mut movie = Movie::blank(alloc)?;
+    let mut sums = Vec::new(alloc);
+    for number in 0..FIRST.len() + EDITS {
+        let edit = edit_of(alloc, FIRST.get(number).copied().unwrap_or(INSERTED))?;
+        if check(&movie, &edit).is_err() {
+            return Err("an edit that is allowed".into());
+        }
+        apply(&mut movie, &edit);
+        if number + 1 >= FIRST.len() {
+            sums.push(drawn_sum(alloc, &movie)?)?;
+        }
+    }
+    Ok(sums)
+}
+
+/// A player at each seat, with its edits.
+fn players<'a, N: Name>(
+    alloc: Global,
+    heap: &'a Heap,
+    seats: Vec<Seat<N, &'a Heap>, &'a Heap>,
+) -> Result<Vec<Player<'a, N>>, Fail> {
+    let mut players = Vec::new(alloc);
+    for seat in seats {
+        let mut edits = Vec::new(alloc);
+        for _copy in 0..4 {
+            edits.push(edit_of(heap, INSERTED)?)?;
+        }
+        players.push(Player {
+            seat,
+            edits,
+            seen: FIRST_AT,
+            refused: 0,
+            wrong: None,
+        })?;
+    }
+    Ok(players)
+}
+
+/// The players take their turns, each on a thread of its own.
+fn take_turns<'a, N: Name + Send + Sync, R: Threads + Wait + Sync>(
+    rt: &R,
+    heap: &'a Heap,
+    desk: &Desk<N, &R, &'a Heap>,
+    players: &mut [Player<'a, N>],
+    sums: &[u64],
+) {
+    let Some((one, others)) = players.split_first_mut() else {
+        return;
+    };
+    join_mut(
+        rt,
+        &mut || one.take_all(rt, heap, desk, sums, &TURNS[0]),
+        &mut || take_last_turns(rt, heap, desk, sums, others),
+    );
+}
+
+/// So do the last two of them.
+fn take_last_turns<'a, N: Name + Send + Sync, R: Threads + Wait + Sync>(
+    rt: &R,
+    heap: &'a Heap,
+    desk: &Desk<N, &R, &'a Heap>,
+    sums: &[u64],
+    players: &mut [Player<'a, N>],
+) {
+    let Some((two, others)) = players.split_first_mut() else {
+        return;
+    };
+    let Some(three) = others.first_mut() else {
+        return;
+    };
+    join_mut(
+        rt,
+        &mut || two.take_all(rt, heap, desk, sums, &TURNS[1]),
+        &mut || three.take_all(rt, heap, desk, sums, &TURNS[2]),
+    );
+}
+
+/// Whether each call was right, and one of them was refused memory just where a growth was; and whether further calls of each
+/// seat answer the movie of all edits.
+fn were_right<'a, N: Name, R: Wait>(
+    heap: &'a Heap,
+    desk: &Desk<N, &R, &'a Heap>,
+    players: &mut [Player<'a, N>],
+    sums: &[u64],
+) -> Run {
+    let has_refused = heap.has_refused();
+    heap.refuse(NEVER);
+    let mut refused = 0u64;
+    for player in players {
+        refused = refused.saturating_add(player.refused);
+        let is_right = player.wrong.is_none() && player.edits.is_empty();
+        if !is_right || !player.looks(desk) || !player.shot(heap, desk, sums) {
+            return Run::Wrong;
+        }
+        if player.seen != FIRST_AT + EDITS as u64 {
+            return Run::Wrong;
+        }
+    }
+    Run::ended(has_refused, refused == u64::from(has_refused))
+}
+
+/// Whether the history has each edit of each seat once, in its order, and the movie is of all of them.
+fn is_complete(closed: &Closed<&Heap>) -> bool {
+    let mut made = [0u64; 3];
+    for (number, entry) in closed.journal.iter().enumerate() {
+        let seat = entry.seat as usize;
+        if seat >= 3 || entry.serial != made[seat] {
+            return false;
+        }
+        made[seat] = made[seat].saturating_add(1);
+        if number >= FIRST.len() && !is_inserted(&entry.edit) {
+            return false;
+        }
+    }
+    made == [5, 2, 2] && closed.movie.len() == FIRST_LEN + EDITS
+}
+
+/// Whether an edit is one of a player.
+fn is_inserted(edit: &Edit<&Heap>) -> bool {
+    match edit {
+        Edit::Insert { at, inputs } => *at == 64 && inputs.as_slice().len() == 1,
+        _ => false,
+    }
+}
+
+/// A desk of three seats, whose players take their turns with one growth refused.
+fn run_at<'a, N: Name + Send + Sync, R: Threads + Wait + Sync>(
+    rt: &R,
+    alloc: Global,
+    heap: &'a Heap,
+    unopened: Unopened<&'a Heap>,
+    sums: &[u64],
+    number: u64,
+) -> Result<Run, Fail>
+    requires name { unopened ≡ name_of N.registry N.name N.seats }
+    requires named { N.parts ≡ N.seats }
+    requires number { 1 ≤ number }
+{
+    let (desk, mut seats) = Desk::<N, &R, &'a Heap>::open(rt, heap, unopened).map_err(
+        |_| AllocError,
+    )?;
+    let first = seats.first_mut().ok_or("a seat")?;
+    make_edits(rt, heap, &desk, first, &FIRST)?;
+    let mut players = players(alloc, heap, seats)?;
+    heap.refuse(number);
+    take_turns(rt, heap, &desk, players.as_mut_slice(), sums);
+    let run = were_right(heap, &desk, players.as_mut_slice(), sums);
+    let mut seats = Vec::new(heap);
+    for player in players {
+        let Player { seat, .. } = player;
+        seats.push(seat)?;
+    }
+    if !desk.whole(seats.as_slice()) {
+        return Err("all seats come back".into());
+    }
+    let closed = desk.close(rt, seats);
+    Ok(if is_complete(&closed) {
+        run
+    } else {
+        Run::Wrong
+    })
+}
+
+/// A run of three players with one growth refused.
+fn run_players<R: Threads + Wait + Sync>(
+    rt: &R,
+    alloc: Global,
+    sums: &[u64],
+    number: u64,
+) -> Result<Run, Fail>
+    requires { 1 ≤ number }
+{
+    let heap = Refusing::new(alloc, NEVER);
+    let unopened = Unopened::new(&heap, 3).map_err(|_| AllocError)?;
+    run_at::<Brand, R>(rt, alloc, &heap, unopened, sums, number)
+}
+
+#[test]
+fn three_seats_on_three_threads(rt: HostRuntime) -> Result<(), Fail> {
+    let alloc = rt.alloc();
+    let sums = drawn_sums(alloc)?;
+    for made in 1..sums.len() {
+        assert_ne!(rt;
+            sums[made - 1],
+            sums[made],
+            "the picture after {made} edits"
+        );
+    }
+    let mut refused = 0;
+    for number in 1..MOST {
+        let run = run_players(&rt, alloc, sums.as_slice(), number)?;
+        if run == Run::Done {
+            break;
+        }
+        assert_eq!(rt; run, Run::Refused, "growth {number}");
+        refused = number;
+    }
+    // How many there are depends on who comes first: where two edits come between two shots, the movie is copied once.
+    assert!(rt; 30 <= refused && refused < MOST - 1, "{refused} growths");
+    Ok(())
+}
