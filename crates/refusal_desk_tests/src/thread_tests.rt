@@ -13,8 +13,7 @@ use std::alloc::{AllocError, Global};
 use std::marker::Brand;
 use std::sync::Wait;
 use std::test::Fail;
-use std::thread;
-use std::thread::Threads;
+use std::thread::{Threads, join_mut};
 use tas_desk::{Closed, Desk, Name, Seat, Unopened};
 use tas_movie::{Edit, Movie, apply, check};
 use vcs_machine::{Meter, State, play};
@@ -95,15 +94,34 @@ fn take_turns<'a, N: Name + Send + Sync, R: Threads + Wait + Sync>(
     players: &mut [Player<'a, N>],
     sums: &[u64],
 ) {
-    thread::for_each_mut(
+    let Some((one, others)) = players.split_first_mut() else {
+        return;
+    };
+    join_mut(
         rt,
-        players,
-        3,
-        &|k, player| {
-            if let Some(turns) = TURNS.get(k) {
-                player.take_all(rt, heap, desk, sums, turns);
-            }
-        },
+        &mut || one.take_all(rt, heap, desk, sums, &TURNS[0]),
+        &mut || take_last_turns(rt, heap, desk, sums, others),
+    );
+}
+
+/// So do the last two of them.
+fn take_last_turns<'a, N: Name + Send + Sync, R: Threads + Wait + Sync>(
+    rt: &R,
+    heap: &'a Heap,
+    desk: &Desk<N, &R, &'a Heap>,
+    sums: &[u64],
+    players: &mut [Player<'a, N>],
+) {
+    let Some((two, others)) = players.split_first_mut() else {
+        return;
+    };
+    let Some(three) = others.first_mut() else {
+        return;
+    };
+    join_mut(
+        rt,
+        &mut || two.take_all(rt, heap, desk, sums, &TURNS[1]),
+        &mut || three.take_all(rt, heap, desk, sums, &TURNS[2]),
     );
 }
 
