@@ -10,6 +10,6 @@ returns c =
     let t = c.args.self.now in
     let n = c.args.clocks in
     let addr = c.args.addr in
-    c.read.ensures
+    c.read-2.ensures
     ∙ sym (ap (read_at addr) (after_clocks-changes n t)
     ∙ ap (λ (l : Latches). read_at addr (with_clocked t l (after_clocks n t).beam)) (c.may_meet.ensures c.if-may_meet.false))
