@@ -124,7 +124,7 @@ get_drop [] (suc n) = refl
 get_drop (x ∷ xs) zero = refl
 get_drop (x ∷ xs) (suc n) = get_drop xs n
 
-none_some : (i : Input) → ◌≡◌ {A = Option Input} None (Some i) → ⊥
+pub none_some : (i : Input) → ◌≡◌ {A = Option Input} None (Some i) → ⊥
 none_some i e = cc
 
 some_below : (xs : List Input) (n : ℕ) (i : Input) → slice_get xs n ≡ Some i → n < length xs

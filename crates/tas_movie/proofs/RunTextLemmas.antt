@@ -1,11 +1,11 @@
 -- The text of runs.
-use Rattle.std.proofs.Common.{◌≡◌, ℕ, ◌+◌, ◌-◌, ◌%◌, ◌^◌, ◌<◌, ◌≤◌, ◌⊎◌, inl, inr, ⊎_elim, Bool, true, false, not, ◌&&◌, cond, List, [], ◌∷◌, ◌++◌, length, take, drop, Option, Some, None, refl, sym, ap, subst, ◌∙◌, arith, append_assoc}
+use Rattle.std.proofs.Common.{◌≡◌, ℕ, zero, suc, ◌+◌, ◌-◌, ◌%◌, ◌^◌, ◌<◌, ◌≤◌, ◌⊎◌, inl, inr, ⊎_elim, Bool, true, false, not, ◌&&◌, cond, List, [], ◌∷◌, ◌++◌, length, get_or, take, drop, Option, Some, None, refl, sym, ap, subst, ◌∙◌, arith, append_assoc}
 use Rattle.std.specs.Prelude.{codes, decimal, replicate, slice_get, nat_le, nat_lt}
 use Rattle.std.specs.List.{flat_map}
 use Rattle.std.specs.Str.{bytes_eq}
 use Rattle.std.proofs.lemmas.Bool.{both_ways, cases_Bool, cases_eq, ne_eqb, and_parts, and_from, le-leb, lt-leb, leb-true, lt-ltb, le-ltb}
-use Rattle.std.proofs.lemmas.Fmt.{decimal_by_steps, decimal_is_IsNumeral}
-use Rattle.std.proofs.lemmas.List.{append-nil, length-append, length-replicate, take-append-drop, flat_map_more}
+use Rattle.std.proofs.lemmas.Fmt.{decimal_by_steps, decimal_injective, decimal_is_IsNumeral}
+use Rattle.std.proofs.lemmas.List.{append-nil, length-append, length-replicate, take-append-drop, take_all, flat_map_more}
 use Rattle.std.proofs.lemmas.Slice.Eq.{bytes_eq-Decides}
 use Rattle.vcs_machine.specs.declared.input.Input.{Input}
 use Rattle.vcs_machine.specs.Input.{are_same_inputs}
@@ -281,3 +281,34 @@ run_parts l letters behind r front back is = (front ∙ ap (λ (x : List ℕ). t
 
 pub run_length-ge : (l : List ℕ) (r : FrameRun) → l ≡ run_text r → 17 ≤ length l
 run_length-ge l r is = let e : length l ≡ length (run_text r) = ap length is in omega (arith, e, length-append (frame_text r.input) (count_text r.count))
+
+-- the digits behind the mark are one number's text
+pub same_count : (bytes digits : List ℕ) (m n : ℕ) → digits ≡ drop 2 bytes → digits ≡ decimal m → m < 2 ^ 64 → n < 2 ^ 64 → bytes ≡ 32 ∷ 120 ∷ decimal n → n ≡ m
+same_count bytes digits m n back number lt less is = decimal_injective n m less lt (sym (ap (λ (l : List ℕ). drop 2 l) is) ∙ sym back ∙ number)
+
+-- the mark and the digits of a count
+pub mark_is : (bytes mark : List ℕ) (n : ℕ) → bytes ≡ count_text n → 1 ≤ n → (length bytes ≡ 0 → ⊥) → mark ≡ take 2 bytes → mark ≡ 32 ∷ 120 ∷ []
+mark_is bytes mark n is le some front = front ∙ ap (λ (l : List ℕ). take 2 l) (count_is bytes n is le some).1
+
+pub digits_are : (bytes digits : List ℕ) (n : ℕ) → bytes ≡ count_text n → 1 ≤ n → (length bytes ≡ 0 → ⊥) → digits ≡ drop 2 bytes → digits ≡ decimal n
+digits_are bytes digits n is le some back = back ∙ ap (λ (l : List ℕ). drop 2 l) (count_is bytes n is le some).1
+
+pub long_count : (bytes : List ℕ) (n : ℕ) → bytes ≡ count_text n → 1 ≤ n → (length bytes ≡ 0 → ⊥) → 2 ≤ length bytes
+long_count bytes n is le some = let e : length bytes ≡ length (32 ∷ 120 ∷ decimal n) = ap length (count_is bytes n is le some).1 in omega (arith, e)
+
+-- ---- steps of the code
+
+-- so many copies more at the end of a list
+pub resized : (old : List Input) (all k n : ℕ) (i : Input) → length old ≤ all → k ≡ n → take all old ++ replicate k i ≡ old ++ replicate n i
+resized old all k n i le e = ap (λ (l : List Input). l ++ replicate k i) (take_all all old le) ∙ ap (λ (m : ℕ). old ++ replicate m i) e
+
+pub shorter : (rest l after : List ℕ) → rest ≡ line l ++ after → 1 + length after ≤ length rest
+shorter rest l after is = let e : length rest ≡ length (line l ++ after) = ap length is in omega (arith, e, length-append (line l) after, length-append l (10 ∷ []))
+
+pub first_is : (xs : List Input) (d : Input) → (length xs ≡ 0 → ⊥) → slice_get xs 0 ≡ Some (get_or xs 0 d)
+first_is [] d some = absurd (some refl)
+first_is (x ∷ xs) d some = refl
+
+pub run_some : (xs : List Input) (i : Input) (n : ℕ) → slice_get xs 0 ≡ Some i → (length xs ≡ 0 → ⊥) → (n < length xs → slice_get xs n ≡ Some i → ⊥) → 1 ≤ n
+run_some xs i zero first some longest = absurd (longest (omega arith) first)
+run_some xs i (suc n) first some longest = omega arith

@@ -15,6 +15,9 @@ use crate::{MAX_FRAMES, TextError, TextErrorKind};
 use std::alloc::Allocator;
 use vcs_machine::Input;
 
+/// The least number of frames that a line counts; one frame has no count.
+const LEAST_COUNT: usize = 2;
+
 /// How often a frame comes, by the bytes behind its 17 characters: once where there are none, else as often as
 /// the number behind ` x` says, which is 2 at least and as many as a movie has frames at most.
 fn read_count(bytes: &[u8]) -> Option<usize>
@@ -34,7 +37,10 @@ fn read_count(bytes: &[u8]) -> Option<usize>
     let Some(count) = read_decimal(digits) else {
         return None;
     };
-    if count < 2 || count > MAX_FRAMES {
+    if count < LEAST_COUNT {
+        return None;
+    }
+    if count > MAX_FRAMES {
         return None;
     }
     Some(count)
@@ -80,13 +86,14 @@ fn next_run(before: &[Input], line: &[u8]) -> Result<FrameRun, TextErrorKind>
     if before.len() >= MAX_FRAMES {
         return Err(TextErrorKind::TooMany);
     }
+    let room = MAX_FRAMES - before.len();
     let Some(run) = read_run(line) else {
         return Err(TextErrorKind::Frame);
     };
     if is_repeated(before, run.input) {
         return Err(TextErrorKind::Run);
     }
-    if run.count > MAX_FRAMES - before.len() {
+    if run.count > room {
         return Err(TextErrorKind::TooMany);
     }
     Ok(run)
