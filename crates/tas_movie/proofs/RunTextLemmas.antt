@@ -142,7 +142,32 @@ runs_read bytes old new rest l after r is rest-is said other new-is =
     ∙ sym (append_assoc (flat_map run_line (runs_of old)) (run_line r) after)
     ∙ ap (λ (q : List ℕ). q ++ after) (flat_map_more run_line [] (runs_of old) r ∙ ap (flat_map run_line) (sym (runs_more old r said.1 (apart_last old r.input other)) ∙ ap runs_of (sym new-is)))
 
+-- no run is read yet
+pub none_read : (list : List Input) (bytes : List ℕ) → list ≡ [] → bytes ≡ flat_map run_line (runs_of list) ++ bytes
+unfolding runs_of
+none_read list bytes none = ap (λ (l : List Input). flat_map run_line (runs_of l) ++ bytes) (sym none)
+
 -- ---- printing
+
+-- a frame that comes once is printed
+pub printed_once : (out frame framed now : List ℕ) (r : FrameRun) → r.count ≡ 1 → frame ≡ frame_text r.input → framed ≡ out ++ frame → now ≡ framed ++ 10 ∷ [] → now ≡ out ++ run_line r
+printed_once out frame framed now r one frame-is framed-is now-is =
+    now-is ∙ ap (λ (l : List ℕ). l ++ 10 ∷ []) (framed-is ∙ ap (λ (l : List ℕ). out ++ l) frame-is)
+    ∙ append_assoc out (frame_text r.input) (10 ∷ [])
+    ∙ ap (λ (n : ℕ). out ++ line (frame_text r.input ++ count_text n)) (sym one)
+
+-- a frame that comes more than once is printed
+pub printed_often : (out frame framed marked times counted now : List ℕ) (r : FrameRun) → (r.count ≡ 1 → ⊥) → frame ≡ frame_text r.input → framed ≡ out ++ frame → marked ≡ framed ++ codes " x"
+    → times ≡ decimal r.count → counted ≡ marked ++ times → now ≡ counted ++ 10 ∷ [] → now ≡ out ++ run_line r
+printed_often out frame framed marked times counted now r ne frame-is framed-is marked-is times-is counted-is now-is =
+    let begun : List ℕ = frame_text r.input in
+    let number : List ℕ = decimal r.count in
+    let together : counted ≡ ((out ++ begun) ++ codes " x") ++ number =
+    counted-is ∙ ap (λ (l : List ℕ). marked ++ l) times-is ∙ ap (λ (l : List ℕ). l ++ number) (marked-is ∙ ap (λ (l : List ℕ). l ++ codes " x") (framed-is ∙ ap (λ (l : List ℕ). out ++ l) frame-is)) in
+    now-is
+    ∙ ap (λ (l : List ℕ). l ++ 10 ∷ []) (together ∙ append_assoc (out ++ begun) (codes " x") number ∙ append_assoc out begun (codes " x" ++ number))
+    ∙ append_assoc out (begun ++ (codes " x" ++ number)) (10 ∷ [])
+    ∙ ap (λ (b : Bool). out ++ line (begun ++ cond b [] (codes " x" ++ number))) (sym (ne_eqb r.count 1 ne))
 
 -- a run more is printed
 pub runs_printed : (out now : List ℕ) (rest after : List Input) (i : Input) (n : ℕ) (whole : List ℕ) → 1 ≤ n → take n rest ≡ replicate n i → (n < length rest → slice_get rest n ≡ Some i → ⊥)

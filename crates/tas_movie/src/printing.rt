@@ -1,7 +1,8 @@
 //! Printing the text of a movie.
 
-ghost use Rattle.std.specs.Prelude.{◌≡◌, ◌++◌, IfOk, OnOk};
+ghost use Rattle.std.specs.Prelude.{◌≡◌, ◌≤◌, ◌++◌, length, IfOk, OnOk};
 ghost use Rattle.std.specs.List.{flat_map};
+ghost use Rattle.tas_movie.specs.Content.{most_inputs};
 ghost use Rattle.tas_movie.specs.Runs.{runs_of};
 ghost use Rattle.tas_movie.specs.Text.{mark, frame_text, run_line, digest_text, text2};
 
@@ -78,6 +79,7 @@ fn push_run<A: Allocator>(out: &mut Vec<u8, A>, run: FrameRun) -> Result<(), All
 
 /// A line for each run of equal inputs, as long as it can be.
 fn push_runs<A: Allocator>(out: &mut Vec<u8, A>, inputs: &[Input]) -> Result<(), AllocError>
+    requires { length inputs.now ≤ most_inputs }
     ensures { OnOk result (out.new.items ≡ out.old.items ++ flat_map run_line (runs_of inputs.now)) }
 {
     let mut rest = inputs;

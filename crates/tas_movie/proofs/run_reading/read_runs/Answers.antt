@@ -3,8 +3,20 @@ use Rattle.std.specs.Prelude.{slice_get}
 use Rattle.std.proofs.lemmas.Bool.{eqb-false, eqb-true}
 use Rattle.tas_movie.specs.Runs.{run_inputs}
 use Rattle.tas_movie.specs.Fault.{is_repeated, run_fault, runs_fault, fault_by}
-use Rattle.tas_movie.proofs.RunTextLemmas.{runs_go_on, runs_stop, runs_unended, runs_end, runs_read, resized, shorter}
+use Rattle.tas_movie.proofs.RunTextLemmas.{runs_go_on, runs_stop, runs_unended, runs_end, runs_read, none_read, resized, shorter}
 use Rattle.tas_movie.proofs.run_reading.read_runs.Goals as goal
+
+pub loop-rest-init : goal.loop-rest-init
+loop-rest-init g c =
+    let long = c.args.list.now.ok.0 in
+    let none = ap length c.requires.empty in
+    record {
+      runs = none_read c.args.list.now.items c.args.bytes.now c.requires.empty;
+      same_fault = ap (λ l. fault_by (runs_fault 3 l) c.args.bytes.now) c.requires.empty;
+      bound = omega (arith, long, none);
+      capacity = omega arith;
+      number = omega arith;
+    }
 
 pub returns-in_default-clause-fault : goal.returns-in_default-clause-fault
 returns-in_default-clause-fault g c =
@@ -25,7 +37,7 @@ unwrap-requires g c =
 pub loop-rest-preserved : goal.loop-rest-preserved
 loop-rest-preserved g c =
     let old = c.loop-rest.list.items in
-    let run = c.in-Ok.run in
+    let run = c.in-Ok.run' in
     let rest = c.loop-rest.rest.now in
     let said = c.in-Some.line.now in
     let after = c.in-Some.after.now in
