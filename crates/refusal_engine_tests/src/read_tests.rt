@@ -36,7 +36,6 @@ fn run_failing<T: Wait + Threads + Sync>(
     let end = run(
         rt,
         alloc,
-        alloc,
         engine,
         &mut first,
         &mut second,
@@ -77,7 +76,7 @@ fn each_read_failing(rt: HostRuntime) -> Result<(), Fail> {
     for engine in ENGINES {
         let mut whole = Vec::new(alloc);
         assert_eq!(rt;
-            run_whole(&rt, alloc, alloc, engine, &bytes, &mut whole),
+            run_whole(&rt, alloc, engine, &bytes, &mut whole),
             Ok(())
         );
         for input in 0..engine.count() {
@@ -113,7 +112,7 @@ fn one_byte_at_each_read(rt: HostRuntime) -> Result<(), Fail> {
     for engine in ENGINES {
         let mut whole = Vec::new(alloc);
         assert_eq!(rt;
-            run_whole(&rt, alloc, alloc, engine, &bytes, &mut whole),
+            run_whole(&rt, alloc, engine, &bytes, &mut whole),
             Ok(())
         );
         let done = run_failing(&rt, alloc, engine, &bytes, 1, [0, 0, 0]);
@@ -162,7 +161,6 @@ fn run_cut<T: Wait + Threads + Sync>(
     let mut written = Vec::new(alloc);
     run(
         rt,
-        alloc,
         alloc,
         engine,
         &mut first,
