@@ -83,9 +83,9 @@ fn each_growth_refused(rt: HostRuntime) -> Result<(), Fail> {
         (Engine::Diff, 13, 0),
         (Engine::Script, 36, 12),
         (Engine::MovieScript, 48, 9),
-        (Engine::Export(1), 0, 0),
-        (Engine::Export(2), 0, 0),
-        (Engine::Export(4), 0, 0),
+        (Engine::Export(1), 32, 0),
+        (Engine::Export(2), 34, 0),
+        (Engine::Export(4), 36, 0),
     ];
     let alloc = rt.alloc();
     let bytes = make_inputs(alloc)?;

@@ -1,4 +1,4 @@
-use Rattle.std.proofs.Common.{rules}
+use Rattle.std.proofs.Common.{◌≡◌, ◌+◌, List, get_or, subst, rules}
 use Rattle.std.specs.Fork.{AcceptsAt, ChangesAt}
 use Rattle.tas_desk.proofs.ApartLemmas.{allowed_first, allowed_others, left_all}
 use Rattle.tas_desk.proofs.apart.+apart.Goals as goal
@@ -15,7 +15,11 @@ apart_from-returns-in-Some g t c =
     c.first_and_others.ensures.first c.first_and_others.ensures.others
 
 pub first_and_others-returns-clause-first : goal.first_and_others-returns-clause-first
-first_and_others-returns-clause-first g t c = search rules
+first_and_others-returns-clause-first g t c =
+    let same : c.join_mut.new.f.2.now ≡ c.first-1.given.0 = search rules in
+    subst (ChangesAt g.F.Fn c.args.f.now c.args.at c.args.first.now) same c.join_mut.ensures.0.met.1
 
 pub first_and_others-returns-clause-others : goal.first_and_others-returns-clause-others
-first_and_others-returns-clause-others g t c = search rules
+first_and_others-returns-clause-others g t c k d lt =
+    let same : c.join_mut.new.g.4.now ≡ c.others-1.given.0 = search rules in
+    subst (λ (ys : List _). ChangesAt g.F.Fn c.args.f.now (c.args.next + k) (get_or c.args.others.now k d) (get_or ys k d)) same (c.join_mut.ensures.1.met.1 k d lt)
