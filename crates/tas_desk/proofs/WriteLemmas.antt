@@ -10,11 +10,13 @@ use Rattle.vcs_machine.proofs.Playing.{length-frame_picture}
 use Rattle.tas_movie.specs.Content.{MovieContent}
 use Rattle.tas_green.specs.Run.{picture_of}
 use Rattle.tas_green.specs.declared.savestate.Savestate.{Savestate}
+use Rattle.tas_desk.specs.declared.pixmaps.HaltedFrame.{HaltedFrame}
 use Rattle.tas_desk.specs.declared.pixmaps.Stop.{Stop}
+use Rattle.tas_desk.specs.declared.pixmaps.Stop.TheVariants.{Halted}
 use Rattle.tas_desk.specs.declared.runs.Plan.{Plan}
 use Rattle.tas_desk.specs.declared.runs.Run.{Run}
 use Rattle.tas_desk.specs.declared.runs.RunEnd.{RunEnd}
-use Rattle.tas_desk.specs.Frames.{AreDrawn, Shows, pixmaps_of}
+use Rattle.tas_desk.specs.Frames.{AreDrawn, IsLeastHalted, Shows, pixmaps_of}
 use Rattle.tas_desk.specs.Runs.{IsPlan, pixmaps_in, AreRunsEnd}
 use Rattle.tas_desk.proofs.RunLemmas.{runs_shown}
 
@@ -73,6 +75,10 @@ length-pixmaps_of movie first (suc n) =
 shown_drawn : (movie : MovieContent) (from to : ℕ) (bytes : List ℕ) (stop : Option Stop) → stop ≡ None → Shows movie from to bytes stop → AreDrawn movie from to bytes
 shown_drawn movie from to bytes None none shown = shown
 shown_drawn movie from to bytes (Some x) none shown = absurd cc
+
+-- what is shown where a frame is halted
+pub shown_halted : (movie : MovieContent) (from to : ℕ) (bytes : List ℕ) (stop : Option Stop) (halted : HaltedFrame) → stop ≡ Some (Halted halted) → Shows movie from to bytes stop → IsLeastHalted movie from to halted
+shown_halted movie from to bytes stop halted is shown = subst (λ (s : Option Stop). Shows movie from to bytes s) is shown
 
 -- a list that was written back whole
 written_back : {X : Type 0} (new rest out : List X) (n : ℕ) → out ≡ take n (new ++ rest) → length new ≡ n → out ≡ new

@@ -1,7 +1,16 @@
-use Rattle.std.proofs.Common.{◌≡◌, ◌-◌, ◌<◌, ◌∙◌, ap, subst, ℕ, List, length, take, arith}
+use Rattle.std.proofs.Common.{◌≡◌, ◌-◌, ◌<◌, ◌∙◌, ap, subst, refl, ℕ, List, length, take, Some, arith, rules}
 use Rattle.std.specs.Io.KnownBytes.{Appends}
-use Rattle.tas_desk.proofs.WriteLemmas.{runs_drawn, length-pixmaps_of}
+use Rattle.tas_desk.specs.declared.pixmaps.Stop.TheVariants.{Halted}
+use Rattle.tas_desk.specs.Runs.{pixmaps_in}
+use Rattle.tas_desk.proofs.RunLemmas.{runs_shown}
+use Rattle.tas_desk.proofs.WriteLemmas.{runs_drawn, shown_halted, length-pixmaps_of}
 use Rattle.tas_desk.proofs.exporting.export_frames.Goals as goal
+
+pub returns-in-Some-Halted-clause-fault : goal.returns-in-Some-Halted-clause-fault
+returns-in-Some-Halted-clause-fault g c =
+    let is : c.play_runs-end.result.stop ≡ Some (Halted c.in-Some-Halted.halted) = search rules in
+    let shown = runs_shown c.args.movie.now c.args.zone.now c.args.plan (pixmaps_in c.play_runs-end.new.runs) c.play_runs-end.result c.requires.plan c.play_runs-end.ensures in
+    (shown_halted c.args.movie.now c.args.plan.from c.args.plan.to _ _ c.in-Some-Halted.halted is shown, refl)
 
 pub write_pixmaps-requires : goal.write_pixmaps-requires
 write_pixmaps-requires g c =
