@@ -192,10 +192,7 @@ fn try_export<'a, N: Name, R: Threads + Wait + Sync>(
     heap.refuse(NEVER);
     let is_as_before = is_as_before(rt, alloc, desk, seat, zone, wanted)?;
     let is_shot = shoots_last(alloc, heap, desk, seat, wanted)?;
-    Ok(Run::ended(
-        has_refused,
-        answer == Some(true) && is_as_before && is_shot,
-    ))
+    Ok(Run::ended(has_refused, answer == Some(true) && is_as_before && is_shot))
 }
 
 /// An export at a new desk, by seat 0, with one growth refused, and the same export after it.

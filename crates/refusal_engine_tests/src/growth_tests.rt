@@ -91,10 +91,7 @@ fn each_growth_refused(rt: HostRuntime) -> Result<(), Fail> {
     let bytes = make_inputs(alloc)?;
     for (engine, growths, replies) in engines {
         let mut whole = Vec::new(alloc);
-        assert_eq!(rt;
-            run_whole(&rt, alloc, engine, &bytes, &mut whole),
-            Ok(())
-        );
+        assert_eq!(rt; run_whole(&rt, alloc, engine, &bytes, &mut whole), Ok(()));
         let (mut refused, mut replied) = (0u64, 0u64);
         for number in 1..MOST {
             let run = run_refused(&rt, alloc, engine, &bytes, whole.as_slice(), number);

@@ -75,10 +75,7 @@ fn each_read_failing(rt: HostRuntime) -> Result<(), Fail> {
     let bytes = make_inputs(alloc)?;
     for engine in ENGINES {
         let mut whole = Vec::new(alloc);
-        assert_eq!(rt;
-            run_whole(&rt, alloc, engine, &bytes, &mut whole),
-            Ok(())
-        );
+        assert_eq!(rt; run_whole(&rt, alloc, engine, &bytes, &mut whole), Ok(()));
         for input in 0..engine.count() {
             let mut failed = 0;
             for read in 1..MOST {
@@ -111,10 +108,7 @@ fn one_byte_at_each_read(rt: HostRuntime) -> Result<(), Fail> {
     let bytes = make_inputs(alloc)?;
     for engine in ENGINES {
         let mut whole = Vec::new(alloc);
-        assert_eq!(rt;
-            run_whole(&rt, alloc, engine, &bytes, &mut whole),
-            Ok(())
-        );
+        assert_eq!(rt; run_whole(&rt, alloc, engine, &bytes, &mut whole), Ok(()));
         let done = run_failing(&rt, alloc, engine, &bytes, 1, [0, 0, 0]);
         assert_eq!(rt; done.end, Ok(()), "{engine:?}");
         assert!(rt; done.written.as_slice() == whole.as_slice(), "{engine:?}");

@@ -140,7 +140,7 @@ runs_joined movie zone plan i before mine front back end is lt so_far one played
     let high = next_behind plan i is.some in
     let bytes = ap (λ (bs : List ℕ). concat before ++ bs) (sym (append-nil mine)) ∙ sym (concat-append before (mine ∷ [])) in
     let shown : Shows movie plan.from (first_of_run plan (i + 1)) (concat before ++ mine) end.stop =
-        rw stop (shows_joined movie plan.from (first_of_run plan i) (first_of_run plan (i + 1)) (concat before) mine low high front.stop back.stop so_far.shows one.shows) in
+    rw stop (shows_joined movie plan.from (first_of_run plan i) (first_of_run plan (i + 1)) (concat before) mine low high front.stop back.stop so_far.shows one.shows) in
     record {
       shows = subst (λ (bs : List ℕ). Shows movie plan.from (first_of_run plan (i + 1)) bs end.stop) bytes shown;
       played = λ none.

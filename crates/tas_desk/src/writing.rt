@@ -11,10 +11,7 @@ use std::alloc::Allocator;
 use std::io::Write;
 
 /// Writes the pixmaps of runs, one after the other.
-pub fn write_pixmaps<A: Allocator, W: Write>(
-    runs: &[Run<A>],
-    to: &mut W,
-) -> Result<(), WriteFault>
+pub fn write_pixmaps<A: Allocator, W: Write>(runs: &[Run<A>], to: &mut W) -> Result<(), WriteFault>
     requires { length (concat (pixmaps_in runs.now)) < 2 ^ 64 }
     ensures ok { OnOk result (Appends (W.contents to.old) (W.contents to.new) (concat (pixmaps_in runs.now))) }
     ensures fault { IfErr result (λ f. Appends (W.contents to.old) (W.contents to.new)

@@ -67,12 +67,7 @@ fn export_made<
 
 /// Makes a movie on a desk of one seat, writes the pictures of some of its frames, and closes the desk.
 /// That nobody else made an edit is known once it is closed.
-fn export_from_desk<
-    N: Name,
-    A: Allocator + Copy + Send + Sync,
-    R: Wait + Threads + Sync,
-    W: Write,
->(
+fn export_from_desk<N: Name, A: Allocator + Copy + Send + Sync, R: Wait + Threads + Sync, W: Write>(
     rt: &R,
     alloc: A,
     unopened: Unopened<A>,
