@@ -195,6 +195,14 @@ fn try_export<'a, N: Name, R: Threads + Wait + Sync>(
     Ok(Run::ended(has_refused, answer == Some(true) && is_as_before && is_shot))
 }
 
+/// The history at the end: an export adds nothing to it.
+fn history_of(zone: Zone) -> &'static str {
+    match zone {
+        Zone::Present => "0 0 load\n0 1 insert 0 64\n0 2 insert 64 8\n",
+        Zone::Older => "0 0 load\n0 1 insert 0 64\n0 2 insert 64 8\n1 0 insert 10 1\n",
+    }
+}
+
 /// An export at a new desk, by seat 0, with one growth refused, and the same export after it.
 fn export_at<'a, N: Name, R: Threads + Wait + Sync>(
     rt: &R,
@@ -228,11 +236,7 @@ fn export_at<'a, N: Name, R: Threads + Wait + Sync>(
         return Err("all seats come back".into());
     }
     let closed = desk.close(rt, seats);
-    let made = match zone {
-        Zone::Present => "0 0 load\n0 1 insert 0 64\n0 2 insert 64 8\n",
-        Zone::Older => "0 0 load\n0 1 insert 0 64\n0 2 insert 64 8\n1 0 insert 10 1\n",
-    };
-    if history(alloc, closed.journal.as_slice())?.as_str() != made {
+    if history(alloc, closed.journal.as_slice())?.as_str() != history_of(zone) {
         return Ok(Run::Wrong);
     }
     Ok(run)
