@@ -17,9 +17,9 @@ const MOST: u64 = 1000;
 /// How a run with one growth refused ended.
 #[derive(Clone, Copy, Debug, PartialEq, Eq)]
 enum Run {
-    /// The growth was refused, and the engine ended so, with nothing written but a script's replies to its first lines.
+    /// The growth was refused, and the engine ended so, with nothing written but the answers to its first lines.
     Refused,
-    /// The growth was refused to a line of the script, and its reply says so.
+    /// The growth was refused to a line, and its answer says so.
     Replied,
     /// The engine grew less often, and wrote its answer.
     Done,
@@ -27,10 +27,13 @@ enum Run {
     Wrong,
 }
 
-/// Whether nothing was written, or, by a script, what it replied to its first lines.
+/// Whether nothing was written, or, by an engine that answers lines, its answers to the first of them.
 fn is_start(engine: Engine, output: &[u8], whole: &[u8]) -> bool {
-    let is_script = engine == Engine::Script || engine == Engine::MovieScript;
-    output.is_empty() || is_script && whole.starts_with(output)
+    let answers_lines = match engine {
+        Engine::Script | Engine::MovieScript | Engine::Talk | Engine::MovieTalk => true,
+        _ => false,
+    };
+    output.is_empty() || answers_lines && whole.starts_with(output)
 }
 
 /// Whether a reply among these says that memory was refused.
@@ -83,6 +86,8 @@ fn each_growth_refused(rt: HostRuntime) -> Result<(), Fail> {
         (Engine::Diff, 13, 0),
         (Engine::Script, 36, 12),
         (Engine::MovieScript, 48, 9),
+        (Engine::Talk, 0, 0),
+        (Engine::MovieTalk, 0, 0),
     ];
     let alloc = rt.alloc();
     let bytes = make_inputs(alloc)?;

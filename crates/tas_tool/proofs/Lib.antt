@@ -4,3 +4,5 @@ pub mod OneSeatLemmas
 pub mod MakingLemmas
 pub mod ExportLemmas
 pub mod MovieScriptLemmas
+pub mod TellingLemmas
+pub mod TalkLemmas

@@ -55,9 +55,13 @@ CutsOff before answer old new fault = (sent : ℕ) × (sent < length answer) × 
 pub record HasAnswered {A : Type 0} (before now : SeatContent A) (exchanges : List Exchange) (told : ℕ) (next : Progress) (old new : Option (List ℕ)) : Type 0 where
   pub all : AreExchanges A (front_of before) exchanges (front_of now)
   pub out : Appends old new (answers_of exchanges)
-  pub count : next.written ≡ min (told + length (answers_of exchanges)) most_counted
+  pub count : min next.written most_counted ≡ min (told + length (answers_of exchanges)) most_counted
   pub made : next.made ≡ now.made
   pub own : BeginsWithOwn now
+
+-- the seat's own edits are its first ones still, and they are so many
+abbrev pub StandsAt : {A : Type 0} → SeatContent A → Progress → Type 0
+StandsAt seat progress = BeginsWithOwn seat × (progress.made ≡ seat.made)
 
 -- why the rest isn't answered
 abbrev pub Breaks : {A : Type 0} → Front → List ℕ → SeatContent A → ℕ → Option (List ℕ) → Option (List ℕ) → RunFault → Type 0
@@ -77,7 +81,7 @@ pub record StopsAfter {A : Type 0} (start : Front) (read : List ℕ) (now : Seat
   pub all : AreExchanges A start exchanges front
   pub text : read ≡ lines_of exchanges ++ rest
   pub out : Appends old middle (answers_of exchanges)
-  pub count : counted ≡ min (told + length (answers_of exchanges)) most_counted
+  pub count : min counted most_counted ≡ min (told + length (answers_of exchanges)) most_counted
   pub breaks : Breaks front rest now counted middle new fault
 
 -- a line is answered, asks for the end, or isn't answered

@@ -123,12 +123,12 @@ pub fn cart_talk_run<A: Allocator + Copy, T: Wait, C: Read, R: Read, W: Write>(
         Ok(image) => image,
         Err(fault) => return Err(ToolFault::from(fault)),
     };
-    let cart = match Cart::from_bytes(alloc, image.as_slice()) {
-        Ok(cart) => cart,
+    let taken = match Cart::from_bytes(alloc, image.as_slice()) {
+        Ok(taken) => taken,
         Err(CartError::Size(n)) => return Err(ToolFault::Size(n)),
         Err(CartError::Memory) => return Err(ToolFault::Memory),
     };
-    match Movie::new(alloc, &cart) {
+    match Movie::new(alloc, &taken) {
         Ok(movie) => talk_from(rt, alloc, Some(movie), input, output),
         Err(_) => Err(ToolFault::Memory),
     }

@@ -1,12 +1,12 @@
 //! The lines of a conversation, one after the other.
 
-ghost use Rattle.std.specs.Prelude.{◌≡◌, ◌≤◌, ◌+◌, ◌++◌, ℕ, List, length, min, IfOk, IfErr, OnOk, MatchResult};
+ghost use Rattle.std.specs.Prelude.{◌≡◌, ◌≤◌, ◌+◌, ◌++◌, ℕ, List, length, min, IfOk, IfErr, IfSome, OnOk, MatchResult};
 ghost use Rattle.std.specs.Io.KnownBytes.{Appends};
 ghost use Rattle.tas_script.specs.Commands.{NoByte};
 ghost use Rattle.tas_talk.specs.Held.{HoldsLine};
 ghost use Rattle.tas_tool.specs.Turns.{BeginsWithOwn, front_of};
 ghost use Rattle.tas_tool.specs.Talk.{last_answer, most_counted, IsTalk};
-ghost use Rattle.tas_tool.specs.Talking.{CutsOff, IsLineTurn, IsPartTurn};
+ghost use Rattle.tas_tool.specs.Talking.{CutsOff, IsLineTurn, IsPartTurn, StandsAt};
 
 use crate::telling::answer_request;
 use counted_write::write_counted;
@@ -62,6 +62,7 @@ fn answer_line<N: Name, C: CloseOnDrop, A: Allocator + Copy, R: Wait, W: Write>(
     requires own { BeginsWithOwn seat.old }
     requires made { progress.made ≡ seat.old.made }
     ensures number { seat.new.number ≡ seat.old.number }
+    ensures stands { IfOk result (λ found. IfSome found (StandsAt seat.new)) }
     ensures turn { (said : List ℕ) → HoldsLine said line.now.bytes.items line.now.long → NoByte 10 said
         → IsLineTurn seat.old seat.new said progress.written (W.contents output.old) (W.contents output.new) result }
 {
@@ -105,6 +106,7 @@ fn answer_part<N: Name, C: CloseOnDrop, A: Allocator + Copy, R: Wait, W: Write>(
     requires own { BeginsWithOwn seat.old }
     requires made { progress.made ≡ seat.old.made }
     ensures number { seat.new.number ≡ seat.old.number }
+    ensures stands { IfOk result (λ found. IfSome found (StandsAt seat.new)) }
     ensures turn { (said : List ℕ) → HoldsLine said line.old.bytes.items line.old.long → NoByte 10 said
         → IsPartTurn seat.old seat.new (said ++ part.now) progress.written line.new.bytes.items line.new.long (W.contents output.old) (W.contents output.new) result }
 {
