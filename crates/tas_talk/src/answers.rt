@@ -11,9 +11,6 @@ use std::alloc::{AllocError, Allocator};
 use tas_movie::{Movie, print_text};
 use vcs_tia::{Picture, ppm};
 
-/// The answer to a line that isn't understood (own).
-pub const UNKNOWN: [u8; 8] = *b"unknown\n";
-
 /// How many bytes the pixmap of a picture has.
 const PIXMAP_SIZE: usize = 100_815;
 

@@ -8,7 +8,7 @@ mod line;
 mod parsing;
 mod request;
 
-pub use answers::{UNKNOWN, movie_answer, picture_answer, states_answer};
+pub use answers::{movie_answer, picture_answer, states_answer};
 pub use laws::one_request_per_line;
 pub use line::{Line, MAX_LINE};
 pub use parsing::parse_request;

@@ -6,3 +6,4 @@ pub mod ExportLemmas
 pub mod MovieScriptLemmas
 pub mod TellingLemmas
 pub mod TalkLemmas
+pub mod TalkRunLemmas

@@ -6,7 +6,11 @@ use Rattle.std.specs.Io.KnownBytes.{Appends, Consumes, Keeps, IsAtEnd}
 use Rattle.std.proofs.KnownBytes.{Appends-nil, Appends-trans, Consumes-nil, Consumes-trans, Consumes-kept}
 use Rattle.std.proofs.lemmas.Grind.{flat_map-append}
 use Rattle.tas_movie.specs.Text.{line}
+use Rattle.tas_movie.specs.Content.{MovieContent}
+use Rattle.tas_desk.specs.declared.entry.Entry.{Entry}
+use Rattle.tas_desk.specs.History.{movie_of, entries_of}
 use Rattle.tas_desk.specs.Seats.{SeatContent}
+use Rattle.tas_desk.proofs.HistoryLemmas.{movie_of-none}
 use Rattle.tas_engines.specs.declared.fault.RunFault.{RunFault}
 use Rattle.tas_engines.specs.declared.fault.RunFault.TheVariants.{Write, Size, Text, NoFrame as OffMovie, Range as OffRange, Halted as Stopped, Script, EditPlace, EditLong, NoPlace, NoEntry, Foreign, Memory}
 use Rattle.tas_engines.specs.declared.fault.ToolFault.{ToolFault}
@@ -20,6 +24,8 @@ use Rattle.tas_talk.specs.Held.{HoldsLine}
 use Rattle.tas_talk.specs.Answers.{unknown_text}
 use Rattle.tas_tool.specs.declared.talking.Progress.{Progress}
 use Rattle.tas_tool.specs.Turns.{Front, front_of, BeginsWithOwn}
+use Rattle.tas_tool.specs.Scripts.{start_front}
+use Rattle.tas_tool.specs.TwoEdits.{IsMakingFault}
 use Rattle.tas_tool.specs.Talk.{Exchange, IsExchange, IsAnswerTo, AreExchanges, IsQuit, IsNextAnswer, IsCutOff, IsTalk, lines_of, answers_of, last_answer, most_counted}
 use Rattle.tas_tool.specs.Talking.{CutsOff, HasAnswered, StandsAt, Breaks, StopsAfter, IsToldTo, IsTalkFault, IsLineTurn, IsPartTurn}
 
@@ -78,15 +84,20 @@ one_answered {A} before now x told next old new is same out count made own =
 pub unknown_line : {A : Type 0} (seat : SeatContent A) (said answer : List ℕ) (told : ℕ) (next : Progress) (old new : Option (List ℕ)) → BeginsWithOwn seat → next.made ≡ seat.made → NoByte 10 said → IsHeard said None
     → answer ≡ unknown_text → Appends old new answer → next.written ≡ min (told + length answer) most_counted → IsLineTurn seat seat said told old new (Ok (Some next))
 unknown_line seat said answer told next old new own made none heard is out count =
-    let x = exchange_of said None answer (front_of seat) in
+    let x : Exchange = exchange_of said None answer (front_of seat) in
     (x, refl, one_answered seat seat x told next old new (record { whole = none; heard = heard; answered = (is, refl) }) refl out count made own)
 
 -- a line that was answered
-pub known_line : {A : Type 0} (before now : SeatContent A) (said answer : List ℕ) (request : Request) (made told : ℕ) (next : Progress) (old new : Option (List ℕ)) → NoByte 10 said → IsHeard said (Some request)
-    → IsToldTo before now request answer made → next.made ≡ made → Appends old new answer → next.written ≡ min (told + length answer) most_counted → IsLineTurn before now said told old new (Ok (Some next))
-known_line before now said answer request made told next old new none heard is same out count =
-    let x = exchange_of said (Some request) answer (front_of now) in
-    (x, refl, one_answered before now x told next old new (record { whole = none; heard = heard; answered = is.answer }) refl out count (same ∙ is.made_is) is.own)
+pub known_line : {A : Type 0} (before now : SeatContent A) (said answer sent : List ℕ) (request : Request) (made told : ℕ) (next : Progress) (old new : Option (List ℕ)) → NoByte 10 said → IsHeard said (Some request)
+    → IsToldTo before now request answer made → next.made ≡ made → sent ≡ answer → Appends old new sent → next.written ≡ min (told + length sent) most_counted → IsLineTurn before now said told old new (Ok (Some next))
+known_line before now said answer sent request made told next old new none heard is same whole out count =
+    let x : Exchange = exchange_of said (Some request) answer (front_of now) in
+    (
+      x,
+      refl,
+      one_answered before now x told next old new (record { whole = none; heard = heard; answered = is.answer }) refl (subst (λ (l : List ℕ). Appends old new l) whole out)
+          (count ∙ ap (λ (l : List ℕ). min (told + length l) most_counted) whole) (same ∙ is.made_is) is.own,
+    )
 
 -- a write of an answer failed
 cut_line : {A : Type 0} (front : Front) (now : SeatContent A) (x : Exchange) (told : ℕ) (old new : Option (List ℕ)) (fault : RunFault) → IsExchange A front x → CutsOff told x.answer old new fault
@@ -101,10 +112,11 @@ pub unknown_cut : {A : Type 0} (seat : SeatContent A) (said answer : List ℕ) (
 unknown_cut seat said answer told old new fault none heard is cut =
     cut_line (front_of seat) seat (exchange_of said None answer (front_of seat)) told old new fault (record { whole = none; heard = heard; answered = (is, refl) }) cut
 
-pub known_cut : {A : Type 0} (before now : SeatContent A) (said answer : List ℕ) (request : Request) (made told : ℕ) (old new : Option (List ℕ)) (fault : RunFault) → NoByte 10 said → IsHeard said (Some request)
-    → IsToldTo before now request answer made → CutsOff told answer old new fault → IsLineTurn before now said told old new (Err fault)
-known_cut before now said answer request made told old new fault none heard is cut =
-    cut_line (front_of before) now (exchange_of said (Some request) answer (front_of now)) told old new fault (record { whole = none; heard = heard; answered = is.answer }) cut
+pub known_cut : {A : Type 0} (before now : SeatContent A) (said answer sent : List ℕ) (request : Request) (made told : ℕ) (old new : Option (List ℕ)) (fault : RunFault) → NoByte 10 said → IsHeard said (Some request)
+    → IsToldTo before now request answer made → sent ≡ answer → CutsOff told sent old new fault → IsLineTurn before now said told old new (Err fault)
+known_cut before now said answer sent request made told old new fault none heard is whole cut =
+    cut_line (front_of before) now (exchange_of said (Some request) answer (front_of now)) told old new fault (record { whole = none; heard = heard; answered = is.answer })
+    (subst (λ (l : List ℕ). CutsOff told l old new fault) whole cut)
 
 -- a request wasn't answered
 pub line_fault : {A : Type 0} (before now : SeatContent A) (said : List ℕ) (told : ℕ) (old : Option (List ℕ)) (fault : RunFault) → IsTalkFault now fault → IsLineTurn before now said told old old (Err fault)
@@ -185,6 +197,45 @@ stops_later {A} a b now xs told mid read rest old middle new fault p is s = reco
   count = omega (arith, p.count, s.count, count_answers xs s.exchanges);
   breaks = s.breaks;
 }
+
+-- memory was refused for a part of a line
+pub part_memory : {A : Type 0} (before now : SeatContent A) (xs : List Exchange) (told : ℕ) (mid : Progress) (read rest : List ℕ) (held : List ℕ) (long : Bool) (old new : Option (List ℕ)) → HasAnswered before now xs told mid old new
+    → read ≡ lines_of xs ++ rest → IsPartTurn before now read told held long old new (Err Memory)
+part_memory before now xs told mid read rest held long old new p is = stops_here before now now xs told mid read rest old new new Memory p is (Appends-nil new)
+
+-- a line asks for the end
+pub line_quits : {A : Type 0} (before now later : SeatContent A) (xs : List Exchange) (told : ℕ) (mid : Progress) (read part first after : List ℕ) (held : List ℕ) (long : Bool) (old middle new : Option (List ℕ))
+    → HasAnswered before now xs told mid old middle → read ≡ lines_of xs ++ (part ++ (first ++ 10 ∷ after)) → NoByte 10 (part ++ first) → IsLineTurn now later (part ++ first) mid.written middle new (Ok None)
+    → IsPartTurn before later read told held long old new (Ok None)
+line_quits before now later xs told mid read part first after held long old middle new p is none turn = (
+  xs,
+  front_of now,
+  line (part ++ first) ++ after,
+  p.all,
+  text_here read part first after xs is,
+  record { said = part ++ first; more = after; is = refl; whole = none; heard = turn.0 },
+  subst (Appends old new) (append-nil (answers_of xs)) (Appends-trans old middle new (answers_of xs) [] p.out turn.1),
+)
+
+-- a line isn't answered
+pub line_breaks : {A : Type 0} (before now later : SeatContent A) (xs : List Exchange) (told : ℕ) (mid : Progress) (read part first after : List ℕ) (held : List ℕ) (long : Bool) (old middle new : Option (List ℕ)) (fault : RunFault)
+    → HasAnswered before now xs told mid old middle → read ≡ lines_of xs ++ (part ++ (first ++ 10 ∷ after)) → IsLineTurn now later (part ++ first) mid.written middle new (Err fault)
+    → IsPartTurn before later read told held long old new (Err fault)
+line_breaks before now later xs told mid read part first after held long old middle new fault p is turn =
+    stops_here before now later xs told mid read (line (part ++ first) ++ after) old middle new fault p (text_here read part first after xs is) (turn after)
+
+-- ---- what stands behind the last newline
+
+pub last_none : (said : List ℕ) (old : Option (List ℕ)) → said ≡ [] → Appends old old (last_answer said)
+last_none said old is = subst (λ (l : List ℕ). Appends old old (last_answer l)) (sym is) (Appends-nil old)
+
+pub last_said : (said : List ℕ) (old new : Option (List ℕ)) → 0 < length said → Appends old new unknown_text → Appends old new (last_answer said)
+last_said [] old new some out = absurd (omega (arith, some))
+last_said (b ∷ said) old new some out = out
+
+pub last_cut : (said : List ℕ) (told : ℕ) (old new : Option (List ℕ)) (fault : RunFault) → 0 < length said → CutsOff told unknown_text old new fault → CutsOff told (last_answer said) old new fault
+last_cut [] told old new fault some cut = absurd (omega (arith, some))
+last_cut (b ∷ said) told old new fault some cut = cut
 
 -- ---- the whole conversation
 
@@ -354,3 +405,33 @@ no_memory_yet A start input output = record { exchanges = []; front = start; res
 
 pub no_place_yet : (A : Type 0) (start : Front) (input output : Option (List ℕ)) → IsTalk A start input input output output (Err WithoutPlace)
 no_place_yet A start input output = record { exchanges = []; front = start; rest = []; answered = no_exchanges A start; left = Consumes-nil input; ends = (refl, refl, Appends-nil output) }
+
+-- the movie wasn't made
+pub unmade_talk : {A : Type 0} (start : Front) (seat : SeatContent A) (fault : RunFault) (input output : Option (List ℕ)) → IsMakingFault seat fault → length seat.front ≤ seat.made → IsTalk A start input input output output (Err (run_fault fault))
+unmade_talk {A} start seat Memory input output is own = no_memory_yet A start input output
+unmade_talk start seat Foreign input output is own = absurd (omega (arith, is, own))
+unmade_talk start seat NoEntry input output is own = absurd is
+unmade_talk start seat NoPlace input output is own = absurd is
+unmade_talk start seat (Write written) input output is own = absurd is
+unmade_talk start seat (Size n) input output is own = absurd is
+unmade_talk start seat (Text error) input output is own = absurd is
+unmade_talk start seat (OffMovie frame len) input output is own = absurd is
+unmade_talk start seat (OffRange from to len) input output is own = absurd is
+unmade_talk start seat (Stopped at opcode) input output is own = absurd is
+unmade_talk start seat (Script number) input output is own = absurd is
+unmade_talk start seat (EditPlace number) input output is own = absurd is
+unmade_talk start seat (EditLong number) input output is own = absurd is
+
+-- ---- the seat of a desk that was just opened
+
+pub first_own : {A : Type 0} (seat : SeatContent A) → seat.made ≡ 0 → seat.front ≡ [] → BeginsWithOwn seat
+first_own {A} seat made front = record {
+  seen = omega (arith, made);
+  own = ap (λ (l : List (Entry A)). entries_of seat.number (take seat.made l)) front ∙ ap (λ (m : ℕ). entries_of {A = A} seat.number (take m [])) made ∙ sym made;
+}
+
+pub first_front : {A : Type 0} (seat : SeatContent A) → seat.made ≡ 0 → seat.front ≡ [] → front_of seat ≡ start_front
+first_front {A} seat made front =
+    ap (λ (l : List (Entry A)). let f : Front = record { movie = movie_of (take seat.made l); made = seat.made } in f) front
+    ∙ ap (λ (m : ℕ). let f : Front = record { movie = movie_of {A = A} (take m []); made = m } in f) made
+    ∙ ap (λ (x : MovieContent). let f : Front = record { movie = x; made = 0 } in f) (movie_of-none A)

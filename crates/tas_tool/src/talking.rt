@@ -3,6 +3,7 @@
 ghost use Rattle.std.specs.Prelude.{◌≡◌, ◌≤◌, ◌+◌, ◌++◌, ℕ, List, length, min, IfOk, IfErr, IfSome, OnOk, MatchResult};
 ghost use Rattle.std.specs.Io.KnownBytes.{Appends};
 ghost use Rattle.tas_script.specs.Commands.{NoByte};
+ghost use Rattle.tas_talk.specs.Answers.{unknown_text};
 ghost use Rattle.tas_talk.specs.Held.{HoldsLine};
 ghost use Rattle.tas_tool.specs.Turns.{BeginsWithOwn, front_of};
 ghost use Rattle.tas_tool.specs.Talk.{last_answer, most_counted, IsTalk};
@@ -16,7 +17,7 @@ use std::sync::Wait;
 use tas_desk::{CloseOnDrop, Desk, Name, Seat};
 use tas_engines::{RunFault, ToolFault};
 use tas_script::split_once;
-use tas_talk::{Line, Request, UNKNOWN};
+use tas_talk::{Line, Request};
 
 /// How many bytes one read asks for.
 const CHUNK: usize = 4096;
@@ -49,6 +50,15 @@ fn hand_out<W: Write>(output: &mut W, bytes: &[u8], before: usize) -> Result<usi
     Ok(before.saturating_add(bytes.len()))
 }
 
+/// Answers a line that isn't understood.
+fn tell_unknown<W: Write>(output: &mut W, before: usize) -> Result<usize, RunFault>
+    ensures out { OnOk result (Appends (W.contents output.old) (W.contents output.new) unknown_text) }
+    ensures count { IfOk result (λ n. n ≡ min (before + length unknown_text) most_counted) }
+    ensures fault { IfErr result (CutsOff before unknown_text (W.contents output.old) (W.contents output.new)) }
+{
+    hand_out(output, b"unknown\n", before)
+}
+
 /// Answers the line that is held; nothing comes back where it asks for the end.
 fn answer_line<N: Name, C: CloseOnDrop, A: Allocator + Copy, R: Wait, W: Write>(
     rt: &R,
@@ -67,7 +77,7 @@ fn answer_line<N: Name, C: CloseOnDrop, A: Allocator + Copy, R: Wait, W: Write>(
         → IsLineTurn seat.old seat.new said progress.written (W.contents output.old) (W.contents output.new) result }
 {
     let Some(request) = line.request() else {
-        return match hand_out(output, &UNKNOWN, progress.written) {
+        return match tell_unknown(output, progress.written) {
             Ok(written) => Ok(Some(Progress {
                 made: progress.made,
                 written,
@@ -75,12 +85,12 @@ fn answer_line<N: Name, C: CloseOnDrop, A: Allocator + Copy, R: Wait, W: Write>(
             Err(fault) => Err(fault),
         };
     };
-    if let Request::Quit = request {
-        return Ok(None);
-    }
-    let told = match answer_request(rt, alloc, desk, seat, progress.made, request) {
-        Ok(told) => told,
-        Err(fault) => return Err(fault),
+    let told = match request {
+        Request::Quit => return Ok(None),
+        _ => match answer_request(rt, alloc, desk, seat, progress.made, request) {
+            Ok(told) => told,
+            Err(fault) => return Err(fault),
+        },
     };
     match hand_out(output, told.bytes.as_slice(), progress.written) {
         Ok(written) => Ok(Some(Progress {
@@ -111,13 +121,13 @@ fn answer_part<N: Name, C: CloseOnDrop, A: Allocator + Copy, R: Wait, W: Write>(
         → IsPartTurn seat.old seat.new (said ++ part.now) progress.written line.new.bytes.items line.new.long (W.contents output.old) (W.contents output.new) result }
 {
     let mut rest = part;
-    let mut progress = progress;
+    let mut reached = progress;
     while let Some((front, after)) = split_once(rest, b'\n') {
         if let Err(_) = line.add(front) {
             return Err(RunFault::Memory);
         }
-        match answer_line(rt, alloc, desk, seat, progress, line, output) {
-            Ok(Some(next)) => progress = next,
+        match answer_line(rt, alloc, desk, seat, reached, &*line, output) {
+            Ok(Some(next)) => reached = next,
             Ok(None) => return Ok(None),
             Err(fault) => return Err(fault),
         }
@@ -127,7 +137,7 @@ fn answer_part<N: Name, C: CloseOnDrop, A: Allocator + Copy, R: Wait, W: Write>(
     if let Err(_) = line.add(rest) {
         return Err(RunFault::Memory);
     }
-    Ok(Some(progress))
+    Ok(Some(reached))
 }
 
 /// Answers what stands behind the last newline.
@@ -143,7 +153,7 @@ fn answer_last<A: Allocator, W: Write>(
     if line.is_empty() {
         return Ok(());
     }
-    match hand_out(output, &UNKNOWN, written) {
+    match tell_unknown(output, written) {
         Ok(_) => Ok(()),
         Err(fault) => Err(fault),
     }
