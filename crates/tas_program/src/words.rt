@@ -259,11 +259,7 @@ fn talk_command<'a>(alloc: Global) -> Result<Command<'a>, AllocError>
     Command::new(alloc, "talk")
         .about("Answers lines, each before the next one is read")
         .after_help(TALK_HELP)
-        .arg(optional_file(
-            alloc,
-            "CART",
-            "The file of a cartridge to start from",
-        ))?
+        .arg(optional_file(alloc, "CART", "The file of a cartridge to start from"))?
         .arg(optional_file(
             alloc,
             "MOVIE",

@@ -38,10 +38,10 @@ pub fn picture_answer<A: Allocator + Copy, B: Allocator>(
 ) -> Result<Vec<u8, A>, AllocError>
     ensures { IfOk result (λ bytes. bytes.items ≡ picture_text at frame (ppm_bytes picture.now)) }
 {
-    let pixmap = pixmap(alloc, picture)?;
-    let count = pixmap.len();
+    let image = pixmap(alloc, picture)?;
+    let count = image.len();
     let mut bytes = format!(in alloc; "picture {at} {frame} {count}\n")?.into_bytes();
-    bytes.extend_from_slice(pixmap.as_slice())?;
+    bytes.extend_from_slice(image.as_slice())?;
     Ok(bytes)
 }
 

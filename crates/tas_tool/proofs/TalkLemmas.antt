@@ -91,8 +91,7 @@ unknown_line seat said answer told next old new own made none heard is out count
 pub known_line : {A : Type 0} (before now : SeatContent A) (said answer sent : List ℕ) (request : Request) (made told : ℕ) (next : Progress) (old new : Option (List ℕ)) → NoByte 10 said → IsHeard said (Some request)
     → IsToldTo before now request answer made → next.made ≡ made → sent ≡ answer → Appends old new sent → next.written ≡ min (told + length sent) most_counted → IsLineTurn before now said told old new (Ok (Some next))
 known_line before now said answer sent request made told next old new none heard is same whole out count =
-    let x : Exchange = exchange_of said (Some request) answer (front_of now) in
-    (
+    let x : Exchange = exchange_of said (Some request) answer (front_of now) in (
       x,
       refl,
       one_answered before now x told next old new (record { whole = none; heard = heard; answered = is.answer }) refl (subst (λ (l : List ℕ). Appends old new l) whole out)

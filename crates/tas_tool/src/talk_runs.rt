@@ -12,7 +12,7 @@ use std::io::{Read, Write};
 use std::marker::Brand;
 use std::sync::Wait;
 use tas_desk::{CloseOnDrop, Desk, Name, OpenError, Seat, Unopened};
-use tas_engines::{RunFault, ToolFault, movie_of, read_input, read_two};
+use tas_engines::{ToolFault, movie_of, read_input, read_two};
 use tas_movie::Movie;
 use vcs_machine::{Cart, CartError};
 

@@ -28,8 +28,7 @@ fn joined(alloc: Global, parts: &[&[u8]]) -> Result<Vec<u8>, Fail> {
 }
 
 /// Loads the playfield's cartridge and puts in 200 frames.
-static START: &[u8] =
-    b"load 000=A910850DA91E85084C08F0 FFC=00F0\ninsert 0 200 ..... ..... .....\n";
+static START: &[u8] = b"load 000=A910850DA91E85084C08F0 FFC=00F0\ninsert 0 200 ..... ..... .....\n";
 
 static STARTED: &[u8] = b"edit 1 len 0\nedit 2 len 200\n";
 
@@ -74,7 +73,10 @@ fn pictures_are_told_whole(rt: HostRuntime) -> Result<(), Fail> {
         b"load 000=A203A9028500A9008500CAD0F502 FFC=00F0\ninsert 0 9 ..... ..... .....\npicture 5\n";
     let (output, end) = said(&rt, alloc, halts);
     assert_eq!(rt; end, Ok(()));
-    assert_eq!(rt; output.as_slice(), b"edit 1 len 0\nedit 2 len 9\nhalted 2 F00D 02\n".as_slice());
+    assert_eq!(rt;
+        output.as_slice(),
+        b"edit 1 len 0\nedit 2 len 9\nhalted 2 F00D 02\n".as_slice()
+    );
     Ok(())
 }
 
@@ -140,13 +142,14 @@ fn unknown_lines_change_nothing(rt: HostRuntime) -> Result<(), Fail> {
     wanted.extend_from_slice(b"len 0 0\nunknown\n")?;
     assert_eq!(rt; end, Ok(()));
     assert_eq!(rt; output.as_slice(), wanted.as_slice());
-    for (lines, answers) in [
-        (b"".as_slice(), b"".as_slice()),
+    let cases: [(&[u8], &[u8]); 5] = [
+        (b"", b""),
         (b"quit\n", b""),
         (b"quit", b"unknown\n"),
         (b"\n", b"unknown\n"),
         (b"quit\nlen\nlen", b""),
-    ] {
+    ];
+    for (lines, answers) in cases {
         let (output, end) = said(&rt, alloc, lines);
         assert_eq!(rt; end, Ok(()));
         assert_eq!(rt; output.as_slice(), answers);
@@ -209,7 +212,10 @@ fn pieces_of_the_input_make_no_difference(rt: HostRuntime) -> Result<(), Fail> {
     let alloc = rt.alloc();
     let lines = joined(
         alloc,
-        &[START, b"picture 3\nwhat\nstates\nmovie\nshot 70\nstates\nlen"],
+        &[
+            START,
+            b"picture 3\nwhat\nstates\nmovie\nshot 70\nstates\nlen",
+        ],
     )?;
     let (whole, end) = said(&rt, alloc, lines.as_slice());
     assert_eq!(rt; end, Ok(()));
@@ -224,6 +230,7 @@ fn pieces_of_the_input_make_no_difference(rt: HostRuntime) -> Result<(), Fail> {
 }
 
 /// A writer that passes on what it holds when it is flushed, and says how many bytes it has passed on.
+#[derive(Drop)]
 struct Passing<'a> {
     holds: usize,
     passed: &'a Cell<usize>,
@@ -244,6 +251,7 @@ impl<'a> Write for Passing<'a> {
 }
 
 /// A reader that gives the next lines once all answers to those before have been passed on, and fails where they haven't.
+#[derive(Drop)]
 struct Asking<'a> {
     lines: &'a [(&'a [u8], usize)],
     wanted: usize,
@@ -255,13 +263,14 @@ impl<'a> Read for Asking<'a> {
         if self.passed.get() != self.wanted {
             return Err(Error::from(ErrorKind::Other));
         }
-        let Some(((line, answer), rest)) = self.lines.split_first() else {
+        if self.lines.is_empty() {
             return Ok(0);
-        };
+        }
+        let (line, answer) = self.lines[0];
         let n = line.len().min(buf.len());
         buf[..n].copy_from_slice(&line[..n]);
-        self.wanted = self.wanted.saturating_add(*answer);
-        self.lines = rest;
+        self.wanted = self.wanted.saturating_add(answer);
+        self.lines = &self.lines[1..];
         Ok(n)
     }
 }
@@ -305,13 +314,18 @@ fn a_failed_write_ends_the_conversation(rt: HostRuntime) -> Result<(), Fail> {
     let lines = joined(alloc, &[START, b"picture 3\nlen\nlen"])?;
     let (whole, end) = said(&rt, alloc, lines.as_slice());
     assert_eq!(rt; end, Ok(()));
-    for room in [0, 12, 13, 27, 28, 1_000, 100_861, 100_862, 100_863, 100_871, 100_872, 100_879] {
+    for room in [
+        0, 12, 13, 27, 28, 1_000, 100_861, 100_862, 100_863, 100_871, 100_872, 100_879,
+    ] {
         for failure in [Failure::Error, Failure::Nothing] {
             let mut input = lines.as_slice();
             let mut output = Taker::new(alloc, 5_000, Room::Bytes(room), failure);
             let end = talk_run(&rt, alloc, &mut input, &mut output);
             assert_eq!(rt; end, Err(ToolFault::Write { written: room }), "room {room}");
-            assert!(rt; output.taken.as_slice() == &whole.as_slice()[..room], "room {room}");
+            assert!(rt;
+                output.taken.as_slice() == &whole.as_slice()[..room],
+                "room {room}"
+            );
             assert_eq!(rt; output.failed, 1, "room {room}");
         }
     }
@@ -355,14 +369,20 @@ fn conversations_go_on_from_a_cartridge_or_a_movie(rt: HostRuntime) -> Result<()
     let mut output = Vec::new(alloc);
     let end = cart_talk_run(&rt, alloc, &mut cart, &mut input, &mut output);
     assert_eq!(rt; end, Ok(()));
-    assert_eq!(rt; output.as_slice(), b"len 2 0\nedit 3 len 1\nshot 3 0 ran 1 lit 1680\n".as_slice());
+    assert_eq!(rt;
+        output.as_slice(),
+        b"len 2 0\nedit 3 len 1\nshot 3 0 ran 1 lit 1680\n".as_slice()
+    );
     let mut cart = image.as_slice();
     let mut movie = text.as_bytes();
     let mut input = lines.as_slice();
     let mut output = Vec::new(alloc);
     let end = movie_talk_run(&rt, alloc, &mut cart, &mut movie, &mut input, &mut output);
     assert_eq!(rt; end, Ok(()));
-    assert_eq!(rt; output.as_slice(), b"len 2 3\nedit 3 len 4\nshot 3 0 ran 1 lit 1680\n".as_slice());
+    assert_eq!(rt;
+        output.as_slice(),
+        b"len 2 3\nedit 3 len 4\nshot 3 0 ran 1 lit 1680\n".as_slice()
+    );
     Ok(())
 }
 

@@ -8,7 +8,7 @@ pub returns-in-Ok-unshown-clause-answer : goal.returns-in-Ok-unshown-clause-answ
 returns-in-Ok-unshown-clause-answer g c =
     MatchResult-weaker c.told_reply.result c.told_reply.ensures
     (λ told is. told_undrawn g.row.A.Denot c.args.seat.now c.shot.new.seat c.unshown.new.seat told.made c.args.frame c.in-Ok-unshown.reply told.bytes.items c.requires.own (is.1 ∙ c.requires.made) c.shot.ensures.seat c.unshown.ensures.seen
-        c.in-Ok-unshown.ensures.reply c.in-Ok-unshown.ensures.undrawn is.0)
+    c.in-Ok-unshown.ensures.reply c.in-Ok-unshown.ensures.undrawn is.0)
     (λ fault is. memory_fault c.unshown.new.seat fault is)
 
 pub returns-in-Err-unshown-clause-answer : goal.returns-in-Err-unshown-clause-answer
@@ -27,5 +27,5 @@ pub returns-in-Err-picture_answer-clause-answer : goal.returns-in-Err-picture_an
 returns-in-Err-picture_answer-clause-answer g c =
     MatchResult-weaker c.told_reply-in-Err.result c.told_reply-in-Err.ensures
     (λ told is. told_no_picture g.row.A.Denot c.args.seat.now c.shot.new.seat told.made c.in-Ok.shot.at c.args.frame c.in-Ok.shot.picture told.bytes.items c.requires.own (is.1 ∙ c.requires.made) c.shot.ensures.seat c.in-Ok.ensures.reply.0
-        c.in-Ok.ensures.reply.1 (c.if-at-ne-made.false ∙ sym is.1) is.0)
+    c.in-Ok.ensures.reply.1 (c.if-at-ne-made.false ∙ sym is.1) is.0)
     (λ fault is. memory_fault c.shot.new.seat fault is)

@@ -28,7 +28,7 @@ pub returns-in-Ok-states_answer-clause-answer : goal.returns-in-Ok-states_answer
 returns-in-Ok-states_answer-clause-answer g c =
     told_states c.args.seat.now c.bring_zone.new.seat c.args.made c.in-Ok-states_answer.bytes.items c.requires.own c.requires.made c.bring_zone.ensures.seen
     (tells_states c.args.seat.now c.bring_zone.new.seat c.args.made c.in-Ok-Some.len c.in-Ok.frames.items c.in-Ok-states_answer.bytes.items c.requires.made c.in-Ok-Some.ensures.zone c.in-Ok.ensures
-        (c.in-Ok-states_answer.ensures ∙ ap (states_text c.args.made) c.as_slice.ensures.value))
+    (c.in-Ok-states_answer.ensures ∙ ap (states_text c.args.made) c.as_slice.ensures.value))
 
 pub returns-in-Err-states_answer-clause-answer : goal.returns-in-Err-states_answer-clause-answer
 returns-in-Err-states_answer-clause-answer g c =
