@@ -160,9 +160,10 @@ fn push_kept<N: Name, A: Allocator, B: Allocator>(
     requires step { step ≡ stride (length seat.now.zone.movie.inputs) }
     ensures { OnOk result (frames.new.items ≡ frames.old.items ++ (if is_some (state_at frame seat.now.zone.states) then frame ∷ [] else [])) }
 {
-    if is_kept(seat, step, frame) {
-        return frames.push(frame);
+    if !is_kept(seat, step, frame) {
+        return Ok(());
     }
+    frames.push(frame)?;
     Ok(())
 }
 
