@@ -18,6 +18,8 @@ pub enum Engine {
     Shot,
     Edit,
     Diff,
+    /// Of two movies with as many frames.
+    DiffReplaced,
     Script,
     MovieScript,
     /// By so many workers.
@@ -25,12 +27,13 @@ pub enum Engine {
 }
 
 /// All of them.
-pub const ENGINES: [Engine; 8] = [
+pub const ENGINES: [Engine; 9] = [
     Engine::Trace,
     Engine::Check,
     Engine::Shot,
     Engine::Edit,
     Engine::Diff,
+    Engine::DiffReplaced,
     Engine::Script,
     Engine::MovieScript,
     Engine::Export(2),
@@ -46,6 +49,7 @@ impl Engine {
             (Engine::Edit, 1) => bytes.changes.as_slice(),
             (Engine::Edit, 2) | (_, 1) => bytes.old.as_slice(),
             (Engine::Diff, 2) => bytes.new.as_slice(),
+            (Engine::DiffReplaced, 2) => bytes.replaced.as_slice(),
             _ => bytes.none.as_slice(),
         }
     }
@@ -55,7 +59,7 @@ impl Engine {
         match self {
             Engine::Trace | Engine::Script => 1,
             Engine::Check | Engine::Shot | Engine::Export(_) => 2,
-            Engine::Edit | Engine::Diff | Engine::MovieScript => 3,
+            Engine::Edit | Engine::Diff | Engine::DiffReplaced | Engine::MovieScript => 3,
         }
     }
 }
@@ -97,7 +101,7 @@ pub fn run<T: Wait + Threads + Sync, A: Allocator + Copy + Send + Sync, R: Read,
         Engine::Check => check_run(alloc, first, second, output),
         Engine::Shot => shot_run(alloc, 1, first, second, output),
         Engine::Edit => edit_run(alloc, first, second, third, output),
-        Engine::Diff => diff_run(alloc, first, second, third, output),
+        Engine::Diff | Engine::DiffReplaced => diff_run(alloc, first, second, third, output),
         Engine::Script => script_run(rt, alloc, first, output),
         Engine::MovieScript => movie_script_run(rt, alloc, first, second, third, output),
         Engine::Export(workers) => export_run(rt, alloc, 1, 3, workers, first, second, output),

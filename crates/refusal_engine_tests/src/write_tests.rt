@@ -62,6 +62,7 @@ fn each_write_of_a_text(rt: HostRuntime) -> Result<(), Fail> {
         Engine::Check,
         Engine::Edit,
         Engine::Diff,
+        Engine::DiffReplaced,
         Engine::Script,
         Engine::MovieScript,
     ];
