@@ -32,10 +32,10 @@ pub record IsPlan (movie : MovieContent) (plan : Plan) : Type 0 where
 pub record IsRunEnd (movie : MovieContent) (zone : List Savestate) (first next : ℕ) (pixmaps : List ℕ) (end : RunEnd) : Type 0 where
   pub shows : Shows movie first next pixmaps end.stop
   pub played : end.stop ≡ None → end.played ≡ cost zone first next
-  pub most : end.played ≤ 65536
+  pub most : end.played ≤ most_inputs
 
 -- how the runs from run i on end: their pixmaps, one after the other, show all frames from there on
 pub record AreRunsEnd (movie : MovieContent) (zone : List Savestate) (plan : Plan) (i : ℕ) (all_pixmaps : List (List ℕ)) (end : RunEnd) : Type 0 where
   pub shows : Shows movie (first_of_run plan i) plan.to (concat all_pixmaps) end.stop
   pub played : end.stop ≡ None → end.played ≡ costs zone plan i (plan.workers - i)
-  pub most : end.played ≤ (plan.workers - i) * 65536
+  pub most : end.played ≤ (plan.workers - i) * most_inputs

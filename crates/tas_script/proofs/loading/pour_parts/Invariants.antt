@@ -1,15 +1,14 @@
 use Rattle.std.proofs.Common.{◌≡◌, ◌++◌, List, length}
-use Rattle.std.specs.Prelude.{replicate}
 use Rattle.std.specs.List.{flat_map}
 use Rattle.tas_script.specs.Parts.{Part, AreParts, part_text, poured}
-use Rattle.tas_script.proofs.loading.load_image.Given as goal
+use Rattle.tas_script.proofs.loading.pour_parts.Given as goal
 
 abbrev pub invariant-loop-rest : goal.invariant-loop-rest
 invariant-loop-rest l = (done : List Part) × record {
-  are : AreParts done;
+  are : AreParts (length l.fn.image) done;
   text : l.text ≡ flat_map part_text done ++ l.rest;
-  image : l.image ≡ poured (replicate 4096 0) done;
-  back : (parts : List Part) → AreParts parts → l.text ≡ flat_map part_text parts → (more : List Part) × AreParts more × (l.rest ≡ flat_map part_text more);
+  image : l.image ≡ poured l.fn.image done;
+  back : (parts : List Part) → AreParts (length l.fn.image) parts → l.text ≡ flat_map part_text parts → (more : List Part) × AreParts (length l.fn.image) more × (l.rest ≡ flat_map part_text more);
 }
 
 abbrev pub decreases-loop-rest : goal.decreases-loop-rest
