@@ -55,7 +55,7 @@ fn run_refused<T: Wait + Threads + Sync>(
 {
     let heap = Refusing::new(alloc, number);
     let mut output = Vec::new(alloc);
-    let end = run_whole(rt, alloc, &heap, engine, bytes, &mut output);
+    let end = run_whole(rt, &heap, engine, bytes, &mut output);
     let text = output.as_slice();
     if !heap.has_refused() {
         return if end == Ok(()) && text == whole {
@@ -84,15 +84,15 @@ fn each_growth_refused(rt: HostRuntime) -> Result<(), Fail> {
         (Engine::Diff, 13, 0),
         (Engine::Script, 36, 12),
         (Engine::MovieScript, 48, 9),
+        (Engine::Export(1), 32, 0),
+        (Engine::Export(2), 34, 0),
+        (Engine::Export(4), 36, 0),
     ];
     let alloc = rt.alloc();
     let bytes = make_inputs(alloc)?;
     for (engine, growths, replies) in engines {
         let mut whole = Vec::new(alloc);
-        assert_eq!(rt;
-            run_whole(&rt, alloc, alloc, engine, &bytes, &mut whole),
-            Ok(())
-        );
+        assert_eq!(rt; run_whole(&rt, alloc, engine, &bytes, &mut whole), Ok(()));
         let (mut refused, mut replied) = (0u64, 0u64);
         for number in 1..MOST {
             let run = run_refused(&rt, alloc, engine, &bytes, whole.as_slice(), number);
