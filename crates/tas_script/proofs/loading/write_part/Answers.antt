@@ -24,7 +24,7 @@ returns-clause-written c = λ on.
     let part : Part = record { offset = c.in-Some.offset; bytes = c.write_bytes.new.room } in
     let digits = c.write_bytes.ensures.written on in
     let l : length c.split_at.result.1.now ≡ 2 * length c.write_bytes.new.room = ap length digits ∙ length-hex_text c.write_bytes.new.room in
-    let is-part : IsPart part = record { some = omega (arith, l, c.split_at.ensures.back_len); within = omega (arith, l); bytes = c.write_bytes.ensures.bytes } in (
+    let is-part : IsPart (length c.args.image.now) part = record { some = omega (arith, l, c.split_at.ensures.back_len); within = omega (arith, l); bytes = c.write_bytes.ensures.bytes } in (
       part,
       is-part,
       word_made c.args.word.now c.split_at.result.1.now c.write_bytes.new.room c.in-Some.offset (omega arith) c.split_at.ensures.back c.if-word-ne61.false c.in-Some.ensures.some.1 digits,
