@@ -205,7 +205,7 @@ fn frames_of_an_older_movie(rt: HostRuntime) -> Result<(), Fail> {
     Ok(())
 }
 
-/// The text of runs with the most frames, in one run and in two, and with one more.
+/// The text of runs with the most frames, in one run and in two.
 #[test]
 fn frames_of_a_movie(rt: HostRuntime) -> Result<(), Fail> {
     let alloc = rt.alloc();
@@ -217,46 +217,47 @@ fn frames_of_a_movie(rt: HostRuntime) -> Result<(), Fail> {
     let longest = runs(alloc, b"..... ..... ..... x262144\n")?;
     let parted = runs(alloc, b"..... ..... ..... x262143\nR.... ..... .....\n")?;
     let all = End::Writes(17, b"ok 262144 frames\n");
-    let frame = End::Faults(b"fault: movie line 3: frame\n");
-    let too_many = End::Faults(b"fault: movie line 4: too many\n");
+    let migrated = End::Writes(125, b" x262143\nR.... ..... .....\n");
+    let last = End::Writes(PICTURE, b"\0");
     let no_frame = End::Faults(b"fault: no frame 262144 of 262144\n");
-    let cases: [(&[&str], &[u8], End); 9] = [
+    let cases: [(&[&str], &[u8], End); 5] = [
         (&["check", "game.bin"], &longest, all),
         (&["check", "game.bin"], &parted, all),
-        (
-            &["check", "game.bin"],
-            &runs(alloc, b"..... ..... ..... x262145\n")?,
-            frame,
-        ),
-        (
-            &["check", "game.bin"],
-            &runs(alloc, b"..... ..... ..... x262144\nR.... ..... .....\n")?,
-            too_many,
-        ),
-        (
-            &["check", "game.bin"],
-            &runs(alloc, b"..... ..... ..... x262143\nR.... ..... ..... x2\n")?,
-            too_many,
-        ),
-        (
-            &["migrate", "game.bin"],
-            &parted,
-            End::Writes(125, b" x262143\nR.... ..... .....\n"),
-        ),
-        (
-            &["shot", "game.bin", "262143"],
-            &longest,
-            End::Writes(PICTURE, b"\0"),
-        ),
+        (&["migrate", "game.bin"], &parted, migrated),
+        (&["shot", "game.bin", "262143"], &longest, last),
         (&["shot", "game.bin", "262144"], &longest, no_frame),
-        (
-            &["shot", "game.bin", "0"],
-            &runs(alloc, b"..... ..... ..... x2\n..... ..... .....\n")?,
-            End::Faults(b"fault: movie line 4: run\n"),
-        ),
     ];
     for (words, text, end) in cases {
         ends(&rt, alloc, words, files, text, end)?;
+    }
+    Ok(())
+}
+
+/// Runs with one frame more than the most, and two that would be one.
+#[test]
+fn runs_past_their_limits(rt: HostRuntime) -> Result<(), Fail> {
+    let alloc = rt.alloc();
+    let game = cart(alloc, BRIEF)?;
+    let files = Files {
+        game: game.as_slice(),
+        other: b"",
+    };
+    let frame = End::Faults(b"fault: movie line 3: frame\n");
+    let run = End::Faults(b"fault: movie line 4: run\n");
+    let too_many = End::Faults(b"fault: movie line 4: too many\n");
+    let cases: [(&[u8], End); 5] = [
+        (b"..... ..... ..... x262145\n", frame),
+        (b"..... ..... ..... x1\n", frame),
+        (b"..... ..... ..... x2\n..... ..... .....\n", run),
+        (b"..... ..... ..... x262144\nR.... ..... .....\n", too_many),
+        (
+            b"..... ..... ..... x262143\nR.... ..... ..... x2\n",
+            too_many,
+        ),
+    ];
+    for (lines, end) in cases {
+        let text = runs(alloc, lines)?;
+        ends(&rt, alloc, &["check", "game.bin"], files, &text, end)?;
     }
     Ok(())
 }
