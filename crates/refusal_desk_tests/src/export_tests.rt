@@ -1,4 +1,5 @@
-//! Exports of a desk: after each refusal nothing is written, history, movie and zones are as they were, and the same export is right.
+//! Exports of a desk: after each refusal no worker has begun, nothing is written, history, movie and zones are as they were, and the same
+//! export is right.
 
 ghost use Rattle.std.specs.Prelude.{◌≡◌, ◌≤◌};
 ghost use Rattle.tas_desk.specs.Seats.{name_of};
@@ -11,9 +12,10 @@ use std::alloc::{AllocError, Global};
 use std::marker::Brand;
 use std::process::Abort;
 use std::sync::Wait;
+use std::sync::atomic::{AtomicU64, Ordering};
 use std::test::Fail;
 use std::thread::Threads;
-use tas_desk::{Desk, ExportError, Name, Seat, Unopened};
+use tas_desk::{Desk, ExportError, Gate, Name, Seat, Unopened};
 use tas_movie::{Movie, apply, check};
 use vcs_machine::{Meter, State, play};
 use vcs_tia::{Picture, ppm};
@@ -85,7 +87,7 @@ fn pixmaps_of(alloc: Global, movie: &Movie) -> Result<Vec<u8>, Fail> {
 }
 
 /// What is wanted where an export plays so many frames.
-fn wanted(alloc: Global, zone: Zone, played: u64) -> Result<Wanted, Fail> {
+fn wanted_of(alloc: Global, zone: Zone, played: u64) -> Result<Wanted, Fail> {
     match zone {
         Zone::Present => Ok(Wanted {
             at: 3,
@@ -109,7 +111,19 @@ fn wanted(alloc: Global, zone: Zone, played: u64) -> Result<Wanted, Fail> {
     }
 }
 
-/// Whether an export is right; nothing where memory is refused with nothing written.
+/// A gate that counts how many workers pass.
+#[derive(Drop)]
+struct Counting {
+    passed: AtomicU64,
+}
+
+impl Gate for Counting {
+    fn pass(&self, _run: usize) {
+        self.passed.fetch_add(1, Ordering::SeqCst);
+    }
+}
+
+/// Whether an export is right; nothing where memory is refused before any worker has passed the gate, with nothing written.
 fn export<'a, N: Name, R: Threads + Wait + Sync>(
     rt: &R,
     alloc: Global,
@@ -122,13 +136,18 @@ fn export<'a, N: Name, R: Threads + Wait + Sync>(
     requires { (1 ≤ workers) × (workers ≤ 16) }
 {
     let (from, to) = FRAMES;
+    let gate = Counting {
+        passed: AtomicU64::new(0),
+    };
     let mut out = Vec::new(alloc);
-    match desk.export(rt, heap, seat, from, to, workers, &OpenGate, &mut out) {
+    let end = desk.export(rt, heap, seat, from, to, workers, &gate, &mut out);
+    let passed = gate.passed.load(Ordering::SeqCst);
+    match end {
         Ok(exported) => {
             let is_told = exported.at == wanted.at && exported.played == wanted.played;
-            Some(is_told && out == wanted.pixmaps)
+            Some(is_told && passed == workers as u64 && out == wanted.pixmaps)
         }
-        Err(ExportError::Memory) if out.is_empty() => None,
+        Err(ExportError::Memory) if passed == 0 && out.is_empty() => None,
         Err(_) => Some(false),
     }
 }
@@ -270,7 +289,7 @@ fn refuse_each<R: Threads + Wait + Abort + Sync>(
 ) -> Result<(), Fail>
     requires { (1 ≤ workers) × (workers ≤ 16) }
 {
-    let wanted = wanted(alloc, zone, played)?;
+    let wanted = wanted_of(alloc, zone, played)?;
     let mut refused = 0;
     for number in 1..MOST {
         let run = run_export(rt, alloc, zone, workers, &wanted, number)?;

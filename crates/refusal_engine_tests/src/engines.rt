@@ -19,6 +19,8 @@ pub enum Engine {
     Shot,
     Edit,
     Diff,
+    /// Of two movies with as many frames.
+    DiffReplaced,
     Script,
     MovieScript,
     /// By so many workers.
@@ -33,6 +35,7 @@ pub const ENGINES: [Engine; 9] = [
     Engine::Shot,
     Engine::Edit,
     Engine::Diff,
+    Engine::DiffReplaced,
     Engine::Script,
     Engine::MovieScript,
     Engine::Export(2),
@@ -48,6 +51,7 @@ impl Engine {
             (Engine::Edit, 1) => bytes.changes.as_slice(),
             (Engine::Edit, 2) | (_, 1) => bytes.old.as_slice(),
             (Engine::Diff, 2) => bytes.new.as_slice(),
+            (Engine::DiffReplaced, 2) => bytes.replaced.as_slice(),
             _ => bytes.none.as_slice(),
         }
     }
@@ -57,7 +61,7 @@ impl Engine {
         match self {
             Engine::Trace | Engine::Script => 1,
             Engine::Check | Engine::Migrate | Engine::Shot | Engine::Export(_) => 2,
-            Engine::Edit | Engine::Diff | Engine::MovieScript => 3,
+            Engine::Edit | Engine::Diff | Engine::DiffReplaced | Engine::MovieScript => 3,
         }
     }
 }
@@ -100,7 +104,7 @@ pub fn run<T: Wait + Threads + Sync, A: Allocator + Copy + Send + Sync, R: Read,
         Engine::Migrate => migrate_run(alloc, first, second, output),
         Engine::Shot => shot_run(alloc, 1, first, second, output),
         Engine::Edit => edit_run(alloc, first, second, third, output),
-        Engine::Diff => diff_run(alloc, first, second, third, output),
+        Engine::Diff | Engine::DiffReplaced => diff_run(alloc, first, second, third, output),
         Engine::Script => script_run(rt, alloc, first, output),
         Engine::MovieScript => movie_script_run(rt, alloc, first, second, third, output),
         Engine::Export(workers) => export_run(rt, alloc, 1, 3, workers, first, second, output),

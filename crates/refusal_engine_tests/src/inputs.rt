@@ -9,21 +9,27 @@ use vcs_machine::{Cart, Input};
 /// are black.
 const BRIEF: &[u8] = b"\xA9\x02\x85\x00\xA9\x00\x85\x00\x4C\x00\xF0";
 
-/// The bytes of a cartridge, of the texts of two movies of it, of the changes that make the second of the first, and of a
-/// script of edits and looks; and none.
+/// The bytes of a cartridge, of the texts of three movies of it, of changes of the first, and of a script of edits and looks;
+/// and none.
 #[derive(Drop)]
 pub struct Bytes {
     pub cart: Vec<u8>,
     pub old: Vec<u8>,
+    /// It differs from the first by a deletion and an insertion.
     pub new: Vec<u8>,
+    /// It differs from the first by a replacement.
+    pub replaced: Vec<u8>,
     pub changes: Vec<u8>,
     pub script: Vec<u8>,
     pub none: Vec<u8>,
 }
 
-/// Seven lines on a movie.
+/// Each kind of change.
+const CHANGES: &[u8] = b"delete 0 1\ninsert 0 3 R.... ..... .....\nreplace 1 2 .L... ..... .....\n";
+
+/// Nine lines on a movie, each kind of edit among them.
 const SCRIPT: &[u8] =
-    b"insert 0 3 R.... ..... .....\nlen\ninput 1\nshot 2\ndelete 0 1\nwork 1\nlen\n";
+    b"load 000=A9028500A90085004C00F0 FFC=00F0\ninsert 0 3 R.... ..... .....\nreplace 1 1 .L... ..... .....\nlen\ninput 1\nshot 2\ndelete 0 1\nwork 1\nlen\n";
 
 fn cart(alloc: Global) -> Result<Cart, AllocError> {
     let mut image = [0u8; 4096];
@@ -36,12 +42,12 @@ fn cart(alloc: Global) -> Result<Cart, AllocError> {
     Cart::from_bytes(alloc, &image).map_err(|_| AllocError)
 }
 
-/// The text of a movie with so many frames of nothing pressed.
-fn text_of(alloc: Global, cart: &Cart, count: usize) -> Result<Vec<u8>, Fail> {
+/// The text of a movie with so many frames of one input.
+fn text_of(alloc: Global, cart: &Cart, input: Input, count: usize) -> Result<Vec<u8>, Fail> {
     let mut movie = Movie::new(alloc, cart)?;
     let insert = Edit::Insert {
         at: 0,
-        inputs: Inputs::from_vec(vec![in alloc; Input::none(); count]?),
+        inputs: Inputs::from_vec(vec![in alloc; input; count]?),
     };
     check(&movie, &insert)?;
     apply(&mut movie, &insert);
@@ -51,11 +57,14 @@ fn text_of(alloc: Global, cart: &Cart, count: usize) -> Result<Vec<u8>, Fail> {
 /// All inputs.
 pub fn make_inputs(alloc: Global) -> Result<Bytes, Fail> {
     let cart = cart(alloc)?;
+    let mut right = Input::none();
+    right.left.right = true;
     Ok(Bytes {
-        old: text_of(alloc, &cart, 3)?,
-        new: text_of(alloc, &cart, 2)?,
+        old: text_of(alloc, &cart, Input::none(), 3)?,
+        new: text_of(alloc, &cart, right, 2)?,
+        replaced: text_of(alloc, &cart, right, 3)?,
         cart: Vec::from_slice(alloc, cart.bytes())?,
-        changes: Vec::from_slice(alloc, b"delete 0 1\n")?,
+        changes: Vec::from_slice(alloc, CHANGES)?,
         script: Vec::from_slice(alloc, SCRIPT)?,
         none: Vec::new(alloc),
     })

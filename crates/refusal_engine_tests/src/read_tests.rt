@@ -139,9 +139,9 @@ fn tells_early_end(engine: Engine, input: usize, fault: ToolFault) -> bool {
     match fault {
         ToolFault::Size(size) => input == 0 && size == 4095,
         ToolFault::Script { line } => match engine {
-            Engine::Script => line == 7,
-            Engine::MovieScript => input == 2 && line == 7,
-            Engine::Edit => input == 1 && line == 1,
+            Engine::Script => line == 9,
+            Engine::MovieScript => input == 2 && line == 9,
+            Engine::Edit => input == 1 && line == 3,
             _ => false,
         },
         ToolFault::Text(_) => input > 0,

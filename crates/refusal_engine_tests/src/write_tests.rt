@@ -63,6 +63,7 @@ fn each_write_of_a_text(rt: HostRuntime) -> Result<(), Fail> {
         Engine::Migrate,
         Engine::Edit,
         Engine::Diff,
+        Engine::DiffReplaced,
         Engine::Script,
         Engine::MovieScript,
     ];
@@ -77,10 +78,16 @@ fn each_write_of_a_text(rt: HostRuntime) -> Result<(), Fail> {
 /// A row at a time.
 #[test]
 fn each_write_of_a_shot(rt: HostRuntime) -> Result<(), Fail> {
-    fail_each(&rt, rt.alloc(), Engine::Shot, 1000, Failure::Error)
+    for failure in [Failure::Error, Failure::Nothing] {
+        fail_each(&rt, rt.alloc(), Engine::Shot, 1000, failure)?;
+    }
+    Ok(())
 }
 
 #[test]
 fn each_write_of_an_export(rt: HostRuntime) -> Result<(), Fail> {
-    fail_each(&rt, rt.alloc(), Engine::Export(2), 1000, Failure::Nothing)
+    for failure in [Failure::Error, Failure::Nothing] {
+        fail_each(&rt, rt.alloc(), Engine::Export(2), 1000, failure)?;
+    }
+    Ok(())
 }

@@ -13,7 +13,7 @@ use clap::{Arg, ArgAction, ArgMatches, Command, Error, value_parser};
 use std::alloc::{AllocError, Global};
 
 /// The versions that `tas --version` tells: the program's, and that of docs/MACHINE.md.
-static VERSION: &str = "0.1.0, machine profile 1";
+static VERSION: &str = "0.1.0, machine profile 2";
 
 /// A required word that is a number in a range.
 fn number<'a>(alloc: Global, name: &'a str, help: &'a str, least: u32, most: u32) -> Arg<'a>

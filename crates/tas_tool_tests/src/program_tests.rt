@@ -333,7 +333,7 @@ fn help_and_version_are_shown(rt: HostRuntime) -> Result<(), Fail> {
     assert_eq!(rt; ran.code, 0);
     assert_eq!(rt;
         ran.output.as_slice(),
-        b"tas 0.1.0, machine profile 1\n".as_slice()
+        b"tas 0.1.0, machine profile 2\n".as_slice()
     );
     Ok(())
 }

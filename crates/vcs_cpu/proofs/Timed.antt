@@ -1,11 +1,12 @@
--- An instruction takes two cycles at least, which pass before its writes.
+-- An instruction takes two cycles at least, which pass before its reads of operands and its writes.
 use Rattle.std.proofs.Common.{rules, ◌≡◌, ◌≤◌, ◌+◌, ◌==◌, ℕ, Bool, true, false, List, [], ◌∷◌, Option, Some, None, Result, Ok, Err, IfSome, refl, ap, subst, arith, cond}
 use Rattle.std.specs.List.{find}
 use Rattle.vcs_cpu.specs.declared.regs.Regs.{Regs}
 use Rattle.vcs_cpu.specs.declared.halt.Halt.{Halt}
-use Rattle.vcs_cpu.specs.Device.{Device, after_writes}
+use Rattle.vcs_cpu.specs.Device.{Device, after_loads, after_writes}
 use Rattle.vcs_cpu.specs.Rows.{Row, row_of, rows}
 use Rattle.vcs_cpu.specs.Operands.{address_after, size_of, operand_of_mode}
+use Rattle.vcs_cpu.specs.Effects.{read_addresses}
 use Rattle.vcs_cpu.specs.Steps.{Step, extra_cycles, effect_on, step_by_row, step_or_halt, step_of}
 
 -- P holds of each row of a list
@@ -36,9 +37,10 @@ step_or (Ok x) other = x
 step_or (Err halt) other = other
 
 module _ {Content : Type 0} (d : Device Content) where
-  -- a step from a content: its cycles pass there, and writes follow
+  -- a step from a content: its cycles pass there, and reads and writes follow
   abbrev pub Passes : Content → Step Content → Type 0
-  Passes content x = (2 ≤ x.cycles) × ((writes : List (ℕ × ℕ)) × (x.content ≡ after_writes d (d.after_advance content x.cycles) writes))
+  Passes content x = (2 ≤ x.cycles) × ((reads : List ℕ) × ((writes : List (ℕ × ℕ))
+      × (x.content ≡ after_writes d (after_loads d (d.after_advance content x.cycles) reads) writes)))
 
   row_passes : (row : Row) (r : Regs) (content : Content) → 2 ≤ row.cycles → Passes content (step_by_row d row r content)
   row_passes row r content least =
@@ -46,7 +48,7 @@ module _ {Content : Type 0} (d : Device Content) where
       let time = row.cycles + extra_cycles row.op row.crossing operand r in
       let later = d.after_advance content time in
       let next = record r { pc = address_after r.pc (size_of row.mode) } in
-      (omega (arith, least), ((effect_on d row.op operand next later).writes, refl))
+      (omega (arith, least), (read_addresses row.op operand next, ((effect_on d row.op operand next later).writes, refl)))
 
   step_or_halt-passes : (o : Option Row) (opcode : ℕ) (r : Regs) (content : Content) (x : Step Content) → IfSome o TakesTwo → step_or_halt d o opcode r content ≡ Ok x → Passes content x
   step_or_halt-passes None opcode r content x least e = cc

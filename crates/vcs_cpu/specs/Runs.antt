@@ -2,7 +2,7 @@
 use Rattle.std.specs.Prelude.{◌≡◌, ◌≤◌, ℕ, zero, suc, Bool, List, Option, Some, None, Result, Ok, Err, if◌then◌else◌}
 use Rattle.vcs_cpu.specs.declared.regs.Regs.{Regs}
 use Rattle.vcs_cpu.specs.declared.halt.Halt.{Halt}
-use Rattle.vcs_cpu.specs.Device.{Device, after_writes}
+use Rattle.vcs_cpu.specs.Device.{Device, after_loads, after_writes}
 use Rattle.vcs_cpu.specs.Steps.{Step, step_of}
 
 -- how a run ends: registers and content, and the halt if there was one
@@ -46,5 +46,6 @@ pub record IsAfterInstruction {Bus Content : Type 0} (d : Device Content) (conte
   pub cycles : ℕ
   pub least : 2 ≤ cycles
   pub most : cycles ≤ 7
+  pub reads : List ℕ
   pub writes : List (ℕ × ℕ)
-  pub is : content ≡ after_writes d (d.after_advance (content_of before) cycles) writes
+  pub is : content ≡ after_writes d (after_loads d (d.after_advance (content_of before) cycles) reads) writes

@@ -5,7 +5,7 @@ use Rattle.vcs_cpu.specs.declared.regs.Regs.{Regs}
 use Rattle.vcs_cpu.specs.declared.halt.Halt.{Halt}
 use Rattle.vcs_riot.specs.declared.chip.Riot.{Riot}
 use Rattle.vcs_riot.specs.Address.{is_high}
-use Rattle.vcs_riot.specs.Chip.{riot_after_ticks, riot_after_write}
+use Rattle.vcs_riot.specs.Chip.{riot_after_ticks, riot_after_load, riot_after_write}
 use Rattle.vcs_tia.specs.declared.beam.Beam.{Beam}
 use Rattle.vcs_tia.specs.declared.chip.Tia.{Tia}
 use Rattle.vcs_tia.specs.declared.chip.Fire.{Fire}
@@ -16,7 +16,7 @@ use Rattle.vcs_tia.specs.Register.{register_at}
 use Rattle.vcs_tia.specs.Tia.{written, written_at, after_clock, latches_at, clocks_owed, wait_cleared, frame_started, frame_ended, button_pressed}
 use Rattle.vcs_tia.specs.Trace.{after_clocks}
 use Rattle.vcs_tia.proofs.Later.{fire-after_clocks}
-use Rattle.vcs_machine.specs.Bus.{Board, Observed, board_byte_at, board_after_write, bus_device, after_time, after_wait, nothing_seen}
+use Rattle.vcs_machine.specs.Bus.{Board, Observed, board_byte_at, board_after_load, board_after_write, bus_device, after_time, after_wait, nothing_seen}
 use Rattle.vcs_machine.specs.Step.{console_step, with_wait}
 use Rattle.vcs_machine.specs.Frame.{is_frame_over}
 use Rattle.vcs_machine.specs.TraceFrames.{board_into_next_frame}
@@ -156,6 +156,30 @@ reads-alike o p h = let reads : Board → ℕ → ℕ = λ b addr. board_byte_at
 pub byte-alike : (addr : ℕ) (o p : Observed (Unit {0})) → BoardsAlike o p → board_byte_at o.board addr ≡ board_byte_at p.board addr
 byte-alike addr o p h = ap (λ (m : ℕ → ℕ). m addr) (reads-alike o p h)
 
+loaded-by_region : (cart riot : Bool) (b : Board) (r : Riot) →
+    board_without_line (if cart then b else (if riot then record b { riot = r } else b))
+    ≡ (if cart then board_without_line b else (if riot then record (board_without_line b) { riot = r } else board_without_line b))
+loaded-by_region true riot b r = refl
+loaded-by_region false true b r = refl
+loaded-by_region false false b r = refl
+
+board_load-without_line : (b : Board) (addr : ℕ) → board_without_line (board_after_load b addr) ≡ board_after_load (board_without_line b) addr
+board_load-without_line b addr = loaded-by_region (is_high 12 addr) (is_high 7 addr) b (riot_after_load addr b.riot)
+
+unpressed-by_region : (cart riot : Bool) (b u : Board) → u.tia ≡ b.tia → are_pressed (if cart then b else (if riot then u else b)).tia ≡ are_pressed b.tia
+unpressed-by_region true riot b u k = refl
+unpressed-by_region false true b u k = ap are_pressed k
+unpressed-by_region false false b u k = refl
+
+loads-alike : (o p : Observed (Unit {0})) (addr : ℕ) → BoardsAlike o p →
+    BoardsAlike ((bus_device nothing_seen).after_load o addr) ((bus_device nothing_seen).after_load p addr)
+loads-alike o p addr h = record {
+  same = board_load-without_line o.board addr ∙ ap (λ (b : Board). board_after_load b addr) h.same ∙ sym (board_load-without_line p.board addr);
+  none_pressed =
+      unpressed-by_region (is_high 12 addr) (is_high 7 addr) o.board (record o.board { riot = riot_after_load addr o.board.riot }) refl
+      ∙ h.none_pressed;
+}
+
 written-by_region : (cart riot : Bool) (b : Board) (r : Riot) (t u : Tia) → without_line t ≡ without_line u →
     board_without_line (if cart then b else (if riot then record b { riot = r } else record b { tia = t }))
     ≡ board_without_line (if cart then board_without_line b else (if riot then record (board_without_line b) { riot = r } else record (board_without_line b) { tia = u }))
@@ -214,7 +238,7 @@ pub console_step-alike : (r : Regs) (o p : Observed (Unit {0})) → BoardsAlike 
 unfolding console_step
 console_step-alike r o p h =
     let bus = bus_device nothing_seen in
-    with_wait-alike (step_of bus r o) (step_of bus r p) (instruction-alike BoardsAlike bus reads-alike pokes-alike (λ x y n. time-alike n (3 * n) x y) r o p h)
+    with_wait-alike (step_of bus r o) (step_of bus r p) (instruction-alike BoardsAlike bus reads-alike loads-alike pokes-alike (λ x y n. time-alike n (3 * n) x y) r o p h)
 
 -- ---- a new frame
 

@@ -1,6 +1,6 @@
--- An instruction on two contents that are alike: where a device's reads, writes and time keep contents alike, so does an instruction.
-use Rattle.std.proofs.Common.{◌≡◌, ℕ, ◌+◌, List, [], ◌∷◌, map, ap, refl, subst, Option, Some, None, Result, Ok, Err}
-use Rattle.vcs_cpu.specs.Device.{Device, after_writes}
+-- An instruction on two contents that are alike: where a device's reads, loads, writes and time keep contents alike, so does an instruction.
+use Rattle.std.proofs.Common.{◌≡◌, ℕ, ◌+◌, List, [], ◌∷◌, ◌∙◌, ap, refl, subst, Option, Some, None, Result, Ok, Err}
+use Rattle.vcs_cpu.specs.Device.{Device, bytes_loaded, after_loads, after_writes}
 use Rattle.vcs_cpu.specs.Rows.{Row, row_of}
 use Rattle.vcs_cpu.specs.Operands.{address_after, size_of, operand_of_mode}
 use Rattle.vcs_cpu.specs.Effects.{Effect, effect_of, read_addresses}
@@ -23,8 +23,19 @@ module _ {Content : Type 0} (Alike : Content → Content → Type 0) where
   EndAlike (Err halt) (Err other) = halt ≡ other
 
   module _ (d : Device Content) (reads : (x y : Content) → Alike x y → d.byte_at x ≡ d.byte_at y)
+      (loads : (x y : Content) (addr : ℕ) → Alike x y → Alike (d.after_load x addr) (d.after_load y addr))
       (pokes : (x y : Content) (addr v : ℕ) → Alike x y → Alike (d.after_poke x addr v) (d.after_poke y addr v))
       (advances : (x y : Content) (n : ℕ) → Alike x y → Alike (d.after_advance x n) (d.after_advance y n)) where
+    bytes-alike : (addresses : List ℕ) (x y : Content) → Alike x y → bytes_loaded d x addresses ≡ bytes_loaded d y addresses
+    bytes-alike [] x y h = refl
+    bytes-alike (a ∷ rest) x y h =
+        ap (λ (m : ℕ → ℕ). m a ∷ bytes_loaded d (d.after_load x a) rest) (reads x y h)
+        ∙ ap (λ (bytes : List ℕ). d.byte_at y a ∷ bytes) (bytes-alike rest (d.after_load x a) (d.after_load y a) (loads x y a h))
+
+    loads-alike : (addresses : List ℕ) (x y : Content) → Alike x y → Alike (after_loads d x addresses) (after_loads d y addresses)
+    loads-alike [] x y h = h
+    loads-alike (a ∷ rest) x y h = loads-alike rest (d.after_load x a) (d.after_load y a) (loads x y a h)
+
     writes-alike : (ws : List (ℕ × ℕ)) (x y : Content) → Alike x y → Alike (after_writes d x ws) (after_writes d y ws)
     writes-alike [] x y h = h
     writes-alike (w ∷ ws) x y h = writes-alike ws (d.after_poke x w.0 w.1) (d.after_poke y w.0 w.1) (pokes x y w.0 w.1 h)
@@ -44,12 +55,15 @@ module _ {Content : Type 0} (Alike : Content → Content → Type 0) where
         let time = row.cycles + extra_cycles row.op row.crossing operand r in
         let next = record r { pc = address_after r.pc (size_of row.mode) } in
         let later = advances x y time h in
-        let e = ap (λ (f : ℕ → ℕ). effect_of row.op operand next (map f (read_addresses row.op operand next))) (reads (d.after_advance x time) (d.after_advance y time) later) in
+        let addresses = read_addresses row.op operand next in
+        let a = d.after_advance x time in
+        let b = d.after_advance y time in
+        let e = ap (effect_of row.op operand next) (bytes-alike addresses a b later) in
         record {
           regs = ap (λ (f : Effect). f.regs) e;
           cycles = refl;
-          content = subst (λ (ws : List (ℕ × ℕ)). Alike (content_after d row.op operand next (d.after_advance x time)) (after_writes d (d.after_advance y time) ws)) (ap (λ (f : Effect). f.writes) e)
-              (writes-alike (effect_on d row.op operand next (d.after_advance x time)).writes (d.after_advance x time) (d.after_advance y time) later);
+          content = subst (λ (ws : List (ℕ × ℕ)). Alike (content_after d row.op operand next a) (after_writes d (after_loads d b addresses) ws)) (ap (λ (f : Effect). f.writes) e)
+              (writes-alike (effect_on d row.op operand next a).writes (after_loads d a addresses) (after_loads d b addresses) (loads-alike addresses a b later));
         }
 
     row-alike : (row : Row) (r : Regs) (x y : Content) → Alike x y → AreAlike (step_by_row d row r x) (step_by_row d row r y)

@@ -3,7 +3,7 @@ use Rattle.std.proofs.Common.{◌≡◌, ◌≤◌, ◌<◌, ℕ, zero, suc, ◌
 use Rattle.std.proofs.lemmas.Bool.Decides.{nat_tests}
 use Rattle.vcs_cpu.specs.declared.regs.Regs.{Regs}
 use Rattle.vcs_cpu.specs.declared.halt.Halt.{Halt}
-use Rattle.vcs_cpu.specs.Device.{after_writes}
+use Rattle.vcs_cpu.specs.Device.{after_loads, after_writes}
 use Rattle.vcs_cpu.specs.Steps.{Step, step_of}
 use Rattle.vcs_cpu.specs.Runs.{RunEnd, run_within}
 use Rattle.vcs_cpu.specs.Runs as runs
@@ -18,7 +18,7 @@ use Rattle.vcs_machine.specs.Bus.{Board, Observed, board_after_write, bus_device
 use Rattle.vcs_machine.specs.Step.{console_step, with_wait}
 use Rattle.vcs_machine.specs.Frame.{FrameEnd, end_within, is_frame_over, console_settling}
 use Rattle.vcs_machine.specs.Frame as frame
-use Rattle.vcs_machine.proofs.Clocks.{clocks-instruction, clocks-after_wait}
+use Rattle.vcs_machine.proofs.Clocks.{clocks-instruction, clocks-after_wait, tia-after_loads}
 
 -- ---- the clock of the line stays below 228
 
@@ -57,9 +57,13 @@ module _ {Seen : Type 0} (observe : List Tia → Seen → Seen) where
   goes r o x h is =
       let passes = step_of-passes (bus_device observe) r o x is in
       let least = passes.0 in
-      let clocks = clocks-instruction observe x.cycles passes.1.0 o x.content passes.1.1 in
+      let reads = passes.1.0 in
+      let writes = passes.1.1.0 in
+      let time = after_time observe x.cycles (3 * x.cycles) o in
+      let clocks = clocks-instruction observe x.cycles reads writes o x.content passes.1.1.1 in
       let waits = clocks-after_wait observe x.content in
-      let same = ap (λ (y : Observed Seen). clock_of y.board.tia) passes.1.1 ∙ clock-after_writes passes.1.0 (after_time observe x.cycles (3 * x.cycles) o) in
+      let same = ap (λ (y : Observed Seen). clock_of y.board.tia) passes.1.1.1
+      ∙ clock-after_writes writes (after_loads (bus_device observe) time reads) ∙ ap clock_of (tia-after_loads observe reads time) in
       let later = clock-later (3 * x.cycles) o.board.tia h in
       let before : clock_of x.content.board.tia < 228 = omega (arith, same, later) in
       (omega (arith, least, clocks, waits), clock-later (clocks_owed x.content.board.tia) (wait_cleared x.content.board.tia) before)

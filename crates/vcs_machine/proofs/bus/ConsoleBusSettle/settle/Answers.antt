@@ -11,7 +11,7 @@ pub settle_chips-requires : goal.settle_chips-requires
 settle_chips-requires g c =
     let b = c.args.self.now in
     let r = c.requires in
-    let clocks = clocks-instruction g.O.Observer.observe r.cycles r.writes _ _ r.is in
+    let clocks = clocks-instruction g.O.Observer.observe r.cycles r.reads r.writes _ _ r.is in
     let behind = clocks_passed-after_clocks b.clocks b.tia.now in
     let first = r.ready.0 in
     let most = r.most in
