@@ -1,7 +1,7 @@
 -- Digits, bytes and parts of a `load` line.
 use Rattle.std.proofs.Common.{◌≡◌, ℕ, zero, suc, ◌+◌, ◌*◌, ◌/◌, ◌%◌, ◌<◌, ◌≤◌, List, [], ◌∷◌, ◌++◌, length, take, drop, get_or, refl, sym, ap, subst, ◌∙◌, arith, append_assoc}
 use Rattle.std.proofs.Math.ListN.{set}
-use Rattle.std.proofs.lemmas.List.{take_more, take_all, drop_more, take_more_set, append-nil, length-replicate}
+use Rattle.std.proofs.lemmas.List.{take_more, take_all, drop_more, take_more_set, append-nil, length-append, length-drop, length-replicate, length-take-le}
 use Rattle.std.proofs.lemmas.Bool.Decides.{nat_tests}
 use Rattle.std.proofs.lemmas.List.{take-append-drop}
 use Rattle.std.proofs.lemmas.Slice.{take-put_mid, drop-put_mid}
@@ -192,6 +192,16 @@ pub poured_more : (image : List ℕ) (parts : List Part) (part : Part) → poure
 unfolding poured
 poured_more image [] part = refl
 poured_more image (first ∷ parts) part = poured_more (overwritten first image) parts part
+
+-- a part that is written leaves as many bytes
+pub length-overwritten : (part : Part) (image : List ℕ) → IsPart (length image) part → length (overwritten part image) ≡ length image
+length-overwritten part image is =
+    let n : ℕ = part.offset + length part.bytes in
+    let front = length-take-le part.offset image (omega (arith, is.within)) in
+    let behind = length-drop n image in
+    let written = length-append (take part.offset image) part.bytes in
+    let whole = length-append (take part.offset image ++ part.bytes) (drop n image) in
+    omega (arith, front, behind, written, whole, is.within)
 
 pub more_parts : (size : ℕ) (parts : List Part) (part : Part) → AreParts size parts → IsPart size part → AreParts size (parts ++ part ∷ [])
 unfolding AreParts

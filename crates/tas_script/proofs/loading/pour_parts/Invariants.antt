@@ -4,7 +4,7 @@ use Rattle.tas_script.specs.Parts.{Part, AreParts, part_text, poured}
 use Rattle.tas_script.proofs.loading.pour_parts.Given as goal
 
 abbrev pub invariant-loop-rest : goal.invariant-loop-rest
-invariant-loop-rest l = (done : List Part) × record {
+invariant-loop-rest l = (length l.image ≡ length l.fn.image) × (done : List Part) × record {
   are : AreParts (length l.fn.image) done;
   text : l.text ≡ flat_map part_text done ++ l.rest;
   image : l.image ≡ poured l.fn.image done;

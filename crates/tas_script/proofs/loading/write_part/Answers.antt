@@ -16,7 +16,7 @@ pub returns-then-end-image-clause-other : goal.returns-then-end-image-clause-oth
 returns-then-end-image-clause-other c = λ off part is-part is.
     let read = word_read c.args.word.now c.split_at.result.1.now part is c.split_at.ensures.back in
     let l : length c.split_at.result.1.now ≡ 2 * length part.bytes = ap length read.2 ∙ length-hex_text part.bytes in
-    let same : c.in-Some.offset ≡ part.offset = offset_same c.in-Some.offset part.offset c.in-Some.ensures.some.0 (omega (arith, is-part.some, is-part.within)) (c.in-Some.ensures.some.1 ∙ sym read.0) in
+    let same : c.in-Some.offset ≡ part.offset = offset_same c.in-Some.offset part.offset c.in-Some.ensures.some.0 (omega (arith, is-part.some, is-part.within, c.requires)) (c.in-Some.ensures.some.1 ∙ sym read.0) in
     absurd (omega (arith, l, same, is-part.within))
 
 pub returns-clause-written : goal.returns-clause-written

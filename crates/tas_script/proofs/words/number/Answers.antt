@@ -6,4 +6,4 @@ pub returns-in_default-clause-none : goal.returns-in_default-clause-none
 returns-in_default-clause-none c = λ n le is. c.in_default.ensures.none n (omega arith) is
 
 pub returns-then-n-gt-MAX_NUMBER-clause-none : goal.returns-then-n-gt-MAX_NUMBER-clause-none
-returns-then-n-gt-MAX_NUMBER-clause-none c = λ n le is. past_most n c.in-Some.n c.args.word.now c.in-Some.ensures.some (omega arith) (omega arith) le is
+returns-then-n-gt-MAX_NUMBER-clause-none c = λ n le is. past_most n c.in-Some.n c.args.word.now c.in-Some.ensures.some (omega arith) c.if-n-gt-MAX_NUMBER.true le is
