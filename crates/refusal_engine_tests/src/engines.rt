@@ -6,8 +6,8 @@ use std::io::{Read, Write};
 use std::sync::Wait;
 use std::thread::Threads;
 use tas_tool::{
-    ToolFault, check_run, diff_run, edit_run, export_run, movie_script_run, script_run, shot_run,
-    trace_run,
+    ToolFault, check_run, diff_run, edit_run, export_run, movie_script_run, movie_talk_run,
+    script_run, shot_run, talk_run, trace_run,
 };
 
 /// An engine of the program.
@@ -21,9 +21,11 @@ pub enum Engine {
     Script,
     MovieScript,
     Export,
+    Talk,
+    MovieTalk,
 }
 
-/// All of them.
+/// Those that read their inputs whole before they write anything.
 pub const ENGINES: [Engine; 8] = [
     Engine::Trace,
     Engine::Check,
@@ -40,8 +42,9 @@ impl Engine {
     pub fn input<'a>(self, bytes: &'a Bytes, place: usize) -> &'a [u8] {
         match (self, place) {
             (Engine::Script, 0) | (Engine::MovieScript, 2) => bytes.script.as_slice(),
+            (Engine::Talk, 0) | (Engine::MovieTalk, 2) => bytes.talk.as_slice(),
             (_, 0) => bytes.cart.as_slice(),
-            (Engine::Trace | Engine::Script, _) => bytes.none.as_slice(),
+            (Engine::Trace | Engine::Script | Engine::Talk, _) => bytes.none.as_slice(),
             (Engine::Edit, 1) => bytes.changes.as_slice(),
             (Engine::Edit, 2) | (_, 1) => bytes.old.as_slice(),
             (Engine::Diff, 2) => bytes.new.as_slice(),
@@ -52,9 +55,9 @@ impl Engine {
     /// How many inputs it reads.
     pub fn count(self) -> usize {
         match self {
-            Engine::Trace | Engine::Script => 1,
+            Engine::Trace | Engine::Script | Engine::Talk => 1,
             Engine::Check | Engine::Shot | Engine::Export => 2,
-            Engine::Edit | Engine::Diff | Engine::MovieScript => 3,
+            Engine::Edit | Engine::Diff | Engine::MovieScript | Engine::MovieTalk => 3,
         }
     }
 }
@@ -103,5 +106,7 @@ pub fn run<T: Wait + Threads + Sync, A: Allocator + Copy, R: Read, W: Write>(
         Engine::Script => script_run(rt, alloc, first, output),
         Engine::MovieScript => movie_script_run(rt, alloc, first, second, third, output),
         Engine::Export => export_run(rt, global, 1, 2, 1, first, second, output),
+        Engine::Talk => talk_run(rt, alloc, first, output),
+        Engine::MovieTalk => movie_talk_run(rt, alloc, first, second, third, output),
     }
 }

@@ -8,6 +8,7 @@ ghost use Rattle.tas_desk.specs.Seats.{HasSeen};
 ghost use Rattle.tas_desk.specs.Shots.{IsShotAt};
 ghost use Rattle.tas_tool.specs.Turns.{front_of, refused_reply, halted_reply, BeginsWithOwn, IsDeskFault, IsEditTurn, IsTurn};
 ghost use Rattle.tas_tool.specs.Checking.{checked_reply, insert_refusal, looked, IsAnswer, IsEditAnswer};
+ghost use Rattle.tas_tool.specs.Talking.{IsUndrawn};
 ghost use Rattle.tas_script.specs.declared.command.Command.TheVariants.{Load as LoadLine, Insert as InsertLine, Replace as ReplaceLine, InputAt as InputLine, Shot as ShotLine, Work as WorkLine};
 
 use std::alloc::{AllocError, Allocator};
@@ -40,7 +41,7 @@ fn checked(made: u64, at: u64, reply: Reply) -> Result<Reply, RunFault>
 }
 
 /// The movie's length, where it stands at just the script's own edits.
-fn own_len<N: Name, W: CloseOnDrop, A: Allocator>(
+pub fn own_len<N: Name, W: CloseOnDrop, A: Allocator>(
     desk: &Desk<N, W, A>,
     seat: &mut Seat<N, A>,
     made: u64,
@@ -48,6 +49,7 @@ fn own_len<N: Name, W: CloseOnDrop, A: Allocator>(
     requires own { BeginsWithOwn seat.old }
     requires made { made ≡ seat.old.made }
     ensures seen { HasSeen seat.old seat.new }
+    ensures zone { seat.new.zone ≡ seat.old.zone }
     ensures reply { MatchResult result
         (λ len. (length seat.new.front ≡ made) × (len ≡ length (front_of seat.old).movie.inputs)) (IsDeskFault seat.new) }
 {
@@ -304,7 +306,7 @@ fn halted_reply(at: u64, halt: Halt) -> Reply
 
 /// The reply to a shot that shows no picture, at the seat's front. Want of memory is told where that front is the script's
 /// own.
-fn unshown<N: Name, W: CloseOnDrop, A: Allocator>(
+pub fn unshown<N: Name, W: CloseOnDrop, A: Allocator>(
     desk: &Desk<N, W, A>,
     seat: &mut Seat<N, A>,
     made: u64,
@@ -315,6 +317,7 @@ fn unshown<N: Name, W: CloseOnDrop, A: Allocator>(
     requires made { made ≡ seat.old.made }
     requires error { IsShotAt {B = A} seat.old.front frame (Err error) }
     ensures seen { HasSeen seat.old seat.new }
+    ensures undrawn { IfOk result IsUndrawn }
     ensures reply { MatchResult result (λ reply. IsTurn A (front_of seat.old) (ShotLine frame) reply (front_of seat.new)) (IsDeskFault seat.new) }
 {
     match error {
