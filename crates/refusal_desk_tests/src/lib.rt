@@ -8,6 +8,8 @@ mod desks;
 #[cfg(test)]
 mod edits;
 #[cfg(test)]
+mod export_tests;
+#[cfg(test)]
 mod players;
 #[cfg(test)]
 mod runs;

@@ -1,7 +1,7 @@
 //! The engines, called alike.
 
 use crate::inputs::Bytes;
-use std::alloc::{Allocator, Global};
+use std::alloc::Allocator;
 use std::io::{Read, Write};
 use std::sync::Wait;
 use std::thread::Threads;
@@ -20,7 +20,8 @@ pub enum Engine {
     Diff,
     Script,
     MovieScript,
-    Export,
+    /// By so many workers.
+    Export(usize),
     Talk,
     MovieTalk,
 }
@@ -34,7 +35,7 @@ pub const ENGINES: [Engine; 8] = [
     Engine::Diff,
     Engine::Script,
     Engine::MovieScript,
-    Engine::Export,
+    Engine::Export(2),
 ];
 
 impl Engine {
@@ -56,16 +57,15 @@ impl Engine {
     pub fn count(self) -> usize {
         match self {
             Engine::Trace | Engine::Script | Engine::Talk => 1,
-            Engine::Check | Engine::Shot | Engine::Export => 2,
+            Engine::Check | Engine::Shot | Engine::Export(_) => 2,
             Engine::Edit | Engine::Diff | Engine::MovieScript | Engine::MovieTalk => 3,
         }
     }
 }
 
 /// Runs an engine over good inputs into a writer.
-pub fn run_whole<T: Wait + Threads + Sync, A: Allocator + Copy, W: Write>(
+pub fn run_whole<T: Wait + Threads + Sync, A: Allocator + Copy + Send + Sync, W: Write>(
     rt: &T,
-    global: Global,
     alloc: A,
     engine: Engine,
     bytes: &Bytes,
@@ -76,7 +76,6 @@ pub fn run_whole<T: Wait + Threads + Sync, A: Allocator + Copy, W: Write>(
     let mut third = engine.input(bytes, 2);
     run(
         rt,
-        global,
         alloc,
         engine,
         &mut first,
@@ -86,10 +85,9 @@ pub fn run_whole<T: Wait + Threads + Sync, A: Allocator + Copy, W: Write>(
     )
 }
 
-/// Runs an engine. An export takes its memory from `global`, the others from `alloc`.
-pub fn run<T: Wait + Threads + Sync, A: Allocator + Copy, R: Read, W: Write>(
+/// Runs an engine.
+pub fn run<T: Wait + Threads + Sync, A: Allocator + Copy + Send + Sync, R: Read, W: Write>(
     rt: &T,
-    global: Global,
     alloc: A,
     engine: Engine,
     first: &mut R,
@@ -105,7 +103,7 @@ pub fn run<T: Wait + Threads + Sync, A: Allocator + Copy, R: Read, W: Write>(
         Engine::Diff => diff_run(alloc, first, second, third, output),
         Engine::Script => script_run(rt, alloc, first, output),
         Engine::MovieScript => movie_script_run(rt, alloc, first, second, third, output),
-        Engine::Export => export_run(rt, global, 1, 2, 1, first, second, output),
+        Engine::Export(workers) => export_run(rt, alloc, 1, 3, workers, first, second, output),
         Engine::Talk => talk_run(rt, alloc, first, output),
         Engine::MovieTalk => movie_talk_run(rt, alloc, first, second, third, output),
     }

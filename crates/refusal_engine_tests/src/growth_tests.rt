@@ -58,7 +58,7 @@ fn run_refused<T: Wait + Threads + Sync>(
 {
     let heap = Refusing::new(alloc, number);
     let mut output = Vec::new(alloc);
-    let end = run_whole(rt, alloc, &heap, engine, bytes, &mut output);
+    let end = run_whole(rt, &heap, engine, bytes, &mut output);
     let text = output.as_slice();
     if !heap.has_refused() {
         return if end == Ok(()) && text == whole {
@@ -85,7 +85,7 @@ fn count_refused<T: Wait + Threads + Sync>(
     bytes: &Bytes,
 ) -> Result<Option<(u64, u64)>, Fail> {
     let mut whole = Vec::new(alloc);
-    run_whole(rt, alloc, alloc, engine, bytes, &mut whole)?;
+    run_whole(rt, alloc, engine, bytes, &mut whole)?;
     let (mut refused, mut replied) = (0u64, 0u64);
     for number in 1..MOST {
         match run_refused(rt, alloc, engine, bytes, whole.as_slice(), number) {
@@ -108,6 +108,9 @@ fn each_growth_refused(rt: HostRuntime) -> Result<(), Fail> {
         (Engine::Diff, 13, 0),
         (Engine::Script, 36, 12),
         (Engine::MovieScript, 48, 9),
+        (Engine::Export(1), 32, 0),
+        (Engine::Export(2), 34, 0),
+        (Engine::Export(4), 36, 0),
     ];
     let alloc = rt.alloc();
     let bytes = make_inputs(alloc)?;

@@ -36,7 +36,6 @@ fn run_failing<T: Wait + Threads + Sync>(
     let end = run(
         rt,
         alloc,
-        alloc,
         engine,
         &mut first,
         &mut second,
@@ -88,10 +87,7 @@ fn each_read_failing(rt: HostRuntime) -> Result<(), Fail> {
     let bytes = make_inputs(alloc)?;
     for engine in ENGINES {
         let mut whole = Vec::new(alloc);
-        assert_eq!(rt;
-            run_whole(&rt, alloc, alloc, engine, &bytes, &mut whole),
-            Ok(())
-        );
+        assert_eq!(rt; run_whole(&rt, alloc, engine, &bytes, &mut whole), Ok(()));
         for input in 0..engine.count() {
             let mut failed = 0;
             for read in 1..MOST {
@@ -125,10 +121,7 @@ fn one_byte_at_each_read(rt: HostRuntime) -> Result<(), Fail> {
     let bytes = make_inputs(alloc)?;
     for engine in ENGINES {
         let mut whole = Vec::new(alloc);
-        assert_eq!(rt;
-            run_whole(&rt, alloc, alloc, engine, &bytes, &mut whole),
-            Ok(())
-        );
+        assert_eq!(rt; run_whole(&rt, alloc, engine, &bytes, &mut whole), Ok(()));
         let done = run_failing(&rt, alloc, engine, &bytes, 1, [0, 0, 0]);
         assert_eq!(rt; done.end, Ok(()), "{engine:?}");
         assert!(rt; done.written.as_slice() == whole.as_slice(), "{engine:?}");
@@ -175,7 +168,6 @@ fn run_cut<T: Wait + Threads + Sync>(
     let mut written = Vec::new(alloc);
     run(
         rt,
-        alloc,
         alloc,
         engine,
         &mut first,

@@ -24,12 +24,12 @@ fn fail_each<T: Wait + Threads + Abort + Sync>(
 ) -> Result<(), Fail> {
     let bytes = make_inputs(alloc)?;
     let mut whole = Vec::new(alloc);
-    let end = run_whole(rt, alloc, alloc, engine, &bytes, &mut whole);
+    let end = run_whole(rt, alloc, engine, &bytes, &mut whole);
     assert_eq!(rt; end, Ok(()));
     let mut failed = 0;
     for taken in 0..MOST {
         let mut output = Taker::new(alloc, at_once, Room::Writes(taken), failure);
-        let end = run_whole(rt, alloc, alloc, engine, &bytes, &mut output);
+        let end = run_whole(rt, alloc, engine, &bytes, &mut output);
         if end.is_ok() {
             assert!(rt; output.taken == whole, "{engine:?}");
             break;
@@ -81,5 +81,5 @@ fn each_write_of_a_shot(rt: HostRuntime) -> Result<(), Fail> {
 
 #[test]
 fn each_write_of_an_export(rt: HostRuntime) -> Result<(), Fail> {
-    fail_each(&rt, rt.alloc(), Engine::Export, 1000, Failure::Nothing)
+    fail_each(&rt, rt.alloc(), Engine::Export(2), 1000, Failure::Nothing)
 }

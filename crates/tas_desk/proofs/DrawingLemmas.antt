@@ -21,7 +21,7 @@ drawn_more movie first frame so_far here f le lt =
       | inr apart ↦ so_far f le (omega arith)
     ]
 
-range_joined : (a m n : ℕ) → range_with_len a (m + n) ≡ range_with_len a m ++ range_with_len (a + m) n
+pub range_joined : (a m n : ℕ) → range_with_len a (m + n) ≡ range_with_len a m ++ range_with_len (a + m) n
 range_joined a zero n =
     let none : 0 + n ≡ n = omega arith in
     let here : a ≡ a + 0 = omega arith in

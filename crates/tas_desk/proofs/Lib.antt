@@ -1,3 +1,4 @@
+pub mod ApartLemmas
 pub mod CutLemmas
 pub mod DrawingLemmas
 pub mod EditLemmas

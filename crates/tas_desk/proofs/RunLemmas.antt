@@ -1,9 +1,11 @@
 -- Runs of frames, one after the other.
-use Rattle.std.proofs.Common.{◌≡◌, ℕ, zero, suc, ◌+◌, ◌-◌, ◌*◌, ◌/◌, ◌<◌, ◌≤◌, Bool, cond, List, [], ◌∷◌, ◌++◌, length, map, Option, Some, None, refl, sym, ap, subst, ◌∙◌, inl, inr, arith}
+use Rattle.std.proofs.Common.{◌≡◌, ℕ, zero, suc, ◌+◌, ◌-◌, ◌*◌, ◌/◌, ◌<◌, ◌≤◌, Bool, cond, List, [], ◌∷◌, ◌++◌, length, get_or, take, map, sum, Option, Some, None, refl, sym, ap, subst, ◌∙◌, inl, inr, arith, zero-add, take_all}
 use Rattle.std.specs.List.{All, range_with_len, concat}
 use Rattle.std.proofs.lemmas.Bool.{cases_lt, lt-ltb, le-ltb}
 use Rattle.std.proofs.lemmas.List.Elements.{All-append}
-use Rattle.std.proofs.lemmas.List.Sums.{sum_by-cons}
+use Rattle.std.proofs.lemmas.List.{append-nil, map-append, map_more}
+use Rattle.std.proofs.lemmas.List.Folds.{concat-append}
+use Rattle.std.proofs.lemmas.List.Sums.{sum_by-cons, sum_by-append}
 use Rattle.std.proofs.Math.Nat.{mul-div_cancel_left}
 use Rattle.tas_movie.specs.Content.{MovieContent}
 use Rattle.tas_green.specs.declared.savestate.Savestate.{Savestate}
@@ -11,11 +13,12 @@ use Rattle.tas_green.specs.Zone.{nearest, first_of}
 use Rattle.tas_green.proofs.GridLemmas.{div_mono}
 use Rattle.tas_desk.specs.declared.pixmaps.Stop.{Stop}
 use Rattle.tas_desk.specs.declared.pixmaps.Stop.TheVariants.{Halted, Memory}
+use Rattle.tas_desk.specs.declared.runs.Run.{Run}
 use Rattle.tas_desk.specs.declared.runs.RunEnd.{RunEnd}
 use Rattle.tas_desk.specs.declared.runs.Plan.{Plan}
 use Rattle.tas_desk.specs.Frames.{AllDrawn, Shows, pixmaps_of}
-use Rattle.tas_desk.specs.Runs.{first_of_run, cost, costs, IsPlan, IsRunEnd, AreRunsEnd}
-use Rattle.tas_desk.proofs.DrawingLemmas.{pixmaps_none, pixmaps_joined}
+use Rattle.tas_desk.specs.Runs.{first_of_run, cost, costs, IsPlan, IsRunEnd, pixmaps_in, AreRunsEnd}
+use Rattle.tas_desk.proofs.DrawingLemmas.{range_joined, pixmaps_none, pixmaps_joined}
 
 -- what a run that isn't empty costs
 pub cost_some : (zone : List Savestate) (first next : ℕ) → first < next → cost zone first next ≡ next - nearest first zone
@@ -105,62 +108,77 @@ none_parts : (h k : Option Stop) → first_of h k ≡ None → (h ≡ None) × (
 none_parts (Some h) k e = absurd cc
 none_parts None k e = (refl, e)
 
--- no run is left
-pub runs_none : (movie : MovieContent) (zone : List Savestate) (plan : Plan) (i : ℕ) (all_pixmaps : List (List ℕ)) (end : RunEnd) → IsPlan movie plan → i + length all_pixmaps ≡ plan.workers → length all_pixmaps ≡ 0
-    → end ≡ record { played = 0; stop = None } → AreRunsEnd movie zone plan i all_pixmaps end
-runs_none movie zone plan i [] end is all none ended =
-    let last = ends plan is.some is.order in
-    let here : i ≡ plan.workers = omega arith in
-    let at : first_of_run plan i ≡ plan.to = ap (first_of_run plan) here ∙ last in
-    let left : plan.workers - i ≡ 0 = omega arith in
+-- no run yet
+pub runs_none : (movie : MovieContent) (zone : List Savestate) (plan : Plan) (end : RunEnd) → end ≡ record { played = 0; stop = None } → AreRunsEnd movie zone plan 0 [] end
+runs_none movie zone plan end ended =
     rw ended (record {
-      shows = shows_none movie (first_of_run plan i) plan.to at;
-      played = λ none. sym (ap (costs zone plan i) left);
+      shows = shows_none movie plan.from (first_of_run plan 0) (sym (begins plan));
+      played = λ none. refl;
       most = omega arith;
     })
-runs_none movie zone plan i (pixmaps ∷ all_pixmaps) end is all none ended = absurd (omega arith)
 
-costs_more : (zone : List Savestate) (plan : Plan) (i k : ℕ) → costs zone plan i (suc k) ≡ cost zone (first_of_run plan i) (first_of_run plan (i + 1)) + costs zone plan (i + 1) k
-costs_more zone plan i k =
-    sum_by-cons (λ (x : ℕ). x) (cost zone (first_of_run plan i) (first_of_run plan (i + 1))) (map (λ j. cost zone (first_of_run plan j) (first_of_run plan (j + 1))) (range_with_len (i + 1) k))
+one_sum : (x : ℕ) → sum (x ∷ []) ≡ x
+one_sum x = sum_by-cons (λ (y : ℕ). y) x [] ∙ (let e : x + 0 ≡ x = omega arith in e)
 
-pub runs_more : (movie : MovieContent) (zone : List Savestate) (plan : Plan) (i : ℕ) (mine : List ℕ) (others : List (List ℕ)) (front back end : RunEnd)
+-- what one run more costs
+costs_more : (zone : List Savestate) (plan : Plan) (i : ℕ) → costs zone plan 0 (i + 1) ≡ costs zone plan 0 i + cost zone (first_of_run plan i) (first_of_run plan (i + 1))
+costs_more zone plan i =
+    let here = range_joined 0 i 1 ∙ ap (λ (k : ℕ). range_with_len 0 i ++ k ∷ []) (zero-add i) in
+    ap (λ (js : List ℕ). sum (map (λ j. cost zone (first_of_run plan j) (first_of_run plan (j + 1))) js)) here
+    ∙ ap (λ (ns : List ℕ). sum ns) (map-append (λ j. cost zone (first_of_run plan j) (first_of_run plan (j + 1))) (range_with_len 0 i) (i ∷ []))
+    ∙ sum_by-append (λ (x : ℕ). x) (map (λ j. cost zone (first_of_run plan j) (first_of_run plan (j + 1))) (range_with_len 0 i)) (cost zone (first_of_run plan i) (first_of_run plan (i + 1)) ∷ [])
+    ∙ ap (λ (n : ℕ). costs zone plan 0 i + n) (one_sum (cost zone (first_of_run plan i) (first_of_run plan (i + 1))))
+
+-- one run more
+runs_joined : (movie : MovieContent) (zone : List Savestate) (plan : Plan) (i : ℕ) (before : List (List ℕ)) (mine : List ℕ) (front back end : RunEnd)
     → IsPlan movie plan → i < plan.workers
-    → IsRunEnd movie zone (first_of_run plan i) (first_of_run plan (i + 1)) mine front → AreRunsEnd movie zone plan (i + 1) others back
+    → AreRunsEnd movie zone plan i before front → IsRunEnd movie zone (first_of_run plan i) (first_of_run plan (i + 1)) mine back
     → end.played ≡ front.played + back.played → end.stop ≡ first_of front.stop back.stop
-    → AreRunsEnd movie zone plan i (mine ∷ others) end
-runs_more movie zone plan i mine others front back end is lt one rest played stop =
-    let left : plan.workers - i ≡ suc (plan.workers - (i + 1)) = omega arith in
-    let low = next_behind plan i is.some in
-    let high = next_within plan (i + 1) is.some is.order (omega arith) in
+    → AreRunsEnd movie zone plan (i + 1) (before ++ mine ∷ []) end
+runs_joined movie zone plan i before mine front back end is lt so_far one played stop =
+    let low : plan.from ≤ first_of_run plan i = omega arith in
+    let high = next_behind plan i is.some in
+    let bytes = ap (λ (bs : List ℕ). concat before ++ bs) (sym (append-nil mine)) ∙ sym (concat-append before (mine ∷ [])) in
+    let shown : Shows movie plan.from (first_of_run plan (i + 1)) (concat before ++ mine) end.stop =
+    rw stop (shows_joined movie plan.from (first_of_run plan i) (first_of_run plan (i + 1)) (concat before) mine low high front.stop back.stop so_far.shows one.shows) in
     record {
-      shows = rw stop (shows_joined movie (first_of_run plan i) (first_of_run plan (i + 1)) plan.to mine (concat others) low high front.stop back.stop one.shows rest.shows);
+      shows = subst (λ (bs : List ℕ). Shows movie plan.from (first_of_run plan (i + 1)) bs end.stop) bytes shown;
       played = λ none.
           let both = none_parts front.stop back.stop (sym stop ∙ none) in
           played
-          ∙ ap (λ (n : ℕ). n + back.played) (one.played both.0)
-          ∙ ap (λ (n : ℕ). cost zone (first_of_run plan i) (first_of_run plan (i + 1)) + n) (rest.played both.1)
-          ∙ sym (costs_more zone plan i (plan.workers - (i + 1)))
-          ∙ sym (ap (costs zone plan i) left);
-      most = omega (arith, one.most, rest.most, played);
+          ∙ ap (λ (n : ℕ). n + back.played) (so_far.played both.0)
+          ∙ ap (λ (n : ℕ). costs zone plan 0 i + n) (one.played both.1)
+          ∙ sym (costs_more zone plan i);
+      most = omega (arith, so_far.most, one.most, played);
     }
 
--- all runs show all frames
-pub runs_shown : (movie : MovieContent) (zone : List Savestate) (plan : Plan) (all_pixmaps : List (List ℕ)) (end : RunEnd) → AreRunsEnd movie zone plan 0 all_pixmaps end → Shows movie plan.from plan.to (concat all_pixmaps) end.stop
-runs_shown movie zone plan all_pixmaps end runs = subst (λ (n : ℕ). Shows movie n plan.to (concat all_pixmaps) end.stop) (begins plan) runs.shows
+-- the next run of a list
+pub runs_more : {A : Type 0} (movie : MovieContent) (zone : List Savestate) (plan : Plan) (i : ℕ) (runs : List (Run A)) (run : Run A) (front back end : RunEnd)
+    → IsPlan movie plan → i < plan.workers → i < length runs
+    → AreRunsEnd movie zone plan i (pixmaps_in (take i runs)) front → IsRunEnd movie zone (first_of_run plan i) (first_of_run plan (i + 1)) (get_or runs i run).pixmaps back
+    → end.played ≡ front.played + back.played → end.stop ≡ first_of front.stop back.stop
+    → AreRunsEnd movie zone plan (i + 1) (pixmaps_in (take (i + 1) runs)) end
+runs_more {A = A} movie zone plan i runs run front back end is lt here so_far one played stop =
+    subst (λ (all_pixmaps : List (List ℕ)). AreRunsEnd movie zone plan (i + 1) all_pixmaps end) (sym (map_more (λ (r : Run A). r.pixmaps) runs i run here))
+    (runs_joined movie zone plan i (pixmaps_in (take i runs)) (get_or runs i run).pixmaps front back end is lt so_far one played stop)
 
--- one pixmaps more is empty
-pub empty_more : (all_pixmaps more : List (List ℕ)) (pixmaps : List ℕ) → All (λ (r : List ℕ). r ≡ []) all_pixmaps → pixmaps ≡ [] → more ≡ all_pixmaps ++ pixmaps ∷ [] → All (λ (r : List ℕ). r ≡ []) more
-empty_more all_pixmaps more pixmaps so_far none is =
-    subst (All (λ (r : List ℕ). r ≡ [])) (sym is) (All-append (λ (r : List ℕ). r ≡ []) all_pixmaps (pixmaps ∷ []) so_far (one pixmaps none))
+-- all runs
+pub runs_all : {A : Type 0} (movie : MovieContent) (zone : List Savestate) (plan : Plan) (i : ℕ) (runs : List (Run A)) (end : RunEnd)
+    → i ≡ plan.workers → length runs ≡ plan.workers → AreRunsEnd movie zone plan i (pixmaps_in (take i runs)) end → AreRunsEnd movie zone plan plan.workers (pixmaps_in runs) end
+runs_all {A = A} movie zone plan i runs end last count so_far =
+    subst (λ (xs : List (Run A)). AreRunsEnd movie zone plan plan.workers (pixmaps_in xs) end) (take_all plan.workers runs (omega arith))
+    (subst (λ (n : ℕ). AreRunsEnd movie zone plan n (pixmaps_in (take n runs)) end) last so_far)
+
+-- all runs show all frames
+pub runs_shown : (movie : MovieContent) (zone : List Savestate) (plan : Plan) (all_pixmaps : List (List ℕ)) (end : RunEnd) → IsPlan movie plan → AreRunsEnd movie zone plan plan.workers all_pixmaps end
+    → Shows movie plan.from plan.to (concat all_pixmaps) end.stop
+runs_shown movie zone plan all_pixmaps end is runs = subst (λ (n : ℕ). Shows movie plan.from n (concat all_pixmaps) end.stop) (ends plan is.some is.order) runs.shows
+
+-- one run more has no pixmap yet
+pub empty_more : {A : Type 0} (runs more : List (Run A)) (run : Run A) → All (λ (r : Run A). r.pixmaps ≡ []) runs → run.pixmaps ≡ [] → more ≡ runs ++ run ∷ [] → All (λ (r : Run A). r.pixmaps ≡ []) more
+empty_more {A = A} runs more run so_far none is =
+    subst (All (λ (r : Run A). r.pixmaps ≡ [])) (sym is) (All-append (λ (r : Run A). r.pixmaps ≡ []) runs (run ∷ []) so_far (one run none))
   where
-    one : (x : List ℕ) → x ≡ [] → All (λ (r : List ℕ). r ≡ []) (x ∷ [])
+    one : (x : Run A) → x.pixmaps ≡ [] → All (λ (r : Run A). r.pixmaps ≡ []) (x ∷ [])
     one x e zero d lt = e
     one x e (suc k) d lt = absurd (omega arith)
-
--- the first pixmaps and the others are empty
-pub empty_first : (all_pixmaps others : List (List ℕ)) (pixmaps : List ℕ) → All (λ (r : List ℕ). r ≡ []) all_pixmaps → all_pixmaps ≡ pixmaps ∷ others → pixmaps ≡ []
-empty_first all_pixmaps others pixmaps all is = (subst (All (λ (r : List ℕ). r ≡ [])) is all) 0 [] (omega arith)
-
-pub empty_others : (all_pixmaps others : List (List ℕ)) (pixmaps : List ℕ) → All (λ (r : List ℕ). r ≡ []) all_pixmaps → all_pixmaps ≡ pixmaps ∷ others → All (λ (r : List ℕ). r ≡ []) others
-empty_others all_pixmaps others pixmaps all is k d lt = (subst (All (λ (r : List ℕ). r ≡ [])) is all) (suc k) d (omega arith)

@@ -1,7 +1,7 @@
 -- Bytes in pieces, one after the other, and pixmaps.
 use Rattle.std.proofs.Common.{◌≡◌, ℕ, zero, suc, ◌+◌, ◌*◌, ◌-◌, ◌<◌, ◌≤◌, List, [], ◌∷◌, ◌++◌, length, get_or, take, drop, Option, Some, None, refl, sym, ap, subst, ◌∙◌, arith, zero-add, suc-add, take_all}
 use Rattle.std.specs.List.{concat}
-use Rattle.std.proofs.lemmas.List.{length-append, take-append-drop, take-append-le, take_more, append-nil}
+use Rattle.std.proofs.lemmas.List.{length-append, length-map, get_or-map, take-append-drop, take-append-le, take_more, append-nil}
 use Rattle.std.proofs.lemmas.List.Folds.{concat-append}
 use Rattle.vcs_tia.specs.Image.{ppm_bytes}
 use Rattle.vcs_tia.proofs.Images.{length-ppm_bytes}
@@ -10,11 +10,14 @@ use Rattle.vcs_machine.proofs.Playing.{length-frame_picture}
 use Rattle.tas_movie.specs.Content.{MovieContent}
 use Rattle.tas_green.specs.Run.{picture_of}
 use Rattle.tas_green.specs.declared.savestate.Savestate.{Savestate}
+use Rattle.tas_desk.specs.declared.pixmaps.HaltedFrame.{HaltedFrame}
 use Rattle.tas_desk.specs.declared.pixmaps.Stop.{Stop}
+use Rattle.tas_desk.specs.declared.pixmaps.Stop.TheVariants.{Halted}
 use Rattle.tas_desk.specs.declared.runs.Plan.{Plan}
+use Rattle.tas_desk.specs.declared.runs.Run.{Run}
 use Rattle.tas_desk.specs.declared.runs.RunEnd.{RunEnd}
-use Rattle.tas_desk.specs.Frames.{AreDrawn, Shows, pixmaps_of}
-use Rattle.tas_desk.specs.Runs.{AreRunsEnd}
+use Rattle.tas_desk.specs.Frames.{AreDrawn, IsLeastHalted, Shows, pixmaps_of}
+use Rattle.tas_desk.specs.Runs.{IsPlan, pixmaps_in, AreRunsEnd}
 use Rattle.tas_desk.proofs.RunLemmas.{runs_shown}
 
 -- a piece more
@@ -73,13 +76,26 @@ shown_drawn : (movie : MovieContent) (from to : ℕ) (bytes : List ℕ) (stop : 
 shown_drawn movie from to bytes None none shown = shown
 shown_drawn movie from to bytes (Some x) none shown = absurd cc
 
+-- what is shown where a frame is halted
+pub shown_halted : (movie : MovieContent) (from to : ℕ) (bytes : List ℕ) (stop : Option Stop) (halted : HaltedFrame) → stop ≡ Some (Halted halted) → Shows movie from to bytes stop → IsLeastHalted movie from to halted
+shown_halted movie from to bytes stop halted is shown = subst (λ (s : Option Stop). Shows movie from to bytes s) is shown
+
 -- a list that was written back whole
-written_back : (new rest out : List (List ℕ)) (n : ℕ) → out ≡ take n (new ++ rest) → length new ≡ n → out ≡ new
+written_back : {X : Type 0} (new rest out : List X) (n : ℕ) → out ≡ take n (new ++ rest) → length new ≡ n → out ≡ new
 written_back new rest out n is size = is ∙ take-append-le n new rest (omega arith) ∙ take_all n new (omega arith)
 
--- the all_pixmaps that are written where no run stopped
-pub runs_drawn : (movie : MovieContent) (plan : Plan) (zone : List Savestate) (new rest out : List (List ℕ)) (n : ℕ) (end : RunEnd) → AreRunsEnd movie zone plan 0 new end → end.stop ≡ None
-    → out ≡ take n (new ++ rest) → length new ≡ n → AreDrawn movie plan.from plan.to (concat out)
-runs_drawn movie plan zone new rest out n end runs none is size =
+-- the pixmaps that are written where no run stopped
+pub runs_drawn : {A : Type 0} (movie : MovieContent) (plan : Plan) (zone : List Savestate) (new rest out : List (Run A)) (n : ℕ) (end : RunEnd) → IsPlan movie plan
+    → AreRunsEnd movie zone plan plan.workers (pixmaps_in new) end → end.stop ≡ None
+    → out ≡ take n (new ++ rest) → length new ≡ n → AreDrawn movie plan.from plan.to (concat (pixmaps_in out))
+runs_drawn {A = A} movie plan zone new rest out n end plans runs none is size =
     let back = written_back new rest out n is size in
-    subst (λ (all_pixmaps : List (List ℕ)). AreDrawn movie plan.from plan.to (concat all_pixmaps)) (sym back) (shown_drawn movie plan.from plan.to (concat new) end.stop none (runs_shown movie zone plan new end runs))
+    let drawn = shown_drawn movie plan.from plan.to (concat (pixmaps_in new)) end.stop none (runs_shown movie zone plan (pixmaps_in new) end plans runs) in
+    subst (λ (xs : List (Run A)). AreDrawn movie plan.from plan.to (concat (pixmaps_in xs))) (sym back) drawn
+
+-- a run's pixmaps stand at its place
+pub pixmaps_at : {A : Type 0} (runs : List (Run A)) (i : ℕ) (run : Run A) → i < length runs → run ≡ get_or runs i run → run.pixmaps ≡ get_or (pixmaps_in runs) i run.pixmaps
+pixmaps_at {A = A} runs i run lt is = ap (λ (r : Run A). r.pixmaps) is ∙ sym (get_or-map (λ (r : Run A). r.pixmaps) runs i run run.pixmaps lt)
+
+pub pixmaps_below : {A : Type 0} (runs : List (Run A)) (i : ℕ) → i < length runs → i < length (pixmaps_in runs)
+pixmaps_below {A = A} runs i lt = let same = length-map runs (λ (r : Run A). r.pixmaps) in omega arith

@@ -4,6 +4,7 @@ use Rattle.std.specs.List.{range_with_len, concat}
 use Rattle.tas_movie.specs.Content.{MovieContent, most_inputs}
 use Rattle.tas_green.specs.declared.savestate.Savestate.{Savestate}
 use Rattle.tas_green.specs.Zone.{nearest}
+use Rattle.tas_desk.specs.declared.runs.Run.{Run}
 use Rattle.tas_desk.specs.declared.runs.RunEnd.{RunEnd}
 use Rattle.tas_desk.specs.declared.runs.Plan.{Plan}
 use Rattle.tas_desk.specs.Frames.{Shows}
@@ -34,8 +35,12 @@ pub record IsRunEnd (movie : MovieContent) (zone : List Savestate) (first next :
   pub played : end.stop ≡ None → end.played ≡ cost zone first next
   pub most : end.played ≤ 65536
 
--- how the runs from run i on end: their pixmaps, one after the other, show all frames from there on
-pub record AreRunsEnd (movie : MovieContent) (zone : List Savestate) (plan : Plan) (i : ℕ) (all_pixmaps : List (List ℕ)) (end : RunEnd) : Type 0 where
-  pub shows : Shows movie (first_of_run plan i) plan.to (concat all_pixmaps) end.stop
-  pub played : end.stop ≡ None → end.played ≡ costs zone plan i (plan.workers - i)
-  pub most : end.played ≤ (plan.workers - i) * 65536
+-- the pixmaps of runs, a list for each
+abbrev pub pixmaps_in : {A : Type 0} → List (Run A) → List (List ℕ)
+pixmaps_in runs = map (λ run. run.pixmaps) runs
+
+-- how the first so many runs end: their pixmaps, one after the other, show all frames of these runs
+pub record AreRunsEnd (movie : MovieContent) (zone : List Savestate) (plan : Plan) (count : ℕ) (all_pixmaps : List (List ℕ)) (end : RunEnd) : Type 0 where
+  pub shows : Shows movie plan.from (first_of_run plan count) (concat all_pixmaps) end.stop
+  pub played : end.stop ≡ None → end.played ≡ costs zone plan 0 count
+  pub most : end.played ≤ count * 65536

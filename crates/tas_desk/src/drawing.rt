@@ -34,12 +34,12 @@ pub fn play_up_to<A: Allocator>(
 
 /// Shoots the frames from `first` to the one before `end`, up to where it has to stop, and answers
 /// why.
-pub fn draw_frames<A: Allocator>(
+pub fn draw_frames<A: Allocator, B: Allocator>(
     movie: &Movie<A>,
     first: usize,
     end: usize,
     state: &mut State,
-    pixmaps: &mut Pixmaps,
+    pixmaps: &mut Pixmaps<B>,
     meter: &mut Meter,
 ) -> Option<Stop>
     requires order { first ≤ end }

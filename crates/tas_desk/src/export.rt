@@ -9,7 +9,7 @@ use crate::exporting::{ExportFault, export_frames};
 use crate::locked_session::CloseOnDrop;
 use crate::runs::Plan;
 use crate::{Desk, Gate, Name, Seat};
-use std::alloc::{Allocator, Global};
+use std::alloc::Allocator;
 use std::io::{Error, Write};
 use std::sync::Wait;
 use std::thread::Threads;
@@ -69,11 +69,17 @@ impl<N: Name, W: CloseOnDrop, A: Allocator + Copy> Desk<N, W, A> {
     /// copied under the lock. The frames are split into `workers` runs in order, which are played and made into pixmaps
     /// outside it, each on a thread of its own, which passes the gate first; a run starts from the nearest state of the
     /// seat's zone that a cut for the movie would leave. Nothing is written before all pixmaps are there: their room, 100,815
-    /// bytes a frame and so 103 MB for 1,024, is asked for before the first frame is played. The seat's zone isn't changed.
-    pub fn export<G: Gate + Sync, O: Write, R: Wait + Threads + Sync>(
+    /// bytes a frame and so 103 MB for 1,024, is asked for before the first frame is played, all of it from `alloc`. The seat's
+    /// zone isn't changed.
+    pub fn export<
+        B: Allocator + Copy + Send + Sync,
+        G: Gate + Sync,
+        O: Write,
+        R: Wait + Threads + Sync,
+    >(
         &self,
         rt: &R,
-        alloc: Global,
+        alloc: B,
         seat: &mut Seat<N, A>,
         from: usize,
         to: usize,

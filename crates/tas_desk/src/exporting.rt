@@ -11,7 +11,7 @@ use crate::Gate;
 use crate::pixmaps::{HaltedFrame, Stop};
 use crate::runs::{Plan, play_runs};
 use crate::writing::write_pixmaps;
-use std::alloc::Global;
+use std::alloc::Allocator;
 use std::io::{Error, Write};
 use std::thread::Threads;
 use tas_green::Green;
@@ -36,11 +36,16 @@ pub enum ExportFault {
 /// Draws the frames of a plan, each run of them by a worker on a thread of its own, which passes the
 /// gate first and makes the pixmaps of its frames too, and writes all of these in order once they are there. A run
 /// starts from the nearest kept state at its first frame or before it. Answers how many frames were played.
-pub fn export_frames<R: Threads + Sync, G: Gate + Sync, W: Write>(
+pub fn export_frames<
+    A: Allocator + Copy + Send + Sync,
+    R: Threads + Sync,
+    G: Gate + Sync,
+    W: Write,
+>(
     rt: &R,
-    alloc: Global,
-    movie: &Movie,
-    zone: &Green,
+    alloc: A,
+    movie: &Movie<A>,
+    zone: &Green<A>,
     plan: Plan,
     gate: &G,
     to: &mut W,
@@ -53,16 +58,16 @@ pub fn export_frames<R: Threads + Sync, G: Gate + Sync, W: Write>(
     ensures played { IfOk result (λ played. played ≡ costs zone.now plan 0 plan.workers) }
     ensures fault { IfErr result (IsExportFault movie.now plan (W.contents to.old) (W.contents to.new)) }
 {
-    let Ok(mut all_pixmaps) = plan.all_pixmaps(alloc) else {
+    let Ok(mut runs) = plan.runs(alloc) else {
         return Err(ExportFault::Memory);
     };
-    let end = play_runs(rt, movie, zone, gate, plan, 0, all_pixmaps.as_mut_slice());
+    let end = play_runs(rt, movie, zone, gate, plan, runs.as_mut_slice());
     match end.stop {
         Some(Stop::Halted(halted)) => return Err(ExportFault::Halted(halted)),
         Some(Stop::Memory) => return Err(ExportFault::Memory),
         None => {}
     }
-    match write_pixmaps(all_pixmaps.as_slice(), to) {
+    match write_pixmaps(runs.as_slice(), to) {
         Ok(()) => Ok(end.played),
         Err(fault) => Err(ExportFault::Write {
             written: fault.written,

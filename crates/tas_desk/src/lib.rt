@@ -2,6 +2,7 @@
 //! seats, which read without waiting.
 #![tactic(auto)]
 
+mod apart;
 mod counts;
 mod desk;
 mod drawing;

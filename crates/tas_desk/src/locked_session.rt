@@ -152,14 +152,14 @@ impl<N: Name, W: CloseOnDrop, A: Allocator + Copy> LockedSession<N, W, A> {
     }
 
     /// Copies the movie, where it has these frames and they are few enough for an export.
-    pub fn copy<R: Wait>(
+    pub fn copy<B: Allocator + Copy, R: Wait>(
         &self,
         rt: &R,
-        alloc: Global,
+        alloc: B,
         seat: &mut Seat<N, A>,
         from: usize,
         to: usize,
-    ) -> Result<(u64, Movie), ExportError>
+    ) -> Result<(u64, Movie<B>), ExportError>
         ensures begins { IsPrefix seat.old.front self.now }
         ensures seat { seat.new ≡ seat_of seat.old.number seat.old.made self.now seat.old.zone }
         ensures reply { FoundRange (movie_of self.now) (length self.now) from to result }

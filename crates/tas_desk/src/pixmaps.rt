@@ -5,7 +5,7 @@ ghost use Rattle.vcs_tia.specs.Image.{ppm_bytes};
 ghost use Rattle.tas_green.specs.Run.{state_after, picture_of};
 ghost use Rattle.tas_desk.specs.Frames.{IsDrawn, IsStopAt};
 
-use std::alloc::{AllocError, Allocator, Global};
+use std::alloc::{AllocError, Allocator};
 use std::marker::Model;
 use tas_movie::Movie;
 use vcs_cpu::Halt;
@@ -35,20 +35,20 @@ pub enum Stop {
 
 /// Portable pixmaps, one after the other, in room that was there before the first frame was played.
 #[derive(Drop)]
-pub struct Pixmaps {
-    picture: Picture,
-    bytes: Vec<u8>,
+pub struct Pixmaps<A: Allocator> {
+    picture: Picture<A>,
+    bytes: Vec<u8, A>,
 }
 
-impl Model for Pixmaps {
+impl<A: Allocator> Model for Pixmaps<A> {
     ghost Value = { List ℕ };
 
     ghost view = { λ p. p.bytes.items };
 }
 
-impl Pixmaps {
+impl<A: Allocator + Copy> Pixmaps<A> {
     /// No pixmap yet, and room for those of so many frames.
-    pub fn new(alloc: Global, frames: usize) -> Result<Pixmaps, AllocError>
+    pub fn new(alloc: A, frames: usize) -> Result<Pixmaps<A>, AllocError>
         requires { frames ≤ 65536 }
         ensures { IfOk result (λ pixmaps. pixmaps ≡ []) }
     {
@@ -56,7 +56,9 @@ impl Pixmaps {
         let bytes = Vec::with_capacity(alloc, frames * PIXMAP_SIZE)?;
         Ok(Pixmaps { picture, bytes })
     }
+}
 
+impl<A: Allocator> Pixmaps<A> {
     /// The bytes of all pixmaps.
     pub fn bytes(&self) -> &[u8]
         ensures { result.now ≡ self.now }
@@ -66,9 +68,9 @@ impl Pixmaps {
 
     /// Plays a frame and appends its pixmap. There is room for it, so memory isn't refused where no more frames
     /// are appended than it was made for; no clause of a writer says so.
-    pub fn append_frame<A: Allocator>(
+    pub fn append_frame<B: Allocator>(
         &mut self,
-        movie: &Movie<A>,
+        movie: &Movie<B>,
         frame: usize,
         state: &mut State,
         meter: &mut Meter,

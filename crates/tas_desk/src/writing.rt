@@ -3,22 +3,24 @@
 ghost use Rattle.std.specs.Prelude.{◌<◌, ◌^◌, length, take, IfErr, OnOk};
 ghost use Rattle.std.specs.List.{concat};
 ghost use Rattle.std.specs.Io.KnownBytes.{Appends};
+ghost use Rattle.tas_desk.specs.Runs.{pixmaps_in};
 
-use crate::pixmaps::Pixmaps;
+use crate::runs::Run;
 use counted_write::{WriteFault, write_counted};
+use std::alloc::Allocator;
 use std::io::Write;
 
 /// Writes the pixmaps of runs, one after the other.
-pub fn write_pixmaps<W: Write>(all_pixmaps: &[Pixmaps], to: &mut W) -> Result<(), WriteFault>
-    requires { length (concat all_pixmaps.now) < 2 ^ 64 }
-    ensures ok { OnOk result (Appends (W.contents to.old) (W.contents to.new) (concat all_pixmaps.now)) }
+pub fn write_pixmaps<A: Allocator, W: Write>(runs: &[Run<A>], to: &mut W) -> Result<(), WriteFault>
+    requires { length (concat (pixmaps_in runs.now)) < 2 ^ 64 }
+    ensures ok { OnOk result (Appends (W.contents to.old) (W.contents to.new) (concat (pixmaps_in runs.now))) }
     ensures fault { IfErr result (λ f. Appends (W.contents to.old) (W.contents to.new)
-        (take f.written (concat all_pixmaps.now))) }
-    ensures short { IfErr result (λ f. f.written < length (concat all_pixmaps.now)) }
+        (take f.written (concat (pixmaps_in runs.now)))) }
+    ensures short { IfErr result (λ f. f.written < length (concat (pixmaps_in runs.now))) }
 {
     let mut written = 0;
-    for pixmaps in all_pixmaps {
-        written = write_counted(pixmaps.bytes(), written, to)?;
+    for run in runs {
+        written = write_counted(run.pixmaps.bytes(), written, to)?;
     }
     Ok(())
 }

@@ -9,7 +9,7 @@ ghost use Rattle.tas_tool.specs.TwoEdits.{StandsAtOwn};
 
 use crate::answering::OpenGate;
 use crate::making::{at_own, put_movie};
-use std::alloc::Global;
+use std::alloc::Allocator;
 use std::io::{Read, Write};
 use std::marker::Brand;
 use std::sync::Wait;
@@ -30,12 +30,18 @@ struct Frames {
 }
 
 /// Makes a movie by the seat's first two edits, and writes the pictures of some of its frames.
-fn export_made<N: Name, C: CloseOnDrop, R: Wait + Threads + Sync, W: Write>(
+fn export_made<
+    N: Name,
+    C: CloseOnDrop,
+    A: Allocator + Copy + Send + Sync,
+    R: Wait + Threads + Sync,
+    W: Write,
+>(
     rt: &R,
-    alloc: Global,
-    desk: &Desk<N, C>,
-    seat: &mut Seat<N>,
-    movie: &Movie,
+    alloc: A,
+    desk: &Desk<N, C, A>,
+    seat: &mut Seat<N, A>,
+    movie: &Movie<A>,
     frames: Frames,
     output: &mut W,
 ) -> Result<(), RunFault>
@@ -61,11 +67,11 @@ fn export_made<N: Name, C: CloseOnDrop, R: Wait + Threads + Sync, W: Write>(
 
 /// Makes a movie on a desk of one seat, writes the pictures of some of its frames, and closes the desk.
 /// That nobody else made an edit is known once it is closed.
-fn export_from_desk<N: Name, R: Wait + Threads + Sync, W: Write>(
+fn export_from_desk<N: Name, A: Allocator + Copy + Send + Sync, R: Wait + Threads + Sync, W: Write>(
     rt: &R,
-    alloc: Global,
-    unopened: Unopened,
-    movie: &Movie,
+    alloc: A,
+    unopened: Unopened<A>,
+    movie: &Movie<A>,
     frames: Frames,
     output: &mut W,
 ) -> Result<(), RunFault>
@@ -75,7 +81,7 @@ fn export_from_desk<N: Name, R: Wait + Threads + Sync, W: Write>(
     requires workers { (1 ≤ frames.workers) × (frames.workers ≤ 16) }
     ensures { Ends (IsPixmapsAnswer movie.now frames.from frames.to) (W.contents output.old) (W.contents output.new) result }
 {
-    let (desk, mut seats) = match Desk::<N, &R>::open(rt, alloc, unopened) {
+    let (desk, mut seats) = match Desk::<N, &R, A>::open(rt, alloc, unopened) {
         Ok(opened) => opened,
         Err(OpenError::Memory) => return Err(RunFault::Memory),
         Err(OpenError::NoPlace) => return Err(RunFault::NoPlace),
@@ -87,9 +93,9 @@ fn export_from_desk<N: Name, R: Wait + Threads + Sync, W: Write>(
 }
 
 /// Writes the pictures of some frames of the movie whose cartridge and text these are.
-fn export_movie<R: Wait + Threads + Sync, W: Write>(
+fn export_movie<A: Allocator + Copy + Send + Sync, R: Wait + Threads + Sync, W: Write>(
     rt: &R,
-    alloc: Global,
+    alloc: A,
     frames: Frames,
     image: &[u8],
     bytes: &[u8],
@@ -105,7 +111,7 @@ fn export_movie<R: Wait + Threads + Sync, W: Write>(
     let Ok(unopened) = Unopened::new(alloc, 1) else {
         return Err(RunFault::Memory);
     };
-    export_from_desk::<Brand, R, W>(rt, alloc, unopened, &movie, frames, output)
+    export_from_desk::<Brand, A, R, W>(rt, alloc, unopened, &movie, frames, output)
 }
 
 /// Reads a cartridge and a movie text, and writes the pictures of the movie's frames from `from` to the one
@@ -117,9 +123,15 @@ fn export_movie<R: Wait + Threads + Sync, W: Write>(
 /// these frames or they are more than 1,024, then `Halted` with the least halted frame's halt, each with
 /// nothing written; `Memory` and `NoPlace` with nothing written; `Write` with the first bytes written, and
 /// how many. `Foreign` would tell of an edit that isn't the engine's own, and never comes.
-pub fn export_run<T: Wait + Threads + Sync, C: Read, R: Read, W: Write>(
+pub fn export_run<
+    T: Wait + Threads + Sync,
+    A: Allocator + Copy + Send + Sync,
+    C: Read,
+    R: Read,
+    W: Write,
+>(
     rt: &T,
-    alloc: Global,
+    alloc: A,
     from: usize,
     to: usize,
     workers: usize,

@@ -1,0 +1,303 @@
+//! Exports of a desk: after each refusal nothing is written, history, movie and zones are as they were, and the same export is right.
+
+ghost use Rattle.std.specs.Prelude.{◌≡◌, ◌≤◌};
+ghost use Rattle.tas_desk.specs.Seats.{name_of};
+
+use crate::desks::{OpenGate, make_edits};
+use crate::edits::{Change, edit_of, history};
+use crate::runs::{Heap, MOST, NEVER, Run};
+use refusals::Refusing;
+use std::alloc::{AllocError, Global};
+use std::marker::Brand;
+use std::process::Abort;
+use std::sync::Wait;
+use std::test::Fail;
+use std::thread::Threads;
+use tas_desk::{Desk, ExportError, Name, Seat, Unopened};
+use tas_movie::{Movie, apply, check};
+use vcs_machine::{Meter, State, play};
+use vcs_tia::{Picture, ppm};
+
+/// The frames that are exported, from the first one to the one before the second, behind the first place of the grid.
+const FRAMES: (usize, usize) = (66, 70);
+
+/// What seat 0 does first.
+const FIRST: [Change; 3] = [
+    Change::LoadFolding,
+    Change::Insert(0, 64),
+    Change::InsertRight(64, 8),
+];
+
+/// What seat 1 does behind that, so that seat 0's zone is of an older movie.
+const BEHIND: [Change; 1] = [Change::InsertUp(10)];
+
+/// The zone of the seat that exports. It keeps the state after 64 frames.
+#[derive(Clone, Copy, Debug, PartialEq, Eq)]
+enum Zone {
+    /// Of the present movie: the runs start from the state that is kept.
+    Present,
+    /// Of an older movie, whose state isn't the present one's: the runs start from power-on.
+    Older,
+}
+
+/// What the seat sees, and what an export and a shot of the last of its frames answer.
+#[derive(Drop)]
+struct Wanted {
+    at: u64,
+    len: usize,
+    /// How many frames the export plays.
+    played: u64,
+    /// How many frames the shot plays.
+    ran: u64,
+    /// The pixmaps of the frames.
+    pixmaps: Vec<u8>,
+}
+
+/// The movie of some edits.
+fn movie_of(alloc: Global, changes: &[Change]) -> Result<Movie, Fail> {
+    let mut movie = Movie::blank(alloc)?;
+    for change in changes {
+        let edit = edit_of(alloc, *change)?;
+        if check(&movie, &edit).is_err() {
+            return Err("an edit that is allowed".into());
+        }
+        apply(&mut movie, &edit);
+    }
+    Ok(movie)
+}
+
+/// The pixmaps of the frames, played from power-on.
+fn pixmaps_of(alloc: Global, movie: &Movie) -> Result<Vec<u8>, Fail> {
+    let mut pixmaps = Vec::new(alloc);
+    let mut picture = Picture::blank(alloc)?;
+    let mut state = State::power_on(movie.cart());
+    for (frame, input) in movie.inputs().iter().enumerate() {
+        let mut meter = Meter::new();
+        let played = play(movie.cart(), &mut state, *input, &mut picture, &mut meter);
+        if played.is_err() {
+            return Err("a frame that is drawn".into());
+        }
+        if FRAMES.0 <= frame && frame < FRAMES.1 {
+            ppm(&picture, &mut pixmaps).map_err(|_| "a pixmap")?;
+        }
+    }
+    Ok(pixmaps)
+}
+
+/// What is wanted where an export plays so many frames.
+fn wanted(alloc: Global, zone: Zone, played: u64) -> Result<Wanted, Fail> {
+    match zone {
+        Zone::Present => Ok(Wanted {
+            at: 3,
+            len: 72,
+            played,
+            ran: 6,
+            pixmaps: pixmaps_of(alloc, &movie_of(alloc, &FIRST)?)?,
+        }),
+        Zone::Older => {
+            let [load, insert, push] = FIRST;
+            let [behind] = BEHIND;
+            let movie = movie_of(alloc, &[load, insert, push, behind])?;
+            Ok(Wanted {
+                at: 4,
+                len: 73,
+                played,
+                ran: 70,
+                pixmaps: pixmaps_of(alloc, &movie)?,
+            })
+        }
+    }
+}
+
+/// Whether an export is right; nothing where memory is refused with nothing written.
+fn export<'a, N: Name, R: Threads + Wait + Sync>(
+    rt: &R,
+    alloc: Global,
+    heap: &'a Heap,
+    desk: &Desk<N, &R, &'a Heap>,
+    seat: &mut Seat<N, &'a Heap>,
+    workers: usize,
+    wanted: &Wanted,
+) -> Option<bool>
+    requires { (1 ≤ workers) × (workers ≤ 16) }
+{
+    let (from, to) = FRAMES;
+    let mut out = Vec::new(alloc);
+    match desk.export(rt, heap, seat, from, to, workers, &OpenGate, &mut out) {
+        Ok(exported) => {
+            let is_told = exported.at == wanted.at && exported.played == wanted.played;
+            Some(is_told && out == wanted.pixmaps)
+        }
+        Err(ExportError::Memory) if out.is_empty() => None,
+        Err(_) => Some(false),
+    }
+}
+
+/// Whether the movie is as before the export, and so are the zones: the seat's keeps its state, and the desk's too, unless seat 1
+/// made an edit before it. A job that starts there gives no state there.
+fn is_as_before<'a, N: Name, R: Wait>(
+    rt: &R,
+    alloc: Global,
+    desk: &Desk<N, &R, &'a Heap>,
+    seat: &mut Seat<N, &'a Heap>,
+    zone: Zone,
+    wanted: &Wanted,
+) -> Result<bool, Fail> {
+    let batch = desk.job(rt, alloc, seat, wanted.len)?.run();
+    let is_seen = desk.len(seat) == Ok((wanted.at, wanted.len));
+    Ok(is_seen && seat.kept() == 1 && batch.holds(64) == (zone == Zone::Older))
+}
+
+/// Whether the seat's shot of the last frame is right, and starts from the seat's zone as it was.
+fn shoots_last<'a, N: Name, R: Wait>(
+    alloc: Global,
+    heap: &'a Heap,
+    desk: &Desk<N, &R, &'a Heap>,
+    seat: &mut Seat<N, &'a Heap>,
+    wanted: &Wanted,
+) -> Result<bool, Fail> {
+    let Ok(shot) = desk.shot(heap, seat, FRAMES.1 - 1) else {
+        return Ok(false);
+    };
+    let mut pixmap = Vec::new(alloc);
+    ppm(&shot.picture, &mut pixmap).map_err(|_| "a pixmap")?;
+    let is_told = shot.at == wanted.at && shot.ran == wanted.ran;
+    Ok(is_told && wanted.pixmaps.ends_with(pixmap.as_slice()))
+}
+
+/// An export by so many workers with one growth refused, the same export after it, and a shot.
+fn try_export<'a, N: Name, R: Threads + Wait + Sync>(
+    rt: &R,
+    alloc: Global,
+    heap: &'a Heap,
+    desk: &Desk<N, &R, &'a Heap>,
+    seat: &mut Seat<N, &'a Heap>,
+    zone: Zone,
+    workers: usize,
+    wanted: &Wanted,
+    number: u64,
+) -> Result<Run, Fail>
+    requires workers { (1 ≤ workers) × (workers ≤ 16) }
+    requires number { 1 ≤ number }
+{
+    heap.refuse(number);
+    let mut answer = export(rt, alloc, heap, desk, seat, workers, wanted);
+    let has_refused = heap.has_refused();
+    if has_refused {
+        if answer.is_some() || !is_as_before(rt, alloc, desk, seat, zone, wanted)? {
+            return Ok(Run::Wrong);
+        }
+        answer = export(rt, alloc, heap, desk, seat, workers, wanted);
+    }
+    heap.refuse(NEVER);
+    let is_as_before = is_as_before(rt, alloc, desk, seat, zone, wanted)?;
+    let is_shot = shoots_last(alloc, heap, desk, seat, wanted)?;
+    Ok(Run::ended(has_refused, answer == Some(true) && is_as_before && is_shot))
+}
+
+/// The history at the end: an export adds nothing to it.
+fn history_of(zone: Zone) -> &'static str {
+    match zone {
+        Zone::Present => "0 0 load\n0 1 insert 0 64\n0 2 insert 64 8\n",
+        Zone::Older => "0 0 load\n0 1 insert 0 64\n0 2 insert 64 8\n1 0 insert 10 1\n",
+    }
+}
+
+/// An export at a new desk, by seat 0, with one growth refused, and the same export after it.
+fn export_at<'a, N: Name, R: Threads + Wait + Sync>(
+    rt: &R,
+    alloc: Global,
+    heap: &'a Heap,
+    unopened: Unopened<&'a Heap>,
+    zone: Zone,
+    workers: usize,
+    wanted: &Wanted,
+    number: u64,
+) -> Result<Run, Fail>
+    requires name { unopened ≡ name_of N.registry N.name N.seats }
+    requires named { N.parts ≡ N.seats }
+    requires workers { (1 ≤ workers) × (workers ≤ 16) }
+    requires number { 1 ≤ number }
+{
+    let (desk, mut seats) = Desk::<N, &R, &'a Heap>::open(rt, heap, unopened).map_err(
+        |_| AllocError,
+    )?;
+    let (one, rest) = seats.split_first_mut().ok_or("a seat")?;
+    let other = rest.first_mut().ok_or("two seats")?;
+    make_edits(rt, heap, &desk, one, &FIRST)?;
+    desk.work(rt, heap, one, &[64], &OpenGate)
+        .map_err(|_| "work that is done")?;
+    desk.share(rt, one)?;
+    if zone == Zone::Older {
+        make_edits(rt, heap, &desk, other, &BEHIND)?;
+    }
+    let run = try_export(rt, alloc, heap, &desk, one, zone, workers, wanted, number)?;
+    if !desk.whole(seats.as_slice()) {
+        return Err("all seats come back".into());
+    }
+    let closed = desk.close(rt, seats);
+    if history(alloc, closed.journal.as_slice())?.as_str() != history_of(zone) {
+        return Ok(Run::Wrong);
+    }
+    Ok(run)
+}
+
+/// An export with one growth refused, and the same export after it.
+fn run_export<R: Threads + Wait + Sync>(
+    rt: &R,
+    alloc: Global,
+    zone: Zone,
+    workers: usize,
+    wanted: &Wanted,
+    number: u64,
+) -> Result<Run, Fail>
+    requires workers { (1 ≤ workers) × (workers ≤ 16) }
+    requires number { 1 ≤ number }
+{
+    let heap = Refusing::new(alloc, NEVER);
+    let unopened = Unopened::new(&heap, 2).map_err(|_| AllocError)?;
+    export_at::<Brand, R>(rt, alloc, &heap, unopened, zone, workers, wanted, number)
+}
+
+/// Refuses each growth of an export by so many workers, which plays so many frames.
+fn refuse_each<R: Threads + Wait + Abort + Sync>(
+    rt: &R,
+    alloc: Global,
+    zone: Zone,
+    workers: usize,
+    played: u64,
+    growths: u64,
+) -> Result<(), Fail>
+    requires { (1 ≤ workers) × (workers ≤ 16) }
+{
+    let wanted = wanted(alloc, zone, played)?;
+    let mut refused = 0;
+    for number in 1..MOST {
+        let run = run_export(rt, alloc, zone, workers, &wanted, number)?;
+        if run == Run::Done {
+            break;
+        }
+        assert_eq!(rt; run, Run::Refused, "{workers} workers, growth {number}");
+        refused = number;
+    }
+    assert_eq!(rt; refused, growths, "{workers} workers");
+    Ok(())
+}
+
+/// The copy of the movie has two growths, the one of the zone one, the list of the runs one, and each run two.
+#[test]
+fn exports_from_a_zone_of_the_movie(rt: HostRuntime) -> Result<(), Fail> {
+    let alloc = rt.alloc();
+    refuse_each(&rt, alloc, Zone::Present, 1, 6, 6)?;
+    refuse_each(&rt, alloc, Zone::Present, 2, 10, 8)?;
+    refuse_each(&rt, alloc, Zone::Present, 4, 18, 12)
+}
+
+/// A refused export doesn't cut the zone either.
+#[test]
+fn exports_from_a_zone_of_an_older_movie(rt: HostRuntime) -> Result<(), Fail> {
+    let alloc = rt.alloc();
+    refuse_each(&rt, alloc, Zone::Older, 1, 70, 6)?;
+    refuse_each(&rt, alloc, Zone::Older, 2, 138, 8)?;
+    refuse_each(&rt, alloc, Zone::Older, 4, 274, 12)
+}

@@ -1,0 +1,9 @@
+use Rattle.std.proofs.Common.{◌+◌, arith}
+use Rattle.tas_desk.proofs.RunLemmas.{next_within}
+use Rattle.tas_desk.proofs.runs.Run.play.Goals as goal
+
+pub play_run-self-requires-clause-within : goal.play_run-self-requires-clause-within
+play_run-self-requires-clause-within g c =
+    let p = c.requires.plan in
+    let high = next_within c.args.plan (c.args.number + 1) p.some p.order (omega arith) in
+    omega (arith, high, c.first_of_run-next.ensures, p.within)

@@ -1,0 +1,74 @@
+//! Calls on threads of their own.
+
+ghost use Rattle.std.specs.Prelude.{◌≡◌, ℕ, ◌+◌, ◌<◌, length, slice_index_or};
+ghost use Rattle.std.specs.Fork.{AcceptsAt, ChangesAt, AcceptsEach, ChangesEach};
+ghost use Rattle.std.specs.Thread.{IsSync, IsSend};
+
+use std::thread::{Threads, join_mut};
+
+/// Calls `f` with each item and its place, each on a thread of its own. This thread starts them one after the other, and makes last
+/// the calls whose thread can't be started.
+pub fn for_each_apart<R: Threads + Sync, T: Send, F: Fn(usize, &mut T) + Sync>(
+    rt: &R,
+    items: &mut [T],
+    f: &F,
+)
+    requires { AcceptsEach F.Fn f.now items.old }
+    ensures { ChangesEach F.Fn f.now items.old items.new }
+{
+    apart_from(rt, f, 0, items.len(), items);
+}
+
+/// The calls with the items from a place on, up to the last one, which stands before `end`.
+#[cycle(apart)]
+fn apart_from<R: Threads + Sync, T: Send, F: Fn(usize, &mut T) + Sync>(
+    rt: &R,
+    f: &F,
+    at: usize,
+    end: usize,
+    items: &mut [T],
+)
+    requires count { at + length items.old ≡ end }
+    requires accepts { (k : ℕ) (d : T) → k < length items.old → AcceptsAt F.Fn f.now (at + k) (slice_index_or items.old k d) }
+    ensures { (k : ℕ) (d : T) → k < length items.old → ChangesAt F.Fn f.now (at + k) (slice_index_or items.old k d) (slice_index_or items.new k d) }
+{
+    if let Some((first, others)) = items.split_first_mut() {
+        first_and_others(rt, f, at, first, at + 1, end, others);
+    }
+}
+
+/// The call with one item, and those with the items behind it.
+#[cycle(apart)]
+fn first_and_others<R: Threads + Sync, T: Send, F: Fn(usize, &mut T) + Sync>(
+    rt: &R,
+    f: &F,
+    at: usize,
+    first: &mut T,
+    next: usize,
+    end: usize,
+    others: &mut [T],
+)
+    requires first { AcceptsAt F.Fn f.now at first.old }
+    requires count { next + length others.old ≡ end }
+    requires others { (k : ℕ) (d : T) → k < length others.old → AcceptsAt F.Fn f.now (next + k) (slice_index_or others.old k d) }
+    ensures first { ChangesAt F.Fn f.now at first.old first.new }
+    ensures others { (k : ℕ) (d : T) → k < length others.old → ChangesAt F.Fn f.now (next + k) (slice_index_or others.old k d) (slice_index_or others.new k d) }
+{
+    let mut front = ||
+        requires { AcceptsAt F.Fn f.now at first.now }
+        ensures { ChangesAt F.Fn f.entry.now at first.entry.now first.exit.now }
+    { call_at(f, at, first) };
+    let mut back = ||
+        requires { IsSync R.row × IsSync F.row × IsSend T.row × (next + length others.now ≡ end) × ((k : ℕ) (d : T) → k < length others.now → AcceptsAt F.Fn f.now (next + k) (slice_index_or others.now k d)) }
+        ensures { (k : ℕ) (d : T) → k < length others.entry.now → ChangesAt F.Fn f.entry.now (next + k) (slice_index_or others.entry.now k d) (slice_index_or others.exit.now k d) }
+    { apart_from(rt, f, next, end, others) };
+    join_mut(rt, &mut front, &mut back);
+}
+
+/// The call with one item.
+fn call_at<T, F: Fn(usize, &mut T)>(f: &F, at: usize, item: &mut T)
+    requires { AcceptsAt F.Fn f.now at item.old }
+    ensures { ChangesAt F.Fn f.now at item.old item.new }
+{
+    f(at, item);
+}
