@@ -9,9 +9,8 @@ use Rattle.tas_engines.specs.Faults.{unread_fault, run_fault}
 use Rattle.tas_engines.specs.Input.{IsReadWhole, StopsReading, StopsReadingTwo}
 use Rattle.tas_engines.specs.Movies.{IsMovieOf, IsMovieFault}
 use Rattle.tas_engines.specs.Tracing.{IsImageFault}
-use Rattle.tas_tool.specs.Turns.{Front}
 use Rattle.tas_tool.specs.MovieScripts.{movie_front}
-use Rattle.tas_tool.specs.Talk.{IsUntouched, cart_front, IsCartTalk, IsMovieTalk, IsTalk}
+use Rattle.tas_tool.specs.Talk.{Stand, fresh_stand, IsUntouched, cart_stand, IsCartTalk, IsMovieTalk, IsTalk}
 
 untouched : (input output : Option (List ℕ)) → IsUntouched input input output output
 untouched input output = record { unread = refl; unwritten = Keeps-refl output }
@@ -25,10 +24,10 @@ pub cart_unmade : (A : Type 0) (cart cart' input output : Option (List ℕ)) (re
     → IsCartTalk A cart cart' input input output output (Err e)
 cart_unmade A cart cart' input output read image fault e whole same why is = inr (image, subst (IsReadWhole cart cart') (sym same) whole, inl (fault, ap Err is, why, untouched input output))
 
-pub cart_talked : (A : Type 0) (cart cart' input input' output output' : Option (List ℕ)) (read image : List ℕ) (start : Front) (result : Result (Unit {0}) ToolFault) → IsReadWhole cart cart' read → image ≡ read → length image ≡ 4096
-    → start ≡ cart_front image → IsTalk A start input input' output output' result → IsCartTalk A cart cart' input input' output output' result
+pub cart_talked : (A : Type 0) (cart cart' input input' output output' : Option (List ℕ)) (read image : List ℕ) (start : Stand) (result : Result (Unit {0}) ToolFault) → IsReadWhole cart cart' read → image ≡ read → length image ≡ 4096
+    → start ≡ cart_stand image → IsTalk A start input input' output output' result → IsCartTalk A cart cart' input input' output output' result
 cart_talked A cart cart' input input' output output' read image start result whole same long is talk =
-    inr (image, subst (IsReadWhole cart cart') (sym same) whole, inr (long, subst (λ (f : Front). IsTalk A f input input' output output' result) is talk))
+    inr (image, subst (IsReadWhole cart cart') (sym same) whole, inr (long, subst (λ (f : Stand). IsTalk A f input input' output output' result) is talk))
 
 -- ---- over a movie
 
@@ -42,6 +41,6 @@ movie_unmade A cart cart' movie movie' input output read image read' said fault 
     inr (image, said, subst (IsReadWhole cart cart') (sym same) whole, subst (IsReadWhole movie movie') (sym same') whole', inl (fault, ap Err is, why, untouched input output))
 
 pub movie_talked : (A : Type 0) (cart cart' movie movie' input input' output output' : Option (List ℕ)) (read image read' said : List ℕ) (content : MovieContent) (result : Result (Unit {0}) ToolFault) → IsReadWhole cart cart' read → image ≡ read
-    → IsReadWhole movie movie' read' → said ≡ read' → IsMovieOf image said content → IsTalk A (movie_front content) input input' output output' result → IsMovieTalk A cart cart' movie movie' input input' output output' result
+    → IsReadWhole movie movie' read' → said ≡ read' → IsMovieOf image said content → IsTalk A (fresh_stand (movie_front content)) input input' output output' result → IsMovieTalk A cart cart' movie movie' input input' output output' result
 movie_talked A cart cart' movie movie' input input' output output' read image read' said content result whole same whole' same' is talk =
     inr (image, said, subst (IsReadWhole cart cart') (sym same) whole, subst (IsReadWhole movie movie') (sym same') whole', inr (content, is, talk))

@@ -8,7 +8,8 @@ ghost use Rattle.tas_desk.specs.Seats.{HasSeen};
 ghost use Rattle.tas_desk.specs.Shots.{IsShotAt};
 ghost use Rattle.tas_tool.specs.Turns.{front_of, refused_reply, halted_reply, BeginsWithOwn, IsDeskFault, IsEditTurn, IsTurn};
 ghost use Rattle.tas_tool.specs.Checking.{checked_reply, insert_refusal, looked, IsAnswer, IsEditAnswer};
-ghost use Rattle.tas_tool.specs.Talking.{IsUndrawn};
+ghost use Rattle.tas_tool.specs.Talk.{ShotLeaves};
+ghost use Rattle.tas_tool.specs.Talking.{stand_of, IsCommandZone, IsWorkedZone, TellsError};
 ghost use Rattle.tas_script.specs.declared.command.Command.TheVariants.{Load as LoadLine, Insert as InsertLine, Replace as ReplaceLine, InputAt as InputLine, Shot as ShotLine, Work as WorkLine};
 
 use std::alloc::{AllocError, Allocator};
@@ -77,6 +78,7 @@ fn refused_edit<N: Name, W: CloseOnDrop, A: Allocator>(
     requires own { BeginsWithOwn seat.old }
     requires made { made ≡ seat.old.made }
     ensures seen { HasSeen seat.old seat.new }
+    ensures zone { seat.new.zone ≡ seat.old.zone }
     ensures reply { (edit : EditContent A) → IsEditError (refusal_at seat.old.front seat.old.number seat.old.made edit) error
         → MatchResult result (λ reply. IsEditTurn (front_of seat.old) edit reply (front_of seat.new)) (IsDeskFault seat.new) }
 {
@@ -103,6 +105,7 @@ pub fn make_edit<N: Name, W: CloseOnDrop, A: Allocator + Copy, R: Wait>(
     requires own { BeginsWithOwn seat.old }
     requires made { made ≡ seat.old.made }
     ensures number { seat.new.number ≡ seat.old.number }
+    ensures zone { seat.new.zone ≡ seat.old.zone }
     ensures answer { IsEditAnswer seat.old seat.new edit result }
 {
     let error = match desk.edit(rt, seat, edit) {
@@ -187,6 +190,7 @@ fn load<N: Name, W: CloseOnDrop, A: Allocator + Copy, R: Wait>(
     requires own { BeginsWithOwn seat.old }
     requires made { made ≡ seat.old.made }
     ensures number { seat.new.number ≡ seat.old.number }
+    ensures zone { seat.new.zone ≡ seat.old.zone }
     ensures answer { IsAnswer A seat.old seat.new (LoadLine image) result }
 {
     match own_len(desk, seat, made) {
@@ -219,6 +223,7 @@ fn insert<N: Name, W: CloseOnDrop, A: Allocator + Copy, R: Wait>(
     requires own { BeginsWithOwn seat.old }
     requires made { made ≡ seat.old.made }
     ensures number { seat.new.number ≡ seat.old.number }
+    ensures zone { seat.new.zone ≡ seat.old.zone }
     ensures answer { IsAnswer A seat.old seat.new (InsertLine at count input) result }
 {
     let len = match own_len(desk, seat, made) {
@@ -251,6 +256,7 @@ fn replace<N: Name, W: CloseOnDrop, A: Allocator + Copy, R: Wait>(
     requires own { BeginsWithOwn seat.old }
     requires made { made ≡ seat.old.made }
     ensures number { seat.new.number ≡ seat.old.number }
+    ensures zone { seat.new.zone ≡ seat.old.zone }
     ensures answer { IsAnswer A seat.old seat.new (ReplaceLine at count input) result }
 {
     let len = match own_len(desk, seat, made) {
@@ -281,6 +287,7 @@ fn show_input<N: Name, W: CloseOnDrop, A: Allocator>(
     requires own { BeginsWithOwn seat.old }
     requires made { made ≡ seat.old.made }
     ensures seen { HasSeen seat.old seat.new }
+    ensures zone { seat.new.zone ≡ seat.old.zone }
     ensures reply { MatchResult result (λ reply. IsTurn A (front_of seat.old) (InputLine frame) reply (front_of seat.new)) (IsDeskFault seat.new) }
 {
     match desk.input(seat, frame) {
@@ -317,7 +324,8 @@ pub fn unshown<N: Name, W: CloseOnDrop, A: Allocator>(
     requires made { made ≡ seat.old.made }
     requires error { IsShotAt {B = A} seat.old.front frame (Err error) }
     ensures seen { HasSeen seat.old seat.new }
-    ensures undrawn { IfOk result IsUndrawn }
+    ensures zone { seat.new.zone ≡ seat.old.zone }
+    ensures tells { IfOk result (TellsError made error) }
     ensures reply { MatchResult result (λ reply. IsTurn A (front_of seat.old) (ShotLine frame) reply (front_of seat.new)) (IsDeskFault seat.new) }
 {
     match error {
@@ -342,6 +350,7 @@ fn draw<N: Name, W: CloseOnDrop, A: Allocator + Copy>(
     requires own { BeginsWithOwn seat.old }
     requires made { made ≡ seat.old.made }
     ensures seen { HasSeen seat.old seat.new }
+    ensures zone { IfOk result (ShotLeaves (stand_of seat.old) (stand_of seat.new) frame) }
     ensures reply { MatchResult result (λ reply. IsTurn A (front_of seat.old) (ShotLine frame) reply (front_of seat.new)) (IsDeskFault seat.new) }
 {
     let shot = match desk.shot(alloc, seat, frame) {
@@ -375,6 +384,7 @@ fn work<N: Name, W: CloseOnDrop, A: Allocator + Copy, R: Wait>(
 ) -> Reply
     requires own { BeginsWithOwn seat.old }
     ensures seen { HasSeen seat.old seat.new }
+    ensures zone { IsWorkedZone seat.old seat.new result }
     ensures reply { IsTurn A (front_of seat.old) (WorkLine frame) result (front_of seat.new) }
 {
     let Ok(worked) = desk.work(rt, alloc, seat, &[frame], &OpenGate) else {
@@ -417,6 +427,7 @@ pub fn answer_command<N: Name, W: CloseOnDrop, A: Allocator + Copy, R: Wait>(
     requires own { BeginsWithOwn seat.old }
     requires made { made ≡ seat.old.made }
     ensures number { seat.new.number ≡ seat.old.number }
+    ensures zone { IfOk result (λ answered. IsCommandZone seat.old seat.new command answered.reply) }
     ensures answer { IsAnswer A seat.old seat.new command result }
 {
     match command {

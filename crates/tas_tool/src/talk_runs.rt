@@ -1,9 +1,9 @@
 //! `tas talk`.
 
-ghost use Rattle.std.specs.Prelude.{◌≡◌, ◌≤◌, [], length};
+ghost use Rattle.std.specs.Prelude.{◌≡◌, ◌≤◌, [], length, None};
+ghost use Rattle.tas_desk.specs.History.{blank_movie};
 ghost use Rattle.tas_desk.specs.Seats.{name_of};
-ghost use Rattle.tas_tool.specs.Scripts.{start_front};
-ghost use Rattle.tas_tool.specs.Talk.{front_from, IsCartTalk, IsMovieTalk, IsTalk};
+ghost use Rattle.tas_tool.specs.Talk.{stand_from, IsCartTalk, IsMovieTalk, IsTalk};
 
 use crate::making::put_movie;
 use crate::talking::converse;
@@ -27,8 +27,9 @@ fn talk_made<N: Name, C: CloseOnDrop, A: Allocator + Copy, T: Wait, R: Read, W: 
     output: &mut W,
 ) -> Result<(), ToolFault>
     requires first { (seat.old.number ≡ 0) × (seat.old.made ≡ 0) × (seat.old.front ≡ []) }
+    requires zone { (seat.old.zone.movie ≡ blank_movie) × (seat.old.zone.states ≡ []) }
     ensures number { seat.new.number ≡ 0 }
-    ensures talk { length seat.new.front ≤ seat.new.made → IsTalk A (front_from movie) (R.remaining input.old) (R.remaining input.new)
+    ensures talk { length seat.new.front ≤ seat.new.made → IsTalk A (stand_from movie) (R.remaining input.old) (R.remaining input.new)
         (W.contents output.old) (W.contents output.new) result }
 {
     let Some(movie) = movie else {
@@ -54,7 +55,7 @@ fn talk_on<N: Name, A: Allocator + Copy, T: Wait, R: Read, W: Write>(
     requires name { unopened ≡ name_of N.registry N.name N.seats }
     requires named { N.parts ≡ N.seats }
     requires one { unopened.seats ≡ 1 }
-    ensures { IsTalk A (front_from movie) (R.remaining input.old) (R.remaining input.new) (W.contents output.old) (W.contents output.new) result }
+    ensures { IsTalk A (stand_from movie) (R.remaining input.old) (R.remaining input.new) (W.contents output.old) (W.contents output.new) result }
 {
     let (desk, mut seats) = match Desk::<N, &T, A>::open(rt, alloc, unopened) {
         Ok(opened) => opened,
@@ -75,7 +76,7 @@ fn talk_from<A: Allocator + Copy, T: Wait, R: Read, W: Write>(
     input: &mut R,
     output: &mut W,
 ) -> Result<(), ToolFault>
-    ensures { IsTalk A (front_from movie) (R.remaining input.old) (R.remaining input.new) (W.contents output.old) (W.contents output.new) result }
+    ensures { IsTalk A (stand_from movie) (R.remaining input.old) (R.remaining input.new) (W.contents output.old) (W.contents output.new) result }
 {
     let unopened = match Unopened::new(alloc, 1) {
         Ok(unopened) => unopened,
@@ -99,7 +100,7 @@ pub fn talk_run<A: Allocator + Copy, T: Wait, R: Read, W: Write>(
     input: &mut R,
     output: &mut W,
 ) -> Result<(), ToolFault>
-    ensures { IsTalk A start_front (R.remaining input.old) (R.remaining input.new) (W.contents output.old) (W.contents output.new) result }
+    ensures { IsTalk A (stand_from None) (R.remaining input.old) (R.remaining input.new) (W.contents output.old) (W.contents output.new) result }
 {
     talk_from(rt, alloc, None, input, output)
 }

@@ -5,9 +5,9 @@ ghost use Rattle.std.specs.Io.KnownBytes.{Appends};
 ghost use Rattle.tas_script.specs.Commands.{NoByte};
 ghost use Rattle.tas_talk.specs.Answers.{unknown_text};
 ghost use Rattle.tas_talk.specs.Held.{HoldsLine};
-ghost use Rattle.tas_tool.specs.Turns.{BeginsWithOwn, front_of};
+ghost use Rattle.tas_tool.specs.Turns.{BeginsWithOwn};
 ghost use Rattle.tas_tool.specs.Talk.{last_answer, most_counted, IsTalk};
-ghost use Rattle.tas_tool.specs.Talking.{CutsOff, IsLineTurn, IsPartTurn, StandsAt};
+ghost use Rattle.tas_tool.specs.Talking.{stand_of, CutsOff, IsLineTurn, IsPartTurn, StandsAt};
 
 use crate::telling::answer_request;
 use counted_write::write_counted;
@@ -173,7 +173,7 @@ pub fn converse<N: Name, C: CloseOnDrop, A: Allocator + Copy, T: Wait, R: Read, 
     requires own { BeginsWithOwn seat.old }
     requires made { made ≡ seat.old.made }
     ensures number { seat.new.number ≡ seat.old.number }
-    ensures talk { length seat.new.front ≤ seat.new.made → IsTalk A (front_of seat.old) (R.remaining input.old) (R.remaining input.new)
+    ensures talk { length seat.new.front ≤ seat.new.made → IsTalk A (stand_of seat.old) (R.remaining input.old) (R.remaining input.new)
         (W.contents output.old) (W.contents output.new) result }
 {
     let Ok(mut line) = Line::new(alloc) else {

@@ -1,6 +1,6 @@
 //! Answering a request on a desk whose one seat is the conversation's.
 
-ghost use Rattle.std.specs.Prelude.{◌≡◌, ◌++◌, ◌∷◌, [], length, is_some, if◌then◌else◌, IfOk, IfSome, OnOk, MatchResult};
+ghost use Rattle.std.specs.Prelude.{◌≡◌, ◌++◌, ◌∷◌, [], length, is_some, if◌then◌else◌, IfOk, OnOk, MatchOption, MatchResult};
 ghost use Rattle.tas_green.specs.Green.{IsLawful};
 ghost use Rattle.tas_green.specs.Grid.{stride};
 ghost use Rattle.tas_green.specs.Zone.{state_at};
@@ -8,9 +8,9 @@ ghost use Rattle.tas_desk.specs.Seats.{HasSeen};
 ghost use Rattle.tas_engines.specs.declared.fault.RunFault.TheVariants.{Memory};
 ghost use Rattle.tas_script.specs.Replies.{reply_text};
 ghost use Rattle.tas_talk.specs.declared.request.Request.TheVariants.{Do as ScriptLine, Picture as PictureLine, Movie as MovieLine, States as StatesLine, Quit as QuitLine};
-ghost use Rattle.tas_tool.specs.Turns.{front_of, BeginsWithOwn, IsDeskFault};
+ghost use Rattle.tas_tool.specs.Turns.{BeginsWithOwn, IsDeskFault};
 ghost use Rattle.tas_tool.specs.Talk.{kept_frames};
-ghost use Rattle.tas_tool.specs.Talking.{IsBrought, IsTalkFault, IsToldTo, TellsStates};
+ghost use Rattle.tas_tool.specs.Talking.{IsBrought, IsTalkFault, IsToldTo};
 
 use crate::answering::{answer_command, own_len, unshown};
 use std::alloc::{AllocError, Allocator};
@@ -40,7 +40,7 @@ fn told_reply<A: Allocator>(alloc: A, reply: Reply, made: u64) -> Result<Told<A>
     }
 }
 
-/// A script's line.
+/// A script's line. What `work` left of the greenzone is the conversation's own once the seat has seen just its own edits.
 fn tell_command<N: Name, W: CloseOnDrop, A: Allocator + Copy, R: Wait>(
     rt: &R,
     alloc: A,
@@ -54,8 +54,12 @@ fn tell_command<N: Name, W: CloseOnDrop, A: Allocator + Copy, R: Wait>(
     ensures number { seat.new.number ≡ seat.old.number }
     ensures answer { MatchResult result (λ told. IsToldTo seat.old seat.new (ScriptLine command) told.bytes.items told.made) (IsTalkFault seat.new) }
 {
-    match answer_command(rt, alloc, desk, seat, made, command) {
-        Ok(answered) => told_reply(alloc, answered.reply, answered.made),
+    let answered = match answer_command(rt, alloc, desk, seat, made, command) {
+        Ok(answered) => answered,
+        Err(fault) => return Err(fault),
+    };
+    match own_len(desk, seat, answered.made) {
+        Ok(_) => told_reply(alloc, answered.reply, answered.made),
         Err(fault) => Err(fault),
     }
 }
@@ -102,7 +106,7 @@ fn bring_zone<N: Name, W: CloseOnDrop, A: Allocator + Copy, R: Wait>(
     requires own { BeginsWithOwn seat.old }
     requires made { made ≡ seat.old.made }
     ensures seen { HasSeen seat.old seat.new }
-    ensures zone { MatchResult result (λ found. IfSome found (IsBrought seat.old seat.new)) (IsDeskFault seat.new) }
+    ensures zone { MatchResult result (λ found. MatchOption found (seat.new.zone ≡ seat.old.zone) (IsBrought seat.old seat.new)) (IsDeskFault seat.new) }
 {
     if let Err(_) = desk.share(rt, seat) {
         return Ok(None);
@@ -196,7 +200,6 @@ fn tell_states<N: Name, W: CloseOnDrop, A: Allocator + Copy, R: Wait>(
     requires own { BeginsWithOwn seat.old }
     requires made { made ≡ seat.old.made }
     ensures number { seat.new.number ≡ seat.old.number }
-    ensures states { IfOk result (λ told. TellsStates (front_of seat.old) seat.new.zone.states told.bytes.items) }
     ensures answer { MatchResult result (λ told. IsToldTo seat.old seat.new StatesLine told.bytes.items told.made) (IsTalkFault seat.new) }
 {
     let len = match bring_zone(rt, desk, seat, made) {

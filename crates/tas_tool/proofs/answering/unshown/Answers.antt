@@ -1,7 +1,7 @@
-use Rattle.std.proofs.Common.{◌∙◌, sym, subst}
-use Rattle.tas_tool.specs.Talking.{IsUndrawn}
+use Rattle.std.proofs.Common.{◌∙◌, refl}
+use Rattle.tas_tool.specs.Talking.{TellsError}
 use Rattle.tas_tool.proofs.TurnLemmas.{shot_error_is, no_frame_turn, halted_turn, shot_without_memory}
-use Rattle.tas_tool.proofs.TellingLemmas.{checked_undrawn, undrawn_halt}
+use Rattle.tas_tool.proofs.GreenLemmas.{error_as, checked_fact}
 use Rattle.tas_tool.proofs.answering.unshown.Goals as goal
 
 pub returns-in-NoFrame-clause-reply : goal.returns-in-NoFrame-clause-reply
@@ -19,9 +19,9 @@ returns-in-Ok-clause-reply g c =
     let e = shot_error_is c.args.seat.now.front c.args.frame _ _ c.in-Memory.is c.requires.error in
     shot_without_memory g.row.A.Denot c.args.seat.now c.own_len.new.seat c.args.frame c.requires.own c.own_len.ensures.seen (c.in-Ok.ensures.reply.0 ∙ c.requires.made) e
 
-pub returns-in-NoFrame-clause-undrawn : goal.returns-in-NoFrame-clause-undrawn
-returns-in-NoFrame-clause-undrawn g c = checked_undrawn c.args.made c.in-NoFrame.at _ _ c.checked.ensures tt
+pub returns-in-NoFrame-clause-tells : goal.returns-in-NoFrame-clause-tells
+returns-in-NoFrame-clause-tells g c = error_as c.args.made c.args.error _ _ c.in-NoFrame.is (checked_fact c.args.made c.in-NoFrame.at _ _ (TellsError c.args.made _) c.checked.ensures (λ same. refl))
 
-pub returns-in-Halted-clause-undrawn : goal.returns-in-Halted-clause-undrawn
-returns-in-Halted-clause-undrawn g c =
-    checked_undrawn c.args.made c.in-Halted.at _ _ c.checked-in-Halted.ensures (subst IsUndrawn (sym c.halted_reply.ensures) (undrawn_halt c.in-Halted.at c.in-Halted.halt))
+pub returns-in-Halted-clause-tells : goal.returns-in-Halted-clause-tells
+returns-in-Halted-clause-tells g c =
+    error_as c.args.made c.args.error _ _ c.in-Halted.is (checked_fact c.args.made c.in-Halted.at _ _ (TellsError c.args.made _) c.checked-in-Halted.ensures (λ same. (same, c.halted_reply.ensures)))

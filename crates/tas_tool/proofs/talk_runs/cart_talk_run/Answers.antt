@@ -1,7 +1,7 @@
 use Rattle.std.proofs.Common.{refl, sym, ap, ◌∙◌}
 use Rattle.tas_engines.specs.declared.fault.RunFault.TheVariants.{Size, Memory}
 use Rattle.tas_tool.specs.MovieScripts.{movie_front}
-use Rattle.tas_tool.specs.Talk.{cart_front}
+use Rattle.tas_tool.specs.Talk.{fresh_stand}
 use Rattle.tas_tool.proofs.TalkRunLemmas.{cart_unread, cart_unmade, cart_talked}
 use Rattle.tas_tool.proofs.talk_runs.cart_talk_run.Goals as goal
 
@@ -16,7 +16,7 @@ returns-in-Err-Memory g c = cart_unmade g.row.A.Denot _ _ _ _ _ c.as_slice.resul
 
 pub returns-in-Ok-new : goal.returns-in-Ok-new
 returns-in-Ok-new g c =
-    cart_talked g.row.A.Denot _ _ _ _ _ _ _ c.as_slice.result.now _ _ c.in-Ok.ensures.whole c.as_slice.ensures.value (search rules) (ap movie_front (search rules)) c.talk_from.ensures
+    cart_talked g.row.A.Denot _ _ _ _ _ _ _ c.as_slice.result.now _ _ c.in-Ok.ensures.whole c.as_slice.ensures.value (search rules) (ap (λ m. fresh_stand (movie_front m)) (search rules)) c.talk_from.ensures
 
 pub returns-in-Err-new : goal.returns-in-Err-new
 returns-in-Err-new g c = cart_unmade g.row.A.Denot _ _ _ _ _ c.as_slice.result.now Memory _ c.in-Ok.ensures.whole c.as_slice.ensures.value tt refl

@@ -17,5 +17,5 @@ returns-in-Err-own_len-clause-seen g c = seen_more c.args.seat.now c.share.new.s
 
 pub returns-in-Ok-clause-zone : goal.returns-in-Ok-clause-zone
 returns-in-Ok-clause-zone g c =
-    brought c.args.seat.now c.share.new.seat c.own_len.new.seat c.args.made c.in-Ok.len c.requires.own c.requires.made c.share.ensures.seat c.in_default.ensures.zone.made c.own_len.ensures.seen c.own_len.ensures.zone
+    brought c.args.seat.now c.share.new.seat c.own_len.new.seat c.args.made c.in-Ok.len _ c.requires.own c.requires.made c.share.ensures.seat c.in_default.ensures.zone c.own_len.ensures.seen c.own_len.ensures.zone
     c.in-Ok.ensures.reply.0 c.in-Ok.ensures.reply.1
