@@ -33,3 +33,17 @@ loop-front-preserved g c = record {
         },
       );
 }
+
+pub returns-in-Ok-None-clause-turn : goal.returns-in-Ok-None-clause-turn
+returns-in-Ok-None-clause-turn g c = λ said holds none.
+    let (xs, part, i) = c.loop-front.invariant.turns said holds none in
+    let whole = no_newline part c.in-Some.front.now i.none c.in-Some.ensures.some.1 in
+    line_quits c.args.seat.now c.loop-front.seat c.answer_line.new.seat xs _ c.loop-front.reached _ part c.in-Some.front.now c.in-Some.after.now _ _ _ _ _ i.answered (i.text ∙ ap (λ l. _ ++ (part ++ l)) c.in-Some.ensures.some.0) whole
+    (c.in-Ok-None.ensures.turn (part ++ c.in-Some.front.now) (c.in_default.ensures part i.holds) whole)
+
+pub returns-in-Err-answer_line-clause-turn : goal.returns-in-Err-answer_line-clause-turn
+returns-in-Err-answer_line-clause-turn g c = λ said holds none.
+    let (xs, part, i) = c.loop-front.invariant.turns said holds none in
+    let whole = no_newline part c.in-Some.front.now i.none c.in-Some.ensures.some.1 in
+    line_breaks c.args.seat.now c.loop-front.seat c.answer_line.new.seat xs _ c.loop-front.reached _ part c.in-Some.front.now c.in-Some.after.now _ _ _ _ _ c.in-Err-answer_line.fault i.answered
+    (i.text ∙ ap (λ l. _ ++ (part ++ l)) c.in-Some.ensures.some.0) (c.in-Err-answer_line.ensures.turn (part ++ c.in-Some.front.now) (c.in_default.ensures part i.holds) whole)
