@@ -1,5 +1,5 @@
 -- Conversations, line by line.
-use Rattle.std.proofs.Common.{◌≡◌, ℕ, ◌+◌, ◌<◌, ◌≤◌, List, [], ◌∷◌, ◌++◌, length, take, Bool, true, false, Option, Some, None, Result, Ok, Err, inl, inr, refl, sym, ap, subst, ◌∙◌, arith, append_assoc, length-append, append-nil}
+use Rattle.std.proofs.Common.{◌≡◌, ℕ, ◌+◌, ◌-◌, ◌<◌, ◌≤◌, List, [], ◌∷◌, ◌++◌, length, take, Bool, true, false, Option, Some, None, Result, Ok, Err, inl, inr, refl, sym, ap, subst, ◌∙◌, arith, append_assoc, length-append, append-nil}
 use Rattle.std.specs.Prelude.{min}
 use Rattle.std.specs.List.{flat_map}
 use Rattle.std.specs.Io.KnownBytes.{Appends, Consumes, Keeps, IsAtEnd}
@@ -64,6 +64,12 @@ no_newline [] ys h k = k
 no_newline (x ∷ xs) ys h k = (h.0, no_newline xs ys h.1 k)
 
 -- ---- one line
+
+-- a fault that counts from nothing
+pub front_taken : (old new : Option (List ℕ)) (bytes : List ℕ) (n : ℕ) → Appends old new (take (n - 0) bytes) → Appends old new (take n bytes)
+front_taken old new bytes n out =
+    let same : n - 0 ≡ n = omega arith in
+    subst (λ (k : ℕ). Appends old new (take k bytes)) same out
 
 pub handed_nothing : (old : Option (List ℕ)) → Appends old old []
 handed_nothing old = Appends-nil old
