@@ -16,9 +16,6 @@ returns-in-Err-refused_edit-clause-answer g c =
     edit_refused c.args.seat.now c.edit.new.seat c.refused_edit.new.seat c.args.edit c.in-Err.error c.args.made (Err c.in-Err-refused_edit.fault) _ c.requires.own c.requires.made c.in-Err.ensures c.refused_edit.ensures.seen
     c.in-Err-refused_edit.ensures.reply refl
 
-pub returns-then-sub-ne-made-clause-zone : goal.returns-then-sub-ne-made-clause-zone
-returns-then-sub-ne-made-clause-zone g c = edited_zone c.args.seat.now c.edit.new.seat c.args.edit (Ok c.in-Ok.receipt) c.in-Ok.ensures
-
 pub returns-in-Ok-clause-zone : goal.returns-in-Ok-clause-zone
 returns-in-Ok-clause-zone g c = edited_zone c.args.seat.now c.edit.new.seat c.args.edit (Ok c.in-Ok.receipt) c.in-Ok.ensures
 

@@ -14,10 +14,10 @@ returns-in-Ok-None-clause-answer g c =
 pub returns-in-Err-clause-answer : goal.returns-in-Err-clause-answer
 returns-in-Err-clause-answer g c = talk_fault c.bring_zone.new.seat c.in-Err.fault c.in-Err.ensures.zone
 
-pub returns-in-Ok-movie_answer-clause-answer : goal.returns-in-Ok-movie_answer-clause-answer
-returns-in-Ok-movie_answer-clause-answer g c =
-    told_movie c.args.seat.now c.bring_zone.new.seat c.args.made _ c.in-Ok-movie_answer.bytes.items c.requires.own c.requires.made c.bring_zone.ensures.seen c.in-Ok-Some.ensures.zone
-    (c.in-Ok-movie_answer.ensures ∙ ap (λ m. movie_text c.args.made (text m)) c.zone_movie.ensures)
+pub returns-in-Ok-clause-answer : goal.returns-in-Ok-clause-answer
+returns-in-Ok-clause-answer g c =
+    told_movie c.args.seat.now c.bring_zone.new.seat c.args.made _ c.in-Ok.bytes.items c.requires.own c.requires.made c.bring_zone.ensures.seen c.in-Ok-Some.ensures.zone
+    (c.in-Ok.ensures ∙ ap (λ m. movie_text c.args.made (text m)) c.zone_movie.ensures)
 
 pub returns-in-Err-movie_answer-clause-answer : goal.returns-in-Err-movie_answer-clause-answer
 returns-in-Err-movie_answer-clause-answer g c =
