@@ -58,7 +58,7 @@ pub record Plays (old new : Stand) (k ran : ℕ) : Type 0 where
   pub green : IsGreen new
   pub shot : IsShotFrom old.kept_for new.kept_for k old.states new.states 0 ran
 
--- the greenzone was cut for the movie, and then gained so many states of it that work had made
+-- the greenzone was cut for the movie, and then gained so many other states of it
 pub record Gains (old new : Stand) : Type 0 where
   pub green : IsGreen new
   pub other : List Savestate

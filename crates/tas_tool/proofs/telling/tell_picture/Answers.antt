@@ -21,7 +21,7 @@ returns-in-Ok-picture_answer-clause-answer g c =
 
 pub returns-clause-answer : goal.returns-clause-answer
 returns-clause-answer g c =
-    MatchResult-weaker c.told_reply-in-Err.result c.told_reply-in-Err.ensures
+    MatchResult-weaker c.told_reply-in-Err-picture_answer.result c.told_reply-in-Err-picture_answer.ensures
     (λ told is. told_no_picture g.row.A.Denot c.args.seat.now c.shot.new.seat told.made c.in-Ok.shot.at c.args.frame c.in-Ok.shot.ran c.in-Ok.shot.picture told.bytes.items c.requires.own (is.1 ∙ c.requires.made) c.shot.ensures.seat c.in-Ok.ensures.reply.0
     c.in-Ok.ensures.reply.1 (c.if-at-ne-made.false ∙ sym is.1) c.in-Ok.ensures.zone is.0)
     (λ fault is. memory_fault c.shot.new.seat fault is)

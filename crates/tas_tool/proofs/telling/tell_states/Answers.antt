@@ -27,7 +27,7 @@ returns-in-Ok-states_answer-clause-answer g c =
 
 pub returns-in-Err-states_answer-clause-answer : goal.returns-in-Err-states_answer-clause-answer
 returns-in-Err-states_answer-clause-answer g c =
-    MatchResult-weaker c.told_reply-in-Err.result c.told_reply-in-Err.ensures
+    MatchResult-weaker c.told_reply-in-Err-states_answer.result c.told_reply-in-Err-states_answer.ensures
     (λ told is. told_no_states c.args.seat.now c.bring_zone.new.seat told.made told.bytes.items c.requires.own (is.1 ∙ c.requires.made) c.bring_zone.ensures.seen
     (brought_still c.args.seat.now c.bring_zone.new.seat _ c.in-Ok-Some.ensures.zone) is.0)
     (λ fault is. memory_fault c.bring_zone.new.seat fault is)
