@@ -121,6 +121,6 @@ fn scripts_end_as_by_hand(rt: HostRuntime) -> Result<(), Fail> {
     assert_eq!(rt; end, Err(ScriptFault::OutOfPlace(4)));
     let wanted = movie_of(alloc, ".FFFF")?;
     assert!(rt; movie.inputs() == wanted.inputs());
-    assert_eq!(rt; MAX_FRAMES, 65536);
+    assert_eq!(rt; MAX_FRAMES, 262144);
     Ok(())
 }

@@ -1,6 +1,6 @@
 //! Whole runs of `tas edit` and `tas diff`, over readers and writers of the tests' own.
 
-use crate::movies::{BLANK, BLANK_DIGEST, text_of};
+use crate::movies::{BLANK, BLANK_DIGEST, older_text_of, text_of};
 use std::alloc::Global;
 use std::test::Fail;
 use tas_edit::{diff_run, edit_run};
@@ -94,15 +94,15 @@ fn long_movie(alloc: Global, len: usize, other: usize) -> Result<Vec<u8>, Fail> 
 fn the_longest_movies_are_edited_and_compared(rt: HostRuntime) -> Result<(), Fail> {
     let alloc = rt.alloc();
     let none = blank_text(alloc, b"")?;
-    let full = long_movie(alloc, 65536, 65536)?;
-    let other = long_movie(alloc, 65536, 40000)?;
+    let full = long_movie(alloc, 262144, 262144)?;
+    let other = long_movie(alloc, 262144, 40000)?;
     let script = go_round(alloc, none.as_slice(), full.as_slice())?;
     assert_eq!(rt;
         script.as_slice(),
-        b"insert 0 65536 ..... ..... .....\n".as_slice()
+        b"insert 0 262144 ..... ..... .....\n".as_slice()
     );
     let script = go_round(alloc, full.as_slice(), none.as_slice())?;
-    assert_eq!(rt; script.as_slice(), b"delete 0 65536\n".as_slice());
+    assert_eq!(rt; script.as_slice(), b"delete 0 262144\n".as_slice());
     let script = go_round(alloc, full.as_slice(), other.as_slice())?;
     assert_eq!(rt;
         script.as_slice(),
@@ -111,7 +111,7 @@ fn the_longest_movies_are_edited_and_compared(rt: HostRuntime) -> Result<(), Fai
     let (text, end) = edited(
         alloc,
         &BLANK,
-        b"insert 65536 1 ..... ..... .....\n",
+        b"insert 262144 1 ..... ..... .....\n",
         full.as_slice(),
     );
     assert_eq!(rt; end, Err(ToolFault::EditLong { line: 1 }));
@@ -122,11 +122,28 @@ fn the_longest_movies_are_edited_and_compared(rt: HostRuntime) -> Result<(), Fai
     Ok(())
 }
 
+/// Older texts are read, and the text of runs is written.
+#[test]
+fn older_texts_are_edited_and_compared(rt: HostRuntime) -> Result<(), Fail> {
+    let alloc = rt.alloc();
+    let before = older_text_of(alloc, BLANK_DIGEST, b"..RR.")?;
+    let after = blank_text(alloc, b"..RRRR.")?;
+    let script = b"insert 4 2 R.... ..... .....\n".as_slice();
+    let (text, end) = edited(alloc, &BLANK, script, before.as_slice());
+    assert_eq!(rt; end, Ok(()));
+    assert!(rt; text.as_slice() == after.as_slice());
+    let (difference, end) = compared(alloc, &BLANK, before.as_slice(), after.as_slice());
+    assert_eq!(rt; end, Ok(()));
+    assert_eq!(rt; difference.as_slice(), script);
+    Ok(())
+}
+
 /// Scripts for a movie of two frames, and how each ends.
-static FAULTS: [(&[u8], ToolFault); 8] = [
+static FAULTS: [(&[u8], ToolFault); 9] = [
     (b"\n", ToolFault::Script { line: 1 }),
     (b"len\n", ToolFault::Script { line: 1 }),
     (b"load 000=A9\n", ToolFault::Script { line: 1 }),
+    (b"load2 000=A9\n", ToolFault::Script { line: 1 }),
     (b"work 0\n", ToolFault::Script { line: 1 }),
     (b"delete 0 1", ToolFault::Script { line: 1 }),
     (
@@ -135,7 +152,7 @@ static FAULTS: [(&[u8], ToolFault); 8] = [
     ),
     (b"delete 0 3\nlen\n", ToolFault::EditPlace { line: 1 }),
     (
-        b"delete 0 1\ninsert 0 65535 ..... ..... .....\ninsert 0 1 ..... ..... .....\n",
+        b"delete 0 1\ninsert 0 262143 ..... ..... .....\ninsert 0 1 ..... ..... .....\n",
         ToolFault::EditLong { line: 3 },
     ),
 ];
@@ -156,7 +173,7 @@ fn a_line_at_fault_leaves_nothing_written(rt: HostRuntime) -> Result<(), Fail> {
 fn faults_of_the_movies_come_in_order(rt: HostRuntime) -> Result<(), Fail> {
     let alloc = rt.alloc();
     let two = blank_text(alloc, b"R.")?;
-    let bad = b"a26movie 1\n".as_slice();
+    let bad = b"a26movie 2\n".as_slice();
     let text = ToolFault::Text(TextError {
         line: 2,
         kind: TextErrorKind::End,
