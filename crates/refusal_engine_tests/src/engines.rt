@@ -28,7 +28,7 @@ pub enum Engine {
 }
 
 /// All of them.
-pub const ENGINES: [Engine; 9] = [
+pub const ENGINES: [Engine; 10] = [
     Engine::Trace,
     Engine::Check,
     Engine::Migrate,
