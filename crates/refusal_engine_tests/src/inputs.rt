@@ -10,7 +10,7 @@ use vcs_machine::{Cart, Input};
 const BRIEF: &[u8] = b"\xA9\x02\x85\x00\xA9\x00\x85\x00\x4C\x00\xF0";
 
 /// The bytes of a cartridge, of the texts of two movies of it, of the changes that make the second of the first, and of a
-/// script of edits and looks; and none.
+/// script of edits and looks and of a conversation that has these and others; and none.
 #[derive(Drop)]
 pub struct Bytes {
     pub cart: Vec<u8>,
@@ -18,12 +18,17 @@ pub struct Bytes {
     pub new: Vec<u8>,
     pub changes: Vec<u8>,
     pub script: Vec<u8>,
+    pub talk: Vec<u8>,
     pub none: Vec<u8>,
 }
 
 /// Seven lines on a movie.
 const SCRIPT: &[u8] =
     b"insert 0 3 R.... ..... .....\nlen\ninput 1\nshot 2\ndelete 0 1\nwork 1\nlen\n";
+
+/// The same lines, and those that a script doesn't have.
+const TALK: &[u8] =
+    b"insert 0 3 R.... ..... .....\nlen\ninput 1\nshot 2\ndelete 0 1\nwork 1\nlen\npicture 1\nmovie\nstates\nwhat\n";
 
 fn cart(alloc: Global) -> Result<Cart, AllocError> {
     let mut image = [0u8; 4096];
@@ -57,6 +62,7 @@ pub fn make_inputs(alloc: Global) -> Result<Bytes, Fail> {
         cart: Vec::from_slice(alloc, cart.bytes())?,
         changes: Vec::from_slice(alloc, b"delete 0 1\n")?,
         script: Vec::from_slice(alloc, SCRIPT)?,
+        talk: Vec::from_slice(alloc, TALK)?,
         none: Vec::new(alloc),
     })
 }
