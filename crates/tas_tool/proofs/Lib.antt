@@ -4,3 +4,7 @@ pub mod OneSeatLemmas
 pub mod MakingLemmas
 pub mod ExportLemmas
 pub mod MovieScriptLemmas
+pub mod GreenLemmas
+pub mod TellingLemmas
+pub mod TalkLemmas
+pub mod TalkRunLemmas

@@ -1,4 +1,4 @@
-//! What scripts, exports and the whole program do when they run, over readers, writers, words and files of the tests' own.
+//! What scripts, conversations, exports and the whole program do when they run, over readers, writers, words and files of the tests' own.
 #![tactic(auto)]
 
 #[cfg(test)]
@@ -13,3 +13,5 @@ mod movies;
 mod program_tests;
 #[cfg(test)]
 mod script_tests;
+#[cfg(test)]
+mod talk_tests;

@@ -74,3 +74,18 @@ pub fn text_of(
     }
     Ok(text)
 }
+
+/// The picture of the playfield: pixels 0 to 3 and 80 to 83 of each row have the colour 1E, all others 00.
+pub fn playfield_picture(alloc: Global) -> Result<Vec<u8>, Fail> {
+    let mut bytes = Vec::new(alloc);
+    bytes.extend_from_slice(b"P6\n160 210\n255\n")?;
+    for place in 0..33_600u32 {
+        let colour: &[u8] = if place % 80 < 4 {
+            b"\xd2\xc8\x8c"
+        } else {
+            b"\0\0\0"
+        };
+        bytes.extend_from_slice(colour)?;
+    }
+    Ok(bytes)
+}

@@ -4,7 +4,7 @@ ghost use Rattle.std.specs.Prelude.{Some, if◌then◌else◌, codes};
 ghost use Rattle.std.specs.Prelude.{nat_eq};
 ghost use Rattle.std.specs.Cmp.Lexicographic.{pointwise};
 
-use crate::movies::{PLAYFIELD, image_of};
+use crate::movies::{PLAYFIELD, image_of, playfield_picture};
 use std::alloc::Global;
 use std::env::Args;
 use std::io;
@@ -106,7 +106,7 @@ static OLDER_FRAME: &[u8] =
     b"a26movie 1\ncart 820c64e9933496de683a000c5e11f0510fb7b1699b2ce86471295236b284906d\n..... ..... .....\n";
 
 /// Words that name a task, and the task.
-static TASKS: [(&[&str], Task<'static>); 15] = [
+static TASKS: [(&[&str], Task<'static>); 18] = [
     (&["trace", "0"], Task::Trace { instructions: 0 }),
     (&["trace", "3"], Task::Trace { instructions: 3 }),
     (
@@ -167,6 +167,15 @@ static TASKS: [(&[&str], Task<'static>); 15] = [
             movie: "b",
         },
     ),
+    (&["talk"], Task::Talk),
+    (&["talk", "a.bin"], Task::CartTalk { cart: "a.bin" }),
+    (
+        &["talk", "a.bin", "b"],
+        Task::MovieTalk {
+            cart: "a.bin",
+            movie: "b",
+        },
+    ),
     (
         &["export", "a.bin", "0", "9999999", "1"],
         Task::Export {
@@ -202,7 +211,7 @@ fn each_command_is_its_task(rt: HostRuntime) -> Result<(), Fail> {
 
 /// Words that are no task: none, an unknown one, too few, too many, numbers past their ranges and
 /// texts that are no numbers, unknown flags.
-static MISUSES: [&[&str]; 42] = [
+static MISUSES: [&[&str]; 44] = [
     &[],
     &[""],
     &["play"],
@@ -235,6 +244,8 @@ static MISUSES: [&[&str]; 42] = [
     &["script", "--cart", "--movie", "other"],
     &["script", "--cart", "game.bin", "--movie"],
     &["script", "--cart", "game.bin", "--movie", "other", "other"],
+    &["talk", "game.bin", "other", "other"],
+    &["talk", "--cart", "game.bin"],
     &["Trace", "1"],
     &["export", "game.bin"],
     &["export", "game.bin", "0", "1"],
@@ -277,7 +288,7 @@ fn other_words_end_with_status_2(rt: HostRuntime) -> Result<(), Fail> {
 }
 
 /// Words that ask for help, and the beginning of the text.
-static HELPS: [(&[&str], &[u8]); 10] = [
+static HELPS: [(&[&str], &[u8]); 11] = [
     (
         &["--help"],
         b"Replays movies of Atari 2600 cartridges, exactly and from power-on\n\nUsage: tas <COMMAND>\n",
@@ -315,6 +326,10 @@ static HELPS: [(&[&str], &[u8]); 10] = [
         b"Edits a movie by a script and writes the replies\n\nUsage: tas script [OPTIONS]\n",
     ),
     (
+        &["talk", "--help"],
+        b"Answers lines, each before the next one is read\n\nUsage: tas talk [CART] [MOVIE]\n",
+    ),
+    (
         &["export", "--help"],
         b"Writes the pictures of some frames of a movie, one after the other\n\nUsage: tas export <CART> <FROM> <TO> <WORKERS>\n",
     ),
@@ -348,21 +363,6 @@ static SCRIPT: &[u8] =
 static REPLIES: &[u8] =
     b"edit 1 len 0\nedit 2 len 2\nshot 2 1 ran 2 lit 1680\nedit 3 len 2\ninput 3 R.... ..... .....\nno frame 3 len 2\n";
 
-/// The picture of the playfield: pixels 0 to 3 and 80 to 83 of each row have the colour 1E, all others 00.
-fn playfield_picture(alloc: Global) -> Result<Vec<u8>, Fail> {
-    let mut bytes = Vec::new(alloc);
-    bytes.extend_from_slice(b"P6\n160 210\n255\n")?;
-    for place in 0..33_600u32 {
-        let colour: &[u8] = if place % 80 < 4 {
-            b"\xd2\xc8\x8c"
-        } else {
-            b"\0\0\0"
-        };
-        bytes.extend_from_slice(colour)?;
-    }
-    Ok(bytes)
-}
-
 #[test]
 fn each_command_writes_its_answer(rt: HostRuntime) -> Result<(), Fail> {
     let alloc = rt.alloc();
@@ -373,7 +373,7 @@ fn each_command_writes_its_answer(rt: HostRuntime) -> Result<(), Fail> {
     movie.extend_from_slice(b"R.... ..... .....\n")?;
     let mut pictures = Vec::from_slice(alloc, picture.as_slice())?;
     pictures.extend_from_slice(picture.as_slice())?;
-    let cases: [(&[&str], &[u8], &[u8]); 10] = [
+    let cases: [(&[&str], &[u8], &[u8]); 12] = [
         (&["trace", "3"], stores.as_slice(), TRACE),
         (&["check", "game.bin"], ONE_FRAME, b"ok 1 frames\n"),
         (&["check", "game.bin"], OLDER_FRAME, b"ok 1 frames\n"),
@@ -381,6 +381,8 @@ fn each_command_writes_its_answer(rt: HostRuntime) -> Result<(), Fail> {
         (&["migrate", "game.bin"], ONE_FRAME, ONE_FRAME),
         (&["shot", "game.bin", "0"], ONE_FRAME, picture.as_slice()),
         (&["script"], SCRIPT, REPLIES),
+        (&["talk"], SCRIPT, REPLIES),
+        (&["talk", "game.bin"], b"len\nwhat", b"len 2 0\nunknown\n"),
         (
             &["export", "game.bin", "0", "1", "4"],
             ONE_FRAME,
@@ -539,7 +541,7 @@ fn commands_of_two_files_write_their_answers(rt: HostRuntime) -> Result<(), Fail
     let alloc = rt.alloc();
     let cart = image_of(alloc, PLAYFIELD.bytes)?;
     // The words, the file `other`, the input, and what the program then writes and tells, by hand.
-    let cases: [(&[&str], &[u8], &[u8], &[u8], &[u8]); 14] = [
+    let cases: [(&[&str], &[u8], &[u8], &[u8], &[u8]); 17] = [
         (
             &["edit", "game.bin", "other"],
             b"insert 1 1 R.... ..... .....\ninsert 2 1 ....F ..... .....\n",
@@ -633,6 +635,27 @@ fn commands_of_two_files_write_their_answers(rt: HostRuntime) -> Result<(), Fail
         ),
         (
             &["script", "--cart", "game.bin", "--movie", "other"],
+            b"a26movie 1\n",
+            b"len\n",
+            b"",
+            b"fault: movie line 2: end\n",
+        ),
+        (
+            &["talk", "game.bin", "other"],
+            THREE_FRAMES,
+            b"len\nwhat\nshot 0\nstates\nquit\nlen\n",
+            b"len 2 3\nunknown\nshot 2 0 ran 1 lit 1680\nstates 2 0\n",
+            b"",
+        ),
+        (
+            &["talk", "nothing"],
+            ONE_FRAME,
+            b"len\n",
+            b"",
+            b"fault: read failed\n",
+        ),
+        (
+            &["talk", "game.bin", "other"],
             b"a26movie 1\n",
             b"len\n",
             b"",
