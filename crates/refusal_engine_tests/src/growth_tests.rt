@@ -128,7 +128,7 @@ fn each_growth_refused(rt: HostRuntime) -> Result<(), Fail> {
 fn each_growth_of_a_conversation_refused(rt: HostRuntime) -> Result<(), Fail> {
     let alloc = rt.alloc();
     let bytes = make_inputs(alloc)?;
-    for (engine, growths, replies) in [(Engine::Talk, 15, 12), (Engine::MovieTalk, 15, 9)] {
+    for (engine, growths, replies) in [(Engine::Talk, 15, 16), (Engine::MovieTalk, 15, 14)] {
         let counts = count_refused(&rt, alloc, engine, &bytes)?;
         let (refused, replied) = counts.unwrap_or((0, 0));
         assert!(rt; refused >= growths, "{engine:?}: {refused} ended it");

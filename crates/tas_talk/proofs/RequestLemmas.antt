@@ -6,7 +6,9 @@ use Rattle.std.specs.Prelude.{codes, decimal}
 use Rattle.std.specs.List.{flat_map}
 use Rattle.tas_script.specs.declared.command.Command.{Command}
 use Rattle.tas_script.specs.declared.command.Command.TheVariants.{Load, Insert, Replace, Delete, Length, InputAt, Shot, Work}
-use Rattle.tas_script.specs.Commands.{Says, IsNumber}
+use Rattle.tas_script.specs.declared.image.Image.{Image}
+use Rattle.tas_script.specs.declared.image.Image.TheVariants.{Large, Small}
+use Rattle.tas_script.specs.Commands.{Says, Loads, IsNumber}
 use Rattle.tas_script.proofs.OneCommand.{one_command}
 use Rattle.tas_talk.specs.declared.request.Request.{Request}
 use Rattle.tas_talk.specs.declared.request.Request.TheVariants.{Do, Picture, Movie, States, Quit}
@@ -39,8 +41,12 @@ record AreOther (x : ℕ) : Type 0 where
   sh : x ≡ 29544 → ⊥
   wo : x ≡ 30575 → ⊥
 
+load_letters : (line : List ℕ) (image : Image) → Loads line image → letters line ≡ 27759
+load_letters line (Large image) p = ap letters p.1
+load_letters line (Small image) p = ap letters p.1
+
 not_script : (line : List ℕ) (x : ℕ) (command : Command) → letters line ≡ x → AreOther x → Says line command → ⊥
-not_script line x (Load image) at o says = o.lo (sym at ∙ ap letters says.1)
+not_script line x (Load image) at o says = o.lo (sym at ∙ load_letters line image says)
 not_script line x (Insert place count input) at o says = o.in_ (sym at ∙ ap letters says.0)
 not_script line x (Replace place count input) at o says = o.re (sym at ∙ ap letters says.0)
 not_script line x (Delete place count) at o says = o.de (sym at ∙ ap letters says.0)

@@ -3,7 +3,7 @@
 ghost use Rattle.std.specs.Prelude.{◌≡◌, ◌++◌, IfOk, OnOk};
 ghost use Rattle.std.specs.List.{flat_map};
 ghost use Rattle.vcs_tia.specs.Image.{ppm_bytes};
-ghost use Rattle.tas_movie.specs.Text.{text};
+ghost use Rattle.tas_movie.specs.Text.{text2};
 ghost use Rattle.tas_talk.specs.Answers.{picture_text, movie_text, states_text, frame_word};
 
 use itoa::Buffer;
@@ -45,14 +45,14 @@ pub fn picture_answer<A: Allocator + Copy, B: Allocator>(
     Ok(bytes)
 }
 
-/// The answer to `movie`: `movie AT BYTES`, a newline, and the movie's text of so many bytes (own). `AllocError` where memory
-/// is refused.
+/// The answer to `movie`: `movie AT BYTES`, a newline, and the movie's text of so many bytes, with a line for each run of equal
+/// frames (own). `AllocError` where memory is refused.
 pub fn movie_answer<A: Allocator + Copy, B: Allocator>(
     alloc: A,
     at: u64,
     movie: &Movie<B>,
 ) -> Result<Vec<u8, A>, AllocError>
-    ensures { IfOk result (λ bytes. bytes.items ≡ movie_text at (text movie.now)) }
+    ensures { IfOk result (λ bytes. bytes.items ≡ movie_text at (text2 movie.now)) }
 {
     let text = print_text(alloc, movie)?;
     let count = text.len();

@@ -1,6 +1,7 @@
 -- Conversations over a cartridge or a movie.
-use Rattle.std.proofs.Common.{◌≡◌, ℕ, List, [], length, Option, Result, Ok, Err, inl, inr, refl, sym, ap, subst, ◌∙◌}
+use Rattle.std.proofs.Common.{◌≡◌, ℕ, List, [], length, true, Option, Result, Ok, Err, inl, inr, refl, sym, ap, subst, ◌∙◌}
 use Rattle.std.proofs.KnownBytes.{Keeps-refl}
+use Rattle.vcs_machine.specs.Cart.{is_cart_size}
 use Rattle.tas_movie.specs.Content.{MovieContent}
 use Rattle.tas_engines.specs.declared.fault.ReadFault.{ReadFault}
 use Rattle.tas_engines.specs.declared.fault.RunFault.{RunFault}
@@ -24,7 +25,7 @@ pub cart_unmade : (A : Type 0) (cart cart' input output : Option (List ℕ)) (re
     → IsCartTalk A cart cart' input input output output (Err e)
 cart_unmade A cart cart' input output read image fault e whole same why is = inr (image, subst (IsReadWhole cart cart') (sym same) whole, inl (fault, ap Err is, why, untouched input output))
 
-pub cart_talked : (A : Type 0) (cart cart' input input' output output' : Option (List ℕ)) (read image : List ℕ) (start : Stand) (result : Result (Unit {0}) ToolFault) → IsReadWhole cart cart' read → image ≡ read → length image ≡ 4096
+pub cart_talked : (A : Type 0) (cart cart' input input' output output' : Option (List ℕ)) (read image : List ℕ) (start : Stand) (result : Result (Unit {0}) ToolFault) → IsReadWhole cart cart' read → image ≡ read → is_cart_size (length image) ≡ true
     → start ≡ cart_stand image → IsTalk A start input input' output output' result → IsCartTalk A cart cart' input input' output output' result
 cart_talked A cart cart' input input' output output' read image start result whole same long is talk =
     inr (image, subst (IsReadWhole cart cart') (sym same) whole, inr (long, subst (λ (f : Stand). IsTalk A f input input' output output' result) is talk))

@@ -9,7 +9,7 @@ use Rattle.vcs_machine.specs.declared.state.State.{State}
 use Rattle.vcs_tia.specs.Image.{ppm_bytes}
 use Rattle.vcs_tia.specs.Picture.{lit_count}
 use Rattle.tas_movie.specs.Content.{MovieContent}
-use Rattle.tas_movie.specs.Text.{text}
+use Rattle.tas_movie.specs.Text.{text2}
 use Rattle.tas_green.specs.declared.savestate.Savestate.{Savestate}
 use Rattle.tas_green.specs.Grid.{stride}
 use Rattle.tas_green.specs.Green.{IsLawful}
@@ -208,12 +208,12 @@ brought_still before now len has = inr has.gains
 
 -- ---- movies
 
-pub told_movie : {A : Type 0} (before now : SeatContent A) (made len : ℕ) (bytes : List ℕ) → BeginsWithOwn before → made ≡ before.made → HasSeen before now → IsBrought before now len → bytes ≡ movie_text made (text now.zone.movie)
+pub told_movie : {A : Type 0} (before now : SeatContent A) (made len : ℕ) (bytes : List ℕ) → BeginsWithOwn before → made ≡ before.made → HasSeen before now → IsBrought before now len → bytes ≡ movie_text made (text2 now.zone.movie)
     → IsToldTo before now Movie bytes made
 told_movie before now made len bytes own m seen has is = record {
   answer = (
     false,
-    is ∙ ap (λ (n : ℕ). movie_text n (text now.zone.movie)) m ∙ ap (λ (x : MovieContent). movie_text before.made (text x)) has.movie,
+    is ∙ ap (λ (n : ℕ). movie_text n (text2 now.zone.movie)) m ∙ ap (λ (x : MovieContent). movie_text before.made (text2 x)) has.movie,
     front_stays before now own seen,
     has.gains,
   );

@@ -4,8 +4,9 @@ use Rattle.std.specs.List.{flat_map, range_with_len}
 use Rattle.std.specs.Io.KnownBytes.{Appends, Consumes, IsAtEnd, Keeps}
 use Rattle.vcs_cpu.specs.declared.halt.Halt.{Halt}
 use Rattle.vcs_tia.specs.Image.{ppm_bytes}
+use Rattle.vcs_machine.specs.Cart.{is_cart_size}
 use Rattle.tas_movie.specs.Content.{MovieContent}
-use Rattle.tas_movie.specs.Text.{line, text}
+use Rattle.tas_movie.specs.Text.{line, text2}
 use Rattle.tas_green.specs.declared.savestate.Savestate.{Savestate}
 use Rattle.tas_green.specs.Green.{IsLawful, IsShotFrom}
 use Rattle.tas_green.specs.Zone.{state_at}
@@ -111,7 +112,7 @@ picture_of_front no_memory front k (Some shown) = if no_memory then reply_text O
 
 -- the answer to `movie`
 abbrev pub text_of_front : Bool → Front → List ℕ
-text_of_front no_memory front = if no_memory then reply_text OutOfMemory else movie_text front.made (text front.movie)
+text_of_front no_memory front = if no_memory then reply_text OutOfMemory else movie_text front.made (text2 front.movie)
 
 -- the frames of a movie so long, from 1 to its end, at which a state is kept
 abbrev pub kept_frames : ℕ → List Savestate → List ℕ
@@ -246,7 +247,7 @@ IsCartTalk A cart cart' input input' output output' result =
     ((fault : ReadFault) × (result ≡ Err (unread_fault fault)) × StopsReading cart cart' fault × IsUntouched input input' output output')
     ⊎ ((image : List ℕ) × IsReadWhole cart cart' image
     × (((fault : RunFault) × (result ≡ Err (run_fault fault)) × IsImageFault image fault × IsUntouched input input' output output')
-    ⊎ ((length image ≡ 4096) × IsTalk A (cart_stand image) input input' output output' result)))
+    ⊎ ((is_cart_size (length image) ≡ true) × IsTalk A (cart_stand image) input input' output output' result)))
 
 -- `tas talk CART MOVIE`: reading the two stopped, or they make no movie, and the conversation didn't begin; or it goes on from
 -- the movie

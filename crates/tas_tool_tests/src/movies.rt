@@ -16,6 +16,12 @@ pub const PLAYFIELD: Program = Program {
     digest: "820c64e9933496de683a000c5e11f0510fb7b1699b2ce86471295236b284906d",
 };
 
+/// The same program in a small cartridge: `000=A910850DA91E85084C08F0 7FC=00F0`.
+pub const SMALL_PLAYFIELD: Program = Program {
+    bytes: PLAYFIELD.bytes,
+    digest: "b5fe266be72b749b56221450f897d39d577232bbd24bd6ff58aa186cb39c84d7",
+};
+
 /// `000=A203A9028500A9008500CAD0F502 FFC=00F0`: three frames, then the undocumented opcode 02 at F00D.
 pub const HALTING: Program = Program {
     bytes: b"\xA2\x03\xA9\x02\x85\x00\xA9\x00\x85\x00\xCA\xD0\xF5\x02",
@@ -37,6 +43,16 @@ pub fn image_of(alloc: Global, program: &[u8]) -> Result<Vec<u8>, Fail> {
         }
     }
     if let Some(cell) = image.get_mut(0xFFD) {
+        *cell = 0xF0;
+    }
+    Ok(image)
+}
+
+/// The small cartridge with a program at F000, where execution starts too; all other bytes are 0.
+pub fn small_image_of(alloc: Global, program: &[u8]) -> Result<Vec<u8>, Fail> {
+    let mut image = image_of(alloc, program)?;
+    image.truncate(2048);
+    if let Some(cell) = image.get_mut(0x7FD) {
         *cell = 0xF0;
     }
     Ok(image)

@@ -1,6 +1,8 @@
 //! Whole conversations.
 
-use crate::movies::{IDLE, PLAYFIELD, image_of, playfield_picture, text_of};
+use crate::movies::{
+    IDLE, PLAYFIELD, RIGHT, SMALL_PLAYFIELD, image_of, playfield_picture, small_image_of, text_of,
+};
 use std::alloc::Global;
 use std::cell::Cell;
 use std::io;
@@ -34,7 +36,7 @@ static STARTED: &[u8] = b"edit 1 len 0\nedit 2 len 200\n";
 
 /// Each line of a script, and each refusal that fits in a few lines.
 static SCRIPT: &[u8] =
-    b"len\ninput 0\nshot 0\ninsert 0 2 R.... ..... .....\ninput 1\ndelete 1 2\nreplace 1 1 ..... ..... .....\ninsert 2 65535 ..... ..... .....\nload 000=A203A9028500A9008500CAD0F502 FFC=00F0\ninsert 0 3 ..... ..... .....\nwork 3\nshot 2\nshot 4\nquit\nlen\n";
+    b"len\ninput 0\nshot 0\ninsert 0 2 R.... ..... .....\ninput 1\ndelete 1 2\nreplace 1 1 ..... ..... .....\ninsert 2 262143 ..... ..... .....\nload 000=A203A9028500A9008500CAD0F502 FFC=00F0\ninsert 0 3 ..... ..... .....\nwork 3\nshot 2\nshot 4\nquit\nlen\n";
 
 static REPLIES: &[u8] =
     b"len 0 0\nno frame 0 len 0\nno frame 0 len 0\nedit 1 len 2\ninput 1 R.... ..... .....\nplace 1 len 2\nedit 2 len 2\nlong 2 len 2\nedit 3 len 2\nedit 4 len 5\nwork jobs 1 kept 0 stale 0\nshot 4 2 ran 3 lit 0\nhalted 4 F00D 02\n";
@@ -110,21 +112,74 @@ fn states_are_those_of_the_movie(rt: HostRuntime) -> Result<(), Fail> {
 fn the_movie_is_told_as_its_text(rt: HostRuntime) -> Result<(), Fail> {
     let alloc = rt.alloc();
     let text = text_of(alloc, PLAYFIELD, 200, IDLE)?;
-    let lines = joined(alloc, &[START, b"movie\ndelete 3 197\nmovie\n"])?;
+    let lines = joined(
+        alloc,
+        &[
+            START,
+            b"movie\ndelete 3 197\nmovie\nreplace 1 1 R.... ..... .....\nmovie\n",
+        ],
+    )?;
     let short = text_of(alloc, PLAYFIELD, 3, IDLE)?;
+    let runs = text_of(alloc, PLAYFIELD, 3, RIGHT)?;
     let wanted = joined(
         alloc,
         &[
             STARTED,
-            b"movie 2 3681\n",
+            b"movie 2 104\n",
             text.as_bytes(),
-            b"edit 3 len 3\nmovie 3 135\n",
+            b"edit 3 len 3\nmovie 3 102\n",
             short.as_bytes(),
+            b"edit 4 len 3\nmovie 4 135\n",
+            runs.as_bytes(),
         ],
     )?;
     let (output, end) = said(&rt, alloc, lines.as_slice());
     assert_eq!(rt; end, Ok(()));
     assert_eq!(rt; output.as_slice(), wanted.as_slice());
+    Ok(())
+}
+
+/// A small cartridge plays as its image doubled does; its movie's text names it. A part past its end is no line.
+#[test]
+fn small_cartridges_are_talked_of(rt: HostRuntime) -> Result<(), Fail> {
+    let alloc = rt.alloc();
+    let picture = playfield_picture(alloc)?;
+    let text = text_of(alloc, SMALL_PLAYFIELD, 200, IDLE)?;
+    let lines =
+        b"load2 000=A910850DA91E85084C08F0 7FC=00F0\ninsert 0 200 ..... ..... .....\npicture 199\nmovie\nload2 800=00\nload2\nstates\n";
+    let wanted = joined(
+        alloc,
+        &[
+            STARTED,
+            b"picture 2 199 100815\n",
+            picture.as_slice(),
+            b"movie 2 104\n",
+            text.as_bytes(),
+            b"unknown\nunknown\nstates 2 3 64 128 192\n",
+        ],
+    )?;
+    let (output, end) = said(&rt, alloc, lines);
+    assert_eq!(rt; end, Ok(()));
+    assert!(rt; output.as_slice() == wanted.as_slice());
+    Ok(())
+}
+
+/// A million edits and no more are made; what refuses the next ones, and looks behind them, are told at these.
+#[test]
+fn edits_are_bounded(rt: HostRuntime) -> Result<(), Fail> {
+    let alloc = rt.alloc();
+    let mut lines = Vec::with_capacity(alloc, 11_000_100)?;
+    for _ in 0..1_000_000u32 {
+        lines.extend_from_slice(b"delete 0 0\n")?;
+    }
+    lines.extend_from_slice(b"delete 0 0\nload 000=00\nlen\npicture 0\nstates\n")?;
+    let (output, end) = said(&rt, alloc, lines.as_slice());
+    assert_eq!(rt; end, Ok(()));
+    let last =
+        b"edit 1000000 len 0\nfull 1000000\nfull 1000000\nlen 1000000 0\nno frame 1000000 len 0\nstates 1000000 0\n";
+    assert!(rt; output.as_slice().ends_with(last));
+    // 12 bytes and its number's digits for each edit, and 80 behind them.
+    assert_eq!(rt; output.len(), 12_000_000 + 5_888_896 + 80);
     Ok(())
 }
 
@@ -289,7 +344,7 @@ fn answers_are_out_before_the_next_read(rt: HostRuntime) {
         (b"insert 0 3 ..... ..... .....\nlen\nle", 25),
         (b"n\npicture 2\n", 10 + 19 + 100_815),
         (b"states\nnothing\n", 11 + 8),
-        (b"movie\n", 13 + 3_735),
+        (b"movie\n", 12 + 104),
         (b"quit\nlen\n", 0),
     ];
     let passed = Cell::new(0);
@@ -303,7 +358,7 @@ fn answers_are_out_before_the_next_read(rt: HostRuntime) {
         passed: &passed,
     };
     assert_eq!(rt; talk_run(&rt, alloc, &mut input, &mut output), Ok(()));
-    assert_eq!(rt; passed.get(), 104_684);
+    assert_eq!(rt; passed.get(), 101_052);
     assert!(rt; input.lines.is_empty());
 }
 
@@ -322,8 +377,9 @@ fn a_failed_write_ends_the_conversation(rt: HostRuntime) -> Result<(), Fail> {
             let mut output = Taker::new(alloc, 5_000, Room::Bytes(room), failure);
             let end = talk_run(&rt, alloc, &mut input, &mut output);
             assert_eq!(rt; end, Err(ToolFault::Write { written: room }), "room {room}");
+            let sent = room.min(whole.len());
             assert!(rt;
-                output.taken.as_slice() == &whole.as_slice()[..room],
+                output.taken.as_slice() == &whole.as_slice()[..sent],
                 "room {room}"
             );
             assert_eq!(rt; output.failed, 1, "room {room}");
@@ -357,32 +413,64 @@ fn a_failed_read_ends_the_conversation(rt: HostRuntime) {
     }
 }
 
-/// A conversation goes on from a cartridge, or from a movie, which two edits have made.
+/// Lines for conversations over files.
+static OVER_FILES: &[u8] = b"len\nmovie\ninsert 0 1 ..... ..... .....\nshot 0\n";
+
+/// A conversation goes on from a cartridge of either size, which two edits have made.
 #[test]
-fn conversations_go_on_from_a_cartridge_or_a_movie(rt: HostRuntime) -> Result<(), Fail> {
+fn conversations_go_on_from_a_cartridge(rt: HostRuntime) -> Result<(), Fail> {
+    let alloc = rt.alloc();
+    let image = image_of(alloc, PLAYFIELD.bytes)?;
+    let small = small_image_of(alloc, SMALL_PLAYFIELD.bytes)?;
+    for (program, image) in [
+        (PLAYFIELD, image.as_slice()),
+        (SMALL_PLAYFIELD, small.as_slice()),
+    ] {
+        let text = text_of(alloc, program, 0, IDLE)?;
+        let wanted = joined(
+            alloc,
+            &[
+                b"len 2 0\nmovie 2 81\n",
+                text.as_bytes(),
+                b"edit 3 len 1\nshot 3 0 ran 1 lit 1680\n",
+            ],
+        )?;
+        let mut cart = image;
+        let mut input = OVER_FILES;
+        let mut output = Vec::new(alloc);
+        let end = cart_talk_run(&rt, alloc, &mut cart, &mut input, &mut output);
+        assert_eq!(rt; end, Ok(()));
+        assert_eq!(rt; output.as_slice(), wanted.as_slice());
+    }
+    Ok(())
+}
+
+/// It goes on from a movie, too, which two edits have made, and tells it by the text of runs, also where the file's text was an
+/// older one.
+#[test]
+fn conversations_go_on_from_a_movie(rt: HostRuntime) -> Result<(), Fail> {
     let alloc = rt.alloc();
     let image = image_of(alloc, PLAYFIELD.bytes)?;
     let text = text_of(alloc, PLAYFIELD, 3, IDLE)?;
-    let lines = b"len\ninsert 0 1 ..... ..... .....\nshot 0\n";
-    let mut cart = image.as_slice();
-    let mut input = lines.as_slice();
-    let mut output = Vec::new(alloc);
-    let end = cart_talk_run(&rt, alloc, &mut cart, &mut input, &mut output);
-    assert_eq!(rt; end, Ok(()));
-    assert_eq!(rt;
-        output.as_slice(),
-        b"len 2 0\nedit 3 len 1\nshot 3 0 ran 1 lit 1680\n".as_slice()
-    );
-    let mut cart = image.as_slice();
-    let mut movie = text.as_bytes();
-    let mut input = lines.as_slice();
-    let mut output = Vec::new(alloc);
-    let end = movie_talk_run(&rt, alloc, &mut cart, &mut movie, &mut input, &mut output);
-    assert_eq!(rt; end, Ok(()));
-    assert_eq!(rt;
-        output.as_slice(),
-        b"len 2 3\nedit 3 len 4\nshot 3 0 ran 1 lit 1680\n".as_slice()
-    );
+    let (digest, idle) = (PLAYFIELD.digest, IDLE);
+    let older = format!(in alloc; "a26movie 1\ncart {digest}\n{idle}\n{idle}\n{idle}\n")?;
+    let wanted = joined(
+        alloc,
+        &[
+            b"len 2 3\nmovie 2 102\n",
+            text.as_bytes(),
+            b"edit 3 len 4\nshot 3 0 ran 1 lit 1680\n",
+        ],
+    )?;
+    for bytes in [text.as_bytes(), older.as_bytes()] {
+        let mut cart = image.as_slice();
+        let mut movie = bytes;
+        let mut input = OVER_FILES;
+        let mut output = Vec::new(alloc);
+        let end = movie_talk_run(&rt, alloc, &mut cart, &mut movie, &mut input, &mut output);
+        assert_eq!(rt; end, Ok(()));
+        assert_eq!(rt; output.as_slice(), wanted.as_slice());
+    }
     Ok(())
 }
 
@@ -391,21 +479,23 @@ fn conversations_go_on_from_a_cartridge_or_a_movie(rt: HostRuntime) -> Result<()
 fn faults_of_the_files_come_first(rt: HostRuntime) -> Result<(), Fail> {
     let alloc = rt.alloc();
     let image = image_of(alloc, PLAYFIELD.bytes)?;
-    let short = &image.as_slice()[..4095];
-    let mut cart = short;
     let mut input = Giver::new(b"len\n", 10, 0);
     let mut output = Vec::new(alloc);
-    let end = cart_talk_run(&rt, alloc, &mut cart, &mut input, &mut output);
-    assert_eq!(rt; end, Err(ToolFault::Size(4095)));
-    assert_eq!(rt; (input.reads, output.len()), (0, 0));
+    for size in [0, 2047, 2049, 4095] {
+        let short = &image.as_slice()[..image.len().min(size)];
+        let mut cart = short;
+        let end = cart_talk_run(&rt, alloc, &mut cart, &mut input, &mut output);
+        assert_eq!(rt; end, Err(ToolFault::Size(size)));
+        let mut cart = short;
+        let mut movie = b"".as_slice();
+        let end = movie_talk_run(&rt, alloc, &mut cart, &mut movie, &mut input, &mut output);
+        assert_eq!(rt; end, Err(ToolFault::Size(size)));
+        assert_eq!(rt; (input.reads, output.len()), (0, 0));
+    }
     let mut cart = Giver::new(image.as_slice(), 1_000, 2);
     let mut movie = Giver::new(b"", 10, 0);
     let end = movie_talk_run(&rt, alloc, &mut cart, &mut movie, &mut input, &mut output);
     assert_eq!(rt; end, Err(ToolFault::Read));
     assert_eq!(rt; (movie.reads, input.reads, output.len()), (0, 0, 0));
-    let mut cart = short;
-    let end = movie_talk_run(&rt, alloc, &mut cart, &mut movie, &mut input, &mut output);
-    assert_eq!(rt; end, Err(ToolFault::Size(4095)));
-    assert_eq!(rt; (input.reads, output.len()), (0, 0));
     Ok(())
 }

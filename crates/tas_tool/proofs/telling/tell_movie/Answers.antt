@@ -1,6 +1,6 @@
 use Rattle.std.proofs.Common.{ap, ◌∙◌}
 use Rattle.std.proofs.lemmas.Result.{MatchResult-weaker}
-use Rattle.tas_movie.specs.Text.{text}
+use Rattle.tas_movie.specs.Text.{text2}
 use Rattle.tas_talk.specs.Answers.{movie_text}
 use Rattle.tas_tool.proofs.TellingLemmas.{talk_fault, memory_fault, unbrought, brought_still, told_movie, told_no_movie}
 use Rattle.tas_tool.proofs.telling.tell_movie.Goals as goal
@@ -17,7 +17,7 @@ returns-in-Err-clause-answer g c = talk_fault c.bring_zone.new.seat c.in-Err.fau
 pub returns-in-Ok-clause-answer : goal.returns-in-Ok-clause-answer
 returns-in-Ok-clause-answer g c =
     told_movie c.args.seat.now c.bring_zone.new.seat c.args.made _ c.in-Ok.bytes.items c.requires.own c.requires.made c.bring_zone.ensures.seen c.in-Ok-Some.ensures.zone
-    (c.in-Ok.ensures ∙ ap (λ m. movie_text c.args.made (text m)) c.zone_movie.ensures)
+    (c.in-Ok.ensures ∙ ap (λ m. movie_text c.args.made (text2 m)) c.zone_movie.ensures)
 
 pub returns-in-Err-movie_answer-clause-answer : goal.returns-in-Err-movie_answer-clause-answer
 returns-in-Err-movie_answer-clause-answer g c =
