@@ -1,4 +1,4 @@
-//! Looks of a conversation whose memory is refused.
+//! Lines of a conversation whose memory is refused.
 
 use refusals::Refusing;
 use std::alloc::Global;
@@ -14,7 +14,24 @@ const MADE: &[u8] =
     b"load 000=A9028500A90085004C00F0 FFC=00F0\ninsert 0 3 R.... ..... .....\n";
 
 /// Looks at it.
-static LOOKS: [&[u8]; 3] = [b"picture 1\n", b"movie\n", b"states\n"];
+static LOOKS: [&[u8]; 5] = [
+    b"picture 1\n",
+    b"movie\n",
+    b"states\n",
+    b"shot 2\n",
+    b"work 2\n",
+];
+
+/// Edits, and a look at what they made.
+const EDITS: &[u8] =
+    b"load 000=A9028500A90085004C00F0 FFC=00F0\ninsert 0 3 R.... ..... .....\nreplace 1 1 .L... ..... .....\ndelete 0 1\nlen\n";
+
+/// The answers where one of the first three is refused its memory: those behind it are of a movie without it.
+static REFUSED_EDITS: [&[u8]; 3] = [
+    b"out of memory\nedit 1 len 3\nedit 2 len 3\nedit 3 len 2\nlen 3 2\n",
+    b"edit 1 len 0\nout of memory\nplace 1 len 0\nplace 1 len 0\nlen 1 0\n",
+    b"edit 1 len 0\nedit 2 len 3\nout of memory\nedit 3 len 2\nlen 3 2\n",
+];
 
 /// What is answered to lines, where memory is there.
 fn answers<T: Wait>(rt: &T, alloc: Global, lines: &[u8]) -> Result<Vec<u8>, Fail> {
@@ -81,4 +98,14 @@ fn looks_without_memory(rt: HostRuntime) -> Result<(), Fail> {
         assert!(rt; times > 0, "look {place}");
     }
     Ok(())
+}
+
+/// An edit's want of memory is told in its place, byte by byte, and the movie is as it was.
+#[test]
+fn edits_without_memory(rt: HostRuntime) {
+    let alloc = rt.alloc();
+    for (place, wanted) in REFUSED_EDITS.iter().enumerate() {
+        let times = times_told(&rt, alloc, EDITS, *wanted);
+        assert!(rt; times > 0, "edit {place}");
+    }
 }
