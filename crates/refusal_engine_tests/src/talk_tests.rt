@@ -10,8 +10,7 @@ use tas_tool::talk_run;
 const MOST: u64 = 1000;
 
 /// A movie of three frames.
-const MADE: &[u8] =
-    b"load 000=A9028500A90085004C00F0 FFC=00F0\ninsert 0 3 R.... ..... .....\n";
+const MADE: &[u8] = b"load 000=A9028500A90085004C00F0 FFC=00F0\ninsert 0 3 R.... ..... .....\n";
 
 /// Looks at it.
 static LOOKS: [&[u8]; 5] = [
