@@ -7,7 +7,7 @@ use crate::handover_tests::{give_batch, take_batch};
 use crate::players::Reply;
 use crate::schedule_tests::play_steps;
 use crate::steps::Step;
-use std::alloc::{AllocError, Global};
+use std::alloc::Global;
 use std::marker::Brand;
 use std::process::Abort;
 use std::sync::Wait;
@@ -39,6 +39,24 @@ pub struct Told {
 /// The seats of a desk, in any order, and what came of its task.
 pub type Left<N> = (Vec<Seat<N>>, Told);
 
+/// Does a task of one seat: what comes of it.
+fn take_alone<N: Name, R: Wait + Abort>(
+    rt: &R,
+    alloc: Global,
+    desk: &Desk<N, &R>,
+    seat: &mut Seat<N>,
+    task: Task<'_>,
+) -> Result<Option<Batch>, Fail> {
+    match task {
+        Task::Job => Ok(Some(take_batch(rt, alloc, desk, seat)?)),
+        Task::Offer(batch) => {
+            give_batch(rt, alloc, desk, seat, batch)?;
+            Ok(None)
+        }
+        Task::Steps(_) => Err("a task of all seats".into()),
+    }
+}
+
 /// Does the task, and gives all seats back.
 fn take<N: Name + Send + Sync, R: Threads + Wait + Abort + Sync>(
     rt: &R,
@@ -47,27 +65,20 @@ fn take<N: Name + Send + Sync, R: Threads + Wait + Abort + Sync>(
     seats: Vec<Seat<N>>,
     task: Task<'_>,
 ) -> Result<Left<N>, Fail> {
-    let mut told = Told {
-        replies: Vec::new(alloc),
-        batch: None,
-    };
-    let mut seats = seats;
     match task {
         Task::Steps(steps) => {
-            let (back, replies) = play_steps(rt, alloc, desk, seats, steps)?;
-            told.replies = replies;
-            return Ok((back, told));
+            let (seats, replies) = play_steps(rt, alloc, desk, seats, steps)?;
+            let batch = None;
+            Ok((seats, Told { replies, batch }))
         }
-        Task::Job => {
+        task => {
+            let mut seats = seats;
             let seat = seats.first_mut().ok_or("a seat")?;
-            told.batch = Some(take_batch(rt, alloc, desk, seat)?);
-        }
-        Task::Offer(batch) => {
-            let seat = seats.first_mut().ok_or("a seat")?;
-            give_batch(rt, alloc, desk, seat, batch)?;
+            let batch = take_alone(rt, alloc, desk, seat, task)?;
+            let replies = Vec::new(alloc);
+            Ok((seats, Told { replies, batch }))
         }
     }
-    Ok((seats, told))
 }
 
 /// Opens the desk, does the task and closes the desk.
@@ -80,7 +91,7 @@ fn play_at<N: Name + Send + Sync, R: Threads + Wait + Abort + Sync>(
     requires name { unopened ≡ name_of N.registry N.name N.seats }
     requires named { N.parts ≡ N.seats }
 {
-    let (desk, seats) = Desk::<N, &R>::open(rt, alloc, unopened).map_err(|_| AllocError)?;
+    let (desk, seats) = Desk::<N, &R>::open(rt, alloc, unopened)?;
     let (seats, told) = take(rt, alloc, &desk, seats, task)?;
     assert!(rt; desk.whole(seats.as_slice()), "all seats come back");
     Ok((desk.close(rt, seats), told))
@@ -92,6 +103,6 @@ pub fn play<R: Threads + Wait + Abort + Sync>(
     alloc: Global,
     task: Task<'_>,
 ) -> Result<(Closed, Told), Fail> {
-    let unopened = Unopened::new(alloc, 8).map_err(|_| AllocError)?;
+    let unopened = Unopened::new(alloc, 8)?;
     play_at::<Brand, R>(rt, alloc, unopened, task)
 }

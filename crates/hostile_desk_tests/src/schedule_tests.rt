@@ -2,12 +2,13 @@
 //! compared with a plain model, and the history that the desk leaves is played again.
 
 use crate::changes::{Change, FOLDING, cart};
+use crate::checks::{check_same, check_text, check_that};
 use crate::desks::{Task, play};
-use crate::model::Model;
+use crate::model::{Film, Model};
 use crate::players::{Played, Player, Reply, edit};
 use crate::score::Score;
 use crate::steps::{Deed, EXPORTER, ORDERS, Step, export_steps, job_steps};
-use std::alloc::Global;
+use std::alloc::{AllocError, Global};
 use std::process::Abort;
 use std::sync::Wait;
 use std::test::Fail;
@@ -81,7 +82,7 @@ fn leave<N: Name, R: Abort>(
                 replies,
                 has_memory,
             } = player;
-            assert!(rt; has_memory, "want of memory");
+            check_that(rt, "memory", has_memory);
             seats.push(seat)?;
             for reply in replies {
                 all.push(reply)?;
@@ -119,7 +120,7 @@ pub fn play_steps<N: Name + Send + Sync, R: Threads + Wait + Abort + Sync>(
             play_group(rt, alloc, desk, group, played);
         },
     );
-    assert!(rt; score.was_played(steps.len()), "a step that doesn't come");
+    check_that(rt, "each step comes", score.was_played(steps.len()));
     leave(rt, alloc, groups)
 }
 
@@ -153,6 +154,49 @@ fn are_in_order(journal: &[Entry], steps: &[Step]) -> bool {
     place == journal.len()
 }
 
+/// Each reply is the model's, and there are no fewer.
+fn judge_replies<R: Abort>(
+    rt: &R,
+    name: (usize, usize),
+    replies: &[Reply],
+    wanted: &[String],
+) -> Result<(), Fail> {
+    for reply in replies {
+        let right = wanted.get(reply.step).ok_or("a step")?;
+        check_text(rt, (name, reply.step), reply.text.as_str(), right.as_str());
+    }
+    let count = wanted.iter().filter(|text| !text.is_empty()).count();
+    check_same(rt, name, replies.len(), count);
+    Ok(())
+}
+
+/// The desk leaves the model's movie, and a history that makes it.
+fn judge_left<R: Abort>(
+    rt: &R,
+    alloc: Global,
+    name: (usize, usize),
+    steps: &[Step],
+    closed: &Closed,
+    film: &Film,
+) -> Result<(), Fail> {
+    check_that(rt, (name, "history"), is_history(alloc, closed, steps)?);
+    let right = cart(alloc, film.program)?;
+    check_that(rt, (name, "cartridge"), *closed.movie.cart() == right);
+    let is_same = closed.movie.inputs() == film.inputs.as_slice();
+    check_that(rt, (name, "inputs"), is_same);
+    Ok(())
+}
+
+/// The model of a desk with the edits before a schedule, and its replies in that.
+fn modelled(alloc: Global, steps: &[Step]) -> Result<(Model, Vec<String>), AllocError> {
+    let mut model = Model::new(alloc)?;
+    for change in BEFORE {
+        model.edit(alloc, change)?;
+    }
+    let wanted = model.replies(alloc, steps)?;
+    Ok((model, wanted))
+}
+
 /// Plays a schedule. Each reply is the model's, and the desk leaves the model's movie.
 fn judge<R: Threads + Wait + Abort + Sync>(
     rt: &R,
@@ -160,27 +204,10 @@ fn judge<R: Threads + Wait + Abort + Sync>(
     name: (usize, usize),
     steps: &[Step],
 ) -> Result<(), Fail> {
-    let mut model = Model::new(alloc)?;
-    for change in BEFORE {
-        model.edit(alloc, change)?;
-    }
-    let wanted = model.replies(alloc, steps)?;
+    let (model, wanted) = modelled(alloc, steps)?;
     let (closed, told) = play(rt, alloc, Task::Steps(steps))?;
-    for reply in &told.replies {
-        let (step, text) = (reply.step, reply.text.as_str());
-        let right = wanted.get(step).ok_or("a step")?;
-        assert_eq!(rt; text, right.as_str(), "schedule {name:?}, step {step}");
-    }
-    let count = wanted.iter().filter(|text| !text.is_empty()).count();
-    assert_eq!(rt; told.replies.len(), count, "schedule {name:?}");
-    assert!(rt; is_history(alloc, &closed, steps)?, "schedule {name:?}");
-    let right = cart(alloc, model.film.program)?;
-    assert!(rt; *closed.movie.cart() == right, "schedule {name:?}");
-    assert!(rt;
-        closed.movie.inputs() == model.film.inputs.as_slice(),
-        "schedule {name:?}"
-    );
-    Ok(())
+    judge_replies(rt, name, told.replies.as_slice(), wanted.as_slice())?;
+    judge_left(rt, alloc, name, steps, &closed, &model.film)
 }
 
 /// Jobs that are taken in these orders, each offered in every order.

@@ -4,7 +4,7 @@ use crate::changes::{Change, FOLDING, HALTING};
 use std::alloc::{AllocError, Global};
 
 /// What a seat does in a step.
-#[derive(Clone, Copy, Debug, PartialEq, Eq)]
+#[derive(Clone, Copy, PartialEq, Eq)]
 pub enum Deed {
     /// It takes a job for so many frames, which then waits in its gate.
     Start(usize),
@@ -23,7 +23,7 @@ pub enum Deed {
 }
 
 /// A step of a schedule.
-#[derive(Clone, Copy, Debug, PartialEq, Eq)]
+#[derive(Clone, Copy, PartialEq, Eq)]
 pub struct Step {
     pub seat: u32,
     pub deed: Deed,

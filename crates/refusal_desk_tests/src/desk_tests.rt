@@ -2,6 +2,7 @@
 
 ghost use Rattle.std.specs.Prelude.{◌≤◌};
 
+use crate::checks::check_same;
 use crate::desks::{OpenGate, run_call, run_open, run_unopened};
 use crate::edits::{Change, edit_of};
 use crate::runs::{Heap, MOST, Run};
@@ -14,7 +15,7 @@ use tas_desk::{
 use tas_green::Batch;
 
 /// A call at a desk.
-#[derive(Clone, Copy, Debug, PartialEq, Eq)]
+#[derive(Clone, Copy, Debug)]
 pub enum Call {
     /// Seat 1 makes an edit, its first.
     Edit(Change),
@@ -57,7 +58,7 @@ fn try_edit<'a, N: Name, R: Wait>(
 ) -> Result<Run, Fail>
     requires { 1 ≤ number }
 {
-    let (edit, again) = (edit_of(heap, change)?, edit_of(heap, change)?);
+    let edit = edit_of(heap, change)?;
     heap.refuse(number);
     let mut answer = desk.edit(rt, seat, edit);
     let has_refused = heap.has_refused();
@@ -65,7 +66,7 @@ fn try_edit<'a, N: Name, R: Wait>(
         if answer != Err(EditError::Memory) || desk.len(seat) != Ok((4, 400)) {
             return Ok(Run::Wrong);
         }
-        answer = desk.edit(rt, seat, again);
+        answer = desk.edit(rt, seat, edit_of(heap, change)?);
     }
     let len = change.len_after(400);
     let is_right = answer == Ok(Receipt { at: 5, len }) && desk.len(seat) == Ok((5, len));
@@ -115,6 +116,20 @@ fn try_share<'a, N: Name, R: Wait>(
     Run::ended(has_refused, gained == Some(2) && seat.kept() == 2)
 }
 
+/// Whether a job for all frames makes what it should; nothing where memory is refused.
+fn makes_all<'a, N: Name, R: Wait>(
+    rt: &R,
+    heap: &'a Heap,
+    desk: &Desk<N, &R, &'a Heap>,
+    seat: &mut Seat<N, &'a Heap>,
+) -> Option<bool> {
+    let Ok(job) = desk.job(rt, heap, seat, 400) else {
+        return None;
+    };
+    let batch = job.run();
+    Some(batch.inputs().len() == 400 && batch.holds(384) && !batch.holds(128))
+}
+
 fn try_job<'a, N: Name, R: Wait>(
     rt: &R,
     heap: &'a Heap,
@@ -125,23 +140,23 @@ fn try_job<'a, N: Name, R: Wait>(
     requires { 1 ≤ number }
 {
     heap.refuse(number);
-    let mut job = desk.job(rt, heap, seat, 400).ok();
+    let mut answer = makes_all(rt, heap, desk, seat);
     let has_refused = heap.has_refused();
     if has_refused {
-        if job.is_some() {
+        if answer.is_some() {
             return Run::Wrong;
         }
-        job = desk.job(rt, heap, seat, 400).ok();
+        answer = makes_all(rt, heap, desk, seat);
     }
-    let is_right = match job {
-        Some(job) => {
-            let batch = job.run();
-            batch.inputs().len() == 400 && batch.holds(384) && !batch.holds(128)
-        }
-        None => false,
-    };
-    Run::ended(has_refused, is_right)
+    Run::ended(has_refused, answer == Some(true))
 }
+
+/// What is told where all four states of a batch are taken.
+const ALL: Offered = Offered {
+    at: 4,
+    front: 400,
+    kept: 4,
+};
 
 fn try_offer<'a, N: Name, R: Wait>(
     rt: &R,
@@ -155,38 +170,27 @@ fn try_offer<'a, N: Name, R: Wait>(
 {
     let batch = desk.job(rt, alloc, seat, 400)?.run();
     heap.refuse(number);
-    let all = Offered {
-        at: 4,
-        front: 400,
-        kept: 4,
-    };
-    let refused = match desk.offer(rt, seat, batch) {
-        Ok(offered) => return Ok(Run::ended(false, !heap.has_refused() && offered == all)),
-        Err(error) => error,
-    };
-    // The desk still keeps two states, so a job starts at the second of them.
+    match desk.offer(rt, seat, batch) {
+        Ok(offered) => Ok(Run::ended(false, !heap.has_refused() && offered == ALL)),
+        Err(OfferError::Memory(batch)) => offer_again(rt, alloc, heap, desk, seat, batch),
+        Err(OfferError::Cartridge { .. }) => Ok(Run::Wrong),
+    }
+}
+
+/// After a refused offer the desk still keeps two states, so a job starts at the second of them; the batch is taken then.
+fn offer_again<'a, N: Name, R: Wait>(
+    rt: &R,
+    alloc: Global,
+    heap: &'a Heap,
+    desk: &Desk<N, &R, &'a Heap>,
+    seat: &mut Seat<N, &'a Heap>,
+    batch: Batch,
+) -> Result<Run, Fail> {
     let next = desk.job(rt, alloc, seat, 400)?.run();
     if !heap.has_refused() || next.holds(128) || !next.holds(192) {
         return Ok(Run::Wrong);
     }
-    match refused {
-        OfferError::Memory(batch) => Ok(Run::ended(true, is_taken(rt, desk, seat, batch, all))),
-        OfferError::Cartridge { .. } => Ok(Run::Wrong),
-    }
-}
-
-/// Whether a batch is taken so.
-fn is_taken<'a, N: Name, R: Wait>(
-    rt: &R,
-    desk: &Desk<N, &R, &'a Heap>,
-    seat: &mut Seat<N, &'a Heap>,
-    batch: Batch,
-    taken: Offered,
-) -> bool {
-    match desk.offer(rt, seat, batch) {
-        Ok(offered) => offered == taken,
-        Err(_) => false,
-    }
+    Ok(Run::ended(true, desk.offer(rt, seat, batch).ok() == Some(ALL)))
 }
 
 /// So many jobs, none of them stale, and so many states.
@@ -289,10 +293,10 @@ fn what_a_desk_does(rt: HostRuntime) -> Result<(), Fail> {
             if run == Run::Done {
                 break;
             }
-            assert_eq!(rt; run, Run::Refused, "{call:?}, growth {number}");
+            check_same(&rt, (call, "growth", number), run, Run::Refused);
             refused = number;
         }
-        assert_eq!(rt; refused, growths, "{call:?}");
+        check_same(&rt, (call, "growths"), refused, growths);
     }
     Ok(())
 }
@@ -301,7 +305,7 @@ fn what_a_desk_does(rt: HostRuntime) -> Result<(), Fail> {
 #[test]
 fn a_second_job_that_is_refused(rt: HostRuntime) -> Result<(), Fail> {
     let run = run_call(&rt, rt.alloc(), Call::TwoJobs, 5)?;
-    assert_eq!(rt; run, Run::Refused);
+    check_same(&rt, "growth 5", run, Run::Refused);
     Ok(())
 }
 
@@ -314,10 +318,10 @@ fn the_opening_of_a_desk(rt: HostRuntime) -> Result<(), Fail> {
         if run == Run::Done {
             break;
         }
-        assert_eq!(rt; run, Run::Refused, "growth {number}");
+        check_same(&rt, ("growth", number), run, Run::Refused);
         refused = number;
     }
-    assert_eq!(rt; refused, 5);
+    check_same(&rt, "growths", refused, 5);
     Ok(())
 }
 
@@ -330,9 +334,9 @@ fn a_desk_to_be_opened(rt: HostRuntime) -> Result<(), Fail> {
         if run == Run::Done {
             break;
         }
-        assert_eq!(rt; run, Run::Refused, "growth {number}");
+        check_same(&rt, ("growth", number), run, Run::Refused);
         refused = number;
     }
-    assert_eq!(rt; refused, 12);
+    check_same(&rt, "growths", refused, 12);
     Ok(())
 }

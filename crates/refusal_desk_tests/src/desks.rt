@@ -7,7 +7,7 @@ use crate::desk_tests::{Call, take_call};
 use crate::edits::{Change, edit_of, history};
 use crate::runs::{Heap, NEVER, Run};
 use refusals::Refusing;
-use std::alloc::{AllocError, Global};
+use std::alloc::Global;
 use std::marker::Brand;
 use std::sync::Wait;
 use std::test::Fail;
@@ -42,24 +42,63 @@ pub fn make_edits<'a, N: Name, R: Wait>(
 ) -> Result<(), Fail> {
     for change in changes {
         let edit = edit_of(heap, *change)?;
-        desk.edit(rt, seat, edit)
-            .map_err(|_| "an edit that is made")?;
+        desk.edit(rt, seat, edit)?;
     }
     Ok(())
 }
 
-/// Seat 0 makes the four edits; the states after 64 and 128 frames are kept by the desk and by the seat.
-fn set_up<'a, N: Name, R: Wait>(
+/// A seat makes some edits; the states of all frames up to the target are kept by the desk and by the seat.
+pub fn set_up<'a, N: Name, R: Wait>(
     rt: &R,
     heap: &'a Heap,
     desk: &Desk<N, &R, &'a Heap>,
     seat: &mut Seat<N, &'a Heap>,
+    changes: &[Change],
+    target: usize,
 ) -> Result<(), Fail> {
-    make_edits(rt, heap, desk, seat, &BEFORE)?;
-    desk.work(rt, heap, seat, &[128], &OpenGate)
-        .map_err(|_| "work that is done")?;
+    make_edits(rt, heap, desk, seat, changes)?;
+    desk.work(rt, heap, seat, &[target], &OpenGate)?;
     desk.share(rt, seat)?;
     Ok(())
+}
+
+/// What comes before a call, and the call with one growth refused, and the same call after it.
+fn call_at<'a, N: Name, R: Wait>(
+    rt: &R,
+    alloc: Global,
+    heap: &'a Heap,
+    desk: &Desk<N, &R, &'a Heap>,
+    seats: &mut [Seat<N, &'a Heap>],
+    call: Call,
+    number: u64,
+) -> Result<Run, Fail>
+    requires { 1 ≤ number }
+{
+    let (one, rest) = seats.split_first_mut().ok_or("a seat")?;
+    let other = rest.first_mut().ok_or("two seats")?;
+    if matches!(call, Call::TwoJobs) {
+        make_edits(rt, heap, desk, one, &PLAYFIELD_OF_200)?;
+    } else {
+        set_up(rt, heap, desk, one, &BEFORE, 128)?;
+    }
+    take_call(rt, alloc, heap, desk, (one, other), call, number)
+}
+
+/// Closes a desk with all its seats: whether it has this history.
+pub fn closes_with<'a, N: Name, R: Wait>(
+    rt: &R,
+    alloc: Global,
+    desk: Desk<N, &R, &'a Heap>,
+    seats: Vec<Seat<N, &'a Heap>, &'a Heap>,
+    text: &str,
+) -> Result<bool, Fail>
+    requires { N.parts ≡ N.seats }
+{
+    if !desk.whole(seats.as_slice()) {
+        return Err("all seats come back".into());
+    }
+    let closed = desk.close(rt, seats);
+    Ok(history(alloc, closed.journal.as_slice())?.as_str() == text)
 }
 
 /// A call at a new desk with one growth refused, and the same call after it.
@@ -75,30 +114,10 @@ fn run_at<'a, N: Name, R: Wait>(
     requires named { N.parts ≡ N.seats }
     requires number { 1 ≤ number }
 {
-    let (desk, mut seats) = Desk::<N, &R, &'a Heap>::open(rt, heap, unopened).map_err(
-        |_| AllocError,
-    )?;
-    if seats.len() != 2 {
-        return Err("two seats".into());
-    }
-    let (one, rest) = seats.split_at_mut(1);
-    let (Some(one), Some(other)) = (one.first_mut(), rest.first_mut()) else {
-        return Err("two seats".into());
-    };
-    if call == Call::TwoJobs {
-        make_edits(rt, heap, &desk, one, &PLAYFIELD_OF_200)?;
-    } else {
-        set_up(rt, heap, &desk, one)?;
-    }
-    let run = take_call(rt, alloc, heap, &desk, (one, other), call, number)?;
-    if !desk.whole(seats.as_slice()) {
-        return Err("all seats come back".into());
-    }
-    let closed = desk.close(rt, seats);
-    if history(alloc, closed.journal.as_slice())?.as_str() != history_after(call) {
-        return Ok(Run::Wrong);
-    }
-    Ok(run)
+    let (desk, mut seats) = Desk::<N, &R, &'a Heap>::open(rt, heap, unopened)?;
+    let run = call_at(rt, alloc, heap, &desk, seats.as_mut_slice(), call, number)?;
+    let is_kept = closes_with(rt, alloc, desk, seats, history_after(call))?;
+    Ok(if is_kept { run } else { Run::Wrong })
 }
 
 /// The history at the end: no entry is there twice, and none of a refused edit.
@@ -126,7 +145,7 @@ pub fn run_call<R: Wait>(rt: &R, alloc: Global, call: Call, number: u64) -> Resu
     requires { 1 ≤ number }
 {
     let heap = Refusing::new(alloc, NEVER);
-    let unopened = Unopened::new(&heap, 2).map_err(|_| AllocError)?;
+    let unopened = Unopened::new(&heap, 2)?;
     run_at::<Brand, R>(rt, alloc, &heap, unopened, call, number)
 }
 
@@ -154,7 +173,7 @@ pub fn run_open<R: Wait>(rt: &R, alloc: Global, number: u64) -> Result<Run, Fail
     requires { 1 ≤ number }
 {
     let heap = Refusing::new(alloc, NEVER);
-    let unopened = Unopened::new(&heap, 2).map_err(|_| AllocError)?;
+    let unopened = Unopened::new(&heap, 2)?;
     Ok(open_at::<Brand, R>(rt, &heap, unopened, number))
 }
 

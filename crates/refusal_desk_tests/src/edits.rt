@@ -4,7 +4,7 @@ use std::alloc::{AllocError, Allocator, Global};
 use std::str;
 use std::test::Fail;
 use tas_desk::Entry;
-use tas_movie::{Edit, Inputs, Movie, print_text};
+use tas_movie::{Edit, Inputs, Movie, apply, check, print_text};
 use vcs_machine::{Cart, Input};
 
 /// `000=A9028500A90085004C00F0 FFC=00F0`: ends frame after frame by vertical sync, so that they are soon played. Their pictures
@@ -21,7 +21,7 @@ const FOLDING: &[u8] =
     b"\xAD\x80\x02\xC9\xFF\xF0\x0D\x65\x80\x85\x80\x85\x09\xA2\x50\x85\x02\xCA\xD0\xFB\xA9\x02\x85\x00\xA9\x00\x85\x00\x4C\x00\xF0";
 
 /// An edit in short.
-#[derive(Clone, Copy, Debug, PartialEq, Eq)]
+#[derive(Clone, Copy, Debug)]
 pub enum Change {
     /// The cartridge of brief frames.
     Load,
@@ -98,6 +98,14 @@ pub fn edit_of<A: Allocator>(alloc: A, change: Change) -> Result<Edit<A>, AllocE
         },
         Change::Delete(at, count) => Edit::Delete { at, count },
     })
+}
+
+/// Applies the edit, which is allowed.
+pub fn change_movie(alloc: Global, movie: &mut Movie, change: Change) -> Result<(), Fail> {
+    let edit = edit_of(alloc, change)?;
+    check(movie, &edit)?;
+    apply(movie, &edit);
+    Ok(())
 }
 
 fn entry_line<A: Allocator>(alloc: Global, entry: &Entry<A>) -> Result<String, AllocError> {

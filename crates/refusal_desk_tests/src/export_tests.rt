@@ -4,11 +4,12 @@
 ghost use Rattle.std.specs.Prelude.{◌≡◌, ◌≤◌};
 ghost use Rattle.tas_desk.specs.Seats.{name_of};
 
-use crate::desks::{OpenGate, make_edits};
-use crate::edits::{Change, edit_of, history};
+use crate::checks::check_same;
+use crate::desks::{closes_with, make_edits, set_up};
+use crate::edits::{Change, change_movie};
 use crate::runs::{Heap, MOST, NEVER, Run};
 use refusals::Refusing;
-use std::alloc::{AllocError, Global};
+use std::alloc::Global;
 use std::marker::Brand;
 use std::process::Abort;
 use std::sync::Wait;
@@ -16,7 +17,7 @@ use std::sync::atomic::{AtomicU64, Ordering};
 use std::test::Fail;
 use std::thread::Threads;
 use tas_desk::{Desk, ExportError, Gate, Name, Seat, Unopened};
-use tas_movie::{Movie, apply, check};
+use tas_movie::Movie;
 use vcs_machine::{Meter, State, play};
 use vcs_tia::{Picture, ppm};
 
@@ -34,7 +35,7 @@ const FIRST: [Change; 3] = [
 const BEHIND: [Change; 1] = [Change::InsertUp(10)];
 
 /// The zone of the seat that exports. It keeps the state after 64 frames.
-#[derive(Clone, Copy, Debug, PartialEq, Eq)]
+#[derive(Clone, Copy, PartialEq, Eq)]
 enum Zone {
     /// Of the present movie: the runs start from the state that is kept.
     Present,
@@ -59,11 +60,7 @@ struct Wanted {
 fn movie_of(alloc: Global, changes: &[Change]) -> Result<Movie, Fail> {
     let mut movie = Movie::blank(alloc)?;
     for change in changes {
-        let edit = edit_of(alloc, *change)?;
-        if check(&movie, &edit).is_err() {
-            return Err("an edit that is allowed".into());
-        }
-        apply(&mut movie, &edit);
+        change_movie(alloc, &mut movie, *change)?;
     }
     Ok(movie)
 }
@@ -76,11 +73,9 @@ fn pixmaps_of(alloc: Global, movie: &Movie) -> Result<Vec<u8>, Fail> {
     for (frame, input) in movie.inputs().iter().enumerate() {
         let mut meter = Meter::new();
         let played = play(movie.cart(), &mut state, *input, &mut picture, &mut meter);
-        if played.is_err() {
+        let is_shown = FRAMES.0 <= frame && frame < FRAMES.1;
+        if played.is_err() || (is_shown && ppm(&picture, &mut pixmaps).is_err()) {
             return Err("a frame that is drawn".into());
-        }
-        if FRAMES.0 <= frame && frame < FRAMES.1 {
-            ppm(&picture, &mut pixmaps).map_err(|_| "a pixmap")?;
         }
     }
     Ok(pixmaps)
@@ -174,14 +169,14 @@ fn shoots_last<'a, N: Name, R: Wait>(
     desk: &Desk<N, &R, &'a Heap>,
     seat: &mut Seat<N, &'a Heap>,
     wanted: &Wanted,
-) -> Result<bool, Fail> {
+) -> bool {
     let Ok(shot) = desk.shot(heap, seat, FRAMES.1 - 1) else {
-        return Ok(false);
+        return false;
     };
     let mut pixmap = Vec::new(alloc);
-    ppm(&shot.picture, &mut pixmap).map_err(|_| "a pixmap")?;
+    let is_written = ppm(&shot.picture, &mut pixmap).is_ok();
     let is_told = shot.at == wanted.at && shot.ran == wanted.ran;
-    Ok(is_told && wanted.pixmaps.ends_with(pixmap.as_slice()))
+    is_written && is_told && wanted.pixmaps.ends_with(pixmap.as_slice())
 }
 
 /// An export by so many workers with one growth refused, the same export after it, and a shot.
@@ -210,7 +205,7 @@ fn try_export<'a, N: Name, R: Threads + Wait + Sync>(
     }
     heap.refuse(NEVER);
     let is_as_before = is_as_before(rt, alloc, desk, seat, zone, wanted)?;
-    let is_shot = shoots_last(alloc, heap, desk, seat, wanted)?;
+    let is_shot = shoots_last(alloc, heap, desk, seat, wanted);
     Ok(Run::ended(has_refused, answer == Some(true) && is_as_before && is_shot))
 }
 
@@ -222,7 +217,31 @@ fn history_of(zone: Zone) -> &'static str {
     }
 }
 
-/// An export at a new desk, by seat 0, with one growth refused, and the same export after it.
+/// The edits before an export, and the export by seat 0 with one growth refused, and the same export after it.
+fn export_behind<'a, N: Name, R: Threads + Wait + Sync>(
+    rt: &R,
+    alloc: Global,
+    heap: &'a Heap,
+    desk: &Desk<N, &R, &'a Heap>,
+    seats: &mut [Seat<N, &'a Heap>],
+    zone: Zone,
+    workers: usize,
+    wanted: &Wanted,
+    number: u64,
+) -> Result<Run, Fail>
+    requires workers { (1 ≤ workers) × (workers ≤ 16) }
+    requires number { 1 ≤ number }
+{
+    let (one, rest) = seats.split_first_mut().ok_or("a seat")?;
+    set_up(rt, heap, desk, one, &FIRST, 64)?;
+    if zone == Zone::Older {
+        let other = rest.first_mut().ok_or("two seats")?;
+        make_edits(rt, heap, desk, other, &BEHIND)?;
+    }
+    try_export(rt, alloc, heap, desk, one, zone, workers, wanted, number)
+}
+
+/// An export at a new desk with one growth refused, and the same export after it.
 fn export_at<'a, N: Name, R: Threads + Wait + Sync>(
     rt: &R,
     alloc: Global,
@@ -238,27 +257,20 @@ fn export_at<'a, N: Name, R: Threads + Wait + Sync>(
     requires workers { (1 ≤ workers) × (workers ≤ 16) }
     requires number { 1 ≤ number }
 {
-    let (desk, mut seats) = Desk::<N, &R, &'a Heap>::open(rt, heap, unopened).map_err(
-        |_| AllocError,
+    let (desk, mut seats) = Desk::<N, &R, &'a Heap>::open(rt, heap, unopened)?;
+    let run = export_behind(
+        rt,
+        alloc,
+        heap,
+        &desk,
+        seats.as_mut_slice(),
+        zone,
+        workers,
+        wanted,
+        number,
     )?;
-    let (one, rest) = seats.split_first_mut().ok_or("a seat")?;
-    let other = rest.first_mut().ok_or("two seats")?;
-    make_edits(rt, heap, &desk, one, &FIRST)?;
-    desk.work(rt, heap, one, &[64], &OpenGate)
-        .map_err(|_| "work that is done")?;
-    desk.share(rt, one)?;
-    if zone == Zone::Older {
-        make_edits(rt, heap, &desk, other, &BEHIND)?;
-    }
-    let run = try_export(rt, alloc, heap, &desk, one, zone, workers, wanted, number)?;
-    if !desk.whole(seats.as_slice()) {
-        return Err("all seats come back".into());
-    }
-    let closed = desk.close(rt, seats);
-    if history(alloc, closed.journal.as_slice())?.as_str() != history_of(zone) {
-        return Ok(Run::Wrong);
-    }
-    Ok(run)
+    let is_kept = closes_with(rt, alloc, desk, seats, history_of(zone))?;
+    Ok(if is_kept { run } else { Run::Wrong })
 }
 
 /// An export with one growth refused, and the same export after it.
@@ -274,7 +286,7 @@ fn run_export<R: Threads + Wait + Sync>(
     requires number { 1 ≤ number }
 {
     let heap = Refusing::new(alloc, NEVER);
-    let unopened = Unopened::new(&heap, 2).map_err(|_| AllocError)?;
+    let unopened = Unopened::new(&heap, 2)?;
     export_at::<Brand, R>(rt, alloc, &heap, unopened, zone, workers, wanted, number)
 }
 
@@ -296,10 +308,10 @@ fn refuse_each<R: Threads + Wait + Abort + Sync>(
         if run == Run::Done {
             break;
         }
-        assert_eq!(rt; run, Run::Refused, "{workers} workers, growth {number}");
+        check_same(rt, (workers, "growth", number), run, Run::Refused);
         refused = number;
     }
-    assert_eq!(rt; refused, growths, "{workers} workers");
+    check_same(rt, (workers, "growths"), refused, growths);
     Ok(())
 }
 

@@ -21,7 +21,7 @@ pub const FIRST_LEN: usize = 72;
 pub const FRAME: usize = 71;
 
 /// A call of a player.
-#[derive(Clone, Copy, Debug, PartialEq, Eq)]
+#[derive(Clone, Copy)]
 pub enum Turn {
     /// An edit.
     Edit,
@@ -36,7 +36,7 @@ pub enum Turn {
 }
 
 /// The turns of each player.
-pub const TURNS: [[Turn; 6]; 3] = [
+static TURNS: [[Turn; 6]; 3] = [
     [
         Turn::Edit,
         Turn::Work,
@@ -62,6 +62,15 @@ pub const TURNS: [[Turn; 6]; 3] = [
         Turn::Edit,
     ],
 ];
+
+/// The turns of the player with this number, up to 2.
+pub fn turns_of(number: usize) -> &'static [Turn] {
+    match number {
+        0 => &TURNS[0],
+        1 => &TURNS[1],
+        _ => &TURNS[2],
+    }
+}
 
 /// A seat with the edits that it will make, each of them twice, and what became of its calls.
 #[derive(Drop)]

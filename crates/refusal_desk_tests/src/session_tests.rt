@@ -2,19 +2,20 @@
 
 ghost use Rattle.std.specs.Prelude.{◌≤◌};
 
+use crate::checks::check_same;
 use crate::edits::{Change, edit_of, history, movie_text};
 use crate::runs::{Heap, MOST, NEVER, Run};
 use refusals::Refusing;
-use std::alloc::{AllocError, Allocator, Global};
+use std::alloc::{Allocator, Global};
 use std::sync::Wait;
 use std::test::Fail;
 use tas_desk::{EditError, OfferError, Offered, OpenError, Receipt, Session, ShotError};
-use tas_green::{Batch, Green, Job};
+use tas_green::{Green, Job};
 use tas_movie::MAX_FRAMES;
 use vcs_machine::Meter;
 
 /// A call of a session.
-#[derive(Clone, Copy, Debug, PartialEq, Eq)]
+#[derive(Clone, Copy, Debug)]
 enum Turn {
     /// The first edit of all, an insertion.
     First,
@@ -28,18 +29,26 @@ enum Turn {
     Offer,
 }
 
-/// All that a session shows: history, movie and kept states.
+/// All that a session shows: history, movie, and how many states are kept and which of those that a test makes.
 fn shown<A: Allocator>(alloc: Global, session: &Session<A>) -> Result<String, Fail> {
-    let mut text = history(alloc, session.journal())?;
-    text.push_str(movie_text(alloc, session.movie())?.as_str())?;
+    let history = history(alloc, session.journal())?;
+    let movie = movie_text(alloc, session.movie())?;
     let green = session.green();
-    text.push_str(format!(in alloc; "{}:", green.count())?.as_str())?;
-    for frame in [64, 128, 192, 256, 320, 384] {
-        if green.holds(frame) {
-            text.push_str(format!(in alloc; " {frame}")?.as_str())?;
-        }
-    }
-    Ok(text)
+    let held = [
+        green.holds(64),
+        green.holds(128),
+        green.holds(192),
+        green.holds(256),
+        green.holds(320),
+        green.holds(384),
+    ];
+    let count = green.count();
+    Ok(format!(in alloc; "{}{}{count}: {held:?}", history.as_str(), movie.as_str())?)
+}
+
+/// Whether that is all that a session shows.
+fn shows<A: Allocator>(alloc: Global, session: &Session<A>, text: &str) -> Result<bool, Fail> {
+    Ok(shown(alloc, session)?.as_str() == text)
 }
 
 /// Four edits of seat 0, which make 400 brief frames.
@@ -60,9 +69,7 @@ fn set_up<'a, R: Wait>(
     for change in BEFORE {
         let made = session.at();
         let edit = edit_of(heap, change)?;
-        session
-            .edit(rt, 0, made, edit)
-            .map_err(|_| "an edit that is made")?;
+        session.edit(rt, 0, made, edit)?;
     }
     match shoot(alloc, session, 127).0 {
         Ok(_) => Ok(()),
@@ -99,16 +106,15 @@ fn try_edit<'a, R: Wait>(
 {
     let before = shown(alloc, session)?;
     let (at, len) = (session.at(), session.movie().len());
-    let (edit, again) = (edit_of(heap, change)?, edit_of(heap, change)?);
+    let edit = edit_of(heap, change)?;
     heap.refuse(number);
     let mut answer = session.edit(rt, 1, 0, edit);
     let has_refused = heap.has_refused();
     if has_refused {
-        let is_as_before = shown(alloc, session)?.as_str() == before.as_str();
-        if answer != Err(EditError::Memory) || !is_as_before {
+        if answer != Err(EditError::Memory) || !shows(alloc, session, before.as_str())? {
             return Ok(Run::Wrong);
         }
-        answer = session.edit(rt, 1, 0, again);
+        answer = session.edit(rt, 1, 0, edit_of(heap, change)?);
     }
     let receipt = Receipt {
         at: at.saturating_add(1),
@@ -130,14 +136,23 @@ fn try_shot<'a>(
     let mut answer = shoot(heap, session, 383);
     let has_refused = heap.has_refused();
     if has_refused {
-        let is_as_before = shown(alloc, session)?.as_str() == before.as_str();
-        if answer != (Err(ShotError::Memory), 0) || !is_as_before {
+        if answer != (Err(ShotError::Memory), 0) || !shows(alloc, session, before.as_str())? {
             return Ok(Run::Wrong);
         }
         answer = shoot(heap, session, 383);
     }
     let is_right = answer == (Ok((256, 0)), 256);
     Ok(Run::ended(has_refused, is_right))
+}
+
+/// Whether a job for all frames makes what it should; nothing where memory is refused.
+fn makes_all<'a>(heap: &'a Heap, session: &Session<&'a Heap>) -> Option<bool> {
+    let Ok(job) = session.job(heap, 400) else {
+        return None;
+    };
+    let batch = job.run();
+    let is_same = batch.inputs() == session.movie().inputs();
+    Some(is_same && batch.holds(384) && !batch.holds(128))
 }
 
 fn try_job<'a>(
@@ -150,23 +165,23 @@ fn try_job<'a>(
 {
     let before = shown(alloc, session)?;
     heap.refuse(number);
-    let mut job = session.job(heap, 400).ok();
+    let mut answer = makes_all(heap, session);
     let has_refused = heap.has_refused();
     if has_refused {
-        if job.is_some() || shown(alloc, session)?.as_str() != before.as_str() {
+        if answer.is_some() || !shows(alloc, session, before.as_str())? {
             return Ok(Run::Wrong);
         }
-        job = session.job(heap, 400).ok();
+        answer = makes_all(heap, session);
     }
-    let is_right = match job {
-        Some(job) => {
-            let batch = job.run();
-            batch.inputs() == session.movie().inputs() && batch.holds(384) && !batch.holds(128)
-        }
-        None => false,
-    };
-    Ok(Run::ended(has_refused, is_right))
+    Ok(Run::ended(has_refused, answer == Some(true)))
 }
+
+/// What is told where all four states of a batch are taken.
+const ALL: Offered = Offered {
+    at: 4,
+    front: 400,
+    kept: 4,
+};
 
 fn try_offer<'a>(
     alloc: Global,
@@ -179,29 +194,16 @@ fn try_offer<'a>(
     let before = shown(alloc, session)?;
     let batch = Job::take(alloc, session.movie(), &Green::new(alloc), 400)?.run();
     heap.refuse(number);
-    let all = Offered {
-        at: 4,
-        front: 400,
-        kept: 4,
-    };
     let refused = match session.offer(batch) {
-        Ok(offered) => return Ok(Run::ended(false, !heap.has_refused() && offered == all)),
+        Ok(offered) => return Ok(Run::ended(false, !heap.has_refused() && offered == ALL)),
         Err(error) => error,
     };
-    if !heap.has_refused() || shown(alloc, session)?.as_str() != before.as_str() {
+    if !heap.has_refused() || !shows(alloc, session, before.as_str())? {
         return Ok(Run::Wrong);
     }
     match refused {
-        OfferError::Memory(batch) => Ok(Run::ended(true, is_taken(session, batch, all))),
+        OfferError::Memory(batch) => Ok(Run::ended(true, session.offer(batch).ok() == Some(ALL))),
         OfferError::Cartridge { .. } => Ok(Run::Wrong),
-    }
-}
-
-/// Whether a batch is taken so.
-fn is_taken<A: Allocator + Copy>(session: &mut Session<A>, batch: Batch, taken: Offered) -> bool {
-    match session.offer(batch) {
-        Ok(offered) => offered == taken,
-        Err(_) => false,
     }
 }
 
@@ -215,7 +217,7 @@ fn take_turn<'a, R: Wait>(
 ) -> Result<Run, Fail>
     requires { 1 ≤ number }
 {
-    if turn == Turn::First {
+    if matches!(turn, Turn::First) {
         return try_edit(rt, alloc, heap, session, Change::Insert(0, 3), number);
     }
     set_up(rt, alloc, heap, session)?;
@@ -233,7 +235,7 @@ fn run_turn<R: Wait>(rt: &R, alloc: Global, turn: Turn, number: u64) -> Result<R
     requires { 1 ≤ number }
 {
     let heap = Refusing::new(alloc, NEVER);
-    let mut session = Session::new(&heap).map_err(|_| AllocError)?;
+    let mut session = Session::new(&heap)?;
     let run = take_turn(rt, alloc, &heap, &mut session, turn, number);
     drop(session.close(rt));
     run
@@ -259,10 +261,10 @@ fn what_a_session_does(rt: HostRuntime) -> Result<(), Fail> {
             if run == Run::Done {
                 break;
             }
-            assert_eq!(rt; run, Run::Refused, "{turn:?}, growth {number}");
+            check_same(&rt, (turn, "growth", number), run, Run::Refused);
             refused = number;
         }
-        assert_eq!(rt; refused, growths, "{turn:?}");
+        check_same(&rt, (turn, "growths"), refused, growths);
     }
     Ok(())
 }
@@ -301,9 +303,9 @@ fn a_new_session(rt: HostRuntime) -> Result<(), Fail> {
         if run == Run::Done {
             break;
         }
-        assert_eq!(rt; run, Run::Refused, "growth {number}");
+        check_same(&rt, ("growth", number), run, Run::Refused);
         refused = number;
     }
-    assert_eq!(rt; refused, 12);
+    check_same(&rt, "growths", refused, 12);
     Ok(())
 }

@@ -4,18 +4,20 @@
 ghost use Rattle.std.specs.Prelude.{◌≡◌, ◌≤◌};
 ghost use Rattle.tas_desk.specs.Seats.{name_of};
 
+use crate::checks::{check_same, check_that};
 use crate::desks::make_edits;
-use crate::edits::{Change, edit_of};
-use crate::players::{FIRST_AT, FIRST_LEN, FRAME, Player, TURNS, sum_of};
+use crate::edits::{Change, change_movie, edit_of};
+use crate::players::{FIRST_AT, FIRST_LEN, FRAME, Player, sum_of, turns_of};
 use crate::runs::{Heap, MOST, NEVER, Run};
 use refusals::Refusing;
-use std::alloc::{AllocError, Global};
+use std::alloc::Global;
 use std::marker::Brand;
 use std::sync::Wait;
 use std::test::Fail;
-use std::thread::{Threads, join_mut};
+use std::thread;
+use std::thread::Threads;
 use tas_desk::{Closed, Desk, Name, Seat, Unopened};
-use tas_movie::{Edit, Movie, apply, check};
+use tas_movie::{Edit, Movie};
 use vcs_machine::{Meter, State, play};
 use vcs_tia::Picture;
 
@@ -51,11 +53,8 @@ fn drawn_sums(alloc: Global) -> Result<Vec<u64>, Fail> {
     let mut movie = Movie::blank(alloc)?;
     let mut sums = Vec::new(alloc);
     for number in 0..FIRST.len() + EDITS {
-        let edit = edit_of(alloc, FIRST.get(number).copied().unwrap_or(INSERTED))?;
-        if check(&movie, &edit).is_err() {
-            return Err("an edit that is allowed".into());
-        }
-        apply(&mut movie, &edit);
+        let change = FIRST.get(number).copied().unwrap_or(INSERTED);
+        change_movie(alloc, &mut movie, change)?;
         if number + 1 >= FIRST.len() {
             sums.push(drawn_sum(alloc, &movie)?)?;
         }
@@ -63,7 +62,26 @@ fn drawn_sums(alloc: Global) -> Result<Vec<u64>, Fail> {
     Ok(sums)
 }
 
-/// A player at each seat, with its edits.
+/// A player at a seat, with its edits.
+fn player<'a, N: Name>(
+    alloc: Global,
+    heap: &'a Heap,
+    seat: Seat<N, &'a Heap>,
+) -> Result<Player<'a, N>, Fail> {
+    let mut edits = Vec::new(alloc);
+    for _copy in 0..4 {
+        edits.push(edit_of(heap, INSERTED)?)?;
+    }
+    Ok(Player {
+        seat,
+        edits,
+        seen: FIRST_AT,
+        refused: 0,
+        wrong: None,
+    })
+}
+
+/// A player at each seat.
 fn players<'a, N: Name>(
     alloc: Global,
     heap: &'a Heap,
@@ -71,17 +89,7 @@ fn players<'a, N: Name>(
 ) -> Result<Vec<Player<'a, N>>, Fail> {
     let mut players = Vec::new(alloc);
     for seat in seats {
-        let mut edits = Vec::new(alloc);
-        for _copy in 0..4 {
-            edits.push(edit_of(heap, INSERTED)?)?;
-        }
-        players.push(Player {
-            seat,
-            edits,
-            seen: FIRST_AT,
-            refused: 0,
-            wrong: None,
-        })?;
+        players.push(player(alloc, heap, seat)?)?;
     }
     Ok(players)
 }
@@ -94,34 +102,13 @@ fn take_turns<'a, N: Name + Send + Sync, R: Threads + Wait + Sync>(
     players: &mut [Player<'a, N>],
     sums: &[u64],
 ) {
-    let Some((one, others)) = players.split_first_mut() else {
-        return;
-    };
-    join_mut(
+    thread::for_each_mut(
         rt,
-        &mut || one.take_all(rt, heap, desk, sums, &TURNS[0]),
-        &mut || take_last_turns(rt, heap, desk, sums, others),
-    );
-}
-
-/// So do the last two of them.
-fn take_last_turns<'a, N: Name + Send + Sync, R: Threads + Wait + Sync>(
-    rt: &R,
-    heap: &'a Heap,
-    desk: &Desk<N, &R, &'a Heap>,
-    sums: &[u64],
-    players: &mut [Player<'a, N>],
-) {
-    let Some((two, others)) = players.split_first_mut() else {
-        return;
-    };
-    let Some(three) = others.first_mut() else {
-        return;
-    };
-    join_mut(
-        rt,
-        &mut || two.take_all(rt, heap, desk, sums, &TURNS[1]),
-        &mut || three.take_all(rt, heap, desk, sums, &TURNS[2]),
+        players,
+        3,
+        &|place, player| {
+            player.take_all(rt, heap, desk, sums, turns_of(place));
+        },
     );
 }
 
@@ -173,6 +160,30 @@ fn is_inserted(edit: &Edit<&Heap>) -> bool {
     }
 }
 
+/// Players at all seats take their turns with one growth refused. The seats come back.
+fn play_all<'a, N: Name + Send + Sync, R: Threads + Wait + Sync>(
+    rt: &R,
+    alloc: Global,
+    heap: &'a Heap,
+    desk: &Desk<N, &R, &'a Heap>,
+    seats: Vec<Seat<N, &'a Heap>, &'a Heap>,
+    sums: &[u64],
+    number: u64,
+) -> Result<(Run, Vec<Seat<N, &'a Heap>, &'a Heap>), Fail>
+    requires { 1 ≤ number }
+{
+    let mut players = players(alloc, heap, seats)?;
+    heap.refuse(number);
+    take_turns(rt, heap, desk, players.as_mut_slice(), sums);
+    let run = were_right(heap, desk, players.as_mut_slice(), sums);
+    let mut seats = Vec::new(heap);
+    for player in players {
+        let Player { seat, .. } = player;
+        seats.push(seat)?;
+    }
+    Ok((run, seats))
+}
+
 /// A desk of three seats, whose players take their turns with one growth refused.
 fn run_at<'a, N: Name + Send + Sync, R: Threads + Wait + Sync>(
     rt: &R,
@@ -186,20 +197,10 @@ fn run_at<'a, N: Name + Send + Sync, R: Threads + Wait + Sync>(
     requires named { N.parts ≡ N.seats }
     requires number { 1 ≤ number }
 {
-    let (desk, mut seats) = Desk::<N, &R, &'a Heap>::open(rt, heap, unopened).map_err(
-        |_| AllocError,
-    )?;
+    let (desk, mut seats) = Desk::<N, &R, &'a Heap>::open(rt, heap, unopened)?;
     let first = seats.first_mut().ok_or("a seat")?;
     make_edits(rt, heap, &desk, first, &FIRST)?;
-    let mut players = players(alloc, heap, seats)?;
-    heap.refuse(number);
-    take_turns(rt, heap, &desk, players.as_mut_slice(), sums);
-    let run = were_right(heap, &desk, players.as_mut_slice(), sums);
-    let mut seats = Vec::new(heap);
-    for player in players {
-        let Player { seat, .. } = player;
-        seats.push(seat)?;
-    }
+    let (run, seats) = play_all(rt, alloc, heap, &desk, seats, sums, number)?;
     if !desk.whole(seats.as_slice()) {
         return Err("all seats come back".into());
     }
@@ -221,7 +222,7 @@ fn run_players<R: Threads + Wait + Sync>(
     requires { 1 ≤ number }
 {
     let heap = Refusing::new(alloc, NEVER);
-    let unopened = Unopened::new(&heap, 3).map_err(|_| AllocError)?;
+    let unopened = Unopened::new(&heap, 3)?;
     run_at::<Brand, R>(rt, alloc, &heap, unopened, sums, number)
 }
 
@@ -230,11 +231,7 @@ fn three_seats_on_three_threads(rt: HostRuntime) -> Result<(), Fail> {
     let alloc = rt.alloc();
     let sums = drawn_sums(alloc)?;
     for made in 1..sums.len() {
-        assert_ne!(rt;
-            sums[made - 1],
-            sums[made],
-            "the picture after {made} edits"
-        );
+        check_that(&rt, ("edits", made), sums[made - 1] != sums[made]);
     }
     let mut refused = 0;
     for number in 1..MOST {
@@ -242,10 +239,14 @@ fn three_seats_on_three_threads(rt: HostRuntime) -> Result<(), Fail> {
         if run == Run::Done {
             break;
         }
-        assert_eq!(rt; run, Run::Refused, "growth {number}");
+        check_same(&rt, ("growth", number), run, Run::Refused);
         refused = number;
     }
     // How many there are depends on who comes first: where two edits come between two shots, the movie is copied once.
-    assert!(rt; 30 <= refused && refused < MOST - 1, "{refused} growths");
+    check_that(
+        &rt,
+        ("growths", refused),
+        30 <= refused && refused < MOST - 1,
+    );
     Ok(())
 }

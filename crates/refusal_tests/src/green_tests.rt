@@ -3,6 +3,7 @@
 ghost use Rattle.std.specs.Prelude.{◌≤◌, length, IfOk};
 ghost use Rattle.tas_green.specs.Green.{IsLawful};
 
+use crate::checks::check_same;
 use crate::fixtures::{BRIEF, PLAYFIELD, movie_of, replaced};
 use crate::runs::{Heap, MOST, NEVER, Run};
 use refusals::Refusing;
@@ -14,7 +15,7 @@ use vcs_machine::Meter;
 use vcs_tia::Picture;
 
 /// A call on a greenzone.
-#[derive(Clone, Copy, Debug, PartialEq, Eq)]
+#[derive(Clone, Copy, Debug)]
 enum Seeking {
     Shot,
     ShotFrom,
@@ -84,14 +85,14 @@ fn playfield(alloc: Global) -> Result<Picture, Fail> {
     Ok(picture)
 }
 
-/// Whether nothing was drawn over the playfield, and no frame played.
-fn is_untouched(picture: &Picture, meter: &Meter) -> bool {
-    picture.lit() == 1680 && meter.count() == 0
+/// Whether a refused shot left all as before it: nothing was drawn over the playfield, no frame played, and no state cut.
+fn is_untouched(green: &Green<&Heap>, picture: &Picture, meter: &Meter) -> bool {
+    is_as_before(green) && picture.lit() == 1680 && meter.count() == 0
 }
 
-/// Whether a black frame was drawn, and so many frames were played.
-fn shows(picture: &Picture, meter: &Meter, ran: u64) -> bool {
-    picture.lit() == 0 && meter.count() == ran
+/// Whether a shot drew a black frame, played so many frames and kept all states.
+fn is_shot(green: &Green<&Heap>, picture: &Picture, meter: &Meter, ran: u64) -> bool {
+    is_full(green) && picture.lit() == 0 && meter.count() == ran
 }
 
 fn run_shot(alloc: Global, movie: &Movie, number: u64) -> Result<Run, Fail>
@@ -106,14 +107,16 @@ fn run_shot(alloc: Global, movie: &Movie, number: u64) -> Result<Run, Fail>
     let mut answer = green.shot(movie, 383, &mut picture, &mut meter);
     let has_refused = heap.has_refused();
     if has_refused {
-        if answer.is_ok() || !is_as_before(&green) || !is_untouched(&picture, &meter) {
+        if answer.is_ok() || !is_untouched(&green, &picture, &meter) {
             return Ok(Run::Wrong);
         }
         answer = green.shot(movie, 383, &mut picture, &mut meter);
     }
     let is_drawn = matches!(answer, Ok(Ok(())));
-    let is_right = is_drawn && is_full(&green) && shows(&picture, &meter, 256);
-    Ok(Run::ended(has_refused, is_right))
+    Ok(Run::ended(
+        has_refused,
+        is_drawn && is_shot(&green, &picture, &meter, 256),
+    ))
 }
 
 /// A shot of another movie, whose inputs differ at frame 100: a refused one leaves the state after 128 frames uncut.
@@ -130,14 +133,16 @@ fn run_shot_from(alloc: Global, made_for: &Movie, movie: &Movie, number: u64) ->
     let mut answer = green.shot_from(made_for, movie, 383, &mut picture, &mut meter);
     let has_refused = heap.has_refused();
     if has_refused {
-        if answer.is_ok() || !is_as_before(&green) || !is_untouched(&picture, &meter) {
+        if answer.is_ok() || !is_untouched(&green, &picture, &meter) {
             return Ok(Run::Wrong);
         }
         answer = green.shot_from(made_for, movie, 383, &mut picture, &mut meter);
     }
     let is_drawn = matches!(answer, Ok(Ok(())));
-    let is_right = is_drawn && is_full(&green) && shows(&picture, &meter, 320);
-    Ok(Run::ended(has_refused, is_right))
+    Ok(Run::ended(
+        has_refused,
+        is_drawn && is_shot(&green, &picture, &meter, 320),
+    ))
 }
 
 fn run_merge(alloc: Global, movie: &Movie, number: u64) -> Result<Run, Fail>
@@ -203,25 +208,41 @@ fn run_gain_from(alloc: Global, made_for: &Movie, movie: &Movie, number: u64) ->
     Ok(Run::ended(has_refused, gained == Some(5) && is_full(&green)))
 }
 
+/// Whether a zone that is moved keeps what the movies have in common; nothing where memory is refused.
+fn moves(heap: &Heap, green: &Green, made_for: &Movie, movie: &Movie) -> Option<bool>
+    requires { IsLawful made_for.now green.now }
+{
+    let Ok(moved) = green.moved(heap, made_for, movie) else {
+        return None;
+    };
+    Some(moved.count() == 1 && moved.holds(64))
+}
+
 fn run_moved(alloc: Global, made_for: &Movie, movie: &Movie, number: u64) -> Result<Run, Fail>
     requires number { 1 ≤ number }
     requires long { 384 ≤ length made_for.now.inputs }
 {
     let heap = Refusing::new(alloc, number);
     let green = zone_of(alloc, alloc, made_for, 383)?;
-    let mut moved = green.moved(&heap, made_for, movie).ok();
+    let mut answer = moves(&heap, &green, made_for, movie);
     let has_refused = heap.has_refused();
     if has_refused {
-        if moved.is_some() || !is_full(&green) {
+        if answer.is_some() || !is_full(&green) {
             return Ok(Run::Wrong);
         }
-        moved = green.moved(&heap, made_for, movie).ok();
+        answer = moves(&heap, &green, made_for, movie);
     }
-    let is_right = match moved {
-        Some(moved) => moved.count() == 1 && moved.holds(64) && is_full(&green),
-        None => false,
+    Ok(Run::ended(has_refused, answer == Some(true) && is_full(&green)))
+}
+
+/// Whether a job gives the right batch; nothing where memory is refused.
+fn takes(heap: &Heap, movie: &Movie, green: &Green) -> Option<bool>
+    requires { IsLawful movie.now green.now }
+{
+    let Ok(job) = Job::take(heap, movie, green, 400) else {
+        return None;
     };
-    Ok(Run::ended(has_refused, is_right))
+    Some(is_batch(&job.run(), movie))
 }
 
 fn run_take(alloc: Global, movie: &Movie, number: u64) -> Result<Run, Fail>
@@ -230,19 +251,15 @@ fn run_take(alloc: Global, movie: &Movie, number: u64) -> Result<Run, Fail>
 {
     let heap = Refusing::new(alloc, number);
     let green = zone_of(alloc, alloc, movie, 127)?;
-    let mut job = Job::take(&heap, movie, &green, 400).ok();
+    let mut answer = takes(&heap, movie, &green);
     let has_refused = heap.has_refused();
     if has_refused {
-        if job.is_some() || !is_as_before(&green) {
+        if answer.is_some() || !is_as_before(&green) {
             return Ok(Run::Wrong);
         }
-        job = Job::take(&heap, movie, &green, 400).ok();
+        answer = takes(&heap, movie, &green);
     }
-    let is_right = match job {
-        Some(job) => is_batch(&job.run(), movie),
-        None => false,
-    };
-    Ok(Run::ended(has_refused, is_right))
+    Ok(Run::ended(has_refused, answer == Some(true)))
 }
 
 /// Whether a batch has the movie's cartridge and inputs, and the states that a zone of two lacked.
@@ -282,6 +299,7 @@ fn what_a_greenzone_does(rt: HostRuntime) -> Result<(), Fail> {
     let alloc = rt.alloc();
     let movie = movie_of(alloc, BRIEF, 400)?;
     let other = replaced(alloc, &movie, 100)?;
+    // The condition of the runs: both movies have frame 383.
     assert!(rt; movie.len() == 400 && other.len() == 400);
     for (seeking, growths) in SEEKINGS {
         let mut refused = 0;
@@ -290,10 +308,10 @@ fn what_a_greenzone_does(rt: HostRuntime) -> Result<(), Fail> {
             if run == Run::Done {
                 break;
             }
-            assert_eq!(rt; run, Run::Refused, "{seeking:?}, growth {number}");
+            check_same(&rt, (seeking, "growth", number), run, Run::Refused);
             refused = number;
         }
-        assert_eq!(rt; refused, growths, "{seeking:?}");
+        check_same(&rt, (seeking, "growths"), refused, growths);
     }
     Ok(())
 }

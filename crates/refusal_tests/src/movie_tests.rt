@@ -2,6 +2,7 @@
 
 ghost use Rattle.std.specs.Prelude.{◌≤◌};
 
+use crate::checks::{check_same, check_that};
 use crate::fixtures::{PLAYFIELD, are_equal, copies, image, movie_of, right};
 use crate::runs::{Answer, Heap, MOST, NEVER, Run};
 use refusals::Refusing;
@@ -12,7 +13,7 @@ use vcs_machine::{Cart, CartError};
 use vcs_tia::Picture;
 
 /// A call that makes something of a movie and its text.
-#[derive(Clone, Copy, Debug, PartialEq, Eq)]
+#[derive(Clone, Copy, Debug)]
 enum Making {
     BlankPicture,
     CartFromBytes,
@@ -171,8 +172,8 @@ fn memory_comes_before_a_fault_of_the_text(rt: HostRuntime) -> Result<(), Fail> 
     ] {
         let heap = Refusing::new(alloc, number);
         let fault = read_text(&heap, text, &cart).err();
-        assert!(rt; fault == Some(wanted), "growth {number}");
-        assert!(rt; heap.has_refused() == (number < NEVER), "growth {number}");
+        check_that(&rt, ("growth", number), fault == Some(wanted));
+        check_same(&rt, ("growth", number), heap.has_refused(), number < NEVER);
     }
     Ok(())
 }
@@ -195,10 +196,10 @@ fn what_is_made_of_a_movie(rt: HostRuntime) -> Result<(), Fail> {
             if run == Run::Done {
                 break;
             }
-            assert_eq!(rt; run, Run::Refused, "{making:?}, growth {number}");
+            check_same(&rt, (making, "growth", number), run, Run::Refused);
             refused = number;
         }
-        assert_eq!(rt; refused, growths, "{making:?}");
+        check_same(&rt, (making, "growths"), refused, growths);
     }
     Ok(())
 }
@@ -233,7 +234,7 @@ fn are_same<'a>(one: &Edit<&'a Heap>, other: &Edit<&'a Heap>) -> bool {
 }
 
 /// A kind of edit.
-#[derive(Clone, Copy, Debug, PartialEq, Eq)]
+#[derive(Clone, Copy, Debug)]
 enum Kind {
     Load,
     Insert,
@@ -302,10 +303,10 @@ fn copies_of_edits(rt: HostRuntime) -> Result<(), Fail> {
             if run == Run::Done {
                 break;
             }
-            assert_eq!(rt; run, Run::Refused, "{kind:?}, growth {number}");
+            check_same(&rt, (kind, "growth", number), run, Run::Refused);
             refused = number;
         }
-        assert_eq!(rt; refused, growths, "{kind:?}");
+        check_same(&rt, (kind, "growths"), refused, growths);
     }
     Ok(())
 }

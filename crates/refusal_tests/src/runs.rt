@@ -13,7 +13,7 @@ pub const MOST: u64 = 100;
 pub const NEVER: u64 = 1_000_000_000;
 
 /// What a call answered.
-#[derive(Clone, Copy, Debug, PartialEq, Eq)]
+#[derive(Clone, Copy, PartialEq, Eq)]
 pub enum Answer {
     /// Memory was refused.
     Memory,

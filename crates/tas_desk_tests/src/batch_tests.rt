@@ -1,34 +1,15 @@
 //! Batches of jobs, offered to a desk.
 
 use crate::changes::{Change, HALTING, PLAYFIELD, edit_of};
+use crate::checks::{check_same, check_that};
 use crate::desks::{Task, play};
+use crate::job_tests::{Answered, answered, taken};
 use std::alloc::Global;
 use std::process::Abort;
 use std::sync::Wait;
 use std::test::Fail;
-use tas_desk::{CloseOnDrop, Desk, Name, OfferError, Offered, Seat};
+use tas_desk::{CloseOnDrop, Desk, Name, Seat};
 use tas_green::Batch;
-
-/// An offer's answer, without the batch that it may hand back.
-#[derive(Clone, Copy, Debug, PartialEq, Eq)]
-enum Answered {
-    Taken(Offered),
-    OtherCartridge(u64),
-    OutOfMemory,
-}
-
-fn offer<N: Name, W: CloseOnDrop, R: Wait>(
-    rt: &R,
-    desk: &Desk<N, W>,
-    seat: &mut Seat<N>,
-    batch: Batch,
-) -> Answered {
-    match desk.offer(rt, seat, batch) {
-        Ok(offered) => Answered::Taken(offered),
-        Err(OfferError::Cartridge { at }) => Answered::OtherCartridge(at),
-        Err(OfferError::Memory(_)) => Answered::OutOfMemory,
-    }
-}
 
 /// Makes an edit of the seat, which is accepted.
 fn change<N: Name, W: CloseOnDrop, R: Wait + Abort>(
@@ -39,7 +20,7 @@ fn change<N: Name, W: CloseOnDrop, R: Wait + Abort>(
     change: Change,
 ) -> Result<(), Fail> {
     let edit = edit_of(alloc, change)?;
-    assert!(rt; desk.edit(rt, seat, edit).is_ok(), "{change:?}");
+    check_that(rt, change, desk.edit(rt, seat, edit).is_ok());
     Ok(())
 }
 
@@ -68,8 +49,8 @@ fn offer_behind<N: Name, W: CloseOnDrop, R: Wait + Abort>(
     batch: Batch,
 ) -> Result<(Answered, usize), Fail> {
     change(rt, alloc, desk, seat, edit)?;
-    let answered = offer(rt, desk, seat, batch);
-    Ok((answered, desk.share(rt, seat)?))
+    let told = answered(desk.offer(rt, seat, batch));
+    Ok((told, desk.share(rt, seat)?))
 }
 
 /// Three batches of 200 frames: two are offered once input 100 is another one, the third behind another cartridge.
@@ -80,20 +61,18 @@ pub fn offer_three_batches<N: Name, W: CloseOnDrop, R: Wait + Abort>(
     seat: &mut Seat<N>,
 ) -> Result<(), Fail> {
     let (first, second, third) = make_batches(rt, alloc, desk, seat)?;
-    let (at, front) = (3, 100);
-    let gained = Answered::Taken(Offered { at, front, kept: 1 });
     let told = offer_behind(rt, alloc, desk, seat, Change::ReplaceRight(100), first)?;
-    assert!(rt; told == (gained, 1), "{told:?}");
-    let nothing = Answered::Taken(Offered { at, front, kept: 0 });
-    assert_eq!(rt; offer(rt, desk, seat, second), nothing);
+    check_same(rt, "first", told, (taken(3, 100, 1), 1));
+    let told = answered(desk.offer(rt, seat, second));
+    check_same(rt, "second", told, taken(3, 100, 0));
     let told = offer_behind(rt, alloc, desk, seat, Change::Load(HALTING), third)?;
-    assert!(rt; told == (Answered::OtherCartridge(4), 0), "{told:?}");
+    check_same(rt, "third", told, (Answered::OtherCartridge { at: 4 }, 0));
     Ok(())
 }
 
 #[test]
 fn three_batches_are_offered_to_a_desk(rt: HostRuntime) -> Result<(), Fail> {
     let (closed, _) = play(&rt, rt.alloc(), 1, Task::ThreeBatches)?;
-    assert_eq!(rt; closed.journal.len(), 4);
+    check_same(&rt, "entries", closed.journal.len(), 4);
     Ok(())
 }

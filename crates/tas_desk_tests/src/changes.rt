@@ -24,7 +24,7 @@ pub const HALT: Halt = Halt::Undocumented {
 };
 
 /// An edit in short.
-#[derive(Clone, Copy, Debug, PartialEq, Eq)]
+#[derive(Clone, Copy, Debug)]
 pub enum Change {
     /// Another cartridge with this program at F000.
     Load(&'static [u8]),

@@ -2,8 +2,9 @@
 
 use crate::calls::Call;
 use crate::changes::{Change, HALT, HALTING, PLAYFIELD, fire};
+use crate::checks::check_same;
 use crate::desks::{Task, play};
-use crate::sessions::history;
+use crate::sessions::check_history;
 use std::test::Fail;
 use tas_desk::{EditError, InputError, ShotError, Worked};
 use vcs_machine::Input;
@@ -40,8 +41,8 @@ fn a_fresh_desk_has_no_frames(rt: HostRuntime) -> Result<(), Fail> {
         Call::Exported(1, (0, 0), 3, 0, 0),
     ];
     let (closed, _) = play(&rt, rt.alloc(), 2, Task::Calls(&calls))?;
-    assert_eq!(rt; closed.journal.len(), 0);
-    assert_eq!(rt; closed.movie.len(), 0);
+    check_same(&rt, "entries", closed.journal.len(), 0);
+    check_same(&rt, "inputs", closed.movie.len(), 0);
     Ok(())
 }
 
@@ -60,7 +61,7 @@ fn a_seat_sees_the_other_s_edit(rt: HostRuntime) -> Result<(), Fail> {
         Call::Meet(2),
     ];
     let (closed, _) = play(&rt, rt.alloc(), 2, Task::Calls(&calls))?;
-    assert_eq!(rt; closed.journal.len(), 2);
+    check_same(&rt, "entries", closed.journal.len(), 2);
     Ok(())
 }
 
@@ -89,8 +90,7 @@ fn refusals_of_a_desk_come_in_order(rt: HostRuntime) -> Result<(), Fail> {
     let alloc = rt.alloc();
     let (closed, _) = play(&rt, alloc, 2, Task::Calls(&calls))?;
     let text = "0 0 insert 0 65536\n1 0 replace 65536 0\n1 1 delete 1 65535\n0 1 delete 0 0\n";
-    assert_eq!(rt; history(alloc, closed.journal.as_slice())?.as_str(), text);
-    Ok(())
+    check_history(&rt, alloc, &closed, text)
 }
 
 #[test]

@@ -12,7 +12,7 @@ use crate::export_tests::{
 use crate::players::Habit;
 use crate::replays::Notes;
 use crate::thread_tests::{edit_in_the_gate, insert_at_once, take_turns_at_once};
-use std::alloc::{AllocError, Global};
+use std::alloc::Global;
 use std::marker::Brand;
 use std::process::Abort;
 use std::sync::Wait;
@@ -103,7 +103,7 @@ fn play_at<N: Name + Send + Sync, R: Threads + Wait + Abort + Sync>(
     requires name { unopened ≡ name_of N.registry N.name N.seats }
     requires named { N.parts ≡ N.seats }
 {
-    let (desk, seats) = Desk::<N, &R>::open(rt, alloc, unopened).map_err(|_| AllocError)?;
+    let (desk, seats) = Desk::<N, &R>::open(rt, alloc, unopened)?;
     let (seats, notes) = take(rt, alloc, &desk, seats, task)?;
     assert!(rt; desk.whole(seats.as_slice()), "all seats come back");
     Ok((desk.close(rt, seats), notes))
@@ -118,6 +118,6 @@ pub fn play<R: Threads + Wait + Abort + Sync>(
 ) -> Result<(Closed, Vec<Notes>), Fail>
     requires { (1 ≤ seats) × (seats ≤ 8) }
 {
-    let unopened = Unopened::new(alloc, seats).map_err(|_| AllocError)?;
+    let unopened = Unopened::new(alloc, seats)?;
     play_at::<Brand, R>(rt, alloc, unopened, task)
 }

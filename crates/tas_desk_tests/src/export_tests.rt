@@ -3,6 +3,7 @@
 ghost use Rattle.std.specs.Prelude.{◌≤◌};
 
 use crate::changes::{Change, FOLDING, HALT, HALTING, PLAYFIELD, WAITING, edit_of};
+use crate::checks::{check_same, check_that};
 use crate::desks::{Task, play};
 use crate::gates::{Counting, Open, Ordered};
 use crate::replays::images;
@@ -78,7 +79,7 @@ fn fill<N: Name, R: Threads + Wait + Abort + Sync>(
         if check(&movie, &edit).is_ok() {
             apply(&mut movie, &edit);
         }
-        assert!(rt; desk.edit(rt, seat, edit).is_ok(), "{change:?}");
+        check_that(rt, change, desk.edit(rt, seat, edit).is_ok());
     }
     Ok(movie)
 }
@@ -94,7 +95,7 @@ pub fn export_by_each<N: Name, R: Threads + Wait + Abort + Sync>(
     let movie = fill(rt, alloc, desk, seat, FOLDING, 20)?;
     let range = (2, frames.saturating_add(2));
     let (bytes, sum) = images(alloc, &movie, range.0, range.1)?.map_err(|_| "a halt")?;
-    assert_eq!(rt; bytes, frames.saturating_mul(100_815));
+    check_same(rt, frames, bytes, frames.saturating_mul(100_815));
     for workers in 1..17usize {
         let (told, written, found) = export(
             rt,
@@ -106,9 +107,8 @@ pub fn export_by_each<N: Name, R: Threads + Wait + Abort + Sync>(
             &Open,
             usize::MAX,
         );
-        assert!(rt; told.is_ok(), "{frames} frames by {workers}");
-        assert_eq!(rt; written, bytes, "{frames} frames by {workers}");
-        assert_eq!(rt; found, sum, "{frames} frames by {workers}");
+        let all = (told.is_ok(), written, found);
+        check_same(rt, (frames, workers), all, (true, bytes, sum));
     }
     Ok(())
 }
@@ -117,7 +117,7 @@ pub fn export_by_each<N: Name, R: Threads + Wait + Abort + Sync>(
 fn every_number_of_workers_writes_the_same(rt: HostRuntime) -> Result<(), Fail> {
     for frames in [0, 1, 15, 16, 17] {
         let (closed, _) = play(&rt, rt.alloc(), 1, Task::ExportByEach(frames))?;
-        assert_eq!(rt; closed.journal.len(), 3);
+        check_same(&rt, frames, closed.journal.len(), 3);
     }
     Ok(())
 }
@@ -130,17 +130,17 @@ pub fn export_through_gates<N: Name, R: Threads + Wait + Abort + Sync>(
     seat: &mut Seat<N>,
 ) -> Result<(), Fail> {
     fill(rt, alloc, desk, seat, PLAYFIELD, 2)?;
-    let alone = export(rt, alloc, desk, seat, (0, 2), 1, &Open, usize::MAX);
-    assert_eq!(rt; (alone.0, alone.1), (Ok((3, 2)), 201_630));
+    let (told, bytes, sum) = export(rt, alloc, desk, seat, (0, 2), 1, &Open, usize::MAX);
+    check_same(rt, "by one", (told, bytes), (Ok((3, 2)), 201_630));
     let ordered = Ordered::new();
     let both = export(rt, alloc, desk, seat, (0, 2), 2, &ordered, usize::MAX);
-    assert!(rt; ordered.entered.was_seen(), "one thread plays both runs");
-    assert_eq!(rt; both, (Ok((3, 3)), alone.1, alone.2));
+    check_that(rt, "one thread plays both runs", ordered.entered.was_seen());
+    check_same(rt, "by two", both, (Ok((3, 3)), bytes, sum));
     let counting = Counting::new();
     let many = export(rt, alloc, desk, seat, (0, 2), 16, &counting, usize::MAX);
-    assert_eq!(rt; (many.1, many.2), (alone.1, alone.2));
+    check_same(rt, "by 16", (many.1, many.2), (bytes, sum));
     // The numbers 0 to 15, each once.
-    assert_eq!(rt; counting.passed(), (16, 1240));
+    check_same(rt, "passed", counting.passed(), (16, 1240));
     Ok(())
 }
 
@@ -174,10 +174,15 @@ pub fn export_until_halted<N: Name, R: Threads + Wait + Abort + Sync>(
             frame,
             halt: HALT,
         };
-        assert_eq!(rt; told, (Err(halted), 0, nothing), "{range:?} by {workers}");
+        check_same(rt, (range, workers), told, (Err(halted), 0, nothing));
     }
     let told = export(rt, alloc, desk, seat, (0, 3), 2, &Open, usize::MAX);
-    assert_eq!(rt; (told.0, told.1), (Ok((3, 4)), 302_445));
+    check_same(
+        rt,
+        "before the halt",
+        (told.0, told.1),
+        (Ok((3, 4)), 302_445),
+    );
     Ok(())
 }
 
@@ -201,7 +206,7 @@ pub fn export_to_the_ends<N: Name, R: Threads + Wait + Abort + Sync>(
             written: room,
             is_full: true,
         };
-        assert_eq!(rt; (told.0, told.1), (Err(broken), room), "after {room}");
+        check_same(rt, room, (told.0, told.1), (Err(broken), room));
     }
     let ranges = [
         (1, 0),
@@ -215,11 +220,11 @@ pub fn export_to_the_ends<N: Name, R: Threads + Wait + Abort + Sync>(
     for range in ranges {
         let told = export(rt, alloc, desk, seat, range, 2, &Open, usize::MAX);
         let out = Refused::Range { at: 3, len: 1030 };
-        assert_eq!(rt; (told.0, told.1), (Err(out), 0), "{range:?}");
+        check_same(rt, range, (told.0, told.1), (Err(out), 0));
     }
     for end in [0, 1030] {
         let told = export(rt, alloc, desk, seat, (end, end), 3, &Open, usize::MAX);
-        assert_eq!(rt; (told.0, told.1), (Ok((3, 0)), 0), "from {end}");
+        check_same(rt, end, (told.0, told.1), (Ok((3, 0)), 0));
     }
     Ok(())
 }
@@ -244,8 +249,40 @@ fn played_from_the_grid(workers: usize) -> u64
     played
 }
 
-/// As many frames as one export may have: from no kept states by one worker, and then by every fourth number of workers
-/// from a full zone, where each run starts at a kept state.
+/// As many frames as one export may have, from no kept states by one worker: their images.
+fn export_all<N: Name, R: Threads + Wait + Abort + Sync>(
+    rt: &R,
+    alloc: Global,
+    desk: &Desk<N, &R>,
+    seat: &mut Seat<N>,
+) -> Result<Vec<u8>, Fail> {
+    let mut bytes = Vec::with_capacity(alloc, 103_234_560)?;
+    let alone = desk.export(rt, alloc, seat, 0, 1024, 1, &Open, &mut bytes);
+    let told = alone.ok().map(|told| (told.at, told.played));
+    check_same(rt, "by one", told, Some((3, 1024)));
+    check_same(rt, "bytes", bytes.len(), 103_234_560);
+    Ok(bytes)
+}
+
+/// The same frames by so many workers from a full zone, where each run starts at a kept state.
+fn export_again<N: Name, R: Threads + Wait + Abort + Sync>(
+    rt: &R,
+    alloc: Global,
+    desk: &Desk<N, &R>,
+    seat: &mut Seat<N>,
+    workers: usize,
+    bytes: &[u8],
+)
+    requires { (1 ≤ workers) × (workers ≤ 16) }
+{
+    let mut out = Compared::new(bytes);
+    let again = desk.export(rt, alloc, seat, 0, 1024, workers, &Open, &mut out);
+    let told = again.ok().map(|told| (told.at, told.played));
+    check_same(rt, workers, told, Some((3, played_from_the_grid(workers))));
+    check_that(rt, workers, out.is_same());
+}
+
+/// The longest export: from no kept states by one worker, and then by every fourth number of workers from a full zone.
 pub fn export_longest<N: Name, R: Threads + Wait + Abort + Sync>(
     rt: &R,
     alloc: Global,
@@ -254,27 +291,13 @@ pub fn export_longest<N: Name, R: Threads + Wait + Abort + Sync>(
     first: usize,
 ) -> Result<(), Fail> {
     fill(rt, alloc, desk, seat, WAITING, 1024)?;
-    let mut bytes = Vec::with_capacity(alloc, 103_234_560)?;
-    let alone = desk.export(rt, alloc, seat, 0, 1024, 1, &Open, &mut bytes);
-    assert_eq!(rt;
-        alone.ok().map(|told| (told.at, told.played)),
-        Some((3, 1024))
-    );
-    assert_eq!(rt; bytes.len(), 103_234_560);
+    let bytes = export_all(rt, alloc, desk, seat)?;
     let worked = desk.work(rt, alloc, seat, &[1024], &Open);
-    assert_eq!(rt; worked.map(|worked| worked.kept), Ok(16));
-    assert_eq!(rt; desk.share(rt, seat).ok(), Some(16));
+    check_same(rt, "kept", worked.map(|worked| worked.kept), Ok(16));
+    check_same(rt, "shared", desk.share(rt, seat).ok(), Some(16));
     for group in 0..4usize {
         let workers = 4 * group + first % 4 + 1;
-        let mut out = Compared::new(bytes.as_slice());
-        let told = desk.export(rt, alloc, seat, 0, 1024, workers, &Open, &mut out);
-        let wanted = played_from_the_grid(workers);
-        assert_eq!(rt;
-            told.ok().map(|told| (told.at, told.played)),
-            Some((3, wanted)),
-            "by {workers}"
-        );
-        assert!(rt; out.is_same(), "by {workers}");
+        export_again(rt, alloc, desk, seat, workers, bytes.as_slice());
     }
     Ok(())
 }

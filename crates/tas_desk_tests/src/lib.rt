@@ -8,6 +8,8 @@ mod calls;
 #[cfg(test)]
 mod changes;
 #[cfg(test)]
+mod checks;
+#[cfg(test)]
 mod desk_tests;
 #[cfg(test)]
 mod desks;
@@ -15,6 +17,8 @@ mod desks;
 mod export_tests;
 #[cfg(test)]
 mod gates;
+#[cfg(test)]
+mod job_tests;
 #[cfg(test)]
 mod players;
 #[cfg(test)]
@@ -25,5 +29,7 @@ mod session_tests;
 mod sessions;
 #[cfg(test)]
 mod sums;
+#[cfg(test)]
+mod text_tests;
 #[cfg(test)]
 mod thread_tests;

@@ -55,7 +55,7 @@ impl Dice {
 }
 
 /// What a player mostly does.
-#[derive(Clone, Copy, PartialEq, Eq)]
+#[derive(Clone, Copy)]
 pub enum Habit {
     /// Everything.
     All,

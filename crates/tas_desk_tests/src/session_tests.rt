@@ -1,16 +1,13 @@
 //! Sessions by hand: each call with its answer, and each refusal with what it leaves.
 
 use crate::changes::{Change, HALT, HALTING, PLAYFIELD, cart, edit_of, right};
-use crate::sessions::{Lent, Turn, history, kept, lend, play_turns, take_turns};
-use std::alloc::{AllocError, Global};
+use crate::checks::{check_same, check_that};
+use crate::sessions::{Lent, Turn, check_history, lend, open_movie, play_turns};
+use std::alloc::Global;
 use std::process::Abort;
 use std::sync::Wait;
 use std::test::Fail;
-use tas_desk::{
-    EditError, InputError, MAX_EDITS, NoEntry, OfferError, Offered, OpenError, Receipt, Session,
-    ShotError, WorkError, Worked,
-};
-use tas_green::Batch;
+use tas_desk::{EditError, MAX_EDITS, Receipt, Session, ShotError};
 use vcs_machine::{Cart, Input, Meter};
 
 #[test]
@@ -19,9 +16,14 @@ fn a_new_session_is_empty(rt: HostRuntime) -> Result<(), Fail> {
     let none = ShotError::NoFrame { at: 0, len: 0 };
     let turns = [Turn::Kept("0:"), Turn::NotDrawn(0, none, 0)];
     let closed = play_turns(&rt, alloc, &turns)?;
-    assert_eq!(rt; closed.journal.len(), 0);
-    assert_eq!(rt; closed.movie.len(), 0);
-    assert!(rt; closed.movie.cart().bytes() == Cart::blank(alloc)?.bytes());
+    let blank = Cart::blank(alloc)?;
+    check_same(&rt, "entries", closed.journal.len(), 0);
+    check_same(&rt, "inputs", closed.movie.len(), 0);
+    check_that(
+        &rt,
+        "cartridge",
+        closed.movie.cart().bytes() == blank.bytes(),
+    );
     Ok(())
 }
 
@@ -47,8 +49,7 @@ fn serials_count_the_seat_s_own_edits(rt: HostRuntime) -> Result<(), Fail> {
     let closed = play_turns(&rt, alloc, &turns)?;
     let text =
         "7 0 delete 0 0\n0 0 delete 0 0\n7 1 delete 0 0\n4294967295 0 delete 0 0\n0 1 delete 0 0\n";
-    assert_eq!(rt; history(alloc, closed.journal.as_slice())?.as_str(), text);
-    Ok(())
+    check_history(&rt, alloc, &closed, text)
 }
 
 #[test]
@@ -66,11 +67,15 @@ fn each_kind_of_edit_is_made(rt: HostRuntime) -> Result<(), Fail> {
     let closed = play_turns(&rt, alloc, &turns)?;
     let text =
         "0 0 load\n0 1 insert 0 5\n0 2 insert 5 2\n0 3 replace 6 1\n0 4 delete 1 4\n0 5 load\n0 6 insert 0 1\n";
-    assert_eq!(rt; history(alloc, closed.journal.as_slice())?.as_str(), text);
     let inputs = [right(), Input::none(), Input::none(), right()];
-    assert!(rt; closed.movie.inputs() == inputs.as_slice());
-    assert!(rt; closed.movie.cart().bytes() == cart(alloc, HALTING)?.bytes());
-    Ok(())
+    let halting = cart(alloc, HALTING)?;
+    check_that(&rt, "inputs", closed.movie.inputs() == inputs.as_slice());
+    check_that(
+        &rt,
+        "cartridge",
+        closed.movie.cart().bytes() == halting.bytes(),
+    );
+    check_history(&rt, alloc, &closed, text)
 }
 
 /// `Serial` comes before `Place`, and `Place` before `Long`, whatever else is wrong. A refusal leaves the state after 128
@@ -113,7 +118,7 @@ fn refusals_come_in_order(rt: HostRuntime) -> Result<(), Fail> {
         Turn::Kept("1: 128"),
     ];
     let closed = play_turns(&rt, rt.alloc(), &turns)?;
-    assert_eq!(rt; closed.movie.len(), 65536);
+    check_same(&rt, "inputs", closed.movie.len(), 65536);
     Ok(())
 }
 
@@ -137,7 +142,7 @@ fn movies_have_at_most_65536_inputs(rt: HostRuntime) -> Result<(), Fail> {
         Turn::Tried(0, 1, Change::Replace(65536, 0), Ok(Receipt { at: 2, len })),
     ];
     let closed = play_turns(&rt, rt.alloc(), &turns)?;
-    assert_eq!(rt; closed.journal.len(), 2);
+    check_same(&rt, "entries", closed.journal.len(), 2);
     Ok(())
 }
 
@@ -165,7 +170,7 @@ impl Lent for Million {
         ];
         for (made, change, error) in attempts {
             let answer = session.edit(rt, 4, made, edit_of(alloc, change)?);
-            assert_eq!(rt; answer, Err(error), "{change:?} after {made}");
+            check_same(rt, (change, made), answer, Err(error));
         }
         Ok(())
     }
@@ -174,8 +179,8 @@ impl Lent for Million {
 #[test]
 fn a_million_edits_are_the_most(rt: HostRuntime) -> Result<(), Fail> {
     let closed = lend(&rt, rt.alloc(), &Million)?;
-    assert_eq!(rt; closed.journal.len(), 1_000_000);
-    assert_eq!(rt; closed.movie.len(), 0);
+    check_same(&rt, "entries", closed.journal.len(), 1_000_000);
+    check_same(&rt, "inputs", closed.movie.len(), 0);
     Ok(())
 }
 
@@ -267,12 +272,7 @@ fn halted_frames_are_told_and_kept(rt: HostRuntime) -> Result<(), Fail> {
         Turn::Kept("1: 64"),
     ];
     let closed = play_turns(&rt, rt.alloc(), &turns)?;
-    let text = "0 0 load\n0 1 insert 0 100\n";
-    assert_eq!(rt;
-        history(rt.alloc(), closed.journal.as_slice())?.as_str(),
-        text
-    );
-    Ok(())
+    check_history(&rt, rt.alloc(), &closed, "0 0 load\n0 1 insert 0 100\n")
 }
 
 #[test]
@@ -289,24 +289,9 @@ fn a_frame_that_is_not_there_changes_nothing(rt: HostRuntime) -> Result<(), Fail
         Turn::Kept("1: 64"),
     ];
     let closed = play_turns(&rt, rt.alloc(), &turns)?;
-    assert_eq!(rt; closed.journal.len(), 2);
-    assert_eq!(rt; closed.movie.len(), 200);
+    check_same(&rt, "entries", closed.journal.len(), 2);
+    check_same(&rt, "inputs", closed.movie.len(), 200);
     Ok(())
-}
-
-/// The movie of the tests below: 200 frames of a program.
-fn open_movie<R: Wait + Abort>(
-    rt: &R,
-    alloc: Global,
-    session: &mut Session,
-    program: &'static [u8],
-    count: usize,
-) -> Result<(), Fail> {
-    let turns = [
-        Turn::Made(Change::Load(program), 1, 0),
-        Turn::Made(Change::Insert(0, count), 2, count),
-    ];
-    take_turns(rt, alloc, session, &turns)
 }
 
 /// Frames 10 and 10 play 11 frames each; frame 70 plays 71, which keeps the state after 64, and then 7; there is no
@@ -326,9 +311,9 @@ impl Lent for OneMeter {
             // The condition of a shot: the meter has room for the whole movie.
             if meter.room() >= session.movie().len() as u64 {
                 let is_drawn = session.shot(alloc, k, &mut meter).is_ok();
-                assert_eq!(rt; is_drawn, k < 200, "frame {k}");
+                check_same(rt, k, is_drawn, k < 200);
             }
-            assert_eq!(rt; meter.count(), count, "frame {k}");
+            check_same(rt, k, meter.count(), count);
         }
         Ok(())
     }
@@ -337,277 +322,5 @@ impl Lent for OneMeter {
 #[test]
 fn one_meter_counts_several_shots(rt: HostRuntime) -> Result<(), Fail> {
     lend(&rt, rt.alloc(), &OneMeter)?;
-    Ok(())
-}
-
-/// A job's batch.
-fn run(alloc: Global, session: &Session, near: usize) -> Result<Batch, AllocError> {
-    Ok(session.job(alloc, near)?.run())
-}
-
-/// An offer's answer, without the batch that it may hand back.
-#[derive(Clone, Copy, Debug, PartialEq, Eq)]
-enum Answered {
-    Taken(Offered),
-    OtherCartridge { at: u64 },
-    OutOfMemory,
-}
-
-fn offer(session: &mut Session, batch: Batch) -> Answered {
-    match session.offer(batch) {
-        Ok(offered) => Answered::Taken(offered),
-        Err(OfferError::Cartridge { at }) => Answered::OtherCartridge { at },
-        Err(OfferError::Memory(_)) => Answered::OutOfMemory,
-    }
-}
-
-fn taken(at: u64, front: usize, kept: usize) -> Answered {
-    Answered::Taken(Offered { at, front, kept })
-}
-
-/// A job of the first 128 of 200 frames, and one of more frames than there are. Neither changes the session.
-struct Jobs;
-
-impl Lent for Jobs {
-    fn run<R: Wait + Abort>(
-        &self,
-        rt: &R,
-        alloc: Global,
-        session: &mut Session,
-    ) -> Result<(), Fail> {
-        open_movie(rt, alloc, session, PLAYFIELD, 200)?;
-        let first = run(alloc, session, 128)?;
-        assert!(rt; first.cart().bytes() == session.movie().cart().bytes());
-        assert_eq!(rt; first.inputs().len(), 128);
-        let all = run(alloc, session, 1000)?;
-        assert!(rt; all.inputs() == session.movie().inputs());
-        let held = [
-            (0, false, false),
-            (64, true, true),
-            (128, true, true),
-            (192, false, true),
-            (200, false, false),
-            (256, false, false),
-        ];
-        for (frame, in_first, in_all) in held {
-            assert_eq!(rt; first.holds(frame), in_first, "frame {frame}");
-            assert_eq!(rt; all.holds(frame), in_all, "frame {frame}");
-        }
-        take_turns(rt, alloc, session, &[Turn::Kept("0:")])
-    }
-}
-
-#[test]
-fn jobs_hold_what_the_session_had(rt: HostRuntime) -> Result<(), Fail> {
-    let closed = lend(&rt, rt.alloc(), &Jobs)?;
-    assert_eq!(rt; closed.journal.len(), 2);
-    Ok(())
-}
-
-/// A job starts from the nearest kept state, whose frames it doesn't play again.
-struct Nearest;
-
-impl Lent for Nearest {
-    fn run<R: Wait + Abort>(
-        &self,
-        rt: &R,
-        alloc: Global,
-        session: &mut Session,
-    ) -> Result<(), Fail> {
-        open_movie(rt, alloc, session, PLAYFIELD, 200)?;
-        take_turns(rt, alloc, session, &[Turn::Drawn(70, 2, 71, 1680)])?;
-        let batch = run(alloc, session, 128)?;
-        assert!(rt; !batch.holds(64) && batch.holds(128) && !batch.holds(192));
-        assert_eq!(rt; offer(session, batch), taken(2, 128, 1));
-        let turns = [Turn::Kept("2: 64 128"), Turn::Drawn(191, 2, 64, 1680)];
-        take_turns(rt, alloc, session, &turns)
-    }
-}
-
-#[test]
-fn a_batch_is_kept_with_what_is_there(rt: HostRuntime) -> Result<(), Fail> {
-    lend(&rt, rt.alloc(), &Nearest)?;
-    Ok(())
-}
-
-/// Three batches of 200 frames: two are offered once input 100 is another one, the third behind another cartridge.
-struct ThreeBatches;
-
-impl Lent for ThreeBatches {
-    fn run<R: Wait + Abort>(
-        &self,
-        rt: &R,
-        alloc: Global,
-        session: &mut Session,
-    ) -> Result<(), Fail> {
-        open_movie(rt, alloc, session, PLAYFIELD, 200)?;
-        let first = run(alloc, session, 200)?;
-        let second = run(alloc, session, 200)?;
-        let third = run(alloc, session, 200)?;
-        let replaced = Turn::Made(Change::ReplaceRight(100), 3, 200);
-        take_turns(rt, alloc, session, &[replaced])?;
-        assert_eq!(rt; offer(session, first), taken(3, 100, 1));
-        assert_eq!(rt; kept(alloc, session)?.as_str(), "1: 64");
-        assert_eq!(rt; offer(session, second), taken(3, 100, 0));
-        let loaded = Turn::Made(Change::Load(HALTING), 4, 200);
-        take_turns(rt, alloc, session, &[loaded])?;
-        assert_eq!(rt; offer(session, third), Answered::OtherCartridge { at: 4 });
-        Ok(())
-    }
-}
-
-#[test]
-fn three_batches_are_offered_in_turn(rt: HostRuntime) -> Result<(), Fail> {
-    lend(&rt, rt.alloc(), &ThreeBatches)?;
-    Ok(())
-}
-
-/// Two batches of 200 frames, an edit, and the batches' answers behind it.
-#[derive(Clone, Copy)]
-struct OfferedAfter {
-    change: Change,
-    once: Answered,
-    twice: Answered,
-}
-
-impl Lent for OfferedAfter {
-    fn run<R: Wait + Abort>(
-        &self,
-        rt: &R,
-        alloc: Global,
-        session: &mut Session,
-    ) -> Result<(), Fail> {
-        open_movie(rt, alloc, session, PLAYFIELD, 200)?;
-        let first = run(alloc, session, 200)?;
-        let second = run(alloc, session, 200)?;
-        session.edit(rt, 0, 2, edit_of(alloc, self.change)?)?;
-        assert_eq!(rt; offer(session, first), self.once, "{:?}", self.change);
-        assert_eq!(rt; offer(session, second), self.twice, "{:?}", self.change);
-        Ok(())
-    }
-}
-
-#[test]
-fn batches_count_as_far_as_the_inputs_agree(rt: HostRuntime) -> Result<(), Fail> {
-    let other = Answered::OtherCartridge { at: 3 };
-    let cases = [
-        (Change::InsertRight(64), taken(3, 64, 1), taken(3, 64, 0)),
-        (Change::InsertRight(63), taken(3, 63, 0), taken(3, 63, 0)),
-        (Change::Delete(10, 50), taken(3, 150, 2), taken(3, 150, 0)),
-        (Change::Insert(10, 50), taken(3, 200, 3), taken(3, 200, 0)),
-        (Change::Load(HALTING), other, other),
-        (Change::Load(PLAYFIELD), taken(3, 200, 3), taken(3, 200, 0)),
-    ];
-    for (change, once, twice) in cases {
-        let lent = OfferedAfter {
-            change,
-            once,
-            twice,
-        };
-        lend(&rt, rt.alloc(), &lent)?;
-    }
-    Ok(())
-}
-
-/// A batch of a new session's 200 frames of a program.
-fn batch_of<R: Wait + Abort>(rt: &R, alloc: Global, program: &'static [u8]) -> Result<Batch, Fail> {
-    let mut session: Session = Session::new(alloc).map_err(|_| AllocError)?;
-    let opened = open_movie(rt, alloc, &mut session, program, 200);
-    let batch = run(alloc, &session, 200);
-    session.close(rt);
-    opened?;
-    Ok(batch?)
-}
-
-/// Another session's batch of a program, offered to a session with 100 lit frames, and what is kept then.
-#[derive(Clone, Copy)]
-struct FromAnother {
-    program: &'static [u8],
-    answer: Answered,
-    kept: &'static str,
-}
-
-impl Lent for FromAnother {
-    fn run<R: Wait + Abort>(
-        &self,
-        rt: &R,
-        alloc: Global,
-        session: &mut Session,
-    ) -> Result<(), Fail> {
-        open_movie(rt, alloc, session, PLAYFIELD, 100)?;
-        let batch = batch_of(rt, alloc, self.program)?;
-        assert_eq!(rt; offer(session, batch), self.answer, "{}", self.kept);
-        take_turns(rt, alloc, session, &[Turn::Kept(self.kept)])
-    }
-}
-
-#[test]
-fn batches_go_from_one_session_to_another(rt: HostRuntime) -> Result<(), Fail> {
-    let same = FromAnother {
-        program: PLAYFIELD,
-        answer: taken(2, 100, 1),
-        kept: "1: 64",
-    };
-    let other = FromAnother {
-        program: HALTING,
-        answer: Answered::OtherCartridge { at: 2 },
-        kept: "0:",
-    };
-    lend(&rt, rt.alloc(), &same)?;
-    lend(&rt, rt.alloc(), &other)?;
-    Ok(())
-}
-
-#[test]
-fn errors_read_as_written(rt: HostRuntime) -> Result<(), Fail> {
-    let alloc = rt.alloc();
-    let (at, len) = (7, 30);
-    let done = Worked {
-        jobs: 1,
-        kept: 2,
-        stale: 3,
-    };
-    let worked = WorkError::Memory { done };
-    let texts = [
-        (format!(in alloc; "{worked}")?, "out of memory"),
-        (format!(in alloc; "{}", OpenError::Memory)?, "out of memory"),
-        (format!(in alloc; "{}", OpenError::NoPlace)?, "no place"),
-        (format!(in alloc; "{NoEntry}")?, "no entry"),
-    ];
-    for (written, text) in &texts {
-        assert_eq!(rt; written.as_str(), *text);
-    }
-    let edits = [
-        (
-            EditError::Serial { at, counted: 3 },
-            "seat has 3 edits at 7",
-        ),
-        (EditError::Full { at }, "full at 7"),
-        (
-            EditError::Place { at, place: 31, len },
-            "place 31 of 30 at 7",
-        ),
-        (EditError::Long { at, len }, "too long: 30 at 7"),
-        (EditError::Memory, "out of memory"),
-    ];
-    for (error, text) in edits {
-        assert_eq!(rt; format!(in alloc; "{error}")?.as_str(), text);
-    }
-    let looks = [
-        (InputError::NoEntry, "no entry"),
-        (InputError::NoFrame { at, len }, "no such frame of 30 at 7"),
-    ];
-    for (error, text) in looks {
-        assert_eq!(rt; format!(in alloc; "{error}")?.as_str(), text);
-    }
-    let shots = [
-        (ShotError::NoEntry, "no entry"),
-        (ShotError::NoFrame { at, len }, "no such frame of 30 at 7"),
-        (ShotError::Memory, "out of memory"),
-        (ShotError::Halted { at, halt: HALT }, "halted at 7"),
-    ];
-    for (error, text) in shots {
-        assert_eq!(rt; format!(in alloc; "{error}")?.as_str(), text);
-    }
     Ok(())
 }

@@ -1,6 +1,7 @@
 //! Sessions for tests: lent to turns, and closed whatever these answer.
 
 use crate::changes::{Change, edit_of};
+use crate::checks::{check_text, check_that};
 use std::alloc::{AllocError, Global};
 use std::process::Abort;
 use std::str;
@@ -80,7 +81,7 @@ fn entry_line(alloc: Global, entry: &Entry) -> Result<String, AllocError> {
 }
 
 /// A history, an entry a line: the seat, the serial and the edit.
-pub fn history(alloc: Global, journal: &[Entry]) -> Result<String, Fail> {
+fn history(alloc: Global, journal: &[Entry]) -> Result<String, Fail> {
     let mut text = String::new(alloc);
     for entry in journal {
         text.push_str(entry_line(alloc, entry)?.as_str())?;
@@ -88,10 +89,21 @@ pub fn history(alloc: Global, journal: &[Entry]) -> Result<String, Fail> {
     Ok(text)
 }
 
+/// The history of a session or desk is this one, an entry a line.
+pub fn check_history<R: Abort>(
+    rt: &R,
+    alloc: Global,
+    closed: &Closed,
+    text: &str,
+) -> Result<(), Fail> {
+    let found = history(alloc, closed.journal.as_slice())?;
+    check_text(rt, "history", found.as_str(), text);
+    Ok(())
+}
+
 /// All that a session shows: history, kept states and movie.
 fn shown(alloc: Global, session: &Session) -> Result<String, Fail> {
-    let mut text = format!(in alloc; "{}\n", session.at())?;
-    text.push_str(history(alloc, session.journal())?.as_str())?;
+    let mut text = history(alloc, session.journal())?;
     text.push_str(kept(alloc, session)?.as_str())?;
     let movie = print_text(alloc, session.movie())?;
     text.push_str(str::from_utf8(movie.as_slice())?)?;
@@ -107,9 +119,10 @@ fn is_tried<R: Wait>(
     answer: Result<Receipt, EditError>,
 ) -> Result<bool, Fail> {
     let (seat, made, change) = attempt;
-    let before = shown(alloc, session)?;
+    let (at, before) = (session.at(), shown(alloc, session)?);
     let given = session.edit(rt, seat, made, edit_of(alloc, change)?);
-    let kept_all = given.is_ok() || shown(alloc, session)?.as_str() == before.as_str();
+    let kept_all = given.is_ok()
+        || (session.at() == at && shown(alloc, session)?.as_str() == before.as_str());
     Ok(given == answer && kept_all)
 }
 
@@ -153,14 +166,15 @@ pub fn take_turns<R: Wait + Abort>(
     turns: &[Turn],
 ) -> Result<(), Fail> {
     for (number, turn) in turns.iter().enumerate() {
-        assert!(rt; is_answered(rt, alloc, session, *turn)?, "turn {number}");
+        let is_right = is_answered(rt, alloc, session, *turn)?;
+        check_that(rt, ("turn", number), is_right);
     }
     Ok(())
 }
 
 /// Takes the turns, one after the other, on a new session, and answers what it leaves.
 pub fn play_turns<R: Wait + Abort>(rt: &R, alloc: Global, turns: &[Turn]) -> Result<Closed, Fail> {
-    let mut session: Session = Session::new(alloc).map_err(|_| AllocError)?;
+    let mut session: Session = Session::new(alloc)?;
     let answer = take_turns(rt, alloc, &mut session, turns);
     let closed = session.close(rt);
     answer?;
@@ -180,9 +194,24 @@ pub trait Lent {
 
 /// Lends a new session and closes it.
 pub fn lend<L: Lent, R: Wait + Abort>(rt: &R, alloc: Global, lent: &L) -> Result<Closed, Fail> {
-    let mut session: Session = Session::new(alloc).map_err(|_| AllocError)?;
+    let mut session: Session = Session::new(alloc)?;
     let answer = lent.run(rt, alloc, &mut session);
     let closed = session.close(rt);
     answer?;
     Ok(closed)
+}
+
+/// A movie of so many frames of a program, by two edits of seat 0.
+pub fn open_movie<R: Wait + Abort>(
+    rt: &R,
+    alloc: Global,
+    session: &mut Session,
+    program: &'static [u8],
+    count: usize,
+) -> Result<(), Fail> {
+    let turns = [
+        Turn::Made(Change::Load(program), 1, 0),
+        Turn::Made(Change::Insert(0, count), 2, count),
+    ];
+    take_turns(rt, alloc, session, &turns)
 }

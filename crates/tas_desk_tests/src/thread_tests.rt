@@ -1,6 +1,7 @@
 //! Seats on threads of their own. What they were told is compared with the history that the desk leaves.
 
 use crate::changes::{Change, FOLDING, HALTING, PLAYFIELD, edit_of};
+use crate::checks::{check_same, check_that};
 use crate::desks::{Left, Task, play};
 use crate::gates::Door;
 use crate::players::{Fault, Habit, Player, meet};
@@ -11,7 +12,10 @@ use std::sync::Wait;
 use std::test::Fail;
 use std::thread;
 use std::thread::{Threads, join};
-use tas_desk::{CloseOnDrop, Closed, Desk, Entry, Name, Seat, Worked};
+use tas_desk::{
+    CloseOnDrop, Closed, Desk, EditError, Entry, Name, Receipt, Seat, WorkError, Worked,
+};
+use tas_movie::Edit;
 
 /// Whether all that a seat was told is right; the error says which note isn't.
 fn judge<R: Abort>(
@@ -23,8 +27,8 @@ fn judge<R: Abort>(
 ) -> Result<(), Fail> {
     let seat = notes.seat;
     match replayed(alloc, journal, notes)? {
-        Ok(count) => assert!(rt; count >= least, "seat {seat}: {count} notes"),
-        Err(number) => assert!(rt; false, "seat {seat}: note {number}"),
+        Ok(count) => check_that(rt, ("seat", seat, "notes", count), count >= least),
+        Err(number) => check_that(rt, ("seat", seat, "wrong note", number), false),
     }
     Ok(())
 }
@@ -34,7 +38,7 @@ fn entries_of<R: Abort>(rt: &R, journal: &[Entry], seat: u32) -> u64 {
     let mut serial = 0u64;
     for (number, entry) in journal.iter().enumerate() {
         if entry.seat == seat {
-            assert_eq!(rt; entry.serial, serial, "entry {number}");
+            check_same(rt, number, entry.serial, serial);
             serial = serial.saturating_add(1);
         }
     }
@@ -108,7 +112,7 @@ fn leave<N: Name, R: Abort>(
             ..
         } = player;
         let number = seat.number();
-        assert_eq!(rt; fault, None, "seat {number}");
+        check_same(rt, number, fault, None);
         seats.push(seat)?;
         all.push(notes)?;
     }
@@ -120,12 +124,12 @@ fn two_seats_on_two_threads(rt: HostRuntime) -> Result<(), Fail> {
     let alloc = rt.alloc();
     let (closed, all) = play(&rt, alloc, 2, Task::Inserts(100))?;
     let journal = closed.journal.as_slice();
-    assert_eq!(rt; journal.len(), 200);
-    assert_eq!(rt; closed.movie.len(), 200);
-    assert_eq!(rt; entries_of(&rt, journal, 0), 100);
-    assert_eq!(rt; entries_of(&rt, journal, 1), 100);
+    check_same(&rt, "entries", journal.len(), 200);
+    check_same(&rt, "inputs", closed.movie.len(), 200);
+    check_same(&rt, "of seat 0", entries_of(&rt, journal, 0), 100);
+    check_same(&rt, "of seat 1", entries_of(&rt, journal, 1), 100);
     for notes in &all {
-        assert_eq!(rt; notes.notes.len(), 300);
+        check_same(&rt, "notes", notes.notes.len(), 300);
         judge(&rt, alloc, journal, notes, 300)?;
     }
     Ok(())
@@ -197,13 +201,13 @@ fn judge_all<R: Abort>(
     all: &[Notes],
     least: usize,
 ) -> Result<(), Fail> {
-    assert_eq!(rt; all.len(), 8);
+    check_same(rt, "seats", all.len(), 8);
     let mut made = 0u64;
     for notes in all {
         judge(rt, alloc, closed.journal.as_slice(), notes, least)?;
         made = made.saturating_add(entries_of(rt, closed.journal.as_slice(), notes.seat));
     }
-    assert_eq!(rt; made, closed.journal.len() as u64);
+    check_same(rt, "entries", made, closed.journal.len() as u64);
     Ok(())
 }
 
@@ -221,6 +225,37 @@ fn shots_while_others_edit(rt: HostRuntime) -> Result<(), Fail> {
     judge_all(&rt, rt.alloc(), &closed, all.as_slice(), 20)
 }
 
+/// The seats that worked and edited, each with what it was told.
+type Both<N> = (
+    (Seat<N>, Result<Worked, WorkError>),
+    (Seat<N>, Result<Receipt, EditError>),
+);
+
+/// One seat works through a door, and another one, on another thread, edits once the work is in the door, and then opens it.
+fn work_and_edit<N: Name + Send + Sync, R: Threads + Wait + Sync>(
+    rt: &R,
+    alloc: Global,
+    desk: &Desk<N, &R>,
+    seats: (Seat<N>, Seat<N>),
+    edit: Edit,
+    door: &Door,
+) -> Both<N> {
+    let (mut worker, mut editor) = seats;
+    join(
+        rt,
+        move || {
+            let worked = desk.work(rt, alloc, &mut worker, &[192], door);
+            (worker, worked)
+        },
+        move || {
+            door.entered.wait();
+            let made = desk.edit(rt, &mut editor, edit);
+            door.opened.set();
+            (editor, made)
+        },
+    )
+}
+
 /// A work of one seat, whose job waits in its gate until another seat, on another thread, has made an edit.
 pub fn edit_in_the_gate<N: Name + Send + Sync, R: Threads + Wait + Abort + Sync>(
     rt: &R,
@@ -230,30 +265,24 @@ pub fn edit_in_the_gate<N: Name + Send + Sync, R: Threads + Wait + Abort + Sync>
     change: Change,
     wanted: Worked,
 ) -> Result<Left<N>, Fail> {
+    let edit = edit_of(alloc, change)?;
     let mut seats = seats;
-    let mut editor = seats.pop().ok_or("two seats")?;
+    let editor = seats.pop().ok_or("two seats")?;
     let mut worker = seats.pop().ok_or("two seats")?;
     fill(rt, alloc, desk, &mut worker)?;
-    let edit = edit_of(alloc, change)?;
     let door = Door::new();
-    let gate = &door;
-    let ((worker, worked), (editor, made)) = join(
+    let ((worker, worked), (editor, made)) = work_and_edit(
         rt,
-        move || {
-            let worked = desk.work(rt, alloc, &mut worker, &[192], gate);
-            (worker, worked)
-        },
-        move || {
-            gate.entered.wait();
-            let made = desk.edit(rt, &mut editor, edit);
-            gate.opened.set();
-            (editor, made)
-        },
+        alloc,
+        desk,
+        (worker, editor),
+        edit,
+        &door,
     );
-    assert!(rt; door.entered.was_seen(), "no job came to the gate");
-    assert!(rt; door.opened.was_seen(), "the edit waits for the job");
-    assert!(rt; made.is_ok(), "{change:?}");
-    assert_eq!(rt; worked, Ok(wanted), "{change:?}");
+    check_that(rt, "no job came to the gate", door.entered.was_seen());
+    check_that(rt, "the edit waits for the job", door.opened.was_seen());
+    check_that(rt, change, made.is_ok());
+    check_same(rt, change, worked, Ok(wanted));
     seats.push(worker)?;
     seats.push(editor)?;
     Ok((seats, Vec::new(alloc)))
@@ -268,7 +297,7 @@ fn fill<N: Name, W: CloseOnDrop, R: Wait + Abort>(
 ) -> Result<(), Fail> {
     for change in [Change::Load(PLAYFIELD), Change::Insert(0, 200)] {
         let edit = edit_of(alloc, change)?;
-        assert!(rt; desk.edit(rt, seat, edit).is_ok(), "{change:?}");
+        check_that(rt, change, desk.edit(rt, seat, edit).is_ok());
     }
     Ok(())
 }
@@ -287,7 +316,7 @@ fn jobs_run_outside_the_lock(rt: HostRuntime) -> Result<(), Fail> {
             stale,
         };
         let (closed, _) = play(&rt, rt.alloc(), 2, Task::EditInTheGate(change, worked))?;
-        assert_eq!(rt; closed.journal.len(), 3);
+        check_same(&rt, change, closed.journal.len(), 3);
     }
     Ok(())
 }

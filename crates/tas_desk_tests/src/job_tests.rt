@@ -1,0 +1,246 @@
+//! Jobs of a session, and what their batches bring when they are offered.
+
+use crate::changes::{Change, HALTING, PLAYFIELD, edit_of};
+use crate::checks::{check_same, check_that};
+use crate::sessions::{Lent, Turn, lend, open_movie, take_turns};
+use std::alloc::{AllocError, Global};
+use std::process::Abort;
+use std::sync::Wait;
+use std::test::Fail;
+use tas_desk::{OfferError, Offered, Session};
+use tas_green::Batch;
+
+/// A job's batch.
+fn run(alloc: Global, session: &Session, near: usize) -> Result<Batch, AllocError> {
+    Ok(session.job(alloc, near)?.run())
+}
+
+/// Two batches of all of 200 frames.
+fn run_twice(alloc: Global, session: &Session) -> Result<(Batch, Batch), AllocError> {
+    let first = run(alloc, session, 200)?;
+    Ok((first, run(alloc, session, 200)?))
+}
+
+/// An offer's answer, without the batch that it may hand back.
+#[derive(Clone, Copy, Debug, PartialEq, Eq)]
+pub enum Answered {
+    Taken(Offered),
+    OtherCartridge { at: u64 },
+    OutOfMemory,
+}
+
+/// What an offer told.
+pub fn answered(told: Result<Offered, OfferError>) -> Answered {
+    match told {
+        Ok(offered) => Answered::Taken(offered),
+        Err(OfferError::Cartridge { at }) => Answered::OtherCartridge { at },
+        Err(OfferError::Memory(_)) => Answered::OutOfMemory,
+    }
+}
+
+fn offer(session: &mut Session, batch: Batch) -> Answered {
+    answered(session.offer(batch))
+}
+
+/// A batch is taken whose inputs agree up to the front, and so many states of it are kept.
+pub fn taken(at: u64, front: usize, kept: usize) -> Answered {
+    Answered::Taken(Offered { at, front, kept })
+}
+
+/// A job of the first 128 of 200 frames, and one of more frames than there are. Neither changes the session.
+struct Jobs;
+
+impl Lent for Jobs {
+    fn run<R: Wait + Abort>(
+        &self,
+        rt: &R,
+        alloc: Global,
+        session: &mut Session,
+    ) -> Result<(), Fail> {
+        open_movie(rt, alloc, session, PLAYFIELD, 200)?;
+        let first = run(alloc, session, 128)?;
+        let all = run(alloc, session, 1000)?;
+        let is_same = first.cart().bytes() == session.movie().cart().bytes();
+        check_that(rt, "cartridge", is_same);
+        check_same(rt, "inputs of the first", first.inputs().len(), 128);
+        check_that(
+            rt,
+            "inputs of all",
+            all.inputs() == session.movie().inputs(),
+        );
+        let held = [
+            (0, false, false),
+            (64, true, true),
+            (128, true, true),
+            (192, false, true),
+            (200, false, false),
+            (256, false, false),
+        ];
+        for (frame, in_first, in_all) in held {
+            let holds = (first.holds(frame), all.holds(frame));
+            check_same(rt, frame, holds, (in_first, in_all));
+        }
+        take_turns(rt, alloc, session, &[Turn::Kept("0:")])
+    }
+}
+
+#[test]
+fn jobs_hold_what_the_session_had(rt: HostRuntime) -> Result<(), Fail> {
+    let closed = lend(&rt, rt.alloc(), &Jobs)?;
+    check_same(&rt, "entries", closed.journal.len(), 2);
+    Ok(())
+}
+
+/// A job starts from the nearest kept state, whose frames it doesn't play again.
+struct Nearest;
+
+impl Lent for Nearest {
+    fn run<R: Wait + Abort>(
+        &self,
+        rt: &R,
+        alloc: Global,
+        session: &mut Session,
+    ) -> Result<(), Fail> {
+        open_movie(rt, alloc, session, PLAYFIELD, 200)?;
+        take_turns(rt, alloc, session, &[Turn::Drawn(70, 2, 71, 1680)])?;
+        let batch = run(alloc, session, 128)?;
+        let holds = (batch.holds(64), batch.holds(128), batch.holds(192));
+        check_same(rt, "held", holds, (false, true, false));
+        check_same(rt, "offered", offer(session, batch), taken(2, 128, 1));
+        let turns = [Turn::Kept("2: 64 128"), Turn::Drawn(191, 2, 64, 1680)];
+        take_turns(rt, alloc, session, &turns)
+    }
+}
+
+#[test]
+fn a_batch_is_kept_with_what_is_there(rt: HostRuntime) -> Result<(), Fail> {
+    lend(&rt, rt.alloc(), &Nearest)?;
+    Ok(())
+}
+
+/// Three batches of 200 frames: two are offered once input 100 is another one, the third behind another cartridge.
+struct ThreeBatches;
+
+impl Lent for ThreeBatches {
+    fn run<R: Wait + Abort>(
+        &self,
+        rt: &R,
+        alloc: Global,
+        session: &mut Session,
+    ) -> Result<(), Fail> {
+        open_movie(rt, alloc, session, PLAYFIELD, 200)?;
+        let (first, second) = run_twice(alloc, session)?;
+        let third = run(alloc, session, 200)?;
+        let replaced = Turn::Made(Change::ReplaceRight(100), 3, 200);
+        take_turns(rt, alloc, session, &[replaced])?;
+        check_same(rt, "first", offer(session, first), taken(3, 100, 1));
+        take_turns(rt, alloc, session, &[Turn::Kept("1: 64")])?;
+        check_same(rt, "second", offer(session, second), taken(3, 100, 0));
+        let loaded = Turn::Made(Change::Load(HALTING), 4, 200);
+        take_turns(rt, alloc, session, &[loaded])?;
+        let other = Answered::OtherCartridge { at: 4 };
+        check_same(rt, "third", offer(session, third), other);
+        Ok(())
+    }
+}
+
+#[test]
+fn three_batches_are_offered_in_turn(rt: HostRuntime) -> Result<(), Fail> {
+    lend(&rt, rt.alloc(), &ThreeBatches)?;
+    Ok(())
+}
+
+/// Two batches of 200 frames, an edit, and the batches' answers behind it.
+#[derive(Clone, Copy)]
+struct OfferedAfter {
+    change: Change,
+    once: Answered,
+    twice: Answered,
+}
+
+impl Lent for OfferedAfter {
+    fn run<R: Wait + Abort>(
+        &self,
+        rt: &R,
+        alloc: Global,
+        session: &mut Session,
+    ) -> Result<(), Fail> {
+        open_movie(rt, alloc, session, PLAYFIELD, 200)?;
+        let (first, second) = run_twice(alloc, session)?;
+        session.edit(rt, 0, 2, edit_of(alloc, self.change)?)?;
+        let answers = (offer(session, first), offer(session, second));
+        check_same(rt, self.change, answers, (self.once, self.twice));
+        Ok(())
+    }
+}
+
+#[test]
+fn batches_count_as_far_as_the_inputs_agree(rt: HostRuntime) -> Result<(), Fail> {
+    let other = Answered::OtherCartridge { at: 3 };
+    let cases = [
+        (Change::InsertRight(64), taken(3, 64, 1), taken(3, 64, 0)),
+        (Change::InsertRight(63), taken(3, 63, 0), taken(3, 63, 0)),
+        (Change::Delete(10, 50), taken(3, 150, 2), taken(3, 150, 0)),
+        (Change::Insert(10, 50), taken(3, 200, 3), taken(3, 200, 0)),
+        (Change::Load(HALTING), other, other),
+        (Change::Load(PLAYFIELD), taken(3, 200, 3), taken(3, 200, 0)),
+    ];
+    for (change, once, twice) in cases {
+        let lent = OfferedAfter {
+            change,
+            once,
+            twice,
+        };
+        lend(&rt, rt.alloc(), &lent)?;
+    }
+    Ok(())
+}
+
+/// A batch of a new session's 200 frames of a program.
+fn batch_of<R: Wait + Abort>(rt: &R, alloc: Global, program: &'static [u8]) -> Result<Batch, Fail> {
+    let mut session: Session = Session::new(alloc)?;
+    let opened = open_movie(rt, alloc, &mut session, program, 200);
+    let batch = run(alloc, &session, 200);
+    session.close(rt);
+    opened?;
+    Ok(batch?)
+}
+
+/// Another session's batch of a program, offered to a session with 100 lit frames, and what is kept then.
+#[derive(Clone, Copy)]
+struct FromAnother {
+    program: &'static [u8],
+    answer: Answered,
+    kept: &'static str,
+}
+
+impl Lent for FromAnother {
+    fn run<R: Wait + Abort>(
+        &self,
+        rt: &R,
+        alloc: Global,
+        session: &mut Session,
+    ) -> Result<(), Fail> {
+        open_movie(rt, alloc, session, PLAYFIELD, 100)?;
+        let batch = batch_of(rt, alloc, self.program)?;
+        check_same(rt, self.answer, offer(session, batch), self.answer);
+        take_turns(rt, alloc, session, &[Turn::Kept(self.kept)])
+    }
+}
+
+#[test]
+fn batches_go_from_one_session_to_another(rt: HostRuntime) -> Result<(), Fail> {
+    let same = FromAnother {
+        program: PLAYFIELD,
+        answer: taken(2, 100, 1),
+        kept: "1: 64",
+    };
+    let other = FromAnother {
+        program: HALTING,
+        answer: Answered::OtherCartridge { at: 2 },
+        kept: "0:",
+    };
+    lend(&rt, rt.alloc(), &same)?;
+    lend(&rt, rt.alloc(), &other)?;
+    Ok(())
+}
