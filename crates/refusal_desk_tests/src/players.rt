@@ -36,7 +36,7 @@ pub enum Turn {
 }
 
 /// The turns of each player.
-static TURNS: [[Turn; 6]; 3] = [
+pub static TURNS: [[Turn; 6]; 3] = [
     [
         Turn::Edit,
         Turn::Work,
@@ -62,15 +62,6 @@ static TURNS: [[Turn; 6]; 3] = [
         Turn::Edit,
     ],
 ];
-
-/// The turns of the player with this number, up to 2.
-pub fn turns_of(number: usize) -> &'static [Turn] {
-    match number {
-        0 => &TURNS[0],
-        1 => &TURNS[1],
-        _ => &TURNS[2],
-    }
-}
 
 /// A seat with the edits that it will make, each of them twice, and what became of its calls.
 #[derive(Drop)]

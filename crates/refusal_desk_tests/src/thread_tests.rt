@@ -7,15 +7,14 @@ ghost use Rattle.tas_desk.specs.Seats.{name_of};
 use crate::checks::{check_same, check_that};
 use crate::desks::make_edits;
 use crate::edits::{Change, change_movie, edit_of};
-use crate::players::{FIRST_AT, FIRST_LEN, FRAME, Player, sum_of, turns_of};
+use crate::players::{FIRST_AT, FIRST_LEN, FRAME, Player, TURNS, sum_of};
 use crate::runs::{Heap, MOST, NEVER, Run};
 use refusals::Refusing;
 use std::alloc::Global;
 use std::marker::Brand;
 use std::sync::Wait;
 use std::test::Fail;
-use std::thread;
-use std::thread::Threads;
+use std::thread::{Threads, join_mut};
 use tas_desk::{Closed, Desk, Name, Seat, Unopened};
 use tas_movie::{Edit, Movie};
 use vcs_machine::{Meter, State, play};
@@ -102,13 +101,34 @@ fn take_turns<'a, N: Name + Send + Sync, R: Threads + Wait + Sync>(
     players: &mut [Player<'a, N>],
     sums: &[u64],
 ) {
-    thread::for_each_mut(
+    let Some((one, others)) = players.split_first_mut() else {
+        return;
+    };
+    join_mut(
         rt,
-        players,
-        3,
-        &|place, player| {
-            player.take_all(rt, heap, desk, sums, turns_of(place));
-        },
+        &mut || one.take_all(rt, heap, desk, sums, &TURNS[0]),
+        &mut || take_last_turns(rt, heap, desk, sums, others),
+    );
+}
+
+/// So do the last two of them.
+fn take_last_turns<'a, N: Name + Send + Sync, R: Threads + Wait + Sync>(
+    rt: &R,
+    heap: &'a Heap,
+    desk: &Desk<N, &R, &'a Heap>,
+    sums: &[u64],
+    players: &mut [Player<'a, N>],
+) {
+    let Some((two, others)) = players.split_first_mut() else {
+        return;
+    };
+    let Some(three) = others.first_mut() else {
+        return;
+    };
+    join_mut(
+        rt,
+        &mut || two.take_all(rt, heap, desk, sums, &TURNS[1]),
+        &mut || three.take_all(rt, heap, desk, sums, &TURNS[2]),
     );
 }
 

@@ -1,8 +1,10 @@
 //! The engines, called alike.
 
+use crate::checks::check_same;
 use crate::inputs::Bytes;
-use std::alloc::Allocator;
+use std::alloc::{Allocator, Global};
 use std::io::{Read, Write};
+use std::process::Abort;
 use std::sync::Wait;
 use std::thread::Threads;
 use tas_tool::{
@@ -11,7 +13,7 @@ use tas_tool::{
 };
 
 /// An engine of the program.
-#[derive(Clone, Copy, Debug, PartialEq, Eq)]
+#[derive(Clone, Copy, Debug)]
 pub enum Engine {
     Trace,
     Check,
@@ -42,14 +44,35 @@ pub const ENGINES: [Engine; 9] = [
 impl Engine {
     /// The input that it reads at this place, counted from 0; an empty one behind its last.
     pub fn input<'a>(self, bytes: &'a Bytes, place: usize) -> &'a [u8] {
-        match (self, place) {
-            (Engine::Script, 0) | (Engine::MovieScript, 2) => bytes.script.as_slice(),
-            (_, 0) => bytes.cart.as_slice(),
-            (Engine::Trace | Engine::Script, _) => bytes.none.as_slice(),
-            (Engine::Edit, 1) => bytes.changes.as_slice(),
-            (Engine::Edit, 2) | (_, 1) => bytes.old.as_slice(),
-            (Engine::Diff, 2) => bytes.new.as_slice(),
-            (Engine::DiffReplaced, 2) => bytes.replaced.as_slice(),
+        match place {
+            0 => self.first(bytes),
+            1 => self.second(bytes),
+            2 => self.third(bytes),
+            _ => bytes.none.as_slice(),
+        }
+    }
+
+    fn first<'a>(self, bytes: &'a Bytes) -> &'a [u8] {
+        match self {
+            Engine::Script => bytes.script.as_slice(),
+            _ => bytes.cart.as_slice(),
+        }
+    }
+
+    fn second<'a>(self, bytes: &'a Bytes) -> &'a [u8] {
+        match self {
+            Engine::Trace | Engine::Script => bytes.none.as_slice(),
+            Engine::Edit => bytes.changes.as_slice(),
+            _ => bytes.old.as_slice(),
+        }
+    }
+
+    fn third<'a>(self, bytes: &'a Bytes) -> &'a [u8] {
+        match self {
+            Engine::Edit => bytes.old.as_slice(),
+            Engine::Diff => bytes.new.as_slice(),
+            Engine::DiffReplaced => bytes.replaced.as_slice(),
+            Engine::MovieScript => bytes.script.as_slice(),
             _ => bytes.none.as_slice(),
         }
     }
@@ -64,6 +87,19 @@ impl Engine {
     }
 }
 
+/// What an engine answers to good inputs.
+pub fn answer_of<T: Wait + Threads + Abort + Sync>(
+    rt: &T,
+    alloc: Global,
+    engine: Engine,
+    bytes: &Bytes,
+) -> Vec<u8> {
+    let mut answer = Vec::new(alloc);
+    let end = run_whole(rt, alloc, engine, bytes, &mut answer);
+    check_same(rt, (engine, "answer"), end, Ok(()));
+    answer
+}
+
 /// Runs an engine over good inputs into a writer.
 pub fn run_whole<T: Wait + Threads + Sync, A: Allocator + Copy + Send + Sync, W: Write>(
     rt: &T,
@@ -72,9 +108,9 @@ pub fn run_whole<T: Wait + Threads + Sync, A: Allocator + Copy + Send + Sync, W:
     bytes: &Bytes,
     output: &mut W,
 ) -> Result<(), ToolFault> {
-    let mut first = engine.input(bytes, 0);
-    let mut second = engine.input(bytes, 1);
-    let mut third = engine.input(bytes, 2);
+    let mut first = engine.first(bytes);
+    let mut second = engine.second(bytes);
+    let mut third = engine.third(bytes);
     run(
         rt,
         alloc,

@@ -2,10 +2,12 @@
 
 ghost use Rattle.std.specs.Prelude.{◌≤◌};
 
-use crate::engines::{Engine, run_whole};
+use crate::checks::check_same;
+use crate::engines::{Engine, answer_of, run_whole};
 use crate::inputs::{Bytes, make_inputs};
 use refusals::Refusing;
 use std::alloc::Global;
+use std::process::Abort;
 use std::sync::Wait;
 use std::test::Fail;
 use std::thread::Threads;
@@ -29,7 +31,7 @@ enum Run {
 
 /// Whether nothing was written, or, by a script, what it replied to its first lines.
 fn is_start(engine: Engine, output: &[u8], whole: &[u8]) -> bool {
-    let is_script = engine == Engine::Script || engine == Engine::MovieScript;
+    let is_script = matches!(engine, Engine::Script | Engine::MovieScript);
     output.is_empty() || is_script && whole.starts_with(output)
 }
 
@@ -73,6 +75,30 @@ fn run_refused<T: Wait + Threads + Sync>(
     }
 }
 
+/// Each growth of an engine is refused in turn: how many end it, and how many a script tells in a reply.
+fn refuse_each<T: Wait + Threads + Abort + Sync>(
+    rt: &T,
+    alloc: Global,
+    engine: Engine,
+    bytes: &Bytes,
+) -> (u64, u64) {
+    let whole = answer_of(rt, alloc, engine, bytes);
+    let (mut refused, mut replied) = (0u64, 0u64);
+    for number in 1..MOST {
+        let run = run_refused(rt, alloc, engine, bytes, whole.as_slice(), number);
+        if run == Run::Done {
+            break;
+        }
+        if run == Run::Replied {
+            replied = replied.saturating_add(1);
+        } else {
+            check_same(rt, (engine, "growth", number), run, Run::Refused);
+            refused = refused.saturating_add(1);
+        }
+    }
+    (refused, replied)
+}
+
 #[test]
 fn each_growth_refused(rt: HostRuntime) -> Result<(), Fail> {
     let engines = [
@@ -91,22 +117,8 @@ fn each_growth_refused(rt: HostRuntime) -> Result<(), Fail> {
     let alloc = rt.alloc();
     let bytes = make_inputs(alloc)?;
     for (engine, growths, replies) in engines {
-        let mut whole = Vec::new(alloc);
-        assert_eq!(rt; run_whole(&rt, alloc, engine, &bytes, &mut whole), Ok(()));
-        let (mut refused, mut replied) = (0u64, 0u64);
-        for number in 1..MOST {
-            let run = run_refused(&rt, alloc, engine, &bytes, whole.as_slice(), number);
-            if run == Run::Done {
-                break;
-            }
-            if run == Run::Replied {
-                replied = replied.saturating_add(1);
-            } else {
-                assert_eq!(rt; run, Run::Refused, "{engine:?}, growth {number}");
-                refused = refused.saturating_add(1);
-            }
-        }
-        assert_eq!(rt; (refused, replied), (growths, replies), "{engine:?}");
+        let told = refuse_each(&rt, alloc, engine, &bytes);
+        check_same(&rt, (engine, "growths"), told, (growths, replies));
     }
     Ok(())
 }

@@ -1,8 +1,10 @@
 //! Reads that fail, give one byte, or end early.
 
-use crate::engines::{ENGINES, Engine, run, run_whole};
+use crate::checks::{check_same, check_that};
+use crate::engines::{ENGINES, Engine, answer_of, run};
 use crate::inputs::{Bytes, make_inputs};
 use std::alloc::Global;
+use std::process::Abort;
 use std::sync::Wait;
 use std::test::Fail;
 use std::thread::Threads;
@@ -69,16 +71,43 @@ fn is_stopped(done: &Done, input: usize, read: usize) -> bool {
     done.end == Err(ToolFault::Read) && is_last && done.written.is_empty()
 }
 
-/// How often each input is read where no read fails: so many for its bytes, and one that gives none.
+/// How often an input is read where no read fails: so many for its bytes, and one that gives none.
+fn reads_of(input: &[u8]) -> usize {
+    input.len().div_ceil(2000).saturating_add(1)
+}
+
+/// How often each input is read where no read fails.
 fn whole_reads(engine: Engine, bytes: &Bytes) -> [usize; 3] {
     let mut reads = [0; 3];
     for input in 0..engine.count() {
         if input < 3 {
-            let size = engine.input(bytes, input).len();
-            reads[input] = size.div_ceil(2000).saturating_add(1);
+            reads[input] = reads_of(engine.input(bytes, input));
         }
     }
     reads
+}
+
+/// Each read of an input fails in turn: how many there are. Where none fails, the engine answers.
+fn fail_each<T: Wait + Threads + Abort + Sync>(
+    rt: &T,
+    alloc: Global,
+    engine: Engine,
+    bytes: &Bytes,
+    whole: &[u8],
+    input: usize,
+) -> usize {
+    let mut failed = 0;
+    for read in 1..MOST {
+        let done = run_failing(rt, alloc, engine, bytes, 2000, failing(input, read));
+        if done.end.is_ok() {
+            check_that(rt, engine, done.written.as_slice() == whole);
+            check_same(rt, engine, done.reads, whole_reads(engine, bytes));
+            break;
+        }
+        check_that(rt, (engine, input, read), is_stopped(&done, input, read));
+        failed = read;
+    }
+    failed
 }
 
 #[test]
@@ -86,30 +115,12 @@ fn each_read_failing(rt: HostRuntime) -> Result<(), Fail> {
     let alloc = rt.alloc();
     let bytes = make_inputs(alloc)?;
     for engine in ENGINES {
-        let mut whole = Vec::new(alloc);
-        assert_eq!(rt; run_whole(&rt, alloc, engine, &bytes, &mut whole), Ok(()));
+        let whole = answer_of(&rt, alloc, engine, &bytes);
         for input in 0..engine.count() {
-            let mut failed = 0;
-            for read in 1..MOST {
-                let done = run_failing(&rt, alloc, engine, &bytes, 2000, failing(input, read));
-                if done.end.is_ok() {
-                    assert!(rt; done.written.as_slice() == whole.as_slice(), "{engine:?}");
-                    assert_eq!(rt; done.reads, whole_reads(engine, &bytes), "{engine:?}");
-                    break;
-                }
-                assert!(rt;
-                    is_stopped(&done, input, read),
-                    "{engine:?} {input}, read {read}"
-                );
-                failed = read;
-            }
+            let failed = fail_each(&rt, alloc, engine, &bytes, whole.as_slice(), input);
             // A read that gives the last bytes, and one that gives none.
-            let size = engine.input(&bytes, input).len();
-            assert_eq!(rt;
-                failed,
-                size.div_ceil(2000).saturating_add(1),
-                "{engine:?} {input}"
-            );
+            let wanted = reads_of(engine.input(&bytes, input));
+            check_same(&rt, (engine, input), failed, wanted);
         }
     }
     Ok(())
@@ -120,11 +131,10 @@ fn one_byte_at_each_read(rt: HostRuntime) -> Result<(), Fail> {
     let alloc = rt.alloc();
     let bytes = make_inputs(alloc)?;
     for engine in ENGINES {
-        let mut whole = Vec::new(alloc);
-        assert_eq!(rt; run_whole(&rt, alloc, engine, &bytes, &mut whole), Ok(()));
+        let whole = answer_of(&rt, alloc, engine, &bytes);
         let done = run_failing(&rt, alloc, engine, &bytes, 1, [0, 0, 0]);
-        assert_eq!(rt; done.end, Ok(()), "{engine:?}");
-        assert!(rt; done.written.as_slice() == whole.as_slice(), "{engine:?}");
+        check_same(&rt, engine, done.end, Ok(()));
+        check_that(&rt, engine, done.written.as_slice() == whole.as_slice());
     }
     Ok(())
 }
@@ -187,7 +197,7 @@ fn inputs_that_end_early(rt: HostRuntime) -> Result<(), Fail> {
                 Ok(()) => false,
                 Err(fault) => tells_early_end(engine, input, fault),
             };
-            assert!(rt; is_told, "{engine:?} {input}");
+            check_that(&rt, (engine, input), is_told);
         }
     }
     Ok(())

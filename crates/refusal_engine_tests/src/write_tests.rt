@@ -1,6 +1,7 @@
 //! Writes that fail, take a few bytes, or take none.
 
-use crate::engines::{Engine, run_whole};
+use crate::checks::{check_same, check_that};
+use crate::engines::{Engine, answer_of, run_whole};
 use crate::inputs::make_inputs;
 use std::alloc::Global;
 use std::process::Abort;
@@ -23,34 +24,24 @@ fn fail_each<T: Wait + Threads + Abort + Sync>(
     failure: Failure,
 ) -> Result<(), Fail> {
     let bytes = make_inputs(alloc)?;
-    let mut whole = Vec::new(alloc);
-    let end = run_whole(rt, alloc, engine, &bytes, &mut whole);
-    assert_eq!(rt; end, Ok(()));
+    let whole = answer_of(rt, alloc, engine, &bytes);
     let mut failed = 0;
     for taken in 0..MOST {
         let mut output = Taker::new(alloc, at_once, Room::Writes(taken), failure);
         let end = run_whole(rt, alloc, engine, &bytes, &mut output);
         if end.is_ok() {
-            assert!(rt; output.taken == whole, "{engine:?}");
+            check_that(rt, engine, output.taken == whole);
             break;
         }
         let written = output.taken.len();
-        assert_eq!(rt;
-            end,
-            Err(ToolFault::Write { written }),
-            "{engine:?} {taken}"
-        );
-        assert!(rt;
-            whole.starts_with(output.taken.as_slice()),
-            "{engine:?} {taken}"
-        );
-        assert!(rt;
-            output.writes == taken + 1 && output.failed == 1 && written < whole.len(),
-            "{engine:?} {taken}"
-        );
+        let is_start = written < whole.len() && whole.starts_with(output.taken.as_slice());
+        let is_last = output.writes == taken + 1 && output.failed == 1;
+        check_same(rt, (engine, taken), end, Err(ToolFault::Write { written }));
+        check_that(rt, (engine, taken, "first bytes"), is_start);
+        check_that(rt, (engine, taken, "last write"), is_last);
         failed = taken + 1;
     }
-    assert!(rt; failed > 0, "{engine:?}");
+    check_that(rt, engine, failed > 0);
     Ok(())
 }
 

@@ -53,7 +53,7 @@ fn shoot(alloc: Global, session: &mut Session, k: usize) -> (Result<Seen, ShotEr
 }
 
 /// The places of the kept states, after their number.
-pub fn kept(alloc: Global, session: &Session) -> Result<String, Fail> {
+fn kept(alloc: Global, session: &Session) -> Result<String, Fail> {
     let green = session.green();
     let mut text = format!(in alloc; "{}:", green.count())?;
     for frame in 0..MAX_FRAMES + 1 {
