@@ -11,9 +11,13 @@ use std::thread::Threads;
 /// are black.
 const BRIEF: &[u8] = b"\xA9\x02\x85\x00\xA9\x00\x85\x00\x4C\x00\xF0";
 
-/// The head of the movie texts of this cartridge, with its SHA-256 by another program.
-const HEAD: &[u8] =
+/// The head of the older movie texts of this cartridge, with its SHA-256 by another program.
+const OLDER_HEAD: &[u8] =
     b"a26movie 1\ncart 6cf6d08d00f622eb70fbc534921dcd728359a14a5b46045bfe15f95ccb9a3543\n";
+
+/// The head of the texts of runs.
+const HEAD: &[u8] =
+    b"a26movie 2\ncart 6cf6d08d00f622eb70fbc534921dcd728359a14a5b46045bfe15f95ccb9a3543\n";
 
 const FRAME: &[u8] = b"..... ..... .....\n";
 
@@ -46,9 +50,14 @@ fn repeated(alloc: Global, front: &[u8], copy: &[u8], count: usize) -> Result<Ve
     Ok(bytes)
 }
 
-/// The text of a movie with so many frames of nothing pressed.
-fn movie(alloc: Global, frames: usize) -> Result<Vec<u8>, Fail> {
-    repeated(alloc, HEAD, FRAME, frames)
+/// The older text of a movie with so many frames of nothing pressed.
+fn older_movie(alloc: Global, frames: usize) -> Result<Vec<u8>, Fail> {
+    repeated(alloc, OLDER_HEAD, FRAME, frames)
+}
+
+/// The text of runs with these lines.
+fn runs(alloc: Global, lines: &[u8]) -> Result<Vec<u8>, Fail> {
+    repeated(alloc, HEAD, lines, 1)
 }
 
 /// How the program ends.
@@ -93,7 +102,7 @@ fn ends<R: Threads + Wait + Abort + Sync>(
 #[test]
 fn numbers_of_the_words(rt: HostRuntime) -> Result<(), Fail> {
     let alloc = rt.alloc();
-    let (game, text) = (cart(alloc, BRIEF)?, movie(alloc, 2)?);
+    let (game, text) = (cart(alloc, BRIEF)?, older_movie(alloc, 2)?);
     let files = Files {
         game: game.as_slice(),
         other: b"",
@@ -159,23 +168,29 @@ fn lines_of_a_trace(rt: HostRuntime) -> Result<(), Fail> {
 }
 
 #[test]
-fn frames_of_a_movie(rt: HostRuntime) -> Result<(), Fail> {
+fn frames_of_an_older_movie(rt: HostRuntime) -> Result<(), Fail> {
     let alloc = rt.alloc();
-    let (game, longest) = (cart(alloc, BRIEF)?, movie(alloc, 65_536)?);
-    let longer = movie(alloc, 65_537)?;
+    let (game, longest) = (cart(alloc, BRIEF)?, older_movie(alloc, 65_536)?);
+    let longer = older_movie(alloc, 65_537)?;
     let files = Files {
         game: game.as_slice(),
         other: b"",
     };
     let too_many = End::Faults(b"fault: movie line 65539: too many\n");
     let no_frame = End::Faults(b"fault: no frame 65536 of 65536\n");
-    let cases: [(&[&str], &[u8], End); 5] = [
+    let cases: [(&[&str], &[u8], End); 7] = [
         (
             &["check", "game.bin"],
             &longest,
             End::Writes(16, b"ok 65536 frames\n"),
         ),
         (&["check", "game.bin"], &longer, too_many),
+        (
+            &["migrate", "game.bin"],
+            &longest,
+            End::Writes(106, b"\n..... ..... ..... x65536\n"),
+        ),
+        (&["migrate", "game.bin"], &longer, too_many),
         (
             &["shot", "game.bin", "65535"],
             &longest,
@@ -190,16 +205,73 @@ fn frames_of_a_movie(rt: HostRuntime) -> Result<(), Fail> {
     Ok(())
 }
 
+/// The text of runs with the most frames, in one run and in two.
+#[test]
+fn frames_of_a_movie(rt: HostRuntime) -> Result<(), Fail> {
+    let alloc = rt.alloc();
+    let game = cart(alloc, BRIEF)?;
+    let files = Files {
+        game: game.as_slice(),
+        other: b"",
+    };
+    let longest = runs(alloc, b"..... ..... ..... x262144\n")?;
+    let parted = runs(alloc, b"..... ..... ..... x262143\nR.... ..... .....\n")?;
+    let all = End::Writes(17, b"ok 262144 frames\n");
+    let migrated = End::Writes(125, b" x262143\nR.... ..... .....\n");
+    let last = End::Writes(PICTURE, b"\0");
+    let no_frame = End::Faults(b"fault: no frame 262144 of 262144\n");
+    let cases: [(&[&str], &[u8], End); 5] = [
+        (&["check", "game.bin"], &longest, all),
+        (&["check", "game.bin"], &parted, all),
+        (&["migrate", "game.bin"], &parted, migrated),
+        (&["shot", "game.bin", "262143"], &longest, last),
+        (&["shot", "game.bin", "262144"], &longest, no_frame),
+    ];
+    for (words, text, end) in cases {
+        ends(&rt, alloc, words, files, text, end)?;
+    }
+    Ok(())
+}
+
+/// Runs with one frame more than the most, and two that would be one.
+#[test]
+fn runs_past_their_limits(rt: HostRuntime) -> Result<(), Fail> {
+    let alloc = rt.alloc();
+    let game = cart(alloc, BRIEF)?;
+    let files = Files {
+        game: game.as_slice(),
+        other: b"",
+    };
+    let frame = End::Faults(b"fault: movie line 3: frame\n");
+    let run = End::Faults(b"fault: movie line 4: run\n");
+    let too_many = End::Faults(b"fault: movie line 4: too many\n");
+    let cases: [(&[u8], End); 5] = [
+        (b"..... ..... ..... x262145\n", frame),
+        (b"..... ..... ..... x1\n", frame),
+        (b"..... ..... ..... x2\n..... ..... .....\n", run),
+        (b"..... ..... ..... x262144\nR.... ..... .....\n", too_many),
+        (
+            b"..... ..... ..... x262143\nR.... ..... ..... x2\n",
+            too_many,
+        ),
+    ];
+    for (lines, end) in cases {
+        let text = runs(alloc, lines)?;
+        ends(&rt, alloc, &["check", "game.bin"], files, &text, end)?;
+    }
+    Ok(())
+}
+
 /// Edits at the most frames, by `tas edit` of a movie of three frames and by `tas script`.
 #[test]
 fn frames_of_an_edit(rt: HostRuntime) -> Result<(), Fail> {
     let alloc = rt.alloc();
-    let (game, text) = (cart(alloc, BRIEF)?, movie(alloc, 3)?);
-    let longest = End::Writes(81 + 65_536 * 18, FRAME);
+    let (game, text) = (cart(alloc, BRIEF)?, older_movie(alloc, 3)?);
+    let longest = End::Writes(107, b"\n..... ..... ..... x262144\n");
     let too_long = End::Faults(b"fault: script line 1: long\n");
     let cases: [(&[u8], End); 2] = [
-        (b"insert 3 65533 ..... ..... .....\n", longest),
-        (b"insert 3 65534 ..... ..... .....\n", too_long),
+        (b"insert 3 262141 ..... ..... .....\n", longest),
+        (b"insert 3 262142 ..... ..... .....\n", too_long),
     ];
     for (other, end) in cases {
         let files = Files {
@@ -220,8 +292,8 @@ fn frames_of_an_edit(rt: HostRuntime) -> Result<(), Fail> {
         other: b"",
     };
     let script =
-        b"insert 0 65537 ..... ..... .....\ninsert 0 65536 ..... ..... .....\ninsert 0 1 ..... ..... .....\n";
-    let replies = b"long 0 len 0\nedit 1 len 65536\nlong 1 len 65536\n";
+        b"insert 0 262145 ..... ..... .....\ninsert 0 262144 ..... ..... .....\ninsert 0 1 ..... ..... .....\n";
+    let replies = b"long 0 len 0\nedit 1 len 262144\nlong 1 len 262144\n";
     ends(
         &rt,
         alloc,
@@ -235,7 +307,10 @@ fn frames_of_an_edit(rt: HostRuntime) -> Result<(), Fail> {
 #[test]
 fn frames_of_one_export(rt: HostRuntime) -> Result<(), Fail> {
     let alloc = rt.alloc();
-    let (game, text) = (cart(alloc, BRIEF)?, movie(alloc, 1025)?);
+    let (game, text) = (
+        cart(alloc, BRIEF)?,
+        runs(alloc, b"..... ..... ..... x1025\n")?,
+    );
     let files = Files {
         game: game.as_slice(),
         other: b"",

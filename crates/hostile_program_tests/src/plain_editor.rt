@@ -1,7 +1,7 @@
 //! A second answerer of scripts of few frames, as plain as can be: each shot is played from power-on, the frames before it without
 //! a picture.
 
-use crate::plain_script::{Frame, Line, read_line};
+use crate::plain_script::{Frame, Image, Line, read_line};
 use std::alloc::Global;
 use std::test::Fail;
 use vcs_cpu::Halt;
@@ -9,13 +9,13 @@ use vcs_machine::{Cart, Input, Meter, State, Stick, play, play_unseen};
 use vcs_tia::Picture;
 
 /// The most frames of a movie.
-const MOST: usize = 65_536;
+const MOST: usize = 262_144;
 
 /// A movie under edits.
 #[derive(Drop)]
 struct Editor {
     edits: u64,
-    image: [u8; 4096],
+    image: Image,
     frames: Vec<Frame>,
 }
 
@@ -54,7 +54,10 @@ impl Editor {
     fn new(alloc: Global) -> Editor {
         Editor {
             edits: 0,
-            image: [0u8; 4096],
+            image: Image {
+                bytes: [0u8; 4096],
+                size: 4096,
+            },
             frames: Vec::new(alloc),
         }
     }
@@ -78,7 +81,8 @@ impl Editor {
 
     /// How many pixels of a frame aren't black, or why it isn't drawn.
     fn draw(&self, alloc: Global, k: usize) -> Result<Result<usize, Halt>, Fail> {
-        let cart = Cart::from_bytes(alloc, &self.image)?;
+        let bytes = self.image.bytes.get(..self.image.size).ok_or("an image")?;
+        let cart = Cart::from_bytes(alloc, bytes)?;
         let mut picture = Picture::blank(alloc)?;
         let mut state = State::power_on(&cart);
         let mut halted = None;

@@ -9,10 +9,17 @@ pub const LETTERS: &[u8; 17] = b"RLDUF RLDUF rsbAB";
 /// The letters and dots of a frame.
 pub type Frame = [u8; 17];
 
+/// A cartridge's bytes: the first `size` of these.
+#[derive(Clone, Copy)]
+pub struct Image {
+    pub bytes: [u8; 4096],
+    pub size: usize,
+}
+
 /// What a line of a script asks for.
 #[derive(Clone, Copy)]
 pub enum Line {
-    Load([u8; 4096]),
+    Load(Image),
     Insert(usize, usize, Frame),
     Replace(usize, usize, Frame),
     Delete(usize, usize),
@@ -65,8 +72,8 @@ fn hexadecimal(digits: &[u8]) -> Option<usize> {
     Some(value)
 }
 
-/// Writes the bytes of a word `OFF=HEX` into an image. Whether it is such a word.
-fn write_part(word: &[u8], image: &mut [u8; 4096]) -> Option<()> {
+/// Writes the bytes of a word `OFF=HEX` into an image. Nothing where it is no such word.
+fn write_part(word: &[u8], image: &mut [u8]) -> Option<()> {
     let (offset, digits) = (word.get(..3)?, word.get(4..)?);
     if word.get(3) != Some(&b'=') || digits.is_empty() || digits.len() % 2 != 0 {
         return None;
@@ -79,13 +86,17 @@ fn write_part(word: &[u8], image: &mut [u8; 4096]) -> Option<()> {
     Some(())
 }
 
-/// The image of a `load` line with these parts.
-fn image_of(parts: &[&[u8]]) -> Option<[u8; 4096]> {
-    let mut image = [0u8; 4096];
+/// The image of so many bytes with these parts.
+fn image_of(size: usize, parts: &[&[u8]]) -> Option<Image> {
+    let mut bytes = [0u8; 4096];
     for part in parts {
-        write_part(part, &mut image)?;
+        write_part(part, bytes.get_mut(..size)?)?;
     }
-    if parts.is_empty() { None } else { Some(image) }
+    if parts.is_empty() {
+        None
+    } else {
+        Some(Image { bytes, size })
+    }
 }
 
 /// The frame of three words.
@@ -145,7 +156,9 @@ pub fn read_line(alloc: Global, line: &[u8]) -> Result<Option<Line>, Fail> {
         return Ok(None);
     };
     Ok(if *name == b"load".as_slice() {
-        image_of(words).map(Line::Load)
+        image_of(4096, words).map(Line::Load)
+    } else if *name == b"load2".as_slice() {
+        image_of(2048, words).map(Line::Load)
     } else if *name == b"insert".as_slice() {
         frames(words).map(|(place, count, frame)| Line::Insert(place, count, frame))
     } else if *name == b"replace".as_slice() {

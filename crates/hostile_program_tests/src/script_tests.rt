@@ -25,6 +25,11 @@ static REPLIES: &[u8] =
     b"len 0 0\nedit 1 len 0\nedit 2 len 2\ninput 2 R.... ..... .....\nedit 3 len 1\n\
     edit 4 len 1\nlen 4 1\nedit 5 len 2\nwork jobs 1 kept 0 stale 0\nshot 5 1 ran 2 lit 320\n";
 
+/// Three lines with the same program in a small cartridge, the last byte of which is given too.
+static SMALL: &[u8] = b"load2 000=AD800249FF8509A2248502CAD0FBA902850086004C00F0 7FC=00F01234\n\
+    insert 0 1 R.... ..... .....\n\
+    shot 0\n";
+
 /// Whether a script is answered as the second reader answers it.
 fn is_alike<R: Wait>(rt: &R, alloc: Global, script: &[u8]) -> Result<bool, Fail> {
     let mut replies = Vec::new(alloc);
@@ -52,10 +57,16 @@ fn scripts_are_cut_off_anywhere(rt: HostRuntime) -> Result<(), Fail> {
     Ok(())
 }
 
-/// Puts each byte in turn at each of these places of the script.
-fn change_each<R: Wait + Abort>(rt: &R, alloc: Global, from: usize, to: usize) -> Result<(), Fail> {
+/// Puts each byte in turn at each of these places of a script.
+fn change_each<R: Wait + Abort>(
+    rt: &R,
+    alloc: Global,
+    right: &[u8],
+    from: usize,
+    to: usize,
+) -> Result<(), Fail> {
     let mut script = Vec::new(alloc);
-    script.extend_from_slice(SCRIPT)?;
+    script.extend_from_slice(right)?;
     for place in from..to {
         for byte in 0..=255u8 {
             if let Some(at) = script.get_mut(place) {
@@ -76,20 +87,42 @@ fn change_each<R: Wait + Abort>(rt: &R, alloc: Global, from: usize, to: usize) -
 
 #[test]
 fn each_byte_of_the_load_line_may_be_wrong(rt: HostRuntime) -> Result<(), Fail> {
-    change_each(&rt, rt.alloc(), 0, 69)
+    change_each(&rt, rt.alloc(), SCRIPT, 0, 69)
 }
 
 #[test]
 fn each_byte_up_to_the_deletion_may_be_wrong(rt: HostRuntime) -> Result<(), Fail> {
-    change_each(&rt, rt.alloc(), 69, 117)
+    change_each(&rt, rt.alloc(), SCRIPT, 69, 117)
 }
 
 #[test]
 fn each_byte_of_the_replacement_may_be_wrong(rt: HostRuntime) -> Result<(), Fail> {
-    change_each(&rt, rt.alloc(), 117, 151)
+    change_each(&rt, rt.alloc(), SCRIPT, 117, 151)
 }
 
 #[test]
 fn each_byte_of_the_last_lines_may_be_wrong(rt: HostRuntime) -> Result<(), Fail> {
-    change_each(&rt, rt.alloc(), 151, SCRIPT.len())
+    change_each(&rt, rt.alloc(), SCRIPT, 151, SCRIPT.len())
+}
+
+#[test]
+fn small_cartridges_are_cut_off_anywhere(rt: HostRuntime) -> Result<(), Fail> {
+    let alloc = rt.alloc();
+    let (replies, fault) = answer_plainly(alloc, SMALL)?;
+    assert_eq!(rt;
+        replies.as_slice(),
+        b"edit 1 len 0\nedit 2 len 1\nshot 2 0 ran 1 lit 320\n".as_slice()
+    );
+    assert_eq!(rt; fault, None);
+    for count in 0..SMALL.len() + 1 {
+        if let Some(front) = SMALL.get(..count) {
+            assert!(rt; is_alike(&rt, alloc, front)?, "{count} bytes");
+        }
+    }
+    Ok(())
+}
+
+#[test]
+fn each_byte_of_the_line_of_a_small_cartridge_may_be_wrong(rt: HostRuntime) -> Result<(), Fail> {
+    change_each(&rt, rt.alloc(), SMALL, 0, 70)
 }

@@ -5,11 +5,53 @@ use tas_movie::{TextError, TextErrorKind};
 /// The letters of a frame, each where it stands when it is pressed or set.
 const LETTERS: &[u8; 17] = b"RLDUF RLDUF rsbAB";
 
+/// How many frames a movie has at most.
+const MOST: usize = 262_144;
+
 /// Whether a line is a frame: a letter or a dot at each place, and the two spaces.
 fn is_frame(line: &[u8]) -> bool {
     line.len() == 17
         && line.iter().zip(LETTERS).all(|(byte, letter)| byte == letter
             || (*byte == b'.' && *letter != b' '))
+}
+
+/// The number of a run: 2 at least, without leading zeros.
+fn count_of(digits: &[u8]) -> Option<usize> {
+    if digits.is_empty() || digits.len() > 6 || digits.starts_with(b"0") {
+        return None;
+    }
+    let mut count = 0usize;
+    for digit in digits {
+        if *digit < b'0' || *digit > b'9' {
+            return None;
+        }
+        count = count
+            .wrapping_mul(10)
+            .wrapping_add((*digit - b'0') as usize);
+    }
+    if count < 2 || count > MOST {
+        return None;
+    }
+    Some(count)
+}
+
+/// The frame that a line says, and how many there are of it.
+fn said(line: &[u8], has_runs: bool) -> Option<(&[u8], usize)> {
+    if line.len() < 17 {
+        return None;
+    }
+    let (frame, behind) = line.split_at(17);
+    if !is_frame(frame) {
+        return None;
+    }
+    if behind.is_empty() {
+        return Some((frame, 1));
+    }
+    if !has_runs {
+        return None;
+    }
+    let count = count_of(behind.strip_prefix(b" x".as_slice())?)?;
+    Some((frame, count))
 }
 
 fn fault(line: usize, kind: TextErrorKind) -> Result<usize, TextError> {
@@ -19,24 +61,45 @@ fn fault(line: usize, kind: TextErrorKind) -> Result<usize, TextError> {
 /// How many frames a text of few lines has, or its first line at fault. The second line is the cartridge's.
 pub fn read_plainly(text: &[u8], second: &[u8]) -> Result<usize, TextError> {
     let mut rest = text;
+    let mut has_runs = false;
+    let mut frames = 0usize;
+    let mut before = b"".as_slice();
     for number in 1..20usize {
         let Some(end) = rest.iter().position(|byte| *byte == b'\n') else {
             if rest.is_empty() && number > 2 {
-                return Ok(number - 3);
+                return Ok(frames);
             }
             return fault(number, TextErrorKind::End);
         };
         let (line, others) = rest.split_at(end);
-        if number == 1 && line != b"a26movie 1".as_slice() {
-            return fault(number, TextErrorKind::Head);
-        }
-        if number == 2 && line != second {
-            return fault(number, TextErrorKind::Digest);
-        }
-        if number > 2 && !is_frame(line) {
-            return fault(number, TextErrorKind::Frame);
-        }
         rest = &others[1..];
+        if number == 1 {
+            has_runs = line == b"a26movie 2".as_slice();
+            if !has_runs && line != b"a26movie 1".as_slice() {
+                return fault(number, TextErrorKind::Head);
+            }
+            continue;
+        }
+        if number == 2 {
+            if line != second {
+                return fault(number, TextErrorKind::Digest);
+            }
+            continue;
+        }
+        if frames >= MOST {
+            return fault(number, TextErrorKind::TooMany);
+        }
+        let Some((frame, count)) = said(line, has_runs) else {
+            return fault(number, TextErrorKind::Frame);
+        };
+        if has_runs && frame == before {
+            return fault(number, TextErrorKind::Run);
+        }
+        frames = frames.wrapping_add(count);
+        if frames > MOST {
+            return fault(number, TextErrorKind::TooMany);
+        }
+        before = frame;
     }
     fault(20, TextErrorKind::TooMany)
 }

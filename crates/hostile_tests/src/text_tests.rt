@@ -3,6 +3,7 @@
 use crate::images::program;
 use crate::plain_reader::read_plainly;
 use std::alloc::Global;
+use std::process::Abort;
 use std::test::Fail;
 use tas_movie::{ReadError, TextError, read_text};
 use vcs_machine::Cart;
@@ -19,6 +20,10 @@ static TEXT: &[u8] = b"a26movie 1\n\
     cart 820c64e9933496de683a000c5e11f0510fb7b1699b2ce86471295236b284906d\n\
     ..... ..... .....\nRL..F .LDU. r.bAB\n..... ..... .....\n";
 
+static RUNS: &[u8] = b"a26movie 2\n\
+    cart 820c64e9933496de683a000c5e11f0510fb7b1699b2ce86471295236b284906d\n\
+    ..... ..... ..... x12\nRL..F .LDU. r.bAB\n..... ..... ..... x200\n..... ..... ....B\n";
+
 /// How many frames a text has, or its first line at fault; 'None' after want of memory.
 fn read(alloc: Global, text: &[u8], cart: &Cart) -> Option<Result<usize, TextError>> {
     match read_text(alloc, text, cart) {
@@ -32,39 +37,51 @@ fn read(alloc: Global, text: &[u8], cart: &Cart) -> Option<Result<usize, TextErr
 fn texts_are_cut_off_anywhere(rt: HostRuntime) -> Result<(), Fail> {
     let alloc = rt.alloc();
     let cart = playfield(alloc)?;
-    assert_eq!(rt; TEXT.len(), 135);
-    for count in 0..136usize {
-        if let Some(front) = TEXT.get(..count) {
-            let want = read_plainly(front, CART_LINE);
-            assert_eq!(rt; read(alloc, front, &cart), Some(want), "{count} bytes");
+    assert_eq!(rt; (TEXT.len(), RUNS.len()), (135, 162));
+    for text in [TEXT, RUNS] {
+        for count in 0..163usize {
+            if let Some(front) = text.get(..count) {
+                let want = read_plainly(front, CART_LINE);
+                assert_eq!(rt; read(alloc, front, &cart), Some(want), "{count} bytes");
+            }
         }
     }
     assert_eq!(rt; read_plainly(TEXT, CART_LINE), Ok(3));
+    assert_eq!(rt; read_plainly(RUNS, CART_LINE), Ok(214));
     Ok(())
 }
 
-#[test]
-fn each_byte_may_be_wrong(rt: HostRuntime) -> Result<(), Fail> {
-    let alloc = rt.alloc();
+/// Reads the text with each other byte at each of some places, and compares it with the plain reader.
+fn spoil(rt: &impl Abort, alloc: Global, text: &[u8], places: (usize, usize)) -> Result<(), Fail> {
     let cart = playfield(alloc)?;
-    let mut text = Vec::new(alloc);
-    text.extend_from_slice(TEXT)?;
-    for place in 0..100usize {
+    let mut spoilt = Vec::from_slice(alloc, text)?;
+    for place in places.0..places.1 {
         for byte in 0..=255u8 {
-            if let Some(at) = text.get_mut(place) {
+            if let Some(at) = spoilt.get_mut(place) {
                 let before = *at;
                 *at = byte;
-                let want = read_plainly(&text, CART_LINE);
+                let want = read_plainly(&spoilt, CART_LINE);
                 assert_eq!(rt;
-                    read(alloc, &text, &cart),
+                    read(alloc, &spoilt, &cart),
                     Some(want),
                     "byte {place} is {byte}"
                 );
-                if let Some(at) = text.get_mut(place) {
+                if let Some(at) = spoilt.get_mut(place) {
                     *at = before;
                 }
             }
         }
     }
     Ok(())
+}
+
+#[test]
+fn each_byte_may_be_wrong(rt: HostRuntime) -> Result<(), Fail> {
+    spoil(&rt, rt.alloc(), TEXT, (0, 100))
+}
+
+#[test]
+fn each_byte_of_runs_may_be_wrong(rt: HostRuntime) -> Result<(), Fail> {
+    spoil(&rt, rt.alloc(), RUNS, (9, 11))?;
+    spoil(&rt, rt.alloc(), RUNS, (80, 162))
 }

@@ -6,8 +6,8 @@ use std::io::{Read, Write};
 use std::sync::Wait;
 use std::thread::Threads;
 use tas_tool::{
-    ToolFault, check_run, diff_run, edit_run, export_run, movie_script_run, script_run, shot_run,
-    trace_run,
+    ToolFault, check_run, diff_run, edit_run, export_run, migrate_run, movie_script_run,
+    script_run, shot_run, trace_run,
 };
 
 /// An engine of the program.
@@ -15,6 +15,7 @@ use tas_tool::{
 pub enum Engine {
     Trace,
     Check,
+    Migrate,
     Shot,
     Edit,
     Diff,
@@ -27,9 +28,10 @@ pub enum Engine {
 }
 
 /// All of them.
-pub const ENGINES: [Engine; 9] = [
+pub const ENGINES: [Engine; 10] = [
     Engine::Trace,
     Engine::Check,
+    Engine::Migrate,
     Engine::Shot,
     Engine::Edit,
     Engine::Diff,
@@ -58,7 +60,7 @@ impl Engine {
     pub fn count(self) -> usize {
         match self {
             Engine::Trace | Engine::Script => 1,
-            Engine::Check | Engine::Shot | Engine::Export(_) => 2,
+            Engine::Check | Engine::Migrate | Engine::Shot | Engine::Export(_) => 2,
             Engine::Edit | Engine::Diff | Engine::DiffReplaced | Engine::MovieScript => 3,
         }
     }
@@ -99,6 +101,7 @@ pub fn run<T: Wait + Threads + Sync, A: Allocator + Copy + Send + Sync, R: Read,
     match engine {
         Engine::Trace => trace_run(alloc, 3, first, output),
         Engine::Check => check_run(alloc, first, second, output),
+        Engine::Migrate => migrate_run(alloc, first, second, output),
         Engine::Shot => shot_run(alloc, 1, first, second, output),
         Engine::Edit => edit_run(alloc, first, second, third, output),
         Engine::Diff | Engine::DiffReplaced => diff_run(alloc, first, second, third, output),

@@ -78,6 +78,7 @@ fn each_growth_refused(rt: HostRuntime) -> Result<(), Fail> {
     let engines = [
         (Engine::Trace, 2, 0),
         (Engine::Check, 7, 0),
+        (Engine::Migrate, 6, 0),
         (Engine::Shot, 6, 0),
         (Engine::Edit, 9, 0),
         (Engine::Diff, 17, 0),

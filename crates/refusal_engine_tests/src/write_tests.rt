@@ -60,6 +60,7 @@ fn each_write_of_a_text(rt: HostRuntime) -> Result<(), Fail> {
     let engines = [
         Engine::Trace,
         Engine::Check,
+        Engine::Migrate,
         Engine::Edit,
         Engine::Diff,
         Engine::DiffReplaced,

@@ -33,7 +33,7 @@ pub record IsPlan (movie : MovieContent) (plan : Plan) : Type 0 where
 pub record IsRunEnd (movie : MovieContent) (zone : List Savestate) (first next : ℕ) (pixmaps : List ℕ) (end : RunEnd) : Type 0 where
   pub shows : Shows movie first next pixmaps end.stop
   pub played : end.stop ≡ None → end.played ≡ cost zone first next
-  pub most : end.played ≤ 65536
+  pub most : end.played ≤ most_inputs
 
 -- the pixmaps of runs, a list for each
 abbrev pub pixmaps_in : {A : Type 0} → List (Run A) → List (List ℕ)
@@ -43,4 +43,4 @@ pixmaps_in runs = map (λ run. run.pixmaps) runs
 pub record AreRunsEnd (movie : MovieContent) (zone : List Savestate) (plan : Plan) (count : ℕ) (all_pixmaps : List (List ℕ)) (end : RunEnd) : Type 0 where
   pub shows : Shows movie plan.from (first_of_run plan count) (concat all_pixmaps) end.stop
   pub played : end.stop ≡ None → end.played ≡ costs zone plan 0 count
-  pub most : end.played ≤ count * 65536
+  pub most : end.played ≤ count * most_inputs

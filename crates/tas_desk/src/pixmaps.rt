@@ -2,6 +2,7 @@
 
 ghost use Rattle.std.specs.Prelude.{◌≡◌, ◌+◌, ◌^◌, ◌<◌, ◌≤◌, ◌++◌, List, ℕ, [], length, IfOk, IfErr, OnOk};
 ghost use Rattle.vcs_tia.specs.Image.{ppm_bytes};
+ghost use Rattle.tas_movie.specs.Content.{most_inputs};
 ghost use Rattle.tas_green.specs.Run.{state_after, picture_of};
 ghost use Rattle.tas_desk.specs.Frames.{IsDrawn, IsStopAt};
 
@@ -49,7 +50,7 @@ impl<A: Allocator> Model for Pixmaps<A> {
 impl<A: Allocator + Copy> Pixmaps<A> {
     /// No pixmap yet, and room for those of so many frames.
     pub fn new(alloc: A, frames: usize) -> Result<Pixmaps<A>, AllocError>
-        requires { frames ≤ 65536 }
+        requires { frames ≤ most_inputs }
         ensures { IfOk result (λ pixmaps. pixmaps ≡ []) }
     {
         let picture = Picture::blank(alloc)?;

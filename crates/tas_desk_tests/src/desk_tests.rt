@@ -67,28 +67,28 @@ fn a_seat_sees_the_other_s_edit(rt: HostRuntime) -> Result<(), Fail> {
 /// A refused edit takes no serial.
 #[test]
 fn refusals_of_a_desk_come_in_order(rt: HostRuntime) -> Result<(), Fail> {
-    let (at, len) = (1, 65536);
+    let (at, len) = (1, 262144);
     let misplaced = EditError::Place {
         at,
-        place: 65537,
+        place: 262145,
         len,
     };
     let calls = [
         Call::Refused(
             0,
-            Change::Insert(0, 65537),
+            Change::Insert(0, 262145),
             EditError::Long { at: 0, len: 0 },
         ),
-        Call::Made(0, Change::Insert(0, 65536), 1, 65536),
+        Call::Made(0, Change::Insert(0, 262144), 1, 262144),
         Call::Refused(1, Change::Insert(0, 1), EditError::Long { at, len }),
-        Call::Refused(1, Change::Insert(65537, 1), misplaced),
-        Call::Made(1, Change::Replace(65536, 0), 2, 65536),
-        Call::Made(1, Change::Delete(1, 65535), 3, 1),
+        Call::Refused(1, Change::Insert(262145, 1), misplaced),
+        Call::Made(1, Change::Replace(262144, 0), 2, 262144),
+        Call::Made(1, Change::Delete(1, 262143), 3, 1),
         Call::Made(0, Change::Delete(0, 0), 4, 1),
     ];
     let alloc = rt.alloc();
     let (closed, _) = play(&rt, alloc, 2, Task::Calls(&calls))?;
-    let text = "0 0 insert 0 65536\n1 0 replace 65536 0\n1 1 delete 1 65535\n0 1 delete 0 0\n";
+    let text = "0 0 insert 0 262144\n1 0 replace 262144 0\n1 1 delete 1 262143\n0 1 delete 0 0\n";
     assert_eq!(rt; history(alloc, closed.journal.as_slice())?.as_str(), text);
     Ok(())
 }

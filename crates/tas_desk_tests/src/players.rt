@@ -48,7 +48,7 @@ impl Dice {
             7 | 8 => Change::Insert(place, self.roll(4)),
             9 | 10 => Change::ReplaceRight(place),
             11 | 12 => Change::Replace(place, self.roll(3)),
-            13 => Change::Insert(place, 65536),
+            13 => Change::Insert(place, 262144),
             _ => Change::Delete(place, self.roll(4)),
         }
     }

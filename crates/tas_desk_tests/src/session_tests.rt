@@ -73,34 +73,34 @@ fn each_kind_of_edit_is_made(rt: HostRuntime) -> Result<(), Fail> {
     Ok(())
 }
 
-/// `Serial` comes before `Place`, and `Place` before `Long`, whatever else is wrong. A refusal leaves the state after 128
+/// `Serial` comes before `Place`, and `Place` before `Long`, whatever else is wrong. A refusal leaves the state after 512
 /// frames, which is kept.
 #[test]
 fn refusals_come_in_order(rt: HostRuntime) -> Result<(), Fail> {
-    let (at, len) = (2, 65500);
+    let (at, len) = (2, 262108);
     let serial = Err(EditError::Serial { at, counted: 2 });
     let place = |place: usize| Err(EditError::Place { at, place, len });
     let long = Err(EditError::Long { at, len });
-    let longest = Ok(Receipt { at: 3, len: 65536 });
+    let longest = Ok(Receipt { at: 3, len: 262144 });
     let halted = ShotError::Halted { at, halt: HALT };
     let turns = [
         Turn::Made(Change::Load(HALTING), 1, 0),
-        Turn::Made(Change::Insert(0, 65500), 2, 65500),
-        Turn::NotDrawn(200, halted, 201),
+        Turn::Made(Change::Insert(0, 262108), 2, 262108),
+        Turn::NotDrawn(600, halted, 601),
         Turn::Tried(0, 1, Change::Insert(0, 1), serial),
         Turn::Tried(0, 3, Change::Load(PLAYFIELD), serial),
-        Turn::Tried(0, 0, Change::Insert(65501, 1), serial),
+        Turn::Tried(0, 0, Change::Insert(262109, 1), serial),
         Turn::Tried(0, 9, Change::Insert(0, 37), serial),
-        Turn::Tried(0, 9, Change::Insert(65501, 37), serial),
-        Turn::Tried(0, 9, Change::ReplaceRight(65500), serial),
-        Turn::Tried(0, 9, Change::Delete(0, 65501), serial),
-        Turn::Tried(0, 2, Change::Insert(65501, 1), place(65501)),
-        Turn::Tried(0, 2, Change::Insert(65501, 0), place(65501)),
-        Turn::Tried(0, 2, Change::Insert(65501, 37), place(65501)),
-        Turn::Tried(0, 2, Change::ReplaceRight(65500), place(65500)),
-        Turn::Tried(0, 2, Change::Replace(64, 65437), place(64)),
-        Turn::Tried(0, 2, Change::Delete(0, 65501), place(0)),
-        Turn::Tried(0, 2, Change::Delete(65500, 1), place(65500)),
+        Turn::Tried(0, 9, Change::Insert(262109, 37), serial),
+        Turn::Tried(0, 9, Change::ReplaceRight(262108), serial),
+        Turn::Tried(0, 9, Change::Delete(0, 262109), serial),
+        Turn::Tried(0, 2, Change::Insert(262109, 1), place(262109)),
+        Turn::Tried(0, 2, Change::Insert(262109, 0), place(262109)),
+        Turn::Tried(0, 2, Change::Insert(262109, 37), place(262109)),
+        Turn::Tried(0, 2, Change::ReplaceRight(262108), place(262108)),
+        Turn::Tried(0, 2, Change::Replace(64, 262045), place(64)),
+        Turn::Tried(0, 2, Change::Delete(0, 262109), place(0)),
+        Turn::Tried(0, 2, Change::Delete(262108, 1), place(262108)),
         Turn::Tried(
             0,
             2,
@@ -108,21 +108,21 @@ fn refusals_come_in_order(rt: HostRuntime) -> Result<(), Fail> {
             place(usize::MAX),
         ),
         Turn::Tried(0, 2, Change::Insert(0, 37), long),
-        Turn::Tried(0, 2, Change::Insert(65500, 37), long),
-        Turn::Tried(0, 2, Change::Insert(65500, 36), longest),
-        Turn::Kept("1: 128"),
+        Turn::Tried(0, 2, Change::Insert(262108, 37), long),
+        Turn::Tried(0, 2, Change::Insert(262108, 36), longest),
+        Turn::Kept("1: 512"),
     ];
     let closed = play_turns(&rt, rt.alloc(), &turns)?;
-    assert_eq!(rt; closed.movie.len(), 65536);
+    assert_eq!(rt; closed.movie.len(), 262144);
     Ok(())
 }
 
 #[test]
-fn movies_have_at_most_65536_inputs(rt: HostRuntime) -> Result<(), Fail> {
-    let len = 65536;
+fn movies_have_at_most_262144_inputs(rt: HostRuntime) -> Result<(), Fail> {
+    let len = 262144;
     let misplaced = Err(EditError::Place {
         at: 1,
-        place: 65537,
+        place: 262145,
         len,
     });
     let (empty, full) = (
@@ -130,11 +130,11 @@ fn movies_have_at_most_65536_inputs(rt: HostRuntime) -> Result<(), Fail> {
         Err(EditError::Long { at: 1, len }),
     );
     let turns = [
-        Turn::Tried(0, 0, Change::Insert(0, 65537), empty),
-        Turn::Tried(0, 0, Change::Insert(0, 65536), Ok(Receipt { at: 1, len })),
+        Turn::Tried(0, 0, Change::Insert(0, 262145), empty),
+        Turn::Tried(0, 0, Change::Insert(0, 262144), Ok(Receipt { at: 1, len })),
         Turn::Tried(0, 1, Change::Insert(0, 1), full),
-        Turn::Tried(0, 1, Change::Insert(65537, 1), misplaced),
-        Turn::Tried(0, 1, Change::Replace(65536, 0), Ok(Receipt { at: 2, len })),
+        Turn::Tried(0, 1, Change::Insert(262145, 1), misplaced),
+        Turn::Tried(0, 1, Change::Replace(262144, 0), Ok(Receipt { at: 2, len })),
     ];
     let closed = play_turns(&rt, rt.alloc(), &turns)?;
     assert_eq!(rt; closed.journal.len(), 2);
@@ -160,7 +160,7 @@ impl Lent for Million {
         let attempts = [
             (at, Change::Delete(0, 0), full),
             (at, Change::Delete(0, 1), full),
-            (at, Change::Insert(0, 65537), full),
+            (at, Change::Insert(0, 262145), full),
             (999_999, Change::Delete(0, 0), serial),
         ];
         for (made, change, error) in attempts {
@@ -284,7 +284,7 @@ fn a_frame_that_is_not_there_changes_nothing(rt: HostRuntime) -> Result<(), Fail
         Turn::Drawn(100, 2, 101, 1680),
         Turn::NotDrawn(200, none, 0),
         Turn::NotDrawn(201, none, 0),
-        Turn::NotDrawn(65536, none, 0),
+        Turn::NotDrawn(262144, none, 0),
         Turn::NotDrawn(usize::MAX, none, 0),
         Turn::Kept("1: 64"),
     ];

@@ -5,7 +5,7 @@ use Rattle.std.proofs.lemmas.Bool.{le-ltb}
 use Rattle.std.proofs.lemmas.List.{length-replicate}
 use lib.Seq.{take-append_seam, drop-append-add}
 use Rattle.vcs_machine.specs.declared.input.Input.{Input}
-use Rattle.tas_movie.specs.Content.{MovieContent}
+use Rattle.tas_movie.specs.Content.{MovieContent, most_inputs}
 use Rattle.tas_movie.specs.Edit.{edited, IsAllowed, spliced}
 use Rattle.tas_movie.specs.declared.edit.EditRefusal.{EditRefusal}
 use Rattle.tas_movie.specs.declared.edit.EditRefusal.TheVariants.{Place}
@@ -137,9 +137,9 @@ allowed_place len at rest le = rw (le-ltb len at le) refl
 allowed_length : (most all : ℕ) (refused : Option EditRefusal) → all ≤ most → (if nat_lt most all then refused else None) ≡ None
 allowed_length most all refused le = rw (le-ltb most all le) refl
 
-pub insert_allowed : (A : Type 0) (cart : List ℕ) (inputs : List Input) (at count : ℕ) (input : Input) → at ≤ length inputs → length inputs + count ≤ 65536 → IsAllowed (movie_of cart inputs) (edit_of A (Insert at count input))
+pub insert_allowed : (A : Type 0) (cart : List ℕ) (inputs : List Input) (at count : ℕ) (input : Input) → at ≤ length inputs → length inputs + count ≤ most_inputs → IsAllowed (movie_of cart inputs) (edit_of A (Insert at count input))
 insert_allowed A cart inputs at count input place long =
-    allowed_place (length inputs) at _ place ∙ allowed_length 65536 (length inputs + length (replicate count input)) _ (omega (arith, length-replicate count input))
+    allowed_place (length inputs) at _ place ∙ allowed_length most_inputs (length inputs + length (replicate count input)) _ (omega (arith, length-replicate count input))
 
 pub replace_allowed : (A : Type 0) (cart : List ℕ) (inputs : List Input) (at count : ℕ) (input : Input) → at + count ≤ length inputs → IsAllowed (movie_of cart inputs) (edit_of A (Replace at count input))
 replace_allowed A cart inputs at count input place = allowed_length (length inputs) (at + length (replicate count input)) _ (omega (arith, length-replicate count input))

@@ -7,7 +7,7 @@ use Rattle.std.proofs.lemmas.List.{take_rest, drop_more, take-take}
 use lib.Seq.{take-add, drop-drop, length-take-le}
 use Rattle.vcs_machine.specs.Input.{no_input}
 use Rattle.vcs_machine.specs.declared.input.Input.{Input}
-use Rattle.tas_movie.specs.Content.{MovieContent}
+use Rattle.tas_movie.specs.Content.{MovieContent, most_inputs}
 use Rattle.tas_movie.specs.Edit.{edited, IsAllowed, spliced}
 use Rattle.tas_green.specs.Front.{IsCommonFront}
 use Rattle.tas_edit.specs.declared.change.Change.{Change}
@@ -46,7 +46,7 @@ spliced_next new rest k n count input le run =
     ∙ ap (λ (l : List Input). l ++ drop n rest) (sym (take-add k count new ∙ ap (λ (l : List Input). front ++ l) run))
 
 pub inserted : (A : Type 0) (old new rest : List Input) (k count : ℕ) (input : Input) (changes : List Change) → Stands A old new rest k changes → k ≤ length new
-    → take count (drop k new) ≡ replicate count input → k + count + length rest ≤ 65536 → Stands A old new rest (k + count) (changes ++ Insert k count input ∷ [])
+    → take count (drop k new) ≡ replicate count input → k + count + length rest ≤ most_inputs → Stands A old new rest (k + count) (changes ++ Insert k count input ∷ [])
 inserted A old new rest k count input changes s le run long =
     let now = take k new ++ rest in
     let len : length now ≡ k + length rest = length-append (take k new) rest ∙ ap (λ (n : ℕ). n + length rest) (length-take-le k new le) in
@@ -128,11 +128,11 @@ pub record Places (old new : List Input) (replaces : Bool) (front end gone behin
   pub out : front + gone + end ≡ length old
   pub into : behind + end ≡ length new
   pub begins : front ≤ behind
-  pub short : length new ≤ 65536
-  pub short_old : length old ≤ 65536
+  pub short : length new ≤ most_inputs
+  pub short_old : length old ≤ most_inputs
   pub as_many : replaces ≡ true → front + gone ≡ behind
 
-pub places : (old new : List Input) (front end : ℕ) → IsCommonFront old new front → IsCommonEnd (drop front old) (drop front new) end → length old ≤ 65536 → length new ≤ 65536
+pub places : (old new : List Input) (front end : ℕ) → IsCommonFront old new front → IsCommonEnd (drop front old) (drop front new) end → length old ≤ most_inputs → length new ≤ most_inputs
     → Places old new (eqb (length old - end - front) (length new - end - front)) front end (length old - end - front) (length new - end)
 places old new front end common ends short_old short =
     let fits_old = ends.within_a in

@@ -2,7 +2,7 @@
 use Rattle.std.specs.Prelude.{◌≡◌, ℕ, List, ◌⊎◌, Option, Result, Ok, Err}
 use Rattle.std.specs.List.{flat_map}
 use Rattle.tas_movie.specs.Content.{MovieContent}
-use Rattle.tas_movie.specs.Text.{text}
+use Rattle.tas_movie.specs.Text.{text2}
 use Rattle.tas_engines.specs.declared.fault.RunFault.{RunFault}
 use Rattle.tas_engines.specs.declared.fault.RunFault.TheVariants.{Script, EditPlace, EditLong, Memory as OutOfMemory}
 use Rattle.tas_engines.specs.declared.fault.ToolFault.{ToolFault}
@@ -25,7 +25,7 @@ script_fault Memory = OutOfMemory
 -- the text of the movie that the script's changes, all of them and in order, make of the movie that was read; or why there
 -- is none: the faults of the movie come before those of the script. A is the allocator, on which no answer depends
 abbrev pub IsEditAnswer : Type 0 → List ℕ → List ℕ → List ℕ → Result (List ℕ) RunFault → Type 0
-IsEditAnswer A image script bytes (Ok out) = (old new : MovieContent) × IsMovieOf image bytes old × MakesAll A old script new (Ok tt) × (out ≡ text new)
+IsEditAnswer A image script bytes (Ok out) = (old new : MovieContent) × IsMovieOf image bytes old × MakesAll A old script new (Ok tt) × (out ≡ text2 new)
 IsEditAnswer A image script bytes (Err e) =
     IsMovieFault image bytes e ⊎ ((old new : MovieContent) × (fault : ScriptFault) × IsMovieOf image bytes old × MakesAll A old script new (Err fault) × (e ≡ script_fault fault))
 

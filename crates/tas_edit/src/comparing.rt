@@ -1,12 +1,14 @@
 //! The changes that make one list of inputs of another.
 
-ghost use Rattle.std.specs.Prelude.{◌≡◌, ◌≤◌, length, take, replicate, if◌then◌else◌, IfOk};
+ghost use Rattle.std.specs.Prelude.{◌≡◌, ◌≤◌, length, if◌then◌else◌, IfOk};
+ghost use Rattle.tas_movie.specs.Content.{most_inputs};
 ghost use Rattle.tas_edit.specs.declared.change.Change.TheVariants.{Insert, Replace};
 ghost use Rattle.tas_edit.specs.Differences.{IsCommonEnd, IsDifference};
 
 use crate::Change;
 use std::alloc::{AllocError, Allocator};
 use tas_green::common_front;
+use tas_movie::run_length;
 use vcs_machine::Input;
 
 /// The length of the longest list with which both end.
@@ -18,18 +20,6 @@ fn common_end(a: &[Input], b: &[Input]) -> usize
         end += 1;
     }
     end
-}
-
-/// How many inputs at the beginning are this one.
-fn run_length(inputs: &[Input], input: Input) -> usize
-    ensures bound { result ≤ length inputs.now }
-    ensures same { take result inputs.now ≡ replicate result input }
-{
-    let mut count = 0;
-    while count < inputs.len() && inputs[count] == input {
-        count += 1;
-    }
-    count
 }
 
 /// The change that brings copies of one input, by writing them over as many inputs or by putting them in.
@@ -52,8 +42,8 @@ pub fn changes_between<A: Allocator>(
     old: &[Input],
     new: &[Input],
 ) -> Result<Vec<Change, A>, AllocError>
-    requires old_bound { length old.now ≤ 65536 }
-    requires new_bound { length new.now ≤ 65536 }
+    requires old_bound { length old.now ≤ most_inputs }
+    requires new_bound { length new.now ≤ most_inputs }
     ensures { IfOk result (λ changes. IsDifference A old.now new.now changes.items) }
 {
     let front = common_front(old, new);

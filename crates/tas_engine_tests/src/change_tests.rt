@@ -79,9 +79,9 @@ static SCRIPTS: [(&str, Result<(), ScriptFault>); 16] = [
         "insert 5 1 ..... ..... .....\n",
         Err(ScriptFault::OutOfPlace(1)),
     ),
-    ("insert 4 65532 ..... ..... .....\n", Ok(())),
+    ("insert 4 262140 ..... ..... .....\n", Ok(())),
     (
-        "insert 4 65533 ..... ..... .....\n",
+        "insert 4 262141 ..... ..... .....\n",
         Err(ScriptFault::TooLong(1)),
     ),
     (
@@ -121,6 +121,6 @@ fn scripts_end_as_by_hand(rt: HostRuntime) -> Result<(), Fail> {
     assert_eq!(rt; end, Err(ScriptFault::OutOfPlace(4)));
     let wanted = movie_of(alloc, ".FFFF")?;
     assert!(rt; movie.inputs() == wanted.inputs());
-    assert_eq!(rt; MAX_FRAMES, 65536);
+    assert_eq!(rt; MAX_FRAMES, 262144);
     Ok(())
 }

@@ -1,6 +1,6 @@
 //! Whole runs of `tas edit` and `tas diff`, over readers and writers of the tests' own.
 
-use crate::movies::{BLANK, BLANK_DIGEST, text_of};
+use crate::movies::{BLANK, BLANK_DIGEST, older_text_of, text_of};
 use std::alloc::Global;
 use std::test::Fail;
 use tas_edit::{diff_run, edit_run};
@@ -94,15 +94,15 @@ fn long_movie(alloc: Global, len: usize, other: usize) -> Result<Vec<u8>, Fail> 
 fn the_longest_movies_are_edited_and_compared(rt: HostRuntime) -> Result<(), Fail> {
     let alloc = rt.alloc();
     let none = blank_text(alloc, b"")?;
-    let full = long_movie(alloc, 65536, 65536)?;
-    let other = long_movie(alloc, 65536, 40000)?;
+    let full = long_movie(alloc, 262144, 262144)?;
+    let other = long_movie(alloc, 262144, 40000)?;
     let script = go_round(alloc, none.as_slice(), full.as_slice())?;
     assert_eq!(rt;
         script.as_slice(),
-        b"insert 0 65536 ..... ..... .....\n".as_slice()
+        b"insert 0 262144 ..... ..... .....\n".as_slice()
     );
     let script = go_round(alloc, full.as_slice(), none.as_slice())?;
-    assert_eq!(rt; script.as_slice(), b"delete 0 65536\n".as_slice());
+    assert_eq!(rt; script.as_slice(), b"delete 0 262144\n".as_slice());
     let script = go_round(alloc, full.as_slice(), other.as_slice())?;
     assert_eq!(rt;
         script.as_slice(),
@@ -111,7 +111,7 @@ fn the_longest_movies_are_edited_and_compared(rt: HostRuntime) -> Result<(), Fai
     let (text, end) = edited(
         alloc,
         &BLANK,
-        b"insert 65536 1 ..... ..... .....\n",
+        b"insert 262144 1 ..... ..... .....\n",
         full.as_slice(),
     );
     assert_eq!(rt; end, Err(ToolFault::EditLong { line: 1 }));
@@ -122,11 +122,28 @@ fn the_longest_movies_are_edited_and_compared(rt: HostRuntime) -> Result<(), Fai
     Ok(())
 }
 
+/// Older texts are read, and the text of runs is written.
+#[test]
+fn older_texts_are_edited_and_compared(rt: HostRuntime) -> Result<(), Fail> {
+    let alloc = rt.alloc();
+    let before = older_text_of(alloc, BLANK_DIGEST, b"..RR.")?;
+    let after = blank_text(alloc, b"..RRRR.")?;
+    let script = b"insert 4 2 R.... ..... .....\n".as_slice();
+    let (text, end) = edited(alloc, &BLANK, script, before.as_slice());
+    assert_eq!(rt; end, Ok(()));
+    assert!(rt; text.as_slice() == after.as_slice());
+    let (difference, end) = compared(alloc, &BLANK, before.as_slice(), after.as_slice());
+    assert_eq!(rt; end, Ok(()));
+    assert_eq!(rt; difference.as_slice(), script);
+    Ok(())
+}
+
 /// Scripts for a movie of two frames, and how each ends.
-static FAULTS: [(&[u8], ToolFault); 8] = [
+static FAULTS: [(&[u8], ToolFault); 9] = [
     (b"\n", ToolFault::Script { line: 1 }),
     (b"len\n", ToolFault::Script { line: 1 }),
     (b"load 000=A9\n", ToolFault::Script { line: 1 }),
+    (b"load2 000=A9\n", ToolFault::Script { line: 1 }),
     (b"work 0\n", ToolFault::Script { line: 1 }),
     (b"delete 0 1", ToolFault::Script { line: 1 }),
     (
@@ -135,7 +152,7 @@ static FAULTS: [(&[u8], ToolFault); 8] = [
     ),
     (b"delete 0 3\nlen\n", ToolFault::EditPlace { line: 1 }),
     (
-        b"delete 0 1\ninsert 0 65535 ..... ..... .....\ninsert 0 1 ..... ..... .....\n",
+        b"delete 0 1\ninsert 0 262143 ..... ..... .....\ninsert 0 1 ..... ..... .....\n",
         ToolFault::EditLong { line: 3 },
     ),
 ];
@@ -156,7 +173,7 @@ fn a_line_at_fault_leaves_nothing_written(rt: HostRuntime) -> Result<(), Fail> {
 fn faults_of_the_movies_come_in_order(rt: HostRuntime) -> Result<(), Fail> {
     let alloc = rt.alloc();
     let two = blank_text(alloc, b"R.")?;
-    let bad = b"a26movie 1\n".as_slice();
+    let bad = b"a26movie 2\n".as_slice();
     let text = ToolFault::Text(TextError {
         line: 2,
         kind: TextErrorKind::End,
@@ -253,49 +270,27 @@ fn texts_go_out_in_small_pieces(rt: HostRuntime) -> Result<(), Fail> {
     Ok(())
 }
 
-/// Runs of equal frames.
-type Runs<'a> = &'a [(usize, &'a str)];
-
 /// The frames of examples/joystick.movie.
-static JOYSTICK: Runs<'static> = &[
-    (5, "..... ..... ....."),
-    (30, "R.... ..... ....."),
-    (20, "R.D.. ..... ....."),
-    (15, "..D.. ..... ....."),
-    (5, "..D.F ..... ....."),
-    (10, "....F ..... ....."),
-    (25, ".L.U. ..... ....."),
-    (10, "...U. ..... ....."),
-];
+static JOYSTICK: &[u8] =
+    b"..... ..... ..... x5\nR.... ..... ..... x30\nR.D.. ..... ..... x20\n..D.. ..... ..... x15\n..D.F ..... ..... x5\n....F ..... ..... x10\n.L.U. ..... ..... x25\n...U. ..... ..... x10\n";
 
 /// The frames of examples/motion.movie.
-static MOTION: Runs<'static> = &[(180, "..... ..... .....")];
-
-/// The text of a movie of the blank cartridge with these frames.
-fn text_of_runs(alloc: Global, runs: Runs<'_>) -> Result<Vec<u8>, Fail> {
-    let mut text = blank_text(alloc, b"")?;
-    for (count, frame) in runs {
-        for _ in 0..*count {
-            text.extend_from_slice(frame.as_bytes())?;
-            text.push(b'\n')?;
-        }
-    }
-    Ok(text)
-}
+static MOTION: &[u8] = b"..... ..... ..... x180\n";
 
 #[test]
 fn the_movies_of_the_examples_go_round(rt: HostRuntime) -> Result<(), Fail> {
     let alloc = rt.alloc();
-    let rows: [(Runs<'_>, usize, &[u8]); 2] = [
+    let rows: [(&[u8], usize, &[u8]); 2] = [
         (
             JOYSTICK,
-            2241,
+            255,
             b"delete 0 10\nreplace 0 5 R.... ..... .....\ninsert 5 3 ....F ..... .....\n",
         ),
-        (MOTION, 3321, b"delete 40 9\n"),
+        (MOTION, 104, b"delete 40 9\n"),
     ];
     for (number, (runs, size, changes)) in rows.iter().enumerate() {
-        let old = text_of_runs(alloc, *runs)?;
+        let mut old = blank_text(alloc, b"")?;
+        old.extend_from_slice(*runs)?;
         assert_eq!(rt; old.len(), *size, "movie {number}");
         let (new, end) = edited(alloc, &BLANK, *changes, old.as_slice());
         assert_eq!(rt; end, Ok(()), "movie {number}");

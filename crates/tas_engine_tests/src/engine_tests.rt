@@ -1,12 +1,12 @@
 //! Engines over readers and writers that give and take as a test says.
 
 use crate::movies::{
-    HALTING, HALTING_DIGEST, PLAYFIELD, PLAYFIELD_DIGEST, STORES, image_of, text_of,
+    HALTING, HALTING_DIGEST, PLAYFIELD, PLAYFIELD_DIGEST, STORES, image_of, older_text_of, text_of,
 };
 use std::alloc::Global;
 use std::io::{Read, Write};
 use std::test::Fail;
-use tas_engines::{INPUT_LIMIT, ToolFault, check_run, shot_run, trace_run};
+use tas_engines::{INPUT_LIMIT, ToolFault, check_run, migrate_run, shot_run, trace_run};
 use tas_movie::{TextError, TextErrorKind};
 use test_streams::{Failure, Filler, Giver, Room, Taker};
 
@@ -154,6 +154,10 @@ fn faults_read_as_their_lines(rt: HostRuntime) -> Result<(), Fail> {
             text_fault(65539, TextErrorKind::TooMany),
             "fault: movie line 65539: too many",
         ),
+        (
+            text_fault(4, TextErrorKind::Run),
+            "fault: movie line 4: run",
+        ),
         (ToolFault::Script { line: 12 }, "fault: script line 12"),
         (ToolFault::NoPlace, "fault: no place"),
         (ToolFault::NoEntry, "fault: no entry"),
@@ -171,6 +175,7 @@ fn faults_read_as_their_lines(rt: HostRuntime) -> Result<(), Fail> {
 enum Engine {
     Trace,
     Check,
+    Migrate,
     Shot,
 }
 
@@ -185,6 +190,7 @@ fn run<C: Read, R: Read, W: Write>(
     match engine {
         Engine::Trace => trace_run(alloc, 3, cart, output),
         Engine::Check => check_run(alloc, cart, text, output),
+        Engine::Migrate => migrate_run(alloc, cart, text, output),
         Engine::Shot => shot_run(alloc, 0, cart, text, output),
     }
 }
@@ -195,7 +201,12 @@ fn no_engine_reads_on(rt: HostRuntime) -> Result<(), Fail> {
     let alloc = rt.alloc();
     let image = image_of(alloc, PLAYFIELD)?;
     let movie = text_of(alloc, PLAYFIELD_DIGEST, b".")?;
-    for (engine, texts) in [(Engine::Trace, 0), (Engine::Check, 2), (Engine::Shot, 2)] {
+    for (engine, texts) in [
+        (Engine::Trace, 0),
+        (Engine::Check, 2),
+        (Engine::Migrate, 2),
+        (Engine::Shot, 2),
+    ] {
         let mut written = Vec::new(alloc);
         let mut cart = Giver::new(image.as_slice(), usize::MAX, 0);
         let mut text = Giver::new(movie.as_slice(), usize::MAX, 0);
@@ -216,7 +227,7 @@ fn no_engine_reads_on(rt: HostRuntime) -> Result<(), Fail> {
             assert!(rt; none.is_empty(), "{engine:?} {fails_at}");
         }
     }
-    for engine in [Engine::Check, Engine::Shot] {
+    for engine in [Engine::Check, Engine::Migrate, Engine::Shot] {
         for fails_at in [1, 2] {
             let mut none = Vec::new(alloc);
             let mut cart = Giver::new(image.as_slice(), usize::MAX, 0);
@@ -230,6 +241,51 @@ fn no_engine_reads_on(rt: HostRuntime) -> Result<(), Fail> {
             );
             assert!(rt; none.is_empty(), "{engine:?} {fails_at}");
         }
+    }
+    Ok(())
+}
+
+/// Either text is written as the one of runs, and the faults are those of `tas check`.
+#[test]
+fn texts_are_migrated(rt: HostRuntime) -> Result<(), Fail> {
+    let alloc = rt.alloc();
+    let image = image_of(alloc, PLAYFIELD)?;
+    let older = older_text_of(alloc, PLAYFIELD_DIGEST, &[b'.'; 200])?;
+    let newer = text_of(alloc, PLAYFIELD_DIGEST, &[b'.'; 200])?;
+    assert_eq!(rt; (older.len(), newer.len()), (3681, 104));
+    assert!(rt; newer.as_slice().ends_with(b"\n..... ..... ..... x200\n"));
+    for text in [&older, &newer] {
+        let mut written = Vec::new(alloc);
+        let mut cart = image.as_slice();
+        let answer = migrate_run(alloc, &mut cart, &mut text.as_slice(), &mut written);
+        assert_eq!(rt; answer, Ok(()));
+        assert!(rt; written.as_slice() == newer.as_slice());
+    }
+    let faults: [(&[u8], &[u8], ToolFault); 4] = [
+        (b"1234567", older.as_slice(), ToolFault::Size(7)),
+        (
+            &[0; 4096],
+            older.as_slice(),
+            text_fault(2, TextErrorKind::Digest),
+        ),
+        (
+            &[0; 2048],
+            newer.as_slice(),
+            text_fault(2, TextErrorKind::Digest),
+        ),
+        (
+            image.as_slice(),
+            b"a26movie 3\n",
+            text_fault(1, TextErrorKind::Head),
+        ),
+    ];
+    for (cart, text, fault) in faults {
+        let mut cart = cart;
+        let mut text = text;
+        let mut written = Vec::new(alloc);
+        let answer = migrate_run(alloc, &mut cart, &mut text, &mut written);
+        assert_eq!(rt; answer, Err(fault));
+        assert!(rt; written.is_empty());
     }
     Ok(())
 }
@@ -291,23 +347,22 @@ fn no_engine_writes_on(rt: HostRuntime) -> Result<(), Fail> {
 fn a_movie_is_as_long_as_its_frames(rt: HostRuntime) -> Result<(), Fail> {
     let alloc = rt.alloc();
     let cart = image_of(alloc, PLAYFIELD)?;
-    let cases: [(&[u8], usize, &str); 3] = [
-        (b"", 81, "ok 0 frames\n"),
-        (b".", 99, "ok 1 frames\n"),
-        (b".....", 171, "ok 5 frames\n"),
+    let cases: [(&[u8], usize, usize, &str); 3] = [
+        (b"", 81, 81, "ok 0 frames\n"),
+        (b".", 99, 99, "ok 1 frames\n"),
+        (b".....", 171, 102, "ok 5 frames\n"),
     ];
-    for (frames, length, line) in cases {
-        let text = text_of(alloc, PLAYFIELD_DIGEST, frames)?;
-        assert_eq!(rt; text.len(), length);
-        let mut written = Vec::new(alloc);
-        let answer = check_run(
-            alloc,
-            &mut cart.as_slice(),
-            &mut text.as_slice(),
-            &mut written,
-        );
-        assert_eq!(rt; answer, Ok(()));
-        assert_eq!(rt; written.as_slice(), line.as_bytes());
+    for (frames, older_length, length, line) in cases {
+        let older = older_text_of(alloc, PLAYFIELD_DIGEST, frames)?;
+        let newer = text_of(alloc, PLAYFIELD_DIGEST, frames)?;
+        assert_eq!(rt; (older.len(), newer.len()), (older_length, length));
+        for text in [&older, &newer] {
+            let mut written = Vec::new(alloc);
+            let mut cart = cart.as_slice();
+            let answer = check_run(alloc, &mut cart, &mut text.as_slice(), &mut written);
+            assert_eq!(rt; answer, Ok(()));
+            assert_eq!(rt; written.as_slice(), line.as_bytes());
+        }
     }
     Ok(())
 }
@@ -404,7 +459,7 @@ fn a_playfield_is_drawn(rt: HostRuntime) -> Result<(), Fail> {
 fn a_halted_frame_has_no_picture(rt: HostRuntime) -> Result<(), Fail> {
     let alloc = rt.alloc();
     let cart = image_of(alloc, HALTING)?;
-    let text = text_of(alloc, HALTING_DIGEST, b".....")?;
+    let text = older_text_of(alloc, HALTING_DIGEST, b".....")?;
     assert_eq!(rt; text.len(), 171);
     for frame in [0, 1, 2] {
         let mut written = Vec::new(alloc);

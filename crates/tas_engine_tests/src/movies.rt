@@ -49,8 +49,30 @@ pub fn frame_of(letter: u8) -> &'static [u8] {
     }
 }
 
-/// The text of a movie for the cartridge with this SHA-256, a letter for each frame.
+/// The text of a movie for the cartridge with this SHA-256, a letter for each frame, with a line for each run of
+/// equal ones.
 pub fn text_of(alloc: Global, digest: &str, letters: &[u8]) -> Result<Vec<u8>, Fail> {
+    let head = format!(in alloc; "a26movie 2\ncart {digest}\n")?;
+    let mut text = Vec::from_slice(alloc, head.as_bytes())?;
+    let mut count = 0usize;
+    for (place, letter) in letters.iter().enumerate() {
+        count = count.wrapping_add(1);
+        if letters.get(place.wrapping_add(1)) == Some(letter) {
+            continue;
+        }
+        text.extend_from_slice(frame_of(*letter))?;
+        if count > 1 {
+            let times = format!(in alloc; " x{count}")?;
+            text.extend_from_slice(times.as_bytes())?;
+        }
+        text.push(b'\n')?;
+        count = 0;
+    }
+    Ok(text)
+}
+
+/// The older text of the movie, with a line for each frame.
+pub fn older_text_of(alloc: Global, digest: &str, letters: &[u8]) -> Result<Vec<u8>, Fail> {
     let head = format!(in alloc; "a26movie 1\ncart {digest}\n")?;
     let mut text = Vec::from_slice(alloc, head.as_bytes())?;
     for letter in letters {

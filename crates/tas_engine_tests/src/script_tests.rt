@@ -1,8 +1,8 @@
 //! Lines and replies.
 
 use std::test::Fail;
-use tas_script::{Command, Reply, parse_line, reply_line};
-use vcs_machine::{CART_SIZE, Input};
+use tas_script::{Command, Image, Reply, parse_line, reply_line};
+use vcs_machine::{CART_SIZE, Input, SMALL_CART_SIZE};
 
 fn pressed_right() -> Input {
     let mut input = Input::none();
@@ -11,35 +11,62 @@ fn pressed_right() -> Input {
 }
 
 /// An image with one byte.
-fn image_of(offset: usize, byte: u8) -> [u8; CART_SIZE] {
+fn large_image(offset: usize, byte: u8) -> Image {
     let mut image = [0; CART_SIZE];
     if let Some(cell) = image.get_mut(offset) {
         *cell = byte;
     }
-    image
+    Image::Large(image)
+}
+
+/// A small image with one byte.
+fn small_image(offset: usize, byte: u8) -> Image {
+    let mut image = [0; SMALL_CART_SIZE];
+    if let Some(cell) = image.get_mut(offset) {
+        *cell = byte;
+    }
+    Image::Small(image)
 }
 
 #[test]
 fn each_line_is_its_command(rt: HostRuntime) {
     let none = Input::none();
     let right = pressed_right();
-    let cases: [(&[u8], Command); 14] = [
+    let cases: [(&[u8], Command); 17] = [
         (
             b"load 00A=FF",
             Command::Load {
-                image: image_of(10, 0xff),
+                image: large_image(10, 0xff),
             },
         ),
         (
             b"load FFF=01",
             Command::Load {
-                image: image_of(4095, 1),
+                image: large_image(4095, 1),
             },
         ),
         (
             b"load 00A=FF00 00B=1C 00B=00",
             Command::Load {
-                image: image_of(10, 0xff),
+                image: large_image(10, 0xff),
+            },
+        ),
+        (
+            b"load2 00A=FF",
+            Command::Load {
+                image: small_image(10, 0xff),
+            },
+        ),
+        (
+            b"load2 7FF=01",
+            Command::Load {
+                image: small_image(2047, 1),
+            },
+        ),
+        (
+            b"load2 7FE=FF01 7FE=00",
+            Command::Load {
+                image: small_image(2047, 1),
             },
         ),
         (
@@ -82,7 +109,7 @@ fn each_line_is_its_command(rt: HostRuntime) {
 
 #[test]
 fn no_other_line_is_understood(rt: HostRuntime) {
-    let lines: [&[u8]; 44] = [
+    let lines: [&[u8]; 52] = [
         b"",
         b" ",
         b"len ",
@@ -127,6 +154,14 @@ fn no_other_line_is_understood(rt: HostRuntime) {
         b"load 000 A9",
         b"load FFF=A9FF",
         b"load 000=A9 ",
+        b"load2",
+        b"load2 ",
+        b"load2 000=",
+        b"load2 7FF=A9FF",
+        b"load2 800=A9",
+        b"load2 000=A9 ",
+        b"load2000=A9",
+        b"load3 000=A9",
     ];
     for (number, line) in lines.iter().enumerate() {
         assert!(rt; parse_line(line).is_none(), "line {number}");
@@ -139,7 +174,10 @@ fn replies_read_as_written(rt: HostRuntime) -> Result<(), Fail> {
     let cases: [(Reply, &[u8]); 12] = [
         (Reply::Edited { at: 1, len: 0 }, b"edit 1 len 0\n"),
         (Reply::Misplaced { at: 5, len: 9 }, b"place 5 len 9\n"),
-        (Reply::TooLong { at: 2, len: 65536 }, b"long 2 len 65536\n"),
+        (
+            Reply::TooLong { at: 2, len: 262144 },
+            b"long 2 len 262144\n",
+        ),
         (Reply::Full { at: 1_000_000 }, b"full 1000000\n"),
         (Reply::Measured { at: 0, len: 0 }, b"len 0 0\n"),
         (

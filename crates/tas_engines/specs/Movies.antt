@@ -1,10 +1,11 @@
--- What `tas check` and `tas shot` answer.
-use Rattle.std.specs.Prelude.{◌≡◌, ◌≢◌, ℕ, ◌+◌, ◌<◌, ◌≤◌, List, length, ◌++◌, codes, decimal, ◌⊎◌, Option, Some, None, Result, Ok, Err}
+-- What `tas check`, `tas migrate` and `tas shot` answer.
+use Rattle.std.specs.Prelude.{◌≡◌, ℕ, ◌+◌, ◌<◌, ◌≤◌, true, false, List, length, ◌++◌, codes, decimal, ◌⊎◌, Option, Some, None, Result, Ok, Err}
 use Rattle.vcs_cpu.specs.declared.halt.Halt.{Halt}
 use Rattle.vcs_cpu.specs.declared.halt.Halt.TheVariants.{Undocumented}
 use Rattle.vcs_tia.specs.Image.{ppm_bytes}
 use Rattle.tas_movie.specs.Content.{MovieContent}
-use Rattle.tas_movie.specs.Text.{text}
+use Rattle.vcs_machine.specs.Cart.{is_cart_size}
+use Rattle.tas_movie.specs.Text.{text2, IsText}
 use Rattle.tas_movie.specs.Fault.{fault}
 use Rattle.tas_green.specs.Run.{state_after, picture_of}
 use Rattle.tas_engines.specs.declared.fault.RunFault.{RunFault}
@@ -13,16 +14,16 @@ use Rattle.tas_engines.specs.declared.fault.ToolFault.{ToolFault}
 use Rattle.tas_engines.specs.Input.{IsReadWhole, StopsReadingTwo}
 use Rattle.tas_engines.specs.Output.{Ends, EndsAfter}
 
--- the movie whose cartridge is the image and whose text the bytes are
+-- the movie whose cartridge is the image and of which the bytes are a text
 pub record IsMovieOf (image bytes : List ℕ) (movie : MovieContent) : Type 0 where
   pub cart : movie.cart ≡ image
-  pub text : bytes ≡ text movie
+  pub text : IsText bytes movie
 
 -- why there is no such movie: the cartridge's size comes before the text
 abbrev pub IsMovieFault : List ℕ → List ℕ → RunFault → Type 0
 IsMovieFault image bytes Memory = Unit {0}
-IsMovieFault image bytes (Size n) = (n ≡ length image) × (n ≢ 4096)
-IsMovieFault image bytes (Text e) = (length image ≡ 4096) × (fault bytes image ≡ Some e)
+IsMovieFault image bytes (Size n) = (n ≡ length image) × (is_cart_size n ≡ false)
+IsMovieFault image bytes (Text e) = (is_cart_size (length image) ≡ true) × (fault bytes image ≡ Some e)
 IsMovieFault image bytes _ = ⊥
 
 -- an engine of a cartridge and a movie text, read in this order: from what the readers have and the writer holds before to what
@@ -41,6 +42,11 @@ length_line frames = codes "ok " ++ decimal frames ++ codes " frames\n"
 abbrev pub IsCheckAnswer : List ℕ → List ℕ → Result (List ℕ) RunFault → Type 0
 IsCheckAnswer image bytes (Ok line) = (movie : MovieContent) × IsMovieOf image bytes movie × (line ≡ length_line (length movie.inputs))
 IsCheckAnswer image bytes (Err e) = IsMovieFault image bytes e
+
+-- the movie's text as it is written today, or why there is no movie
+abbrev pub IsMigrateAnswer : List ℕ → List ℕ → Result (List ℕ) RunFault → Type 0
+IsMigrateAnswer image bytes (Ok out) = (movie : MovieContent) × IsMovieOf image bytes movie × (out ≡ text2 movie)
+IsMigrateAnswer image bytes (Err e) = IsMovieFault image bytes e
 
 -- frame k of a movie is played without a halt, and this is its picture as a pixmap
 pub record IsShot (movie : MovieContent) (k : ℕ) (picture : List ℕ) : Type 0 where

@@ -1,5 +1,6 @@
 -- What `tas trace` answers.
-use Rattle.std.specs.Prelude.{◌≡◌, ◌≢◌, ℕ, List, length, Option, Result, Ok, Err}
+use Rattle.std.specs.Prelude.{◌≡◌, ℕ, true, false, List, length, Option, Result, Ok, Err}
+use Rattle.vcs_machine.specs.Cart.{is_cart_size}
 use Rattle.vcs_machine.specs.TraceText.{trace_text}
 use Rattle.tas_engines.specs.declared.fault.RunFault.{RunFault}
 use Rattle.tas_engines.specs.declared.fault.RunFault.TheVariants.{Size, Memory}
@@ -9,13 +10,13 @@ use Rattle.tas_engines.specs.Output.{Ends, EndsAfter}
 
 -- why an image is no cartridge
 abbrev pub IsImageFault : List ℕ → RunFault → Type 0
-IsImageFault image (Size n) = (n ≡ length image) × (n ≢ 4096)
+IsImageFault image (Size n) = (n ≡ length image) × (is_cart_size n ≡ false)
 IsImageFault image Memory = Unit {0}
 IsImageFault image _ = ⊥
 
 -- the trace of the image, or why it has none
 abbrev pub IsTraceAnswer : List ℕ → ℕ → Result (List ℕ) RunFault → Type 0
-IsTraceAnswer image n (Ok bytes) = (length image ≡ 4096) × (bytes ≡ trace_text image n)
+IsTraceAnswer image n (Ok bytes) = (is_cart_size (length image) ≡ true) × (bytes ≡ trace_text image n)
 IsTraceAnswer image n (Err e) = IsImageFault image e
 
 -- `tas trace`, from what the reader has and the writer holds before to what they have and hold afterwards

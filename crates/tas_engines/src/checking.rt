@@ -35,7 +35,7 @@ fn check_movie<A: Allocator + Copy, W: Write>(
     write_all(output, line.as_bytes())
 }
 
-/// Reads a cartridge and a movie text, and writes `ok F frames`, where the text is one of a movie
+/// Reads a cartridge and a movie text of either kind, and writes `ok F frames`, where the text is one of a movie
 /// of F frames with this cartridge.
 ///
 /// Faults: those of [`read_two`], then those of [`movie_of`], with nothing written, and `Write`.

@@ -26,9 +26,9 @@ pub enum RunFault {
         /// How many bytes of the whole run had gone out: the first ones of the answer.
         written: usize,
     },
-    /// The cartridge hasn't 4,096 bytes, but so many.
+    /// The cartridge hasn't 2,048 or 4,096 bytes, but so many.
     Size(usize),
-    /// The bytes aren't the text of a movie with the cartridge.
+    /// The bytes aren't a text of a movie with the cartridge.
     Text(TextError),
     /// The movie has no such frame.
     NoFrame {
@@ -96,10 +96,10 @@ pub enum ToolFault {
         /// How many bytes of the whole run had gone out: the first ones of the answer.
         written: usize,
     },
-    /// The cartridge hasn't 4,096 bytes, but so many. Nothing was written.
+    /// The cartridge hasn't 2,048 or 4,096 bytes, but so many. Nothing was written.
     #[error("fault: cartridge has {0} bytes")]
     Size(usize),
-    /// The bytes aren't the text of a movie with the cartridge. Nothing was written.
+    /// The bytes aren't a text of a movie with the cartridge. Nothing was written.
     #[error("fault: {0}")]
     Text(TextError),
     /// The movie has no such frame. Nothing was written.

@@ -8,6 +8,7 @@
 
 mod checking;
 mod fault;
+mod migrating;
 mod movies;
 mod reading;
 mod shooting;
@@ -16,6 +17,7 @@ mod writing;
 
 pub use checking::check_run;
 pub use fault::{ReadFault, RunFault, ToolFault};
+pub use migrating::migrate_run;
 pub use movies::movie_of;
 pub use reading::{INPUT_LIMIT, ThreeInputs, read_input, read_three, read_two};
 pub use shooting::{halt_fault, shot_run};

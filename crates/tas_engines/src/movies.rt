@@ -9,7 +9,7 @@ use std::alloc::Allocator;
 use tas_movie::{Movie, ReadError, read_text};
 use vcs_machine::{Cart, CartError};
 
-/// The movie whose cartridge is the image and whose text the bytes are.
+/// The movie whose cartridge is the image and of which the bytes are a text.
 ///
 /// Faults, in order: `Size`, `Text`; `Memory` at any point.
 pub fn movie_of<A: Allocator + Copy>(

@@ -1,1 +1,5 @@
 pub mod TextLemmas
+pub mod RunLemmas
+pub mod RunTextLemmas
+pub mod TwoTexts
+pub mod DecimalLemmas

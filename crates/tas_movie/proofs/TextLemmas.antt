@@ -1,4 +1,4 @@
--- Lines of bytes, and the frames among them.
+-- Lines of bytes, and the frames among them; the older text.
 use Rattle.std.proofs.Common.{◌≡◌, ℕ, zero, suc, ◌+◌, ◌/◌, ◌%◌, ◌<◌, ◌≤◌, ◌&&◌, Bool, true, false, not, cond, eqb, List, [], ◌∷◌, ◌++◌, length, get_or, take, drop, Option, Some, None, refl, sym, ap, subst, ◌∙◌, arith, append_assoc}
 use Rattle.std.specs.Prelude.{codes}
 use Rattle.std.specs.List.{flat_map}
@@ -12,19 +12,9 @@ use Rattle.vcs_machine.specs.declared.input.Input.{Input}
 use Rattle.vcs_machine.specs.declared.input.Stick.{Stick}
 use Rattle.tas_movie.specs.declared.error.TextError.{TextError}
 use Rattle.tas_movie.specs.declared.error.TextErrorKind.TheVariants.{Digest, Frame, End, TooMany}
-use Rattle.tas_movie.specs.Content.{MovieContent, most_inputs}
-use Rattle.tas_movie.specs.Text.{line, mark, stick_text, frame_text, frame_line, head_text, digest_text, text}
-use Rattle.tas_movie.specs.Fault.{SplitLines, split_lines, shown_input, is_frame, fault_at, frames_fault, digest_fault, head_fault, fault}
-
--- one frame more is written
-pub frames_more : (out now next : List ℕ) (inputs : List Input) (i : ℕ) (d : Input) → i < length inputs
-    → now ≡ out ++ flat_map frame_line (take i inputs) → next ≡ (now ++ frame_text (get_or inputs i d)) ++ 10 ∷ []
-    → next ≡ out ++ flat_map frame_line (take (i + 1) inputs)
-frames_more out now next inputs i d lt so_far is =
-    is ∙ ap (λ (bs : List ℕ). (bs ++ frame_text (get_or inputs i d)) ++ 10 ∷ []) so_far
-    ∙ append_assoc (out ++ flat_map frame_line (take i inputs)) (frame_text (get_or inputs i d)) (10 ∷ [])
-    ∙ flat_map_more frame_line out (take i inputs) (get_or inputs i d)
-    ∙ ap (λ (xs : List Input). out ++ flat_map frame_line xs) (sym (take_more inputs i d lt))
+use Rattle.tas_movie.specs.Content.{MovieContent}
+use Rattle.tas_movie.specs.Text.{line, mark, stick_text, frame_text, frame_line, head_text1, head_text2, digest_text, text1, most_frames1}
+use Rattle.tas_movie.specs.Fault.{SplitLines, split_lines, shown_input, is_frame, fault_at, frames_fault, digest_fault, head_fault, fault_by, fault}
 
 -- ---- lines
 
@@ -72,25 +62,25 @@ split_at_newline bytes at tail lt is h tail-is =
 -- ---- frames, one after the other
 
 abbrev pub rest_fault : ℕ → List ℕ → Option TextError
-rest_fault n bytes = frames_fault n (split_lines bytes).lines (split_lines bytes).rest
+rest_fault n bytes = fault_by (frames_fault n) bytes
 
-pub frames_go_on : (n : ℕ) (rest l after : List ℕ) → split_lines rest ≡ record { lines = l ∷ (split_lines after).lines; rest = (split_lines after).rest } → n < most_inputs → is_frame l ≡ true
+pub frames_go_on : (n : ℕ) (rest l after : List ℕ) → split_lines rest ≡ record { lines = l ∷ (split_lines after).lines; rest = (split_lines after).rest } → n < most_frames1 → is_frame l ≡ true
     → rest_fault n rest ≡ rest_fault (n + 1) after
 unfolding frames_fault
 frames_go_on n rest l after is lt frame =
-    ap (λ (x : SplitLines). frames_fault n x.lines x.rest) is ∙ rw (lt-leb most_inputs n lt, frame) refl
+    ap (λ (x : SplitLines). frames_fault n x.lines x.rest) is ∙ rw (lt-leb most_frames1 n lt, frame) refl
 
-pub frames_too_many : (n : ℕ) (rest l after : List ℕ) → split_lines rest ≡ record { lines = l ∷ (split_lines after).lines; rest = (split_lines after).rest } → most_inputs ≤ n
+pub frames_too_many : (n : ℕ) (rest l after : List ℕ) → split_lines rest ≡ record { lines = l ∷ (split_lines after).lines; rest = (split_lines after).rest } → most_frames1 ≤ n
     → rest_fault n rest ≡ fault_at (n + 3) TooMany
 unfolding frames_fault
 frames_too_many n rest l after is le =
-    ap (λ (x : SplitLines). frames_fault n x.lines x.rest) is ∙ rw (le-leb most_inputs n le) refl
+    ap (λ (x : SplitLines). frames_fault n x.lines x.rest) is ∙ rw (le-leb most_frames1 n le) refl
 
-pub frames_wrong : (n : ℕ) (rest l after : List ℕ) → split_lines rest ≡ record { lines = l ∷ (split_lines after).lines; rest = (split_lines after).rest } → n < most_inputs → is_frame l ≡ false
+pub frames_wrong : (n : ℕ) (rest l after : List ℕ) → split_lines rest ≡ record { lines = l ∷ (split_lines after).lines; rest = (split_lines after).rest } → n < most_frames1 → is_frame l ≡ false
     → rest_fault n rest ≡ fault_at (n + 3) Frame
 unfolding frames_fault
 frames_wrong n rest l after is lt frame =
-    ap (λ (x : SplitLines). frames_fault n x.lines x.rest) is ∙ rw (lt-leb most_inputs n lt, frame) refl
+    ap (λ (x : SplitLines). frames_fault n x.lines x.rest) is ∙ rw (lt-leb most_frames1 n lt, frame) refl
 
 pub frames_unended : (n : ℕ) (rest : List ℕ) → split_lines rest ≡ record { lines = []; rest = rest } → (length rest ≡ 0 → ⊥) → rest_fault n rest ≡ fault_at (n + 3) End
 unfolding frames_fault
@@ -131,7 +121,7 @@ stick_read s = sticks _ _ _ _ _ _ _ _ _ _ (mark_read 82 s.right refl) (mark_read
 pub input_read : (i : Input) (rest : List ℕ) → shown_input (frame_text i ++ rest) ≡ i
 input_read i rest = inputs _ _ _ _ _ _ _ _ _ _ _ _ _ _ (stick_read i.left) (stick_read i.right) (mark_read 114 i.reset refl) (mark_read 115 i.select refl) (mark_read 98 i.mono refl) (mark_read 65 i.left_a refl) (mark_read 66 i.right_a refl)
 
-bytes_same : (xs ys : List ℕ) → xs ≡ ys → bytes_eq xs ys ≡ true
+pub bytes_same : (xs ys : List ℕ) → xs ≡ ys → bytes_eq xs ys ≡ true
 bytes_same xs ys e = (bytes_eq-Decides xs ys).1 e
 
 frame_is : (i : Input) → is_frame (frame_text i) ≡ true
@@ -156,14 +146,14 @@ frames_same (x ∷ xs) (y ∷ ys) e =
     let rest = frames_same xs ys tails in
     rw (heads, rest) refl
 
-pub same_text : (a b : MovieContent) → a.cart ≡ b.cart → text a ≡ text b → a ≡ b
-same_text a b same e =
-    let body : line (digest_text a.cart) ++ flat_map frame_line a.inputs ≡ line (digest_text b.cart) ++ flat_map frame_line b.inputs = append_cancel_left (line head_text) _ _ e in
+pub movie_by_fields : (c d : List ℕ) (xs ys : List Input) → c ≡ d → xs ≡ ys → ◌≡◌ {A = MovieContent} (record { cart = c; inputs = xs }) (record { cart = d; inputs = ys })
+movie_by_fields c d xs ys p q = cc
+
+pub same_text1 : (a b : MovieContent) → a.cart ≡ b.cart → text1 a ≡ text1 b → a ≡ b
+same_text1 a b same e =
+    let body : line (digest_text a.cart) ++ flat_map frame_line a.inputs ≡ line (digest_text b.cart) ++ flat_map frame_line b.inputs = append_cancel_left (line head_text1) _ _ e in
     let frames : flat_map frame_line a.inputs ≡ flat_map frame_line b.inputs = append_cancel_left (line (digest_text b.cart)) _ _ (ap (λ (cart : List ℕ). line (digest_text cart) ++ flat_map frame_line a.inputs) (sym same) ∙ body) in
-    reel a.cart b.cart a.inputs b.inputs same (frames_same a.inputs b.inputs frames)
-  where
-    reel : (c d : List ℕ) (xs ys : List Input) → c ≡ d → xs ≡ ys → ◌≡◌ {A = MovieContent} (record { cart = c; inputs = xs }) (record { cart = d; inputs = ys })
-    reel c d xs ys p q = cc
+    movie_by_fields a.cart b.cart a.inputs b.inputs same (frames_same a.inputs b.inputs frames)
 
 -- ---- a text has no fault
 
@@ -192,10 +182,6 @@ pub digest_no_break : (cart : List ℕ) → NoBreak (digest_text cart)
 unfolding digest_text all_apart
 digest_no_break cart = NoBreak-append (codes "cart ") (encode_lower (sha256 cart)) (apart_no_break (codes "cart ") refl) (digits_no_break lower_digits (sha256 cart) (apart_no_break lower_digits refl))
 
-head_no_break : NoBreak head_text
-unfolding all_apart
-head_no_break = apart_no_break head_text refl
-
 mark_no_break : (letter : ℕ) (b : Bool) → eqb letter 10 ≡ false → mark letter b ≡ 10 → ⊥
 mark_no_break letter true ne = eqb-false letter 10 ne
 mark_no_break letter false ne = eqb-false 46 10 refl
@@ -217,31 +203,33 @@ frame_no_break i =
     NoBreak-append (stick_text i.left) ((32 ∷ stick_text i.right) ++ switches_text i) (stick_no_break i.left)
     (NoBreak-append (32 ∷ stick_text i.right) (switches_text i) second (switches_no_break i))
 
-frames_right : (n : ℕ) (inputs : List Input) → n + length inputs ≤ most_inputs → rest_fault n (flat_map frame_line inputs) ≡ None
+frames_right : (n : ℕ) (inputs : List Input) → n + length inputs ≤ most_frames1 → rest_fault n (flat_map frame_line inputs) ≡ None
 frames_right n [] le = frames_end n [] refl
 frames_right n (x ∷ xs) le =
     frames_go_on n (flat_map frame_line (x ∷ xs)) (frame_text x) (flat_map frame_line xs) (split_lines-line (frame_text x) (flat_map frame_line xs) (frame_no_break x)) (omega arith) (frame_is x)
     ∙ frames_right (n + 1) xs (omega arith)
 
-pub text_right : (movie : MovieContent) → length movie.inputs ≤ most_inputs → fault (text movie) movie.cart ≡ None
-text_right movie le =
-    let frames = flat_map frame_line movie.inputs in
-    let body = line (digest_text movie.cart) ++ frames in
-    let first : split_lines (text movie) ≡ record { lines = head_text ∷ (split_lines body).lines; rest = (split_lines body).rest } = split_lines-line head_text body head_no_break in
-    let second : split_lines body ≡ record { lines = digest_text movie.cart ∷ (split_lines frames).lines; rest = (split_lines frames).rest } =
-    ap split_lines (append_assoc (digest_text movie.cart) (10 ∷ []) frames) ∙ split_lines-line (digest_text movie.cart) frames (digest_no_break movie.cart) in
-    ap (λ (x : SplitLines). head_fault movie.cart x.lines x.rest) first
-    ∙ ap (λ (x : SplitLines). digest_fault movie.cart x.lines x.rest) second
-    ∙ ap (λ (b : Bool). cond b (rest_fault 0 frames) (fault_at 2 Digest)) (bytes_same (digest_text movie.cart) (digest_text movie.cart) refl)
+head1_no_break : NoBreak head_text1
+unfolding all_apart
+head1_no_break = apart_no_break head_text1 refl
+
+pub head2_no_break : NoBreak head_text2
+unfolding all_apart
+head2_no_break = apart_no_break head_text2 refl
+
+-- the lines of a text with this head are its two first ones and those that follow
+pub text_lines : (head cart further : List ℕ) → NoBreak head → (split_lines (line head ++ (line (digest_text cart) ++ further))
+    ≡ record { lines = head ∷ digest_text cart ∷ (split_lines further).lines; rest = (split_lines further).rest })
+text_lines head cart further apart =
+    let body : List ℕ = line (digest_text cart) ++ further in
+    let first : split_lines (line head ++ body) ≡ record { lines = head ∷ (split_lines body).lines; rest = (split_lines body).rest } =
+    ap split_lines (append_assoc head (10 ∷ []) body) ∙ split_lines-line head body apart in
+    let second : split_lines body ≡ record { lines = digest_text cart ∷ (split_lines further).lines; rest = (split_lines further).rest } =
+    ap split_lines (append_assoc (digest_text cart) (10 ∷ []) further) ∙ split_lines-line (digest_text cart) further (digest_no_break cart) in
+    first ∙ ap (λ (x : SplitLines). let y : SplitLines = record { lines = head ∷ x.lines; rest = x.rest } in y) second
+
+pub text1_right : (movie : MovieContent) → length movie.inputs ≤ most_frames1 → fault (text1 movie) movie.cart ≡ None
+text1_right movie le =
+    ap (λ (x : SplitLines). head_fault movie.cart x.lines x.rest) (text_lines head_text1 movie.cart (flat_map frame_line movie.inputs) head1_no_break)
+    ∙ ap (λ (b : Bool). cond b (rest_fault 0 (flat_map frame_line movie.inputs)) (fault_at 2 Digest)) (bytes_same (digest_text movie.cart) (digest_text movie.cart) refl)
     ∙ frames_right 0 movie.inputs (omega arith)
-
-pub read_only : (cart bytes : List ℕ) (a m : MovieContent) → a.cart ≡ cart → bytes ≡ text (record { cart = cart; inputs = a.inputs }) → m.cart ≡ cart → bytes ≡ text m → a ≡ m
-read_only cart bytes a m is-a text-a is-m text-m =
-    same_text a m (is-a ∙ sym is-m) (ap (λ (c : List ℕ). text (record { cart = c; inputs = a.inputs })) is-a ∙ sym text-a ∙ text-m)
-
-pub read_no_error : (cart bytes : List ℕ) (m : MovieContent) (error : TextError) → m.cart ≡ cart → length m.inputs ≤ most_inputs → bytes ≡ text m → fault bytes cart ≡ Some error → ⊥
-read_no_error cart bytes m error is le text-m found =
-    none_some error (sym (text_right m le) ∙ ap (λ (b : List ℕ). fault b m.cart) (sym text-m) ∙ ap (fault bytes) is ∙ found)
-  where
-    none_some : (error : TextError) → ◌≡◌ {A = Option TextError} None (Some error) → ⊥
-    none_some error e = cc

@@ -4,7 +4,7 @@ use Rattle.vcs_machine.specs.declared.input.Input.{Input}
 
 -- how many inputs a movie has at most (own)
 abbrev pub most_inputs : ℕ
-most_inputs = 65536
+most_inputs = 262144
 
 pub record MovieContent : Type 0 where
   pub cart : List ℕ

@@ -1,15 +1,19 @@
--- The first line at fault in bytes that aren't the text of a movie with a given cartridge (own).
-use Rattle.std.specs.Prelude.{◌≡◌, ℕ, ◌+◌, ◌==◌, nat_le, List, [], ◌∷◌, Bool, Option, Some, None, if◌then◌else◌, slice_index}
+-- The first line at fault in bytes that aren't a text of a movie with a given cartridge (own).
+use Rattle.std.specs.Prelude.{◌≡◌, ℕ, ◌+◌, ◌-◌, ◌≤◌, ◌==◌, nat_le, nat_lt, List, [], ◌∷◌, ◌++◌, length, drop, Bool, true, false, not, ◌&&◌, Option, Some, None, if◌then◌else◌, slice_index, slice_get}
 use Rattle.std.specs.Str.{bytes_eq}
+use Rattle.std.specs.Str.Parse.{digits_value}
 use Rattle.vcs_machine.specs.declared.input.Input.{Input}
 use Rattle.vcs_machine.specs.declared.input.Stick.{Stick}
 use Rattle.tas_movie.specs.declared.error.TextError.{TextError}
 use Rattle.tas_movie.specs.declared.error.TextErrorKind.{TextErrorKind}
-use Rattle.tas_movie.specs.declared.error.TextErrorKind.TheVariants.{Head, Digest, Frame, End, TooMany}
+use Rattle.tas_movie.specs.declared.error.TextErrorKind.TheVariants.{Head, Digest, Frame, End, TooMany, Run}
 use Rattle.tas_movie.specs.declared.error.ReadError.{ReadError}
 use Rattle.tas_movie.specs.declared.error.ReadError.TheVariants.{Memory, Text}
+use Rattle.vcs_machine.specs.Input.{are_same_inputs}
+use Rattle.tas_movie.specs.declared.run.FrameRun.{FrameRun}
 use Rattle.tas_movie.specs.Content.{most_inputs}
-use Rattle.tas_movie.specs.Text.{frame_text, head_text, digest_text}
+use Rattle.tas_movie.specs.Runs.{run_inputs}
+use Rattle.tas_movie.specs.Text.{frame_text, run_text, head_text1, head_text2, digest_text, most_frames1}
 
 -- the lines that a newline ends, without it, and what stands behind the last newline
 pub record SplitLines : Type 0 where
@@ -44,29 +48,88 @@ is_frame l = bytes_eq l (frame_text (shown_input l))
 abbrev pub fault_at : ℕ → TextErrorKind → Option TextError
 fault_at number kind = Some (record { line = number; kind = kind })
 
+-- ---- the older text
+
 -- the first fault of the lines from the third on, of which n frames came before: a line that no newline ends, a
--- line behind as many frames as a movie has at most, or one that is no frame
+-- line behind as many frames as this text has at most, or one that is no frame
 unfoldable pub frames_fault : ℕ → List (List ℕ) → List ℕ → Option TextError
 frames_fault n [] [] = None
 frames_fault n [] (b ∷ rest) = fault_at (n + 3) End
 frames_fault n (l ∷ ls) rest =
-    if nat_le most_inputs n then fault_at (n + 3) TooMany
+    if nat_le most_frames1 n then fault_at (n + 3) TooMany
     else if is_frame l then frames_fault (n + 1) ls rest
     else fault_at (n + 3) Frame
 
--- the first fault from the second line on: it is missing, or no newline ends it, or it isn't the cartridge's
-abbrev pub digest_fault : List ℕ → List (List ℕ) → List ℕ → Option TextError
-digest_fault cart [] rest = fault_at 2 End
-digest_fault cart (l ∷ ls) rest = if bytes_eq l (digest_text cart) then frames_fault 0 ls rest else fault_at 2 Digest
+-- ---- the text of runs
 
--- the first fault from the first line on: it is missing, or no newline ends it, or it is another one
+-- how many frames a line shows by what stands behind its first 17 letters: one, or as many as the digits behind " x" say
+abbrev pub shown_count : List ℕ → ℕ
+shown_count [] = 1
+shown_count (b ∷ more) = digits_value 10 (drop 1 more)
+
+-- the run that a line shows
+abbrev pub shown_run : List ℕ → FrameRun
+shown_run l = record { input = shown_input l; count = shown_count (drop 17 l) }
+
+-- a line is a run where it is the text of the run that it shows, of one frame at least and as many as a movie has at most
+abbrev pub is_run : List ℕ → Bool
+is_run l = bytes_eq l (run_text (shown_run l)) && (nat_le 1 (shown_run l).count && nat_le (shown_run l).count most_inputs)
+
+-- a line says this run, of one frame at least and as many as a movie has at most
+abbrev pub IsRunLine : List ℕ → FrameRun → Type 0
+IsRunLine l run = (l ≡ run_text run) × (1 ≤ run.count) × (run.count ≤ most_inputs)
+
+-- the last frame, where there is one, has this input
+abbrev pub is_repeated : Option Input → Input → Bool
+is_repeated None input = false
+is_repeated (Some last) input = are_same_inputs last input
+
+-- what is wrong with a line behind the frames with these inputs, in this order: there are as many frames as a movie has at
+-- most, it is no run, its frame is the one before, or there would be too many frames with it
+unfoldable pub run_fault : List Input → List ℕ → Option TextErrorKind
+run_fault before l =
+    if nat_le most_inputs (length before) then Some TooMany
+    else if not (is_run l) then Some Frame
+    else if is_repeated (slice_get before (length before - 1)) (shown_run l).input then Some Run
+    else if nat_lt most_inputs (length before + (shown_run l).count) then Some TooMany
+    else None
+
+-- a line's fault, else that of those after it
+abbrev pub fault_or : ℕ → Option TextErrorKind → Option TextError → Option TextError
+fault_or number None next = next
+fault_or number (Some kind) next = fault_at number kind
+
+-- the first fault of the lines from this number on, behind the frames with these inputs: that of a line, or a line that no
+-- newline ends
+unfoldable pub runs_fault : ℕ → List Input → List (List ℕ) → List ℕ → Option TextError
+runs_fault number before [] [] = None
+runs_fault number before [] (b ∷ rest) = fault_at number End
+runs_fault number before (l ∷ ls) rest =
+    fault_or number (run_fault before l) (runs_fault (number + 1) (before ++ run_inputs (shown_run l)) ls rest)
+
+-- ---- either text
+
+-- the first fault from the second line on: it is missing, or no newline ends it, or it isn't the cartridge's; else that of
+-- the further lines
+abbrev pub digest_fault : List ℕ → (List (List ℕ) → List ℕ → Option TextError) → List (List ℕ) → List ℕ → Option TextError
+digest_fault cart further [] rest = fault_at 2 End
+digest_fault cart further (l ∷ ls) rest = if bytes_eq l (digest_text cart) then further ls rest else fault_at 2 Digest
+
+-- the first fault from the first line on: it is missing, or no newline ends it, or it is another one than those of the two texts
 abbrev pub head_fault : List ℕ → List (List ℕ) → List ℕ → Option TextError
 head_fault cart [] rest = fault_at 1 End
-head_fault cart (l ∷ ls) rest = if bytes_eq l head_text then digest_fault cart ls rest else fault_at 1 Head
+head_fault cart (l ∷ ls) rest =
+    if bytes_eq l head_text1 then digest_fault cart (frames_fault 0) ls rest
+    else if bytes_eq l head_text2 then digest_fault cart (runs_fault 3 []) ls rest
+    else fault_at 1 Head
 
--- the first line at fault and its kind, where bytes aren't the text of a movie with this cartridge
+-- the fault of some bytes' lines
+abbrev pub fault_by : (List (List ℕ) → List ℕ → Option TextError) → List ℕ → Option TextError
+fault_by of_lines bytes = of_lines (split_lines bytes).lines (split_lines bytes).rest
+
+-- the first line at fault and its kind, where bytes aren't a text of a movie with this cartridge
 abbrev pub fault : List ℕ → List ℕ → Option TextError
-fault bytes cart = head_fault cart (split_lines bytes).lines (split_lines bytes).rest
+fault bytes cart = fault_by (head_fault cart) bytes
 
 -- an error of reading is want of memory, or this fault
 abbrev pub IsReadError : Option TextError → ReadError → Type 0

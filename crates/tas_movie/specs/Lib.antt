@@ -1,4 +1,5 @@
 pub mod Content
 pub mod Edit
+pub mod Runs
 pub mod Text
 pub mod Fault

@@ -5,21 +5,24 @@ use thiserror::Error;
 /// What is wrong with a line (own).
 #[derive(Clone, Copy, Debug, PartialEq, Eq, Error)]
 pub enum TextErrorKind {
-    /// Line 1 isn't `a26movie 1`.
+    /// Line 1 is neither `a26movie 1` nor `a26movie 2`.
     #[error("head")]
     Head,
     /// Line 2 isn't the one that names the given cartridge by its digest.
     #[error("digest")]
     Digest,
-    /// A further line isn't a frame.
+    /// A further line isn't a frame, or in the text of runs a run.
     #[error("frame")]
     Frame,
     /// The line is missing, which is a fault of the first two alone, or no newline ends it.
     #[error("end")]
     End,
-    /// As many frames as a movie has at most stand before the line.
+    /// As many frames as the text has at most stand before the line, or there would be more with it.
     #[error("too many")]
     TooMany,
+    /// The line's frame is that of the line before, which stands in the text of runs alone.
+    #[error("run")]
+    Run,
 }
 
 /// The first line at fault (own).

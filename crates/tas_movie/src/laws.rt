@@ -1,23 +1,42 @@
-//! Laws of the texts of movies.
+//! Laws of the texts of movies, and of runs.
 
-ghost use Rattle.std.specs.Prelude.{◌≡◌, ◌≤◌, length, None};
+ghost use Rattle.std.specs.Prelude.{◌≡◌, ◌≤◌, ℕ, List, length, None};
+ghost use Rattle.std.specs.List.{flat_map};
+ghost use Rattle.vcs_machine.specs.declared.input.Input.{Input};
 ghost use Rattle.tas_movie.specs.declared.movie.TheConstants.{MAX_FRAMES};
+ghost use Rattle.tas_movie.specs.declared.reading.TheConstants.{MAX_FRAMES1};
+ghost use Rattle.tas_movie.specs.declared.run.FrameRun.{FrameRun};
 ghost use Rattle.tas_movie.specs.Content.{MovieContent, most_inputs};
-ghost use Rattle.tas_movie.specs.Text.{text};
+ghost use Rattle.tas_movie.specs.Runs.{run_inputs, runs_of, AreLongest};
+ghost use Rattle.tas_movie.specs.Text.{text1, text2, most_frames1, IsText};
 ghost use Rattle.tas_movie.specs.Fault.{fault};
 
-/// Two movies of one cartridge with one text are equal (own).
+/// Two movies of one cartridge with one text are equal, whichever of the two texts it is (own).
 pub fn one_movie_per_text()
-    ensures { (a b : MovieContent) → a.cart ≡ b.cart → text a ≡ text b → a ≡ b }
+    ensures first { (a b : MovieContent) → a.cart ≡ b.cart → text1 a ≡ text1 b → a ≡ b }
+    ensures second { (a b : MovieContent) → a.cart ≡ b.cart → length a.inputs ≤ most_inputs → length b.inputs ≤ most_inputs →
+        text2 a ≡ text2 b → a ≡ b }
+    ensures either { (bytes : List ℕ) (a b : MovieContent) → a.cart ≡ b.cart → length a.inputs ≤ most_inputs → length b.inputs ≤ most_inputs →
+        IsText bytes a → IsText bytes b → a ≡ b }
 {}
 
-/// The text of a movie has no fault (own).
+/// A text of a movie has no fault (own).
 pub fn texts_have_no_fault()
-    ensures { (movie : MovieContent) → length movie.inputs ≤ most_inputs →
-        fault (text movie) movie.cart ≡ None }
+    ensures { (bytes : List ℕ) (movie : MovieContent) → length movie.inputs ≤ most_inputs → IsText bytes movie →
+        fault bytes movie.cart ≡ None }
 {}
 
-/// The most inputs of a movie are as many as the definitions say: 65,536 (own).
+/// The runs of a movie's frames make up the frames, none of them can be longer, and they are the only ones of
+/// which both holds (own).
+pub fn runs_are_longest()
+    ensures made { (inputs : List Input) → flat_map run_inputs (runs_of inputs) ≡ inputs }
+    ensures longest { (inputs : List Input) → AreLongest (runs_of inputs) }
+    ensures only { (runs : List FrameRun) → AreLongest runs → runs_of (flat_map run_inputs runs) ≡ runs }
+{}
+
+/// The most inputs of a movie are as many as the definitions say: 262,144. So are the most frames of the older
+/// text: 65,536 (own).
 pub fn most_inputs_is_exact()
-    ensures { MAX_FRAMES ≡ most_inputs }
+    ensures movie { MAX_FRAMES ≡ most_inputs }
+    ensures text { MAX_FRAMES1 ≡ most_frames1 }
 {}

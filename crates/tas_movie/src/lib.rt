@@ -1,6 +1,7 @@
 //! Movies: a cartridge and one input for each frame, edits of them, and their texts.
 #![tactic(auto)]
 
+mod decimals;
 mod edit;
 mod editing;
 mod error;
@@ -10,12 +11,16 @@ mod lists;
 mod movie;
 mod printing;
 mod reading;
+mod run;
+mod run_reading;
 
+pub use decimals::read_decimal;
 pub use edit::{Edit, EditRefusal};
 pub use editing::{apply, check};
 pub use error::{ReadError, TextError, TextErrorKind};
 pub use inputs::Inputs;
-pub use laws::{most_inputs_is_exact, one_movie_per_text, texts_have_no_fault};
+pub use laws::{most_inputs_is_exact, one_movie_per_text, runs_are_longest, texts_have_no_fault};
 pub use movie::{MAX_FRAMES, Movie};
 pub use printing::{print_frame, print_text};
 pub use reading::{read_frame, read_text};
+pub use run::run_length;

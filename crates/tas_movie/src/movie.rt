@@ -8,7 +8,7 @@ use std::marker::Model;
 use vcs_machine::{Cart, Input};
 
 /// How many inputs a movie has at most (own).
-pub const MAX_FRAMES: usize = 65536;
+pub const MAX_FRAMES: usize = 262144;
 
 /// A cartridge and at most `MAX_FRAMES` inputs, one for each frame, with room reserved for all of
 /// them (own).

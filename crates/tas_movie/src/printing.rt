@@ -1,10 +1,14 @@
 //! Printing the text of a movie.
 
-ghost use Rattle.std.specs.Prelude.{◌≡◌, ◌++◌, IfOk, OnOk};
+ghost use Rattle.std.specs.Prelude.{◌≡◌, ◌≤◌, ◌++◌, length, IfOk, OnOk};
 ghost use Rattle.std.specs.List.{flat_map};
-ghost use Rattle.tas_movie.specs.Text.{mark, frame_text, frame_line, digest_text, text};
+ghost use Rattle.tas_movie.specs.Content.{most_inputs};
+ghost use Rattle.tas_movie.specs.Runs.{runs_of};
+ghost use Rattle.tas_movie.specs.Text.{mark, frame_text, run_line, digest_text, text2};
 
 use crate::Movie;
+use crate::run::{FrameRun, run_length};
+use itoa::Buffer;
 use sha2::{Digest, Sha256};
 use std::alloc::{AllocError, Allocator};
 use vcs_machine::{Cart, Input};
@@ -12,7 +16,7 @@ use vcs_machine::{Cart, Input};
 /// How many bytes the first two lines of a text have.
 const HEAD_SIZE: usize = 81;
 
-/// How many bytes the line of a frame has.
+/// How many bytes the line of one frame has. That of a run has fewer than this for each frame.
 const FRAME_SIZE: usize = 18;
 
 fn mark(letter: u8, pressed: bool) -> u8
@@ -60,27 +64,46 @@ pub fn print_digest<A: Allocator>(cart: &Cart<A>) -> [u8; 69]
     text
 }
 
-fn push_frames<A: Allocator>(out: &mut Vec<u8, A>, inputs: &[Input]) -> Result<(), AllocError>
-    ensures { OnOk result (out.new.items ≡ out.old.items ++ flat_map frame_line inputs.now) }
+fn push_run<A: Allocator>(out: &mut Vec<u8, A>, run: FrameRun) -> Result<(), AllocError>
+    ensures { OnOk result (out.new.items ≡ out.old.items ++ run_line run) }
 {
-    for input in inputs {
-        out.extend_from_slice(&print_frame(*input))?;
-        out.push(b'\n')?;
+    out.extend_from_slice(&print_frame(run.input))?;
+    if run.count != 1 {
+        let mut buffer = Buffer::new();
+        out.extend_from_slice(b" x")?;
+        out.extend_from_slice(buffer.format(run.count).as_bytes())?;
+    }
+    out.push(b'\n')?;
+    Ok(())
+}
+
+/// A line for each run of equal inputs, as long as it can be.
+fn push_runs<A: Allocator>(out: &mut Vec<u8, A>, inputs: &[Input]) -> Result<(), AllocError>
+    requires { length inputs.now ≤ most_inputs }
+    ensures { OnOk result (out.new.items ≡ out.old.items ++ flat_map run_line (runs_of inputs.now)) }
+{
+    let mut rest = inputs;
+    while !rest.is_empty() {
+        let input = rest[0];
+        let count = run_length(rest, input);
+        push_run(out, FrameRun { input, count })?;
+        rest = &rest[count..];
     }
     Ok(())
 }
 
-/// The text of a movie (own). `AllocError` where memory is refused.
+/// The text of a movie (own): of the two texts the one with a line for each run of equal frames.
+/// `AllocError` where memory is refused.
 pub fn print_text<A: Allocator, B: Allocator>(
     alloc: B,
     movie: &Movie<A>,
 ) -> Result<Vec<u8, B>, AllocError>
-    ensures { IfOk result (λ bytes. bytes.items ≡ text movie.now) }
+    ensures { IfOk result (λ bytes. bytes.items ≡ text2 movie.now) }
 {
     let mut out = Vec::with_capacity(alloc, HEAD_SIZE + FRAME_SIZE * movie.len())?;
-    out.extend_from_slice(b"a26movie 1\n")?;
+    out.extend_from_slice(b"a26movie 2\n")?;
     out.extend_from_slice(&print_digest(movie.cart()))?;
     out.push(b'\n')?;
-    push_frames(&mut out, movie.inputs())?;
+    push_runs(&mut out, movie.inputs())?;
     Ok(out)
 }

@@ -1,20 +1,25 @@
-//! Reading the text of a movie.
+//! Reading a text of a movie.
 
-ghost use Rattle.std.specs.Prelude.{◌≡◌, ◌++◌, ◌∷◌, [], ◌≤◌, length, MatchResult, OnOk, OnSome, IfOk, IfNone, IfSome, None, Some, true, false, vec_len, vec_capacity};
+ghost use Rattle.std.specs.Prelude.{◌≡◌, ◌++◌, ◌∷◌, [], ℕ, List, Option, ◌≤◌, length, MatchResult, OnOk, OnSome, IfOk, IfNone, IfSome, None, Some, true, false, vec_len, vec_capacity};
 ghost use Rattle.std.specs.List.{flat_map};
 ghost use Rattle.std.specs.Str.{bytes_eq};
 ghost use Rattle.vcs_machine.specs.declared.input.Input.{Input};
+ghost use Rattle.tas_movie.specs.declared.error.TextError.{TextError as FirstFault};
 ghost use Rattle.tas_movie.specs.Content.{MovieContent, most_inputs};
-ghost use Rattle.tas_movie.specs.Text.{line, frame_text, frame_line, digest_text, text};
-ghost use Rattle.tas_movie.specs.Fault.{shown_input, is_frame, split_lines, frames_fault, fault, IsReadError};
+ghost use Rattle.tas_movie.specs.Text.{line, frame_text, frame_line, digest_text, most_frames1, IsText};
+ghost use Rattle.tas_movie.specs.Fault.{shown_input, is_frame, split_lines, frames_fault, digest_fault, fault_by, fault, IsReadError};
 
 use crate::printing::{print_digest, print_frame};
-use crate::{MAX_FRAMES, Movie, ReadError, TextError, TextErrorKind};
+use crate::run_reading::read_runs;
+use crate::{Movie, ReadError, TextError, TextErrorKind};
 use std::alloc::Allocator;
 use vcs_machine::{Cart, Input, Stick};
 
+/// How many frames the older text has at most (own).
+pub(crate) const MAX_FRAMES1: usize = 65536;
+
 /// The first line, without its newline, and what follows; nothing where no newline ends it.
-fn split_line(bytes: &[u8]) -> Option<(&[u8], &[u8])>
+pub(crate) fn split_line(bytes: &[u8]) -> Option<(&[u8], &[u8])>
     ensures none { IfNone result (split_lines bytes.now ≡ record { lines = []; rest = bytes.now }) }
     ensures lines { IfSome result (λ parts. split_lines bytes.now ≡ record {
       lines = parts.0.now ∷ (split_lines parts.1.now).lines;
@@ -77,21 +82,21 @@ pub fn read_frame(line: &[u8]) -> Option<Input>
     }
 }
 
-fn error_at(line: usize, kind: TextErrorKind) -> TextError
+pub(crate) fn error_at(line: usize, kind: TextErrorKind) -> TextError
     ensures { result ≡ record { line = line; kind = kind } }
 {
     TextError { line, kind }
 }
 
-/// Reads the frames' lines into an empty list with room for them.
+/// Reads the frames' lines of the older text into an empty list with room for them.
 fn read_frames<A: Allocator>(list: &mut Vec<Input, A>, bytes: &[u8]) -> Result<(), TextError>
     requires empty { list.old.items ≡ [] }
     requires room { most_inputs ≤ vec_capacity list.old }
     ensures frames { OnOk result (bytes.now ≡ flat_map frame_line list.new.items) }
     ensures fault { MatchResult result
-        (λ _. frames_fault 0 (split_lines bytes.now).lines (split_lines bytes.now).rest ≡ None)
-        (λ e. frames_fault 0 (split_lines bytes.now).lines (split_lines bytes.now).rest ≡ Some e) }
-    ensures bound { vec_len list.new ≤ most_inputs }
+        (λ _. fault_by (frames_fault 0) bytes.now ≡ None)
+        (λ e. fault_by (frames_fault 0) bytes.now ≡ Some e) }
+    ensures bound { vec_len list.new ≤ most_frames1 }
     ensures capacity { vec_capacity list.old ≤ vec_capacity list.new }
 {
     let mut rest = bytes;
@@ -100,7 +105,7 @@ fn read_frames<A: Allocator>(list: &mut Vec<Input, A>, bytes: &[u8]) -> Result<(
         let Some((line, after)) = split_line(rest) else {
             return Err(error_at(number, TextErrorKind::End));
         };
-        if list.len() >= MAX_FRAMES {
+        if list.len() >= MAX_FRAMES1 {
             return Err(error_at(number, TextErrorKind::TooMany));
         }
         let Some(input) = read_frame(line) else {
@@ -120,7 +125,24 @@ fn is_digest<A: Allocator>(line: &[u8], cart: &Cart<A>) -> bool
     line == text.as_slice()
 }
 
-/// Reads the text of a movie with this cartridge, and answers its inputs in the empty list.
+/// What follows the line that names the cartridge by its digest.
+fn after_digest<'a, B: Allocator>(bytes: &'a [u8], cart: &Cart<B>) -> Result<&'a [u8], TextError>
+    ensures whole { IfOk result (λ rest. bytes.entry.now ≡ line (digest_text cart.now) ++ rest.now) }
+    // Whatever the faults of the further lines are.
+    ensures fault { (further : List (List ℕ) → List ℕ → Option FirstFault) → MatchResult result
+        (λ rest. fault_by (digest_fault cart.now further) bytes.entry.now ≡ fault_by further rest.now)
+        (λ e. fault_by (digest_fault cart.now further) bytes.entry.now ≡ Some e) }
+{
+    let Some((second, rest)) = split_line(bytes) else {
+        return Err(error_at(2, TextErrorKind::End));
+    };
+    if !is_digest(second, cart) {
+        return Err(error_at(2, TextErrorKind::Digest));
+    }
+    Ok(rest)
+}
+
+/// Reads a text of a movie with this cartridge, and answers its inputs in the empty list.
 fn read_lines<A: Allocator, B: Allocator>(
     list: &mut Vec<Input, A>,
     bytes: &[u8],
@@ -129,29 +151,33 @@ fn read_lines<A: Allocator, B: Allocator>(
     requires empty { list.old.items ≡ [] }
     requires room { most_inputs ≤ vec_capacity list.old }
     ensures movie { OnOk result
-        (bytes.now ≡ text (record { cart = cart.now; inputs = list.new.items })) }
+        (IsText bytes.now (record { cart = cart.now; inputs = list.new.items })) }
     ensures fault { MatchResult result
         (λ _. fault bytes.now cart.now ≡ None)
         (λ e. fault bytes.now cart.now ≡ Some e) }
     ensures bound { vec_len list.new ≤ most_inputs }
     ensures capacity { vec_capacity list.old ≤ vec_capacity list.new }
 {
-    let Some((head, after_head)) = split_line(bytes) else {
+    let Some((head, after)) = split_line(bytes) else {
         return Err(error_at(1, TextErrorKind::End));
     };
-    if head != b"a26movie 1".as_slice() {
-        return Err(error_at(1, TextErrorKind::Head));
+    if head == b"a26movie 1".as_slice() {
+        return match after_digest(after, cart) {
+            Ok(frames) => read_frames(list, frames),
+            Err(error) => Err(error),
+        };
     }
-    let Some((second, frames)) = split_line(after_head) else {
-        return Err(error_at(2, TextErrorKind::End));
-    };
-    if !is_digest(second, cart) {
-        return Err(error_at(2, TextErrorKind::Digest));
+    if head == b"a26movie 2".as_slice() {
+        return match after_digest(after, cart) {
+            Ok(runs) => read_runs(list, runs),
+            Err(error) => Err(error),
+        };
     }
-    read_frames(list, frames)
+    Err(error_at(1, TextErrorKind::Head))
 }
 
-/// Reads the text of a movie with this cartridge (own). `Memory` comes first, since the room for a
+/// Reads a text of a movie with this cartridge (own): the one that [`print_text`](crate::print_text) writes, or the
+/// older one, which has a line for each of at most 65,536 frames. `Memory` comes first, since the room for a
 /// movie is reserved before the text is looked at; `Text` names the first line at fault.
 pub fn read_text<A: Allocator + Copy, B: Allocator>(
     alloc: A,
@@ -159,10 +185,10 @@ pub fn read_text<A: Allocator + Copy, B: Allocator>(
     cart: &Cart<B>,
 ) -> Result<Movie<A>, ReadError>
     // What is read is the movie of this text.
-    ensures found { IfOk result (λ movie. (movie.cart ≡ cart.now) × (bytes.now ≡ text movie)) }
+    ensures found { IfOk result (λ movie. (movie.cart ≡ cart.now) × IsText bytes.now movie) }
     // A text is never refused, but for want of memory.
     ensures all { (movie : MovieContent) → movie.cart ≡ cart.now →
-        length movie.inputs ≤ most_inputs → bytes.now ≡ text movie →
+        length movie.inputs ≤ most_inputs → IsText bytes.now movie →
         MatchResult result (λ read. read ≡ movie) (λ e. e ≡ ReadError.Memory) }
     // Which line is at fault, and how.
     ensures fault { MatchResult result

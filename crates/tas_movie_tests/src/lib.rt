@@ -7,3 +7,7 @@ mod green_tests;
 mod movie_tests;
 #[cfg(test)]
 mod movies;
+#[cfg(test)]
+mod text_tests;
+#[cfg(test)]
+mod texts;

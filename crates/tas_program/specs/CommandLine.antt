@@ -10,7 +10,7 @@ use Rattle.clap.specs.declared.builder.value_parser.ValueParser.{ValueParser}
 -- ---- which command some words name
 
 abbrev pub command_names : List Text
-command_names = codes "trace" ∷ codes "check" ∷ codes "shot" ∷ codes "edit" ∷ codes "diff" ∷ codes "script" ∷ codes "export" ∷ []
+command_names = codes "trace" ∷ codes "check" ∷ codes "migrate" ∷ codes "shot" ∷ codes "edit" ∷ codes "diff" ∷ codes "script" ∷ codes "export" ∷ []
 
 -- names that no other names stand beside
 abbrev pub labels : List Text → Names
@@ -63,6 +63,7 @@ command_line instructions frame from to workers = record {
   subs =
       shape_with (codes "trace") (word_rule (codes "N") instructions ∷ [])
       ∷ shape_with (codes "check") (word_rule (codes "CART") None ∷ [])
+      ∷ shape_with (codes "migrate") (word_rule (codes "CART") None ∷ [])
       ∷ shape_with (codes "shot") (word_rule (codes "CART") None ∷ word_rule (codes "K") frame ∷ [])
       ∷ shape_with (codes "edit") (word_rule (codes "CART") None ∷ word_rule (codes "SCRIPT") None ∷ [])
       ∷ shape_with (codes "diff") (word_rule (codes "CART") None ∷ word_rule (codes "OLD") None ∷ [])

@@ -4,7 +4,7 @@ use Rattle.std.specs.Io.KnownBytes.{Appends}
 use Rattle.tas_engines.specs.declared.fault.RunFault.{RunFault}
 use Rattle.tas_engines.specs.declared.fault.ToolFault.{ToolFault}
 use Rattle.tas_engines.specs.declared.fault.ToolFault.TheVariants.{Read}
-use Rattle.tas_engines.specs.Movies.{IsCheckAnswer, IsShotAnswer, IsMovieRun}
+use Rattle.tas_engines.specs.Movies.{IsCheckAnswer, IsMigrateAnswer, IsShotAnswer, IsMovieRun}
 use Rattle.tas_engines.specs.Output.{StopsWriting}
 use Rattle.tas_engines.specs.Tracing.{IsTraceRun}
 use Rattle.tas_tool.specs.Scripts.{IsScriptRun}
@@ -16,7 +16,7 @@ use Rattle.tas_program.specs.declared.request.Request.TheVariants.{Do, Show, Ref
 use Rattle.tas_program.specs.declared.status.Status.{Status}
 use Rattle.tas_program.specs.declared.status.Status.TheVariants.{Done, Fault, Misuse}
 use Rattle.tas_program.specs.declared.task.Task.{Task}
-use Rattle.tas_program.specs.declared.task.Task.TheVariants.{Trace, Check, Shot, Edit, Diff, Script, MovieScript, Export}
+use Rattle.tas_program.specs.declared.task.Task.TheVariants.{Trace, Check, Migrate, Shot, Edit, Diff, Script, MovieScript, Export}
 use Rattle.tas_program.specs.Task.{IsInRange}
 
 -- the number that the system is told
@@ -50,6 +50,8 @@ abbrev pub DoesTask : Type 0 → (List ℕ → Option (List ℕ)) → Task → S
 DoesTask A files (Trace n) old new end = IsTraceRun n old.input new.input old.output new.output end
 DoesTask A files (Check cart) old new end =
     EndsOver (files cart.now) (λ file left. IsMovieRun IsCheckAnswer file left old.input new.input old.output new.output end) old new end
+DoesTask A files (Migrate cart) old new end =
+    EndsOver (files cart.now) (λ file left. IsMovieRun IsMigrateAnswer file left old.input new.input old.output new.output end) old new end
 DoesTask A files (Shot cart k) old new end =
     EndsOver (files cart.now) (λ file left. IsMovieRun (IsShotAnswer k) file left old.input new.input old.output new.output end) old new end
 DoesTask A files (Edit cart script) old new end =

@@ -17,8 +17,8 @@ use std::sync::Wait;
 use std::thread::Threads;
 use tas_engines::write_all;
 use tas_tool::{
-    ToolFault, check_run, diff_run, edit_run, export_run, movie_script_run, script_run, shot_run,
-    trace_run,
+    ToolFault, check_run, diff_run, edit_run, export_run, migrate_run, movie_script_run,
+    script_run, shot_run, trace_run,
 };
 
 /// Opens a file of this name.
@@ -65,6 +65,10 @@ pub fn run_task<T: Wait + Threads + Sync, F: Folder, R: Read, W: Write>(
         Task::Trace { instructions } => trace_run(alloc, instructions, input, output),
         Task::Check { cart } => match open_file(folder, cart) {
             Ok(mut file) => check_run(alloc, &mut file, input, output),
+            Err(fault) => Err(fault),
+        },
+        Task::Migrate { cart } => match open_file(folder, cart) {
+            Ok(mut file) => migrate_run(alloc, &mut file, input, output),
             Err(fault) => Err(fault),
         },
         Task::Shot { cart, frame } => match open_file(folder, cart) {

@@ -24,6 +24,11 @@ pub enum Task<'a> {
         /// The name of the cartridge's file.
         cart: &'a str,
     },
+    /// Write the text of runs of the movie on standard input.
+    Migrate {
+        /// The name of the cartridge's file.
+        cart: &'a str,
+    },
     /// Draw a frame of the movie on standard input.
     Shot {
         /// The name of the cartridge's file.

@@ -35,12 +35,12 @@ fn cartridge<'a>(alloc: Global) -> Arg<'a>
     file(
         alloc,
         "CART",
-        "The cartridge's file: its image of 4096 bytes",
+        "The cartridge's file: its image of 4096 or 2048 bytes",
     )
 }
 
 static TRACE_HELP: &str = "\
-Standard input is the cartridge: its image of 4096 bytes, as an assembler writes it.
+Standard input is the cartridge: its image of 4096 or 2048 bytes, as an assembler writes it.
 Standard output has one line for each instruction from power-on, with nothing pressed:
 its address, its opcode, the registers A X Y S P after it, and its CPU cycles.
 A byte that is no documented opcode ends the trace with a line such as 'F006 02 halt'.
@@ -49,14 +49,23 @@ Example:
   examples/cart counter | tas trace 3";
 
 static CHECK_HELP: &str = "\
-Standard input is the movie text: a line 'a26movie 1', a line 'cart ' with the SHA-256 of the
-cartridge, and a line for each frame such as 'R.... ..... .....'.
+Standard input is the movie text: a line 'a26movie 2', a line 'cart ' with the SHA-256 of the
+cartridge, and a line for each run of equal frames: 'R.... ..... .....' is one frame, and
+'R.... ..... ..... x60' sixty. An older text, 'a26movie 1' with a line for each frame, is read too.
 Standard output is 'ok F frames', where the text is one of a movie of F frames with this cartridge.
 Otherwise the first line at fault is told.
 
 Example:
   examples/cart joystick > joystick.bin
   tas check joystick.bin < examples/joystick.movie";
+
+static MIGRATE_HELP: &str = "\
+Standard input is a movie text, as for 'tas check'.
+Standard output is the text of the same movie as it is written today: 'a26movie 2', and a line for
+each run of equal frames.
+
+Example:
+  tas migrate joystick.bin < old.movie > new.movie";
 
 static SHOT_HELP: &str = "\
 Standard input is the movie text, as for 'tas check'.
@@ -89,7 +98,8 @@ Example:
 
 static SCRIPT_HELP: &str = "\
 Standard input is the script: edits of a movie and looks at it, a line each:
-  load OFF=HEX ..            take a cartridge of zeros with these bytes
+  load OFF=HEX ..            take a cartridge of 4096 zeros with these bytes
+  load2 OFF=HEX ..           take one of 2048 zeros
   insert AT COUNT FRAME      insert COUNT frames such as 'R.... ..... .....'
   replace AT COUNT FRAME     replace COUNT frames
   delete AT COUNT            delete COUNT frames
@@ -141,6 +151,16 @@ fn check_command<'a>(alloc: Global) -> Result<Command<'a>, AllocError>
     Command::new(alloc, "check")
         .about("Checks a movie text and tells its length")
         .after_help(CHECK_HELP)
+        .arg(cartridge(alloc))
+}
+
+/// `tas migrate`.
+fn migrate_command<'a>(alloc: Global) -> Result<Command<'a>, AllocError>
+    ensures { IfOk result (λ c. HasRules (codes "migrate") (word_rule (codes "CART") None ∷ []) c) }
+{
+    Command::new(alloc, "migrate")
+        .about("Writes a movie text, older ones too, as it is written today")
+        .after_help(MIGRATE_HELP)
         .arg(cartridge(alloc))
 }
 
@@ -270,6 +290,7 @@ fn command<'a>(alloc: Global) -> Result<Command<'a>, AllocError>
         .disable_help_subcommand(true)
         .subcommand(trace_command(alloc)?)?
         .subcommand(check_command(alloc)?)?
+        .subcommand(migrate_command(alloc)?)?
         .subcommand(shot_command(alloc)?)?
         .subcommand(edit_command(alloc)?)?
         .subcommand(diff_command(alloc)?)?
@@ -313,6 +334,9 @@ fn task_of<'a>(matches: &ArgMatches<'a>) -> Option<Task<'a>>
             instructions: number_of(rest, "N", 0, MAX_INSTRUCTIONS)?,
         }),
         "check" => Some(Task::Check {
+            cart: rest.get_str("CART")?,
+        }),
+        "migrate" => Some(Task::Migrate {
             cart: rest.get_str("CART")?,
         }),
         "shot" => Some(Task::Shot {

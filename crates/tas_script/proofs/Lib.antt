@@ -1,4 +1,4 @@
 pub mod WordLemmas
 pub mod PartLemmas
-pub mod CommandLemmas
 pub mod OneCommand
+pub mod CommandLemmas

@@ -1,7 +1,7 @@
 -- Digits, bytes and parts of a `load` line.
-use Rattle.std.proofs.Common.{◌≡◌, ℕ, zero, suc, ◌+◌, ◌*◌, ◌/◌, ◌%◌, ◌<◌, ◌≤◌, List, [], ◌∷◌, ◌++◌, length, take, drop, get_or, refl, sym, ap, ◌∙◌, arith, append_assoc}
+use Rattle.std.proofs.Common.{◌≡◌, ℕ, zero, suc, ◌+◌, ◌*◌, ◌/◌, ◌%◌, ◌<◌, ◌≤◌, List, [], ◌∷◌, ◌++◌, length, take, drop, get_or, refl, sym, ap, subst, ◌∙◌, arith, append_assoc}
 use Rattle.std.proofs.Math.ListN.{set}
-use Rattle.std.proofs.lemmas.List.{take_more, take_all, drop_more, take_more_set, append-nil}
+use Rattle.std.proofs.lemmas.List.{take_more, take_all, drop_more, take_more_set, append-nil, length-append, length-drop, length-replicate, length-take-le}
 use Rattle.std.proofs.lemmas.Bool.Decides.{nat_tests}
 use Rattle.std.proofs.lemmas.List.{take-append-drop}
 use Rattle.std.proofs.lemmas.Slice.{take-put_mid, drop-put_mid}
@@ -11,7 +11,7 @@ use Rattle.std.specs.Prelude.{◌≢◌, replicate}
 use Rattle.std.specs.List.{flat_map}
 use Rattle.tas_script.specs.Commands.{NoByte}
 use Rattle.vcs_cpu.specs.Lines.{digit_of}
-use Rattle.tas_script.specs.Parts.{Part, IsPart, AreParts, IsBytes, IsWordEnd, IsImageOf, hex_text, offset_text, word_text, part_text, overwritten, poured}
+use Rattle.tas_script.specs.Parts.{Part, IsPart, AreParts, IsBytes, IsWordEnd, IsImageOf, ArePoured, hex_text, offset_text, word_text, part_text, overwritten, poured}
 
 -- ---- bytes of two digits
 
@@ -174,17 +174,17 @@ unfolding IsWordEnd
 end_of_parts [] = tt
 end_of_parts (part ∷ parts) = refl
 
-pub not_parts : (rest : List ℕ) (more : List Part) → 0 < length rest → AreParts more → rest ≡ flat_map part_text more
-    → ((part : Part) (after : List ℕ) → IsPart part → IsWordEnd after → rest ≢ part_text part ++ after) → ⊥
+pub not_parts : (size : ℕ) (rest : List ℕ) (more : List Part) → 0 < length rest → AreParts size more → rest ≡ flat_map part_text more
+    → ((part : Part) (after : List ℕ) → IsPart size part → IsWordEnd after → rest ≢ part_text part ++ after) → ⊥
 unfolding AreParts
-not_parts rest [] lt are is never = let e : length rest ≡ 0 = ap length is in omega arith
-not_parts rest (part ∷ more) lt are is never = never part (flat_map part_text more) are.0 (end_of_parts more) is
+not_parts size rest [] lt are is never = let e : length rest ≡ 0 = ap length is in omega arith
+not_parts size rest (part ∷ more) lt are is never = never part (flat_map part_text more) are.0 (end_of_parts more) is
 
-pub next_parts : (rest after : List ℕ) (part : Part) (more : List Part) → IsWordEnd after → rest ≡ part_text part ++ after → AreParts more → rest ≡ flat_map part_text more
-    → (next : List Part) × AreParts next × (after ≡ flat_map part_text next)
+pub next_parts : (size : ℕ) (rest after : List ℕ) (part : Part) (more : List Part) → IsWordEnd after → rest ≡ part_text part ++ after → AreParts size more → rest ≡ flat_map part_text more
+    → (next : List Part) × AreParts size next × (after ≡ flat_map part_text next)
 unfolding AreParts
-next_parts rest after part [] e is are r = let l : 0 ≡ suc (length (word_text part ++ after)) = ap length (sym r ∙ is) in absurd (omega arith)
-next_parts rest after part (first ∷ more) e is are r =
+next_parts size rest after part [] e is are r = let l : 0 ≡ suc (length (word_text part ++ after)) = ap length (sym r ∙ is) in absurd (omega arith)
+next_parts size rest after part (first ∷ more) e is are r =
     let tails : word_text part ++ after ≡ word_text first ++ flat_map part_text more = ap (drop 1) (sym is ∙ r) in
     (more, are.1, (same_word (word_text part) (word_text first) after (flat_map part_text more) (word_no_space part) (word_no_space first) e (end_of_parts more) tails).1)
 
@@ -193,10 +193,20 @@ unfolding poured
 poured_more image [] part = refl
 poured_more image (first ∷ parts) part = poured_more (overwritten first image) parts part
 
-pub more_parts : (parts : List Part) (part : Part) → AreParts parts → IsPart part → AreParts (parts ++ part ∷ [])
+-- a part that is written leaves as many bytes
+pub length-overwritten : (part : Part) (image : List ℕ) → IsPart (length image) part → length (overwritten part image) ≡ length image
+length-overwritten part image is =
+    let n : ℕ = part.offset + length part.bytes in
+    let front = length-take-le part.offset image (omega (arith, is.within)) in
+    let behind = length-drop n image in
+    let written = length-append (take part.offset image) part.bytes in
+    let whole = length-append (take part.offset image ++ part.bytes) (drop n image) in
+    omega (arith, front, behind, written, whole, is.within)
+
+pub more_parts : (size : ℕ) (parts : List Part) (part : Part) → AreParts size parts → IsPart size part → AreParts size (parts ++ part ∷ [])
 unfolding AreParts
-more_parts [] part are is = (is, tt)
-more_parts (first ∷ parts) part are is = (are.0, more_parts parts part are.1 is)
+more_parts size [] part are is = (is, tt)
+more_parts size (first ∷ parts) part are is = (are.0, more_parts size parts part are.1 is)
 
 pub more_text : (text rest after : List ℕ) (parts : List Part) (part : Part) → text ≡ flat_map part_text parts ++ rest → rest ≡ part_text part ++ after
     → text ≡ flat_map part_text (parts ++ part ∷ []) ++ after
@@ -210,11 +220,32 @@ pub no_parts_no_text : (text : List ℕ) (parts : List Part) → length text ≡
 no_parts_no_text text [] len some is = omega arith
 no_parts_no_text text (part ∷ parts) len some is = let l : length text ≡ suc (length (word_text part ++ flat_map part_text parts)) = ap length is in omega arith
 
-pub image_made : (text rest image : List ℕ) (parts : List Part) → (length text ≡ 0 → ⊥) → length rest ≡ 0 → AreParts parts → text ≡ flat_map part_text parts ++ rest
-    → image ≡ poured (replicate 4096 0) parts → IsImageOf text image
-image_made text [] image [] some none are is i = absurd (some (ap length is))
-image_made text [] image (part ∷ parts) some none are is i = record { parts = part ∷ parts; some = omega arith; are_parts = are; text = is ∙ append-nil (flat_map part_text (part ∷ parts)); image_is = i }
-image_made text (b ∷ rest) image parts some none are is i = absurd (omega arith)
+pub all_poured : (text rest old new : List ℕ) (parts : List Part) → (length text ≡ 0 → ⊥) → length rest ≡ 0 → AreParts (length old) parts → text ≡ flat_map part_text parts ++ rest
+    → new ≡ poured old parts → ArePoured text old new
+all_poured text [] old new [] some none are is i = absurd (some (ap length is))
+all_poured text [] old new (part ∷ parts) some none are is i = record { parts = part ∷ parts; some = omega arith; are_parts = are; text = is ∙ append-nil (flat_map part_text (part ∷ parts)); image_is = i }
+all_poured text (b ∷ rest) old new parts some none are is i = absurd (omega arith)
+
+-- the image of a whole text
+pub image_of : (size : ℕ) (said old new : List ℕ) → old ≡ replicate size 0 → ArePoured said old new → IsImageOf size said new
+image_of size said old new zeros p =
+    let len : length old ≡ size = ap length zeros ∙ length-replicate size 0 in record {
+      parts = p.parts;
+      some = p.some;
+      are_parts = subst (λ (n : ℕ). AreParts n p.parts) len p.are_parts;
+      text = p.text;
+      image_is = p.image_is ∙ ap (λ (l : List ℕ). poured l p.parts) zeros;
+    }
+
+pub no_image : (size : ℕ) (said old image : List ℕ) → old ≡ replicate size 0 → ((parts : List Part) → 0 < length parts → AreParts (length old) parts → said ≢ flat_map part_text parts) → IsImageOf size said image → ⊥
+no_image size said old image zeros never is =
+    let len : length old ≡ size = ap length zeros ∙ length-replicate size 0 in
+    never is.parts is.some (subst (λ (n : ℕ). AreParts n is.parts) (sym len) is.are_parts) is.text
+
+-- a text of parts begins with a space
+pub parts_begin : (parts : List Part) → 0 < length parts → get_or (flat_map part_text parts) 0 0 ≡ 32
+parts_begin [] some = absurd (omega arith)
+parts_begin (part ∷ parts) some = refl
 
 -- the image after a write to a part of it
 pub image_over : (offset k : ℕ) (image bytes : List ℕ) → offset ≤ length image → length bytes ≡ k

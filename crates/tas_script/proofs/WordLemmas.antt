@@ -1,12 +1,11 @@
 -- Words, numbers and the bytes between them.
-use Rattle.std.proofs.Common.{◌≡◌, ℕ, ◌+◌, ◌<◌, ◌≤◌, List, [], ◌∷◌, ◌++◌, length, take, drop, get_or, Option, Some, None, Result, Ok, Err, refl, sym, ap, subst, ◌∙◌, arith}
+use Rattle.std.proofs.Common.{◌≡◌, ℕ, ◌+◌, ◌<◌, ◌≤◌, List, [], ◌∷◌, ◌++◌, length, take, drop, get_or, Option, Some, None, refl, sym, ap, subst, ◌∙◌, arith}
 use Rattle.std.proofs.lemmas.List.{take_more, take_all, take-append-drop, drop_more}
 use Rattle.std.proofs.Common.{Bool, true, false, ◌%◌, ◌^◌}
 use Rattle.std.specs.Prelude.{decimal}
 use Rattle.std.specs.Str.{bytes_eq}
 use Rattle.std.proofs.lemmas.Slice.Eq.{bytes_eq-Decides}
-use Rattle.std.proofs.lemmas.Fmt.{decimal_by_steps, parse-decimal}
-use Rattle.std.specs.Str.Parse.{ParsesUnsigned}
+use Rattle.std.proofs.lemmas.Fmt.{decimal_by_steps, decimal_injective}
 use Rattle.tas_script.specs.Commands.{NoByte}
 
 -- ---- a byte that isn't there
@@ -50,21 +49,11 @@ decimal_no_space n lt = decimal_by_steps (λ m ds. NoByte 32 ds)
     (λ m small. ((λ (e : 48 + m ≡ 32). omega arith), tt))
     (λ m ds big h. push_no_byte 32 ds (48 + m % 10) h (λ (e : 48 + m % 10 ≡ 32). omega arith)) n lt
 
-ok_same : {E : Type 0} (a b : ℕ) → (let r : Result ℕ E = Ok a in r) ≡ Ok b → a ≡ b
-ok_same a b e = cc
-
-pub parsed_is : {E : Type 0} (n m : ℕ) (bs : List ℕ) (r : Result ℕ E) → ParsesUnsigned 64 10 bs r → bs ≡ decimal n → n ≤ 9999999 → r ≡ Ok m → m ≡ n
-parsed_is n m bs r parses is le ok =
-    let e : r ≡ Ok n = parse-decimal 64 n bs r (omega arith) (omega arith) is parses in
-    ok_same m n (sym ok ∙ e)
-
-ok_not_err : {E : Type 0} (n : ℕ) (x : E) → (let r : Result ℕ E = Ok n in r) ≡ Err x → ⊥
-ok_not_err n x e = cc
-
-pub not_parsed : {E : Type 0} (n : ℕ) (bs : List ℕ) (r : Result ℕ E) (x : E) → ParsesUnsigned 64 10 bs r → bs ≡ decimal n → n ≤ 9999999 → r ≡ Err x → ⊥
-not_parsed n bs r x parses is le err =
-    let e : r ≡ Ok n = parse-decimal 64 n bs r (omega arith) (omega arith) is parses in
-    ok_not_err n x (sym e ∙ err)
+-- a number past the greatest one isn't another one's text
+pub past_most : (n m : ℕ) (word : List ℕ) → word ≡ decimal m → m < 2 ^ 64 → 9999999 < m → n ≤ 9999999 → word ≡ decimal n → ⊥
+past_most n m word is lt over le same =
+    let e : n ≡ m = decimal_injective n m (omega arith) lt (sym same ∙ is) in
+    omega (arith, e)
 
 pub none_some : {A : Type 0} (o : Option A) (x : A) → o ≡ None → o ≡ Some x → ⊥
 none_some o x n s = cc

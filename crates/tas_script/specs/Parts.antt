@@ -1,4 +1,4 @@
--- What a `load` line says: parts of a cartridge's image, each an offset and the bytes from there on (own).
+-- What a `load` or `load2` line says: parts of a cartridge's image, each an offset and the bytes from there on (own).
 use Rattle.std.specs.Prelude.{◌≡◌, ℕ, ◌+◌, ◌/◌, ◌%◌, ◌<◌, ◌≤◌, List, [], ◌∷◌, ◌++◌, length, take, drop, replicate, slice_index}
 use Rattle.std.specs.List.{flat_map}
 use Rattle.vcs_cpu.specs.Lines.{digit_of, hex_byte}
@@ -21,10 +21,10 @@ pub record Part : Type 0 where
 abbrev pub IsBytes : List ℕ → Type 0
 IsBytes bytes = (k : ℕ) → slice_index bytes k < 256
 
--- at least one byte, and none past the image's end
-pub record IsPart (part : Part) : Type 0 where
+-- at least one byte, and none past the end of an image of so many bytes
+pub record IsPart (size : ℕ) (part : Part) : Type 0 where
   pub some : 0 < length part.bytes
-  pub within : part.offset + length part.bytes ≤ 4096
+  pub within : part.offset + length part.bytes ≤ size
   pub bytes : IsBytes part.bytes
 
 -- nothing, or a space first
@@ -49,15 +49,23 @@ unfoldable pub poured : List ℕ → List Part → List ℕ
 poured image [] = image
 poured image (part ∷ parts) = poured (overwritten part image) parts
 
--- each is a part
-unfoldable pub AreParts : List Part → Type 0
-AreParts [] = Unit {0}
-AreParts (part ∷ parts) = IsPart part × AreParts parts
+-- each is a part of an image of so many bytes
+unfoldable pub AreParts : ℕ → List Part → Type 0
+AreParts size [] = Unit {0}
+AreParts size (part ∷ parts) = IsPart size part × AreParts size parts
 
--- the text names one or more parts, and the image is theirs, over zeros
-pub record IsImageOf (said : List ℕ) (image : List ℕ) : Type 0 where
+-- the text names one or more parts, and the image of so many bytes is theirs, over zeros
+pub record IsImageOf (size : ℕ) (said : List ℕ) (image : List ℕ) : Type 0 where
   pub parts : List Part
   pub some : 0 < length parts
-  pub are_parts : AreParts parts
+  pub are_parts : AreParts size parts
   pub text : said ≡ flat_map part_text parts
-  pub image_is : image ≡ poured (replicate 4096 0) parts
+  pub image_is : image ≡ poured (replicate size 0) parts
+
+-- the text names one or more parts, and the new image has their bytes over the old one's. Private functions cite it
+pub record ArePoured (said old new : List ℕ) : Type 0 where
+  pub parts : List Part
+  pub some : 0 < length parts
+  pub are_parts : AreParts (length old) parts
+  pub text : said ≡ flat_map part_text parts
+  pub image_is : new ≡ poured old parts

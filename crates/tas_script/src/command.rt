@@ -1,14 +1,15 @@
 //! What a line of a script asks for.
 
-use vcs_machine::{CART_SIZE, Input};
+use crate::Image;
+use vcs_machine::Input;
 
 /// What a line of a script asks for (own). Numbers are at most [`MAX_NUMBER`](crate::MAX_NUMBER).
 #[derive(Clone, Copy, Debug, PartialEq, Eq)]
 pub enum Command {
-    /// `load OFF=HEX ..`: another cartridge.
+    /// `load OFF=HEX ..`, or `load2 OFF=HEX ..` for a small cartridge: another cartridge.
     Load {
         /// The cartridge's bytes.
-        image: [u8; CART_SIZE],
+        image: Image,
     },
     /// `insert AT COUNT FRAME`: copies of one input are put in.
     Insert {

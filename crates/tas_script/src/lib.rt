@@ -2,6 +2,7 @@
 #![tactic(auto)]
 
 mod command;
+mod image;
 mod laws;
 mod loading;
 mod parsing;
@@ -10,6 +11,7 @@ mod reply;
 mod words;
 
 pub use command::Command;
+pub use image::Image;
 pub use laws::one_command_per_line;
 pub use parsing::parse_line;
 pub use printing::reply_line;

@@ -1,11 +1,12 @@
-//! The parts of a `load` line.
+//! The parts of a `load` or `load2` line.
 
-ghost use Rattle.std.specs.Prelude.{◌≡◌, ◌≢◌, ◌<◌, ◌*◌, ◌++◌, ◌∷◌, [], ℕ, List, length, IfSome, IfNone, true, false};
+ghost use Rattle.std.specs.Prelude.{◌≡◌, ◌≢◌, ◌<◌, ◌≤◌, ◌*◌, ◌++◌, ◌∷◌, [], ℕ, List, length, IfSome, IfNone, true, false};
 ghost use Rattle.tas_script.specs.Commands.{NoByte};
 ghost use Rattle.vcs_cpu.specs.Lines.{digit_of};
-ghost use Rattle.tas_script.specs.Parts.{Part, IsPart, IsBytes, IsWordEnd, IsImageOf, hex_text, offset_text, word_text, part_text, overwritten};
+ghost use Rattle.std.specs.List.{flat_map};
+ghost use Rattle.tas_script.specs.Parts.{Part, IsPart, AreParts, IsBytes, IsWordEnd, IsImageOf, ArePoured, hex_text, offset_text, word_text, part_text, overwritten};
 
-use vcs_machine::CART_SIZE;
+use vcs_machine::{CART_SIZE, SMALL_CART_SIZE};
 
 /// The value of an upper case hexadecimal digit.
 fn digit(byte: u8) -> Option<u8>
@@ -68,9 +69,10 @@ fn write_bytes(digits: &[u8], room: &mut [u8]) -> bool
 }
 
 /// Writes the bytes of a word OFF=HEX into the image. Whether it is such a word.
-fn write_part(word: &[u8], image: &mut [u8; CART_SIZE]) -> bool
-    ensures written { result ≡ true → (part : Part) × IsPart part × (word.now ≡ word_text part) × (image.new ≡ overwritten part image.old) }
-    ensures other { result ≡ false → (part : Part) → IsPart part → word.now ≢ word_text part }
+fn write_part(word: &[u8], image: &mut [u8]) -> bool
+    requires { length image.old ≤ CART_SIZE }
+    ensures written { result ≡ true → (part : Part) × IsPart (length image.old) part × (word.now ≡ word_text part) × (image.new ≡ overwritten part image.old) }
+    ensures other { result ≡ false → (part : Part) → IsPart (length image.old) part → word.now ≢ word_text part }
 {
     if word.len() < 6 {
         return false;
@@ -86,7 +88,7 @@ fn write_part(word: &[u8], image: &mut [u8; CART_SIZE]) -> bool
         return false;
     }
     let end = offset + digits.len() / 2;
-    if end > CART_SIZE {
+    if end > image.len() {
         return false;
     }
     write_bytes(digits, &mut image[offset..end])
@@ -107,9 +109,10 @@ fn first_word(bytes: &[u8]) -> (&[u8], &[u8])
 }
 
 /// Writes the first part of the text into the image, and answers what follows it.
-fn read_part<'a>(text: &'a [u8], image: &mut [u8; CART_SIZE]) -> Option<&'a [u8]>
-    ensures some { IfSome result (λ rest. (part : Part) × IsPart part × IsWordEnd rest.now × (text.entry.now ≡ part_text part ++ rest.now) × (image.new ≡ overwritten part image.old)) }
-    ensures none { IfNone result ((part : Part) (rest : List ℕ) → IsPart part → IsWordEnd rest → text.entry.now ≢ part_text part ++ rest) }
+fn read_part<'a>(text: &'a [u8], image: &mut [u8]) -> Option<&'a [u8]>
+    requires { length image.old ≤ CART_SIZE }
+    ensures some { IfSome result (λ rest. (part : Part) × IsPart (length image.old) part × IsWordEnd rest.now × (text.entry.now ≡ part_text part ++ rest.now) × (image.new ≡ overwritten part image.old)) }
+    ensures none { IfNone result ((part : Part) (rest : List ℕ) → IsPart (length image.old) part → IsWordEnd rest → text.entry.now ≢ part_text part ++ rest) }
 {
     if text.len() == 0 {
         return None;
@@ -126,21 +129,47 @@ fn read_part<'a>(text: &'a [u8], image: &mut [u8; CART_SIZE]) -> Option<&'a [u8]
     }
 }
 
-/// The image that the parts of a `load` line give, over zeros; nothing where the text names no parts.
-pub fn load_image(text: &[u8]) -> Option<[u8; CART_SIZE]>
-    ensures some { IfSome result (IsImageOf text.now) }
-    ensures none { IfNone result ((image : List ℕ) → IsImageOf text.now image → ⊥) }
+/// Writes the bytes of a text's parts into the image, later ones over earlier ones. Whether the text names parts.
+fn pour_parts(text: &[u8], image: &mut [u8]) -> bool
+    requires { length image.old ≤ CART_SIZE }
+    ensures poured { result ≡ true → ArePoured text.now image.old image.new }
+    ensures other { result ≡ false → (parts : List Part) → 0 < length parts → AreParts (length image.old) parts → text.now ≢ flat_map part_text parts }
 {
-    let mut image = [0; CART_SIZE];
     if text.len() == 0 {
-        return None;
+        return false;
     }
     let mut rest = text;
     while 0 < rest.len() {
-        let Some(after) = read_part(rest, &mut image) else {
-            return None;
+        let Some(after) = read_part(rest, image) else {
+            return false;
         };
         rest = after;
     }
-    Some(image)
+    true
+}
+
+/// The image that the parts of a `load` line give, over zeros; nothing where the text names no parts.
+pub fn load_image(text: &[u8]) -> Option<[u8; CART_SIZE]>
+    ensures some { IfSome result (IsImageOf 4096 text.now) }
+    ensures none { IfNone result ((image : List ℕ) → IsImageOf 4096 text.now image → ⊥) }
+{
+    let mut image = [0; CART_SIZE];
+    if pour_parts(text, &mut image) {
+        Some(image)
+    } else {
+        None
+    }
+}
+
+/// The same of a `load2` line.
+pub fn load_small_image(text: &[u8]) -> Option<[u8; SMALL_CART_SIZE]>
+    ensures some { IfSome result (IsImageOf 2048 text.now) }
+    ensures none { IfNone result ((image : List ℕ) → IsImageOf 2048 text.now image → ⊥) }
+{
+    let mut image = [0; SMALL_CART_SIZE];
+    if pour_parts(text, &mut image) {
+        Some(image)
+    } else {
+        None
+    }
 }

@@ -4,9 +4,9 @@ ghost use Rattle.std.specs.Prelude.{IfSome, IfNone};
 ghost use Rattle.tas_script.specs.declared.command.Command.{Command as Asked};
 ghost use Rattle.tas_script.specs.Commands.{Says};
 
-use crate::Command;
-use crate::loading::load_image;
+use crate::loading::{load_image, load_small_image};
 use crate::words::{frames, number, pair, strip};
+use crate::{Command, Image};
 
 /// What a line, without its newline, asks for; nothing where it isn't understood (own). Takes no memory.
 pub fn parse_line(line: &[u8]) -> Option<Command>
@@ -16,9 +16,19 @@ pub fn parse_line(line: &[u8]) -> Option<Command>
     if line == b"len".as_slice() {
         return Some(Command::Length);
     }
+    if let Some(rest) = strip(line, b"load2") {
+        return match load_small_image(rest) {
+            Some(image) => Some(Command::Load {
+                image: Image::Small(image),
+            }),
+            None => None,
+        };
+    }
     if let Some(rest) = strip(line, b"load") {
         return match load_image(rest) {
-            Some(image) => Some(Command::Load { image }),
+            Some(image) => Some(Command::Load {
+                image: Image::Large(image),
+            }),
             None => None,
         };
     }

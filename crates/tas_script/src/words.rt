@@ -5,9 +5,7 @@ ghost use Rattle.vcs_machine.specs.declared.input.Input.{Input as Pressed};
 ghost use Rattle.tas_movie.specs.Text.{frame_text};
 ghost use Rattle.tas_script.specs.Commands.{NoByte, IsNumber, pair_text, frames_text};
 
-use itoa::Buffer;
-use std::str;
-use tas_movie::read_frame;
+use tas_movie::{read_decimal, read_frame};
 use vcs_machine::Input;
 
 /// The greatest number of a script: seven digits (own).
@@ -30,21 +28,13 @@ pub fn number(word: &[u8]) -> Option<usize>
     ensures some { IfSome result (λ n. (word.now ≡ decimal n) × IsNumber n) }
     ensures none { IfNone result ((n : ℕ) → IsNumber n → word.now ≢ decimal n) }
 {
-    let Ok(text) = str::from_utf8(word) else {
+    let Some(n) = read_decimal(word) else {
         return None;
     };
-    let Ok(n) = text.parse::<usize>() else {
-        return None;
-    };
-    let mut buffer = Buffer::new();
     if n > MAX_NUMBER {
         return None;
     }
-    if buffer.format(n).as_bytes() == word {
-        Some(n)
-    } else {
-        None
-    }
+    Some(n)
 }
 
 /// The bytes before the first such byte and those after it; nothing where there is no such byte.

@@ -1,5 +1,5 @@
 -- The export of a movie that was made by two edits.
-use Rattle.std.proofs.Common.{◌≡◌, ℕ, ◌-◌, ◌≤◌, List, length, take, Option, Result, Ok, Err, inl, refl, sym, ap, subst, ◌∙◌, arith}
+use Rattle.std.proofs.Common.{◌≡◌, ℕ, ◌-◌, ◌≤◌, List, length, take, Option, Result, Ok, Err, inl, inr, refl, sym, ap, subst, ◌∙◌, arith}
 use Rattle.std.proofs.lemmas.Bool.{eq-eqb}
 use Rattle.std.proofs.lemmas.List.{take-append-le, take_all}
 use Rattle.std.proofs.KnownBytes.{Keeps-refl}
@@ -16,8 +16,9 @@ use Rattle.tas_desk.specs.Exports.{IsExport}
 use Rattle.tas_desk.specs.Frames.{pixmaps_of}
 use Rattle.tas_engines.specs.declared.fault.RunFault.{RunFault}
 use Rattle.tas_engines.specs.declared.fault.RunFault.TheVariants.{Range}
+use Rattle.tas_engines.specs.Movies.{IsMovieOf}
 use Rattle.tas_engines.specs.Output.{Ends}
-use Rattle.tas_tool.specs.Pixmaps.{IsPixmapsAnswer}
+use Rattle.tas_tool.specs.Pixmaps.{IsPixmapsAnswer, IsExportAnswer}
 use Rattle.tas_tool.specs.TwoEdits.{own_end, HoldsMovie}
 use Rattle.tas_tool.proofs.TurnLemmas.{longer}
 
@@ -67,3 +68,10 @@ pixmaps_end zone movie edits plan old new exported is =
 pub range_ends : {A : Type 0} (zone : ZoneContent A) (movie : MovieContent) (edits : ℕ) (plan : Plan) (old new : Option (List ℕ)) (at len : ℕ) → IsExport zone movie edits plan old new (Err (OffRange at len))
     → Ends (IsPixmapsAnswer movie plan.from plan.to) old new (Err (Range plan.from plan.to len))
 range_ends zone movie edits plan old new at len is = inl ((refl, refl, is.1, is.2), kept old new is.3)
+
+-- what an export of a movie does, it does for the cartridge and the text that the movie is one of
+pub movie_ends : (from to : ℕ) (image bytes : List ℕ) (movie : MovieContent) (old new : Option (List ℕ)) (end : Result (Unit {0}) RunFault) → IsMovieOf image bytes movie → Ends (IsPixmapsAnswer movie from to) old new end
+    → Ends (IsExportAnswer from to image bytes) old new end
+movie_ends from to image bytes movie old new (Ok u) is ends = (ends.0, (movie, is, ends.1), ends.2)
+movie_ends from to image bytes movie old new (Err e) is (inl kept) = inl (inr (movie, is, kept.0), kept.1)
+movie_ends from to image bytes movie old new (Err e) is (inr off) = inr (record { bytes = off.bytes; answer = (movie, is, off.answer); stops = off.stops })

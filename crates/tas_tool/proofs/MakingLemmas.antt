@@ -5,7 +5,7 @@ use Rattle.std.proofs.lemmas.Bool.{eqb-true, eq-eqb, le-ltb, cases_lt}
 use Rattle.std.proofs.lemmas.List.{take_all}
 use mathlib.Core.List.{IsPrefix}
 use Rattle.vcs_machine.specs.declared.input.Input.{Input}
-use Rattle.tas_movie.specs.Content.{MovieContent}
+use Rattle.tas_movie.specs.Content.{MovieContent, most_inputs}
 use Rattle.tas_movie.specs.declared.edit.Edit.{Edit}
 use Rattle.tas_movie.specs.declared.edit.Edit.TheVariants.{Load, Insert}
 use Rattle.tas_movie.specs.declared.edit.EditRefusal.{EditRefusal}
@@ -88,10 +88,10 @@ loaded {A} before now cart receipt nought none edit =
 
 -- ---- the second edit
 
-insert_allowed : (A : Type 0) (cart : List ℕ) (inputs : List Input) → length inputs ≤ 65536 → refusal (movie_with cart []) (insert_of A inputs) ≡ None
-insert_allowed A cart inputs few = rw (le-ltb 65536 (0 + length inputs) (omega (arith, few))) refl
+insert_allowed : (A : Type 0) (cart : List ℕ) (inputs : List Input) → length inputs ≤ most_inputs → refusal (movie_with cart []) (insert_of A inputs) ≡ None
+insert_allowed A cart inputs few = rw (le-ltb most_inputs (0 + length inputs) (omega (arith, few))) refl
 
-inserted_movie : (A : Type 0) (cart : List ℕ) (inputs : List Input) → length inputs ≤ 65536 → edited (movie_with cart []) (insert_of A inputs) ≡ movie_with cart inputs
+inserted_movie : (A : Type 0) (cart : List ℕ) (inputs : List Input) → length inputs ≤ most_inputs → edited (movie_with cart []) (insert_of A inputs) ≡ movie_with cart inputs
 inserted_movie A cart inputs few =
     ap (λ (r : Option EditRefusal). edited_unless r (movie_with cart []) (insert_of A inputs)) (insert_allowed A cart inputs few)
     ∙ ap (λ (l : List Input). movie_with cart l) (append-nil inputs)
@@ -121,7 +121,7 @@ pub record HasInserted {A : Type 0} (seat : SeatContent A) (cart : List ℕ) (in
   pub own : length seat.front ≡ 2 → movie_of seat.front ≡ record { cart = cart; inputs = inputs }
   pub counted : length seat.front ≡ 2 → entries_of seat.number seat.front ≡ 2
 
-inserted_at : {A : Type 0} (seat : SeatContent A) (at : List (Entry A)) (cart : List ℕ) (inputs : List Input) → length inputs ≤ 65536 → HasLoaded seat cart → IsPrefix seat.front at
+inserted_at : {A : Type 0} (seat : SeatContent A) (at : List (Entry A)) (cart : List ℕ) (inputs : List Input) → length inputs ≤ most_inputs → HasLoaded seat cart → IsPrefix seat.front at
     → HasInserted (seat_of seat.number (seat.made + 1) (at ++ entry_of seat.number seat.made (Insert 0 inputs) ∷ []) seat.zone) cart inputs
 inserted_at {A} seat at cart inputs few first begins =
     let entry : Entry A = entry_of seat.number seat.made (Insert 0 inputs) in
@@ -177,7 +177,7 @@ ended {A} seat cart inputs at r second here is = go (at == 2) refl
         let other : length seat.front ≡ 2 → ⊥ = λ (same : length seat.front ≡ 2). let t : true ≡ false = sym (eq-eqb at 2 (here ∙ same)) ∙ e in absurd (cc t) in
         subst Goal (sym e') (tt, seen_others seat cart inputs second other)
 
-inserted : {A : Type 0} (before now : SeatContent A) (cart : List ℕ) (inputs : List Input) (receipt : Receipt) → length inputs ≤ 65536 → HasLoaded before cart → IsEdited before now (Insert 0 inputs) (Ok receipt)
+inserted : {A : Type 0} (before now : SeatContent A) (cart : List ℕ) (inputs : List Input) (receipt : Receipt) → length inputs ≤ most_inputs → HasLoaded before cart → IsEdited before now (Insert 0 inputs) (Ok receipt)
     → HasInserted now cart inputs
 inserted {A} before now cart inputs receipt few first edit =
     subst (λ (s : SeatContent A). HasInserted s cart inputs) (sym edit.seat) (inserted_at before edit.at cart inputs few first edit.begins)
@@ -189,7 +189,7 @@ inserted_here {A} before now edit receipt e =
     counted ∙ sym long
 
 pub movie_made : {A : Type 0} (before now : SeatContent A) (movie : MovieContent) (cart : List ℕ) (inputs : List Input) (receipt : Receipt) (r : Result (Unit {0}) RunFault) → movie ≡ record { cart = cart; inputs = inputs }
-    → length inputs ≤ 65536 → HasLoaded before cart → IsEdited before now (Insert 0 inputs) (Ok receipt) → r ≡ own_end receipt.at (Ok tt) → IsMade now movie r
+    → length inputs ≤ most_inputs → HasLoaded before cart → IsEdited before now (Insert 0 inputs) (Ok receipt) → r ≡ own_end receipt.at (Ok tt) → IsMade now movie r
 movie_made {A} before now movie cart inputs receipt r whole few first edit is =
     subst (λ (m : MovieContent). IsMade now m r) (sym whole)
     (ended now cart inputs receipt.at r (inserted before now cart inputs receipt few first edit) (inserted_here before now (insert_of A inputs) receipt edit) is)
@@ -214,7 +214,7 @@ making_fault {A} seat edit error found none = go error found
     go (Place at place len) is = more (Place at place len) is
     go (Long at len) is = more (Long at len) is
 
-second_allowed : {A : Type 0} (seat : SeatContent A) (at : List (Entry A)) (cart : List ℕ) (inputs : List Input) → length inputs ≤ 65536 → HasLoaded seat cart → IsPrefix seat.front at → length at ≤ seat.made
+second_allowed : {A : Type 0} (seat : SeatContent A) (at : List (Entry A)) (cart : List ℕ) (inputs : List Input) → length inputs ≤ most_inputs → HasLoaded seat cart → IsPrefix seat.front at → length at ≤ seat.made
     → refusal_at at seat.number seat.made (Insert 0 inputs) ≡ None
 second_allowed {A} seat at cart inputs few first begins le =
     let more = longer_front seat.front at begins in
@@ -225,7 +225,7 @@ second_allowed {A} seat at cart inputs few first begins le =
     let allowed : refusal (movie_of at) (insert_of A inputs) ≡ None = ap (λ (m : MovieContent). refusal m (insert_of A inputs)) held.0 ∙ insert_allowed A cart inputs few in
     rw (first.number, made, held.1, one, allowed) refl
 
-pub insert_refused : {A : Type 0} (before now : SeatContent A) (cart : List ℕ) (inputs : List Input) (error : EditError) → length inputs ≤ 65536 → HasLoaded before cart → IsEdited before now (Insert 0 inputs) (Err error)
+pub insert_refused : {A : Type 0} (before now : SeatContent A) (cart : List ℕ) (inputs : List Input) (error : EditError) → length inputs ≤ most_inputs → HasLoaded before cart → IsEdited before now (Insert 0 inputs) (Err error)
     → IsMakingFault now (edit_fault error)
 insert_refused {A} before now cart inputs error few first edit =
     subst (λ (s : SeatContent A). IsMakingFault s (edit_fault error)) (sym edit.seat)

@@ -9,7 +9,7 @@ use mathlib.Core.List.{IsPrefix}
 use Rattle.vcs_cpu.specs.declared.halt.Halt.{Halt}
 use Rattle.vcs_tia.specs.Picture.{lit_count}
 use Rattle.vcs_machine.specs.declared.input.Input.{Input}
-use Rattle.tas_movie.specs.Content.{MovieContent}
+use Rattle.tas_movie.specs.Content.{MovieContent, most_inputs}
 use Rattle.tas_movie.specs.declared.edit.Edit.{Edit}
 use Rattle.tas_movie.specs.declared.edit.Edit.TheVariants.{Insert as InsertEdit, Replace as ReplaceEdit}
 use Rattle.tas_movie.specs.declared.edit.EditRefusal.{EditRefusal}
@@ -31,6 +31,8 @@ use Rattle.tas_engines.specs.declared.fault.RunFault.{RunFault}
 use Rattle.tas_engines.specs.declared.fault.RunFault.TheVariants.{Foreign}
 use Rattle.tas_script.specs.declared.command.Command.{Command}
 use Rattle.tas_script.specs.declared.command.Command.TheVariants.{Load, Insert, Replace, Delete, Length, InputAt, Shot, Work}
+use Rattle.tas_script.specs.declared.image.Image.{Image}
+use Rattle.tas_script.specs.Commands.{image_bytes}
 use Rattle.tas_script.specs.declared.reply.Reply.{Reply}
 use Rattle.tas_script.specs.declared.reply.Reply.TheVariants.{Edited, Misplaced, TooLong, Full, Measured, Pressed, NoFrame, Drawn, Worked, OutOfMemory}
 use Rattle.tas_tool.specs.declared.answering.Answered.{Answered}
@@ -323,9 +325,9 @@ replaced A at inputs = ReplaceEdit at inputs
 abbrev unforeseen : Bool → Unforeseen
 unforeseen refused = record { refused = refused; ran = 0; kept = 0; stale = 0 }
 
-pub load_answer : (A : Type 0) (before now : SeatContent A) (image cart : List ℕ) (r : Result Answered RunFault) → cart ≡ image → IsEditAnswer before now (load_edit A cart) r → IsAnswer A before now (Load image) r
+pub load_answer : (A : Type 0) (before now : SeatContent A) (image : Image) (cart : List ℕ) (r : Result Answered RunFault) → cart ≡ image_bytes image → IsEditAnswer before now (load_edit A cart) r → IsAnswer A before now (Load image) r
 load_answer A before now image cart r is told =
-    line_turn before now (Load image) (load_edit A image) r (λ reply next t. (unforeseen t.0, t.1, t.2)) (subst (λ (c : List ℕ). IsEditAnswer before now (load_edit A c) r) is told)
+    line_turn before now (Load image) (load_edit A (image_bytes image)) r (λ reply next t. (unforeseen t.0, t.1, t.2)) (subst (λ (c : List ℕ). IsEditAnswer before now (load_edit A c) r) is told)
 
 pub insert_answer : (A : Type 0) (before now : SeatContent A) (at count : ℕ) (input : Input) (inputs : List Input) (r : Result Answered RunFault) → inputs ≡ replicate count input
     → IsEditAnswer before now (inserted A at inputs) r → IsAnswer A before now (Insert at count input) r
@@ -369,20 +371,20 @@ late before now edit made refused own m seen is told =
 
 insert_refused_as : (A : Type 0) (movie : MovieContent) (at count len : ℕ) (input : Input) → len ≡ length movie.inputs → refusal movie (insert_edit A at count input) ≡ insert_refusal len at count
 insert_refused_as A movie at count len input is =
-    ap (λ (n : ℕ). if nat_lt (length movie.inputs) at then Some (PlaceRefusal at (length movie.inputs)) else if nat_lt 65536 (length movie.inputs + n) then Some (LongRefusal (length movie.inputs)) else None) (length-replicate count input)
+    ap (λ (n : ℕ). if nat_lt (length movie.inputs) at then Some (PlaceRefusal at (length movie.inputs)) else if nat_lt most_inputs (length movie.inputs + n) then Some (LongRefusal (length movie.inputs)) else None) (length-replicate count input)
     ∙ ap (λ (n : ℕ). insert_refusal n at count) (sym is)
 
 replace_refused_as : (A : Type 0) (movie : MovieContent) (at count len : ℕ) (input : Input) → len ≡ length movie.inputs → refusal movie (replace_edit A at count input) ≡ place_refusal len at (at + count)
 replace_refused_as A movie at count len input is =
     ap (λ (n : ℕ). place_refusal (length movie.inputs) at (at + n)) (length-replicate count input) ∙ ap (λ (n : ℕ). place_refusal n at (at + count)) (sym is)
 
-pub load_early : (A : Type 0) (before now : SeatContent A) (image : List ℕ) (made : ℕ) (reply : Reply) → BeginsWithOwn before → made ≡ before.made → HasSeen before now → refused_reply made None ≡ Some reply
+pub load_early : (A : Type 0) (before now : SeatContent A) (image : Image) (made : ℕ) (reply : Reply) → BeginsWithOwn before → made ≡ before.made → HasSeen before now → refused_reply made None ≡ Some reply
     → IsAnswer A before now (Load image) (Ok (record { reply = reply; made = made }))
-load_early A before now image made reply own m seen told = load_answer A before now image image (answered_of reply made) refl (early before now (load_edit A image) made None reply own m seen refl told)
+load_early A before now image made reply own m seen told = load_answer A before now image (image_bytes image) (answered_of reply made) refl (early before now (load_edit A (image_bytes image)) made None reply own m seen refl told)
 
-pub load_late : (A : Type 0) (before now : SeatContent A) (image : List ℕ) (made : ℕ) → BeginsWithOwn before → made ≡ before.made → HasSeen before now → refused_reply made None ≡ None
+pub load_late : (A : Type 0) (before now : SeatContent A) (image : Image) (made : ℕ) → BeginsWithOwn before → made ≡ before.made → HasSeen before now → refused_reply made None ≡ None
     → IsAnswer A before now (Load image) (Ok (record { reply = OutOfMemory; made = made }))
-load_late A before now image made own m seen told = load_answer A before now image image (answered_of OutOfMemory made) refl (late before now (load_edit A image) made None own m seen refl told)
+load_late A before now image made own m seen told = load_answer A before now image (image_bytes image) (answered_of OutOfMemory made) refl (late before now (load_edit A (image_bytes image)) made None own m seen refl told)
 
 pub insert_early : (A : Type 0) (before now : SeatContent A) (at count len made : ℕ) (input : Input) (reply : Reply) → BeginsWithOwn before → made ≡ before.made → HasSeen before now → len ≡ length (front_of before).movie.inputs
     → refused_reply made (insert_refusal len at count) ≡ Some reply → IsAnswer A before now (Insert at count input) (Ok (record { reply = reply; made = made }))

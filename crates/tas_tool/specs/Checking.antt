@@ -1,5 +1,6 @@
 -- What a desk's replies are told as. Private functions cite this file.
 use Rattle.std.specs.Prelude.{◌≡◌, ℕ, ◌+◌, ◌==◌, nat_lt, if◌then◌else◌, Option, Some, None, Result, Ok, Err}
+use Rattle.tas_movie.specs.Content.{most_inputs}
 use Rattle.tas_movie.specs.declared.edit.Edit.{Edit}
 use Rattle.tas_movie.specs.declared.edit.EditRefusal.{EditRefusal}
 use Rattle.tas_movie.specs.declared.edit.EditRefusal.TheVariants.{Place, Long}
@@ -17,7 +18,7 @@ checked_reply made at reply = if at == made then Ok reply else Err Foreign
 
 -- why so many inputs can't be put in
 abbrev pub insert_refusal : ℕ → ℕ → ℕ → Option EditRefusal
-insert_refusal len at count = if nat_lt len at then Some (Place at len) else if nat_lt 65536 (len + count) then Some (Long len) else None
+insert_refusal len at count = if nat_lt len at then Some (Place at len) else if nat_lt most_inputs (len + count) then Some (Long len) else None
 
 -- the answer of a command that makes no edit
 abbrev pub looked : Result Reply RunFault → ℕ → Result Answered RunFault

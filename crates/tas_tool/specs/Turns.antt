@@ -18,6 +18,7 @@ use Rattle.tas_script.specs.declared.command.Command.{Command}
 use Rattle.tas_script.specs.declared.command.Command.TheVariants.{Load, Insert, Replace, Delete, Length, InputAt, Shot, Work}
 use Rattle.tas_script.specs.declared.reply.Reply.{Reply}
 use Rattle.tas_script.specs.declared.reply.Reply.TheVariants.{Edited, Misplaced, TooLong, Full, Measured, Pressed, NoFrame, Drawn, Halted, Worked, OutOfMemory}
+use Rattle.tas_script.specs.Commands.{image_bytes}
 use Rattle.tas_tool.specs.Edits.{load_edit, insert_edit, replace_edit, delete_edit}
 
 -- what a session of cartridge and inputs alone can't tell: whether memory was refused, how many frames were played, and how
@@ -107,7 +108,7 @@ work_reply unforeseen = if unforeseen.refused then OutOfMemory else Worked 1 unf
 
 -- the reply to a command at what was made so far
 abbrev pub reply_to : Type 0 → Unforeseen → Front → Command → Reply
-reply_to A unforeseen front (Load image) = reply_to_edit unforeseen.refused front (load_edit A image)
+reply_to A unforeseen front (Load image) = reply_to_edit unforeseen.refused front (load_edit A (image_bytes image))
 reply_to A unforeseen front (Insert at count input) = reply_to_edit unforeseen.refused front (insert_edit A at count input)
 reply_to A unforeseen front (Replace at count input) = reply_to_edit unforeseen.refused front (replace_edit A at count input)
 reply_to A unforeseen front (Delete at count) = reply_to_edit unforeseen.refused front (delete_edit A at count)
@@ -118,7 +119,7 @@ reply_to A unforeseen front (Work k) = work_reply unforeseen
 
 -- what is made after a command
 abbrev pub front_after : Type 0 → Unforeseen → Front → Command → Front
-front_after A unforeseen front (Load image) = front_after_edit unforeseen.refused front (load_edit A image)
+front_after A unforeseen front (Load image) = front_after_edit unforeseen.refused front (load_edit A (image_bytes image))
 front_after A unforeseen front (Insert at count input) = front_after_edit unforeseen.refused front (insert_edit A at count input)
 front_after A unforeseen front (Replace at count input) = front_after_edit unforeseen.refused front (replace_edit A at count input)
 front_after A unforeseen front (Delete at count) = front_after_edit unforeseen.refused front (delete_edit A at count)

@@ -15,9 +15,9 @@ use std::sync::Wait;
 use tas_desk::{CloseOnDrop, Desk, EditError, Gate, InputError, MAX_EDITS, Name, Seat, ShotError};
 use tas_engines::RunFault;
 use tas_movie::{Edit, EditRefusal, Inputs, MAX_FRAMES};
-use tas_script::{Command, Reply};
+use tas_script::{Command, Image, Reply};
 use vcs_cpu::Halt;
-use vcs_machine::{CART_SIZE, Cart, Input};
+use vcs_machine::{Cart, Input};
 
 /// The answer to a command.
 #[derive(Clone, Copy, Debug, PartialEq, Eq)]
@@ -173,14 +173,14 @@ fn copies<A: Allocator>(alloc: A, input: Input, count: usize) -> Result<Inputs<A
     Ok(Inputs::from_vec(list))
 }
 
-/// A `load` line. Memory is asked for once nothing else refuses the edit.
+/// A `load` or `load2` line. Memory is asked for once nothing else refuses the edit.
 fn load<N: Name, W: CloseOnDrop, A: Allocator + Copy, R: Wait>(
     rt: &R,
     alloc: A,
     desk: &Desk<N, W, A>,
     seat: &mut Seat<N, A>,
     made: u64,
-    image: [u8; CART_SIZE],
+    image: Image,
 ) -> Result<Answered, RunFault>
     requires own { BeginsWithOwn seat.old }
     requires made { made ≡ seat.old.made }
@@ -194,7 +194,7 @@ fn load<N: Name, W: CloseOnDrop, A: Allocator + Copy, R: Wait>(
     if let Some(reply) = refused_reply(made, None) {
         return Ok(Answered { reply, made });
     }
-    match Cart::from_bytes(alloc, &image) {
+    match Cart::from_bytes(alloc, image.bytes()) {
         Ok(cart) => make_edit(rt, desk, seat, made, Edit::Load(cart)),
         Err(_) => Ok(Answered {
             reply: Reply::OutOfMemory,

@@ -16,5 +16,5 @@ pub use movie_scripting::movie_script_run;
 pub use scripting::script_run;
 pub use tas_edit::{diff_run, edit_run};
 pub use tas_engines::{
-    INPUT_LIMIT, ReadFault, RunFault, ToolFault, check_run, shot_run, trace_run,
+    INPUT_LIMIT, ReadFault, RunFault, ToolFault, check_run, migrate_run, shot_run, trace_run,
 };

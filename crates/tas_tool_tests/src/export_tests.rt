@@ -142,7 +142,7 @@ fn halted_frames_are_not_written(rt: HostRuntime) -> Result<(), Fail> {
 fn the_longest_movie_is_exported(rt: HostRuntime) -> Result<(), Fail> {
     let alloc = rt.alloc();
     let image = image_of(alloc, PLAYFIELD.bytes)?;
-    let text = text_of(alloc, PLAYFIELD, 65_536, RIGHT)?;
+    let text = text_of(alloc, PLAYFIELD, 262_144, RIGHT)?;
     let (end, output) = export(&rt, alloc, image.as_slice(), text.as_str(), (0, 1), 1);
     assert_eq!(rt; end, Ok(()));
     assert_eq!(rt; output.len(), PICTURE);

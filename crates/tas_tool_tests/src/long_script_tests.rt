@@ -29,8 +29,8 @@ shot 0|no frame 0 len 0
 delete 0 1|place 0 len 0
 replace 0 1 ..... ..... .....|place 0 len 0
 insert 1 1 ..... ..... .....|place 0 len 0
-insert 0 65537 ..... ..... .....|long 0 len 0
-insert 1 65537 ..... ..... .....|place 0 len 0
+insert 0 262145 ..... ..... .....|long 0 len 0
+insert 1 262145 ..... ..... .....|place 0 len 0
 delete 0 0|edit 1 len 0
 insert 0 0 R.... ..... .....|edit 2 len 0
 replace 0 0 ..... ..... rs...|edit 3 len 0
@@ -207,8 +207,8 @@ input 32831|input 69 .L... ...U. ...A.
 shot 32832|no frame 69 len 32832
 insert 32832 32704 ..... ..... .....|edit 70 len 65536
 len|len 70 65536
-insert 65536 1 ..... ..... .....|long 70 len 65536
-insert 0 1 ..... ..... .....|long 70 len 65536
+insert 65536 196609 ..... ..... .....|long 70 len 65536
+insert 0 196609 ..... ..... .....|long 70 len 65536
 insert 65537 1 ..... ..... .....|place 70 len 65536
 replace 65535 1 .L... ..... .....|edit 71 len 65536
 replace 65535 2 ..... ..... .....|place 71 len 65536

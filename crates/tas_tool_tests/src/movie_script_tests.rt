@@ -27,7 +27,7 @@ fn written<R: Wait>(
 }
 
 static LINES: &[u8] =
-    b"len\ninput 1\nshot 2\nreplace 1 1 R.... ..... .....\ninput 1\nshot 1\ninsert 3 65534 ..... ..... .....\ndelete 0 3\nlen\n";
+    b"len\ninput 1\nshot 2\nreplace 1 1 R.... ..... .....\ninput 1\nshot 1\ninsert 3 262142 ..... ..... .....\ndelete 0 3\nlen\n";
 
 static REPLIES: &[u8] =
     b"len 2 3\ninput 2 ..... ..... .....\nshot 2 2 ran 3 lit 1680\nedit 3 len 3\ninput 3 R.... ..... .....\nshot 3 1 ran 2 lit 1680\nlong 3 len 3\nedit 4 len 0\nlen 4 0\n";
@@ -65,9 +65,9 @@ fn movies_of_no_frames_and_of_the_most_are_made(rt: HostRuntime) -> Result<(), F
             b"len 2 0\nno frame 2 len 0\nedit 3 len 1\nshot 3 0 ran 1 lit 1680\n",
         ),
         (
-            65536,
-            b"len\ninsert 65536 1 ..... ..... .....\ninput 65535\n",
-            b"len 2 65536\nlong 2 len 65536\ninput 2 ..... ..... .....\n",
+            262144,
+            b"len\ninsert 262144 1 ..... ..... .....\ninput 262143\n",
+            b"len 2 262144\nlong 2 len 262144\ninput 2 ..... ..... .....\n",
         ),
     ];
     for (frames, lines, replies) in cases {
@@ -84,7 +84,7 @@ fn faults_over_a_movie_come_in_order(rt: HostRuntime) -> Result<(), Fail> {
     let alloc = rt.alloc();
     let cart = image_of(alloc, PLAYFIELD.bytes)?;
     let movie = text_of(alloc, PLAYFIELD, 1, IDLE)?;
-    let bad = b"a26movie 1\n".as_slice();
+    let bad = b"a26movie 2\n".as_slice();
     let text = TextError {
         line: 2,
         kind: TextErrorKind::End,

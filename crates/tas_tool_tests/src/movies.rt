@@ -23,10 +23,10 @@ pub const HALTING: Program = Program {
 };
 
 /// Nothing pressed.
-pub const IDLE: &str = "..... ..... .....\n";
+pub const IDLE: &str = "..... ..... .....";
 
 /// The left stick pushed right.
-pub const RIGHT: &str = "R.... ..... .....\n";
+pub const RIGHT: &str = "R.... ..... .....";
 
 /// The cartridge with a program at F000, where execution starts too; all other bytes are 0.
 pub fn image_of(alloc: Global, program: &[u8]) -> Result<Vec<u8>, Fail> {
@@ -42,7 +42,12 @@ pub fn image_of(alloc: Global, program: &[u8]) -> Result<Vec<u8>, Fail> {
     Ok(image)
 }
 
-/// The text of a movie of so many frames: frames 1, 4, 7 and so on are the line `third`, all others have nothing pressed.
+/// Frame 1, 4, 7 and so on is `third`, any other one has nothing pressed.
+fn frame_of<'a>(frame: usize, third: &'a str) -> &'a str {
+    if frame % 3 == 1 { third } else { IDLE }
+}
+
+/// The text of a movie of so many frames, as [`frame_of`] has them, with a line for each run of equal ones.
 pub fn text_of(
     alloc: Global,
     program: Program,
@@ -50,9 +55,22 @@ pub fn text_of(
     third: &str,
 ) -> Result<String, Fail> {
     let digest = program.digest;
-    let mut text = format!(in alloc; "a26movie 1\ncart {digest}\n")?;
+    let mut text = format!(in alloc; "a26movie 2\ncart {digest}\n")?;
+    let mut count = 0usize;
     for frame in 0..frames {
-        text.push_str(if frame % 3 == 1 { third } else { IDLE })?;
+        count = count.wrapping_add(1);
+        let line = frame_of(frame, third);
+        let next = frame.wrapping_add(1);
+        if next < frames && frame_of(next, third) == line {
+            continue;
+        }
+        let run = if count == 1 {
+            format!(in alloc; "{line}\n")?
+        } else {
+            format!(in alloc; "{line} x{count}\n")?
+        };
+        text.push_str(run.as_str())?;
+        count = 0;
     }
     Ok(text)
 }

@@ -99,10 +99,14 @@ static STORES: &[u8] = b"\xa9\x42\x85\x80\x4c\x00\xf0";
 
 /// A movie of the playfield's cartridge, with one frame of nothing pressed. The digest comes from another program.
 static ONE_FRAME: &[u8] =
+    b"a26movie 2\ncart 820c64e9933496de683a000c5e11f0510fb7b1699b2ce86471295236b284906d\n..... ..... .....\n";
+
+/// The older text of this movie.
+static OLDER_FRAME: &[u8] =
     b"a26movie 1\ncart 820c64e9933496de683a000c5e11f0510fb7b1699b2ce86471295236b284906d\n..... ..... .....\n";
 
 /// Words that name a task, and the task.
-static TASKS: [(&[&str], Task<'static>); 14] = [
+static TASKS: [(&[&str], Task<'static>); 15] = [
     (&["trace", "0"], Task::Trace { instructions: 0 }),
     (&["trace", "3"], Task::Trace { instructions: 3 }),
     (
@@ -112,6 +116,7 @@ static TASKS: [(&[&str], Task<'static>); 14] = [
         },
     ),
     (&["check", "a.bin"], Task::Check { cart: "a.bin" }),
+    (&["migrate", "a.bin"], Task::Migrate { cart: "a.bin" }),
     (
         &["shot", "a.bin", "0"],
         Task::Shot {
@@ -197,7 +202,7 @@ fn each_command_is_its_task(rt: HostRuntime) -> Result<(), Fail> {
 
 /// Words that are no task: none, an unknown one, too few, too many, numbers past their ranges and
 /// texts that are no numbers, unknown flags.
-static MISUSES: [&[&str]; 40] = [
+static MISUSES: [&[&str]; 42] = [
     &[],
     &[""],
     &["play"],
@@ -213,6 +218,8 @@ static MISUSES: [&[&str]; 40] = [
     &["check"],
     &["check", "game.bin", "0"],
     &["check", "--all", "game.bin"],
+    &["migrate"],
+    &["migrate", "game.bin", "0"],
     &["shot", "game.bin"],
     &["shot", "game.bin", "10000000"],
     &["shot", "game.bin", "-1"],
@@ -270,7 +277,7 @@ fn other_words_end_with_status_2(rt: HostRuntime) -> Result<(), Fail> {
 }
 
 /// Words that ask for help, and the beginning of the text.
-static HELPS: [(&[&str], &[u8]); 9] = [
+static HELPS: [(&[&str], &[u8]); 10] = [
     (
         &["--help"],
         b"Replays movies of Atari 2600 cartridges, exactly and from power-on\n\nUsage: tas <COMMAND>\n",
@@ -286,6 +293,10 @@ static HELPS: [(&[&str], &[u8]); 9] = [
     (
         &["check", "--help"],
         b"Checks a movie text and tells its length\n\nUsage: tas check <CART>\n",
+    ),
+    (
+        &["migrate", "--help"],
+        b"Writes a movie text, older ones too, as it is written today\n\nUsage: tas migrate <CART>\n",
     ),
     (
         &["shot", "--help"],
@@ -362,9 +373,12 @@ fn each_command_writes_its_answer(rt: HostRuntime) -> Result<(), Fail> {
     movie.extend_from_slice(b"R.... ..... .....\n")?;
     let mut pictures = Vec::from_slice(alloc, picture.as_slice())?;
     pictures.extend_from_slice(picture.as_slice())?;
-    let cases: [(&[&str], &[u8], &[u8]); 7] = [
+    let cases: [(&[&str], &[u8], &[u8]); 10] = [
         (&["trace", "3"], stores.as_slice(), TRACE),
         (&["check", "game.bin"], ONE_FRAME, b"ok 1 frames\n"),
+        (&["check", "game.bin"], OLDER_FRAME, b"ok 1 frames\n"),
+        (&["migrate", "game.bin"], OLDER_FRAME, ONE_FRAME),
+        (&["migrate", "game.bin"], ONE_FRAME, ONE_FRAME),
         (&["shot", "game.bin", "0"], ONE_FRAME, picture.as_slice()),
         (&["script"], SCRIPT, REPLIES),
         (
@@ -393,7 +407,7 @@ fn faults_end_with_status_1(rt: HostRuntime) -> Result<(), Fail> {
     let alloc = rt.alloc();
     let cart = image_of(alloc, PLAYFIELD.bytes)?;
     let cart = cart.as_slice();
-    let cases: [(&[&str], &[u8], &[u8], &[u8], &[u8]); 9] = [
+    let cases: [(&[&str], &[u8], &[u8], &[u8], &[u8]); 10] = [
         (
             &["trace", "1"],
             cart,
@@ -417,6 +431,13 @@ fn faults_end_with_status_1(rt: HostRuntime) -> Result<(), Fail> {
         ),
         (
             &["check", "game.bin"],
+            cart,
+            b"a26movie 1\n",
+            b"",
+            b"fault: movie line 2: end\n",
+        ),
+        (
+            &["migrate", "game.bin"],
             cart,
             b"a26movie 1\n",
             b"",
@@ -511,7 +532,7 @@ fn help_that_cannot_be_written_is_a_fault(rt: HostRuntime) -> Result<(), Fail> {
 
 /// A movie of the playfield's cartridge with three frames.
 static THREE_FRAMES: &[u8] =
-    b"a26movie 1\ncart 820c64e9933496de683a000c5e11f0510fb7b1699b2ce86471295236b284906d\n..... ..... .....\nR.... ..... .....\n....F ..... .....\n";
+    b"a26movie 2\ncart 820c64e9933496de683a000c5e11f0510fb7b1699b2ce86471295236b284906d\n..... ..... .....\nR.... ..... .....\n....F ..... .....\n";
 
 #[test]
 fn commands_of_two_files_write_their_answers(rt: HostRuntime) -> Result<(), Fail> {
@@ -549,7 +570,7 @@ fn commands_of_two_files_write_their_answers(rt: HostRuntime) -> Result<(), Fail
         ),
         (
             &["edit", "game.bin", "other"],
-            b"insert 3 65534 ..... ..... .....\n",
+            b"insert 3 262142 ..... ..... .....\n",
             THREE_FRAMES,
             b"",
             b"fault: script line 1: long\n",

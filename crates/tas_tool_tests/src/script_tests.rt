@@ -19,12 +19,12 @@ fn edits_and_refusals_are_answered(rt: HostRuntime) {
     let (output, end) = written(
         &rt,
         alloc,
-        b"len\ninput 0\nshot 0\ninsert 0 2 R.... ..... .....\ninput 1\ninput 2\ndelete 1 2\nreplace 1 1 ..... ..... .....\ninput 1\nlen\ninsert 3 1 ..... ..... .....\ninsert 0 65535 ..... ..... .....\ninsert 2 65534 ..... ..... .....\nlen\n",
+        b"len\ninput 0\nshot 0\ninsert 0 2 R.... ..... .....\ninput 1\ninput 2\ndelete 1 2\nreplace 1 1 ..... ..... .....\ninput 1\nlen\ninsert 3 1 ..... ..... .....\ninsert 0 262143 ..... ..... .....\ninsert 2 262142 ..... ..... .....\nlen\n",
     );
     assert_eq!(rt; end, Ok(()));
     assert_eq!(rt;
         output.as_slice(),
-        b"len 0 0\nno frame 0 len 0\nno frame 0 len 0\nedit 1 len 2\ninput 1 R.... ..... .....\nno frame 1 len 2\nplace 1 len 2\nedit 2 len 2\ninput 2 ..... ..... .....\nlen 2 2\nplace 2 len 2\nlong 2 len 2\nedit 3 len 65536\nlen 3 65536\n".as_slice()
+        b"len 0 0\nno frame 0 len 0\nno frame 0 len 0\nedit 1 len 2\ninput 1 R.... ..... .....\nno frame 1 len 2\nplace 1 len 2\nedit 2 len 2\ninput 2 ..... ..... .....\nlen 2 2\nplace 2 len 2\nlong 2 len 2\nedit 3 len 262144\nlen 3 262144\n".as_slice()
     );
 }
 
@@ -89,6 +89,13 @@ static GRIDS: &[u8] =
 static GRIDS_REPLIES: &[u8] =
     b"edit 1 len 0\nedit 2 len 32831\nshot 2 199 ran 200 lit 1680\nedit 3 len 32832\nshot 3 150 ran 23 lit 1680\nshot 3 100 ran 101 lit 1680\nedit 4 len 32831\nshot 4 100 ran 101 lit 1680\nshot 4 100 ran 37 lit 1680\n";
 
+/// A small cartridge, the same again, and its image doubled: that is another cartridge, which no kept state is of.
+static SMALL: &[u8] =
+    b"load2 000=A910850DA91E85084C08F0 7FC=00F0\ninsert 0 200 ..... ..... .....\nshot 199\nload2 000=A910850DA91E85084C08F0 7FC=00F0\nshot 199\nload 000=A910850DA91E85084C08F0 800=A910850DA91E85084C08F0 7FC=00F0 FFC=00F0\nshot 199\n";
+
+static SMALL_REPLIES: &[u8] =
+    b"edit 1 len 0\nedit 2 len 200\nshot 2 199 ran 200 lit 1680\nedit 3 len 200\nshot 3 199 ran 8 lit 1680\nedit 4 len 200\nshot 4 199 ran 200 lit 1680\n";
+
 #[test]
 fn shots_are_answered_as_by_hand(rt: HostRuntime) {
     let alloc = rt.alloc();
@@ -99,6 +106,7 @@ fn shots_are_answered_as_by_hand(rt: HostRuntime) {
         ("works", WORKS, WORKS_REPLIES),
         ("taken back", TAKEN_BACK, TAKEN_BACK_REPLIES),
         ("grids", GRIDS, GRIDS_REPLIES),
+        ("small", SMALL, SMALL_REPLIES),
     ] {
         let (output, end) = written(&rt, alloc, script);
         assert_eq!(rt; end, Ok(()), "{name}");

@@ -7,9 +7,14 @@ use vcs_machine::Cart;
 /// Bytes in hexadecimal at an offset of a cartridge.
 pub type Part = (usize, &'static [u8]);
 
-/// A cartridge of zeros with these bytes.
+/// A cartridge of 4,096 zeros with these bytes.
 pub fn cart_with(alloc: Global, parts: &[Part]) -> Result<Cart, Fail> {
-    let mut rom = vec![in alloc; 0u8; 4096]?;
+    cart_of_size(alloc, 4096, parts)
+}
+
+/// A cartridge of so many zeros with these bytes.
+pub fn cart_of_size(alloc: Global, size: usize, parts: &[Part]) -> Result<Cart, Fail> {
+    let mut rom = vec![in alloc; 0u8; size]?;
     for (offset, bytes) in parts {
         let mut at = *offset;
         for byte in *bytes {

@@ -7,9 +7,9 @@ pub returns-in_default-clause-fault : goal.returns-in_default-clause-fault
 returns-in_default-clause-fault g c =
     rw (c.error_at.ensures, c.len-number.ensures) (sym c.loop-rest.invariant.same_fault ∙ frames_unended _ c.loop-rest.rest.now c.in_default.ensures.none (eqb-false _ _ (sym c.loop-rest-test.ensures)))
 
-pub returns-then-len-ge-MAX_FRAMES-clause-fault : goal.returns-then-len-ge-MAX_FRAMES-clause-fault
-returns-then-len-ge-MAX_FRAMES-clause-fault g c =
-    rw (c.error_at-then-len-ge-MAX_FRAMES.ensures, c.len-number.ensures) (sym c.loop-rest.invariant.same_fault ∙ frames_too_many _ c.loop-rest.rest.now c.in-Some.line.now c.in-Some.after.now c.in-Some.ensures.lines (omega arith))
+pub returns-then-len-ge-MAX_FRAMES1-clause-fault : goal.returns-then-len-ge-MAX_FRAMES1-clause-fault
+returns-then-len-ge-MAX_FRAMES1-clause-fault g c =
+    rw (c.error_at-then-len-ge-MAX_FRAMES1.ensures, c.len-number.ensures) (sym c.loop-rest.invariant.same_fault ∙ frames_too_many _ c.loop-rest.rest.now c.in-Some.line.now c.in-Some.after.now c.in-Some.ensures.lines (omega arith))
 
 pub returns-in_default-read_frame-clause-fault : goal.returns-in_default-read_frame-clause-fault
 returns-in_default-read_frame-clause-fault g c =

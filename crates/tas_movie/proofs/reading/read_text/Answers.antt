@@ -1,12 +1,12 @@
-use Rattle.std.proofs.Common.{ap, ◌∙◌}
+use Rattle.std.proofs.Common.{ap, subst, ◌∙◌, arith}
 use Rattle.tas_movie.specs.Content.{MovieContent}
-use Rattle.tas_movie.proofs.TextLemmas.{read_only, read_no_error}
+use Rattle.tas_movie.proofs.TwoTexts.{read_only, read_no_error}
 use Rattle.tas_movie.proofs.reading.read_text.Goals as goal
 
 pub returns-in-Ok-read_lines-clause-all : goal.returns-in-Ok-read_lines-clause-all
 returns-in-Ok-read_lines-clause-all g c = λ movie same le e.
     read_only c.args.cart.now c.args.bytes.now (record { cart = c.movie.inside.cart; inputs = c.read_lines.new.list.items }) movie
-    (ap (λ (r : MovieContent). r.cart) (c.movie.view_is ∙ c.in-Ok.ensures)) c.in-Ok-read_lines.ensures.movie same e
+    (ap (λ (r : MovieContent). r.cart) (c.movie.view_is ∙ c.in-Ok.ensures)) c.in-Ok-read_lines.ensures.movie same (let bound = c.read_lines.ensures.bound in omega (arith, bound)) le e
 
 pub returns-in-Err-clause-all : goal.returns-in-Err-clause-all
 returns-in-Err-clause-all g c = λ movie same le e. absurd (read_no_error c.args.cart.now c.args.bytes.now movie c.in-Err.error same le e c.in-Err.ensures.fault)

@@ -12,11 +12,11 @@ returns-then-digits-ne0-clause-other c = λ off part is-part is.
     let l : length c.split_at.result.1.now ≡ 2 * length part.bytes = ap length read.2 ∙ length-hex_text part.bytes in
     c.if-digits-ne0.true (omega (arith, l))
 
-pub returns-then-end-gt-CART_SIZE-clause-other : goal.returns-then-end-gt-CART_SIZE-clause-other
-returns-then-end-gt-CART_SIZE-clause-other c = λ off part is-part is.
+pub returns-then-end-image-clause-other : goal.returns-then-end-image-clause-other
+returns-then-end-image-clause-other c = λ off part is-part is.
     let read = word_read c.args.word.now c.split_at.result.1.now part is c.split_at.ensures.back in
     let l : length c.split_at.result.1.now ≡ 2 * length part.bytes = ap length read.2 ∙ length-hex_text part.bytes in
-    let same : c.in-Some.offset ≡ part.offset = offset_same c.in-Some.offset part.offset c.in-Some.ensures.some.0 (omega (arith, is-part.some, is-part.within)) (c.in-Some.ensures.some.1 ∙ sym read.0) in
+    let same : c.in-Some.offset ≡ part.offset = offset_same c.in-Some.offset part.offset c.in-Some.ensures.some.0 (omega (arith, is-part.some, is-part.within, c.requires)) (c.in-Some.ensures.some.1 ∙ sym read.0) in
     absurd (omega (arith, l, same, is-part.within))
 
 pub returns-clause-written : goal.returns-clause-written
@@ -24,7 +24,7 @@ returns-clause-written c = λ on.
     let part : Part = record { offset = c.in-Some.offset; bytes = c.write_bytes.new.room } in
     let digits = c.write_bytes.ensures.written on in
     let l : length c.split_at.result.1.now ≡ 2 * length c.write_bytes.new.room = ap length digits ∙ length-hex_text c.write_bytes.new.room in
-    let is-part : IsPart part = record { some = omega (arith, l, c.split_at.ensures.back_len); within = omega (arith, l); bytes = c.write_bytes.ensures.bytes } in (
+    let is-part : IsPart (length c.args.image.now) part = record { some = omega (arith, l, c.split_at.ensures.back_len); within = omega (arith, l); bytes = c.write_bytes.ensures.bytes } in (
       part,
       is-part,
       word_made c.args.word.now c.split_at.result.1.now c.write_bytes.new.room c.in-Some.offset (omega arith) c.split_at.ensures.back c.if-word-ne61.false c.in-Some.ensures.some.1 digits,

@@ -1,0 +1,52 @@
+//! `tas migrate`.
+#![tactic(auto)]
+
+ghost use Rattle.tas_engines.specs.Output.{Ends};
+ghost use Rattle.tas_engines.specs.Movies.{IsMigrateAnswer, IsMovieRun};
+
+use crate::{RunFault, ToolFault, movie_of, read_two, write_all};
+use std::alloc::Allocator;
+use std::io::{Read, Write};
+use tas_movie::print_text;
+
+/// Writes the text of the movie whose cartridge this is and of which the bytes are a text.
+fn migrate_movie<A: Allocator + Copy, W: Write>(
+    alloc: A,
+    image: &[u8],
+    bytes: &[u8],
+    output: &mut W,
+) -> Result<(), RunFault>
+    ensures { Ends (IsMigrateAnswer image.now bytes.now) (W.contents output.old) (W.contents output.new) result }
+{
+    let movie = match movie_of(alloc, image, bytes) {
+        Ok(movie) => movie,
+        Err(fault) => return Err(fault),
+    };
+    let Ok(text) = print_text(alloc, &movie) else {
+        return Err(RunFault::Memory);
+    };
+    write_all(output, text.as_slice())
+}
+
+/// Reads a cartridge and a movie text of either kind, and writes the text of runs of the movie that it
+/// is one of (own).
+///
+/// Faults: those of [`read_two`], then those of [`movie_of`], with nothing written, and `Write`.
+pub fn migrate_run<A: Allocator + Copy, C: Read, R: Read, W: Write>(
+    alloc: A,
+    cart: &mut C,
+    input: &mut R,
+    output: &mut W,
+) -> Result<(), ToolFault>
+    ensures { IsMovieRun IsMigrateAnswer (C.remaining cart.old) (C.remaining cart.new) (R.remaining input.old) (R.remaining input.new)
+        (W.contents output.old) (W.contents output.new) result }
+{
+    let (image, bytes) = match read_two(alloc, cart, input) {
+        Ok(read) => read,
+        Err(fault) => return Err(ToolFault::from(fault)),
+    };
+    match migrate_movie(alloc, image.as_slice(), bytes.as_slice(), output) {
+        Ok(()) => Ok(()),
+        Err(fault) => Err(ToolFault::from(fault)),
+    }
+}

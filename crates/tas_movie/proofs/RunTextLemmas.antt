@@ -1,0 +1,339 @@
+-- The text of runs.
+use Rattle.std.proofs.Common.{◌≡◌, ℕ, zero, suc, ◌+◌, ◌-◌, ◌%◌, ◌^◌, ◌<◌, ◌≤◌, ◌⊎◌, inl, inr, ⊎_elim, Bool, true, false, not, ◌&&◌, cond, List, [], ◌∷◌, ◌++◌, length, get_or, take, drop, Option, Some, None, refl, sym, ap, subst, ◌∙◌, arith, append_assoc}
+use Rattle.std.specs.Prelude.{codes, decimal, replicate, slice_get, nat_le, nat_lt}
+use Rattle.std.specs.List.{flat_map}
+use Rattle.std.specs.Str.{bytes_eq}
+use Rattle.std.proofs.lemmas.Bool.{both_ways, cases_Bool, cases_eq, ne_eqb, and_parts, and_from, le-leb, lt-leb, leb-true, lt-ltb, le-ltb}
+use Rattle.std.proofs.lemmas.Fmt.{decimal_by_steps, decimal_injective, decimal_is_IsNumeral}
+use Rattle.std.proofs.lemmas.List.{append-nil, length-append, length-replicate, take-append-drop, take_all, flat_map_more}
+use Rattle.std.proofs.lemmas.Slice.Eq.{bytes_eq-Decides}
+use Rattle.vcs_machine.specs.declared.input.Input.{Input}
+use Rattle.vcs_machine.specs.Input.{are_same_inputs}
+use Rattle.tas_movie.specs.declared.error.TextError.{TextError}
+use Rattle.tas_movie.specs.declared.error.TextErrorKind.{TextErrorKind}
+use Rattle.tas_movie.specs.declared.error.TextErrorKind.TheVariants.{Frame, End, TooMany, Run}
+use Rattle.tas_movie.specs.declared.run.FrameRun.{FrameRun}
+use Rattle.tas_movie.specs.Content.{MovieContent, most_inputs}
+use Rattle.tas_movie.specs.Runs.{run_inputs, runs_of, BeginOtherwise, AreLongest}
+use Rattle.tas_movie.specs.Text.{line, frame_text, count_text, run_text, run_line, digest_text, head_text2, text2}
+use Rattle.tas_movie.specs.Fault.{SplitLines, split_lines, shown_count, shown_run, is_run, is_repeated, IsRunLine, run_fault, fault_at, fault_or, runs_fault, fault_by}
+use Rattle.tas_movie.proofs.RunLemmas.{equal_same, apart_same, runs_longest, runs_made, runs_split, runs_more, run_is_last, length-runs}
+use Rattle.tas_movie.proofs.TextLemmas.{NoBreak, NoBreak-push, NoBreak-append, split_lines-line, input_read, frame_no_break, bytes_same}
+
+-- ---- the line of a run
+
+count_more : (n : ℕ) → 2 ≤ n → count_text n ≡ 32 ∷ 120 ∷ decimal n
+count_more n le = ap (λ (b : Bool). cond b [] (codes " x" ++ decimal n)) (ne_eqb n 1 (λ e. omega arith))
+
+one_or_more : (n : ℕ) → 1 ≤ n → (n ≡ 1) ⊎ (2 ≤ n)
+one_or_more n le = ⊎_elim (λ e. inl e) (λ ne. inr (omega arith)) (cases_eq n 1)
+
+count_shown : (n : ℕ) → 1 ≤ n → n < 2 ^ 64 → shown_count (count_text n) ≡ n
+count_shown n le lt =
+    ⊎_elim (λ (e : n ≡ 1). subst (λ (m : ℕ). shown_count (count_text m) ≡ m) (sym e) refl)
+    (λ (more : 2 ≤ n). ap shown_count (count_more n more) ∙ (decimal_is_IsNumeral n lt).1)
+    (one_or_more n le)
+
+run_by_fields : (i j : Input) (m n : ℕ) → i ≡ j → m ≡ n → ◌≡◌ {A = FrameRun} (record { input = i; count = m }) (record { input = j; count = n })
+run_by_fields i j m n p q = cc
+
+-- a line shows the run that it says
+pub run_shown : (l : List ℕ) (r : FrameRun) → IsRunLine l r → shown_run l ≡ r
+run_shown l r said =
+    ap shown_run said.0
+    ∙ run_by_fields _ r.input _ r.count (input_read r.input (count_text r.count)) (count_shown r.count said.1 (omega (arith, said.2)))
+
+is_run_true : (l : List ℕ) (r : FrameRun) → IsRunLine l r → is_run l ≡ true
+is_run_true l r said =
+    let shown : shown_run l ≡ r = run_shown l r said in
+    let count : (shown_run l).count ≡ r.count = ap (λ (q : FrameRun). q.count) shown in
+    and_from _ _ ((bytes_eq-Decides l (run_text (shown_run l))).1 (said.0 ∙ ap run_text (sym shown)))
+    (and_from _ _ (le-leb 1 (shown_run l).count (omega (arith, count, said.1))) (le-leb (shown_run l).count most_inputs (omega (arith, count, said.2))))
+
+is_run_false : (l : List ℕ) → ((r : FrameRun) → IsRunLine l r → ⊥) → is_run l ≡ false
+is_run_false l never = ⊎_elim (λ t. absurd (never (shown_run l) (says t))) (λ f. f) (cases_Bool (is_run l))
+  where
+    says : is_run l ≡ true → IsRunLine l (shown_run l)
+    says t =
+        let both = and_parts (bytes_eq l (run_text (shown_run l))) (nat_le 1 (shown_run l).count && nat_le (shown_run l).count most_inputs) t in
+        let counts = and_parts (nat_le 1 (shown_run l).count) (nat_le (shown_run l).count most_inputs) both.1 in
+        ((bytes_eq-Decides l (run_text (shown_run l))).0 both.0, leb-true 1 (shown_run l).count counts.0, leb-true (shown_run l).count most_inputs counts.1)
+
+-- ---- what is wrong with a line
+
+abbrev by_tests : Bool → Bool → Bool → Bool → Option TextErrorKind
+by_tests full run repeated over = cond full (Some TooMany) (cond (not run) (Some Frame) (cond repeated (Some Run) (cond over (Some TooMany) None)))
+
+tested : (before : List Input) (l : List ℕ) (full run repeated over : Bool) → nat_le most_inputs (length before) ≡ full → is_run l ≡ run
+    → is_repeated (slice_get before (length before - 1)) (shown_run l).input ≡ repeated → nat_lt most_inputs (length before + (shown_run l).count) ≡ over
+    → run_fault before l ≡ by_tests full run repeated over
+unfolding run_fault
+tested before l full run repeated over p q r s =
+    let is : Bool = is_repeated (slice_get before (length before - 1)) (shown_run l).input in
+    let many : Bool = nat_lt most_inputs (length before + (shown_run l).count) in
+    ap (λ (b : Bool). by_tests b (is_run l) is many) p ∙ ap (λ (b : Bool). by_tests full b is many) q ∙ ap (λ (b : Bool). by_tests full run b many) r ∙ ap (λ (b : Bool). by_tests full run repeated b) s
+
+pub run_too_many : (before : List Input) (l : List ℕ) → most_inputs ≤ length before → run_fault before l ≡ Some TooMany
+run_too_many before l le = tested before l true _ _ _ (le-leb most_inputs (length before) le) refl refl refl
+
+pub run_wrong : (before : List Input) (l : List ℕ) → length before < most_inputs → ((r : FrameRun) → IsRunLine l r → ⊥) → run_fault before l ≡ Some Frame
+run_wrong before l lt never = tested before l false false _ _ (lt-leb most_inputs (length before) lt) (is_run_false l never) refl refl
+
+pub run_repeated : (before : List Input) (l : List ℕ) (r : FrameRun) → length before < most_inputs → IsRunLine l r → is_repeated (slice_get before (length before - 1)) r.input ≡ true → run_fault before l ≡ Some Run
+run_repeated before l r lt said is =
+    let shown : shown_run l ≡ r = run_shown l r said in
+    tested before l false true true _ (lt-leb most_inputs (length before) lt) (is_run_true l r said)
+    (ap (λ (q : FrameRun). is_repeated (slice_get before (length before - 1)) q.input) shown ∙ is) refl
+
+pub run_over : (before : List Input) (l : List ℕ) (r : FrameRun) → length before < most_inputs → IsRunLine l r → is_repeated (slice_get before (length before - 1)) r.input ≡ false
+    → most_inputs < length before + r.count → run_fault before l ≡ Some TooMany
+run_over before l r lt said other over =
+    let shown : shown_run l ≡ r = run_shown l r said in
+    let count : (shown_run l).count ≡ r.count = ap (λ (q : FrameRun). q.count) shown in
+    tested before l false true false true (lt-leb most_inputs (length before) lt) (is_run_true l r said)
+    (ap (λ (q : FrameRun). is_repeated (slice_get before (length before - 1)) q.input) shown ∙ other)
+    (lt-ltb most_inputs (length before + (shown_run l).count) (omega (arith, count, over)))
+
+pub run_right : (before : List Input) (l : List ℕ) (r : FrameRun) → IsRunLine l r → is_repeated (slice_get before (length before - 1)) r.input ≡ false
+    → length before + r.count ≤ most_inputs → run_fault before l ≡ None
+run_right before l r said other few =
+    let shown : shown_run l ≡ r = run_shown l r said in
+    let count : (shown_run l).count ≡ r.count = ap (λ (q : FrameRun). q.count) shown in
+    tested before l false true false false (lt-leb most_inputs (length before) (omega (arith, few, said.1))) (is_run_true l r said)
+    (ap (λ (q : FrameRun). is_repeated (slice_get before (length before - 1)) q.input) shown ∙ other)
+    (le-ltb most_inputs (length before + (shown_run l).count) (omega (arith, count, few)))
+
+-- ---- lines, one after the other
+
+pub runs_go_on : (number : ℕ) (before : List Input) (rest l after : List ℕ) (r : FrameRun) → split_lines rest ≡ record { lines = l ∷ (split_lines after).lines; rest = (split_lines after).rest } → IsRunLine l r
+    → run_fault before l ≡ None → fault_by (runs_fault number before) rest ≡ fault_by (runs_fault (number + 1) (before ++ run_inputs r)) after
+unfolding runs_fault
+runs_go_on number before rest l after r is said none =
+    ap (λ (x : SplitLines). runs_fault number before x.lines x.rest) is
+    ∙ ap (λ (o : Option TextErrorKind). fault_or number o (fault_by (runs_fault (number + 1) (before ++ run_inputs (shown_run l))) after)) none
+    ∙ ap (λ (q : FrameRun). fault_by (runs_fault (number + 1) (before ++ run_inputs q)) after) (run_shown l r said)
+
+pub runs_stop : (number : ℕ) (before : List Input) (rest l after : List ℕ) (kind : TextErrorKind) → split_lines rest ≡ record { lines = l ∷ (split_lines after).lines; rest = (split_lines after).rest }
+    → run_fault before l ≡ Some kind → fault_by (runs_fault number before) rest ≡ fault_at number kind
+unfolding runs_fault
+runs_stop number before rest l after kind is found =
+    ap (λ (x : SplitLines). runs_fault number before x.lines x.rest) is
+    ∙ ap (λ (o : Option TextErrorKind). fault_or number o (fault_by (runs_fault (number + 1) (before ++ run_inputs (shown_run l))) after)) found
+
+pub runs_unended : (number : ℕ) (before : List Input) (rest : List ℕ) → split_lines rest ≡ record { lines = []; rest = rest } → (length rest ≡ 0 → ⊥) → fault_by (runs_fault number before) rest ≡ fault_at number End
+unfolding runs_fault
+runs_unended number before [] is ne = absurd (ne refl)
+runs_unended number before (b ∷ rest) is ne = ap (λ (x : SplitLines). runs_fault number before x.lines x.rest) is
+
+pub runs_end : (number : ℕ) (before : List Input) (rest : List ℕ) → length rest ≡ 0 → fault_by (runs_fault number before) rest ≡ None
+unfolding runs_fault split_lines
+runs_end number before [] e = refl
+runs_end number before (b ∷ rest) e = absurd (omega arith)
+
+-- the last frame isn't the run's
+apart_last : (old : List Input) (i : Input) → is_repeated (slice_get old (length old - 1)) i ≡ false → slice_get old (length old - 1) ≡ Some i → ⊥
+apart_last old i off e = both_ways (are_same_inputs i i) (ap (λ (o : Option Input). is_repeated o i) (sym e) ∙ off) (equal_same i i refl)
+
+-- a run more is read
+pub runs_read : (bytes : List ℕ) (old new : List Input) (rest l after : List ℕ) (r : FrameRun) → bytes ≡ flat_map run_line (runs_of old) ++ rest → rest ≡ line l ++ after → IsRunLine l r
+    → is_repeated (slice_get old (length old - 1)) r.input ≡ false → new ≡ old ++ run_inputs r → bytes ≡ flat_map run_line (runs_of new) ++ after
+runs_read bytes old new rest l after r is rest-is said other new-is =
+    is ∙ ap (λ (q : List ℕ). flat_map run_line (runs_of old) ++ q) (rest-is ∙ ap (λ (x : List ℕ). line x ++ after) said.0)
+    ∙ sym (append_assoc (flat_map run_line (runs_of old)) (run_line r) after)
+    ∙ ap (λ (q : List ℕ). q ++ after) (flat_map_more run_line [] (runs_of old) r ∙ ap (flat_map run_line) (sym (runs_more old r said.1 (apart_last old r.input other)) ∙ ap runs_of (sym new-is)))
+
+-- no run is read yet
+pub none_read : (list : List Input) (bytes : List ℕ) → list ≡ [] → bytes ≡ flat_map run_line (runs_of list) ++ bytes
+unfolding runs_of
+none_read list bytes none = ap (λ (l : List Input). flat_map run_line (runs_of l) ++ bytes) (sym none)
+
+-- ---- printing
+
+-- a frame that comes once is printed
+pub printed_once : (out frame framed now : List ℕ) (r : FrameRun) → r.count ≡ 1 → frame ≡ frame_text r.input → framed ≡ out ++ frame → now ≡ framed ++ 10 ∷ [] → now ≡ out ++ run_line r
+printed_once out frame framed now r one frame-is framed-is now-is =
+    now-is ∙ ap (λ (l : List ℕ). l ++ 10 ∷ []) (framed-is ∙ ap (λ (l : List ℕ). out ++ l) frame-is)
+    ∙ append_assoc out (frame_text r.input) (10 ∷ [])
+    ∙ ap (λ (n : ℕ). out ++ line (frame_text r.input ++ count_text n)) (sym one)
+
+-- a frame that comes more than once is printed
+pub printed_often : (out frame framed marked times counted now : List ℕ) (r : FrameRun) → (r.count ≡ 1 → ⊥) → frame ≡ frame_text r.input → framed ≡ out ++ frame → marked ≡ framed ++ codes " x"
+    → times ≡ decimal r.count → counted ≡ marked ++ times → now ≡ counted ++ 10 ∷ [] → now ≡ out ++ run_line r
+printed_often out frame framed marked times counted now r ne frame-is framed-is marked-is times-is counted-is now-is =
+    let begun : List ℕ = frame_text r.input in
+    let number : List ℕ = decimal r.count in
+    let together : counted ≡ ((out ++ begun) ++ codes " x") ++ number =
+    counted-is ∙ ap (λ (l : List ℕ). marked ++ l) times-is ∙ ap (λ (l : List ℕ). l ++ number) (marked-is ∙ ap (λ (l : List ℕ). l ++ codes " x") (framed-is ∙ ap (λ (l : List ℕ). out ++ l) frame-is)) in
+    now-is
+    ∙ ap (λ (l : List ℕ). l ++ 10 ∷ []) (together ∙ append_assoc (out ++ begun) (codes " x") number ∙ append_assoc out begun (codes " x" ++ number))
+    ∙ append_assoc out (begun ++ (codes " x" ++ number)) (10 ∷ [])
+    ∙ ap (λ (b : Bool). out ++ line (begun ++ cond b [] (codes " x" ++ number))) (sym (ne_eqb r.count 1 ne))
+
+-- a run more is printed
+pub runs_printed : (out now : List ℕ) (rest after : List Input) (i : Input) (n : ℕ) (whole : List ℕ) → 1 ≤ n → take n rest ≡ replicate n i → (n < length rest → slice_get rest n ≡ Some i → ⊥)
+    → now ≡ out ++ run_line (record { input = i; count = n }) → after ≡ drop n rest → out ++ flat_map run_line (runs_of rest) ≡ whole → now ++ flat_map run_line (runs_of after) ≡ whole
+runs_printed out now rest after i n whole le same longest now-is after-is is =
+    let run : FrameRun = record { input = i; count = n } in
+    ap (λ (x : List ℕ). x ++ flat_map run_line (runs_of after)) now-is
+    ∙ append_assoc out (run_line run) (flat_map run_line (runs_of after))
+    ∙ ap (λ (l : List Input). out ++ (run_line run ++ flat_map run_line (runs_of l))) after-is
+    ∙ ap (λ (q : List FrameRun). out ++ flat_map run_line q) (sym (runs_split rest i n le same longest))
+    ∙ is
+
+pub none_printed : (out : List ℕ) (rest : List Input) (whole : List ℕ) → length rest ≡ 0 → out ++ flat_map run_line (runs_of rest) ≡ whole → out ≡ whole
+unfolding runs_of
+none_printed out [] whole none is = sym (append-nil out) ∙ is
+none_printed out (x ∷ rest) whole none is = absurd (omega arith)
+
+-- ---- a text has no fault
+
+decimal_no_break : (n : ℕ) → n < 2 ^ 64 → NoBreak (decimal n)
+decimal_no_break n lt = decimal_by_steps (λ m ds. NoBreak ds)
+    (λ m small. ((λ (e : 48 + m ≡ 10). omega arith), tt))
+    (λ m ds big h. NoBreak-push ds (48 + m % 10) h (λ (e : 48 + m % 10 ≡ 10). omega arith)) n lt
+
+count_no_break : (n : ℕ) → 1 ≤ n → n < 2 ^ 64 → NoBreak (count_text n)
+count_no_break n le lt =
+    ⊎_elim (λ (e : n ≡ 1). subst (λ (m : ℕ). NoBreak (count_text m)) (sym e) tt)
+    (λ (more : 2 ≤ n). subst NoBreak (sym (count_more n more)) ((λ (e : ◌≡◌ {A = ℕ} 32 10). omega (arith, e)), ((λ (e : ◌≡◌ {A = ℕ} 120 10). omega (arith, e)), decimal_no_break n lt)))
+    (one_or_more n le)
+
+run_no_break : (r : FrameRun) → 1 ≤ r.count → r.count ≤ most_inputs → NoBreak (run_text r)
+run_no_break r le few = NoBreak-append (frame_text r.input) (count_text r.count) (frame_no_break r.input) (count_no_break r.count le (omega (arith, few)))
+
+-- the first run isn't of the last frame
+abbrev Goes : List Input → List FrameRun → Type 0
+Goes before [] = Unit {0}
+Goes before (r ∷ rs) = is_repeated (slice_get before (length before - 1)) r.input ≡ false
+
+goes_on : (before : List Input) (r : FrameRun) (rs : List FrameRun) → 1 ≤ r.count → BeginOtherwise r.input rs → Goes (before ++ run_inputs r) rs
+unfolding BeginOtherwise
+goes_on before r [] le h = tt
+goes_on before r (q ∷ rs) le h = ap (λ (o : Option Input). is_repeated o q.input) (run_is_last before r le) ∙ apart_same r.input q.input h
+
+length-behind : (before : List Input) (r : FrameRun) → length (before ++ run_inputs r) ≡ length before + r.count
+length-behind before r = omega (arith, length-append before (run_inputs r), length-replicate r.count r.input)
+
+runs_right : (number : ℕ) (before : List Input) (rs : List FrameRun) → AreLongest rs → Goes before rs → length before + length (flat_map run_inputs rs) ≤ most_inputs
+    → fault_by (runs_fault number before) (flat_map run_line rs) ≡ None
+unfolding AreLongest
+runs_right number before [] h goes le = runs_end number before [] refl
+runs_right number before (r ∷ rs) h goes le =
+    let more = length-runs r rs in
+    let few : r.count ≤ most_inputs = omega (arith, more, le) in
+    let said : IsRunLine (run_text r) r = (refl, h.0, few) in
+    let tail : List ℕ = flat_map run_line rs in
+    runs_go_on number before (flat_map run_line (r ∷ rs)) (run_text r) tail r
+    (ap split_lines (append_assoc (run_text r) (10 ∷ []) tail) ∙ split_lines-line (run_text r) tail (run_no_break r h.0 few)) said
+    (run_right before (run_text r) r said goes (omega (arith, more, le)))
+    ∙ runs_right (number + 1) (before ++ run_inputs r) rs h.2 (goes_on before r rs h.0 h.1) (omega (arith, more, le, length-behind before r))
+
+goes_first : (rs : List FrameRun) → Goes [] rs
+goes_first [] = tt
+goes_first (r ∷ rs) = refl
+
+pub inputs_right : (inputs : List Input) → length inputs ≤ most_inputs → fault_by (runs_fault 3 []) (flat_map run_line (runs_of inputs)) ≡ None
+inputs_right inputs le = runs_right 3 [] (runs_of inputs) (runs_longest inputs) (goes_first (runs_of inputs)) (let whole = ap length (runs_made inputs) in omega (arith, whole, le))
+
+-- ---- one text has one list of runs
+
+same_line : (a b x y : List ℕ) → NoBreak a → NoBreak b → a ++ 10 ∷ x ≡ b ++ 10 ∷ y → (a ≡ b) × (x ≡ y)
+same_line [] [] x y ha hb e = let t : x ≡ y = cc in (refl, t)
+same_line [] (k ∷ b) x y ha hb e = let t : k ≡ 10 = cc in absurd (hb.0 t)
+same_line (k ∷ a) [] x y ha hb e = let t : k ≡ 10 = cc in absurd (ha.0 t)
+same_line (k ∷ a) (m ∷ b) x y ha hb e =
+    let head : k ≡ m = cc in
+    let tail : a ++ 10 ∷ x ≡ b ++ 10 ∷ y = cc in
+    let both = same_line a b x y ha.1 hb.1 tail in
+    let front : a ≡ b = both.0 in
+    let whole : k ∷ a ≡ m ∷ b = cc in
+    (whole, both.1)
+
+runs_same : (rs qs : List FrameRun) → AreLongest rs → AreLongest qs → length (flat_map run_inputs rs) ≤ most_inputs → length (flat_map run_inputs qs) ≤ most_inputs
+    → flat_map run_line rs ≡ flat_map run_line qs → rs ≡ qs
+unfolding AreLongest
+runs_same [] [] h k few less e = refl
+runs_same [] (q ∷ qs) h k few less e = absurd cc
+runs_same (r ∷ rs) [] h k few less e = absurd cc
+runs_same (r ∷ rs) (q ∷ qs) h k few less e =
+    let more = length-runs r rs in
+    let others = length-runs q qs in
+    let fits : r.count ≤ most_inputs = omega (arith, more, few) in
+    let holds : q.count ≤ most_inputs = omega (arith, others, less) in
+    let lines : run_text r ++ 10 ∷ flat_map run_line rs ≡ run_text q ++ 10 ∷ flat_map run_line qs =
+    sym (append_assoc (run_text r) (10 ∷ []) (flat_map run_line rs)) ∙ e ∙ append_assoc (run_text q) (10 ∷ []) (flat_map run_line qs) in
+    let both = same_line (run_text r) (run_text q) (flat_map run_line rs) (flat_map run_line qs) (run_no_break r h.0 fits) (run_no_break q k.0 holds) lines in
+    let first : r ≡ q = sym (run_shown (run_text r) r (refl, h.0, fits)) ∙ ap shown_run both.0 ∙ run_shown (run_text q) q (refl, k.0, holds) in
+    let rest : rs ≡ qs = runs_same rs qs h.2 k.2 (omega (arith, more, few)) (omega (arith, others, less)) both.1 in
+    ap (λ (x : FrameRun). x ∷ rs) first ∙ ap (λ (l : List FrameRun). q ∷ l) rest
+
+pub inputs_same : (a b : List Input) → length a ≤ most_inputs → length b ≤ most_inputs → flat_map run_line (runs_of a) ≡ flat_map run_line (runs_of b) → a ≡ b
+inputs_same a b few less e =
+    let one = ap length (runs_made a) in
+    let other = ap length (runs_made b) in
+    sym (runs_made a)
+    ∙ ap (flat_map run_inputs) (runs_same (runs_of a) (runs_of b) (runs_longest a) (runs_longest b) (omega (arith, one, few)) (omega (arith, other, less)) e)
+    ∙ runs_made b
+
+-- ---- what stands behind a frame
+
+pub count_is : (bytes : List ℕ) (n : ℕ) → bytes ≡ count_text n → 1 ≤ n → (length bytes ≡ 0 → ⊥) → (2 ≤ n) × (bytes ≡ 32 ∷ 120 ∷ decimal n)
+count_is bytes n is le some =
+    ⊎_elim (λ (e : n ≡ 1). absurd (some (ap length (is ∙ ap count_text e)))) (λ (more : 2 ≤ n). (more, is ∙ count_more n more)) (one_or_more n le)
+
+pub no_count : (bytes : List ℕ) → length bytes ≡ 0 → bytes ≡ count_text 1
+no_count [] e = refl
+no_count (b ∷ bytes) e = absurd (omega arith)
+
+pub count_made : (bytes mark digits : List ℕ) (n : ℕ) → mark ≡ take 2 bytes → digits ≡ drop 2 bytes → mark ≡ 32 ∷ 120 ∷ [] → digits ≡ decimal n → 2 ≤ n → bytes ≡ count_text n
+count_made bytes mark digits n front back is number le =
+    sym (take-append-drop 2 bytes)
+    ∙ ap (λ (l : List ℕ). l ++ drop 2 bytes) (sym front ∙ is)
+    ∙ ap (λ (l : List ℕ). 32 ∷ 120 ∷ l) (sym back ∙ number)
+    ∙ sym (count_more n le)
+
+-- ---- a frame and what stands behind it
+
+pub run_made : (l letters behind : List ℕ) (i : Input) (n : ℕ) → letters ≡ take 17 l → behind ≡ drop 17 l → letters ≡ frame_text i → behind ≡ count_text n → l ≡ run_text (record { input = i; count = n })
+run_made l letters behind i n front back is count =
+    sym (take-append-drop 17 l)
+    ∙ ap (λ (x : List ℕ). x ++ drop 17 l) (sym front ∙ is)
+    ∙ ap (λ (x : List ℕ). frame_text i ++ x) (sym back ∙ count)
+
+-- the letters and the rest of a line that says a run
+pub run_parts : (l letters behind : List ℕ) (r : FrameRun) → letters ≡ take 17 l → behind ≡ drop 17 l → l ≡ run_text r → (letters ≡ frame_text r.input) × (behind ≡ count_text r.count)
+run_parts l letters behind r front back is = (front ∙ ap (λ (x : List ℕ). take 17 x) is, back ∙ ap (λ (x : List ℕ). drop 17 x) is)
+
+pub run_length-ge : (l : List ℕ) (r : FrameRun) → l ≡ run_text r → 17 ≤ length l
+run_length-ge l r is = let e : length l ≡ length (run_text r) = ap length is in omega (arith, e, length-append (frame_text r.input) (count_text r.count))
+
+-- the digits behind the mark are one number's text
+pub same_count : (bytes digits : List ℕ) (m n : ℕ) → digits ≡ drop 2 bytes → digits ≡ decimal m → m < 2 ^ 64 → n < 2 ^ 64 → bytes ≡ 32 ∷ 120 ∷ decimal n → n ≡ m
+same_count bytes digits m n back number lt less is = decimal_injective n m less lt (sym (ap (λ (l : List ℕ). drop 2 l) is) ∙ sym back ∙ number)
+
+-- the mark and the digits of a count
+pub mark_is : (bytes mark : List ℕ) (n : ℕ) → bytes ≡ count_text n → 1 ≤ n → (length bytes ≡ 0 → ⊥) → mark ≡ take 2 bytes → mark ≡ 32 ∷ 120 ∷ []
+mark_is bytes mark n is le some front = front ∙ ap (λ (l : List ℕ). take 2 l) (count_is bytes n is le some).1
+
+pub digits_are : (bytes digits : List ℕ) (n : ℕ) → bytes ≡ count_text n → 1 ≤ n → (length bytes ≡ 0 → ⊥) → digits ≡ drop 2 bytes → digits ≡ decimal n
+digits_are bytes digits n is le some back = back ∙ ap (λ (l : List ℕ). drop 2 l) (count_is bytes n is le some).1
+
+pub long_count : (bytes : List ℕ) (n : ℕ) → bytes ≡ count_text n → 1 ≤ n → (length bytes ≡ 0 → ⊥) → 2 ≤ length bytes
+long_count bytes n is le some = let e : length bytes ≡ length (32 ∷ 120 ∷ decimal n) = ap length (count_is bytes n is le some).1 in omega (arith, e)
+
+-- ---- steps of the code
+
+-- so many copies more at the end of a list
+pub resized : (old : List Input) (all k n : ℕ) (i : Input) → length old ≤ all → k ≡ n → take all old ++ replicate k i ≡ old ++ replicate n i
+resized old all k n i le e = ap (λ (l : List Input). l ++ replicate k i) (take_all all old le) ∙ ap (λ (m : ℕ). old ++ replicate m i) e
+
+pub shorter : (rest l after : List ℕ) → rest ≡ line l ++ after → 1 + length after ≤ length rest
+shorter rest l after is = let e : length rest ≡ length (line l ++ after) = ap length is in omega (arith, e, length-append (line l) after, length-append l (10 ∷ []))
+
+pub first_is : (xs : List Input) (d : Input) → (length xs ≡ 0 → ⊥) → slice_get xs 0 ≡ Some (get_or xs 0 d)
+first_is [] d some = absurd (some refl)
+first_is (x ∷ xs) d some = refl
+
+pub run_some : (xs : List Input) (i : Input) (n : ℕ) → slice_get xs 0 ≡ Some i → (length xs ≡ 0 → ⊥) → (n < length xs → slice_get xs n ≡ Some i → ⊥) → 1 ≤ n
+run_some xs i zero first some longest = absurd (longest (omega arith) first)
+run_some xs i (suc n) first some longest = omega arith

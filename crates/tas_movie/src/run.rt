@@ -1,0 +1,27 @@
+//! Runs of equal frames.
+
+ghost use Rattle.std.specs.Prelude.{◌≡◌, ◌≢◌, ◌<◌, ◌≤◌, length, take, replicate, slice_get, Some};
+
+use vcs_machine::Input;
+
+/// So many frames with one input, one behind the other.
+#[derive(Clone, Copy, Debug, PartialEq, Eq)]
+pub(crate) struct FrameRun {
+    /// The input of each of them.
+    pub input: Input,
+    /// How many they are.
+    pub count: usize,
+}
+
+/// How many inputs at the beginning are this one (own).
+pub fn run_length(inputs: &[Input], input: Input) -> usize
+    ensures bound { result ≤ length inputs.now }
+    ensures same { take result inputs.now ≡ replicate result input }
+    ensures longest { result < length inputs.now → slice_get inputs.now result ≢ Some input }
+{
+    let mut count = 0;
+    while count < inputs.len() && inputs[count] == input {
+        count += 1;
+    }
+    count
+}

@@ -1,0 +1,279 @@
+//! Both texts of a movie, and their faults.
+
+use crate::movies::{PLAYFIELD, cart_of};
+use crate::texts::{
+    BLANK_LINE, CAPITALS, CART_LINE, HEAD, HEAD2, NONE, SMALL_LINE, at, idle_lines,
+    is_read_and_printed, joined, read, reads_as, text_error, told,
+};
+use std::test::Fail;
+use tas_movie::{
+    ReadError, TextErrorKind, most_inputs_is_exact, one_movie_per_text, print_text, read_text,
+    runs_are_longest, texts_have_no_fault,
+};
+use vcs_machine::Cart;
+
+#[test]
+fn texts_are_read_and_printed_again(rt: HostRuntime) -> Result<(), Fail> {
+    let alloc = rt.alloc();
+    let cart = cart_of(alloc, PLAYFIELD)?;
+    let blank = Cart::blank(alloc)?;
+    let small = Cart::from_bytes(alloc, &[0; 2048])?;
+    let three: &[u8] = b"..... ..... .....\nRL..F .LDU. r.bAB\n..... ..... .....\n";
+    let cases = [
+        (&cart, CART_LINE, NONE, 99, 1),
+        (&cart, CART_LINE, b"".as_slice(), 81, 0),
+        (&cart, CART_LINE, three, 135, 3),
+        (&blank, BLANK_LINE, NONE, 99, 1),
+        (&small, SMALL_LINE, NONE, 99, 1),
+    ];
+    for (number, (cart, line, frames, size, count)) in cases.iter().enumerate() {
+        let text = joined(alloc, &[HEAD2, line, frames])?;
+        assert_eq!(rt; text.len(), *size, "text {number}");
+        assert!(rt;
+            is_read_and_printed(alloc, cart, &text, *count)?,
+            "text {number}"
+        );
+    }
+    most_inputs_is_exact();
+    one_movie_per_text();
+    texts_have_no_fault();
+    runs_are_longest();
+    Ok(())
+}
+
+#[test]
+fn cut_texts(rt: HostRuntime) -> Result<(), Fail> {
+    let alloc = rt.alloc();
+    let cart = cart_of(alloc, PLAYFIELD)?;
+    for head in [HEAD, HEAD2] {
+        let text = joined(alloc, &[head, CART_LINE, NONE])?;
+        for (count, byte) in text.iter().enumerate() {
+            let cut = read(alloc, &text[..count], &cart);
+            let want = match count {
+                0..=10 => at(1, TextErrorKind::End),
+                11..=80 => at(2, TextErrorKind::End),
+                81 => Ok(0),
+                _ => at(3, TextErrorKind::End),
+            };
+            assert_eq!(rt; cut, want, "{count} bytes before {byte}");
+        }
+    }
+    Ok(())
+}
+
+#[test]
+fn first_two_lines_at_fault(rt: HostRuntime) -> Result<(), Fail> {
+    let alloc = rt.alloc();
+    let cases: [(&[u8], &[u8], usize, TextErrorKind); 11] = [
+        (b"a26movie 3\n", CART_LINE, 1, TextErrorKind::Head),
+        (b"a26movie 12\n", CART_LINE, 1, TextErrorKind::Head),
+        (HEAD2, BLANK_LINE, 2, TextErrorKind::Digest),
+        (HEAD2, CAPITALS, 2, TextErrorKind::Digest),
+        (b"A26movie 1\n", CART_LINE, 1, TextErrorKind::Head),
+        (b"\n", CART_LINE, 1, TextErrorKind::Head),
+        (b"a26movie 1 \n", CART_LINE, 1, TextErrorKind::Head),
+        (HEAD, BLANK_LINE, 2, TextErrorKind::Digest),
+        (HEAD, CAPITALS, 2, TextErrorKind::Digest),
+        (HEAD, NONE, 2, TextErrorKind::Digest),
+        (HEAD, b"\n", 2, TextErrorKind::Digest),
+    ];
+    for (number, (first, second, line, kind)) in cases.iter().enumerate() {
+        let answer = told(alloc, &[first, second, NONE])?;
+        assert_eq!(rt; answer, at(*line, *kind), "text {number}");
+    }
+    Ok(())
+}
+
+#[test]
+fn frames_at_fault(rt: HostRuntime) -> Result<(), Fail> {
+    let alloc = rt.alloc();
+    let wrong: [&[u8]; 6] = [
+        b"r.... ..... .....\n",
+        b"..... ..... ....\n",
+        b"..... ..... ......\n",
+        b"L.... ..... .....\n",
+        b"...........\n",
+        b"\n",
+    ];
+    for (number, line) in wrong.iter().enumerate() {
+        let first = told(alloc, &[HEAD, CART_LINE, line, NONE, NONE])?;
+        assert_eq!(rt; first, at(3, TextErrorKind::Frame), "line {number}");
+        let middle = told(alloc, &[HEAD, CART_LINE, NONE, line, line])?;
+        assert_eq!(rt; middle, at(4, TextErrorKind::Frame), "line {number}");
+        let last = told(alloc, &[HEAD, CART_LINE, NONE, NONE, line])?;
+        assert_eq!(rt; last, at(5, TextErrorKind::Frame), "line {number}");
+    }
+    let open = told(alloc, &[HEAD, CART_LINE, NONE, NONE, b"."])?;
+    assert_eq!(rt; open, at(5, TextErrorKind::End));
+    let run = told(alloc, &[HEAD, CART_LINE, b"..... ..... ..... x2\n"])?;
+    assert_eq!(rt; run, at(3, TextErrorKind::Frame));
+    Ok(())
+}
+
+#[test]
+fn runs_at_fault(rt: HostRuntime) -> Result<(), Fail> {
+    let alloc = rt.alloc();
+    let right = b"R.... ..... .....\n".as_slice();
+    let wrong: [&[u8]; 14] = [
+        b"..... ..... ..... x1\n",
+        b"..... ..... ..... x0\n",
+        b"..... ..... ..... x02\n",
+        b"..... ..... ..... x262145\n",
+        b"..... ..... ..... x18446744073709551618\n",
+        b"..... ..... ..... x+2\n",
+        b"..... ..... ..... x\n",
+        b"..... ..... ..... X2\n",
+        b"..... ..... .....  x2\n",
+        b"..... ..... .....x2\n",
+        b"..... ..... ..... x2 \n",
+        b"r.... ..... ..... x2\n",
+        b"..... ..... .... x2\n",
+        b"\n",
+    ];
+    for (number, line) in wrong.iter().enumerate() {
+        let first = told(alloc, &[HEAD2, CART_LINE, line, right])?;
+        assert_eq!(rt; first, at(3, TextErrorKind::Frame), "line {number}");
+        let later = told(alloc, &[HEAD2, CART_LINE, right, line, line])?;
+        assert_eq!(rt; later, at(4, TextErrorKind::Frame), "line {number}");
+    }
+    let cases: [(&[u8], Result<usize, ReadError>); 9] = [
+        (
+            b"..... ..... .....\n..... ..... .....\n",
+            at(4, TextErrorKind::Run),
+        ),
+        (
+            b"..... ..... .....\n..... ..... ..... x2\n",
+            at(4, TextErrorKind::Run),
+        ),
+        (
+            b"..... ..... ..... x2\n..... ..... .....\nR.... ..... .....\n",
+            at(4, TextErrorKind::Run),
+        ),
+        (
+            b"..... ..... .....\nR.... ..... .....\n..... ..... .....\n",
+            Ok(3),
+        ),
+        (b"..... ..... ..... x262144\n", Ok(262144)),
+        (
+            b"..... ..... ..... x262144\nR.... ..... .....\n",
+            at(4, TextErrorKind::TooMany),
+        ),
+        (
+            b"..... ..... .....\nR.... ..... ..... x262144\n",
+            at(4, TextErrorKind::TooMany),
+        ),
+        (
+            b"..... ..... .....\nR.... ..... ..... x262143\n..... ..... .....\n",
+            at(5, TextErrorKind::TooMany),
+        ),
+        (
+            b"..... ..... .....\nR.... ..... .....\n..... ..... ..... x2",
+            at(5, TextErrorKind::End),
+        ),
+    ];
+    for (number, (lines, want)) in cases.iter().enumerate() {
+        let answer = told(alloc, &[HEAD2, CART_LINE, lines])?;
+        assert_eq!(rt; answer, *want, "text {number}");
+    }
+    Ok(())
+}
+
+/// Where as many frames as a movie has stand before a line, this is told before what else is wrong with it; and a
+/// line that is no run before that it is the frame of the line before.
+#[test]
+fn the_first_fault_of_a_line_is_told(rt: HostRuntime) -> Result<(), Fail> {
+    let alloc = rt.alloc();
+    let full: &[u8] = b"..... ..... ..... x262144\n";
+    let some: &[u8] = b"..... ..... ..... x262143\n";
+    let cases: [(&[u8], &[u8], usize, TextErrorKind); 5] = [
+        (full, b"..\n", 4, TextErrorKind::TooMany),
+        (full, NONE, 4, TextErrorKind::TooMany),
+        (full, b"..", 4, TextErrorKind::End),
+        (some, b"..... ..... ..... x1\n", 4, TextErrorKind::Frame),
+        (some, b"..... ..... ..... x2\n", 4, TextErrorKind::Run),
+    ];
+    for (number, (first, second, line, kind)) in cases.iter().enumerate() {
+        let answer = told(alloc, &[HEAD2, CART_LINE, first, second])?;
+        assert_eq!(rt; answer, at(*line, *kind), "text {number}");
+    }
+    Ok(())
+}
+
+#[test]
+fn too_many_frames(rt: HostRuntime) -> Result<(), Fail> {
+    let alloc = rt.alloc();
+    let cases: [(usize, &[u8], Result<usize, ReadError>); 5] = [
+        (65536, b"", Ok(65536)),
+        (65537, b"", at(65539, TextErrorKind::TooMany)),
+        (65536, b"..", at(65539, TextErrorKind::End)),
+        (65536, b"..\n", at(65539, TextErrorKind::TooMany)),
+        (65536, b"..\n.", at(65539, TextErrorKind::TooMany)),
+    ];
+    for (number, (count, end, want)) in cases.iter().enumerate() {
+        let lines = idle_lines(alloc, *count, end)?;
+        let answer = told(alloc, &[HEAD, CART_LINE, lines.as_slice()])?;
+        assert_eq!(rt; answer, *want, "text {number}");
+    }
+    Ok(())
+}
+
+/// An older text is printed again as a text of runs, each as long as it can be.
+#[test]
+fn older_texts_are_printed_as_runs(rt: HostRuntime) -> Result<(), Fail> {
+    let alloc = rt.alloc();
+    let cart = cart_of(alloc, PLAYFIELD)?;
+    let lines = idle_lines(alloc, 200, b"")?;
+    let text = joined(alloc, &[HEAD, CART_LINE, lines.as_slice()])?;
+    assert_eq!(rt; text.len(), 3681);
+    let printed = print_text(alloc, &read_text(alloc, &text, &cart)?)?;
+    let want = joined(alloc, &[HEAD2, CART_LINE, b"..... ..... ..... x200\n"])?;
+    assert_eq!(rt; want.len(), 104);
+    assert!(rt; printed.as_slice() == want.as_slice());
+    let right = b"R.... ..... .....\n";
+    let mixed = joined(
+        alloc,
+        &[HEAD, CART_LINE, right, NONE, NONE, right, right, right],
+    )?;
+    let printed = print_text(alloc, &read_text(alloc, &mixed, &cart)?)?;
+    let runs = b"R.... ..... .....\n..... ..... ..... x2\nR.... ..... ..... x3\n";
+    let want = joined(alloc, &[HEAD2, CART_LINE, runs])?;
+    assert!(rt; printed.as_slice() == want.as_slice());
+    assert!(rt; is_read_and_printed(alloc, &cart, &want, 6)?);
+    Ok(())
+}
+
+/// The text of the longest movie with one run, and with as many as can be.
+#[test]
+fn longest_texts(rt: HostRuntime) -> Result<(), Fail> {
+    let alloc = rt.alloc();
+    let cart = cart_of(alloc, PLAYFIELD)?;
+    let one = joined(alloc, &[HEAD2, CART_LINE, b"....F ..... ..... x262144\n"])?;
+    assert!(rt; is_read_and_printed(alloc, &cart, &one, 262144)?);
+    let mut many = joined(alloc, &[HEAD2, CART_LINE])?;
+    for _ in 0..131072 {
+        many.extend_from_slice(NONE)?;
+        many.extend_from_slice(b"....F ..... .....\n")?;
+    }
+    assert!(rt; is_read_and_printed(alloc, &cart, &many, 262144)?);
+    Ok(())
+}
+
+#[test]
+fn errors_of_reading_in_words(rt: HostRuntime) -> Result<(), Fail> {
+    let alloc = rt.alloc();
+    for (error, words) in [
+        (text_error(1, TextErrorKind::Head), "movie line 1: head"),
+        (text_error(2, TextErrorKind::Digest), "movie line 2: digest"),
+        (text_error(4, TextErrorKind::Frame), "movie line 4: frame"),
+        (text_error(3, TextErrorKind::End), "movie line 3: end"),
+        (
+            text_error(65539, TextErrorKind::TooMany),
+            "movie line 65539: too many",
+        ),
+        (text_error(5, TextErrorKind::Run), "movie line 5: run"),
+        (ReadError::Memory, "out of memory"),
+    ] {
+        assert!(rt; reads_as(alloc, &error, words)?, "{words}");
+    }
+    Ok(())
+}

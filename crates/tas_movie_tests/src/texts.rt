@@ -1,0 +1,89 @@
+//! Texts of movies, in lines, and what is read of them.
+
+use crate::movies::{PLAYFIELD, cart_of};
+use std::alloc::{AllocError, Global};
+use std::fmt::Display;
+use std::test::Fail;
+use tas_movie::{ReadError, TextError, TextErrorKind, print_text, read_text};
+use vcs_machine::Cart;
+
+/// The second line of a movie of the playfield's cartridge, with its SHA-256 by another program.
+pub const CART_LINE: &[u8] =
+    b"cart 820c64e9933496de683a000c5e11f0510fb7b1699b2ce86471295236b284906d\n";
+
+pub const CAPITALS: &[u8] =
+    b"cart 820C64E9933496DE683A000C5E11F0510FB7B1699B2CE86471295236B284906D\n";
+
+/// That of 4,096 zeros, by another program.
+pub const BLANK_LINE: &[u8] =
+    b"cart ad7facb2586fc6e966c004d7d1d16b024f5805ff7cb47c7a85dabd8b48892ca7\n";
+
+/// That of 2,048 zeros.
+pub const SMALL_LINE: &[u8] =
+    b"cart e5a00aa9991ac8a5ee3109844d84a55583bd20572ad3ffcd42792f3c36b183ad\n";
+
+/// The first line of the older text.
+pub const HEAD: &[u8] = b"a26movie 1\n";
+
+/// The first line of the text of runs.
+pub const HEAD2: &[u8] = b"a26movie 2\n";
+
+pub const NONE: &[u8] = b"..... ..... .....\n";
+
+pub fn joined(alloc: Global, parts: &[&[u8]]) -> Result<Vec<u8>, AllocError> {
+    let mut bytes = Vec::new(alloc);
+    for part in parts {
+        bytes.extend_from_slice(part)?;
+    }
+    Ok(bytes)
+}
+
+/// How many frames were read, or the line at fault.
+pub fn read(alloc: Global, bytes: &[u8], cart: &Cart) -> Result<usize, ReadError> {
+    let movie = read_text(alloc, bytes, cart)?;
+    Ok(movie.len())
+}
+
+pub fn text_error(line: usize, kind: TextErrorKind) -> ReadError {
+    ReadError::Text(TextError { line, kind })
+}
+
+pub fn at(line: usize, kind: TextErrorKind) -> Result<usize, ReadError> {
+    Err(text_error(line, kind))
+}
+
+/// Whether a text is read as a movie with this cartridge and so many frames, and printed again.
+pub fn is_read_and_printed(
+    alloc: Global,
+    cart: &Cart,
+    text: &[u8],
+    frames: usize,
+) -> Result<bool, Fail> {
+    let movie = read_text(alloc, text, cart)?;
+    let printed = print_text(alloc, &movie)?;
+    let same_cart = movie.cart().bytes() == cart.bytes();
+    Ok(same_cart && movie.len() == frames && printed.as_slice() == text)
+}
+
+/// How many frames a text of these lines has, or its line at fault, with the playfield's cartridge.
+pub fn told(alloc: Global, lines: &[&[u8]]) -> Result<Result<usize, ReadError>, Fail> {
+    let cart = cart_of(alloc, PLAYFIELD)?;
+    let text = joined(alloc, lines)?;
+    Ok(read(alloc, &text, &cart))
+}
+
+/// So many lines of a frame with nothing pressed, and then these bytes.
+pub fn idle_lines(alloc: Global, count: usize, end: &[u8]) -> Result<Vec<u8>, AllocError> {
+    let mut lines = Vec::new(alloc);
+    for _ in 0..count {
+        lines.extend_from_slice(NONE)?;
+    }
+    lines.extend_from_slice(end)?;
+    Ok(lines)
+}
+
+/// Whether an error reads as these words.
+pub fn reads_as<E: Display>(alloc: Global, error: &E, words: &str) -> Result<bool, AllocError> {
+    let text = format!(in alloc; "{error}")?;
+    Ok(text.as_str() == words)
+}

@@ -1,0 +1,21 @@
+-- The sizes of cartridges.
+use Rattle.std.proofs.Common.{◌≡◌, ℕ, ◌-◌, ◌%◌, ◌<◌, ◌≤◌, ◌==◌, true, sym, subst, arith, ⊎_elim}
+use Rattle.std.specs.Prelude.{bit_and}
+use Rattle.std.proofs.lemmas.Bool.{or_cases, eqb-true}
+use Rattle.std.proofs.lemmas.Nat.{and_mask}
+use Rattle.vcs_machine.specs.Cart.{is_cart_size}
+
+-- what holds of both sizes
+by_size : (P : ℕ → Type 0) (n : ℕ) → is_cart_size n ≡ true → P 2048 → P 4096 → P n
+by_size P n is small large =
+    ⊎_elim (λ e. subst P (sym (eqb-true n 2048 e)) small) (λ e. subst P (sym (eqb-true n 4096 e)) large) (or_cases (n == 2048) (n == 4096) is)
+
+-- the low lines of an address
+pub low_lines : (n addr : ℕ) → is_cart_size n ≡ true → bit_and addr (n - 1) ≡ addr % n
+low_lines n addr is = by_size (λ m. bit_and addr (m - 1) ≡ addr % m) n is (and_mask addr 11) (and_mask addr 12)
+
+pub some_bytes : (n : ℕ) → is_cart_size n ≡ true → 0 < n
+some_bytes n is = by_size (λ m. 0 < m) n is (omega arith) (omega arith)
+
+pub few_bytes : (n : ℕ) → is_cart_size n ≡ true → n ≤ 4096
+few_bytes n is = by_size (λ m. m ≤ 4096) n is (omega arith) (omega arith)
