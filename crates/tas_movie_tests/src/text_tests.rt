@@ -136,38 +136,43 @@ fn runs_at_fault(rt: HostRuntime) -> Result<(), Fail> {
         let later = told(alloc, &[HEAD2, CART_LINE, right, line, line])?;
         assert_eq!(rt; later, at(4, TextErrorKind::Frame), "line {number}");
     }
-    let cases: [(&[&[u8]], Result<usize, ReadError>); 9] = [
-        (&[NONE, NONE], at(4, TextErrorKind::Run)),
+    let cases: [(&[u8], Result<usize, ReadError>); 9] = [
         (
-            &[NONE, b"..... ..... ..... x2\n"],
+            b"..... ..... .....\n..... ..... .....\n",
             at(4, TextErrorKind::Run),
         ),
         (
-            &[b"..... ..... ..... x2\n", NONE, right],
+            b"..... ..... .....\n..... ..... ..... x2\n",
             at(4, TextErrorKind::Run),
         ),
-        (&[NONE, right, NONE], Ok(3)),
-        (&[b"..... ..... ..... x262144\n"], Ok(262144)),
         (
-            &[b"..... ..... ..... x262144\n", right],
+            b"..... ..... ..... x2\n..... ..... .....\nR.... ..... .....\n",
+            at(4, TextErrorKind::Run),
+        ),
+        (
+            b"..... ..... .....\nR.... ..... .....\n..... ..... .....\n",
+            Ok(3),
+        ),
+        (b"..... ..... ..... x262144\n", Ok(262144)),
+        (
+            b"..... ..... ..... x262144\nR.... ..... .....\n",
             at(4, TextErrorKind::TooMany),
         ),
         (
-            &[NONE, b"R.... ..... ..... x262144\n"],
+            b"..... ..... .....\nR.... ..... ..... x262144\n",
             at(4, TextErrorKind::TooMany),
         ),
         (
-            &[NONE, b"R.... ..... ..... x262143\n", NONE],
+            b"..... ..... .....\nR.... ..... ..... x262143\n..... ..... .....\n",
             at(5, TextErrorKind::TooMany),
         ),
         (
-            &[NONE, right, b"..... ..... ..... x2"],
+            b"..... ..... .....\nR.... ..... .....\n..... ..... ..... x2",
             at(5, TextErrorKind::End),
         ),
     ];
     for (number, (lines, want)) in cases.iter().enumerate() {
-        let body = joined(alloc, lines)?;
-        let answer = told(alloc, &[HEAD2, CART_LINE, body.as_slice()])?;
+        let answer = told(alloc, &[HEAD2, CART_LINE, lines])?;
         assert_eq!(rt; answer, *want, "text {number}");
     }
     Ok(())
