@@ -79,9 +79,9 @@ static SCRIPTS: [(&str, Result<(), ScriptFault>); 16] = [
         "insert 5 1 ..... ..... .....\n",
         Err(ScriptFault::OutOfPlace(1)),
     ),
-    ("insert 4 65532 ..... ..... .....\n", Ok(())),
+    ("insert 4 262140 ..... ..... .....\n", Ok(())),
     (
-        "insert 4 65533 ..... ..... .....\n",
+        "insert 4 262141 ..... ..... .....\n",
         Err(ScriptFault::TooLong(1)),
     ),
     (

@@ -270,49 +270,27 @@ fn texts_go_out_in_small_pieces(rt: HostRuntime) -> Result<(), Fail> {
     Ok(())
 }
 
-/// Runs of equal frames.
-type Runs<'a> = &'a [(usize, &'a str)];
-
 /// The frames of examples/joystick.movie.
-static JOYSTICK: Runs<'static> = &[
-    (5, "..... ..... ....."),
-    (30, "R.... ..... ....."),
-    (20, "R.D.. ..... ....."),
-    (15, "..D.. ..... ....."),
-    (5, "..D.F ..... ....."),
-    (10, "....F ..... ....."),
-    (25, ".L.U. ..... ....."),
-    (10, "...U. ..... ....."),
-];
+static JOYSTICK: &[u8] =
+    b"..... ..... ..... x5\nR.... ..... ..... x30\nR.D.. ..... ..... x20\n..D.. ..... ..... x15\n..D.F ..... ..... x5\n....F ..... ..... x10\n.L.U. ..... ..... x25\n...U. ..... ..... x10\n";
 
 /// The frames of examples/motion.movie.
-static MOTION: Runs<'static> = &[(180, "..... ..... .....")];
-
-/// The text of a movie of the blank cartridge with these frames.
-fn text_of_runs(alloc: Global, runs: Runs<'_>) -> Result<Vec<u8>, Fail> {
-    let mut text = blank_text(alloc, b"")?;
-    for (count, frame) in runs {
-        for _ in 0..*count {
-            text.extend_from_slice(frame.as_bytes())?;
-            text.push(b'\n')?;
-        }
-    }
-    Ok(text)
-}
+static MOTION: &[u8] = b"..... ..... ..... x180\n";
 
 #[test]
 fn the_movies_of_the_examples_go_round(rt: HostRuntime) -> Result<(), Fail> {
     let alloc = rt.alloc();
-    let rows: [(Runs<'_>, usize, &[u8]); 2] = [
+    let rows: [(&[u8], usize, &[u8]); 2] = [
         (
             JOYSTICK,
-            2241,
+            255,
             b"delete 0 10\nreplace 0 5 R.... ..... .....\ninsert 5 3 ....F ..... .....\n",
         ),
-        (MOTION, 3321, b"delete 40 9\n"),
+        (MOTION, 104, b"delete 40 9\n"),
     ];
     for (number, (runs, size, changes)) in rows.iter().enumerate() {
-        let old = text_of_runs(alloc, *runs)?;
+        let mut old = blank_text(alloc, b"")?;
+        old.extend_from_slice(*runs)?;
         assert_eq!(rt; old.len(), *size, "movie {number}");
         let (new, end) = edited(alloc, &BLANK, *changes, old.as_slice());
         assert_eq!(rt; end, Ok(()), "movie {number}");

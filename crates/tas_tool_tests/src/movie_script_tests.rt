@@ -27,7 +27,7 @@ fn written<R: Wait>(
 }
 
 static LINES: &[u8] =
-    b"len\ninput 1\nshot 2\nreplace 1 1 R.... ..... .....\ninput 1\nshot 1\ninsert 3 65534 ..... ..... .....\ndelete 0 3\nlen\n";
+    b"len\ninput 1\nshot 2\nreplace 1 1 R.... ..... .....\ninput 1\nshot 1\ninsert 3 262142 ..... ..... .....\ndelete 0 3\nlen\n";
 
 static REPLIES: &[u8] =
     b"len 2 3\ninput 2 ..... ..... .....\nshot 2 2 ran 3 lit 1680\nedit 3 len 3\ninput 3 R.... ..... .....\nshot 3 1 ran 2 lit 1680\nlong 3 len 3\nedit 4 len 0\nlen 4 0\n";
