@@ -93,6 +93,7 @@ one_answered {A} before now x told next old new is same out count made own =
 -- a line that isn't understood
 pub unknown_line : {A : Type 0} (seat : SeatContent A) (said answer : List ℕ) (told : ℕ) (next : Progress) (old new : Option (List ℕ)) → BeginsWithOwn seat → next.made ≡ seat.made → NoByte 10 said → IsHeard said None
     → answer ≡ unknown_text → Appends old new answer → next.written ≡ min (told + length answer) most_counted → IsLineTurn seat seat said told old new (Ok (Some next))
+unfolding exchange_of
 unknown_line seat said answer told next old new own made none heard is out count =
     let x : Exchange = exchange_of said None answer (stand_of seat) in
     (x, refl, one_answered seat seat x told next old new (record { whole = none; heard = heard; answered = (is, refl) }) refl out count made own)
@@ -100,6 +101,7 @@ unknown_line seat said answer told next old new own made none heard is out count
 -- a line that was answered
 pub known_line : {A : Type 0} (before now : SeatContent A) (said answer sent : List ℕ) (request : Request) (made told : ℕ) (next : Progress) (old new : Option (List ℕ)) → NoByte 10 said → IsHeard said (Some request)
     → IsToldTo before now request answer made → next.made ≡ made → sent ≡ answer → Appends old new sent → next.written ≡ min (told + length sent) most_counted → IsLineTurn before now said told old new (Ok (Some next))
+unfolding exchange_of
 known_line before now said answer sent request made told next old new none heard is same whole out count =
     let x : Exchange = exchange_of said (Some request) answer (stand_of now) in (
       x,
@@ -118,11 +120,13 @@ cut_line {A} stand now x told old new fault is cut more =
 
 pub unknown_cut : {A : Type 0} (seat : SeatContent A) (said answer : List ℕ) (told : ℕ) (old new : Option (List ℕ)) (fault : RunFault) → NoByte 10 said → IsHeard said None → answer ≡ unknown_text → CutsOff told answer old new fault
     → IsLineTurn seat seat said told old new (Err fault)
+unfolding exchange_of
 unknown_cut seat said answer told old new fault none heard is cut =
     cut_line (stand_of seat) seat (exchange_of said None answer (stand_of seat)) told old new fault (record { whole = none; heard = heard; answered = (is, refl) }) cut
 
 pub known_cut : {A : Type 0} (before now : SeatContent A) (said answer sent : List ℕ) (request : Request) (made told : ℕ) (old new : Option (List ℕ)) (fault : RunFault) → NoByte 10 said → IsHeard said (Some request)
     → IsToldTo before now request answer made → sent ≡ answer → CutsOff told sent old new fault → IsLineTurn before now said told old new (Err fault)
+unfolding exchange_of
 known_cut before now said answer sent request made told old new fault none heard is whole cut =
     cut_line (stand_of before) now (exchange_of said (Some request) answer (stand_of now)) told old new fault (record { whole = none; heard = heard; answered = is.answer })
     (subst (λ (l : List ℕ). CutsOff told l old new fault) whole cut)
@@ -458,3 +462,8 @@ first_stand seat made front movie none = fresh_at seat start_front (first_front 
 pub made_stand : {A : Type 0} (before now : SeatContent A) (movie : MovieContent) → HoldsMovie now movie → now.zone ≡ before.zone → before.zone.movie ≡ blank_movie → before.zone.states ≡ [] → stand_of now ≡ fresh_stand (movie_front movie)
 made_stand {A} before now movie holds zone blank none =
     fresh_at now (movie_front movie) (holds_front now movie holds) (ap (λ (z : ZoneContent A). z.movie) zone ∙ blank) (ap (λ (z : ZoneContent A). z.states) zone ∙ none)
+
+-- the same conversation, its start named otherwise
+pub talk_as : (A : Type 0) (start other : Stand) (input input' output output' : Option (List ℕ)) (result : Result (Unit {0}) ToolFault) → start ≡ other → IsTalk A start input input' output output' result
+    → IsTalk A other input input' output output' result
+talk_as A start other input input' output output' result same talk = subst (λ (f : Stand). IsTalk A f input input' output output' result) same talk

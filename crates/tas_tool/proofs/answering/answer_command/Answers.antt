@@ -49,4 +49,4 @@ returns-in-Shot-clause-zone g c =
     zone_looked c.args.seat.now c.draw.new.seat c.args.command (Shot c.in-Shot.frame) c.args.made _ _ c.in-Shot.is c.looked-in-Shot.ensures c.draw.ensures.zone
 
 pub returns-in-Work-clause-zone : goal.returns-in-Work-clause-zone
-returns-in-Work-clause-zone g c = zone_worked c.args.seat.now c.work.new.seat c.args.command c.in-Work.frame c.args.made c.work-reply.result c.in-Work.is c.work-reply.ensures.zone
+returns-in-Work-clause-zone g c = zone_worked c.args.seat.now c.work-reply.new.seat c.args.command c.in-Work.frame c.args.made c.work-reply.result c.in-Work.is c.work-reply.ensures.zone

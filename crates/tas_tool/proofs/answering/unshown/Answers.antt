@@ -1,5 +1,5 @@
 use Rattle.std.proofs.Common.{◌∙◌, refl}
-use Rattle.tas_desk.specs.declared.replies.ShotError.TheVariants.{NoFrame as NoShotFrame}
+use Rattle.tas_desk.specs.declared.replies.ShotError.TheVariants.{NoFrame as NoShotFrame, Halted as ShotHalted}
 use Rattle.tas_script.specs.declared.reply.Reply.TheVariants.{NoFrame}
 use Rattle.tas_tool.specs.Talking.{TellsError}
 use Rattle.tas_tool.proofs.TurnLemmas.{shot_error_is, no_frame_turn, halted_turn, shot_without_memory}
@@ -28,4 +28,5 @@ returns-in-NoFrame-clause-tells g c =
 
 pub returns-in-Halted-clause-tells : goal.returns-in-Halted-clause-tells
 returns-in-Halted-clause-tells g c =
-    error_as c.args.made c.args.error _ _ c.in-Halted.is (checked_fact c.args.made c.in-Halted.at _ _ (TellsError c.args.made _) c.checked-in-Halted.ensures (λ same. (same, c.halted_reply.ensures)))
+    error_as c.args.made c.args.error (ShotHalted c.in-Halted.at c.in-Halted.halt) _ c.in-Halted.is
+    (checked_fact c.args.made c.in-Halted.at c.halted_reply.result _ (TellsError c.args.made (ShotHalted c.in-Halted.at c.in-Halted.halt)) c.checked-in-Halted.ensures (λ same. (same, c.halted_reply.ensures)))

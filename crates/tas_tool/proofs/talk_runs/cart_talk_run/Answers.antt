@@ -1,5 +1,6 @@
-use Rattle.std.proofs.Common.{refl, sym, ap, ◌∙◌}
+use Rattle.std.proofs.Common.{refl, ap, rules}
 use Rattle.tas_engines.specs.declared.fault.RunFault.TheVariants.{Size, Memory}
+use Rattle.tas_engines.specs.declared.fault.ToolFault.TheVariants.{Size as OffSize, Memory as OutOfRoom}
 use Rattle.tas_tool.specs.MovieScripts.{movie_front}
 use Rattle.tas_tool.specs.Talk.{fresh_stand}
 use Rattle.tas_tool.proofs.TalkRunLemmas.{cart_unread, cart_unmade, cart_talked}
@@ -9,14 +10,14 @@ pub returns-in-Err : goal.returns-in-Err
 returns-in-Err g c = cart_unread g.row.A.Denot _ _ _ _ c.in-Err.fault _ c.in-Err.ensures.fault c.from.ensures
 
 pub returns-in-Err-Size : goal.returns-in-Err-Size
-returns-in-Err-Size g c = cart_unmade g.row.A.Denot _ _ _ _ _ c.as_slice.result.now (Size c.in-Err-Size.n) _ c.in-Ok.ensures.whole c.as_slice.ensures.value (search rules) refl
+returns-in-Err-Size g c = cart_unmade g.row.A.Denot _ _ _ _ _ c.as_slice.result.now (Size c.in-Err-Size.n) (OffSize c.in-Err-Size.n) c.in-Ok.ensures.whole c.as_slice.ensures.value (search rules) refl
 
 pub returns-in-Err-Memory : goal.returns-in-Err-Memory
-returns-in-Err-Memory g c = cart_unmade g.row.A.Denot _ _ _ _ _ c.as_slice.result.now Memory _ c.in-Ok.ensures.whole c.as_slice.ensures.value tt refl
+returns-in-Err-Memory g c = cart_unmade g.row.A.Denot _ _ _ _ _ c.as_slice.result.now Memory OutOfRoom c.in-Ok.ensures.whole c.as_slice.ensures.value tt refl
 
 pub returns-in-Ok-new : goal.returns-in-Ok-new
 returns-in-Ok-new g c =
     cart_talked g.row.A.Denot _ _ _ _ _ _ _ c.as_slice.result.now _ _ c.in-Ok.ensures.whole c.as_slice.ensures.value (search rules) (ap (λ m. fresh_stand (movie_front m)) (search rules)) c.talk_from.ensures
 
-pub returns-in-Err-new : goal.returns-in-Err-new
-returns-in-Err-new g c = cart_unmade g.row.A.Denot _ _ _ _ _ c.as_slice.result.now Memory _ c.in-Ok.ensures.whole c.as_slice.ensures.value tt refl
+pub returns : goal.returns
+returns g c = cart_unmade g.row.A.Denot _ _ _ _ _ c.as_slice.result.now Memory OutOfRoom c.in-Ok.ensures.whole c.as_slice.ensures.value tt refl

@@ -23,7 +23,7 @@ returns-in-Ok-hand_out-clause-turn g c = λ said holds none.
     known_line c.args.seat.now c.answer_request.new.seat said c.in-Ok-answer_request.told.bytes.items c.as_slice.result.now c.in-Some.request c.in-Ok-answer_request.told.made c.args.progress.written _ _ _ none (c.in-Some.ensures said holds)
     c.in-Ok-answer_request.ensures.answer refl c.as_slice.ensures.value c.in-Ok-hand_out.ensures.out c.in-Ok-hand_out.ensures.count
 
-pub returns-in-Err-hand_out-clause-turn : goal.returns-in-Err-hand_out-clause-turn
-returns-in-Err-hand_out-clause-turn g c = λ said holds none.
+pub returns-clause-turn : goal.returns-clause-turn
+returns-clause-turn g c = λ said holds none.
     known_cut c.args.seat.now c.answer_request.new.seat said c.in-Ok-answer_request.told.bytes.items c.as_slice.result.now c.in-Some.request c.in-Ok-answer_request.told.made c.args.progress.written _ _ _ none (c.in-Some.ensures said holds)
     c.in-Ok-answer_request.ensures.answer c.as_slice.ensures.value c.in-Err-hand_out.ensures.fault

@@ -22,24 +22,24 @@ returns-in-Err-clause-talk g c = λ own.
 pub returns-in-Ok-answer_last-clause-talk : goal.returns-in-Ok-answer_last-clause-talk
 returns-in-Ok-answer_last-clause-talk g c = λ own.
     let (xs, part, way) = c.loop.invariant.way in
-    ends_well c.args.seat.now c.loop.seat c.loop.progress c.loop.line.bytes.items c.loop.line.long _ _ _ _ _ _ xs part (take c.in-Ok-read.count c.read.new.buffer) way c.in-Ok-read.ensures.bytes.0
-    (ap (λ (n : ℕ). take n c.read.new.buffer) c.if-count-eq0.true) (c.in-Ok-read.ensures.bytes.1 c.if-count-eq0.true (omega arith)) (c.in-Ok-answer_last.ensures part way.holds)
+    ends_well c.args.seat.now c.loop.seat c.loop.progress c.loop.line.bytes.items c.loop.line.long _ _ _ _ _ _ xs part (take c.in-Ok-read.count c.read.new.buf) way c.in-Ok-read.ensures.bytes.0
+    (ap (λ (n : ℕ). take n c.read.new.buf) c.if-count-eq0.true) (c.in-Ok-read.ensures.bytes.1 c.if-count-eq0.true (omega arith)) (c.in-Ok-answer_last.ensures part way.holds)
 
 pub returns-in-Err-answer_last-clause-talk : goal.returns-in-Err-answer_last-clause-talk
 returns-in-Err-answer_last-clause-talk g c = λ own.
     let (xs, part, way) = c.loop.invariant.way in
     rw c.from.ensures
-    (ends_cut c.args.seat.now c.loop.seat c.loop.progress c.loop.line.bytes.items c.loop.line.long _ _ _ _ _ _ xs part (take c.in-Ok-read.count c.read.new.buffer) c.in-Err-answer_last.fault way c.in-Ok-read.ensures.bytes.0
-    (ap (λ (n : ℕ). take n c.read.new.buffer) c.if-count-eq0.true) (c.in-Ok-read.ensures.bytes.1 c.if-count-eq0.true (omega arith)) (c.in-Err-answer_last.ensures part way.holds))
+    (ends_cut c.args.seat.now c.loop.seat c.loop.progress c.loop.line.bytes.items c.loop.line.long _ _ _ _ _ _ xs part (take c.in-Ok-read.count c.read.new.buf) c.in-Err-answer_last.fault way c.in-Ok-read.ensures.bytes.0
+    (ap (λ (n : ℕ). take n c.read.new.buf) c.if-count-eq0.true) (c.in-Ok-read.ensures.bytes.1 c.if-count-eq0.true (omega arith)) (c.in-Err-answer_last.ensures part way.holds))
 
 pub loop-preserved : goal.loop-preserved
 loop-preserved g c = record {
   number = c.answer_part.ensures.number ∙ c.loop.invariant.number;
-  stands = c.in-Ok-Some.ensures.stands;
+  stands = rw c.in-Ok-Some.field-0-is at c.in-Ok-Some.ensures.stands;
   way =
       let (xs, part, way) = c.loop.invariant.way in
       goes_on c.args.seat.now c.loop.seat c.answer_part.new.seat c.loop.progress c.in-Ok-Some.next c.loop.line.bytes.items c.answer_part.new.line.bytes.items c.loop.line.long c.answer_part.new.line.long _ _ _ _ _ _ xs part
-      (take c.in-Ok-read.count c.read.new.buffer) way c.in-Ok-read.ensures.bytes.0 (c.in-Ok-Some.ensures.turn part way.holds way.none);
+      (take c.in-Ok-read.count c.read.new.buf) way c.in-Ok-read.ensures.bytes.0 ((rw c.in-Ok-Some.field-0-is at c.in-Ok-Some.ensures.turn) part way.holds way.none);
   next = search rules;
 }
 
@@ -47,11 +47,11 @@ pub returns-in-Ok-None-clause-talk : goal.returns-in-Ok-None-clause-talk
 returns-in-Ok-None-clause-talk g c = λ own.
     let (xs, part, way) = c.loop.invariant.way in
     quits c.args.seat.now c.loop.seat c.answer_part.new.seat c.loop.progress c.loop.line.bytes.items c.answer_part.new.line.bytes.items c.loop.line.long c.answer_part.new.line.long _ _ _ _ _ _ xs part
-    (take c.in-Ok-read.count c.read.new.buffer) way c.in-Ok-read.ensures.bytes.0 (c.in-Ok-None.ensures.turn part way.holds way.none)
+    (take c.in-Ok-read.count c.read.new.buf) way c.in-Ok-read.ensures.bytes.0 ((rw c.in-Ok-None.field-0-is at c.in-Ok-None.ensures.turn) part way.holds way.none)
 
 pub returns-in-Err-answer_part-clause-talk : goal.returns-in-Err-answer_part-clause-talk
 returns-in-Err-answer_part-clause-talk g c = λ own.
     let (xs, part, way) = c.loop.invariant.way in
     rw c.from-in-Err-answer_part.ensures
     (breaks_off c.args.seat.now c.loop.seat c.answer_part.new.seat c.loop.progress c.loop.line.bytes.items c.answer_part.new.line.bytes.items c.loop.line.long c.answer_part.new.line.long _ _ _ _ _ _ xs part
-    (take c.in-Ok-read.count c.read.new.buffer) c.in-Err-answer_part.fault way c.in-Ok-read.ensures.bytes.0 (c.in-Err-answer_part.ensures.turn part way.holds way.none) own)
+    (take c.in-Ok-read.count c.read.new.buf) c.in-Err-answer_part.fault way c.in-Ok-read.ensures.bytes.0 (c.in-Err-answer_part.ensures.turn part way.holds way.none) own)

@@ -12,5 +12,5 @@ returns-in-Movie-clause-answer g c = rw c.in-Movie.is c.tell_movie.ensures.answe
 pub returns-in-States-clause-answer : goal.returns-in-States-clause-answer
 returns-in-States-clause-answer g c = rw c.in-States.is c.tell_states.ensures.answer
 
-pub prove-unreachable-requires : goal.prove-unreachable-requires
-prove-unreachable-requires g c = c.requires.stays c.in-Quit.is
+pub unreachable-requires : goal.unreachable-requires
+unreachable-requires g c = c.requires.stays c.in-Quit.is

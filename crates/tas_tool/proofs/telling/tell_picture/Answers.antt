@@ -17,11 +17,11 @@ returns-in-Err-unshown-clause-answer g c = talk_fault c.unshown.new.seat c.in-Er
 pub returns-in-Ok-picture_answer-clause-answer : goal.returns-in-Ok-picture_answer-clause-answer
 returns-in-Ok-picture_answer-clause-answer g c =
     told_picture g.row.A.Denot c.args.seat.now c.shot.new.seat c.args.made c.in-Ok.shot.at c.args.frame c.in-Ok.shot.ran c.in-Ok.shot.picture c.in-Ok-picture_answer.bytes.items c.requires.own c.requires.made c.shot.ensures.seat c.in-Ok.ensures.reply.0
-    c.in-Ok.ensures.reply.1 c.if-at-ne-made.false c.in-Ok.ensures.zone c.in-Ok-picture_answer.ensures
+    c.in-Ok.ensures.reply.1 c.if-shot-made.false c.in-Ok.ensures.zone c.in-Ok-picture_answer.ensures
 
 pub returns-clause-answer : goal.returns-clause-answer
 returns-clause-answer g c =
     MatchResult-weaker c.told_reply-in-Err-picture_answer.result c.told_reply-in-Err-picture_answer.ensures
     (λ told is. told_no_picture g.row.A.Denot c.args.seat.now c.shot.new.seat told.made c.in-Ok.shot.at c.args.frame c.in-Ok.shot.ran c.in-Ok.shot.picture told.bytes.items c.requires.own (is.1 ∙ c.requires.made) c.shot.ensures.seat c.in-Ok.ensures.reply.0
-    c.in-Ok.ensures.reply.1 (c.if-at-ne-made.false ∙ sym is.1) c.in-Ok.ensures.zone is.0)
+    c.in-Ok.ensures.reply.1 (c.if-shot-made.false ∙ sym is.1) c.in-Ok.ensures.zone is.0)
     (λ fault is. memory_fault c.shot.new.seat fault is)
