@@ -12,6 +12,12 @@ mod movies;
 #[cfg(test)]
 mod program_tests;
 #[cfg(test)]
+mod programs;
+#[cfg(test)]
 mod script_tests;
 #[cfg(test)]
+mod talk_file_tests;
+#[cfg(test)]
 mod talk_tests;
+#[cfg(test)]
+mod word_tests;

@@ -18,7 +18,7 @@ pub const PLAYFIELD: Program = Program {
 
 /// The same program in a small cartridge: `000=A910850DA91E85084C08F0 7FC=00F0`.
 pub const SMALL_PLAYFIELD: Program = Program {
-    bytes: PLAYFIELD.bytes,
+    bytes: b"\xA9\x10\x85\x0D\xA9\x1E\x85\x08\x4C\x08\xF0",
     digest: "b5fe266be72b749b56221450f897d39d577232bbd24bd6ff58aa186cb39c84d7",
 };
 
@@ -102,6 +102,15 @@ pub fn playfield_picture(alloc: Global) -> Result<Vec<u8>, Fail> {
             b"\0\0\0"
         };
         bytes.extend_from_slice(colour)?;
+    }
+    Ok(bytes)
+}
+
+/// Bytes one after the other.
+pub fn joined(alloc: Global, parts: &[&[u8]]) -> Result<Vec<u8>, Fail> {
+    let mut bytes = Vec::new(alloc);
+    for part in parts {
+        bytes.extend_from_slice(part)?;
     }
     Ok(bytes)
 }
