@@ -1,4 +1,5 @@
 pub mod TurnLemmas
+pub mod LookLemmas
 pub mod ScriptLemmas
 pub mod OneSeatLemmas
 pub mod MakingLemmas

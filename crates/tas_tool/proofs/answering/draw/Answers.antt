@@ -1,4 +1,4 @@
-use Rattle.tas_tool.proofs.TurnLemmas.{shot_turn}
+use Rattle.tas_tool.proofs.LookLemmas.{shot_turn}
 use Rattle.tas_tool.proofs.GreenLemmas.{unshown_leaves, drawn_leaves}
 use Rattle.tas_tool.proofs.answering.draw.Goals as goal
 

@@ -1,5 +1,6 @@
 use Rattle.std.proofs.Common.{◌∙◌}
-use Rattle.tas_tool.proofs.TurnLemmas.{seen_more, work_refused, worked_turn}
+use Rattle.tas_tool.proofs.TurnLemmas.{seen_more}
+use Rattle.tas_tool.proofs.LookLemmas.{work_refused, worked_turn}
 use Rattle.tas_tool.proofs.GreenLemmas.{worked_zone}
 use Rattle.tas_tool.proofs.answering.work.Goals as goal
 
