@@ -22,7 +22,7 @@ use Rattle.tas_script.specs.declared.reply.Reply.TheVariants.{Measured, Pressed,
 use Rattle.tas_tool.specs.declared.answering.Answered.{Answered}
 use Rattle.tas_tool.specs.Turns.{Unforeseen, front_of, BeginsWithOwn, IsDeskFault, input_reply, halted_reply, shot_reply, reply_to, front_after, IsTurn}
 use Rattle.tas_tool.specs.Checking.{checked_reply, looked, IsAnswer}
-use Rattle.tas_tool.proofs.TurnLemmas.{front_stays, own_stays, own_movie, seen_self, first_front, foreign, checked_ends}
+use Rattle.tas_tool.proofs.TurnLemmas.{unforeseen, front_stays, own_stays, own_movie, seen_self, first_front, foreign, checked_ends}
 
 -- ---- looks
 

@@ -315,7 +315,7 @@ inserted A at inputs = InsertEdit at inputs
 abbrev pub replaced : (A : Type 0) → ℕ → List Input → Edit A
 replaced A at inputs = ReplaceEdit at inputs
 
-abbrev unforeseen : Bool → Unforeseen
+abbrev pub unforeseen : Bool → Unforeseen
 unforeseen refused = record { refused = refused; ran = 0; kept = 0; stale = 0 }
 
 pub load_answer : (A : Type 0) (before now : SeatContent A) (image : Image) (cart : List ℕ) (r : Result Answered RunFault) → cart ≡ image_bytes image → IsEditAnswer before now (load_edit A cart) r → IsAnswer A before now (Load image) r

@@ -187,10 +187,10 @@ pub fn converse<N: Name, C: CloseOnDrop, A: Allocator + Copy, T: Wait, R: Read, 
             Err(_) => return Err(ToolFault::Read),
         };
         if count == 0 {
-            return match answer_last(&line, progress.written, output) {
-                Ok(()) => Ok(()),
-                Err(fault) => Err(ToolFault::from(fault)),
-            };
+            match answer_last(&line, progress.written, output) {
+                Ok(()) => return Ok(()),
+                Err(fault) => return Err(ToolFault::from(fault)),
+            }
         }
         let part = &buffer[..count];
         match answer_part(rt, alloc, desk, seat, progress, &mut line, part, output) {

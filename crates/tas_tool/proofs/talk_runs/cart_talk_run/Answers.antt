@@ -1,16 +1,16 @@
 use Rattle.std.proofs.Common.{refl, ap, rules}
-use Rattle.tas_engines.specs.declared.fault.RunFault.TheVariants.{Size, Memory}
-use Rattle.tas_engines.specs.declared.fault.ToolFault.TheVariants.{Size as OffSize, Memory as OutOfRoom}
+use Rattle.tas_engines.specs.declared.fault.RunFault.TheVariants.{Memory}
+use Rattle.tas_engines.specs.declared.fault.ToolFault.TheVariants.{Memory as OutOfRoom}
 use Rattle.tas_tool.specs.MovieScripts.{movie_front}
 use Rattle.tas_tool.specs.Talk.{fresh_stand}
-use Rattle.tas_tool.proofs.TalkRunLemmas.{cart_unread, cart_unmade, cart_talked}
+use Rattle.tas_tool.proofs.TalkRunLemmas.{cart_unread, cart_missized, cart_unmade, cart_talked}
 use Rattle.tas_tool.proofs.talk_runs.cart_talk_run.Goals as goal
 
 pub returns-in-Err : goal.returns-in-Err
 returns-in-Err g c = cart_unread g.row.A.Denot _ _ _ _ c.in-Err.fault _ c.in-Err.ensures.fault c.from.ensures
 
 pub returns-in-Err-Size : goal.returns-in-Err-Size
-returns-in-Err-Size g c = cart_unmade g.row.A.Denot _ _ _ _ _ c.as_slice.result.now (Size c.in-Err-Size.n) (OffSize c.in-Err-Size.n) c.in-Ok.ensures.whole c.as_slice.ensures.value (search rules) refl
+returns-in-Err-Size g c = cart_missized g.row.A.Denot _ _ _ _ _ c.as_slice.result.now c.in-Err-Size.field-0 c.in-Err-Size.n _ c.in-Ok.ensures.whole c.as_slice.ensures.value c.in-Err-Size.ensures c.in-Err-Size.field-0-is c.in-Err-Size.n-is
 
 pub returns-in-Err-Memory : goal.returns-in-Err-Memory
 returns-in-Err-Memory g c = cart_unmade g.row.A.Denot _ _ _ _ _ c.as_slice.result.now Memory OutOfRoom c.in-Ok.ensures.whole c.as_slice.ensures.value tt refl
