@@ -71,9 +71,9 @@ DoesTask A files (Export cart from to workers) old new end =
 
 -- the program's end after a task: done where the task is, else a fault
 abbrev pub TaskEnds : Type 0 → (List ℕ → Option (List ℕ)) → Task → Streams → Streams → Status → Type 0
-TaskEnds A files task old new Done = DoesTask A files task old new (Ok tt)
-TaskEnds A files task old new Fault = (fault : ToolFault) × DoesTask A files task old new (Err fault)
-TaskEnds A files task old new Misuse = ⊥
+TaskEnds A files chosen old new Done = DoesTask A files chosen old new (Ok tt)
+TaskEnds A files chosen old new Fault = (fault : ToolFault) × DoesTask A files chosen old new (Err fault)
+TaskEnds A files chosen old new Misuse = ⊥
 
 -- the program's end after a text that was asked for: done where it was written whole, else a fault
 abbrev pub TextEnds : List ℕ → Option (List ℕ) → Option (List ℕ) → Status → Type 0
@@ -83,14 +83,14 @@ TextEnds text old new Misuse = ⊥
 
 -- the program's end after a request: where there is no task, nothing is read, and where there is nothing to show, nothing is written
 abbrev pub CarriesOut : Type 0 → (List ℕ → Option (List ℕ)) → Request → Streams → Streams → Status → Type 0
-CarriesOut A files (Do task) old new status = TaskEnds A files task old new status
+CarriesOut A files (Do chosen) old new status = TaskEnds A files chosen old new status
 CarriesOut A files (Show text) old new status = (new.input ≡ old.input) × TextEnds (string_bytes text) old.output new.output status
 CarriesOut A files (Refuse text) old new status = (status ≡ Misuse) × (new ≡ old)
 CarriesOut A files NoMemory old new status = (status ≡ Fault) × (new ≡ old)
 
 -- a task's numbers are in their ranges
 abbrev pub IsRequest : Request → Type 0
-IsRequest (Do task) = IsInRange task
+IsRequest (Do chosen) = IsInRange chosen
 IsRequest _ = Unit {0}
 
 -- the program carries some request out
