@@ -1,7 +1,6 @@
 -- Conversations, line by line.
-use Rattle.std.proofs.Common.{◌≡◌, ℕ, ◌+◌, ◌-◌, ◌<◌, ◌≤◌, List, [], ◌∷◌, ◌++◌, length, take, Bool, true, false, Option, Some, None, Result, Ok, Err, inl, inr, refl, sym, ap, subst, ◌∙◌, arith, append_assoc, length-append, append-nil}
+use Rattle.std.proofs.Common.{◌≡◌, ℕ, ◌+◌, ◌-◌, ◌<◌, ◌≤◌, List, [], ◌∷◌, ◌++◌, length, take, Bool, Option, Some, None, Result, Ok, Err, inl, inr, refl, sym, ap, subst, ◌∙◌, arith, append_assoc, length-append, append-nil}
 use Rattle.std.specs.Prelude.{min}
-use Rattle.std.specs.List.{flat_map}
 use Rattle.std.specs.Io.KnownBytes.{Appends, Consumes, Keeps, IsAtEnd}
 use Rattle.std.proofs.KnownBytes.{Appends-nil, Appends-trans, Consumes-nil, Consumes-trans, Consumes-kept}
 use Rattle.std.proofs.lemmas.Grind.{flat_map-append}
@@ -20,7 +19,6 @@ use Rattle.tas_engines.specs.declared.fault.ToolFault.TheVariants.{Read as ReadF
 use Rattle.tas_engines.specs.Faults.{run_fault}
 use Rattle.tas_script.specs.Commands.{NoByte}
 use Rattle.tas_talk.specs.declared.request.Request.{Request}
-use Rattle.tas_talk.specs.declared.request.Request.TheVariants.{Quit}
 use Rattle.tas_talk.specs.Requests.{IsHeard}
 use Rattle.tas_talk.specs.Held.{HoldsLine}
 use Rattle.tas_talk.specs.Answers.{unknown_text}
@@ -29,8 +27,8 @@ use Rattle.tas_tool.specs.Turns.{Front, front_of, BeginsWithOwn}
 use Rattle.tas_tool.specs.Scripts.{start_front}
 use Rattle.tas_tool.specs.MovieScripts.{movie_front}
 use Rattle.tas_tool.specs.TwoEdits.{HoldsMovie, IsMakingFault}
-use Rattle.tas_tool.specs.Talk.{Stand, fresh_stand, stand_from, Exchange, IsExchange, IsAnswerTo, AreExchanges, IsQuit, IsFirstAnswer, IsNextAnswer, IsCutOff, IsTalk, lines_of, answers_of, last_answer, most_counted}
-use Rattle.tas_tool.specs.Talking.{stand_of, CutsOff, HasAnswered, StandsAt, Breaks, StopsAfter, IsToldTo, IsTalkFault, IsLineTurn, IsPartTurn}
+use Rattle.tas_tool.specs.Talk.{Stand, fresh_stand, Exchange, IsExchange, AreExchanges, IsCutOff, IsTalk, lines_of, answers_of, last_answer, most_counted}
+use Rattle.tas_tool.specs.Talking.{stand_of, CutsOff, HasAnswered, Breaks, StopsAfter, IsToldTo, IsTalkFault, IsLineTurn, IsPartTurn}
 use Rattle.tas_tool.proofs.MovieScriptLemmas.{holds_front}
 
 -- ---- lists of exchanges

@@ -1,5 +1,5 @@
 -- Conversations over a cartridge or a movie.
-use Rattle.std.proofs.Common.{◌≡◌, ℕ, List, [], length, true, Option, Result, Ok, Err, inl, inr, refl, sym, ap, subst, ◌∙◌}
+use Rattle.std.proofs.Common.{◌≡◌, ℕ, List, length, true, Option, Result, Err, inl, inr, refl, sym, ap, subst, ◌∙◌}
 use Rattle.std.proofs.KnownBytes.{Keeps-refl}
 use Rattle.vcs_machine.specs.declared.cart.CartError.{CartError}
 use Rattle.vcs_machine.specs.declared.cart.CartError.TheVariants.{Size as CartSize}

@@ -1,7 +1,6 @@
-use Rattle.std.proofs.Common.{[], ◌∷◌, ◌++◌, false, refl, sym, ap, ◌∙◌}
-use Rattle.std.proofs.KnownBytes.{Appends-nil}
+use Rattle.std.proofs.Common.{[], ◌∷◌, ◌++◌, false, refl, ap, ◌∙◌}
 use Rattle.tas_tool.specs.Talk.{lines_of}
-use Rattle.tas_tool.proofs.TalkLemmas.{nothing_answered, no_newline, text_more, text_here, answered_more, stops_here, line_breaks, line_quits, part_memory}
+use Rattle.tas_tool.proofs.TalkLemmas.{nothing_answered, no_newline, text_more, answered_more, line_breaks, line_quits, part_memory}
 use Rattle.tas_tool.proofs.talking.answer_part.Goals as goal
 
 pub loop-front-init : goal.loop-front-init

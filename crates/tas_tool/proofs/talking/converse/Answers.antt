@@ -1,4 +1,4 @@
-use Rattle.std.proofs.Common.{◌≡◌, ℕ, List, [], ◌<◌, take, length, refl, ap, arith, rules, ◌∙◌}
+use Rattle.std.proofs.Common.{ℕ, [], take, refl, ap, arith, rules, ◌∙◌}
 use Rattle.tas_tool.specs.Talking.{stand_of}
 use Rattle.tas_tool.proofs.TalkLemmas.{no_memory_yet, begins, goes_on, quits, unread, ends_well, ends_cut, breaks_off}
 use Rattle.tas_tool.proofs.talking.converse.Goals as goal
