@@ -7,7 +7,7 @@ use std::sync::Wait;
 use std::thread::Threads;
 use tas_tool::{
     ToolFault, check_run, diff_run, edit_run, export_run, migrate_run, movie_script_run,
-    script_run, shot_run, trace_run,
+    movie_talk_run, script_run, shot_run, talk_run, trace_run,
 };
 
 /// An engine of the program.
@@ -25,9 +25,11 @@ pub enum Engine {
     MovieScript,
     /// By so many workers.
     Export(usize),
+    Talk,
+    MovieTalk,
 }
 
-/// All of them.
+/// Those that read their inputs whole before they write anything.
 pub const ENGINES: [Engine; 10] = [
     Engine::Trace,
     Engine::Check,
@@ -46,8 +48,9 @@ impl Engine {
     pub fn input<'a>(self, bytes: &'a Bytes, place: usize) -> &'a [u8] {
         match (self, place) {
             (Engine::Script, 0) | (Engine::MovieScript, 2) => bytes.script.as_slice(),
+            (Engine::Talk, 0) | (Engine::MovieTalk, 2) => bytes.talk.as_slice(),
             (_, 0) => bytes.cart.as_slice(),
-            (Engine::Trace | Engine::Script, _) => bytes.none.as_slice(),
+            (Engine::Trace | Engine::Script | Engine::Talk, _) => bytes.none.as_slice(),
             (Engine::Edit, 1) => bytes.changes.as_slice(),
             (Engine::Edit, 2) | (_, 1) => bytes.old.as_slice(),
             (Engine::Diff, 2) => bytes.new.as_slice(),
@@ -59,9 +62,13 @@ impl Engine {
     /// How many inputs it reads.
     pub fn count(self) -> usize {
         match self {
-            Engine::Trace | Engine::Script => 1,
+            Engine::Trace | Engine::Script | Engine::Talk => 1,
             Engine::Check | Engine::Migrate | Engine::Shot | Engine::Export(_) => 2,
-            Engine::Edit | Engine::Diff | Engine::DiffReplaced | Engine::MovieScript => 3,
+            Engine::Edit
+            | Engine::Diff
+            | Engine::DiffReplaced
+            | Engine::MovieScript
+            | Engine::MovieTalk => 3,
         }
     }
 }
@@ -108,5 +115,7 @@ pub fn run<T: Wait + Threads + Sync, A: Allocator + Copy + Send + Sync, R: Read,
         Engine::Script => script_run(rt, alloc, first, output),
         Engine::MovieScript => movie_script_run(rt, alloc, first, second, third, output),
         Engine::Export(workers) => export_run(rt, alloc, 1, 3, workers, first, second, output),
+        Engine::Talk => talk_run(rt, alloc, first, output),
+        Engine::MovieTalk => movie_talk_run(rt, alloc, first, second, third, output),
     }
 }

@@ -17,9 +17,9 @@ const MOST: u64 = 1000;
 /// How a run with one growth refused ended.
 #[derive(Clone, Copy, Debug, PartialEq, Eq)]
 enum Run {
-    /// The growth was refused, and the engine ended so, with nothing written but a script's replies to its first lines.
+    /// The growth was refused, and the engine ended so, with nothing written but the answers to its first lines.
     Refused,
-    /// The growth was refused to a line of the script, and its reply says so.
+    /// The growth was refused to a line, and its answer says so.
     Replied,
     /// The engine grew less often, and wrote its answer.
     Done,
@@ -27,10 +27,13 @@ enum Run {
     Wrong,
 }
 
-/// Whether nothing was written, or, by a script, what it replied to its first lines.
+/// Whether nothing was written, or, by an engine that answers lines, its answers to the first of them.
 fn is_start(engine: Engine, output: &[u8], whole: &[u8]) -> bool {
-    let is_script = engine == Engine::Script || engine == Engine::MovieScript;
-    output.is_empty() || is_script && whole.starts_with(output)
+    let answers_lines = match engine {
+        Engine::Script | Engine::MovieScript | Engine::Talk | Engine::MovieTalk => true,
+        _ => false,
+    };
+    output.is_empty() || answers_lines && whole.starts_with(output)
 }
 
 /// Whether a reply among these says that memory was refused.
@@ -73,6 +76,28 @@ fn run_refused<T: Wait + Threads + Sync>(
     }
 }
 
+/// Refuses an engine its growths in turn, until it grows no more: how many of them ended it, and how many an answer told. Nothing
+/// where a refusal was told otherwise.
+fn count_refused<T: Wait + Threads + Sync>(
+    rt: &T,
+    alloc: Global,
+    engine: Engine,
+    bytes: &Bytes,
+) -> Result<Option<(u64, u64)>, Fail> {
+    let mut whole = Vec::new(alloc);
+    run_whole(rt, alloc, engine, bytes, &mut whole)?;
+    let (mut refused, mut replied) = (0u64, 0u64);
+    for number in 1..MOST {
+        match run_refused(rt, alloc, engine, bytes, whole.as_slice(), number) {
+            Run::Done => break,
+            Run::Replied => replied = replied.saturating_add(1),
+            Run::Refused => refused = refused.saturating_add(1),
+            Run::Wrong => return Ok(None),
+        }
+    }
+    Ok(Some((refused, replied)))
+}
+
 #[test]
 fn each_growth_refused(rt: HostRuntime) -> Result<(), Fail> {
     let engines = [
@@ -85,6 +110,8 @@ fn each_growth_refused(rt: HostRuntime) -> Result<(), Fail> {
         (Engine::DiffReplaced, 14, 0),
         (Engine::Script, 40, 16),
         (Engine::MovieScript, 52, 14),
+        (Engine::Talk, 35, 28),
+        (Engine::MovieTalk, 47, 26),
         (Engine::Export(1), 32, 0),
         (Engine::Export(2), 34, 0),
         (Engine::Export(4), 36, 0),
@@ -92,22 +119,8 @@ fn each_growth_refused(rt: HostRuntime) -> Result<(), Fail> {
     let alloc = rt.alloc();
     let bytes = make_inputs(alloc)?;
     for (engine, growths, replies) in engines {
-        let mut whole = Vec::new(alloc);
-        assert_eq!(rt; run_whole(&rt, alloc, engine, &bytes, &mut whole), Ok(()));
-        let (mut refused, mut replied) = (0u64, 0u64);
-        for number in 1..MOST {
-            let run = run_refused(&rt, alloc, engine, &bytes, whole.as_slice(), number);
-            if run == Run::Done {
-                break;
-            }
-            if run == Run::Replied {
-                replied = replied.saturating_add(1);
-            } else {
-                assert_eq!(rt; run, Run::Refused, "{engine:?}, growth {number}");
-                refused = refused.saturating_add(1);
-            }
-        }
-        assert_eq!(rt; (refused, replied), (growths, replies), "{engine:?}");
+        let counts = count_refused(&rt, alloc, engine, &bytes)?;
+        assert_eq!(rt; counts, Some((growths, replies)), "{engine:?}");
     }
     Ok(())
 }

@@ -9,8 +9,8 @@ use vcs_machine::{Cart, Input};
 /// are black.
 const BRIEF: &[u8] = b"\xA9\x02\x85\x00\xA9\x00\x85\x00\x4C\x00\xF0";
 
-/// The bytes of a cartridge, of the texts of three movies of it, of changes of the first, and of a script of edits and looks;
-/// and none.
+/// The bytes of a cartridge, of the texts of three movies of it, of changes of the first, of a script of edits and looks, and
+/// of a conversation that has these lines and others; and none.
 #[derive(Drop)]
 pub struct Bytes {
     pub cart: Vec<u8>,
@@ -21,6 +21,7 @@ pub struct Bytes {
     pub replaced: Vec<u8>,
     pub changes: Vec<u8>,
     pub script: Vec<u8>,
+    pub talk: Vec<u8>,
     pub none: Vec<u8>,
 }
 
@@ -30,6 +31,10 @@ const CHANGES: &[u8] = b"delete 0 1\ninsert 0 3 R.... ..... .....\nreplace 1 2 .
 /// Nine lines on a movie, each kind of edit among them.
 const SCRIPT: &[u8] =
     b"load 000=A9028500A90085004C00F0 FFC=00F0\ninsert 0 3 R.... ..... .....\nreplace 1 1 .L... ..... .....\nlen\ninput 1\nshot 2\ndelete 0 1\nwork 1\nlen\n";
+
+/// The same lines, and those that a script doesn't have.
+const TALK: &[u8] =
+    b"load 000=A9028500A90085004C00F0 FFC=00F0\ninsert 0 3 R.... ..... .....\nreplace 1 1 .L... ..... .....\nlen\ninput 1\nshot 2\ndelete 0 1\nwork 1\nlen\npicture 1\nmovie\nstates\nwhat\n";
 
 fn cart(alloc: Global) -> Result<Cart, AllocError> {
     let mut image = [0u8; 4096];
@@ -66,6 +71,7 @@ pub fn make_inputs(alloc: Global) -> Result<Bytes, Fail> {
         cart: Vec::from_slice(alloc, cart.bytes())?,
         changes: Vec::from_slice(alloc, CHANGES)?,
         script: Vec::from_slice(alloc, SCRIPT)?,
+        talk: Vec::from_slice(alloc, TALK)?,
         none: Vec::new(alloc),
     })
 }

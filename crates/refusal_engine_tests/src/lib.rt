@@ -10,4 +10,6 @@ mod inputs;
 #[cfg(test)]
 mod read_tests;
 #[cfg(test)]
+mod talk_tests;
+#[cfg(test)]
 mod write_tests;

@@ -1,7 +1,8 @@
 //! Seats.
 
-ghost use Rattle.std.specs.Prelude.{◌≡◌, ◌≤◌, length, MatchResult, IfOk};
+ghost use Rattle.std.specs.Prelude.{◌≡◌, ◌≤◌, length, is_some, MatchResult, IfOk};
 ghost use Rattle.tas_green.specs.Grid.{most_states};
+ghost use Rattle.tas_green.specs.Zone.{state_at};
 ghost use Rattle.tas_desk.specs.Shots.{IsShotAt};
 ghost use Rattle.tas_desk.specs.History.{movie_of};
 ghost use Rattle.tas_desk.specs.Published.{KnowsRegistry};
@@ -14,6 +15,7 @@ use crate::{InputError, Name, NoEntry, Shot, ShotError};
 use std::alloc::{Allocator, Global};
 use std::marker::Model;
 use std::sync::ledger::Share;
+use tas_movie::Movie;
 use vcs_machine::Input;
 
 /// A seat of a desk (own). Contracts see its number, how many edits it made, what it has seen of the history, and its greenzone.
@@ -70,6 +72,21 @@ impl<N: Name, A: Allocator> Seat<N, A> {
         ensures bounded { result ≤ most_states }
     {
         self.zone.count()
+    }
+
+    /// Whether its greenzone has a state after `frame` frames of the movie that it was made for.
+    pub fn holds(&self, frame: usize) -> bool
+        ensures { result ≡ is_some (state_at frame self.now.zone.states) }
+    {
+        self.zone.holds(frame)
+    }
+
+    /// The movie that its greenzone was made for: the one that a shot or [`Desk::share`](crate::Desk::share) brought last, and
+    /// before the first the blank cartridge with no inputs.
+    pub fn zone_movie(&self) -> &Movie<A>
+        ensures { result.now ≡ self.now.zone.movie }
+    {
+        self.zone.movie()
     }
 
     /// How many edits there are, and how many inputs.

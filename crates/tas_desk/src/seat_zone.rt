@@ -1,10 +1,11 @@
 //! The greenzone of a seat, with the movie that it was made for.
 
-ghost use Rattle.std.specs.Prelude.{◌≡◌, ◌+◌, ◌<◌, ◌≤◌, ◌^◌, [], length, Some, IfOk, OnOk, OnErr};
+ghost use Rattle.std.specs.Prelude.{◌≡◌, ◌+◌, ◌<◌, ◌≤◌, ◌^◌, [], length, is_some, Some, IfOk, OnOk, OnErr};
 ghost use Rattle.tas_movie.specs.Content.{most_inputs};
 ghost use Rattle.tas_green.specs.Grid.{most_states};
 ghost use Rattle.tas_green.specs.Run.{state_after, picture_of, answer_of};
 ghost use Rattle.tas_green.specs.Green.{IsLawful, IsMoved, IsShotFrom};
+ghost use Rattle.tas_green.specs.Zone.{state_at};
 ghost use Rattle.tas_desk.specs.Answers.{answer_shot};
 ghost use Rattle.tas_desk.specs.History.{movie_of};
 ghost use Rattle.tas_desk.specs.Zones.{Shares, version_after, blank_zone};
@@ -55,6 +56,20 @@ impl<A: Allocator> SeatZone<A> {
         ensures bounded { result ≤ most_states }
     {
         self.green.count()
+    }
+
+    /// Whether a state is kept after `frame` frames.
+    pub fn holds(&self, frame: usize) -> bool
+        ensures { result ≡ is_some (state_at frame self.now.states) }
+    {
+        self.green.holds(frame)
+    }
+
+    /// The movie that the zone was made for.
+    pub fn movie(&self) -> &Movie<A>
+        ensures { result.now ≡ self.now.movie }
+    {
+        &self.made_for.movie
     }
 }
 

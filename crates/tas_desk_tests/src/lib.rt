@@ -16,6 +16,8 @@ mod export_tests;
 #[cfg(test)]
 mod gates;
 #[cfg(test)]
+mod job_tests;
+#[cfg(test)]
 mod players;
 #[cfg(test)]
 mod replays;

@@ -186,3 +186,18 @@ pub fn lend<L: Lent, R: Wait + Abort>(rt: &R, alloc: Global, lent: &L) -> Result
     answer?;
     Ok(closed)
 }
+
+/// Gives a new session a movie: so many frames of a program.
+pub fn open_movie<R: Wait + Abort>(
+    rt: &R,
+    alloc: Global,
+    session: &mut Session,
+    program: &'static [u8],
+    count: usize,
+) -> Result<(), Fail> {
+    let turns = [
+        Turn::Made(Change::Load(program), 1, 0),
+        Turn::Made(Change::Insert(0, count), 2, count),
+    ];
+    take_turns(rt, alloc, session, &turns)
+}

@@ -10,7 +10,7 @@ use Rattle.clap.specs.declared.builder.value_parser.ValueParser.{ValueParser}
 -- ---- which command some words name
 
 abbrev pub command_names : List Text
-command_names = codes "trace" ∷ codes "check" ∷ codes "migrate" ∷ codes "shot" ∷ codes "edit" ∷ codes "diff" ∷ codes "script" ∷ codes "export" ∷ []
+command_names = codes "trace" ∷ codes "check" ∷ codes "migrate" ∷ codes "shot" ∷ codes "edit" ∷ codes "diff" ∷ codes "script" ∷ codes "talk" ∷ codes "export" ∷ []
 
 -- names that no other names stand beside
 abbrev pub labels : List Text → Names
@@ -33,6 +33,10 @@ word_rule name parser = record (new_rule name) {
   parser = parser;
   required = true;
 }
+
+-- a word that may stand there
+abbrev pub may_word_rule : Text → Rule
+may_word_rule name = record (new_rule name) { action = Some Set }
 
 -- a word behind a flag, which goes with another one
 abbrev pub flag_rule : Text → Text → Rule
@@ -68,6 +72,7 @@ command_line instructions frame from to workers = record {
       ∷ shape_with (codes "edit") (word_rule (codes "CART") None ∷ word_rule (codes "SCRIPT") None ∷ [])
       ∷ shape_with (codes "diff") (word_rule (codes "CART") None ∷ word_rule (codes "OLD") None ∷ [])
       ∷ shape_with (codes "script") (flag_rule (codes "CART") (codes "cart") ∷ flag_rule (codes "MOVIE") (codes "movie") ∷ [])
+      ∷ shape_with (codes "talk") (may_word_rule (codes "CART") ∷ may_word_rule (codes "MOVIE") ∷ [])
       ∷ shape_with (codes "export") (word_rule (codes "CART") None ∷ word_rule (codes "FROM") from ∷ word_rule (codes "TO") to ∷ word_rule (codes "WORKERS") workers ∷ [])
       ∷ [];
 }

@@ -1,5 +1,5 @@
 -- How the program ends: what it writes, and its status (own).
-use Rattle.std.specs.Prelude.{◌≡◌, ℕ, List, ◌⊎◌, Option, Result, Ok, Err, string_bytes}
+use Rattle.std.specs.Prelude.{◌≡◌, ℕ, List, ◌⊎◌, Option, None, Result, Ok, Err, string_bytes}
 use Rattle.std.specs.Io.KnownBytes.{Appends}
 use Rattle.tas_engines.specs.declared.fault.RunFault.{RunFault}
 use Rattle.tas_engines.specs.declared.fault.ToolFault.{ToolFault}
@@ -8,6 +8,7 @@ use Rattle.tas_engines.specs.Movies.{IsCheckAnswer, IsMigrateAnswer, IsShotAnswe
 use Rattle.tas_engines.specs.Output.{StopsWriting}
 use Rattle.tas_engines.specs.Tracing.{IsTraceRun}
 use Rattle.tas_tool.specs.Scripts.{IsScriptRun}
+use Rattle.tas_tool.specs.Talk.{stand_from, IsTalk, IsCartTalk, IsMovieTalk}
 use Rattle.tas_tool.specs.Pixmaps.{IsExportAnswer}
 use Rattle.tas_tool.specs.MovieScripts.{IsMovieScriptRun}
 use Rattle.tas_edit.specs.Runs.{IsEditRun, IsDiffRun}
@@ -16,7 +17,7 @@ use Rattle.tas_program.specs.declared.request.Request.TheVariants.{Do, Show, Ref
 use Rattle.tas_program.specs.declared.status.Status.{Status}
 use Rattle.tas_program.specs.declared.status.Status.TheVariants.{Done, Fault, Misuse}
 use Rattle.tas_program.specs.declared.task.Task.{Task}
-use Rattle.tas_program.specs.declared.task.Task.TheVariants.{Trace, Check, Migrate, Shot, Edit, Diff, Script, MovieScript, Export}
+use Rattle.tas_program.specs.declared.task.Task.TheVariants.{Trace, Check, Migrate, Shot, Edit, Diff, Script, MovieScript, Talk, CartTalk, MovieTalk, Export}
 use Rattle.tas_program.specs.Task.{IsInRange}
 
 -- the number that the system is told
@@ -61,14 +62,18 @@ DoesTask A files (Diff cart before) old new end =
 DoesTask A files Script old new end = IsScriptRun A old.input new.input old.output new.output end
 DoesTask A files (MovieScript cart movie) old new end =
     EndsOverTwo (files cart.now) (files movie.now) (λ file left file' left'. IsMovieScriptRun A file left file' left' old.input new.input old.output new.output end) old new end
+DoesTask A files Talk old new end = IsTalk A (stand_from None) old.input new.input old.output new.output end
+DoesTask A files (CartTalk cart) old new end = EndsOver (files cart.now) (λ file left. IsCartTalk A file left old.input new.input old.output new.output end) old new end
+DoesTask A files (MovieTalk cart movie) old new end =
+    EndsOverTwo (files cart.now) (files movie.now) (λ file left file' left'. IsMovieTalk A file left file' left' old.input new.input old.output new.output end) old new end
 DoesTask A files (Export cart from to workers) old new end =
     EndsOver (files cart.now) (λ file left. IsMovieRun (IsExportAnswer from to) file left old.input new.input old.output new.output end) old new end
 
 -- the program's end after a task: done where the task is, else a fault
 abbrev pub TaskEnds : Type 0 → (List ℕ → Option (List ℕ)) → Task → Streams → Streams → Status → Type 0
-TaskEnds A files task old new Done = DoesTask A files task old new (Ok tt)
-TaskEnds A files task old new Fault = (fault : ToolFault) × DoesTask A files task old new (Err fault)
-TaskEnds A files task old new Misuse = ⊥
+TaskEnds A files chosen old new Done = DoesTask A files chosen old new (Ok tt)
+TaskEnds A files chosen old new Fault = (fault : ToolFault) × DoesTask A files chosen old new (Err fault)
+TaskEnds A files chosen old new Misuse = ⊥
 
 -- the program's end after a text that was asked for: done where it was written whole, else a fault
 abbrev pub TextEnds : List ℕ → Option (List ℕ) → Option (List ℕ) → Status → Type 0
@@ -78,14 +83,14 @@ TextEnds text old new Misuse = ⊥
 
 -- the program's end after a request: where there is no task, nothing is read, and where there is nothing to show, nothing is written
 abbrev pub CarriesOut : Type 0 → (List ℕ → Option (List ℕ)) → Request → Streams → Streams → Status → Type 0
-CarriesOut A files (Do task) old new status = TaskEnds A files task old new status
+CarriesOut A files (Do chosen) old new status = TaskEnds A files chosen old new status
 CarriesOut A files (Show text) old new status = (new.input ≡ old.input) × TextEnds (string_bytes text) old.output new.output status
 CarriesOut A files (Refuse text) old new status = (status ≡ Misuse) × (new ≡ old)
 CarriesOut A files NoMemory old new status = (status ≡ Fault) × (new ≡ old)
 
 -- a task's numbers are in their ranges
 abbrev pub IsRequest : Request → Type 0
-IsRequest (Do task) = IsInRange task
+IsRequest (Do chosen) = IsInRange chosen
 IsRequest _ = Unit {0}
 
 -- the program carries some request out

@@ -17,8 +17,8 @@ use std::sync::Wait;
 use std::thread::Threads;
 use tas_engines::write_all;
 use tas_tool::{
-    ToolFault, check_run, diff_run, edit_run, export_run, migrate_run, movie_script_run,
-    script_run, shot_run, trace_run,
+    ToolFault, cart_talk_run, check_run, diff_run, edit_run, export_run, migrate_run,
+    movie_script_run, movie_talk_run, script_run, shot_run, talk_run, trace_run,
 };
 
 /// Opens a file of this name.
@@ -87,6 +87,17 @@ pub fn run_task<T: Wait + Threads + Sync, F: Folder, R: Read, W: Write>(
         Task::MovieScript { cart, movie } => match open_two(folder, cart, movie) {
             Ok((mut file, mut other)) => {
                 movie_script_run(rt, alloc, &mut file, &mut other, input, output)
+            }
+            Err(fault) => Err(fault),
+        },
+        Task::Talk => talk_run(rt, alloc, input, output),
+        Task::CartTalk { cart } => match open_file(folder, cart) {
+            Ok(mut file) => cart_talk_run(rt, alloc, &mut file, input, output),
+            Err(fault) => Err(fault),
+        },
+        Task::MovieTalk { cart, movie } => match open_two(folder, cart, movie) {
+            Ok((mut file, mut other)) => {
+                movie_talk_run(rt, alloc, &mut file, &mut other, input, output)
             }
             Err(fault) => Err(fault),
         },

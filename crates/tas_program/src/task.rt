@@ -59,6 +59,20 @@ pub enum Task<'a> {
         /// The name of the file with the movie's text.
         movie: &'a str,
     },
+    /// Answer the lines on standard input, each before the next one is read.
+    Talk,
+    /// Answer lines from a cartridge on.
+    CartTalk {
+        /// The name of the cartridge's file.
+        cart: &'a str,
+    },
+    /// Answer lines from a movie on.
+    MovieTalk {
+        /// The name of the cartridge's file.
+        cart: &'a str,
+        /// The name of the file with the movie's text.
+        movie: &'a str,
+    },
     /// Draw some frames of the movie on standard input.
     Export {
         /// The name of the cartridge's file.

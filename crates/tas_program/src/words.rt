@@ -5,7 +5,7 @@ ghost use Rattle.clap.specs.Words.{rule_of};
 ghost use Rattle.clap.specs.Matches.{subcommand_name_of};
 ghost use Rattle.clap.specs.declared.builder.value_parser.ValueParser.{ValueParser as Parser};
 ghost use Rattle.tas_program.specs.Task.{IsInRange, command_name};
-ghost use Rattle.tas_program.specs.CommandLine.{flag_rule, word_rule, named_command, HasRules, IsCommandLine};
+ghost use Rattle.tas_program.specs.CommandLine.{flag_rule, may_word_rule, word_rule, named_command, HasRules, IsCommandLine};
 
 use crate::{MAX_FRAME, MAX_INSTRUCTIONS, MAX_WORKERS, Task};
 use clap::error::ErrorKind;
@@ -113,6 +113,19 @@ Examples:
   tas script < examples/edits.script
   echo shot 60 | tas script --cart joystick.bin --movie examples/joystick.movie";
 
+static TALK_HELP: &str = "\
+Standard input is lines, as of 'tas script', and standard output has the answer to each before the
+next one is read, so that another program can hold the conversation. It has these lines, too:
+  picture K                  a line 'picture AT K BYTES', and the pixmap of frame K: so many bytes
+  movie                      a line 'movie AT BYTES', and the movie's text: so many bytes
+  states                     'states AT N' and the N frames after which a machine state is kept
+  quit                       ends the conversation, as the end of standard input does
+A line that isn't understood, or longer than 16384 bytes, is answered 'unknown' and changes nothing.
+With CART it begins with this cartridge, with MOVIE with this movie's frames too, by two edits.
+
+Example:
+  printf 'len\\npicture 60\\nquit\\n' | tas talk joystick.bin examples/joystick.movie";
+
 static EXPORT_HELP: &str = "\
 Standard input is the movie text, as for 'tas check'.
 Standard output is the pictures of the frames FROM to TO - 1, each as for 'tas shot', one after the
@@ -125,7 +138,7 @@ Example:
     ffmpeg -f image2pipe -framerate 60 -c:v ppm -i - film.mp4";
 
 static TAS_HELP: &str = "\
-Each command reads standard input whole before it writes anything to standard output.
+Each command but 'talk' reads standard input whole before it writes anything to standard output.
 Status: 0 done, 1 a fault (one line on standard error), 2 words that aren't understood.";
 
 /// `tas trace`.
@@ -252,6 +265,29 @@ fn script_command<'a>(alloc: Global) -> Result<Command<'a>, AllocError>
         .arg(movie)
 }
 
+/// A word that may name a file.
+fn optional_file<'a>(alloc: Global, name: &'a str, help: &'a str) -> Arg<'a>
+    ensures local { result.global ≡ false }
+    ensures rule { rule_of result ≡ may_word_rule name.now }
+{
+    Arg::new(alloc, name).action(ArgAction::Set).help(help)
+}
+
+/// `tas talk`.
+fn talk_command<'a>(alloc: Global) -> Result<Command<'a>, AllocError>
+    ensures { IfOk result (λ c. HasRules (codes "talk") (may_word_rule (codes "CART") ∷ may_word_rule (codes "MOVIE") ∷ []) c) }
+{
+    Command::new(alloc, "talk")
+        .about("Answers lines, each before the next one is read")
+        .after_help(TALK_HELP)
+        .arg(optional_file(alloc, "CART", "The file of a cartridge to start from"))?
+        .arg(optional_file(
+            alloc,
+            "MOVIE",
+            "The file with the text of a movie to start from",
+        ))
+}
+
 /// `tas export`.
 fn export_command<'a>(alloc: Global) -> Result<Command<'a>, AllocError>
     ensures { IfOk result (λ c. (from to workers : Option Parser) × HasRules (codes "export") (word_rule (codes "CART") None ∷ word_rule (codes "FROM") from ∷ word_rule (codes "TO") to ∷ word_rule (codes "WORKERS") workers ∷ []) c) }
@@ -295,6 +331,7 @@ fn command<'a>(alloc: Global) -> Result<Command<'a>, AllocError>
         .subcommand(edit_command(alloc)?)?
         .subcommand(diff_command(alloc)?)?
         .subcommand(script_command(alloc)?)?
+        .subcommand(talk_command(alloc)?)?
         .subcommand(export_command(alloc)?)
 }
 
@@ -320,6 +357,19 @@ fn script_task<'a>(matches: &ArgMatches<'a>) -> Option<Task<'a>>
         (None, None) => Some(Task::Script),
         (Some(cart), Some(movie)) => Some(Task::MovieScript { cart, movie }),
         _ => None,
+    }
+}
+
+/// What the words of `tas talk` ask for; `None` where they name a movie alone.
+fn talk_task<'a>(matches: &ArgMatches<'a>) -> Option<Task<'a>>
+    ensures range { IfSome result IsInRange }
+    ensures named { IfSome result (λ task. command_name task ≡ codes "talk") }
+{
+    match (matches.get_str("CART"), matches.get_str("MOVIE")) {
+        (None, None) => Some(Task::Talk),
+        (Some(cart), None) => Some(Task::CartTalk { cart }),
+        (Some(cart), Some(movie)) => Some(Task::MovieTalk { cart, movie }),
+        (None, Some(_)) => None,
     }
 }
 
@@ -352,6 +402,7 @@ fn task_of<'a>(matches: &ArgMatches<'a>) -> Option<Task<'a>>
             old: rest.get_str("OLD")?,
         }),
         "script" => script_task(rest),
+        "talk" => talk_task(rest),
         "export" => Some(Task::Export {
             cart: rest.get_str("CART")?,
             from: number_of(rest, "FROM", 0, MAX_FRAME)?,

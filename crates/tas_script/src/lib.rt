@@ -16,4 +16,4 @@ pub use laws::one_command_per_line;
 pub use parsing::parse_line;
 pub use printing::reply_line;
 pub use reply::Reply;
-pub use words::{MAX_NUMBER, split_once};
+pub use words::{MAX_NUMBER, number, split_once, strip};

@@ -1,6 +1,11 @@
 pub mod TurnLemmas
+pub mod LookLemmas
 pub mod ScriptLemmas
 pub mod OneSeatLemmas
 pub mod MakingLemmas
 pub mod ExportLemmas
 pub mod MovieScriptLemmas
+pub mod GreenLemmas
+pub mod TellingLemmas
+pub mod TalkLemmas
+pub mod TalkRunLemmas

@@ -1,10 +1,12 @@
 -- A desk of one seat, from its opening to its end.
 use Rattle.std.proofs.Common.{◌≡◌, ℕ, zero, suc, ◌+◌, ◌<◌, ◌≤◌, List, [], ◌∷◌, ◌++◌, length, take, set, Bool, true, false, cond, Some, refl, sym, ap, subst, ◌∙◌, arith, length-append}
 use Rattle.std.specs.Prelude.{All, count_by, ◌==◌, slice_get, slice_index_or}
+use Rattle.logbook.specs.Pages.{Book}
 use Rattle.tas_movie.specs.Content.{MovieContent}
+use Rattle.tas_desk.specs.History.{blank_movie}
 use Rattle.tas_desk.specs.declared.entry.Entry.{Entry}
 use Rattle.tas_desk.specs.Seats.{SeatContent, seat_of, IsSettled, IsWhole}
-use Rattle.tas_desk.specs.Zones.{ZoneContent}
+use Rattle.tas_desk.specs.Zones.{ZoneContent, blank_zone}
 use Rattle.tas_desk.specs.Closing.{made_by}
 use Rattle.tas_desk.proofs.HistoryLemmas.{movie_of-none}
 use Rattle.tas_desk.proofs.SeatLemmas.{count_by-cons}
@@ -28,6 +30,9 @@ fresh_front {A} seat zone is = ap (λ (s : SeatContent A). front_of s) is ∙ ap
 
 pub fresh_first : {A : Type 0} (seat : SeatContent A) (zone : ZoneContent A) → seat ≡ seat_of 0 0 [] zone → (seat.number ≡ 0) × (seat.made ≡ 0) × (seat.front ≡ [])
 fresh_first {A} seat zone is = (ap (λ (s : SeatContent A). s.number) is, ap (λ (s : SeatContent A). s.made) is, ap (λ (s : SeatContent A). s.front) is)
+
+pub fresh_zone : {A : Type 0} (seat : SeatContent A) (book : Book) → seat ≡ seat_of 0 0 [] (blank_zone book) → (seat.zone.movie ≡ blank_movie) × (seat.zone.states ≡ [])
+fresh_zone {A} seat book is = (ap (λ (s : SeatContent A). s.zone.movie) is, ap (λ (s : SeatContent A). s.zone.states) is)
 
 -- ---- the desk that is closed
 

@@ -2,12 +2,9 @@
 use Rattle.std.proofs.Common.{◌≡◌, ℕ, ◌+◌, ◌<◌, ◌≤◌, List, [], ◌∷◌, ◌++◌, length, take, Bool, true, false, Option, Some, None, Result, Ok, Err, inl, inr, refl, sym, ap, subst, ◌∙◌, arith, length-append, append_assoc, append-nil}
 use Rattle.std.specs.Prelude.{◌==◌, if◌then◌else◌, replicate, MatchResult, nat_lt}
 use Rattle.std.proofs.lemmas.List.{take-append-le, take_all, length-replicate}
-use Rattle.std.proofs.lemmas.Bool.{eqb-true, eq-eqb, lt-ltb, cases_lt}
-use Rattle.std.proofs.lemmas.Option.{slice_get_past}
+use Rattle.std.proofs.lemmas.Bool.{eqb-true, eq-eqb, cases_lt}
 use Rattle.std.proofs.lemmas.List.Sums.{sum_by-append}
 use mathlib.Core.List.{IsPrefix}
-use Rattle.vcs_cpu.specs.declared.halt.Halt.{Halt}
-use Rattle.vcs_tia.specs.Picture.{lit_count}
 use Rattle.vcs_machine.specs.declared.input.Input.{Input}
 use Rattle.tas_movie.specs.Content.{MovieContent, most_inputs}
 use Rattle.tas_movie.specs.declared.edit.Edit.{Edit}
@@ -20,24 +17,20 @@ use Rattle.tas_desk.specs.declared.replies.Receipt.{Receipt}
 use Rattle.tas_desk.specs.declared.replies.EditError.{EditError}
 use Rattle.tas_desk.specs.declared.replies.EditError.TheVariants.{Serial, Full as AllMade, Place as OutOfPlace, Long as OverLong, Memory as NoRoom}
 use Rattle.tas_desk.specs.History.{movie_of, entries_of}
-use Rattle.tas_desk.specs.declared.replies.ShotError.{ShotError}
-use Rattle.tas_desk.specs.Shots.{IsShotAt}
-use Rattle.tas_desk.specs.Answers.{answer_input, answer_shot}
 use Rattle.tas_desk.specs.Session.{refusal_at, error_at, IsEditError}
-use Rattle.tas_desk.specs.declared.replies.InputError.{InputError}
-use Rattle.tas_desk.specs.Seats.{SeatContent, seat_of, entry_of, HasSeen, IsEdited, IsInput}
+use Rattle.tas_desk.specs.Seats.{SeatContent, seat_of, entry_of, HasSeen, IsEdited}
 use Rattle.tas_desk.proofs.HistoryLemmas.{movie_of-push}
 use Rattle.tas_engines.specs.declared.fault.RunFault.{RunFault}
 use Rattle.tas_engines.specs.declared.fault.RunFault.TheVariants.{Foreign}
 use Rattle.tas_script.specs.declared.command.Command.{Command}
-use Rattle.tas_script.specs.declared.command.Command.TheVariants.{Load, Insert, Replace, Delete, Length, InputAt, Shot, Work}
+use Rattle.tas_script.specs.declared.command.Command.TheVariants.{Load, Insert, Replace, Delete}
 use Rattle.tas_script.specs.declared.image.Image.{Image}
 use Rattle.tas_script.specs.Commands.{image_bytes}
 use Rattle.tas_script.specs.declared.reply.Reply.{Reply}
-use Rattle.tas_script.specs.declared.reply.Reply.TheVariants.{Edited, Misplaced, TooLong, Full, Measured, Pressed, NoFrame, Drawn, Worked, OutOfMemory}
+use Rattle.tas_script.specs.declared.reply.Reply.TheVariants.{Edited, Misplaced, TooLong, Full, OutOfMemory}
 use Rattle.tas_tool.specs.declared.answering.Answered.{Answered}
 use Rattle.tas_tool.specs.Edits.{load_edit, insert_edit, replace_edit, delete_edit}
-use Rattle.tas_tool.specs.Turns.{Unforeseen, Front, front_of, BeginsWithOwn, HasForeign, IsDeskFault, refused_reply, refusal_reply, edit_reply, edited_front, input_reply, halted_reply, shot_reply, reply_to, front_after, IsEditTurn, IsTurn}
+use Rattle.tas_tool.specs.Turns.{Unforeseen, Front, front_of, BeginsWithOwn, HasForeign, IsDeskFault, refused_reply, refusal_reply, edit_reply, edited_front, IsEditTurn, IsTurn}
 use Rattle.tas_tool.specs.Checking.{checked_reply, insert_refusal, looked, IsAnswer, IsEditAnswer}
 
 -- ---- what a seat has seen
@@ -213,7 +206,7 @@ refused_serial seat at counted edit own found =
     not_serial (length seat.front == 1000000) (length seat.front) at counted (refusal (movie_of seat.front) edit) (sym (own_refusal seat edit own e) ∙ found))
 
 -- a front that is followed by one as long as the seat's own edits
-first_front : {A : Type 0} (before now : SeatContent A) → BeginsWithOwn before → HasSeen before now → length now.front ≡ before.made → length before.front ≡ before.made
+pub first_front : {A : Type 0} (before now : SeatContent A) → BeginsWithOwn before → HasSeen before now → length now.front ≡ before.made → length before.front ≡ before.made
 first_front before now own seen at = omega (arith, own.seen, longer before now seen, at)
 
 -- want of memory
@@ -322,7 +315,7 @@ inserted A at inputs = InsertEdit at inputs
 abbrev pub replaced : (A : Type 0) → ℕ → List Input → Edit A
 replaced A at inputs = ReplaceEdit at inputs
 
-abbrev unforeseen : Bool → Unforeseen
+abbrev pub unforeseen : Bool → Unforeseen
 unforeseen refused = record { refused = refused; ran = 0; kept = 0; stale = 0 }
 
 pub load_answer : (A : Type 0) (before now : SeatContent A) (image : Image) (cart : List ℕ) (r : Result Answered RunFault) → cart ≡ image_bytes image → IsEditAnswer before now (load_edit A cart) r → IsAnswer A before now (Load image) r
@@ -409,116 +402,3 @@ pub replace_late : (A : Type 0) (before now : SeatContent A) (at count len made 
 replace_late A before now at count len made input own m seen long told =
     replace_answer A before now at count input (replicate count input) (answered_of OutOfMemory made) refl
     (late before now (replace_edit A at count input) made (place_refusal len at (at + count)) own m seen (replace_refused_as A (front_of before).movie at count len input long) told)
-
--- ---- looks
-
--- a turn of a look, after which the seat has seen more
-look_turn : (A : Type 0) (before now : SeatContent A) (command : Command) (reply : Reply) → BeginsWithOwn before → HasSeen before now
-    → ((u : Unforeseen) × (reply ≡ reply_to A u (front_of before) command) × (front_of before ≡ front_after A u (front_of before) command)) → IsTurn A (front_of before) command reply (front_of now)
-look_turn A before now command reply own seen t = (t.0, t.1, front_stays before now own seen ∙ t.2)
-
-pub look_answer : (A : Type 0) (before now : SeatContent A) (command : Command) (r : Result Reply RunFault) (made : ℕ) → BeginsWithOwn before → made ≡ before.made → HasSeen before now
-    → MatchResult r (λ reply. IsTurn A (front_of before) command reply (front_of now)) (IsDeskFault now) → IsAnswer A before now command (looked r made)
-look_answer A before now command (Ok reply) made own m seen turn = record { turn_is = turn; made = m ∙ sym seen.made; own = own_stays before now own seen }
-look_answer A before now command (Err fault) made own m seen turn = turn
-
-pub looked_as : (A : Type 0) (before now : SeatContent A) (command : Command) (r : Result Reply RunFault) (answer : Result Answered RunFault) (made : ℕ) → BeginsWithOwn before → made ≡ before.made → HasSeen before now
-    → MatchResult r (λ reply. IsTurn A (front_of before) command reply (front_of now)) (IsDeskFault now) → answer ≡ looked r made → IsAnswer A before now command answer
-looked_as A before now command r answer made own m seen turn is = subst (λ (x : Result Answered RunFault). IsAnswer A before now command x) (sym is) (look_answer A before now command r made own m seen turn)
-
--- a name of a command
-pub answer_is : (A : Type 0) (before now : SeatContent A) (command said : Command) (r : Result Answered RunFault) → command ≡ said → IsAnswer A before now said r → IsAnswer A before now command r
-answer_is A before now command said r is told = subst (λ (x : Command). IsAnswer A before now x r) (sym is) told
-
--- a name of an error
-pub input_error_is : {A : Type 0} (before now : SeatContent A) (k : ℕ) (error said : InputError) → error ≡ said → IsInput before now k (Err error) → IsInput before now k (Err said)
-input_error_is before now k error said is found = subst (λ (x : InputError). IsInput before now k (Err x)) is found
-
-pub length_answer : (A : Type 0) (before now : SeatContent A) (made len : ℕ) → BeginsWithOwn before → made ≡ before.made → HasSeen before now → len ≡ length (front_of before).movie.inputs
-    → IsAnswer A before now Length (Ok (record { reply = Measured made len; made = made }))
-length_answer A before now made len own m seen long = record {
-  turn_is = look_turn A before now Length (Measured made len) own seen (unforeseen false, ap (λ (n : ℕ). Measured n len) m ∙ ap (Measured before.made) long, refl);
-  made = m ∙ sym seen.made;
-  own = own_stays before now own seen;
-}
-
-pub input_turn : (A : Type 0) (before now : SeatContent A) (made at k : ℕ) (input : Input) (r : Result Reply RunFault) → BeginsWithOwn before → made ≡ before.made → HasSeen before now → at ≡ length now.front
-    → answer_input (movie_of now.front) k ≡ Some input → r ≡ checked_reply made at (Pressed at input) → MatchResult r (λ reply. IsTurn A (front_of before) (InputAt k) reply (front_of now)) (IsDeskFault now)
-input_turn A before now made at k input r own m seen here found is =
-    checked_ends made at (Pressed at input) r (λ reply. IsTurn A (front_of before) (InputAt k) reply (front_of now)) (IsDeskFault now) is
-    (λ (same : at ≡ made).
-    look_turn A before now (InputAt k) (Pressed at input) own seen
-    (unforeseen false, ap (λ (n : ℕ). Pressed n input) (same ∙ m) ∙ ap (input_reply (front_of before)) (sym found ∙ ap (λ (x : MovieContent). answer_input x k) (own_movie before now own seen (sym here ∙ same ∙ m))), refl))
-    (λ (other : at ≡ made → ⊥). foreign before now made at own seen m here other)
-
-pub no_input_turn : (A : Type 0) (before now : SeatContent A) (made at len k : ℕ) (r : Result Reply RunFault) → BeginsWithOwn before → made ≡ before.made → HasSeen before now → at ≡ length now.front
-    → len ≡ length (movie_of now.front).inputs → len ≤ k → r ≡ checked_reply made at (NoFrame at len) → MatchResult r (λ reply. IsTurn A (front_of before) (InputAt k) reply (front_of now)) (IsDeskFault now)
-no_input_turn A before now made at len k r own m seen here long past is =
-    checked_ends made at (NoFrame at len) r (λ reply. IsTurn A (front_of before) (InputAt k) reply (front_of now)) (IsDeskFault now) is
-    (λ (same : at ≡ made).
-    let movie = own_movie before now own seen (sym here ∙ same ∙ m) in
-    let length_is : len ≡ length (front_of before).movie.inputs = long ∙ ap (λ (x : MovieContent). length x.inputs) movie in
-    let none : answer_input (front_of before).movie k ≡ None = slice_get_past (front_of before).movie.inputs k (subst (λ (n : ℕ). n ≤ k) length_is past) in
-    look_turn A before now (InputAt k) (NoFrame at len) own seen
-    (unforeseen false, ap (λ (n : ℕ). NoFrame n len) (same ∙ m) ∙ ap (NoFrame before.made) length_is ∙ ap (input_reply (front_of before)) (sym none), refl))
-    (λ (other : at ≡ made → ⊥). foreign before now made at own seen m here other)
-
--- ---- shots
-
--- a name of an error
-pub shot_error_is : {A : Type 0} (history : List (Entry A)) (k : ℕ) (error said : ShotError) → error ≡ said → IsShotAt {B = A} history k (Err error) → IsShotAt {B = A} history k (Err said)
-shot_error_is {A} history k error said is found = subst (λ (x : ShotError). IsShotAt {B = A} history k (Err x)) is found
-
-pub shot_turn : (A : Type 0) (before now : SeatContent A) (made at frame k ran lit : ℕ) (picture : List ℕ) (r : Result Reply RunFault) → BeginsWithOwn before → made ≡ before.made → HasSeen before now → at ≡ length now.front
-    → frame ≡ k → answer_shot (movie_of now.front) k ≡ Some (Ok picture) → lit ≡ lit_count picture → r ≡ checked_reply made at (Drawn at frame ran lit)
-    → MatchResult r (λ reply. IsTurn A (front_of before) (Shot k) reply (front_of now)) (IsDeskFault now)
-shot_turn A before now made at frame k ran lit picture r own m seen here which shows l is =
-    checked_ends made at (Drawn at frame ran lit) r (λ reply. IsTurn A (front_of before) (Shot k) reply (front_of now)) (IsDeskFault now) is
-    (λ (same : at ≡ made).
-    let u : Unforeseen = record { refused = false; ran = ran; kept = 0; stale = 0 } in
-    let movie = own_movie before now own seen (sym here ∙ same ∙ m) in
-    look_turn A before now (Shot k) (Drawn at frame ran lit) own seen (
-      u,
-      ap (λ (n : ℕ). Drawn n frame ran lit) (same ∙ m) ∙ ap (λ (n : ℕ). Drawn before.made n ran lit) which ∙ ap (Drawn before.made k ran) l
-          ∙ ap (shot_reply u (front_of before) k) (sym shows ∙ ap (λ (x : MovieContent). answer_shot x k) movie),
-      refl,
-    ))
-    (λ (other : at ≡ made → ⊥). foreign before now made at own seen m here other)
-
-pub no_frame_turn : (A : Type 0) (seat : SeatContent A) (made at len k : ℕ) (r : Result Reply RunFault) → BeginsWithOwn seat → made ≡ seat.made → answer_shot (movie_of seat.front) k ≡ None → at ≡ length seat.front
-    → len ≡ length (movie_of seat.front).inputs → r ≡ checked_reply made at (NoFrame at len) → MatchResult r (λ reply. IsTurn A (front_of seat) (Shot k) reply (front_of seat)) (IsDeskFault seat)
-no_frame_turn A seat made at len k r own m none here long is =
-    checked_ends made at (NoFrame at len) r (λ reply. IsTurn A (front_of seat) (Shot k) reply (front_of seat)) (IsDeskFault seat) is
-    (λ (same : at ≡ made).
-    let movie = own_movie seat seat own (seen_self seat) (sym here ∙ same ∙ m) in
-    look_turn A seat seat (Shot k) (NoFrame at len) own (seen_self seat) (
-      unforeseen false,
-      ap (λ (n : ℕ). NoFrame n len) (same ∙ m) ∙ ap (NoFrame seat.made) (long ∙ ap (λ (x : MovieContent). length x.inputs) movie)
-          ∙ ap (shot_reply (unforeseen false) (front_of seat) k) (sym none ∙ ap (λ (x : MovieContent). answer_shot x k) movie),
-      refl,
-    ))
-    (λ (other : at ≡ made → ⊥). foreign seat seat made at own (seen_self seat) m here other)
-
-pub halted_turn : (A : Type 0) (seat : SeatContent A) (made at k : ℕ) (halt : Halt) (reply : Reply) (r : Result Reply RunFault) → BeginsWithOwn seat → made ≡ seat.made → answer_shot (movie_of seat.front) k ≡ Some (Err halt)
-    → at ≡ length seat.front → reply ≡ halted_reply at halt → r ≡ checked_reply made at reply → MatchResult r (λ reply'. IsTurn A (front_of seat) (Shot k) reply' (front_of seat)) (IsDeskFault seat)
-halted_turn A seat made at k halt reply r own m shows here says is =
-    checked_ends made at reply r (λ reply'. IsTurn A (front_of seat) (Shot k) reply' (front_of seat)) (IsDeskFault seat) is
-    (λ (same : at ≡ made).
-    let movie = own_movie seat seat own (seen_self seat) (sym here ∙ same ∙ m) in
-    look_turn A seat seat (Shot k) reply own (seen_self seat)
-    (unforeseen false, says ∙ ap (λ (n : ℕ). halted_reply n halt) (same ∙ m) ∙ ap (shot_reply (unforeseen false) (front_of seat) k) (sym shows ∙ ap (λ (x : MovieContent). answer_shot x k) movie), refl))
-    (λ (other : at ≡ made → ⊥). foreign seat seat made at own (seen_self seat) m here other)
-
-pub shot_without_memory : (A : Type 0) (before now : SeatContent A) (k : ℕ) → BeginsWithOwn before → HasSeen before now → length now.front ≡ before.made → k < length (movie_of before.front).inputs
-    → IsTurn A (front_of before) (Shot k) OutOfMemory (front_of now)
-shot_without_memory A before now k own seen at within =
-    let movie = own_movie before before own (seen_self before) (first_front before now own seen at) in
-    let inside : k < length (front_of before).movie.inputs = subst (λ (x : MovieContent). k < length x.inputs) movie within in
-    look_turn A before now (Shot k) OutOfMemory own seen (unforeseen true, rw (lt-ltb k (length (front_of before).movie.inputs) inside) refl, refl)
-
-pub work_refused : (A : Type 0) (before now : SeatContent A) (k : ℕ) → BeginsWithOwn before → HasSeen before now → IsTurn A (front_of before) (Work k) OutOfMemory (front_of now)
-work_refused A before now k own seen = look_turn A before now (Work k) OutOfMemory own seen (unforeseen true, refl, refl)
-
-pub worked_turn : (A : Type 0) (before now : SeatContent A) (k jobs kept stale : ℕ) → BeginsWithOwn before → HasSeen before now → jobs ≡ 1 → IsTurn A (front_of before) (Work k) (Worked jobs kept stale) (front_of now)
-worked_turn A before now k jobs kept stale own seen one =
-    look_turn A before now (Work k) (Worked jobs kept stale) own seen (record { refused = false; ran = 0; kept = kept; stale = stale }, ap (λ (n : ℕ). Worked n kept stale) one, refl)

@@ -5,3 +5,5 @@ pub mod Scripts
 pub mod Pixmaps
 pub mod TwoEdits
 pub mod MovieScripts
+pub mod Talk
+pub mod Talking

@@ -8,6 +8,8 @@ ghost use Rattle.tas_desk.specs.Seats.{HasSeen};
 ghost use Rattle.tas_desk.specs.Shots.{IsShotAt};
 ghost use Rattle.tas_tool.specs.Turns.{front_of, refused_reply, halted_reply, BeginsWithOwn, IsDeskFault, IsEditTurn, IsTurn};
 ghost use Rattle.tas_tool.specs.Checking.{checked_reply, insert_refusal, looked, IsAnswer, IsEditAnswer};
+ghost use Rattle.tas_tool.specs.Talk.{ShotLeaves};
+ghost use Rattle.tas_tool.specs.Talking.{stand_of, IsCommandZone, IsWorkedZone, TellsError};
 ghost use Rattle.tas_script.specs.declared.command.Command.TheVariants.{Load as LoadLine, Insert as InsertLine, Replace as ReplaceLine, InputAt as InputLine, Shot as ShotLine, Work as WorkLine};
 
 use std::alloc::{AllocError, Allocator};
@@ -40,7 +42,7 @@ fn checked(made: u64, at: u64, reply: Reply) -> Result<Reply, RunFault>
 }
 
 /// The movie's length, where it stands at just the script's own edits.
-fn own_len<N: Name, W: CloseOnDrop, A: Allocator>(
+pub fn own_len<N: Name, W: CloseOnDrop, A: Allocator>(
     desk: &Desk<N, W, A>,
     seat: &mut Seat<N, A>,
     made: u64,
@@ -48,6 +50,7 @@ fn own_len<N: Name, W: CloseOnDrop, A: Allocator>(
     requires own { BeginsWithOwn seat.old }
     requires made { made ≡ seat.old.made }
     ensures seen { HasSeen seat.old seat.new }
+    ensures zone { seat.new.zone ≡ seat.old.zone }
     ensures reply { MatchResult result
         (λ len. (length seat.new.front ≡ made) × (len ≡ length (front_of seat.old).movie.inputs)) (IsDeskFault seat.new) }
 {
@@ -75,6 +78,7 @@ fn refused_edit<N: Name, W: CloseOnDrop, A: Allocator>(
     requires own { BeginsWithOwn seat.old }
     requires made { made ≡ seat.old.made }
     ensures seen { HasSeen seat.old seat.new }
+    ensures zone { seat.new.zone ≡ seat.old.zone }
     ensures reply { (edit : EditContent A) → IsEditError (refusal_at seat.old.front seat.old.number seat.old.made edit) error
         → MatchResult result (λ reply. IsEditTurn (front_of seat.old) edit reply (front_of seat.new)) (IsDeskFault seat.new) }
 {
@@ -101,6 +105,7 @@ pub fn make_edit<N: Name, W: CloseOnDrop, A: Allocator + Copy, R: Wait>(
     requires own { BeginsWithOwn seat.old }
     requires made { made ≡ seat.old.made }
     ensures number { seat.new.number ≡ seat.old.number }
+    ensures zone { seat.new.zone ≡ seat.old.zone }
     ensures answer { IsEditAnswer seat.old seat.new edit result }
 {
     let error = match desk.edit(rt, seat, edit) {
@@ -185,6 +190,7 @@ fn load<N: Name, W: CloseOnDrop, A: Allocator + Copy, R: Wait>(
     requires own { BeginsWithOwn seat.old }
     requires made { made ≡ seat.old.made }
     ensures number { seat.new.number ≡ seat.old.number }
+    ensures zone { seat.new.zone ≡ seat.old.zone }
     ensures answer { IsAnswer A seat.old seat.new (LoadLine image) result }
 {
     match own_len(desk, seat, made) {
@@ -217,6 +223,7 @@ fn insert<N: Name, W: CloseOnDrop, A: Allocator + Copy, R: Wait>(
     requires own { BeginsWithOwn seat.old }
     requires made { made ≡ seat.old.made }
     ensures number { seat.new.number ≡ seat.old.number }
+    ensures zone { seat.new.zone ≡ seat.old.zone }
     ensures answer { IsAnswer A seat.old seat.new (InsertLine at count input) result }
 {
     let len = match own_len(desk, seat, made) {
@@ -249,6 +256,7 @@ fn replace<N: Name, W: CloseOnDrop, A: Allocator + Copy, R: Wait>(
     requires own { BeginsWithOwn seat.old }
     requires made { made ≡ seat.old.made }
     ensures number { seat.new.number ≡ seat.old.number }
+    ensures zone { seat.new.zone ≡ seat.old.zone }
     ensures answer { IsAnswer A seat.old seat.new (ReplaceLine at count input) result }
 {
     let len = match own_len(desk, seat, made) {
@@ -279,6 +287,7 @@ fn show_input<N: Name, W: CloseOnDrop, A: Allocator>(
     requires own { BeginsWithOwn seat.old }
     requires made { made ≡ seat.old.made }
     ensures seen { HasSeen seat.old seat.new }
+    ensures zone { seat.new.zone ≡ seat.old.zone }
     ensures reply { MatchResult result (λ reply. IsTurn A (front_of seat.old) (InputLine frame) reply (front_of seat.new)) (IsDeskFault seat.new) }
 {
     match desk.input(seat, frame) {
@@ -304,7 +313,7 @@ fn halted_reply(at: u64, halt: Halt) -> Reply
 
 /// The reply to a shot that shows no picture, at the seat's front. Want of memory is told where that front is the script's
 /// own.
-fn unshown<N: Name, W: CloseOnDrop, A: Allocator>(
+pub fn unshown<N: Name, W: CloseOnDrop, A: Allocator>(
     desk: &Desk<N, W, A>,
     seat: &mut Seat<N, A>,
     made: u64,
@@ -315,6 +324,8 @@ fn unshown<N: Name, W: CloseOnDrop, A: Allocator>(
     requires made { made ≡ seat.old.made }
     requires error { IsShotAt {B = A} seat.old.front frame (Err error) }
     ensures seen { HasSeen seat.old seat.new }
+    ensures zone { seat.new.zone ≡ seat.old.zone }
+    ensures tells { IfOk result (TellsError made error) }
     ensures reply { MatchResult result (λ reply. IsTurn A (front_of seat.old) (ShotLine frame) reply (front_of seat.new)) (IsDeskFault seat.new) }
 {
     match error {
@@ -339,6 +350,7 @@ fn draw<N: Name, W: CloseOnDrop, A: Allocator + Copy>(
     requires own { BeginsWithOwn seat.old }
     requires made { made ≡ seat.old.made }
     ensures seen { HasSeen seat.old seat.new }
+    ensures zone { IfOk result (ShotLeaves (stand_of seat.old) (stand_of seat.new) frame) }
     ensures reply { MatchResult result (λ reply. IsTurn A (front_of seat.old) (ShotLine frame) reply (front_of seat.new)) (IsDeskFault seat.new) }
 {
     let shot = match desk.shot(alloc, seat, frame) {
@@ -372,6 +384,7 @@ fn work<N: Name, W: CloseOnDrop, A: Allocator + Copy, R: Wait>(
 ) -> Reply
     requires own { BeginsWithOwn seat.old }
     ensures seen { HasSeen seat.old seat.new }
+    ensures zone { IsWorkedZone seat.old seat.new result }
     ensures reply { IsTurn A (front_of seat.old) (WorkLine frame) result (front_of seat.new) }
 {
     let Ok(worked) = desk.work(rt, alloc, seat, &[frame], &OpenGate) else {
@@ -414,6 +427,7 @@ pub fn answer_command<N: Name, W: CloseOnDrop, A: Allocator + Copy, R: Wait>(
     requires own { BeginsWithOwn seat.old }
     requires made { made ≡ seat.old.made }
     ensures number { seat.new.number ≡ seat.old.number }
+    ensures zone { IfOk result (λ answered. IsCommandZone seat.old seat.new command answered.reply) }
     ensures answer { IsAnswer A seat.old seat.new command result }
 {
     match command {

@@ -53,6 +53,7 @@ pub fn put_movie<N: Name, W: CloseOnDrop, A: Allocator + Copy, R: Wait>(
 ) -> Result<(), RunFault>
     requires first { (seat.old.number ≡ 0) × (seat.old.made ≡ 0) × (seat.old.front ≡ []) }
     ensures number { seat.new.number ≡ 0 }
+    ensures zone { seat.new.zone ≡ seat.old.zone }
     ensures holds { OnOk result (HoldsMovie seat.new movie.now) }
     ensures fault { IfErr result (IsMakingFault seat.new) }
 {

@@ -1,4 +1,4 @@
-//! What scripts, exports and the whole program do when they run, over readers, writers, words and files of the tests' own.
+//! What scripts, conversations, exports and the whole program do when they run, over readers, writers, words and files of the tests' own.
 #![tactic(auto)]
 
 #[cfg(test)]
@@ -12,4 +12,12 @@ mod movies;
 #[cfg(test)]
 mod program_tests;
 #[cfg(test)]
+mod programs;
+#[cfg(test)]
 mod script_tests;
+#[cfg(test)]
+mod talk_file_tests;
+#[cfg(test)]
+mod talk_tests;
+#[cfg(test)]
+mod word_tests;

@@ -16,6 +16,12 @@ pub const PLAYFIELD: Program = Program {
     digest: "820c64e9933496de683a000c5e11f0510fb7b1699b2ce86471295236b284906d",
 };
 
+/// The same program in a small cartridge: `000=A910850DA91E85084C08F0 7FC=00F0`.
+pub const SMALL_PLAYFIELD: Program = Program {
+    bytes: b"\xA9\x10\x85\x0D\xA9\x1E\x85\x08\x4C\x08\xF0",
+    digest: "b5fe266be72b749b56221450f897d39d577232bbd24bd6ff58aa186cb39c84d7",
+};
+
 /// `000=A203A9028500A9008500CAD0F502 FFC=00F0`: three frames, then the undocumented opcode 02 at F00D.
 pub const HALTING: Program = Program {
     bytes: b"\xA2\x03\xA9\x02\x85\x00\xA9\x00\x85\x00\xCA\xD0\xF5\x02",
@@ -37,6 +43,16 @@ pub fn image_of(alloc: Global, program: &[u8]) -> Result<Vec<u8>, Fail> {
         }
     }
     if let Some(cell) = image.get_mut(0xFFD) {
+        *cell = 0xF0;
+    }
+    Ok(image)
+}
+
+/// The small cartridge with a program at F000, where execution starts too; all other bytes are 0.
+pub fn small_image_of(alloc: Global, program: &[u8]) -> Result<Vec<u8>, Fail> {
+    let mut image = image_of(alloc, program)?;
+    image.truncate(2048);
+    if let Some(cell) = image.get_mut(0x7FD) {
         *cell = 0xF0;
     }
     Ok(image)
@@ -73,4 +89,28 @@ pub fn text_of(
         count = 0;
     }
     Ok(text)
+}
+
+/// The picture of the playfield: pixels 0 to 3 and 80 to 83 of each row have the colour 1E, all others 00.
+pub fn playfield_picture(alloc: Global) -> Result<Vec<u8>, Fail> {
+    let mut bytes = Vec::new(alloc);
+    bytes.extend_from_slice(b"P6\n160 210\n255\n")?;
+    for place in 0..33_600u32 {
+        let colour: &[u8] = if place % 80 < 4 {
+            b"\xd2\xc8\x8c"
+        } else {
+            b"\0\0\0"
+        };
+        bytes.extend_from_slice(colour)?;
+    }
+    Ok(bytes)
+}
+
+/// Bytes one after the other.
+pub fn joined(alloc: Global, parts: &[&[u8]]) -> Result<Vec<u8>, Fail> {
+    let mut bytes = Vec::new(alloc);
+    for part in parts {
+        bytes.extend_from_slice(part)?;
+    }
+    Ok(bytes)
 }

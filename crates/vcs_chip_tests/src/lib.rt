@@ -2,6 +2,8 @@
 #![tactic(auto)]
 
 #[cfg(test)]
+mod checks;
+#[cfg(test)]
 mod cpu_tests;
 #[cfg(test)]
 mod riot_tests;

@@ -2,6 +2,8 @@
 
 use super::plain::{Drawing, Plain};
 use super::{next_random, run};
+use crate::checks::{check_same, check_that};
+use std::alloc::{AllocError, Global};
 use std::test::Fail;
 use vcs_tia::{Picture, Tia};
 
@@ -92,57 +94,104 @@ fn is_strobe(number: u16) -> bool {
     (number >= 0x10 && number <= 0x14) || number == 0x2a || number == 0x2c
 }
 
+/// Two TIAs that lag behind, one of which draws, and the slow one, with their pictures.
+#[derive(Drop)]
+struct Race {
+    drawing: Lagging,
+    passing: Lagging,
+    plain: Plain,
+    fast: Picture,
+    slow: Drawing,
+}
+
+impl Race {
+    fn new(alloc: Global) -> Result<Race, AllocError> {
+        Ok(Race {
+            drawing: Lagging::new(true),
+            passing: Lagging::new(false),
+            plain: Plain::new(),
+            fast: Picture::blank(alloc)?,
+            slow: Drawing::blank(alloc)?,
+        })
+    }
+
+    fn write(&mut self, number: u16, value: u8) {
+        self.drawing.write(number, value, &mut self.fast);
+        self.passing.write(number, value, &mut self.fast);
+        self.plain.write(number, value);
+    }
+
+    fn owe(&mut self, clocks: u16) {
+        self.drawing.owe(clocks, &mut self.fast);
+        self.passing.owe(clocks, &mut self.fast);
+        self.plain.run(clocks, &mut self.slow);
+    }
+
+    /// How many clocks each of the three waits.
+    fn wait(&mut self) -> [u16; 3] {
+        let wait = self.plain.clocks_to_line_end();
+        let drawing = self.drawing.wait(&mut self.fast);
+        let passing = self.passing.wait(&mut self.fast);
+        self.plain.run(wait, &mut self.slow);
+        [drawing, passing, wait]
+    }
+
+    /// What each of the three reads.
+    fn read(&self, addr: u16) -> [Option<u8>; 3] {
+        [
+            self.drawing.read(addr),
+            self.passing.read(addr),
+            Some(self.plain.read(addr)),
+        ]
+    }
+
+    /// Whether all three are alike, once all clocks have passed. Then they begin a frame.
+    fn ends_alike(&mut self) -> bool {
+        self.drawing.catch_up(&mut self.fast);
+        self.passing.catch_up(&mut self.fast);
+        let is_alike = self.drawing.tia == self.passing.tia && self.slow.is_shown(&self.fast);
+        self.drawing.tia.end_frame();
+        self.passing.tia.end_frame();
+        self.plain.end_frame();
+        is_alike
+    }
+}
+
+/// How many clocks are owed after a step.
+fn random_clocks(state: u32) -> u16 {
+    if state >> 24 < 250 {
+        (state >> 24) as u16
+    } else {
+        3000
+    }
+}
+
 #[test]
 fn long_debts_against_the_plain_program(rt: HostRuntime) -> Result<(), Fail> {
-    let mut fast = Picture::blank(rt.alloc())?;
-    let mut slow = Drawing::blank(rt.alloc())?;
-    let mut drawing = Lagging::new(true);
-    let mut passing = Lagging::new(false);
-    let mut plain = Plain::new();
+    let mut race = Race::new(rt.alloc())?;
     let mut written = Written { bytes: [0; 45] };
     let mut state = 1977;
     for step in 0..6000u32 {
         state = next_random(state);
         let (number, value) = written.next(state);
         if !is_strobe(number) || state % 16 == 0 {
-            drawing.write(number, value, &mut fast);
-            passing.write(number, value, &mut fast);
-            plain.write(number, value);
+            race.write(number, value);
         }
-        let clocks = if state >> 24 < 250 {
-            (state >> 24) as u16
-        } else {
-            3000
-        };
-        drawing.owe(clocks, &mut fast);
-        passing.owe(clocks, &mut fast);
-        plain.run(clocks, &mut slow);
+        race.owe(random_clocks(state));
         if number == 2 {
-            let wait = plain.clocks_to_line_end();
-            assert_eq!(rt; drawing.wait(&mut fast), wait, "step {step}");
-            assert_eq!(rt; passing.wait(&mut fast), wait, "step {step}");
-            plain.run(wait, &mut slow);
+            let [drawing, passing, wait] = race.wait();
+            check_same(&rt, step, (drawing, passing), (wait, wait));
         }
-        let addr = ((state >> 12) % 8) as u16;
         if step % 7 == 0 {
-            let byte = Some(plain.read(addr));
-            assert!(rt;
-                drawing.read(addr) == byte && passing.read(addr) == byte,
-                "step {step}"
-            );
+            let [drawing, passing, byte] = race.read(((state >> 12) % 8) as u16);
+            check_same(&rt, step, (drawing, passing), (byte, byte));
         }
         if step % 500 == 499 {
-            drawing.catch_up(&mut fast);
-            passing.catch_up(&mut fast);
-            assert!(rt; drawing.tia == passing.tia, "step {step}");
-            assert!(rt; slow.is_shown(&fast), "step {step}");
-            drawing.tia.end_frame();
-            passing.tia.end_frame();
-            plain.end_frame();
+            check_that(&rt, step, race.ends_alike());
         }
     }
     // Debts of many lines came up, without which the rest shows little.
-    let longest = (drawing.longest, passing.longest);
-    assert!(rt; longest.0 > 10 * 228 && longest.1 > longest.0);
+    let longest = (race.drawing.longest, race.passing.longest);
+    check_that(&rt, longest, longest.0 > 10 * 228 && longest.1 > longest.0);
     Ok(())
 }

@@ -3,6 +3,7 @@ use Rattle.tas_engines.specs.Movies.{IsMovieRun, IsCheckAnswer, IsMigrateAnswer,
 use Rattle.tas_edit.specs.Runs.{IsEditRun, IsDiffRun}
 use Rattle.tas_tool.specs.Pixmaps.{IsExportAnswer}
 use Rattle.tas_tool.specs.MovieScripts.{IsMovieScriptRun}
+use Rattle.tas_tool.specs.Talk.{IsCartTalk, IsMovieTalk}
 use Rattle.tas_program.proofs.ProgramLemmas.{over_one, over_two}
 use Rattle.tas_program.proofs.running.run_task.Goals as goal
 
@@ -63,8 +64,26 @@ returns-in-Ok-open_two-3 g c =
 pub returns-in-Ok-open_file-3 : goal.returns-in-Ok-open_file-3
 returns-in-Ok-open_file-3 g c =
     let input = g.R.Read.remaining c.args.input.now in
+    let input' = g.R.Read.remaining c.cart_talk_run.new.input in
+    let output = g.W.Write.contents c.args.output.now in
+    let output' = g.W.Write.contents c.cart_talk_run.new.output in
+    rw c.in-CartTalk.is
+    (over_one (λ file left. IsCartTalk Global file left input input' output output' c.cart_talk_run.result) (g.F.Folder.bytes_of c.args.folder.now c.in-CartTalk.cart.now) (g.F.File.Read.remaining c.in-Ok-open_file-3.file) (g.F.File.Read.remaining c.cart_talk_run.new.cart) (record { input = input; output = output }) (record { input = input'; output = output' }) c.cart_talk_run.result c.in-Ok-open_file-3.ensures.file c.cart_talk_run.ensures)
+
+pub returns-in-Ok-open_two-4 : goal.returns-in-Ok-open_two-4
+returns-in-Ok-open_two-4 g c =
+    let input = g.R.Read.remaining c.args.input.now in
+    let input' = g.R.Read.remaining c.movie_talk_run.new.input in
+    let output = g.W.Write.contents c.args.output.now in
+    let output' = g.W.Write.contents c.movie_talk_run.new.output in
+    rw c.in-MovieTalk.is
+    (over_two (λ file left file' left'. IsMovieTalk Global file left file' left' input input' output output' c.movie_talk_run.result) (g.F.Folder.bytes_of c.args.folder.now c.in-MovieTalk.cart.now) (g.F.Folder.bytes_of c.args.folder.now c.in-MovieTalk.movie.now) (g.F.File.Read.remaining c.in-Ok-open_two-4.file) (g.F.File.Read.remaining c.movie_talk_run.new.cart) (g.F.File.Read.remaining c.in-Ok-open_two-4.other) (g.F.File.Read.remaining c.movie_talk_run.new.movie) (record { input = input; output = output }) (record { input = input'; output = output' }) c.movie_talk_run.result c.in-Ok-open_two-4.ensures.files.0 c.in-Ok-open_two-4.ensures.files.1 c.movie_talk_run.ensures)
+
+pub returns-in-Ok-open_file-4 : goal.returns-in-Ok-open_file-4
+returns-in-Ok-open_file-4 g c =
+    let input = g.R.Read.remaining c.args.input.now in
     let input' = g.R.Read.remaining c.export_run.new.input in
     let output = g.W.Write.contents c.args.output.now in
     let output' = g.W.Write.contents c.export_run.new.output in
     rw c.in-Export.is
-    (over_one (λ file left. IsMovieRun (IsExportAnswer c.in-Export.from c.in-Export.to) file left input input' output output' c.export_run.result) (g.F.Folder.bytes_of c.args.folder.now c.in-Export.cart.now) (g.F.File.Read.remaining c.in-Ok-open_file-3.file) (g.F.File.Read.remaining c.export_run.new.cart) (record { input = input; output = output }) (record { input = input'; output = output' }) c.export_run.result c.in-Ok-open_file-3.ensures.file c.export_run.ensures)
+    (over_one (λ file left. IsMovieRun (IsExportAnswer c.in-Export.from c.in-Export.to) file left input input' output output' c.export_run.result) (g.F.Folder.bytes_of c.args.folder.now c.in-Export.cart.now) (g.F.File.Read.remaining c.in-Ok-open_file-4.file) (g.F.File.Read.remaining c.export_run.new.cart) (record { input = input; output = output }) (record { input = input'; output = output' }) c.export_run.result c.in-Ok-open_file-4.ensures.file c.export_run.ensures)

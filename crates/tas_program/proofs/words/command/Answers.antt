@@ -16,4 +16,5 @@ returns c =
     let five = with_command _ _ _ _ (codes "edit") _ four c.in_ok-edit_command.ensures c.in_ok-subcommand-5.ensures in
     let six = with_command _ _ _ _ (codes "diff") _ five c.in_ok-diff_command.ensures c.in_ok-subcommand-6.ensures in
     let seven = with_command _ _ _ _ (codes "script") _ six c.in_ok-script_command.ensures c.in_ok-subcommand-7.ensures in
-    IfOk-weaker c.subcommand-8.result _ _ (λ line added. (instructions, frame, from, to, workers, with_command _ _ line _ (codes "export") _ seven export added)) c.subcommand-8.ensures
+    let eight = with_command _ _ _ _ (codes "talk") _ seven c.in_ok-talk_command.ensures c.in_ok-subcommand-8.ensures in
+    IfOk-weaker c.subcommand-9.result _ _ (λ line added. (instructions, frame, from, to, workers, with_command _ _ line _ (codes "export") _ eight export added)) c.subcommand-9.ensures

@@ -1,7 +1,9 @@
 use Rattle.std.proofs.Common.{Ok}
 use Rattle.tas_script.specs.declared.reply.Reply.TheVariants.{Measured}
-use Rattle.tas_tool.proofs.TurnLemmas.{answer_is, delete_answer, length_answer, looked_as}
-use Rattle.tas_script.specs.declared.command.Command.TheVariants.{Delete, Length, InputAt, Shot}
+use Rattle.tas_tool.proofs.TurnLemmas.{delete_answer}
+use Rattle.tas_tool.proofs.LookLemmas.{answer_is, length_answer, looked_as}
+use Rattle.tas_script.specs.declared.command.Command.TheVariants.{Load, Insert, Replace, Delete, Length, InputAt, Shot}
+use Rattle.tas_tool.proofs.GreenLemmas.{zone_as, zone_same, zone_looked, zone_worked}
 use Rattle.tas_tool.proofs.answering.answer_command.Goals as goal
 
 pub returns-in-Delete-clause-answer : goal.returns-in-Delete-clause-answer
@@ -23,3 +25,29 @@ pub returns-in-Shot-clause-answer : goal.returns-in-Shot-clause-answer
 returns-in-Shot-clause-answer g c =
     answer_is g.row.A.Denot c.args.seat.now c.draw.new.seat c.args.command (Shot c.in-Shot.frame) _ c.in-Shot.is
     (looked_as g.row.A.Denot c.args.seat.now c.draw.new.seat (Shot c.in-Shot.frame) _ _ c.args.made c.requires.own c.requires.made c.draw.ensures.seen c.draw.ensures.reply c.looked-in-Shot.ensures)
+
+pub returns-in-Load-clause-zone : goal.returns-in-Load-clause-zone
+returns-in-Load-clause-zone g c = zone_as c.args.seat.now c.load.new.seat c.args.command (Load c.in-Load.image) _ c.in-Load.is (λ reply. c.load.ensures.zone)
+
+pub returns-in-Insert-clause-zone : goal.returns-in-Insert-clause-zone
+returns-in-Insert-clause-zone g c = zone_as c.args.seat.now c.insert.new.seat c.args.command (Insert c.in-Insert.at c.in-Insert.count c.in-Insert.input) _ c.in-Insert.is (λ reply. c.insert.ensures.zone)
+
+pub returns-in-Replace-clause-zone : goal.returns-in-Replace-clause-zone
+returns-in-Replace-clause-zone g c = zone_as c.args.seat.now c.replace.new.seat c.args.command (Replace c.in-Replace.at c.in-Replace.count c.in-Replace.input) _ c.in-Replace.is (λ reply. c.replace.ensures.zone)
+
+pub returns-in-Delete-clause-zone : goal.returns-in-Delete-clause-zone
+returns-in-Delete-clause-zone g c = zone_as c.args.seat.now c.make_edit.new.seat c.args.command (Delete c.in-Delete.at c.in-Delete.count) _ c.in-Delete.is (λ reply. c.make_edit.ensures.zone)
+
+pub returns-in-Ok-clause-zone : goal.returns-in-Ok-clause-zone
+returns-in-Ok-clause-zone g c = zone_as c.args.seat.now c.own_len.new.seat c.args.command Length (Ok (record { reply = Measured c.args.made c.in-Ok.len; made = c.args.made })) c.in-Length.is (λ reply. c.own_len.ensures.zone)
+
+pub returns-in-InputAt-clause-zone : goal.returns-in-InputAt-clause-zone
+returns-in-InputAt-clause-zone g c =
+    zone_looked c.args.seat.now c.show_input.new.seat c.args.command (InputAt c.in-InputAt.frame) c.args.made _ _ c.in-InputAt.is c.looked.ensures (zone_same c.args.seat.now c.show_input.new.seat c.in-InputAt.frame _ c.show_input.ensures.zone)
+
+pub returns-in-Shot-clause-zone : goal.returns-in-Shot-clause-zone
+returns-in-Shot-clause-zone g c =
+    zone_looked c.args.seat.now c.draw.new.seat c.args.command (Shot c.in-Shot.frame) c.args.made _ _ c.in-Shot.is c.looked-in-Shot.ensures c.draw.ensures.zone
+
+pub returns-in-Work-clause-zone : goal.returns-in-Work-clause-zone
+returns-in-Work-clause-zone g c = zone_worked c.args.seat.now c.work-reply.new.seat c.args.command c.in-Work.frame c.args.made c.work-reply.result c.in-Work.is c.work-reply.ensures.zone

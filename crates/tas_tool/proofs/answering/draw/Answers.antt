@@ -1,7 +1,18 @@
-use Rattle.tas_tool.proofs.TurnLemmas.{shot_turn}
+use Rattle.tas_tool.proofs.LookLemmas.{shot_turn}
+use Rattle.tas_tool.proofs.GreenLemmas.{unshown_leaves, drawn_leaves}
 use Rattle.tas_tool.proofs.answering.draw.Goals as goal
 
 pub returns-clause-reply : goal.returns-clause-reply
 returns-clause-reply g c =
     shot_turn g.row.A.Denot c.args.seat.now c.shot.new.seat c.args.made c.in-Ok.shot.at c.in-Ok.shot.frame c.args.frame c.in-Ok.shot.ran c.lit-lit.result c.in-Ok.shot.picture _ c.requires.own c.requires.made c.shot.ensures.seat
     c.in-Ok.ensures.reply.1 c.in-Ok.ensures.reply.2 c.in-Ok.ensures.reply.0 c.lit-lit.ensures c.checked.ensures
+
+pub returns-in-Err-clause-zone : goal.returns-in-Err-clause-zone
+returns-in-Err-clause-zone g c =
+    unshown_leaves c.args.seat.now c.shot.new.seat c.unshown.new.seat c.args.made c.args.frame c.in-Err.error c.unshown.result c.requires.own c.requires.made c.shot.ensures.seat c.unshown.ensures.seen c.unshown.ensures.zone
+    c.in-Err.ensures.zone c.in-Err.ensures.reply c.unshown.ensures.tells
+
+pub returns-clause-zone : goal.returns-clause-zone
+returns-clause-zone g c =
+    drawn_leaves c.args.seat.now c.shot.new.seat c.args.made c.in-Ok.shot.at c.in-Ok.shot.frame c.args.frame c.in-Ok.shot.ran c.lit-lit.result _ c.requires.own c.requires.made c.shot.ensures.seat c.in-Ok.ensures.reply.1 c.in-Ok.ensures.zone
+    c.checked.ensures

@@ -1,4 +1,4 @@
-use Rattle.tas_tool.proofs.TurnLemmas.{input_error_is, input_turn, no_input_turn}
+use Rattle.tas_tool.proofs.LookLemmas.{input_error_is, input_turn, no_input_turn}
 use Rattle.tas_tool.proofs.answering.show_input.Goals as goal
 
 pub returns-in-Ok-clause-reply : goal.returns-in-Ok-clause-reply

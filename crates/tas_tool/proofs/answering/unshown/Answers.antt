@@ -1,5 +1,9 @@
-use Rattle.std.proofs.Common.{◌∙◌}
-use Rattle.tas_tool.proofs.TurnLemmas.{shot_error_is, no_frame_turn, halted_turn, shot_without_memory}
+use Rattle.std.proofs.Common.{◌∙◌, refl}
+use Rattle.tas_desk.specs.declared.replies.ShotError.TheVariants.{NoFrame as NoShotFrame, Halted as ShotHalted}
+use Rattle.tas_script.specs.declared.reply.Reply.TheVariants.{NoFrame}
+use Rattle.tas_tool.specs.Talking.{TellsError}
+use Rattle.tas_tool.proofs.LookLemmas.{shot_error_is, no_frame_turn, halted_turn, shot_without_memory}
+use Rattle.tas_tool.proofs.GreenLemmas.{error_as, checked_fact}
 use Rattle.tas_tool.proofs.answering.unshown.Goals as goal
 
 pub returns-in-NoFrame-clause-reply : goal.returns-in-NoFrame-clause-reply
@@ -16,3 +20,13 @@ pub returns-in-Ok-clause-reply : goal.returns-in-Ok-clause-reply
 returns-in-Ok-clause-reply g c =
     let e = shot_error_is c.args.seat.now.front c.args.frame _ _ c.in-Memory.is c.requires.error in
     shot_without_memory g.row.A.Denot c.args.seat.now c.own_len.new.seat c.args.frame c.requires.own c.own_len.ensures.seen (c.in-Ok.ensures.reply.0 ∙ c.requires.made) e
+
+pub returns-in-NoFrame-clause-tells : goal.returns-in-NoFrame-clause-tells
+returns-in-NoFrame-clause-tells g c =
+    error_as c.args.made c.args.error (NoShotFrame c.in-NoFrame.at c.in-NoFrame.len) _ c.in-NoFrame.is
+    (checked_fact c.args.made c.in-NoFrame.at (NoFrame c.in-NoFrame.at c.in-NoFrame.len) _ (TellsError c.args.made (NoShotFrame c.in-NoFrame.at c.in-NoFrame.len)) c.checked.ensures (λ same. refl))
+
+pub returns-in-Halted-clause-tells : goal.returns-in-Halted-clause-tells
+returns-in-Halted-clause-tells g c =
+    error_as c.args.made c.args.error (ShotHalted c.in-Halted.at c.in-Halted.halt) _ c.in-Halted.is
+    (checked_fact c.args.made c.in-Halted.at c.halted_reply.result _ (TellsError c.args.made (ShotHalted c.in-Halted.at c.in-Halted.halt)) c.checked-in-Halted.ensures (λ same. (same, c.halted_reply.ensures)))

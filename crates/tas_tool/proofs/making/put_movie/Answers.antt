@@ -1,6 +1,7 @@
-use Rattle.std.proofs.Common.{subst, sym}
+use Rattle.std.proofs.Common.{Ok, Err, subst, sym, ◌∙◌}
 use Rattle.tas_tool.specs.TwoEdits.{IsMakingFault}
 use Rattle.tas_tool.proofs.MakingLemmas.{loaded, movie_made, insert_refused}
+use Rattle.tas_tool.proofs.GreenLemmas.{edited_zone}
 use Rattle.tas_tool.proofs.making.put_movie.Goals as goal
 
 pub returns-in-Ok-edit-2-clause-holds : goal.returns-in-Ok-edit-2-clause-holds
@@ -18,3 +19,14 @@ returns-in-Err-edit-clause-fault g c =
     let first = loaded c.args.seat.now c.edit.new.seat c.in-Ok.cart c.in-Ok-edit.field-0 c.requires.first.0 c.requires.first.1 c.in-Ok-edit.ensures in
     subst (IsMakingFault c.edit-2.new.seat) (sym c.edit_fault-in-Err-edit.ensures)
     (insert_refused c.edit.new.seat c.edit-2.new.seat c.in-Ok.cart c.in-Ok.inputs c.in-Err-edit.error c.in-Ok.ensures.few first c.in-Err-edit.ensures)
+
+pub returns-in-Err-clause-zone : goal.returns-in-Err-clause-zone
+returns-in-Err-clause-zone g c = edited_zone c.args.seat.now c.edit.new.seat _ (Err c.in-Err.error) c.in-Err.ensures
+
+pub returns-in-Ok-edit-2-clause-zone : goal.returns-in-Ok-edit-2-clause-zone
+returns-in-Ok-edit-2-clause-zone g c =
+    edited_zone c.edit.new.seat c.edit-2.new.seat _ (Ok c.in-Ok-edit-2.receipt) c.in-Ok-edit-2.ensures ∙ edited_zone c.args.seat.now c.edit.new.seat _ (Ok c.in-Ok-edit.field-0) c.in-Ok-edit.ensures
+
+pub returns-in-Err-edit-clause-zone : goal.returns-in-Err-edit-clause-zone
+returns-in-Err-edit-clause-zone g c =
+    edited_zone c.edit.new.seat c.edit-2.new.seat _ (Err c.in-Err-edit.error) c.in-Err-edit.ensures ∙ edited_zone c.args.seat.now c.edit.new.seat _ (Ok c.in-Ok-edit.field-0) c.in-Ok-edit.ensures

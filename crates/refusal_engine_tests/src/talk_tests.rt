@@ -1,0 +1,110 @@
+//! Lines of a conversation whose memory is refused.
+
+use refusals::Refusing;
+use std::alloc::Global;
+use std::sync::Wait;
+use std::test::Fail;
+use tas_tool::talk_run;
+
+/// No conversation grows so often here.
+const MOST: u64 = 1000;
+
+/// A movie of three frames.
+const MADE: &[u8] = b"load 000=A9028500A90085004C00F0 FFC=00F0\ninsert 0 3 R.... ..... .....\n";
+
+/// Looks at it.
+static LOOKS: [&[u8]; 5] = [
+    b"picture 1\n",
+    b"movie\n",
+    b"states\n",
+    b"shot 2\n",
+    b"work 2\n",
+];
+
+/// Edits, and a look at what they made.
+const EDITS: &[u8] =
+    b"load 000=A9028500A90085004C00F0 FFC=00F0\ninsert 0 3 R.... ..... .....\nreplace 1 1 .L... ..... .....\ndelete 0 1\nlen\n";
+
+/// The answers where one of the first three is refused its memory: those behind it are of a movie without it.
+static REFUSED_EDITS: [&[u8]; 3] = [
+    b"out of memory\nedit 1 len 3\nedit 2 len 3\nedit 3 len 2\nlen 3 2\n",
+    b"edit 1 len 0\nout of memory\nplace 1 len 0\nplace 1 len 0\nlen 1 0\n",
+    b"edit 1 len 0\nedit 2 len 3\nout of memory\nedit 3 len 2\nlen 3 2\n",
+];
+
+/// What is answered to lines, where memory is there.
+fn answers<T: Wait>(rt: &T, alloc: Global, lines: &[u8]) -> Result<Vec<u8>, Fail> {
+    let mut input = lines;
+    let mut output = Vec::new(alloc);
+    talk_run(rt, alloc, &mut input, &mut output)?;
+    Ok(output)
+}
+
+/// The lines that make the movie, and some looks.
+fn looks_of(alloc: Global, looks: &[&[u8]]) -> Result<Vec<u8>, Fail> {
+    let mut lines = Vec::from_slice(alloc, MADE)?;
+    for look in looks {
+        lines.extend_from_slice(look)?;
+    }
+    Ok(lines)
+}
+
+/// The answers to the lines that make the movie, and to all looks, the one at this place told as want of memory.
+fn answers_but<T: Wait>(rt: &T, alloc: Global, refused: usize) -> Result<Vec<u8>, Fail> {
+    let mut told = answers(rt, alloc, MADE)?;
+    let made = told.len();
+    for (place, look) in LOOKS.iter().enumerate() {
+        if place == refused {
+            told.extend_from_slice(b"out of memory\n")?;
+            continue;
+        }
+        let lines = looks_of(alloc, &[*look])?;
+        let answer = answers(rt, alloc, lines.as_slice())?;
+        told.extend_from_slice(answer.as_slice().get(made..).unwrap_or(&[]))?;
+    }
+    Ok(told)
+}
+
+/// In how many conversations of these lines, of which each growth is refused in turn, the answers are those.
+fn times_told<T: Wait>(rt: &T, alloc: Global, lines: &[u8], wanted: &[u8]) -> u64 {
+    let mut times = 0u64;
+    for number in 1..MOST {
+        let heap = Refusing::new(alloc, number);
+        let mut input = lines;
+        let mut output = Vec::new(alloc);
+        let end = talk_run(rt, &heap, &mut input, &mut output);
+        if !heap.has_refused() {
+            break;
+        }
+        if end == Ok(()) && output.as_slice() == wanted {
+            times = times.saturating_add(1);
+        }
+    }
+    times
+}
+
+/// Each look's want of memory is told in its place, byte by byte, and the looks behind it are answered as ever.
+#[test]
+fn looks_without_memory(rt: HostRuntime) -> Result<(), Fail> {
+    let alloc = rt.alloc();
+    let lines = looks_of(alloc, LOOKS.as_slice())?;
+    let whole = answers(&rt, alloc, lines.as_slice())?;
+    let all = answers_but(&rt, alloc, LOOKS.len())?;
+    assert!(rt; whole.as_slice() == all.as_slice());
+    for place in 0..LOOKS.len() {
+        let wanted = answers_but(&rt, alloc, place)?;
+        let times = times_told(&rt, alloc, lines.as_slice(), wanted.as_slice());
+        assert!(rt; times > 0, "look {place}");
+    }
+    Ok(())
+}
+
+/// An edit's want of memory is told in its place, byte by byte, and the movie is as it was.
+#[test]
+fn edits_without_memory(rt: HostRuntime) {
+    let alloc = rt.alloc();
+    for (place, wanted) in REFUSED_EDITS.iter().enumerate() {
+        let times = times_told(&rt, alloc, EDITS, *wanted);
+        assert!(rt; times > 0, "edit {place}");
+    }
+}

@@ -1,0 +1,228 @@
+//! Jobs of a session, and the batches that are offered to it.
+
+use crate::changes::{Change, HALTING, PLAYFIELD, cart, edit_of};
+use crate::sessions::{Lent, Turn, kept, lend, open_movie, take_turns};
+use std::alloc::{AllocError, Global};
+use std::process::Abort;
+use std::sync::Wait;
+use std::test::Fail;
+use tas_desk::{OfferError, Offered, Session};
+use tas_green::Batch;
+
+/// A job's batch.
+fn run(alloc: Global, session: &Session, near: usize) -> Result<Batch, AllocError> {
+    Ok(session.job(alloc, near)?.run())
+}
+
+/// An offer's answer, without the batch that it may hand back.
+#[derive(Clone, Copy, Debug, PartialEq, Eq)]
+enum Answered {
+    Taken(Offered),
+    OtherCartridge { at: u64 },
+    OutOfMemory,
+}
+
+fn offer(session: &mut Session, batch: Batch) -> Answered {
+    match session.offer(batch) {
+        Ok(offered) => Answered::Taken(offered),
+        Err(OfferError::Cartridge { at }) => Answered::OtherCartridge { at },
+        Err(OfferError::Memory(_)) => Answered::OutOfMemory,
+    }
+}
+
+fn taken(at: u64, front: usize, kept: usize) -> Answered {
+    Answered::Taken(Offered { at, front, kept })
+}
+
+/// A job of the first 128 of 200 frames, and one of more frames than there are. Neither changes the session.
+struct Jobs;
+
+impl Lent for Jobs {
+    fn run<R: Wait + Abort>(
+        &self,
+        rt: &R,
+        alloc: Global,
+        session: &mut Session,
+    ) -> Result<(), Fail> {
+        open_movie(rt, alloc, session, PLAYFIELD, 200)?;
+        let first = run(alloc, session, 128)?;
+        assert!(rt; first.cart().bytes() == session.movie().cart().bytes());
+        assert_eq!(rt; first.inputs().len(), 128);
+        let all = run(alloc, session, 1000)?;
+        assert!(rt; all.inputs() == session.movie().inputs());
+        let held = [
+            (0, false, false),
+            (64, true, true),
+            (128, true, true),
+            (192, false, true),
+            (200, false, false),
+            (256, false, false),
+        ];
+        for (frame, in_first, in_all) in held {
+            assert_eq!(rt; first.holds(frame), in_first, "frame {frame}");
+            assert_eq!(rt; all.holds(frame), in_all, "frame {frame}");
+        }
+        take_turns(rt, alloc, session, &[Turn::Kept("0:")])
+    }
+}
+
+#[test]
+fn jobs_hold_what_the_session_had(rt: HostRuntime) -> Result<(), Fail> {
+    let closed = lend(&rt, rt.alloc(), &Jobs)?;
+    assert_eq!(rt; closed.journal.len(), 2);
+    Ok(())
+}
+
+/// A job starts from the nearest kept state, whose frames it doesn't play again.
+struct Nearest;
+
+impl Lent for Nearest {
+    fn run<R: Wait + Abort>(
+        &self,
+        rt: &R,
+        alloc: Global,
+        session: &mut Session,
+    ) -> Result<(), Fail> {
+        open_movie(rt, alloc, session, PLAYFIELD, 200)?;
+        take_turns(rt, alloc, session, &[Turn::Drawn(70, 2, 71, 1680)])?;
+        let batch = run(alloc, session, 128)?;
+        assert!(rt; !batch.holds(64) && batch.holds(128) && !batch.holds(192));
+        assert_eq!(rt; offer(session, batch), taken(2, 128, 1));
+        let turns = [Turn::Kept("2: 64 128"), Turn::Drawn(191, 2, 64, 1680)];
+        take_turns(rt, alloc, session, &turns)
+    }
+}
+
+#[test]
+fn a_batch_is_kept_with_what_is_there(rt: HostRuntime) -> Result<(), Fail> {
+    lend(&rt, rt.alloc(), &Nearest)?;
+    Ok(())
+}
+
+/// Three batches of 200 frames: two are offered once input 100 is another one, the third behind another cartridge.
+struct ThreeBatches;
+
+impl Lent for ThreeBatches {
+    fn run<R: Wait + Abort>(
+        &self,
+        rt: &R,
+        alloc: Global,
+        session: &mut Session,
+    ) -> Result<(), Fail> {
+        open_movie(rt, alloc, session, PLAYFIELD, 200)?;
+        let first = run(alloc, session, 200)?;
+        let second = run(alloc, session, 200)?;
+        let third = run(alloc, session, 200)?;
+        let replaced = Turn::Made(Change::ReplaceRight(100), 3, 200);
+        take_turns(rt, alloc, session, &[replaced])?;
+        assert_eq!(rt; offer(session, first), taken(3, 100, 1));
+        assert_eq!(rt; kept(alloc, session)?.as_str(), "1: 64");
+        assert_eq!(rt; offer(session, second), taken(3, 100, 0));
+        let loaded = Turn::Made(Change::Load(HALTING), 4, 200);
+        take_turns(rt, alloc, session, &[loaded])?;
+        assert_eq!(rt; offer(session, third), Answered::OtherCartridge { at: 4 });
+        Ok(())
+    }
+}
+
+#[test]
+fn three_batches_are_offered_in_turn(rt: HostRuntime) -> Result<(), Fail> {
+    lend(&rt, rt.alloc(), &ThreeBatches)?;
+    Ok(())
+}
+
+/// Two batches of 200 frames, an edit, and the batches' answers behind it.
+#[derive(Clone, Copy)]
+struct OfferedAfter {
+    change: Change,
+    once: Answered,
+    twice: Answered,
+}
+
+impl Lent for OfferedAfter {
+    fn run<R: Wait + Abort>(
+        &self,
+        rt: &R,
+        alloc: Global,
+        session: &mut Session,
+    ) -> Result<(), Fail> {
+        open_movie(rt, alloc, session, PLAYFIELD, 200)?;
+        let first = run(alloc, session, 200)?;
+        let second = run(alloc, session, 200)?;
+        session.edit(rt, 0, 2, edit_of(alloc, self.change)?)?;
+        assert_eq!(rt; offer(session, first), self.once, "{:?}", self.change);
+        assert_eq!(rt; offer(session, second), self.twice, "{:?}", self.change);
+        Ok(())
+    }
+}
+
+#[test]
+fn batches_count_as_far_as_the_inputs_agree(rt: HostRuntime) -> Result<(), Fail> {
+    let other = Answered::OtherCartridge { at: 3 };
+    let cases = [
+        (Change::InsertRight(64), taken(3, 64, 1), taken(3, 64, 0)),
+        (Change::InsertRight(63), taken(3, 63, 0), taken(3, 63, 0)),
+        (Change::Delete(10, 50), taken(3, 150, 2), taken(3, 150, 0)),
+        (Change::Insert(10, 50), taken(3, 200, 3), taken(3, 200, 0)),
+        (Change::Load(HALTING), other, other),
+        (Change::Load(PLAYFIELD), taken(3, 200, 3), taken(3, 200, 0)),
+    ];
+    for (change, once, twice) in cases {
+        let lent = OfferedAfter {
+            change,
+            once,
+            twice,
+        };
+        lend(&rt, rt.alloc(), &lent)?;
+    }
+    Ok(())
+}
+
+/// A batch of a new session's 200 frames of a program.
+fn batch_of<R: Wait + Abort>(rt: &R, alloc: Global, program: &'static [u8]) -> Result<Batch, Fail> {
+    let mut session: Session = Session::new(alloc).map_err(|_| AllocError)?;
+    let opened = open_movie(rt, alloc, &mut session, program, 200);
+    let batch = run(alloc, &session, 200);
+    session.close(rt);
+    opened?;
+    Ok(batch?)
+}
+
+/// Another session's batch of a program, offered to a session with 100 lit frames, and what is kept then.
+#[derive(Clone, Copy)]
+struct FromAnother {
+    program: &'static [u8],
+    answer: Answered,
+    kept: &'static str,
+}
+
+impl Lent for FromAnother {
+    fn run<R: Wait + Abort>(
+        &self,
+        rt: &R,
+        alloc: Global,
+        session: &mut Session,
+    ) -> Result<(), Fail> {
+        open_movie(rt, alloc, session, PLAYFIELD, 100)?;
+        let batch = batch_of(rt, alloc, self.program)?;
+        assert_eq!(rt; offer(session, batch), self.answer, "{}", self.kept);
+        take_turns(rt, alloc, session, &[Turn::Kept(self.kept)])
+    }
+}
+
+#[test]
+fn batches_go_from_one_session_to_another(rt: HostRuntime) -> Result<(), Fail> {
+    let same = FromAnother {
+        program: PLAYFIELD,
+        answer: taken(2, 100, 1),
+        kept: "1: 64",
+    };
+    let other = FromAnother {
+        program: HALTING,
+        answer: Answered::OtherCartridge { at: 2 },
+        kept: "0:",
+    };
+    lend(&rt, rt.alloc(), &same)?;
+    lend(&rt, rt.alloc(), &other)?;
+    Ok(())
+}

@@ -1,0 +1,23 @@
+-- The answers for which a script has no reply (own).
+use Rattle.std.specs.Prelude.{ℕ, List, ◌∷◌, ◌++◌, length, codes, decimal}
+use Rattle.std.specs.List.{flat_map}
+
+-- the answer to a line that isn't understood
+abbrev pub unknown_text : List ℕ
+unknown_text = codes "unknown\n"
+
+-- a picture: a line that tells how many bytes follow, and the pixmap
+abbrev pub picture_text : ℕ → ℕ → List ℕ → List ℕ
+picture_text made k pixmap = codes "picture " ++ decimal made ++ codes " " ++ decimal k ++ codes " " ++ decimal (length pixmap) ++ codes "\n" ++ pixmap
+
+-- a movie: a line that tells how many bytes follow, and the movie's text
+abbrev pub movie_text : ℕ → List ℕ → List ℕ
+movie_text made text = codes "movie " ++ decimal made ++ codes " " ++ decimal (length text) ++ codes "\n" ++ text
+
+-- a frame's number behind one space
+abbrev pub frame_word : ℕ → List ℕ
+frame_word frame = 32 ∷ decimal frame
+
+-- the frames of kept states: how many they are, and each
+abbrev pub states_text : ℕ → List ℕ → List ℕ
+states_text made frames = codes "states " ++ decimal made ++ codes " " ++ decimal (length frames) ++ flat_map frame_word frames ++ codes "\n"

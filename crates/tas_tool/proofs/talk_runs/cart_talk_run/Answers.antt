@@ -1,0 +1,23 @@
+use Rattle.std.proofs.Common.{refl, ap, rules}
+use Rattle.tas_engines.specs.declared.fault.RunFault.TheVariants.{Memory}
+use Rattle.tas_engines.specs.declared.fault.ToolFault.TheVariants.{Memory as OutOfRoom}
+use Rattle.tas_tool.specs.MovieScripts.{movie_front}
+use Rattle.tas_tool.specs.Talk.{fresh_stand}
+use Rattle.tas_tool.proofs.TalkRunLemmas.{cart_unread, cart_missized, cart_unmade, cart_talked}
+use Rattle.tas_tool.proofs.talk_runs.cart_talk_run.Goals as goal
+
+pub returns-in-Err : goal.returns-in-Err
+returns-in-Err g c = cart_unread g.row.A.Denot _ _ _ _ c.in-Err.fault _ c.in-Err.ensures.fault c.from.ensures
+
+pub returns-in-Err-Size : goal.returns-in-Err-Size
+returns-in-Err-Size g c = cart_missized g.row.A.Denot _ _ _ _ _ c.as_slice.result.now c.in-Err-Size.field-0 c.in-Err-Size.n _ c.in-Ok.ensures.whole c.as_slice.ensures.value c.in-Err-Size.ensures c.in-Err-Size.field-0-is c.in-Err-Size.n-is
+
+pub returns-in-Err-Memory : goal.returns-in-Err-Memory
+returns-in-Err-Memory g c = cart_unmade g.row.A.Denot _ _ _ _ _ c.as_slice.result.now Memory OutOfRoom c.in-Ok.ensures.whole c.as_slice.ensures.value tt refl
+
+pub returns-in-Ok-new : goal.returns-in-Ok-new
+returns-in-Ok-new g c =
+    cart_talked g.row.A.Denot _ _ _ _ _ _ _ c.as_slice.result.now _ _ c.in-Ok.ensures.whole c.as_slice.ensures.value (search rules) (ap (λ m. fresh_stand (movie_front m)) (search rules)) c.talk_from.ensures
+
+pub returns : goal.returns
+returns g c = cart_unmade g.row.A.Denot _ _ _ _ _ c.as_slice.result.now Memory OutOfRoom c.in-Ok.ensures.whole c.as_slice.ensures.value tt refl

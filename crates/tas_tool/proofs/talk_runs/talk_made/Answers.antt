@@ -1,0 +1,25 @@
+use Rattle.std.proofs.Common.{sym, ap, ◌∙◌}
+use Rattle.tas_tool.specs.Talk.{stand_from}
+use Rattle.tas_tool.proofs.MovieScriptLemmas.{holds_own}
+use Rattle.tas_tool.proofs.TalkLemmas.{first_own, first_stand, made_stand, unmade_talk, talk_as}
+use Rattle.tas_tool.proofs.talk_runs.talk_made.Goals as goal
+
+pub converse-requires-clause-own : goal.converse-requires-clause-own
+converse-requires-clause-own g c = first_own c.args.seat.now c.requires.first.1 c.requires.first.2
+
+pub returns-in_default-clause-talk : goal.returns-in_default-clause-talk
+returns-in_default-clause-talk g c = λ own.
+    talk_as g.row.A.Denot _ _ _ _ _ _ c.converse.result (first_stand c.args.seat.now c.requires.first.1 c.requires.first.2 c.requires.zone.0 c.requires.zone.1 ∙ ap stand_from (sym c.in_default.is)) (c.converse.ensures.talk own)
+
+pub returns-in-Err-clause-talk : goal.returns-in-Err-clause-talk
+returns-in-Err-clause-talk g c = λ own. rw c.from.ensures (unmade_talk (stand_from c.args.movie) c.put_movie.new.seat c.in-Err.fault _ _ c.in-Err.ensures.fault own)
+
+pub converse-requires-2-clause-own : goal.converse-requires-2-clause-own
+converse-requires-2-clause-own g c = holds_own _ _ c.in-Ok.ensures.holds
+
+pub converse-requires-2-clause-made : goal.converse-requires-2-clause-made
+converse-requires-2-clause-made g c = sym c.in-Ok.ensures.holds.made
+
+pub returns-clause-talk : goal.returns-clause-talk
+returns-clause-talk g c = λ own.
+    talk_as g.row.A.Denot _ _ _ _ _ _ c.converse-2.result (made_stand c.args.seat.now _ _ c.in-Ok.ensures.holds c.put_movie.ensures.zone c.requires.zone.0 c.requires.zone.1 ∙ ap stand_from (sym c.in-Some.is)) (c.converse-2.ensures.talk own)

@@ -1,0 +1,22 @@
+use Rattle.std.proofs.Common.{◌≡◌, ℕ, ◌++◌, List, length}
+use Rattle.tas_script.specs.Commands.{NoByte}
+use Rattle.tas_talk.specs.Held.{HoldsLine}
+use Rattle.tas_tool.specs.Talk.{Exchange, lines_of}
+use Rattle.tas_tool.specs.Talking.{HasAnswered, StandsAt}
+use Rattle.tas_tool.proofs.talking.answer_part.Given as goal
+
+abbrev pub invariant-loop-front : goal.invariant-loop-front
+invariant-loop-front g l = record {
+  number : l.seat.number ≡ l.fn.seat.number;
+  stands : StandsAt l.seat l.reached;
+  turns : (said : List ℕ) → HoldsLine said l.fn.line.bytes.items l.fn.line.long → NoByte 10 said
+      → (exchanges : List Exchange) × (part : List ℕ) × record {
+        text : said ++ l.part ≡ lines_of exchanges ++ (part ++ l.rest);
+        none : NoByte 10 part;
+        holds : HoldsLine part l.line.bytes.items l.line.long;
+        answered : HasAnswered l.fn.seat l.seat exchanges l.fn.progress.written l.reached (g.W.Write.contents l.fn.output) (g.W.Write.contents l.output);
+      };
+}
+
+abbrev pub decreases-loop-front : goal.decreases-loop-front
+decreases-loop-front g l = length l.rest

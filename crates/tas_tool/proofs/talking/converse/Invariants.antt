@@ -1,0 +1,14 @@
+use Rattle.std.proofs.Common.{◌≡◌, ℕ, List}
+use Rattle.tas_tool.specs.Talk.{Exchange}
+use Rattle.tas_tool.specs.Talking.{StandsAt}
+use Rattle.tas_tool.proofs.TalkLemmas.{IsUnderway}
+use Rattle.tas_tool.proofs.talking.converse.Given as goal
+
+abbrev pub invariant-loop : goal.invariant-loop
+invariant-loop g l = record {
+  number : l.seat.number ≡ l.fn.seat.number;
+  stands : StandsAt l.seat l.progress;
+  way : (exchanges : List Exchange) × (part : List ℕ) × IsUnderway l.fn.seat l.seat l.progress l.line.bytes.items l.line.long (g.R.Read.remaining l.fn.input) (g.R.Read.remaining l.input)
+      (g.W.Write.contents l.fn.output) (g.W.Write.contents l.output) exchanges part;
+  next : (goal.iterator-loop g).can_next l.iterator' × (goal.iterator-loop g).is_finite l.iterator';
+}

@@ -1,0 +1,27 @@
+use Rattle.std.proofs.Common.{ℕ, sym, subst, ◌∙◌}
+use Rattle.std.proofs.lemmas.Result.{MatchResult-weaker}
+use Rattle.tas_tool.specs.Talking.{TellsError}
+use Rattle.tas_tool.proofs.TellingLemmas.{talk_fault, memory_fault, told_picture, told_no_picture, told_undrawn}
+use Rattle.tas_tool.proofs.telling.tell_picture.Goals as goal
+
+pub returns-in-Ok-unshown-clause-answer : goal.returns-in-Ok-unshown-clause-answer
+returns-in-Ok-unshown-clause-answer g c =
+    MatchResult-weaker c.told_reply.result c.told_reply.ensures
+    (λ told is. told_undrawn g.row.A.Denot c.args.seat.now c.shot.new.seat c.unshown.new.seat told.made c.args.frame c.in-Err.error c.in-Ok-unshown.reply told.bytes.items c.requires.own (is.1 ∙ c.requires.made) c.shot.ensures.seat c.unshown.ensures.seen
+    c.unshown.ensures.zone c.in-Err.ensures.zone c.in-Err.ensures.reply c.in-Ok-unshown.ensures.reply (subst (λ (n : ℕ). TellsError n c.in-Err.error c.in-Ok-unshown.reply) (sym is.1) c.in-Ok-unshown.ensures.tells) is.0)
+    (λ fault is. memory_fault c.unshown.new.seat fault is)
+
+pub returns-in-Err-unshown-clause-answer : goal.returns-in-Err-unshown-clause-answer
+returns-in-Err-unshown-clause-answer g c = talk_fault c.unshown.new.seat c.in-Err-unshown.fault c.in-Err-unshown.ensures.reply
+
+pub returns-in-Ok-picture_answer-clause-answer : goal.returns-in-Ok-picture_answer-clause-answer
+returns-in-Ok-picture_answer-clause-answer g c =
+    told_picture g.row.A.Denot c.args.seat.now c.shot.new.seat c.args.made c.in-Ok.shot.at c.args.frame c.in-Ok.shot.ran c.in-Ok.shot.picture c.in-Ok-picture_answer.bytes.items c.requires.own c.requires.made c.shot.ensures.seat c.in-Ok.ensures.reply.0
+    c.in-Ok.ensures.reply.1 c.if-shot-made.false c.in-Ok.ensures.zone c.in-Ok-picture_answer.ensures
+
+pub returns-clause-answer : goal.returns-clause-answer
+returns-clause-answer g c =
+    MatchResult-weaker c.told_reply-in-Err-picture_answer.result c.told_reply-in-Err-picture_answer.ensures
+    (λ told is. told_no_picture g.row.A.Denot c.args.seat.now c.shot.new.seat told.made c.in-Ok.shot.at c.args.frame c.in-Ok.shot.ran c.in-Ok.shot.picture told.bytes.items c.requires.own (is.1 ∙ c.requires.made) c.shot.ensures.seat c.in-Ok.ensures.reply.0
+    c.in-Ok.ensures.reply.1 (c.if-shot-made.false ∙ sym is.1) c.in-Ok.ensures.zone is.0)
+    (λ fault is. memory_fault c.shot.new.seat fault is)

@@ -1,0 +1,162 @@
+//! `tas talk`.
+
+ghost use Rattle.std.specs.Prelude.{◌≡◌, ◌≤◌, [], length, None};
+ghost use Rattle.tas_desk.specs.History.{blank_movie};
+ghost use Rattle.tas_desk.specs.Seats.{name_of};
+ghost use Rattle.tas_tool.specs.Talk.{stand_from, IsCartTalk, IsMovieTalk, IsTalk};
+
+use crate::making::put_movie;
+use crate::talking::converse;
+use std::alloc::Allocator;
+use std::io::{Read, Write};
+use std::marker::Brand;
+use std::sync::Wait;
+use tas_desk::{CloseOnDrop, Desk, Name, OpenError, Seat, Unopened};
+use tas_engines::{ToolFault, movie_of, read_input, read_two};
+use tas_movie::Movie;
+use vcs_machine::{Cart, CartError};
+
+/// Gives a desk without edits its movie, where there is one, and answers lines.
+fn talk_made<N: Name, C: CloseOnDrop, A: Allocator + Copy, T: Wait, R: Read, W: Write>(
+    rt: &T,
+    alloc: A,
+    desk: &Desk<N, C, A>,
+    seat: &mut Seat<N, A>,
+    movie: Option<Movie<A>>,
+    input: &mut R,
+    output: &mut W,
+) -> Result<(), ToolFault>
+    requires first { (seat.old.number ≡ 0) × (seat.old.made ≡ 0) × (seat.old.front ≡ []) }
+    requires zone { (seat.old.zone.movie ≡ blank_movie) × (seat.old.zone.states ≡ []) }
+    ensures number { seat.new.number ≡ 0 }
+    ensures talk { length seat.new.front ≤ seat.new.made → IsTalk A (stand_from movie) (R.remaining input.old) (R.remaining input.new)
+        (W.contents output.old) (W.contents output.new) result }
+{
+    let Some(movie) = movie else {
+        return converse(rt, alloc, desk, seat, 0, input, output);
+    };
+    match put_movie(rt, alloc, desk, seat, &movie) {
+        Ok(()) => {}
+        Err(fault) => return Err(ToolFault::from(fault)),
+    }
+    converse(rt, alloc, desk, seat, 2, input, output)
+}
+
+/// Answers lines on a desk of one seat, from a movie on where there is one, and closes the desk. That nobody else made an edit is
+/// known once it is closed.
+fn talk_on<N: Name, A: Allocator + Copy, T: Wait, R: Read, W: Write>(
+    rt: &T,
+    alloc: A,
+    unopened: Unopened<A>,
+    movie: Option<Movie<A>>,
+    input: &mut R,
+    output: &mut W,
+) -> Result<(), ToolFault>
+    requires name { unopened ≡ name_of N.registry N.name N.seats }
+    requires named { N.parts ≡ N.seats }
+    requires one { unopened.seats ≡ 1 }
+    ensures { IsTalk A (stand_from movie) (R.remaining input.old) (R.remaining input.new) (W.contents output.old) (W.contents output.new) result }
+{
+    let (desk, mut seats) = match Desk::<N, &T, A>::open(rt, alloc, unopened) {
+        Ok(opened) => opened,
+        Err(OpenError::Memory) => return Err(ToolFault::Memory),
+        Err(OpenError::NoPlace) => return Err(ToolFault::NoPlace),
+    };
+    let seat = &mut seats.as_mut_slice()[0];
+    let end = talk_made(rt, alloc, &desk, seat, movie, input, output);
+    drop(desk.close(rt, seats));
+    end
+}
+
+/// Answers lines, from a movie on where there is one.
+fn talk_from<A: Allocator + Copy, T: Wait, R: Read, W: Write>(
+    rt: &T,
+    alloc: A,
+    movie: Option<Movie<A>>,
+    input: &mut R,
+    output: &mut W,
+) -> Result<(), ToolFault>
+    ensures { IsTalk A (stand_from movie) (R.remaining input.old) (R.remaining input.new) (W.contents output.old) (W.contents output.new) result }
+{
+    let unopened = match Unopened::new(alloc, 1) {
+        Ok(unopened) => unopened,
+        Err(OpenError::Memory) => return Err(ToolFault::Memory),
+        Err(OpenError::NoPlace) => return Err(ToolFault::NoPlace),
+    };
+    talk_on::<Brand, A, T, R, W>(rt, alloc, unopened, movie, input, output)
+}
+
+/// Reads lines and answers each of them, from a blank cartridge with no inputs on (own): an answer is handed out whole before more
+/// is read. The lines are those of a script, `picture K`, `movie`, `states` and `quit`; another line, or one of more than
+/// [`MAX_LINE`](tas_talk::MAX_LINE) bytes, is answered `unknown` and changes nothing, and so is what stands behind the last
+/// newline. It runs on a desk of one seat, and ends with `quit` or with the input.
+///
+/// Faults: `Read` where a read failed, with each whole line answered; `Write`, with the first bytes of the answers written, and how
+/// many; `NoEntry`, and `Memory` where it is refused for a line or for its reply, with the lines before answered; `NoPlace` and
+/// `Memory` before the first line. `Foreign` would tell of an edit that isn't the conversation's own, and never comes.
+pub fn talk_run<A: Allocator + Copy, T: Wait, R: Read, W: Write>(
+    rt: &T,
+    alloc: A,
+    input: &mut R,
+    output: &mut W,
+) -> Result<(), ToolFault>
+    ensures { IsTalk A (stand_from None) (R.remaining input.old) (R.remaining input.new) (W.contents output.old) (W.contents output.new) result }
+{
+    talk_from(rt, alloc, None, input, output)
+}
+
+/// Reads a cartridge, and then talks as [`talk_run`] does, but from this cartridge with no inputs on: it is loaded, and no
+/// inputs are put in, by two edits that no answer tells (own).
+///
+/// Faults, in order: those of [`read_input`], and `Size`, each before anything is read of the input or written; `Memory`; then those
+/// of `talk_run`.
+pub fn cart_talk_run<A: Allocator + Copy, T: Wait, C: Read, R: Read, W: Write>(
+    rt: &T,
+    alloc: A,
+    cart: &mut C,
+    input: &mut R,
+    output: &mut W,
+) -> Result<(), ToolFault>
+    ensures { IsCartTalk A (C.remaining cart.old) (C.remaining cart.new) (R.remaining input.old) (R.remaining input.new)
+        (W.contents output.old) (W.contents output.new) result }
+{
+    let image = match read_input(alloc, cart) {
+        Ok(image) => image,
+        Err(fault) => return Err(ToolFault::from(fault)),
+    };
+    let taken = match Cart::from_bytes(alloc, image.as_slice()) {
+        Ok(taken) => taken,
+        Err(CartError::Size(n)) => return Err(ToolFault::Size(n)),
+        Err(CartError::Memory) => return Err(ToolFault::Memory),
+    };
+    match Movie::new(alloc, &taken) {
+        Ok(movie) => talk_from(rt, alloc, Some(movie), input, output),
+        Err(_) => Err(ToolFault::Memory),
+    }
+}
+
+/// Reads a cartridge and a movie text, and then talks as [`talk_run`] does, but from this movie on: its cartridge is loaded and
+/// its inputs are put in by two edits that no answer tells (own).
+///
+/// Faults, in order: those of [`read_two`], then those of [`movie_of`], each before anything is read of the input or written; then those
+/// of `talk_run`.
+pub fn movie_talk_run<A: Allocator + Copy, T: Wait, C: Read, M: Read, R: Read, W: Write>(
+    rt: &T,
+    alloc: A,
+    cart: &mut C,
+    movie: &mut M,
+    input: &mut R,
+    output: &mut W,
+) -> Result<(), ToolFault>
+    ensures { IsMovieTalk A (C.remaining cart.old) (C.remaining cart.new) (M.remaining movie.old) (M.remaining movie.new)
+        (R.remaining input.old) (R.remaining input.new) (W.contents output.old) (W.contents output.new) result }
+{
+    let (image, bytes) = match read_two(alloc, cart, movie) {
+        Ok(read) => read,
+        Err(fault) => return Err(ToolFault::from(fault)),
+    };
+    match movie_of(alloc, image.as_slice(), bytes.as_slice()) {
+        Ok(movie) => talk_from(rt, alloc, Some(movie), input, output),
+        Err(fault) => Err(ToolFault::from(fault)),
+    }
+}

@@ -1,0 +1,203 @@
+//! The lines of a conversation, one after the other.
+
+ghost use Rattle.std.specs.Prelude.{◌≡◌, ◌≤◌, ◌+◌, ◌++◌, ℕ, List, length, min, IfOk, IfErr, IfSome, OnOk, MatchResult};
+ghost use Rattle.std.specs.Io.KnownBytes.{Appends};
+ghost use Rattle.tas_script.specs.Commands.{NoByte};
+ghost use Rattle.tas_talk.specs.Answers.{unknown_text};
+ghost use Rattle.tas_talk.specs.Held.{HoldsLine};
+ghost use Rattle.tas_tool.specs.Turns.{BeginsWithOwn};
+ghost use Rattle.tas_tool.specs.Talk.{last_answer, most_counted, IsTalk};
+ghost use Rattle.tas_tool.specs.Talking.{stand_of, CutsOff, IsLineTurn, IsPartTurn, StandsAt};
+
+use crate::telling::answer_request;
+use counted_write::write_counted;
+use std::alloc::Allocator;
+use std::io::{Read, Write};
+use std::sync::Wait;
+use tas_desk::{CloseOnDrop, Desk, Name, Seat};
+use tas_engines::{RunFault, ToolFault};
+use tas_script::split_once;
+use tas_talk::{Line, Request};
+
+/// How many bytes one read asks for.
+const CHUNK: usize = 4096;
+
+/// How far a conversation is.
+#[derive(Clone, Copy)]
+pub struct Progress {
+    /// How many edits it has made.
+    pub made: u64,
+    /// How many bytes of answers have gone out, as far as 64 bits can tell.
+    pub written: usize,
+}
+
+/// Hands an answer out whole, and answers how many bytes have gone out with those before.
+fn hand_out<W: Write>(output: &mut W, bytes: &[u8], before: usize) -> Result<usize, RunFault>
+    ensures out { OnOk result (Appends (W.contents output.old) (W.contents output.new) bytes.now) }
+    ensures count { IfOk result (λ n. n ≡ min (before + length bytes.now) most_counted) }
+    ensures fault { IfErr result (CutsOff before bytes.now (W.contents output.old) (W.contents output.new)) }
+{
+    match write_counted(bytes, 0, output) {
+        Ok(_) => {}
+        Err(fault) => {
+            return Err(RunFault::Write {
+                written: before.saturating_add(fault.written),
+            });
+        }
+    }
+    // A writer that can't pass on what it holds fails at the next write.
+    let _ = output.flush();
+    Ok(before.saturating_add(bytes.len()))
+}
+
+/// Answers a line that isn't understood.
+fn tell_unknown<W: Write>(output: &mut W, before: usize) -> Result<usize, RunFault>
+    ensures out { OnOk result (Appends (W.contents output.old) (W.contents output.new) unknown_text) }
+    ensures count { IfOk result (λ n. n ≡ min (before + length unknown_text) most_counted) }
+    ensures fault { IfErr result (CutsOff before unknown_text (W.contents output.old) (W.contents output.new)) }
+{
+    hand_out(output, b"unknown\n", before)
+}
+
+/// Answers the line that is held; nothing comes back where it asks for the end.
+fn answer_line<N: Name, C: CloseOnDrop, A: Allocator + Copy, R: Wait, W: Write>(
+    rt: &R,
+    alloc: A,
+    desk: &Desk<N, C, A>,
+    seat: &mut Seat<N, A>,
+    progress: Progress,
+    line: &Line<A>,
+    output: &mut W,
+) -> Result<Option<Progress>, RunFault>
+    requires own { BeginsWithOwn seat.old }
+    requires made { progress.made ≡ seat.old.made }
+    ensures number { seat.new.number ≡ seat.old.number }
+    ensures stands { IfOk result (λ found. IfSome found (StandsAt seat.new)) }
+    ensures turn { (said : List ℕ) → HoldsLine said line.now.bytes.items line.now.long → NoByte 10 said
+        → IsLineTurn seat.old seat.new said progress.written (W.contents output.old) (W.contents output.new) result }
+{
+    let Some(request) = line.request() else {
+        return match tell_unknown(output, progress.written) {
+            Ok(written) => Ok(Some(Progress {
+                made: progress.made,
+                written,
+            })),
+            Err(fault) => Err(fault),
+        };
+    };
+    let told = match request {
+        Request::Quit => return Ok(None),
+        _ => match answer_request(rt, alloc, desk, seat, progress.made, request) {
+            Ok(told) => told,
+            Err(fault) => return Err(fault),
+        },
+    };
+    match hand_out(output, told.bytes.as_slice(), progress.written) {
+        Ok(written) => Ok(Some(Progress {
+            made: told.made,
+            written,
+        })),
+        Err(fault) => Err(fault),
+    }
+}
+
+/// Answers each line that ends in a part of the input, the first of which may have begun before it, and holds what stands
+/// behind the last newline; nothing comes back where a line asks for the end.
+fn answer_part<N: Name, C: CloseOnDrop, A: Allocator + Copy, R: Wait, W: Write>(
+    rt: &R,
+    alloc: A,
+    desk: &Desk<N, C, A>,
+    seat: &mut Seat<N, A>,
+    progress: Progress,
+    line: &mut Line<A>,
+    part: &[u8],
+    output: &mut W,
+) -> Result<Option<Progress>, RunFault>
+    requires own { BeginsWithOwn seat.old }
+    requires made { progress.made ≡ seat.old.made }
+    ensures number { seat.new.number ≡ seat.old.number }
+    ensures stands { IfOk result (λ found. IfSome found (StandsAt seat.new)) }
+    ensures turn { (said : List ℕ) → HoldsLine said line.old.bytes.items line.old.long → NoByte 10 said
+        → IsPartTurn seat.old seat.new (said ++ part.now) progress.written line.new.bytes.items line.new.long (W.contents output.old) (W.contents output.new) result }
+{
+    let mut rest = part;
+    let mut reached = progress;
+    while let Some((front, after)) = split_once(rest, b'\n') {
+        if let Err(_) = line.add(front) {
+            return Err(RunFault::Memory);
+        }
+        match answer_line(rt, alloc, desk, seat, reached, &*line, output) {
+            Ok(Some(next)) => reached = next,
+            Ok(None) => return Ok(None),
+            Err(fault) => return Err(fault),
+        }
+        line.clear();
+        rest = after;
+    }
+    if let Err(_) = line.add(rest) {
+        return Err(RunFault::Memory);
+    }
+    Ok(Some(reached))
+}
+
+/// Answers what stands behind the last newline.
+fn answer_last<A: Allocator, W: Write>(
+    line: &Line<A>,
+    written: usize,
+    output: &mut W,
+) -> Result<(), RunFault>
+    ensures { (said : List ℕ) → HoldsLine said line.now.bytes.items line.now.long
+        → MatchResult result (λ _. Appends (W.contents output.old) (W.contents output.new) (last_answer said))
+        (CutsOff written (last_answer said) (W.contents output.old) (W.contents output.new)) }
+{
+    if line.is_empty() {
+        return Ok(());
+    }
+    match tell_unknown(output, written) {
+        Ok(_) => Ok(()),
+        Err(fault) => Err(fault),
+    }
+}
+
+/// Reads lines and answers each before it reads on, as a seat that has made so many edits, until one asks for the end or no more
+/// bytes come. `Foreign` comes only where the seat has seen more than its own edits.
+pub fn converse<N: Name, C: CloseOnDrop, A: Allocator + Copy, T: Wait, R: Read, W: Write>(
+    rt: &T,
+    alloc: A,
+    desk: &Desk<N, C, A>,
+    seat: &mut Seat<N, A>,
+    made: u64,
+    input: &mut R,
+    output: &mut W,
+) -> Result<(), ToolFault>
+    requires own { BeginsWithOwn seat.old }
+    requires made { made ≡ seat.old.made }
+    ensures number { seat.new.number ≡ seat.old.number }
+    ensures talk { length seat.new.front ≤ seat.new.made → IsTalk A (stand_of seat.old) (R.remaining input.old) (R.remaining input.new)
+        (W.contents output.old) (W.contents output.new) result }
+{
+    let Ok(mut line) = Line::new(alloc) else {
+        return Err(ToolFault::Memory);
+    };
+    let mut progress = Progress { made, written: 0 };
+    let mut buffer = [0; CHUNK];
+    for _ in rt.forever() {
+        let count = match input.read(&mut buffer) {
+            Ok(count) => count,
+            Err(_) => return Err(ToolFault::Read),
+        };
+        if count == 0 {
+            match answer_last(&line, progress.written, output) {
+                Ok(()) => return Ok(()),
+                Err(fault) => return Err(ToolFault::from(fault)),
+            }
+        }
+        let part = &buffer[..count];
+        match answer_part(rt, alloc, desk, seat, progress, &mut line, part, output) {
+            Ok(Some(next)) => progress = next,
+            Ok(None) => return Ok(()),
+            Err(fault) => return Err(ToolFault::from(fault)),
+        }
+    }
+    unreachable!()
+}

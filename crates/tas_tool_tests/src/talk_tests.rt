@@ -1,0 +1,403 @@
+//! Whole conversations.
+
+use crate::movies::{IDLE, PLAYFIELD, RIGHT, SMALL_PLAYFIELD, joined, playfield_picture, text_of};
+use std::alloc::Global;
+use std::cell::Cell;
+use std::io;
+use std::io::{Error, ErrorKind, Read, Write};
+use std::sync::Wait;
+use std::test::Fail;
+use tas_tool::{ToolFault, talk_run};
+use test_streams::{Failure, Filler, Giver, Room, Taker};
+
+/// What a conversation writes, and how it ends.
+fn said<R: Wait>(rt: &R, alloc: Global, lines: &[u8]) -> (Vec<u8>, Result<(), ToolFault>) {
+    let mut input = lines;
+    let mut output = Vec::new(alloc);
+    let end = talk_run(rt, alloc, &mut input, &mut output);
+    (output, end)
+}
+
+/// Loads the playfield's cartridge and puts in 200 frames.
+static START: &[u8] = b"load 000=A910850DA91E85084C08F0 FFC=00F0\ninsert 0 200 ..... ..... .....\n";
+
+static STARTED: &[u8] = b"edit 1 len 0\nedit 2 len 200\n";
+
+/// Each line of a script, and each refusal that fits in a few lines.
+static SCRIPT: &[u8] =
+    b"len\ninput 0\nshot 0\ninsert 0 2 R.... ..... .....\ninput 1\ndelete 1 2\nreplace 1 1 ..... ..... .....\ninsert 2 262143 ..... ..... .....\nload 000=A203A9028500A9008500CAD0F502 FFC=00F0\ninsert 0 3 ..... ..... .....\nwork 3\nshot 2\nshot 4\nquit\nlen\n";
+
+static REPLIES: &[u8] =
+    b"len 0 0\nno frame 0 len 0\nno frame 0 len 0\nedit 1 len 2\ninput 1 R.... ..... .....\nplace 1 len 2\nedit 2 len 2\nlong 2 len 2\nedit 3 len 2\nedit 4 len 5\nwork jobs 1 kept 0 stale 0\nshot 4 2 ran 3 lit 0\nhalted 4 F00D 02\n";
+
+#[test]
+fn lines_of_a_script_are_answered_as_by_a_script(rt: HostRuntime) {
+    let alloc = rt.alloc();
+    let (output, end) = said(&rt, alloc, SCRIPT);
+    assert_eq!(rt; end, Ok(()));
+    assert_eq!(rt; output.as_slice(), REPLIES);
+}
+
+/// The picture is the one that the playfield's program draws, and its refusals are those of `shot`.
+#[test]
+fn pictures_are_told_whole(rt: HostRuntime) -> Result<(), Fail> {
+    let alloc = rt.alloc();
+    let picture = playfield_picture(alloc)?;
+    let lines = joined(
+        alloc,
+        &[b"picture 0\n", START, b"picture 191\npicture 200\nlen\n"],
+    )?;
+    let wanted = joined(
+        alloc,
+        &[
+            b"no frame 0 len 0\n",
+            STARTED,
+            b"picture 2 191 100815\n",
+            picture.as_slice(),
+            b"no frame 2 len 200\nlen 2 200\n",
+        ],
+    )?;
+    let (output, end) = said(&rt, alloc, lines.as_slice());
+    assert_eq!(rt; end, Ok(()));
+    assert!(rt; output.as_slice() == wanted.as_slice());
+    let halts =
+        b"load 000=A203A9028500A9008500CAD0F502 FFC=00F0\ninsert 0 9 ..... ..... .....\npicture 5\n";
+    let (output, end) = said(&rt, alloc, halts);
+    assert_eq!(rt; end, Ok(()));
+    assert_eq!(rt;
+        output.as_slice(),
+        b"edit 1 len 0\nedit 2 len 9\nhalted 2 F00D 02\n".as_slice()
+    );
+    Ok(())
+}
+
+/// The greenzone after shots, an edit, and the edit that takes it back: states behind the edited place are gone where they are told.
+#[test]
+fn states_are_those_of_the_movie(rt: HostRuntime) -> Result<(), Fail> {
+    let alloc = rt.alloc();
+    let lines = joined(
+        alloc,
+        &[
+            b"states\n",
+            START,
+            b"states\nshot 191\nstates\nreplace 64 1 R.... ..... .....\nstates\nshot 130\nstates\nreplace 64 1 ..... ..... .....\nstates\nwork 200\nstates\ndelete 0 200\nstates\n",
+        ],
+    )?;
+    let wanted = joined(
+        alloc,
+        &[
+            b"states 0 0\n",
+            STARTED,
+            b"states 2 0\nshot 2 191 ran 192 lit 1680\nstates 2 3 64 128 192\nedit 3 len 200\nstates 3 1 64\nshot 3 130 ran 67 lit 1680\nstates 3 2 64 128\nedit 4 len 200\nstates 4 1 64\nwork jobs 1 kept 3 stale 0\nstates 4 3 64 128 192\nedit 5 len 0\nstates 5 0\n",
+        ],
+    )?;
+    let (output, end) = said(&rt, alloc, lines.as_slice());
+    assert_eq!(rt; end, Ok(()));
+    assert_eq!(rt; output.as_slice(), wanted.as_slice());
+    Ok(())
+}
+
+#[test]
+fn the_movie_is_told_as_its_text(rt: HostRuntime) -> Result<(), Fail> {
+    let alloc = rt.alloc();
+    let text = text_of(alloc, PLAYFIELD, 200, IDLE)?;
+    let lines = joined(
+        alloc,
+        &[
+            START,
+            b"movie\ndelete 3 197\nmovie\nreplace 1 1 R.... ..... .....\nmovie\n",
+        ],
+    )?;
+    let short = text_of(alloc, PLAYFIELD, 3, IDLE)?;
+    let runs = text_of(alloc, PLAYFIELD, 3, RIGHT)?;
+    let wanted = joined(
+        alloc,
+        &[
+            STARTED,
+            b"movie 2 104\n",
+            text.as_bytes(),
+            b"edit 3 len 3\nmovie 3 102\n",
+            short.as_bytes(),
+            b"edit 4 len 3\nmovie 4 135\n",
+            runs.as_bytes(),
+        ],
+    )?;
+    let (output, end) = said(&rt, alloc, lines.as_slice());
+    assert_eq!(rt; end, Ok(()));
+    assert_eq!(rt; output.as_slice(), wanted.as_slice());
+    Ok(())
+}
+
+/// A small cartridge plays as its image doubled does; its movie's text names it. A part past its end is no line.
+#[test]
+fn small_cartridges_are_talked_of(rt: HostRuntime) -> Result<(), Fail> {
+    let alloc = rt.alloc();
+    let picture = playfield_picture(alloc)?;
+    let text = text_of(alloc, SMALL_PLAYFIELD, 200, IDLE)?;
+    let lines =
+        b"load2 000=A910850DA91E85084C08F0 7FC=00F0\ninsert 0 200 ..... ..... .....\npicture 199\nmovie\nload2 800=00\nload2\nstates\n";
+    let wanted = joined(
+        alloc,
+        &[
+            STARTED,
+            b"picture 2 199 100815\n",
+            picture.as_slice(),
+            b"movie 2 104\n",
+            text.as_bytes(),
+            b"unknown\nunknown\nstates 2 3 64 128 192\n",
+        ],
+    )?;
+    let (output, end) = said(&rt, alloc, lines);
+    assert_eq!(rt; end, Ok(()));
+    assert!(rt; output.as_slice() == wanted.as_slice());
+    Ok(())
+}
+
+/// A million edits and no more are made; what refuses the next ones, and looks behind them, are told at these.
+#[test]
+fn edits_are_bounded(rt: HostRuntime) -> Result<(), Fail> {
+    let alloc = rt.alloc();
+    let mut lines = Vec::with_capacity(alloc, 11_000_100)?;
+    for _ in 0..1_000_000u32 {
+        lines.extend_from_slice(b"delete 0 0\n")?;
+    }
+    lines.extend_from_slice(b"delete 0 0\nload 000=00\nlen\npicture 0\nstates\n")?;
+    let (output, end) = said(&rt, alloc, lines.as_slice());
+    assert_eq!(rt; end, Ok(()));
+    let last =
+        b"edit 1000000 len 0\nfull 1000000\nfull 1000000\nlen 1000000 0\nno frame 1000000 len 0\nstates 1000000 0\n";
+    assert!(rt; output.as_slice().ends_with(last));
+    // 12 bytes and its number's digits for each edit, and 80 behind them.
+    assert_eq!(rt; output.len(), 12_000_000 + 5_888_896 + 80);
+    Ok(())
+}
+
+/// Lines that aren't understood are answered `unknown`, and so is what stands behind the last newline, whatever it says.
+#[test]
+fn unknown_lines_change_nothing(rt: HostRuntime) -> Result<(), Fail> {
+    let alloc = rt.alloc();
+    let lines =
+        b"len\n\n len\nlen \nLen\nlen\r\npicture\npicture 01\npicture -1\npicture 10000000\nmovie 1\nstates \nquit 0\nshot\n\xFF\0\nload\ninsert 0 1 R\nlen\nlen";
+    let (output, end) = said(&rt, alloc, lines);
+    let mut wanted = Vec::from_slice(alloc, b"len 0 0\n")?;
+    for _ in 0..16 {
+        wanted.extend_from_slice(b"unknown\n")?;
+    }
+    wanted.extend_from_slice(b"len 0 0\nunknown\n")?;
+    assert_eq!(rt; end, Ok(()));
+    assert_eq!(rt; output.as_slice(), wanted.as_slice());
+    let cases: [(&[u8], &[u8]); 5] = [
+        (b"", b""),
+        (b"quit\n", b""),
+        (b"quit", b"unknown\n"),
+        (b"\n", b"unknown\n"),
+        (b"quit\nlen\nlen", b""),
+    ];
+    for (lines, answers) in cases {
+        let (output, end) = said(&rt, alloc, lines);
+        assert_eq!(rt; end, Ok(()));
+        assert_eq!(rt; output.as_slice(), answers);
+    }
+    Ok(())
+}
+
+/// A `load` line of so many parts, each of so many bytes of 00.
+fn load_line(alloc: Global, parts: &[usize]) -> Result<Vec<u8>, Fail> {
+    let mut line = Vec::from_slice(alloc, b"load")?;
+    for count in parts {
+        line.extend_from_slice(b" 000=")?;
+        for _ in 0..*count {
+            line.extend_from_slice(b"00")?;
+        }
+    }
+    line.push(b'\n')?;
+    Ok(line)
+}
+
+/// A line of 16,384 bytes is understood, one of 16,385 isn't, though a script takes both; and one of many more isn't held.
+#[test]
+fn lines_are_bounded(rt: HostRuntime) -> Result<(), Fail> {
+    let alloc = rt.alloc();
+    let longest = load_line(alloc, &[4096, 4089])?;
+    assert_eq!(rt; longest.len(), 16_385);
+    let longer = load_line(alloc, &[4096, 4082, 5])?;
+    assert_eq!(rt; longer.len(), 16_386);
+    let lines = joined(
+        alloc,
+        &[
+            longer.as_slice(),
+            longest.as_slice(),
+            longer.as_slice(),
+            b"len\n",
+            longer.as_slice(),
+        ],
+    )?;
+    for at_once in [1, 7, 4095, 4096] {
+        let mut input = Giver::new(lines.as_slice(), at_once, 0);
+        let mut output = Vec::new(alloc);
+        let end = talk_run(&rt, alloc, &mut input, &mut output);
+        assert_eq!(rt; end, Ok(()));
+        assert_eq!(rt;
+            output.as_slice(),
+            b"unknown\nedit 1 len 0\nunknown\nlen 1 0\nunknown\n".as_slice()
+        );
+    }
+    let mut input = Filler::new(b' ', 20_000_000, 0);
+    let mut output = Vec::new(alloc);
+    let end = talk_run(&rt, alloc, &mut input, &mut output);
+    assert_eq!(rt; end, Ok(()));
+    assert_eq!(rt; output.as_slice(), b"unknown\n".as_slice());
+    Ok(())
+}
+
+/// One byte at a time, and many lines at once, are answered alike.
+#[test]
+fn pieces_of_the_input_make_no_difference(rt: HostRuntime) -> Result<(), Fail> {
+    let alloc = rt.alloc();
+    let lines = joined(
+        alloc,
+        &[
+            START,
+            b"picture 3\nwhat\nstates\nmovie\nshot 70\nstates\nlen",
+        ],
+    )?;
+    let (whole, end) = said(&rt, alloc, lines.as_slice());
+    assert_eq!(rt; end, Ok(()));
+    for at_once in [1, 2, 3, 50] {
+        let mut input = Giver::new(lines.as_slice(), at_once, 0);
+        let mut output = Vec::new(alloc);
+        let end = talk_run(&rt, alloc, &mut input, &mut output);
+        assert_eq!(rt; end, Ok(()));
+        assert!(rt; output.as_slice() == whole.as_slice(), "{at_once} at once");
+    }
+    Ok(())
+}
+
+/// A writer that passes on what it holds when it is flushed, and says how many bytes it has passed on.
+#[derive(Drop)]
+struct Passing<'a> {
+    holds: usize,
+    passed: &'a Cell<usize>,
+}
+
+impl<'a> Write for Passing<'a> {
+    fn write(&mut self, buf: &[u8]) -> io::Result<usize> {
+        self.holds = self.holds.saturating_add(buf.len());
+        Ok(buf.len())
+    }
+
+    fn flush(&mut self) -> io::Result<()> {
+        let before = self.passed.get();
+        self.passed.set(before.saturating_add(self.holds));
+        self.holds = 0;
+        Ok(())
+    }
+}
+
+/// A reader that gives the next lines once all answers to those before have been passed on, and fails where they haven't.
+#[derive(Drop)]
+struct Asking<'a> {
+    lines: &'a [(&'a [u8], usize)],
+    wanted: usize,
+    passed: &'a Cell<usize>,
+}
+
+impl<'a> Read for Asking<'a> {
+    fn read(&mut self, buf: &mut [u8]) -> io::Result<usize> {
+        if self.passed.get() != self.wanted {
+            return Err(Error::from(ErrorKind::Other));
+        }
+        if self.lines.is_empty() {
+            return Ok(0);
+        }
+        let (line, answer) = self.lines[0];
+        let n = line.len().min(buf.len());
+        buf[..n].copy_from_slice(&line[..n]);
+        self.wanted = self.wanted.saturating_add(answer);
+        self.lines = &self.lines[1..];
+        Ok(n)
+    }
+}
+
+/// Each answer is out, and passed on, before the next read: whole lines, parts of lines and several lines at once, with so many bytes
+/// of answers.
+#[test]
+fn answers_are_out_before_the_next_read(rt: HostRuntime) {
+    let alloc = rt.alloc();
+    let lines: [(&[u8], usize); 10] = [
+        (START, 28),
+        (b"len\n", 10),
+        (b"le", 0),
+        (b"n", 0),
+        (b"\n", 10),
+        (b"insert 0 3 ..... ..... .....\nlen\nle", 25),
+        (b"n\npicture 2\n", 10 + 19 + 100_815),
+        (b"states\nnothing\n", 11 + 8),
+        (b"movie\n", 12 + 104),
+        (b"quit\nlen\n", 0),
+    ];
+    let passed = Cell::new(0);
+    let mut input = Asking {
+        lines: lines.as_slice(),
+        wanted: 0,
+        passed: &passed,
+    };
+    let mut output = Passing {
+        holds: 0,
+        passed: &passed,
+    };
+    assert_eq!(rt; talk_run(&rt, alloc, &mut input, &mut output), Ok(()));
+    assert_eq!(rt; passed.get(), 101_052);
+    assert!(rt; input.lines.is_empty());
+}
+
+/// A failed write is the last one, and tells how many bytes of the whole conversation went out, within a picture too.
+#[test]
+fn a_failed_write_ends_the_conversation(rt: HostRuntime) -> Result<(), Fail> {
+    let alloc = rt.alloc();
+    let lines = joined(alloc, &[START, b"picture 3\nlen\nlen"])?;
+    let (whole, end) = said(&rt, alloc, lines.as_slice());
+    assert_eq!(rt; end, Ok(()));
+    for room in [
+        0, 12, 13, 27, 28, 1_000, 100_861, 100_862, 100_863, 100_871, 100_872, 100_879,
+    ] {
+        for failure in [Failure::Error, Failure::Nothing] {
+            let mut input = lines.as_slice();
+            let mut output = Taker::new(alloc, 5_000, Room::Bytes(room), failure);
+            let end = talk_run(&rt, alloc, &mut input, &mut output);
+            assert_eq!(rt; end, Err(ToolFault::Write { written: room }), "room {room}");
+            let sent = room.min(whole.len());
+            assert!(rt;
+                output.taken.as_slice() == &whole.as_slice()[..sent],
+                "room {room}"
+            );
+            assert_eq!(rt; output.failed, 1, "room {room}");
+        }
+    }
+    assert_eq!(rt; whole.len(), 100_880);
+    let mut input = lines.as_slice();
+    let mut output = Taker::new(alloc, 5_000, Room::Bytes(100_880), Failure::Error);
+    assert_eq!(rt; talk_run(&rt, alloc, &mut input, &mut output), Ok(()));
+    Ok(())
+}
+
+/// A failed read ends the conversation, with all whole lines answered.
+#[test]
+fn a_failed_read_ends_the_conversation(rt: HostRuntime) {
+    let alloc = rt.alloc();
+    let cases: [(usize, &[u8]); 5] = [
+        (1, b""),
+        (2, b""),
+        (3, b"len 0 0\nunknown\n"),
+        (4, b"len 0 0\nunknown\n"),
+        (5, b"len 0 0\nunknown\nlen 0 0\n"),
+    ];
+    for (fails_at, answers) in cases {
+        let mut input = Giver::new(b"len\nx\nlen\nlen", 3, fails_at);
+        let mut output = Vec::new(alloc);
+        let end = talk_run(&rt, alloc, &mut input, &mut output);
+        assert_eq!(rt; end, Err(ToolFault::Read));
+        assert_eq!(rt; output.as_slice(), answers, "read {fails_at}");
+        assert_eq!(rt; input.reads, fails_at);
+    }
+}

@@ -1,0 +1,255 @@
+//! Words that name a task, and others.
+
+use crate::movies::{PLAYFIELD, image_of};
+use crate::programs::{ONE_FRAME, TwoFiles, run, run_words, words_of};
+use std::io::{Error, ErrorKind};
+use std::test::Fail;
+use tas_program::{Task, read_words};
+
+/// Words that name a task, and the task.
+static TASKS: [(&[&str], Task<'static>); 18] = [
+    (&["trace", "0"], Task::Trace { instructions: 0 }),
+    (&["trace", "3"], Task::Trace { instructions: 3 }),
+    (
+        &["trace", "1000000"],
+        Task::Trace {
+            instructions: 1_000_000,
+        },
+    ),
+    (&["check", "a.bin"], Task::Check { cart: "a.bin" }),
+    (&["migrate", "a.bin"], Task::Migrate { cart: "a.bin" }),
+    (
+        &["shot", "a.bin", "0"],
+        Task::Shot {
+            cart: "a.bin",
+            frame: 0,
+        },
+    ),
+    (
+        &["shot", "7", "1000001"],
+        Task::Shot {
+            cart: "7",
+            frame: 1_000_001,
+        },
+    ),
+    (
+        &["shot", "b", "9999999"],
+        Task::Shot {
+            cart: "b",
+            frame: 9_999_999,
+        },
+    ),
+    (
+        &["edit", "a.bin", "b"],
+        Task::Edit {
+            cart: "a.bin",
+            script: "b",
+        },
+    ),
+    (
+        &["diff", "a.bin", "b"],
+        Task::Diff {
+            cart: "a.bin",
+            old: "b",
+        },
+    ),
+    (&["script"], Task::Script),
+    (
+        &["script", "--cart", "a.bin", "--movie", "b"],
+        Task::MovieScript {
+            cart: "a.bin",
+            movie: "b",
+        },
+    ),
+    (
+        &["script", "--movie=b", "--cart=a.bin"],
+        Task::MovieScript {
+            cart: "a.bin",
+            movie: "b",
+        },
+    ),
+    (&["talk"], Task::Talk),
+    (&["talk", "a.bin"], Task::CartTalk { cart: "a.bin" }),
+    (
+        &["talk", "a.bin", "b"],
+        Task::MovieTalk {
+            cart: "a.bin",
+            movie: "b",
+        },
+    ),
+    (
+        &["export", "a.bin", "0", "9999999", "1"],
+        Task::Export {
+            cart: "a.bin",
+            from: 0,
+            to: 9_999_999,
+            workers: 1,
+        },
+    ),
+    (
+        &["export", "7", "9999999", "0", "16"],
+        Task::Export {
+            cart: "7",
+            from: 9_999_999,
+            to: 0,
+            workers: 16,
+        },
+    ),
+];
+
+#[test]
+fn each_command_is_its_task(rt: HostRuntime) -> Result<(), Fail> {
+    let alloc = rt.alloc();
+    for (number, (words, task)) in TASKS.iter().enumerate() {
+        let words = words_of(alloc, words)?;
+        match read_words(alloc, words.as_slice()) {
+            Ok(read) => assert_eq!(rt; read, *task, "words {number}"),
+            Err(_) => assert!(rt; false, "words {number}"),
+        }
+    }
+    Ok(())
+}
+
+/// Words that are no task: none, an unknown one, too few, too many, numbers past their ranges and
+/// texts that are no numbers, unknown flags.
+static MISUSES: [&[&str]; 44] = [
+    &[],
+    &[""],
+    &["play"],
+    &["help"],
+    &["--cart"],
+    &["trace"],
+    &["trace", "1000001"],
+    &["trace", "-1"],
+    &["trace", ""],
+    &["trace", "x"],
+    &["trace", "4294967296"],
+    &["trace", "1", "2"],
+    &["check"],
+    &["check", "game.bin", "0"],
+    &["check", "--all", "game.bin"],
+    &["migrate"],
+    &["migrate", "game.bin", "0"],
+    &["shot", "game.bin"],
+    &["shot", "game.bin", "10000000"],
+    &["shot", "game.bin", "-1"],
+    &["shot", "0", "game.bin"],
+    &["shot", "game.bin", "0", "1"],
+    &["edit", "game.bin"],
+    &["edit", "game.bin", "other", "other"],
+    &["diff"],
+    &["diff", "game.bin", "other", "0"],
+    &["script", "game.bin"],
+    &["script", "--cart", "game.bin"],
+    &["script", "--movie", "other"],
+    &["script", "--cart", "--movie", "other"],
+    &["script", "--cart", "game.bin", "--movie"],
+    &["script", "--cart", "game.bin", "--movie", "other", "other"],
+    &["talk", "game.bin", "other", "other"],
+    &["talk", "--cart", "game.bin"],
+    &["Trace", "1"],
+    &["export", "game.bin"],
+    &["export", "game.bin", "0", "1"],
+    &["export", "game.bin", "0", "1", "1", "1"],
+    &["export", "0", "1", "1"],
+    &["export", "game.bin", "0", "1", "0"],
+    &["export", "game.bin", "0", "1", "17"],
+    &["export", "game.bin", "10000000", "1", "1"],
+    &["export", "game.bin", "0", "10000000", "1"],
+    &["export", "game.bin", "0", "-1", "1"],
+];
+
+#[test]
+fn other_words_end_with_status_2(rt: HostRuntime) -> Result<(), Fail> {
+    let alloc = rt.alloc();
+    let cart = image_of(alloc, PLAYFIELD.bytes)?;
+    for (number, words) in MISUSES.iter().enumerate() {
+        let ran = run(&rt, alloc, words, cart.as_slice(), ONE_FRAME)?;
+        assert_eq!(rt; ran.code, 2, "words {number}");
+        assert!(rt; ran.output.is_empty(), "words {number}");
+        assert!(rt; ran.errors.starts_with(b"error: "), "words {number}");
+    }
+    let ran = run_words(
+        &rt,
+        alloc,
+        Err(Error::from(ErrorKind::InvalidData)),
+        TwoFiles {
+            game: cart.as_slice(),
+            other: b"",
+        },
+        ONE_FRAME,
+    );
+    assert_eq!(rt; ran.code, 2);
+    assert!(rt; ran.output.is_empty());
+    assert_eq!(rt;
+        ran.errors.as_slice(),
+        b"error: the words aren't all text\n".as_slice()
+    );
+    Ok(())
+}
+
+/// Words that ask for help, and the beginning of the text.
+static HELPS: [(&[&str], &[u8]); 11] = [
+    (
+        &["--help"],
+        b"Replays movies of Atari 2600 cartridges, exactly and from power-on\n\nUsage: tas <COMMAND>\n",
+    ),
+    (
+        &["-h"],
+        b"Replays movies of Atari 2600 cartridges, exactly and from power-on\n\nUsage: tas <COMMAND>\n",
+    ),
+    (
+        &["trace", "--help"],
+        b"Writes the first instructions of a cartridge, a line for each\n\nUsage: tas trace <N>\n",
+    ),
+    (
+        &["check", "--help"],
+        b"Checks a movie text and tells its length\n\nUsage: tas check <CART>\n",
+    ),
+    (
+        &["migrate", "--help"],
+        b"Writes a movie text, older ones too, as it is written today\n\nUsage: tas migrate <CART>\n",
+    ),
+    (
+        &["shot", "--help"],
+        b"Writes the picture of one frame of a movie\n\nUsage: tas shot <CART> <K>\n",
+    ),
+    (
+        &["edit", "--help"],
+        b"Makes the changes of a script on a movie and writes its text\n\nUsage: tas edit <CART> <SCRIPT>\n",
+    ),
+    (
+        &["diff", "--help"],
+        b"Writes the script that makes one movie of another\n\nUsage: tas diff <CART> <OLD>\n",
+    ),
+    (
+        &["script", "--help"],
+        b"Edits a movie by a script and writes the replies\n\nUsage: tas script [OPTIONS]\n",
+    ),
+    (
+        &["talk", "--help"],
+        b"Answers lines, each before the next one is read\n\nUsage: tas talk [CART] [MOVIE]\n",
+    ),
+    (
+        &["export", "--help"],
+        b"Writes the pictures of some frames of a movie, one after the other\n\nUsage: tas export <CART> <FROM> <TO> <WORKERS>\n",
+    ),
+];
+
+#[test]
+fn help_and_version_are_shown(rt: HostRuntime) -> Result<(), Fail> {
+    let alloc = rt.alloc();
+    for (number, (words, text)) in HELPS.iter().enumerate() {
+        let ran = run(&rt, alloc, words, b"", b"")?;
+        assert_eq!(rt; ran.code, 0, "help {number}");
+        assert!(rt; ran.output.starts_with(text), "help {number}");
+        assert!(rt; ran.errors.is_empty(), "help {number}");
+    }
+    let ran = run(&rt, alloc, &["--version"], b"", b"")?;
+    assert_eq!(rt; ran.code, 0);
+    assert_eq!(rt;
+        ran.output.as_slice(),
+        b"tas 0.1.0, machine profile 2\n".as_slice()
+    );
+    Ok(())
+}

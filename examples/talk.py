@@ -1,0 +1,48 @@
+#!/usr/bin/env python3
+"""Talks to the editor as a child process: edits a movie, steps through frames, and writes a picture or a film.
+
+    examples/talk.py joystick.bin examples/joystick.movie 0 60 frame60.png     the last frame as a PNG
+    examples/talk.py joystick.bin examples/joystick.movie 0 60 - |             all of them as a film
+        ffmpeg -f image2pipe -framerate 60 -c:v ppm -i - film.mp4
+"""
+import struct, subprocess, sys, zlib
+from pathlib import Path
+
+
+class Editor:
+    def __init__(self, *files):
+        tas = Path(__file__).resolve().parent.parent / "tas"
+        pipe = subprocess.PIPE
+        self.child = subprocess.Popen([tas, "talk", *files], stdin=pipe, stdout=pipe)
+
+    def ask(self, line):
+        """The words of the answer to a line, and the bytes that follow it."""
+        self.child.stdin.write(line.encode() + b"\n")
+        self.child.stdin.flush()
+        words = self.child.stdout.readline().decode().split()
+        count = int(words[-1]) if words[:1] in (["picture"], ["movie"]) else 0
+        return words, self.child.stdout.read(count)
+
+
+def png(pixmap):
+    """A pixmap of 160 by 210 pixels as a PNG."""
+    rows = b"".join(b"\0" + pixmap[at:at + 480] for at in range(15, len(pixmap), 480))
+    chunks = (b"IHDR", struct.pack(">IIBBBBB", 160, 210, 8, 2, 0, 0, 0)), (b"IDAT", zlib.compress(rows)), (b"IEND", b"")
+    return b"\x89PNG\r\n\x1a\n" + b"".join(
+        struct.pack(">I", len(data)) + kind + data + struct.pack(">I", zlib.crc32(kind + data)) for kind, data in chunks)
+
+
+if __name__ == "__main__":
+    cart, movie, first, last, name = sys.argv[1:]
+    editor = Editor(cart, movie)
+    editor.ask("replace 30 5 ....F ..... .....")
+    for frame in range(int(first), int(last) + 1):
+        words, pixmap = editor.ask(f"picture {frame}")
+        if words[0] != "picture":
+            sys.exit(" ".join(words))
+        if name == "-":
+            sys.stdout.buffer.write(pixmap)
+    if name != "-":
+        Path(name).write_bytes(png(pixmap))
+    print("kept states:", *editor.ask("states")[0][3:], file=sys.stderr)
+    editor.ask("quit")

@@ -1,0 +1,28 @@
+#!/bin/bash
+# Talks to the editor through a coprocess of the shell:
+#   examples/talk.sh joystick.bin examples/joystick.movie 60 frame60.ppm
+# It tells the movie's length, holds the fire button in frames 30 to 34, and writes the picture of a frame before and after.
+top=$(CDPATH='' cd -- "$(dirname -- "$0")/.." && pwd) || exit 1
+[ $# -eq 4 ] || { echo "usage: $0 CART MOVIE FRAME PICTURE" >&2; exit 2; }
+"$top/tas" --version > /dev/null || exit 1
+coproc TAS { exec "$top/tas" talk "$1" "$2"; }
+editor=$TAS_PID
+
+# ask LINE: sends a line and prints the first line of its answer
+ask() {
+    echo "$*" >&"${TAS[1]}"
+    IFS= read -r answer <&"${TAS[0]}" || exit 1
+    echo "$answer"
+}
+
+ask len
+ask shot "$3"
+ask replace 30 5 ....F ..... .....
+ask shot "$3"
+ask picture "$3"
+case $answer in
+    picture*) head -c "${answer##* }" <&"${TAS[0]}" > "$4" ;;
+esac
+ask states
+echo quit >&"${TAS[1]}"
+wait "$editor"
