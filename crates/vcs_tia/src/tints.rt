@@ -270,35 +270,3 @@ static SPREAD: [u64; 256] = [
     0x0101010101010100,
     0x0101010101010101,
 ];
-
-/// So many bits of a word from one on, which becomes bit 0.
-fn cut(word: u64, from: u32, count: u32) -> u32
-    requires from { from < 32 }
-    requires count { count ≤ 32 }
-    ensures { result ≡ bits_cut word from count }
-{
-    ((word >> from) % 4294967296) as u32 & ones(count)
-}
-
-/// So many ones from bit 0 on.
-fn ones(count: u32) -> u32
-    requires { count ≤ 32 }
-    ensures { result ≡ 2 ^ count - 1 }
-{
-    ((1u64 << count) - 1) as u32
-}
-
-/// Which of 32 pixels from pixel x on belong to the line's left half.
-pub fn left_half(x: u8) -> u32
-    requires { x < 160 }
-    ensures { (i : ℕ) → i < 32 → has_bit result i ≡ nat_lt (x + i) 80 }
-{
-    if x >= 80 {
-        return 0;
-    }
-    let count = 80 - x as u32;
-    if count >= 32 {
-        return ones(32);
-    }
-    ones(count)
-}
