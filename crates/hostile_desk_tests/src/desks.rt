@@ -15,6 +15,7 @@ use std::test::Fail;
 use std::thread::Threads;
 use tas_desk::{Closed, Desk, Name, Seat, Unopened};
 use tas_green::Batch;
+use test_checks::check_that;
 
 /// What is done at a desk.
 #[derive(Drop)]
@@ -82,7 +83,7 @@ fn play_at<N: Name + Send + Sync, R: Threads + Wait + Abort + Sync>(
 {
     let (desk, seats) = Desk::<N, &R>::open(rt, alloc, unopened).map_err(|_| AllocError)?;
     let (seats, told) = take(rt, alloc, &desk, seats, task)?;
-    assert!(rt; desk.whole(seats.as_slice()), "all seats come back");
+    check_that(rt, "all seats come back", desk.whole(seats.as_slice()));
     Ok((desk.close(rt, seats), told))
 }
 

@@ -17,6 +17,7 @@ use std::test::Fail;
 use std::thread::Threads;
 use tas_desk::{Desk, ExportError, Gate, Name, Seat, Unopened};
 use tas_movie::{Movie, apply, check};
+use test_checks::check_same;
 use vcs_machine::{Meter, State, play};
 use vcs_tia::{Picture, ppm};
 
@@ -296,10 +297,10 @@ fn refuse_each<R: Threads + Wait + Abort + Sync>(
         if run == Run::Done {
             break;
         }
-        assert_eq!(rt; run, Run::Refused, "{workers} workers, growth {number}");
+        check_same(rt, ("workers, growth", workers, number), run, Run::Refused);
         refused = number;
     }
-    assert_eq!(rt; refused, growths, "{workers} workers");
+    check_same(rt, ("workers", workers), refused, growths);
     Ok(())
 }
 

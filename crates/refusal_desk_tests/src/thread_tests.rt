@@ -16,6 +16,7 @@ use std::test::Fail;
 use std::thread::{Threads, join_mut};
 use tas_desk::{Closed, Desk, Name, Seat, Unopened};
 use tas_movie::{Edit, Movie, apply, check};
+use test_checks::{check_same, check_that};
 use vcs_machine::{Meter, State, play};
 use vcs_tia::Picture;
 
@@ -242,10 +243,14 @@ fn three_seats_on_three_threads(rt: HostRuntime) -> Result<(), Fail> {
         if run == Run::Done {
             break;
         }
-        assert_eq!(rt; run, Run::Refused, "growth {number}");
+        check_same(&rt, ("growth", number), run, Run::Refused);
         refused = number;
     }
     // How many there are depends on who comes first: where two edits come between two shots, the movie is copied once.
-    assert!(rt; 30 <= refused && refused < MOST - 1, "{refused} growths");
+    check_that(
+        &rt,
+        ("growths", refused),
+        30 <= refused && refused < MOST - 1,
+    );
     Ok(())
 }

@@ -10,6 +10,7 @@ use std::sync::Wait;
 use std::test::Fail;
 use std::thread::Threads;
 use tas_tool::ToolFault;
+use test_checks::check_same;
 
 /// No engine grows so often here.
 const MOST: u64 = 1000;
@@ -120,7 +121,7 @@ fn each_growth_refused(rt: HostRuntime) -> Result<(), Fail> {
     let bytes = make_inputs(alloc)?;
     for (engine, growths, replies) in engines {
         let counts = count_refused(&rt, alloc, engine, &bytes)?;
-        assert_eq!(rt; counts, Some((growths, replies)), "{engine:?}");
+        check_same(&rt, engine, counts, Some((growths, replies)));
     }
     Ok(())
 }

@@ -10,6 +10,7 @@ use std::alloc::{Allocator, Global};
 use std::test::Fail;
 use tas_green::{Batch, Green, Job, MergeError, Merged};
 use tas_movie::Movie;
+use test_checks::{check_same, check_that};
 use vcs_machine::Meter;
 use vcs_tia::Picture;
 
@@ -282,7 +283,7 @@ fn what_a_greenzone_does(rt: HostRuntime) -> Result<(), Fail> {
     let alloc = rt.alloc();
     let movie = movie_of(alloc, BRIEF, 400)?;
     let other = replaced(alloc, &movie, 100)?;
-    assert!(rt; movie.len() == 400 && other.len() == 400);
+    check_that(&rt, "movie", movie.len() == 400 && other.len() == 400);
     for (seeking, growths) in SEEKINGS {
         let mut refused = 0;
         for number in 1..MOST {
@@ -290,10 +291,10 @@ fn what_a_greenzone_does(rt: HostRuntime) -> Result<(), Fail> {
             if run == Run::Done {
                 break;
             }
-            assert_eq!(rt; run, Run::Refused, "{seeking:?}, growth {number}");
+            check_same(&rt, ("growth", seeking, number), run, Run::Refused);
             refused = number;
         }
-        assert_eq!(rt; refused, growths, "{seeking:?}");
+        check_same(&rt, seeking, refused, growths);
     }
     Ok(())
 }

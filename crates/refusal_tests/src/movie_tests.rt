@@ -8,6 +8,7 @@ use refusals::Refusing;
 use std::alloc::Global;
 use std::test::Fail;
 use tas_movie::{Edit, Inputs, Movie, ReadError, TextError, TextErrorKind, print_text, read_text};
+use test_checks::{check_same, check_that};
 use vcs_machine::{Cart, CartError};
 use vcs_tia::Picture;
 
@@ -171,8 +172,12 @@ fn memory_comes_before_a_fault_of_the_text(rt: HostRuntime) -> Result<(), Fail> 
     ] {
         let heap = Refusing::new(alloc, number);
         let fault = read_text(&heap, text, &cart).err();
-        assert!(rt; fault == Some(wanted), "growth {number}");
-        assert!(rt; heap.has_refused() == (number < NEVER), "growth {number}");
+        check_that(&rt, ("growth", number), fault == Some(wanted));
+        check_that(
+            &rt,
+            ("growth", number),
+            heap.has_refused() == (number < NEVER),
+        );
     }
     Ok(())
 }
@@ -195,10 +200,10 @@ fn what_is_made_of_a_movie(rt: HostRuntime) -> Result<(), Fail> {
             if run == Run::Done {
                 break;
             }
-            assert_eq!(rt; run, Run::Refused, "{making:?}, growth {number}");
+            check_same(&rt, ("growth", making, number), run, Run::Refused);
             refused = number;
         }
-        assert_eq!(rt; refused, growths, "{making:?}");
+        check_same(&rt, making, refused, growths);
     }
     Ok(())
 }
@@ -302,10 +307,10 @@ fn copies_of_edits(rt: HostRuntime) -> Result<(), Fail> {
             if run == Run::Done {
                 break;
             }
-            assert_eq!(rt; run, Run::Refused, "{kind:?}, growth {number}");
+            check_same(&rt, ("growth", kind, number), run, Run::Refused);
             refused = number;
         }
-        assert_eq!(rt; refused, growths, "{kind:?}");
+        check_same(&rt, kind, refused, growths);
     }
     Ok(())
 }

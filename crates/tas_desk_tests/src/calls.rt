@@ -11,6 +11,7 @@ use tas_desk::{
     CloseOnDrop, Desk, EditError, ExportError, InputError, Name, NoEntry, Receipt, Seat, ShotError,
     Worked,
 };
+use test_checks::check_that;
 use vcs_machine::Input;
 
 /// A call of the seat of this number, and its answer.
@@ -198,7 +199,7 @@ pub fn take_calls<N: Name, W: CloseOnDrop, R: Threads + Wait + Abort + Sync>(
 ) -> Result<(), Fail> {
     for (number, call) in calls.iter().enumerate() {
         let is_right = is_taken(rt, alloc, desk, seats, *call)?;
-        assert!(rt; is_right, "call {number}");
+        check_that(rt, ("call", number), is_right);
     }
     Ok(())
 }

@@ -19,6 +19,7 @@ use std::sync::Wait;
 use std::test::Fail;
 use std::thread::Threads;
 use tas_desk::{Closed, Desk, Name, Seat, Unopened, Worked};
+use test_checks::check_that;
 
 /// What is done at a desk.
 #[derive(Clone, Copy)]
@@ -105,7 +106,7 @@ fn play_at<N: Name + Send + Sync, R: Threads + Wait + Abort + Sync>(
 {
     let (desk, seats) = Desk::<N, &R>::open(rt, alloc, unopened).map_err(|_| AllocError)?;
     let (seats, notes) = take(rt, alloc, &desk, seats, task)?;
-    assert!(rt; desk.whole(seats.as_slice()), "all seats come back");
+    check_that(rt, "all seats come back", desk.whole(seats.as_slice()));
     Ok((desk.close(rt, seats), notes))
 }
 

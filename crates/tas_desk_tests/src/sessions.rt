@@ -8,6 +8,7 @@ use std::sync::Wait;
 use std::test::Fail;
 use tas_desk::{Closed, EditError, Entry, Receipt, Session, ShotError};
 use tas_movie::{Edit, MAX_FRAMES, print_text};
+use test_checks::check_that;
 use vcs_machine::Meter;
 
 /// A turn of a session, and its answer.
@@ -153,7 +154,11 @@ pub fn take_turns<R: Wait + Abort>(
     turns: &[Turn],
 ) -> Result<(), Fail> {
     for (number, turn) in turns.iter().enumerate() {
-        assert!(rt; is_answered(rt, alloc, session, *turn)?, "turn {number}");
+        check_that(
+            rt,
+            ("turn", number),
+            is_answered(rt, alloc, session, *turn)?,
+        );
     }
     Ok(())
 }

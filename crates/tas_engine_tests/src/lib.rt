@@ -8,6 +8,10 @@ mod edit_tests;
 #[cfg(test)]
 mod engine_tests;
 #[cfg(test)]
+mod fault_tests;
+#[cfg(test)]
 mod movies;
 #[cfg(test)]
 mod script_tests;
+#[cfg(test)]
+mod shot_tests;

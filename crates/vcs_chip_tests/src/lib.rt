@@ -2,8 +2,6 @@
 #![tactic(auto)]
 
 #[cfg(test)]
-mod checks;
-#[cfg(test)]
 mod cpu_tests;
 #[cfg(test)]
 mod riot_tests;

@@ -2,9 +2,9 @@
 
 use super::plain::{Drawing, Plain};
 use super::{next_random, run};
-use crate::checks::{check_same, check_that};
 use std::alloc::{AllocError, Global};
 use std::test::Fail;
+use test_checks::{check_same, check_that};
 use vcs_tia::{Picture, Tia};
 
 /// A TIA that lags behind: clocks are owed until a write may be seen. Either it draws them then, or they only pass.
