@@ -4,7 +4,10 @@ use crate::movies::{PLAYFIELD, image_of, playfield_picture};
 use crate::programs::{ONE_FRAME, TwoFiles, run, run_words, words_of};
 use std::alloc::Global;
 use std::io::{Error, ErrorKind};
+use std::process::Abort;
+use std::sync::Wait;
 use std::test::Fail;
+use std::thread::Threads;
 use tas_program::run_program;
 use test_checks::{check_same, check_that};
 
@@ -69,7 +72,11 @@ fn each_command_writes_its_answer(rt: HostRuntime) -> Result<(), Fail> {
 /// The words, the file `game.bin`, the input, and what the program then writes and tells, by hand.
 type Faulty<'a> = (&'a [&'a str], &'a [u8], &'a [u8], &'a [u8], &'a [u8]);
 
-fn check_faults(rt: &HostRuntime, alloc: Global, cases: &[Faulty]) -> Result<(), Fail> {
+fn check_faults<R: Threads + Wait + Abort + Sync>(
+    rt: &R,
+    alloc: Global,
+    cases: &[Faulty],
+) -> Result<(), Fail> {
     for (words, file, input, output, line) in cases {
         let ran = run(rt, alloc, words, file, input)?;
         check_same(rt, *words, ran.code, 1);
@@ -251,8 +258,8 @@ static THREE_FRAMES: &[u8] =
 /// The words, the file `other`, the input, and what the program then writes and tells, by hand.
 type OverTwoFiles<'a> = (&'a [&'a str], &'a [u8], &'a [u8], &'a [u8], &'a [u8]);
 
-fn check_over_two_files(
-    rt: &HostRuntime,
+fn check_over_two_files<R: Threads + Wait + Abort + Sync>(
+    rt: &R,
     alloc: Global,
     cases: &[OverTwoFiles],
 ) -> Result<(), Fail> {
