@@ -234,7 +234,7 @@ fn compare<R: Abort>(rt: &R, alloc: Global, text: &[u8]) -> Result<(), Fail> {
         let (line, reply) = split_once(turn, b'|').ok_or("a reply")?;
         let (told, after) = split_once(rest, b'\n').ok_or("too few replies")?;
         let line = String::from_utf8_lossy(alloc, line)?;
-        check_same(rt, ("line", number, line), told, reply);
+        check_same(rt, ("line", number, line.as_str()), told, reply);
         turns = later;
         rest = after;
     }
