@@ -3,9 +3,7 @@
 //! Each call that takes a seat gives it back with its number, and with a front, the history that the seat has now seen, which
 //! begins with the one that it had seen before. In every reply `at` is the length of this front.
 
-ghost use Rattle.std.specs.Prelude.{◌≡◌, ◌≢◌, ◌↔◌, ◌⊎◌, ℕ, ◌+◌, ◌<◌, ◌≤◌, ◌==◌, ◌++◌, ◌∷◌, [], length, take, min, slice_get, Some, count_by, IsTrue, IfOk, IfErr, Err, MatchResult, All};
-ghost use mathlib.Core.List.{IsPrefix};
-ghost use Rattle.tas_green.specs.Front.{IsCommonFront};
+ghost use Rattle.std.specs.Prelude.{◌≡◌, ◌≢◌, ◌↔◌, ◌⊎◌, ℕ, ◌+◌, ◌<◌, ◌≤◌, ◌==◌, [], length, slice_get, Some, count_by, IsTrue, IfOk, IfErr, Err, MatchResult, All};
 ghost use Rattle.tas_desk.specs.declared.replies.OfferError.TheVariants.{Cartridge, Memory};
 ghost use Rattle.tas_desk.specs.declared.replies.OpenError.TheVariants.{Memory as OutOfMemory};
 ghost use Rattle.tas_desk.specs.History.{movie_of, IsLegal};

@@ -1,6 +1,6 @@
 //! Exports of pictures.
 
-ghost use Rattle.std.specs.Prelude.{◌≡◌, ◌↔◌, ◌≤◌, IsTrue, length};
+ghost use Rattle.std.specs.Prelude.{◌↔◌, ◌≤◌, IsTrue, length};
 ghost use Rattle.tas_desk.specs.History.{movie_of};
 ghost use Rattle.tas_desk.specs.Seats.{HasLooked};
 ghost use Rattle.tas_desk.specs.Exports.{IsInRange, IsExport};

@@ -1,8 +1,8 @@
 //! What a seat sees of the published movie, without the lock. These calls wait for nobody.
 
-ghost use Rattle.std.specs.Prelude.{◌≡◌, ◌<◌, length, MatchResult};
+ghost use Rattle.std.specs.Prelude.{◌≡◌, ◌<◌};
 ghost use Rattle.left_right.specs.Sides.{view};
-ghost use Rattle.tas_desk.specs.Published.{HasSeenMore, KnowsRegistry};
+ghost use Rattle.tas_desk.specs.Published.{KnowsRegistry};
 ghost use Rattle.tas_desk.specs.Readings.{FoundLen, FoundInput, FoundCopy};
 
 use crate::movie_copy::MovieCopy;

@@ -1,6 +1,6 @@
 //! The editor for one caller.
 
-ghost use Rattle.std.specs.Prelude.{◌≡◌, ◌≢◌, ◌↔◌, ◌⊎◌, ℕ, ◌+◌, ◌<◌, ◌≤◌, ◌^◌, [], length, take, drop, ◌∷◌, ◌++◌, min, Some, None, IfOk, IfErr, OnOk, OnErr, MatchResult};
+ghost use Rattle.std.specs.Prelude.{◌≡◌, ◌≢◌, ◌↔◌, ◌⊎◌, ℕ, ◌+◌, ◌<◌, ◌≤◌, ◌^◌, [], length, take, min, Some, None, IfOk, IfErr, OnOk, OnErr, MatchResult};
 ghost use mathlib.Core.List.{IsPrefix};
 ghost use Rattle.tas_movie.specs.Edit.{edited};
 ghost use Rattle.tas_green.specs.Run.{state_after};
@@ -13,7 +13,7 @@ ghost use Rattle.tas_desk.specs.declared.replies.OpenError.TheVariants.{Memory a
 ghost use Rattle.tas_desk.specs.History.{most_edits, IsLegal, blank_movie, movie_of};
 ghost use Rattle.tas_desk.specs.Session.{IsNextEntry, edit_refusal, IsEditError, after_entry};
 ghost use Rattle.tas_desk.specs.Version.{version_of};
-ghost use Rattle.tas_desk.specs.Published.{after, Follows, view_of, KnowsRegistry};
+ghost use Rattle.tas_desk.specs.Published.{view_of, KnowsRegistry};
 ghost use Rattle.tas_desk.specs.Shots.{IsShot, IsShotError, MatchPlayed};
 
 use crate::counts::EntryCounts;

@@ -4,8 +4,7 @@
 //!
 //! The registry exists in proofs alone: at run time a version is its number, and the registry is a counter.
 
-ghost use Rattle.std.specs.Prelude.{◌≡◌, ◌+◌, ◌==◌, ◌<◌, ◌≤◌, ◌++◌, ◌∷◌, [], length, MatchBool, true};
-ghost use mathlib.Core.List.{IsPrefix};
+ghost use Rattle.std.specs.Prelude.{◌≡◌, ◌+◌, ◌==◌, ◌<◌, [], length, true};
 ghost use Rattle.tas_desk.specs.Registry.{counter_of, latest};
 ghost use Rattle.tas_desk.specs.Version.{version_of};
 

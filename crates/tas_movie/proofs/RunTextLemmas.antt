@@ -9,16 +9,15 @@ use Rattle.std.proofs.lemmas.List.{append-nil, length-append, length-replicate, 
 use Rattle.std.proofs.lemmas.Slice.Eq.{bytes_eq-Decides}
 use Rattle.vcs_machine.specs.declared.input.Input.{Input}
 use Rattle.vcs_machine.specs.Input.{are_same_inputs}
-use Rattle.tas_movie.specs.declared.error.TextError.{TextError}
 use Rattle.tas_movie.specs.declared.error.TextErrorKind.{TextErrorKind}
 use Rattle.tas_movie.specs.declared.error.TextErrorKind.TheVariants.{Frame, End, TooMany, Run}
 use Rattle.tas_movie.specs.declared.run.FrameRun.{FrameRun}
-use Rattle.tas_movie.specs.Content.{MovieContent, most_inputs}
+use Rattle.tas_movie.specs.Content.{most_inputs}
 use Rattle.tas_movie.specs.Runs.{run_inputs, runs_of, BeginOtherwise, AreLongest}
-use Rattle.tas_movie.specs.Text.{line, frame_text, count_text, run_text, run_line, digest_text, head_text2, text2}
+use Rattle.tas_movie.specs.Text.{line, frame_text, count_text, run_text, run_line}
 use Rattle.tas_movie.specs.Fault.{SplitLines, split_lines, shown_count, shown_run, is_run, is_repeated, IsRunLine, run_fault, fault_at, fault_or, runs_fault, fault_by}
 use Rattle.tas_movie.proofs.RunLemmas.{equal_same, apart_same, runs_longest, runs_made, runs_split, runs_more, run_is_last, length-runs}
-use Rattle.tas_movie.proofs.TextLemmas.{NoBreak, NoBreak-push, NoBreak-append, split_lines-line, input_read, frame_no_break, bytes_same}
+use Rattle.tas_movie.proofs.TextLemmas.{NoBreak, NoBreak-push, NoBreak-append, split_lines-line, input_read, frame_no_break}
 
 -- ---- the line of a run
 

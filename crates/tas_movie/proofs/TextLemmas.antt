@@ -1,5 +1,5 @@
 -- Lines of bytes, and the frames among them; the older text.
-use Rattle.std.proofs.Common.{◌≡◌, ℕ, zero, suc, ◌+◌, ◌/◌, ◌%◌, ◌<◌, ◌≤◌, ◌&&◌, Bool, true, false, not, cond, eqb, List, [], ◌∷◌, ◌++◌, length, get_or, take, drop, Option, Some, None, refl, sym, ap, subst, ◌∙◌, arith, append_assoc}
+use Rattle.std.proofs.Common.{◌≡◌, ℕ, zero, suc, ◌+◌, ◌/◌, ◌%◌, ◌<◌, ◌≤◌, ◌&&◌, Bool, true, false, not, cond, eqb, List, [], ◌∷◌, ◌++◌, length, get_or, take, drop, Option, None, refl, sym, ap, subst, ◌∙◌, arith, append_assoc}
 use Rattle.std.specs.Prelude.{codes}
 use Rattle.std.specs.List.{flat_map}
 use Rattle.std.specs.Str.{bytes_eq}
@@ -14,7 +14,7 @@ use Rattle.tas_movie.specs.declared.error.TextError.{TextError}
 use Rattle.tas_movie.specs.declared.error.TextErrorKind.TheVariants.{Digest, Frame, End, TooMany}
 use Rattle.tas_movie.specs.Content.{MovieContent}
 use Rattle.tas_movie.specs.Text.{line, mark, stick_text, frame_text, frame_line, head_text1, head_text2, digest_text, text1, most_frames1}
-use Rattle.tas_movie.specs.Fault.{SplitLines, split_lines, shown_input, is_frame, fault_at, frames_fault, digest_fault, head_fault, fault_by, fault}
+use Rattle.tas_movie.specs.Fault.{SplitLines, split_lines, shown_input, is_frame, fault_at, frames_fault, head_fault, fault_by, fault}
 
 -- ---- lines
 

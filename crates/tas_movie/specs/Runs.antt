@@ -1,5 +1,5 @@
 -- Runs of equal frames (own).
-use Rattle.std.specs.Prelude.{◌≢◌, ℕ, ◌+◌, ◌≤◌, List, [], ◌∷◌, replicate, if◌then◌else◌}
+use Rattle.std.specs.Prelude.{◌≢◌, ◌+◌, ◌≤◌, List, [], ◌∷◌, replicate, if◌then◌else◌}
 use Rattle.vcs_machine.specs.declared.input.Input.{Input}
 use Rattle.vcs_machine.specs.Input.{are_same_inputs}
 use Rattle.tas_movie.specs.declared.run.FrameRun.{FrameRun}

@@ -19,7 +19,7 @@ pub struct Movie<A: Allocator = Global> {
 }
 
 impl<A: Allocator> Model for Movie<A> {
-    ghost use Rattle.std.specs.Prelude.{◌≤◌, ℕ, List, vec_len, vec_capacity};
+    ghost use Rattle.std.specs.Prelude.{◌≤◌, vec_len, vec_capacity};
     ghost use Rattle.tas_movie.specs.Content.{MovieContent, most_inputs};
 
     ghost Value = { MovieContent };

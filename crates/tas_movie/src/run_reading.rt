@@ -1,6 +1,6 @@
 //! Reading the runs of a text.
 
-ghost use Rattle.std.specs.Prelude.{◌≡◌, ◌≢◌, ◌+◌, ◌-◌, ◌≤◌, [], ℕ, length, slice_get, MatchResult, OnOk, IfOk, IfErr, IfSome, IfNone, None, Some, false, vec_len, vec_capacity};
+ghost use Rattle.std.specs.Prelude.{◌≡◌, ◌≢◌, ◌+◌, ◌-◌, ◌≤◌, [], ℕ, length, slice_get, MatchResult, OnOk, IfOk, IfSome, IfNone, None, Some, false, vec_len, vec_capacity};
 ghost use Rattle.std.specs.List.{flat_map};
 ghost use Rattle.tas_movie.specs.declared.run.FrameRun.{FrameRun as SaidRun};
 ghost use Rattle.tas_movie.specs.Content.{most_inputs};

@@ -1,6 +1,6 @@
 //! The words of a line.
 
-ghost use Rattle.std.specs.Prelude.{◌≡◌, ◌≢◌, ◌≤◌, ◌++◌, ◌∷◌, ℕ, List, decimal, IfSome, IfNone};
+ghost use Rattle.std.specs.Prelude.{◌≡◌, ◌≢◌, ◌++◌, ◌∷◌, ℕ, List, decimal, IfSome, IfNone};
 ghost use Rattle.vcs_machine.specs.declared.input.Input.{Input as Pressed};
 ghost use Rattle.tas_movie.specs.Text.{frame_text};
 ghost use Rattle.tas_script.specs.Commands.{NoByte, IsNumber, pair_text, frames_text};

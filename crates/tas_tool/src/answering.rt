@@ -1,6 +1,6 @@
 //! Answering a command on a desk whose one seat is the script's.
 
-ghost use Rattle.std.specs.Prelude.{◌≡◌, ℕ, ◌+◌, Err, IfOk, MatchResult, length, replicate};
+ghost use Rattle.std.specs.Prelude.{◌≡◌, ◌+◌, Err, IfOk, MatchResult, length, replicate};
 ghost use Rattle.tas_movie.specs.declared.edit.Edit.{Edit as EditContent};
 ghost use Rattle.tas_movie.specs.Edit.{place_refusal};
 ghost use Rattle.tas_desk.specs.Session.{refusal_at, IsEditError};

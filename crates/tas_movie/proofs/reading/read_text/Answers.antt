@@ -1,4 +1,4 @@
-use Rattle.std.proofs.Common.{ap, subst, ◌∙◌, arith}
+use Rattle.std.proofs.Common.{ap, ◌∙◌, arith}
 use Rattle.tas_movie.specs.Content.{MovieContent}
 use Rattle.tas_movie.proofs.TwoTexts.{read_only, read_no_error}
 use Rattle.tas_movie.proofs.reading.read_text.Goals as goal

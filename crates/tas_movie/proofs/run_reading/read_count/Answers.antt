@@ -1,6 +1,6 @@
-use Rattle.std.proofs.Common.{◌≡◌, ◌∷◌, [], ◌^◌, ◌<◌, take, drop, length, ap, sym, ◌∙◌, arith}
+use Rattle.std.proofs.Common.{sym, ◌∙◌, arith}
 use Rattle.std.proofs.lemmas.Bool.{eqb-false, eqb-true}
-use Rattle.tas_movie.proofs.RunTextLemmas.{count_is, no_count, count_made, same_count, mark_is, digits_are, long_count}
+use Rattle.tas_movie.proofs.RunTextLemmas.{count_is, no_count, same_count, digits_are, long_count}
 use Rattle.tas_movie.proofs.run_reading.read_count.Goals as goal
 
 pub returns-then-is_empty-clause-some : goal.returns-then-is_empty-clause-some

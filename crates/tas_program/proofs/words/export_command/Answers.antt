@@ -1,6 +1,6 @@
 use Rattle.std.proofs.Common.{[], ◌∷◌, None, codes}
 use Rattle.std.proofs.lemmas.Result.{IfOk-weaker}
-use Rattle.tas_program.specs.CommandLine.{word_rule, flag_rule}
+use Rattle.tas_program.specs.CommandLine.{word_rule}
 use Rattle.tas_program.proofs.CommandLineLemmas.{described, with_word}
 use Rattle.tas_program.proofs.words.export_command.Goals as goal
 

@@ -1,4 +1,4 @@
-use Rattle.std.proofs.Common.{◌≡◌, ℕ, ◌∙◌, [], ◌++◌, ◌∷◌, length, refl, ap, sym, subst, arith}
+use Rattle.std.proofs.Common.{ℕ, ◌∙◌, [], ◌++◌, ◌∷◌, length, refl, ap, sym, subst, arith}
 use Rattle.tas_script.specs.Parts.{IsPart, AreParts, poured, overwritten}
 use Rattle.tas_script.proofs.PartLemmas.{not_parts, next_parts, poured_more, more_parts, more_text, no_parts_no_text, all_poured, length-overwritten}
 use Rattle.tas_script.proofs.loading.pour_parts.Goals as goal
