@@ -3,6 +3,7 @@
 ghost use Rattle.std.specs.Prelude.{◌≡◌};
 ghost use Rattle.tas_desk.specs.Seats.{name_of};
 
+use crate::checks::check_that;
 use crate::handover_tests::{give_batch, take_batch};
 use crate::players::Reply;
 use crate::schedule_tests::play_steps;
@@ -82,7 +83,7 @@ fn play_at<N: Name + Send + Sync, R: Threads + Wait + Abort + Sync>(
 {
     let (desk, seats) = Desk::<N, &R>::open(rt, alloc, unopened).map_err(|_| AllocError)?;
     let (seats, told) = take(rt, alloc, &desk, seats, task)?;
-    assert!(rt; desk.whole(seats.as_slice()), "all seats come back");
+    check_that(rt, "all seats come back", desk.whole(seats.as_slice()));
     Ok((desk.close(rt, seats), told))
 }
 

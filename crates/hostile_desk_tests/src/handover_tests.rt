@@ -1,6 +1,7 @@
 //! A batch that goes from one desk to another, and the most kept states.
 
 use crate::changes::{Change, HALTING, PLAYFIELD, edit_of};
+use crate::checks::{check_same, check_that};
 use crate::desks::{Task, play};
 use std::alloc::{AllocError, Global};
 use std::process::Abort;
@@ -22,7 +23,7 @@ fn fill<N: Name, W: CloseOnDrop, R: Wait + Abort>(
 ) -> Result<(), Fail> {
     for change in [Change::Load(PLAYFIELD), Change::Fill(frames)] {
         let edit = edit_of(alloc, change)?;
-        assert!(rt; desk.edit(rt, seat, edit).is_ok(), "{change:?}");
+        check_that(rt, change, desk.edit(rt, seat, edit).is_ok());
     }
     Ok(())
 }
@@ -52,8 +53,8 @@ pub fn give_batch<N: Name, W: CloseOnDrop, R: Wait + Abort>(
         front: 100,
         kept: 1,
     };
-    assert_eq!(rt; desk.offer(rt, seat, batch).ok(), Some(offered));
-    assert_eq!(rt; desk.share(rt, seat).ok(), Some(1));
+    check_same(rt, "desk", desk.offer(rt, seat, batch).ok(), Some(offered));
+    check_same(rt, "desk, 2", desk.share(rt, seat).ok(), Some(1));
     Ok(())
 }
 
@@ -62,9 +63,13 @@ fn a_batch_goes_from_one_desk_to_another(rt: HostRuntime) -> Result<(), Fail> {
     let alloc = rt.alloc();
     let (_, told) = play(&rt, alloc, Task::Job)?;
     let batch = told.batch.ok_or("a batch")?;
-    assert!(rt; batch.holds(64) && batch.holds(128) && batch.holds(192));
+    check_that(
+        &rt,
+        "batch",
+        batch.holds(64) && batch.holds(128) && batch.holds(192),
+    );
     let (closed, _) = play(&rt, alloc, Task::Offer(batch))?;
-    assert_eq!(rt; closed.movie.len(), 100);
+    check_same(&rt, "closed.movie", closed.movie.len(), 100);
     Ok(())
 }
 
@@ -87,9 +92,14 @@ fn shoot_last<R: Wait + Abort>(rt: &R, alloc: Global, session: &mut Session) -> 
             opcode: 2,
         },
     };
-    assert_eq!(rt; session.shot(alloc, 65_535, &mut meter).err(), Some(halted));
-    assert_eq!(rt; meter.count(), 65_536);
-    assert_eq!(rt; session.green().count(), 512);
+    check_same(
+        rt,
+        "session",
+        session.shot(alloc, 65_535, &mut meter).err(),
+        Some(halted),
+    );
+    check_same(rt, "meter", meter.count(), 65_536);
+    check_same(rt, "session, 2", session.green().count(), 512);
     Ok(())
 }
 
@@ -100,6 +110,6 @@ fn a_session_keeps_at_most_512_states(rt: HostRuntime) -> Result<(), Fail> {
     let answer = shoot_last(&rt, alloc, &mut session);
     let closed = session.close(&rt);
     answer?;
-    assert_eq!(rt; closed.journal.len(), 2);
+    check_same(&rt, "closed.journal", closed.journal.len(), 2);
     Ok(())
 }

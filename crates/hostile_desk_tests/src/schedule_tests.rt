@@ -2,6 +2,7 @@
 //! compared with a plain model, and the history that the desk leaves is played again.
 
 use crate::changes::{Change, FOLDING, cart};
+use crate::checks::{check_same, check_that};
 use crate::desks::{Task, play};
 use crate::model::Model;
 use crate::players::{Played, Player, Reply, edit};
@@ -81,7 +82,7 @@ fn leave<N: Name, R: Abort>(
                 replies,
                 has_memory,
             } = player;
-            assert!(rt; has_memory, "want of memory");
+            check_that(rt, "want of memory", has_memory);
             seats.push(seat)?;
             for reply in replies {
                 all.push(reply)?;
@@ -119,7 +120,11 @@ pub fn play_steps<N: Name + Send + Sync, R: Threads + Wait + Abort + Sync>(
             play_group(rt, alloc, desk, group, played);
         },
     );
-    assert!(rt; score.was_played(steps.len()), "a step that doesn't come");
+    check_that(
+        rt,
+        "a step that doesn't come",
+        score.was_played(steps.len()),
+    );
     leave(rt, alloc, groups)
 }
 
@@ -169,16 +174,17 @@ fn judge<R: Threads + Wait + Abort + Sync>(
     for reply in &told.replies {
         let (step, text) = (reply.step, reply.text.as_str());
         let right = wanted.get(step).ok_or("a step")?;
-        assert_eq!(rt; text, right.as_str(), "schedule {name:?}, step {step}");
+        check_same(rt, ("schedule, step", name, step), text, right.as_str());
     }
     let count = wanted.iter().filter(|text| !text.is_empty()).count();
-    assert_eq!(rt; told.replies.len(), count, "schedule {name:?}");
-    assert!(rt; is_history(alloc, &closed, steps)?, "schedule {name:?}");
+    check_same(rt, ("schedule", name), told.replies.len(), count);
+    check_that(rt, ("schedule", name), is_history(alloc, &closed, steps)?);
     let right = cart(alloc, model.film.program)?;
-    assert!(rt; *closed.movie.cart() == right, "schedule {name:?}");
-    assert!(rt;
+    check_that(rt, ("schedule", name), *closed.movie.cart() == right);
+    check_that(
+        rt,
+        ("schedule", name),
         closed.movie.inputs() == model.film.inputs.as_slice(),
-        "schedule {name:?}"
     );
     Ok(())
 }

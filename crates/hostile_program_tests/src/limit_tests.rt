@@ -1,5 +1,6 @@
 //! Each limit of the program at its last value that is taken and its first one that is refused.
 
+use crate::checks::{check_same, check_that};
 use crate::programs::{Files, run};
 use std::alloc::Global;
 use std::process::Abort;
@@ -83,17 +84,17 @@ fn ends<R: Threads + Wait + Abort + Sync>(
     let ran = run(rt, alloc, words, files, input)?;
     match end {
         End::Writes(bytes, last) => {
-            assert_eq!(rt; (ran.code, ran.bytes), (0, bytes), "{words:?}");
-            assert!(rt; ran.last.ends_with(last), "{words:?}");
-            assert!(rt; ran.errors.is_empty(), "{words:?}");
+            check_same(rt, words, (ran.code, ran.bytes), (0, bytes));
+            check_that(rt, words, ran.last.ends_with(last));
+            check_that(rt, words, ran.errors.is_empty());
         }
         End::Faults(line) => {
-            assert_eq!(rt; (ran.code, ran.bytes), (1, 0), "{words:?}");
-            assert_eq!(rt; ran.errors.as_slice(), line, "{words:?}");
+            check_same(rt, words, (ran.code, ran.bytes), (1, 0));
+            check_same(rt, words, ran.errors.as_slice(), line);
         }
         End::Misuse => {
-            assert_eq!(rt; (ran.code, ran.bytes), (2, 0), "{words:?}");
-            assert!(rt; ran.errors.starts_with(b"error: "), "{words:?}");
+            check_same(rt, words, (ran.code, ran.bytes), (2, 0));
+            check_that(rt, words, ran.errors.starts_with(b"error: "));
         }
     }
     Ok(())
@@ -127,6 +128,16 @@ fn numbers_of_the_words(rt: HostRuntime) -> Result<(), Fail> {
     for (words, end) in cases {
         ends(&rt, alloc, words, files, text.as_slice(), end)?;
     }
+    Ok(())
+}
+
+#[test]
+fn instructions_of_a_trace(rt: HostRuntime) -> Result<(), Fail> {
+    let alloc = rt.alloc();
+    let files = Files {
+        game: b"",
+        other: b"",
+    };
     // An undocumented opcode at its first instruction ends each trace.
     let halting = cart(alloc, b"\x02")?;
     let halt = End::Writes(13, b"F000 02 halt\n");
@@ -349,7 +360,7 @@ fn edits_of_a_script(rt: HostRuntime) -> Result<(), Fail> {
         game: b"",
         other: b"",
     };
-    assert_eq!(rt; bytes_of_replies(10), 9 * 13 + 14);
+    check_same(&rt, "bytes_of_replies", bytes_of_replies(10), 9 * 13 + 14);
     let script = repeated(alloc, b"", b"delete 0 0\n", 1_000_001)?;
     let bytes = bytes_of_replies(1_000_000).saturating_add("full 1000000\n".len());
     let end = End::Writes(bytes, b"edit 1000000 len 0\nfull 1000000\n");
@@ -399,7 +410,7 @@ fn bytes_of_a_script(rt: HostRuntime) -> Result<(), Fail> {
     let (line, last) = (load_line(alloc, 4096)?, load_line(alloc, 2058)?);
     let mut script = repeated(alloc, b"", line.as_slice(), 2045)?;
     script.extend_from_slice(last.as_slice())?;
-    assert_eq!(rt; script.len(), MOST_BYTES);
+    check_same(&rt, "script", script.len(), MOST_BYTES);
     let all = End::Writes(bytes_of_replies(2046), b"edit 2046 len 0\n");
     ends(&rt, alloc, &["script"], files, script.as_slice(), all)?;
     script.push(b'l')?;

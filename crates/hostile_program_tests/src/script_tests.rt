@@ -1,5 +1,6 @@
 //! Scripts that are cut off or have one wrong byte.
 
+use crate::checks::{check_same, check_that};
 use crate::plain_editor::answer_plainly;
 use std::alloc::Global;
 use std::process::Abort;
@@ -47,11 +48,11 @@ fn is_alike<R: Wait>(rt: &R, alloc: Global, script: &[u8]) -> Result<bool, Fail>
 fn scripts_are_cut_off_anywhere(rt: HostRuntime) -> Result<(), Fail> {
     let alloc = rt.alloc();
     let (replies, fault) = answer_plainly(alloc, SCRIPT)?;
-    assert_eq!(rt; replies.as_slice(), REPLIES);
-    assert_eq!(rt; fault, None);
+    check_same(&rt, "replies", replies.as_slice(), REPLIES);
+    check_same(&rt, "fault", fault, None);
     for count in 0..SCRIPT.len() + 1 {
         if let Some(front) = SCRIPT.get(..count) {
-            assert!(rt; is_alike(&rt, alloc, front)?, "{count} bytes");
+            check_that(&rt, ("bytes", count), is_alike(&rt, alloc, front)?);
         }
     }
     Ok(())
@@ -72,9 +73,10 @@ fn change_each<R: Wait + Abort>(
             if let Some(at) = script.get_mut(place) {
                 let before = *at;
                 *at = byte;
-                assert!(rt;
+                check_that(
+                    rt,
+                    ("byte at", place, byte),
                     is_alike(rt, alloc, script.as_slice())?,
-                    "byte {place} is {byte}"
                 );
                 if let Some(at) = script.get_mut(place) {
                     *at = before;
@@ -109,14 +111,16 @@ fn each_byte_of_the_last_lines_may_be_wrong(rt: HostRuntime) -> Result<(), Fail>
 fn small_cartridges_are_cut_off_anywhere(rt: HostRuntime) -> Result<(), Fail> {
     let alloc = rt.alloc();
     let (replies, fault) = answer_plainly(alloc, SMALL)?;
-    assert_eq!(rt;
+    check_same(
+        &rt,
+        "replies",
         replies.as_slice(),
-        b"edit 1 len 0\nedit 2 len 1\nshot 2 0 ran 1 lit 320\n".as_slice()
+        b"edit 1 len 0\nedit 2 len 1\nshot 2 0 ran 1 lit 320\n".as_slice(),
     );
-    assert_eq!(rt; fault, None);
+    check_same(&rt, "fault", fault, None);
     for count in 0..SMALL.len() + 1 {
         if let Some(front) = SMALL.get(..count) {
-            assert!(rt; is_alike(&rt, alloc, front)?, "{count} bytes");
+            check_that(&rt, ("bytes", count), is_alike(&rt, alloc, front)?);
         }
     }
     Ok(())

@@ -1,5 +1,6 @@
 //! Images whose code runs where none should stand, and images of one byte.
 
+use crate::checks::{check_same, check_that};
 use crate::images::{cart_with, frames_of, program, traced};
 use std::test::Fail;
 
@@ -12,7 +13,7 @@ fn code_runs_in_the_ports(rt: HostRuntime) -> Result<(), Fail> {
     let lines: &[u8] =
         b"F000 A9 EA 00 00 FD B4 2\nF002 8D EA 00 00 FD B4 4\nF005 A9 A0 00 00 FD B4 2\n\
         F007 8D A0 00 00 FD B4 4\nF00A 4C A0 00 00 FD B4 3\n0280 B5 00 00 00 FD 36 4\n0282 3F halt\n";
-    assert_eq!(rt; traced(alloc, &cart, 9)?.as_slice(), lines);
+    check_same(&rt, "traced", traced(alloc, &cart, 9)?.as_slice(), lines);
     Ok(())
 }
 
@@ -25,8 +26,8 @@ fn the_stack_runs_in_circles(rt: HostRuntime) -> Result<(), Fail> {
     let pulls = program(alloc, b"\x68\x28\x4c\x00\xf0")?;
     for (name, cart) in [("pushes", &pushes), ("calls", &calls), ("pulls", &pulls)] {
         let played = frames_of(alloc, cart, 5)?;
-        assert!(rt; played.alike, "{name}");
-        assert_eq!(rt; played.state.halted(), None, "{name}");
+        check_that(&rt, name, played.alike);
+        check_same(&rt, name, played.state.halted(), None);
     }
     Ok(())
 }
@@ -39,9 +40,9 @@ fn frames_end_with_vsync_or_without(rt: HostRuntime) -> Result<(), Fail> {
     let never = program(alloc, b"\x4c\x00\xf0")?;
     for (name, cart) in [("often", &often), ("always", &always), ("never", &never)] {
         let played = frames_of(alloc, cart, 30)?;
-        assert!(rt; played.alike, "{name}");
-        assert_eq!(rt; played.state.halted(), None, "{name}");
-        assert_eq!(rt; played.lit, 0, "{name}");
+        check_that(&rt, name, played.alike);
+        check_same(&rt, name, played.state.halted(), None);
+        check_same(&rt, name, played.lit, 0);
     }
     Ok(())
 }
@@ -53,14 +54,14 @@ fn images_of_one_byte(rt: HostRuntime) -> Result<(), Fail> {
     for byte in 0..=255u8 {
         let cart = cart_with(alloc, &[(0, &[byte; 4096])])?;
         let played = frames_of(alloc, &cart, 2)?;
-        assert!(rt; played.alike, "{byte}");
+        check_that(&rt, byte, played.alike);
         let halt = format!(in alloc; "{byte:02X}{byte:02X} {byte:02X} halt\n")?;
         // With this bit of the address, A12, the code starts in the cartridge.
         if byte & 0x10 != 0 && traced(alloc, &cart, 1)?.as_slice() == halt.as_bytes() {
             halts = halts.saturating_add(1);
-            assert!(rt; played.state.halted().is_some(), "{byte}");
+            check_that(&rt, byte, played.state.halted().is_some());
         }
     }
-    assert_eq!(rt; halts, 60);
+    check_same(&rt, "halts", halts, 60);
     Ok(())
 }

@@ -1,5 +1,6 @@
 //! Code in the registers of the TIA and of the RIOT, stacks that start at each place, and frames of two instructions.
 
+use crate::checks::{check_same, check_that};
 use crate::images::{cart_with, frames_of, program, traced};
 use std::alloc::Global;
 use std::test::Fail;
@@ -47,10 +48,11 @@ fn code_runs_at_each_address(rt: HostRuntime) -> Result<(), Fail> {
     for address in (0..0x100u16).chain(0x280..0x300) {
         let cart = jump_to(alloc, address)?;
         let lines = jump_lines(alloc, address)?;
-        assert_eq!(rt;
+        check_same(
+            &rt,
+            address,
             traced(alloc, &cart, 3)?.as_slice(),
             lines.as_bytes(),
-            "{address:04X}"
         );
     }
     Ok(())
@@ -64,10 +66,10 @@ fn frames_of_code_at_each_register(rt: HostRuntime) -> Result<(), Fail> {
     for address in (0..0x10u16).chain(0x80..0x81).chain(0x280..0x286) {
         let cart = jump_to(alloc, address)?;
         let played = frames_of(alloc, &cart, 2)?;
-        assert!(rt; played.alike, "{address:04X}");
+        check_that(&rt, address, played.alike);
         // A latch may become another instruction, so BRK may come to a halt too.
         let is_halted = played.state.halted().is_some();
-        assert!(rt; is_halted || first_read(address) == 0, "{address:04X}");
+        check_that(&rt, address, is_halted || first_read(address) == 0);
     }
     Ok(())
 }
@@ -81,7 +83,7 @@ fn code_runs_in_the_timer(rt: HostRuntime) -> Result<(), Fail> {
     let lines: &[u8] =
         b"F000 A9 EB 00 00 FD B4 2\nF002 8D EB 00 00 FD B4 4\nF005 4C EB 00 00 FD B4 3\n\
         0284 EA EB 00 00 FD B4 2\n0285 00 EB 00 00 FA B4 7\n";
-    assert_eq!(rt; traced(alloc, &cart, 5)?.as_slice(), lines);
+    check_same(&rt, "traced", traced(alloc, &cart, 5)?.as_slice(), lines);
     Ok(())
 }
 
@@ -98,7 +100,7 @@ fn code_runs_in_the_collision_latches(rt: HostRuntime) -> Result<(), Fail> {
         b"F000 A2 00 FF 00 FD B4 2\nF002 86 00 FF 00 FD B4 3\nF004 86 00 FF 00 FD B4 3\n\
         F006 86 00 FF 00 FD B4 3\nF008 86 00 FF 00 FD B4 3\nF00A 4C 00 FF 00 FD B4 3\n\
         0002 C0 00 FF 00 FD 37 2\n0004 00 00 FF 00 FA 37 7\n";
-    assert_eq!(rt; traced(alloc, &cart, 8)?.as_slice(), lines);
+    check_same(&rt, "traced", traced(alloc, &cart, 8)?.as_slice(), lines);
     Ok(())
 }
 
@@ -134,12 +136,13 @@ fn stacks_start_at_each_place(rt: HostRuntime) -> Result<(), Fail> {
     for place in 0..=255u8 {
         let cart = program(alloc, &[0xa2, place, 0x9a, 0xa9, 0x5a, 0x48, 0x68, 0x02])?;
         let lines = stack_lines(alloc, place)?;
-        assert_eq!(rt;
+        check_same(
+            &rt,
+            place,
             traced(alloc, &cart, 9)?.as_slice(),
             lines.as_bytes(),
-            "{place}"
         );
-        assert!(rt; frames_of(alloc, &cart, 2)?.alike, "{place}");
+        check_that(&rt, place, frames_of(alloc, &cart, 2)?.alike);
     }
     Ok(())
 }
@@ -157,14 +160,14 @@ fn each_instruction_writes_vsync(rt: HostRuntime) -> Result<(), Fail> {
     code.push(0x02)?;
     let cart = program(alloc, &code)?;
     let before = frames_of(alloc, &cart, 1000)?;
-    assert!(rt; before.alike);
-    assert_eq!(rt; before.state.halted(), None);
+    check_that(&rt, "before.alike", before.alike);
+    check_same(&rt, "before.state", before.state.halted(), None);
     let after = frames_of(alloc, &cart, 1001)?;
-    assert!(rt; after.alike);
+    check_that(&rt, "after.alike", after.alike);
     let halt = Halt::Undocumented {
         at: 0xffa4,
         opcode: 2,
     };
-    assert_eq!(rt; after.state.halted(), Some(halt));
+    check_same(&rt, "after.state", after.state.halted(), Some(halt));
     Ok(())
 }

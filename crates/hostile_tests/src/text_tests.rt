@@ -1,5 +1,6 @@
 //! Movie texts that are cut off or have one wrong byte.
 
+use crate::checks::check_same;
 use crate::images::program;
 use crate::plain_reader::read_plainly;
 use std::alloc::Global;
@@ -37,17 +38,22 @@ fn read(alloc: Global, text: &[u8], cart: &Cart) -> Option<Result<usize, TextErr
 fn texts_are_cut_off_anywhere(rt: HostRuntime) -> Result<(), Fail> {
     let alloc = rt.alloc();
     let cart = playfield(alloc)?;
-    assert_eq!(rt; (TEXT.len(), RUNS.len()), (135, 162));
+    check_same(&rt, "TEXT", (TEXT.len(), RUNS.len()), (135, 162));
     for text in [TEXT, RUNS] {
         for count in 0..163usize {
             if let Some(front) = text.get(..count) {
                 let want = read_plainly(front, CART_LINE);
-                assert_eq!(rt; read(alloc, front, &cart), Some(want), "{count} bytes");
+                check_same(&rt, ("bytes", count), read(alloc, front, &cart), Some(want));
             }
         }
     }
-    assert_eq!(rt; read_plainly(TEXT, CART_LINE), Ok(3));
-    assert_eq!(rt; read_plainly(RUNS, CART_LINE), Ok(214));
+    check_same(&rt, "read_plainly", read_plainly(TEXT, CART_LINE), Ok(3));
+    check_same(
+        &rt,
+        "read_plainly, 2",
+        read_plainly(RUNS, CART_LINE),
+        Ok(214),
+    );
     Ok(())
 }
 
@@ -61,10 +67,11 @@ fn spoil(rt: &impl Abort, alloc: Global, text: &[u8], places: (usize, usize)) ->
                 let before = *at;
                 *at = byte;
                 let want = read_plainly(&spoilt, CART_LINE);
-                assert_eq!(rt;
+                check_same(
+                    rt,
+                    ("byte at", place, byte),
                     read(alloc, &spoilt, &cart),
                     Some(want),
-                    "byte {place} is {byte}"
                 );
                 if let Some(at) = spoilt.get_mut(place) {
                     *at = before;

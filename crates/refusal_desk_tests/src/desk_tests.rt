@@ -2,6 +2,7 @@
 
 ghost use Rattle.std.specs.Prelude.{◌≤◌};
 
+use crate::checks::check_same;
 use crate::desks::{OpenGate, run_call, run_open, run_unopened};
 use crate::edits::{Change, edit_of};
 use crate::runs::{Heap, MOST, Run};
@@ -289,10 +290,10 @@ fn what_a_desk_does(rt: HostRuntime) -> Result<(), Fail> {
             if run == Run::Done {
                 break;
             }
-            assert_eq!(rt; run, Run::Refused, "{call:?}, growth {number}");
+            check_same(&rt, ("growth", call, number), run, Run::Refused);
             refused = number;
         }
-        assert_eq!(rt; refused, growths, "{call:?}");
+        check_same(&rt, call, refused, growths);
     }
     Ok(())
 }
@@ -301,7 +302,7 @@ fn what_a_desk_does(rt: HostRuntime) -> Result<(), Fail> {
 #[test]
 fn a_second_job_that_is_refused(rt: HostRuntime) -> Result<(), Fail> {
     let run = run_call(&rt, rt.alloc(), Call::TwoJobs, 5)?;
-    assert_eq!(rt; run, Run::Refused);
+    check_same(&rt, "run", run, Run::Refused);
     Ok(())
 }
 
@@ -314,10 +315,10 @@ fn the_opening_of_a_desk(rt: HostRuntime) -> Result<(), Fail> {
         if run == Run::Done {
             break;
         }
-        assert_eq!(rt; run, Run::Refused, "growth {number}");
+        check_same(&rt, ("growth", number), run, Run::Refused);
         refused = number;
     }
-    assert_eq!(rt; refused, 5);
+    check_same(&rt, "refused", refused, 5);
     Ok(())
 }
 
@@ -330,9 +331,9 @@ fn a_desk_to_be_opened(rt: HostRuntime) -> Result<(), Fail> {
         if run == Run::Done {
             break;
         }
-        assert_eq!(rt; run, Run::Refused, "growth {number}");
+        check_same(&rt, ("growth", number), run, Run::Refused);
         refused = number;
     }
-    assert_eq!(rt; refused, 12);
+    check_same(&rt, "refused", refused, 12);
     Ok(())
 }

@@ -4,6 +4,7 @@
 ghost use Rattle.std.specs.Prelude.{◌≡◌, ◌≤◌};
 ghost use Rattle.tas_desk.specs.Seats.{name_of};
 
+use crate::checks::check_same;
 use crate::desks::{OpenGate, make_edits};
 use crate::edits::{Change, edit_of, history};
 use crate::runs::{Heap, MOST, NEVER, Run};
@@ -296,10 +297,10 @@ fn refuse_each<R: Threads + Wait + Abort + Sync>(
         if run == Run::Done {
             break;
         }
-        assert_eq!(rt; run, Run::Refused, "{workers} workers, growth {number}");
+        check_same(rt, ("workers, growth", workers, number), run, Run::Refused);
         refused = number;
     }
-    assert_eq!(rt; refused, growths, "{workers} workers");
+    check_same(rt, ("workers", workers), refused, growths);
     Ok(())
 }
 

@@ -2,6 +2,7 @@
 
 ghost use Rattle.std.specs.Prelude.{◌≤◌};
 
+use crate::checks::check_same;
 use crate::edits::{Change, edit_of, history, movie_text};
 use crate::runs::{Heap, MOST, NEVER, Run};
 use refusals::Refusing;
@@ -259,10 +260,10 @@ fn what_a_session_does(rt: HostRuntime) -> Result<(), Fail> {
             if run == Run::Done {
                 break;
             }
-            assert_eq!(rt; run, Run::Refused, "{turn:?}, growth {number}");
+            check_same(&rt, ("growth", turn, number), run, Run::Refused);
             refused = number;
         }
-        assert_eq!(rt; refused, growths, "{turn:?}");
+        check_same(&rt, turn, refused, growths);
     }
     Ok(())
 }
@@ -301,9 +302,9 @@ fn a_new_session(rt: HostRuntime) -> Result<(), Fail> {
         if run == Run::Done {
             break;
         }
-        assert_eq!(rt; run, Run::Refused, "growth {number}");
+        check_same(&rt, ("growth", number), run, Run::Refused);
         refused = number;
     }
-    assert_eq!(rt; refused, 12);
+    check_same(&rt, "refused", refused, 12);
     Ok(())
 }

@@ -4,6 +4,7 @@
 ghost use Rattle.std.specs.Prelude.{◌≡◌, ◌≤◌};
 ghost use Rattle.tas_desk.specs.Seats.{name_of};
 
+use crate::checks::{check_same, check_that};
 use crate::desks::make_edits;
 use crate::edits::{Change, edit_of};
 use crate::players::{FIRST_AT, FIRST_LEN, FRAME, Player, TURNS, sum_of};
@@ -242,10 +243,14 @@ fn three_seats_on_three_threads(rt: HostRuntime) -> Result<(), Fail> {
         if run == Run::Done {
             break;
         }
-        assert_eq!(rt; run, Run::Refused, "growth {number}");
+        check_same(&rt, ("growth", number), run, Run::Refused);
         refused = number;
     }
     // How many there are depends on who comes first: where two edits come between two shots, the movie is copied once.
-    assert!(rt; 30 <= refused && refused < MOST - 1, "{refused} growths");
+    check_that(
+        &rt,
+        ("growths", refused),
+        30 <= refused && refused < MOST - 1,
+    );
     Ok(())
 }

@@ -2,6 +2,7 @@
 
 ghost use Rattle.std.specs.Prelude.{◌≤◌};
 
+use crate::checks::check_same;
 use crate::engines::{Engine, run_whole};
 use crate::inputs::{Bytes, make_inputs};
 use refusals::Refusing;
@@ -120,7 +121,7 @@ fn each_growth_refused(rt: HostRuntime) -> Result<(), Fail> {
     let bytes = make_inputs(alloc)?;
     for (engine, growths, replies) in engines {
         let counts = count_refused(&rt, alloc, engine, &bytes)?;
-        assert_eq!(rt; counts, Some((growths, replies)), "{engine:?}");
+        check_same(&rt, engine, counts, Some((growths, replies)));
     }
     Ok(())
 }

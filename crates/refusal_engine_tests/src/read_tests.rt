@@ -1,5 +1,6 @@
 //! Reads that fail, give one byte, or end early.
 
+use crate::checks::{check_same, check_that};
 use crate::engines::{ENGINES, Engine, run, run_whole};
 use crate::inputs::{Bytes, make_inputs};
 use std::alloc::Global;
@@ -87,28 +88,35 @@ fn each_read_failing(rt: HostRuntime) -> Result<(), Fail> {
     let bytes = make_inputs(alloc)?;
     for engine in ENGINES {
         let mut whole = Vec::new(alloc);
-        assert_eq!(rt; run_whole(&rt, alloc, engine, &bytes, &mut whole), Ok(()));
+        check_same(
+            &rt,
+            "run_whole",
+            run_whole(&rt, alloc, engine, &bytes, &mut whole),
+            Ok(()),
+        );
         for input in 0..engine.count() {
             let mut failed = 0;
             for read in 1..MOST {
                 let done = run_failing(&rt, alloc, engine, &bytes, 2000, failing(input, read));
                 if done.end.is_ok() {
-                    assert!(rt; done.written.as_slice() == whole.as_slice(), "{engine:?}");
-                    assert_eq!(rt; done.reads, whole_reads(engine, &bytes), "{engine:?}");
+                    check_that(&rt, engine, done.written.as_slice() == whole.as_slice());
+                    check_same(&rt, engine, done.reads, whole_reads(engine, &bytes));
                     break;
                 }
-                assert!(rt;
+                check_that(
+                    &rt,
+                    ("read", engine, input, read),
                     is_stopped(&done, input, read),
-                    "{engine:?} {input}, read {read}"
                 );
                 failed = read;
             }
             // A read that gives the last bytes, and one that gives none.
             let size = engine.input(&bytes, input).len();
-            assert_eq!(rt;
+            check_same(
+                &rt,
+                (engine, input),
                 failed,
                 size.div_ceil(2000).saturating_add(1),
-                "{engine:?} {input}"
             );
         }
     }
@@ -121,10 +129,15 @@ fn one_byte_at_each_read(rt: HostRuntime) -> Result<(), Fail> {
     let bytes = make_inputs(alloc)?;
     for engine in ENGINES {
         let mut whole = Vec::new(alloc);
-        assert_eq!(rt; run_whole(&rt, alloc, engine, &bytes, &mut whole), Ok(()));
+        check_same(
+            &rt,
+            "run_whole",
+            run_whole(&rt, alloc, engine, &bytes, &mut whole),
+            Ok(()),
+        );
         let done = run_failing(&rt, alloc, engine, &bytes, 1, [0, 0, 0]);
-        assert_eq!(rt; done.end, Ok(()), "{engine:?}");
-        assert!(rt; done.written.as_slice() == whole.as_slice(), "{engine:?}");
+        check_same(&rt, engine, done.end, Ok(()));
+        check_that(&rt, engine, done.written.as_slice() == whole.as_slice());
     }
     Ok(())
 }
@@ -187,7 +200,7 @@ fn inputs_that_end_early(rt: HostRuntime) -> Result<(), Fail> {
                 Ok(()) => false,
                 Err(fault) => tells_early_end(engine, input, fault),
             };
-            assert!(rt; is_told, "{engine:?} {input}");
+            check_that(&rt, (engine, input), is_told);
         }
     }
     Ok(())

@@ -1,5 +1,6 @@
 //! Lines of a conversation whose memory is refused.
 
+use crate::checks::check_that;
 use refusals::Refusing;
 use std::alloc::Global;
 use std::sync::Wait;
@@ -90,11 +91,11 @@ fn looks_without_memory(rt: HostRuntime) -> Result<(), Fail> {
     let lines = looks_of(alloc, LOOKS.as_slice())?;
     let whole = answers(&rt, alloc, lines.as_slice())?;
     let all = answers_but(&rt, alloc, LOOKS.len())?;
-    assert!(rt; whole.as_slice() == all.as_slice());
+    check_that(&rt, "whole", whole.as_slice() == all.as_slice());
     for place in 0..LOOKS.len() {
         let wanted = answers_but(&rt, alloc, place)?;
         let times = times_told(&rt, alloc, lines.as_slice(), wanted.as_slice());
-        assert!(rt; times > 0, "look {place}");
+        check_that(&rt, ("look", place), times > 0);
     }
     Ok(())
 }
@@ -105,6 +106,6 @@ fn edits_without_memory(rt: HostRuntime) {
     let alloc = rt.alloc();
     for (place, wanted) in REFUSED_EDITS.iter().enumerate() {
         let times = times_told(&rt, alloc, EDITS, *wanted);
-        assert!(rt; times > 0, "edit {place}");
+        check_that(&rt, ("edit", place), times > 0);
     }
 }

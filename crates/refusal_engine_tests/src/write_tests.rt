@@ -1,5 +1,6 @@
 //! Writes that fail, take a few bytes, or take none.
 
+use crate::checks::{check_same, check_that};
 use crate::engines::{Engine, run_whole};
 use crate::inputs::make_inputs;
 use std::alloc::Global;
@@ -25,32 +26,30 @@ fn fail_each<T: Wait + Threads + Abort + Sync>(
     let bytes = make_inputs(alloc)?;
     let mut whole = Vec::new(alloc);
     let end = run_whole(rt, alloc, engine, &bytes, &mut whole);
-    assert_eq!(rt; end, Ok(()));
+    check_same(rt, "end", end, Ok(()));
     let mut failed = 0;
     for taken in 0..MOST {
         let mut output = Taker::new(alloc, at_once, Room::Writes(taken), failure);
         let end = run_whole(rt, alloc, engine, &bytes, &mut output);
         if end.is_ok() {
-            assert!(rt; output.taken == whole, "{engine:?}");
+            check_that(rt, engine, output.taken == whole);
             break;
         }
         let written = output.taken.len();
-        assert_eq!(rt;
-            end,
-            Err(ToolFault::Write { written }),
-            "{engine:?} {taken}"
-        );
-        assert!(rt;
+        check_same(rt, (engine, taken), end, Err(ToolFault::Write { written }));
+        check_that(
+            rt,
+            (engine, taken),
             whole.starts_with(output.taken.as_slice()),
-            "{engine:?} {taken}"
         );
-        assert!(rt;
+        check_that(
+            rt,
+            (engine, taken),
             output.writes == taken + 1 && output.failed == 1 && written < whole.len(),
-            "{engine:?} {taken}"
         );
         failed = taken + 1;
     }
-    assert!(rt; failed > 0, "{engine:?}");
+    check_that(rt, engine, failed > 0);
     Ok(())
 }
 

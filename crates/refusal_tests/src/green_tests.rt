@@ -3,6 +3,7 @@
 ghost use Rattle.std.specs.Prelude.{◌≤◌, length, IfOk};
 ghost use Rattle.tas_green.specs.Green.{IsLawful};
 
+use crate::checks::{check_same, check_that};
 use crate::fixtures::{BRIEF, PLAYFIELD, movie_of, replaced};
 use crate::runs::{Heap, MOST, NEVER, Run};
 use refusals::Refusing;
@@ -282,7 +283,7 @@ fn what_a_greenzone_does(rt: HostRuntime) -> Result<(), Fail> {
     let alloc = rt.alloc();
     let movie = movie_of(alloc, BRIEF, 400)?;
     let other = replaced(alloc, &movie, 100)?;
-    assert!(rt; movie.len() == 400 && other.len() == 400);
+    check_that(&rt, "movie", movie.len() == 400 && other.len() == 400);
     for (seeking, growths) in SEEKINGS {
         let mut refused = 0;
         for number in 1..MOST {
@@ -290,10 +291,10 @@ fn what_a_greenzone_does(rt: HostRuntime) -> Result<(), Fail> {
             if run == Run::Done {
                 break;
             }
-            assert_eq!(rt; run, Run::Refused, "{seeking:?}, growth {number}");
+            check_same(&rt, ("growth", seeking, number), run, Run::Refused);
             refused = number;
         }
-        assert_eq!(rt; refused, growths, "{seeking:?}");
+        check_same(&rt, seeking, refused, growths);
     }
     Ok(())
 }

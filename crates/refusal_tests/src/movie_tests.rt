@@ -2,6 +2,7 @@
 
 ghost use Rattle.std.specs.Prelude.{◌≤◌};
 
+use crate::checks::{check_same, check_that};
 use crate::fixtures::{PLAYFIELD, are_equal, copies, image, movie_of, right};
 use crate::runs::{Answer, Heap, MOST, NEVER, Run};
 use refusals::Refusing;
@@ -171,8 +172,12 @@ fn memory_comes_before_a_fault_of_the_text(rt: HostRuntime) -> Result<(), Fail> 
     ] {
         let heap = Refusing::new(alloc, number);
         let fault = read_text(&heap, text, &cart).err();
-        assert!(rt; fault == Some(wanted), "growth {number}");
-        assert!(rt; heap.has_refused() == (number < NEVER), "growth {number}");
+        check_that(&rt, ("growth", number), fault == Some(wanted));
+        check_that(
+            &rt,
+            ("growth", number),
+            heap.has_refused() == (number < NEVER),
+        );
     }
     Ok(())
 }
@@ -195,10 +200,10 @@ fn what_is_made_of_a_movie(rt: HostRuntime) -> Result<(), Fail> {
             if run == Run::Done {
                 break;
             }
-            assert_eq!(rt; run, Run::Refused, "{making:?}, growth {number}");
+            check_same(&rt, ("growth", making, number), run, Run::Refused);
             refused = number;
         }
-        assert_eq!(rt; refused, growths, "{making:?}");
+        check_same(&rt, making, refused, growths);
     }
     Ok(())
 }
@@ -302,10 +307,10 @@ fn copies_of_edits(rt: HostRuntime) -> Result<(), Fail> {
             if run == Run::Done {
                 break;
             }
-            assert_eq!(rt; run, Run::Refused, "{kind:?}, growth {number}");
+            check_same(&rt, ("growth", kind, number), run, Run::Refused);
             refused = number;
         }
-        assert_eq!(rt; refused, growths, "{kind:?}");
+        check_same(&rt, kind, refused, growths);
     }
     Ok(())
 }

@@ -1,6 +1,7 @@
 //! Batches of jobs, offered to a desk.
 
 use crate::changes::{Change, HALTING, PLAYFIELD, edit_of};
+use crate::checks::{check_same, check_that};
 use crate::desks::{Task, play};
 use std::alloc::Global;
 use std::process::Abort;
@@ -39,7 +40,7 @@ fn change<N: Name, W: CloseOnDrop, R: Wait + Abort>(
     change: Change,
 ) -> Result<(), Fail> {
     let edit = edit_of(alloc, change)?;
-    assert!(rt; desk.edit(rt, seat, edit).is_ok(), "{change:?}");
+    check_that(rt, change, desk.edit(rt, seat, edit).is_ok());
     Ok(())
 }
 
@@ -83,17 +84,17 @@ pub fn offer_three_batches<N: Name, W: CloseOnDrop, R: Wait + Abort>(
     let (at, front) = (3, 100);
     let gained = Answered::Taken(Offered { at, front, kept: 1 });
     let told = offer_behind(rt, alloc, desk, seat, Change::ReplaceRight(100), first)?;
-    assert!(rt; told == (gained, 1), "{told:?}");
+    check_that(rt, told, told == (gained, 1));
     let nothing = Answered::Taken(Offered { at, front, kept: 0 });
-    assert_eq!(rt; offer(rt, desk, seat, second), nothing);
+    check_same(rt, "offer", offer(rt, desk, seat, second), nothing);
     let told = offer_behind(rt, alloc, desk, seat, Change::Load(HALTING), third)?;
-    assert!(rt; told == (Answered::OtherCartridge(4), 0), "{told:?}");
+    check_that(rt, told, told == (Answered::OtherCartridge(4), 0));
     Ok(())
 }
 
 #[test]
 fn three_batches_are_offered_to_a_desk(rt: HostRuntime) -> Result<(), Fail> {
     let (closed, _) = play(&rt, rt.alloc(), 1, Task::ThreeBatches)?;
-    assert_eq!(rt; closed.journal.len(), 4);
+    check_same(&rt, "closed.journal", closed.journal.len(), 4);
     Ok(())
 }

@@ -1,6 +1,7 @@
 //! Calls of a desk in short, taken one after the other on one thread.
 
 use crate::changes::{Change, edit_of};
+use crate::checks::check_that;
 use crate::gates::Open;
 use std::alloc::Global;
 use std::process::Abort;
@@ -198,7 +199,7 @@ pub fn take_calls<N: Name, W: CloseOnDrop, R: Threads + Wait + Abort + Sync>(
 ) -> Result<(), Fail> {
     for (number, call) in calls.iter().enumerate() {
         let is_right = is_taken(rt, alloc, desk, seats, *call)?;
-        assert!(rt; is_right, "call {number}");
+        check_that(rt, ("call", number), is_right);
     }
     Ok(())
 }

@@ -2,6 +2,7 @@
 
 use crate::calls::Call;
 use crate::changes::{Change, HALT, HALTING, PLAYFIELD, fire};
+use crate::checks::check_same;
 use crate::desks::{Task, play};
 use crate::sessions::history;
 use std::test::Fail;
@@ -40,8 +41,8 @@ fn a_fresh_desk_has_no_frames(rt: HostRuntime) -> Result<(), Fail> {
         Call::Exported(1, (0, 0), 3, 0, 0),
     ];
     let (closed, _) = play(&rt, rt.alloc(), 2, Task::Calls(&calls))?;
-    assert_eq!(rt; closed.journal.len(), 0);
-    assert_eq!(rt; closed.movie.len(), 0);
+    check_same(&rt, "closed.journal", closed.journal.len(), 0);
+    check_same(&rt, "closed.movie", closed.movie.len(), 0);
     Ok(())
 }
 
@@ -60,7 +61,7 @@ fn a_seat_sees_the_other_s_edit(rt: HostRuntime) -> Result<(), Fail> {
         Call::Meet(2),
     ];
     let (closed, _) = play(&rt, rt.alloc(), 2, Task::Calls(&calls))?;
-    assert_eq!(rt; closed.journal.len(), 2);
+    check_same(&rt, "closed.journal", closed.journal.len(), 2);
     Ok(())
 }
 
@@ -89,7 +90,12 @@ fn refusals_of_a_desk_come_in_order(rt: HostRuntime) -> Result<(), Fail> {
     let alloc = rt.alloc();
     let (closed, _) = play(&rt, alloc, 2, Task::Calls(&calls))?;
     let text = "0 0 insert 0 262144\n1 0 replace 262144 0\n1 1 delete 1 262143\n0 1 delete 0 0\n";
-    assert_eq!(rt; history(alloc, closed.journal.as_slice())?.as_str(), text);
+    check_same(
+        &rt,
+        "history",
+        history(alloc, closed.journal.as_slice())?.as_str(),
+        text,
+    );
     Ok(())
 }
 

@@ -6,6 +6,7 @@ ghost use Rattle.tas_desk.specs.Seats.{name_of};
 use crate::batch_tests::offer_three_batches;
 use crate::calls::{Call, take_calls};
 use crate::changes::Change;
+use crate::checks::check_that;
 use crate::export_tests::{
     export_by_each, export_longest, export_through_gates, export_to_the_ends, export_until_halted,
 };
@@ -105,7 +106,7 @@ fn play_at<N: Name + Send + Sync, R: Threads + Wait + Abort + Sync>(
 {
     let (desk, seats) = Desk::<N, &R>::open(rt, alloc, unopened).map_err(|_| AllocError)?;
     let (seats, notes) = take(rt, alloc, &desk, seats, task)?;
-    assert!(rt; desk.whole(seats.as_slice()), "all seats come back");
+    check_that(rt, "all seats come back", desk.whole(seats.as_slice()));
     Ok((desk.close(rt, seats), notes))
 }
 

@@ -3,6 +3,7 @@
 ghost use Rattle.std.specs.Prelude.{◌≤◌};
 
 use crate::changes::{Change, FOLDING, HALT, HALTING, PLAYFIELD, WAITING, edit_of};
+use crate::checks::{check_same, check_that};
 use crate::desks::{Task, play};
 use crate::gates::{Counting, Open, Ordered};
 use crate::replays::images;
@@ -78,7 +79,7 @@ fn fill<N: Name, R: Threads + Wait + Abort + Sync>(
         if check(&movie, &edit).is_ok() {
             apply(&mut movie, &edit);
         }
-        assert!(rt; desk.edit(rt, seat, edit).is_ok(), "{change:?}");
+        check_that(rt, change, desk.edit(rt, seat, edit).is_ok());
     }
     Ok(movie)
 }
@@ -94,7 +95,7 @@ pub fn export_by_each<N: Name, R: Threads + Wait + Abort + Sync>(
     let movie = fill(rt, alloc, desk, seat, FOLDING, 20)?;
     let range = (2, frames.saturating_add(2));
     let (bytes, sum) = images(alloc, &movie, range.0, range.1)?.map_err(|_| "a halt")?;
-    assert_eq!(rt; bytes, frames.saturating_mul(100_815));
+    check_same(rt, "bytes", bytes, frames.saturating_mul(100_815));
     for workers in 1..17usize {
         let (told, written, found) = export(
             rt,
@@ -106,9 +107,9 @@ pub fn export_by_each<N: Name, R: Threads + Wait + Abort + Sync>(
             &Open,
             usize::MAX,
         );
-        assert!(rt; told.is_ok(), "{frames} frames by {workers}");
-        assert_eq!(rt; written, bytes, "{frames} frames by {workers}");
-        assert_eq!(rt; found, sum, "{frames} frames by {workers}");
+        check_that(rt, ("frames by workers", frames, workers), told.is_ok());
+        check_same(rt, ("frames by workers", frames, workers), written, bytes);
+        check_same(rt, ("frames by workers", frames, workers), found, sum);
     }
     Ok(())
 }
@@ -117,7 +118,7 @@ pub fn export_by_each<N: Name, R: Threads + Wait + Abort + Sync>(
 fn every_number_of_workers_writes_the_same(rt: HostRuntime) -> Result<(), Fail> {
     for frames in [0, 1, 15, 16, 17] {
         let (closed, _) = play(&rt, rt.alloc(), 1, Task::ExportByEach(frames))?;
-        assert_eq!(rt; closed.journal.len(), 3);
+        check_same(&rt, "closed.journal", closed.journal.len(), 3);
     }
     Ok(())
 }
@@ -131,16 +132,16 @@ pub fn export_through_gates<N: Name, R: Threads + Wait + Abort + Sync>(
 ) -> Result<(), Fail> {
     fill(rt, alloc, desk, seat, PLAYFIELD, 2)?;
     let alone = export(rt, alloc, desk, seat, (0, 2), 1, &Open, usize::MAX);
-    assert_eq!(rt; (alone.0, alone.1), (Ok((3, 2)), 201_630));
+    check_same(rt, "alone.0", (alone.0, alone.1), (Ok((3, 2)), 201_630));
     let ordered = Ordered::new();
     let both = export(rt, alloc, desk, seat, (0, 2), 2, &ordered, usize::MAX);
-    assert!(rt; ordered.entered.was_seen(), "one thread plays both runs");
-    assert_eq!(rt; both, (Ok((3, 3)), alone.1, alone.2));
+    check_that(rt, "one thread plays both runs", ordered.entered.was_seen());
+    check_same(rt, "both", both, (Ok((3, 3)), alone.1, alone.2));
     let counting = Counting::new();
     let many = export(rt, alloc, desk, seat, (0, 2), 16, &counting, usize::MAX);
-    assert_eq!(rt; (many.1, many.2), (alone.1, alone.2));
+    check_same(rt, "many.1", (many.1, many.2), (alone.1, alone.2));
     // The numbers 0 to 15, each once.
-    assert_eq!(rt; counting.passed(), (16, 1240));
+    check_same(rt, "counting", counting.passed(), (16, 1240));
     Ok(())
 }
 
@@ -174,10 +175,15 @@ pub fn export_until_halted<N: Name, R: Threads + Wait + Abort + Sync>(
             frame,
             halt: HALT,
         };
-        assert_eq!(rt; told, (Err(halted), 0, nothing), "{range:?} by {workers}");
+        check_same(
+            rt,
+            ("frames by workers", range, workers),
+            told,
+            (Err(halted), 0, nothing),
+        );
     }
     let told = export(rt, alloc, desk, seat, (0, 3), 2, &Open, usize::MAX);
-    assert_eq!(rt; (told.0, told.1), (Ok((3, 4)), 302_445));
+    check_same(rt, "told.0", (told.0, told.1), (Ok((3, 4)), 302_445));
     Ok(())
 }
 
@@ -201,7 +207,7 @@ pub fn export_to_the_ends<N: Name, R: Threads + Wait + Abort + Sync>(
             written: room,
             is_full: true,
         };
-        assert_eq!(rt; (told.0, told.1), (Err(broken), room), "after {room}");
+        check_same(rt, ("after", room), (told.0, told.1), (Err(broken), room));
     }
     let ranges = [
         (1, 0),
@@ -215,11 +221,11 @@ pub fn export_to_the_ends<N: Name, R: Threads + Wait + Abort + Sync>(
     for range in ranges {
         let told = export(rt, alloc, desk, seat, range, 2, &Open, usize::MAX);
         let out = Refused::Range { at: 3, len: 1030 };
-        assert_eq!(rt; (told.0, told.1), (Err(out), 0), "{range:?}");
+        check_same(rt, range, (told.0, told.1), (Err(out), 0));
     }
     for end in [0, 1030] {
         let told = export(rt, alloc, desk, seat, (end, end), 3, &Open, usize::MAX);
-        assert_eq!(rt; (told.0, told.1), (Ok((3, 0)), 0), "from {end}");
+        check_same(rt, ("from", end), (told.0, told.1), (Ok((3, 0)), 0));
     }
     Ok(())
 }
@@ -256,25 +262,28 @@ pub fn export_longest<N: Name, R: Threads + Wait + Abort + Sync>(
     fill(rt, alloc, desk, seat, WAITING, 1024)?;
     let mut bytes = Vec::with_capacity(alloc, 103_234_560)?;
     let alone = desk.export(rt, alloc, seat, 0, 1024, 1, &Open, &mut bytes);
-    assert_eq!(rt;
+    check_same(
+        rt,
+        "alone",
         alone.ok().map(|told| (told.at, told.played)),
-        Some((3, 1024))
+        Some((3, 1024)),
     );
-    assert_eq!(rt; bytes.len(), 103_234_560);
+    check_same(rt, "bytes", bytes.len(), 103_234_560);
     let worked = desk.work(rt, alloc, seat, &[1024], &Open);
-    assert_eq!(rt; worked.map(|worked| worked.kept), Ok(16));
-    assert_eq!(rt; desk.share(rt, seat).ok(), Some(16));
+    check_same(rt, "worked", worked.map(|worked| worked.kept), Ok(16));
+    check_same(rt, "desk", desk.share(rt, seat).ok(), Some(16));
     for group in 0..4usize {
         let workers = 4 * group + first % 4 + 1;
         let mut out = Compared::new(bytes.as_slice());
         let told = desk.export(rt, alloc, seat, 0, 1024, workers, &Open, &mut out);
         let wanted = played_from_the_grid(workers);
-        assert_eq!(rt;
+        check_same(
+            rt,
+            ("workers", workers),
             told.ok().map(|told| (told.at, told.played)),
             Some((3, wanted)),
-            "by {workers}"
         );
-        assert!(rt; out.is_same(), "by {workers}");
+        check_that(rt, ("frames by workers", workers), out.is_same());
     }
     Ok(())
 }

@@ -1,6 +1,7 @@
 //! Jobs of a session, and the batches that are offered to it.
 
 use crate::changes::{Change, HALTING, PLAYFIELD, cart, edit_of};
+use crate::checks::{check_same, check_that};
 use crate::sessions::{Lent, Turn, kept, lend, open_movie, take_turns};
 use std::alloc::{AllocError, Global};
 use std::process::Abort;
@@ -46,10 +47,14 @@ impl Lent for Jobs {
     ) -> Result<(), Fail> {
         open_movie(rt, alloc, session, PLAYFIELD, 200)?;
         let first = run(alloc, session, 128)?;
-        assert!(rt; first.cart().bytes() == session.movie().cart().bytes());
-        assert_eq!(rt; first.inputs().len(), 128);
+        check_that(
+            rt,
+            "first",
+            first.cart().bytes() == session.movie().cart().bytes(),
+        );
+        check_same(rt, "first, 2", first.inputs().len(), 128);
         let all = run(alloc, session, 1000)?;
-        assert!(rt; all.inputs() == session.movie().inputs());
+        check_that(rt, "all", all.inputs() == session.movie().inputs());
         let held = [
             (0, false, false),
             (64, true, true),
@@ -59,8 +64,8 @@ impl Lent for Jobs {
             (256, false, false),
         ];
         for (frame, in_first, in_all) in held {
-            assert_eq!(rt; first.holds(frame), in_first, "frame {frame}");
-            assert_eq!(rt; all.holds(frame), in_all, "frame {frame}");
+            check_same(rt, ("frame", frame), first.holds(frame), in_first);
+            check_same(rt, ("frame", frame), all.holds(frame), in_all);
         }
         take_turns(rt, alloc, session, &[Turn::Kept("0:")])
     }
@@ -69,7 +74,7 @@ impl Lent for Jobs {
 #[test]
 fn jobs_hold_what_the_session_had(rt: HostRuntime) -> Result<(), Fail> {
     let closed = lend(&rt, rt.alloc(), &Jobs)?;
-    assert_eq!(rt; closed.journal.len(), 2);
+    check_same(&rt, "closed.journal", closed.journal.len(), 2);
     Ok(())
 }
 
@@ -86,8 +91,12 @@ impl Lent for Nearest {
         open_movie(rt, alloc, session, PLAYFIELD, 200)?;
         take_turns(rt, alloc, session, &[Turn::Drawn(70, 2, 71, 1680)])?;
         let batch = run(alloc, session, 128)?;
-        assert!(rt; !batch.holds(64) && batch.holds(128) && !batch.holds(192));
-        assert_eq!(rt; offer(session, batch), taken(2, 128, 1));
+        check_that(
+            rt,
+            "batch",
+            !batch.holds(64) && batch.holds(128) && !batch.holds(192),
+        );
+        check_same(rt, "offer", offer(session, batch), taken(2, 128, 1));
         let turns = [Turn::Kept("2: 64 128"), Turn::Drawn(191, 2, 64, 1680)];
         take_turns(rt, alloc, session, &turns)
     }
@@ -115,12 +124,17 @@ impl Lent for ThreeBatches {
         let third = run(alloc, session, 200)?;
         let replaced = Turn::Made(Change::ReplaceRight(100), 3, 200);
         take_turns(rt, alloc, session, &[replaced])?;
-        assert_eq!(rt; offer(session, first), taken(3, 100, 1));
-        assert_eq!(rt; kept(alloc, session)?.as_str(), "1: 64");
-        assert_eq!(rt; offer(session, second), taken(3, 100, 0));
+        check_same(rt, "offer", offer(session, first), taken(3, 100, 1));
+        check_same(rt, "kept", kept(alloc, session)?.as_str(), "1: 64");
+        check_same(rt, "offer, 2", offer(session, second), taken(3, 100, 0));
         let loaded = Turn::Made(Change::Load(HALTING), 4, 200);
         take_turns(rt, alloc, session, &[loaded])?;
-        assert_eq!(rt; offer(session, third), Answered::OtherCartridge { at: 4 });
+        check_same(
+            rt,
+            "offer, 3",
+            offer(session, third),
+            Answered::OtherCartridge { at: 4 },
+        );
         Ok(())
     }
 }
@@ -150,8 +164,8 @@ impl Lent for OfferedAfter {
         let first = run(alloc, session, 200)?;
         let second = run(alloc, session, 200)?;
         session.edit(rt, 0, 2, edit_of(alloc, self.change)?)?;
-        assert_eq!(rt; offer(session, first), self.once, "{:?}", self.change);
-        assert_eq!(rt; offer(session, second), self.twice, "{:?}", self.change);
+        check_same(rt, self.change, offer(session, first), self.once);
+        check_same(rt, self.change, offer(session, second), self.twice);
         Ok(())
     }
 }
@@ -205,7 +219,7 @@ impl Lent for FromAnother {
     ) -> Result<(), Fail> {
         open_movie(rt, alloc, session, PLAYFIELD, 100)?;
         let batch = batch_of(rt, alloc, self.program)?;
-        assert_eq!(rt; offer(session, batch), self.answer, "{}", self.kept);
+        check_same(rt, self.kept, offer(session, batch), self.answer);
         take_turns(rt, alloc, session, &[Turn::Kept(self.kept)])
     }
 }

@@ -8,6 +8,8 @@ mod calls;
 #[cfg(test)]
 mod changes;
 #[cfg(test)]
+mod checks;
+#[cfg(test)]
 mod desk_tests;
 #[cfg(test)]
 mod desks;

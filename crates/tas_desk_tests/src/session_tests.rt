@@ -1,6 +1,7 @@
 //! Sessions by hand: each call with its answer, and each refusal with what it leaves.
 
 use crate::changes::{Change, HALT, HALTING, PLAYFIELD, cart, edit_of, right};
+use crate::checks::{check_same, check_that};
 use crate::sessions::{Lent, Turn, history, kept, lend, open_movie, play_turns};
 use std::alloc::Global;
 use std::process::Abort;
@@ -18,9 +19,13 @@ fn a_new_session_is_empty(rt: HostRuntime) -> Result<(), Fail> {
     let none = ShotError::NoFrame { at: 0, len: 0 };
     let turns = [Turn::Kept("0:"), Turn::NotDrawn(0, none, 0)];
     let closed = play_turns(&rt, alloc, &turns)?;
-    assert_eq!(rt; closed.journal.len(), 0);
-    assert_eq!(rt; closed.movie.len(), 0);
-    assert!(rt; closed.movie.cart().bytes() == Cart::blank(alloc)?.bytes());
+    check_same(&rt, "closed.journal", closed.journal.len(), 0);
+    check_same(&rt, "closed.movie", closed.movie.len(), 0);
+    check_that(
+        &rt,
+        "closed.movie, 2",
+        closed.movie.cart().bytes() == Cart::blank(alloc)?.bytes(),
+    );
     Ok(())
 }
 
@@ -46,7 +51,12 @@ fn serials_count_the_seat_s_own_edits(rt: HostRuntime) -> Result<(), Fail> {
     let closed = play_turns(&rt, alloc, &turns)?;
     let text =
         "7 0 delete 0 0\n0 0 delete 0 0\n7 1 delete 0 0\n4294967295 0 delete 0 0\n0 1 delete 0 0\n";
-    assert_eq!(rt; history(alloc, closed.journal.as_slice())?.as_str(), text);
+    check_same(
+        &rt,
+        "history",
+        history(alloc, closed.journal.as_slice())?.as_str(),
+        text,
+    );
     Ok(())
 }
 
@@ -65,10 +75,23 @@ fn each_kind_of_edit_is_made(rt: HostRuntime) -> Result<(), Fail> {
     let closed = play_turns(&rt, alloc, &turns)?;
     let text =
         "0 0 load\n0 1 insert 0 5\n0 2 insert 5 2\n0 3 replace 6 1\n0 4 delete 1 4\n0 5 load\n0 6 insert 0 1\n";
-    assert_eq!(rt; history(alloc, closed.journal.as_slice())?.as_str(), text);
+    check_same(
+        &rt,
+        "history",
+        history(alloc, closed.journal.as_slice())?.as_str(),
+        text,
+    );
     let inputs = [right(), Input::none(), Input::none(), right()];
-    assert!(rt; closed.movie.inputs() == inputs.as_slice());
-    assert!(rt; closed.movie.cart().bytes() == cart(alloc, HALTING)?.bytes());
+    check_that(
+        &rt,
+        "closed.movie",
+        closed.movie.inputs() == inputs.as_slice(),
+    );
+    check_that(
+        &rt,
+        "closed.movie, 2",
+        closed.movie.cart().bytes() == cart(alloc, HALTING)?.bytes(),
+    );
     Ok(())
 }
 
@@ -112,7 +135,7 @@ fn refusals_come_in_order(rt: HostRuntime) -> Result<(), Fail> {
         Turn::Kept("1: 512"),
     ];
     let closed = play_turns(&rt, rt.alloc(), &turns)?;
-    assert_eq!(rt; closed.movie.len(), 262144);
+    check_same(&rt, "closed.movie", closed.movie.len(), 262144);
     Ok(())
 }
 
@@ -136,7 +159,7 @@ fn movies_have_at_most_262144_inputs(rt: HostRuntime) -> Result<(), Fail> {
         Turn::Tried(0, 1, Change::Replace(262144, 0), Ok(Receipt { at: 2, len })),
     ];
     let closed = play_turns(&rt, rt.alloc(), &turns)?;
-    assert_eq!(rt; closed.journal.len(), 2);
+    check_same(&rt, "closed.journal", closed.journal.len(), 2);
     Ok(())
 }
 
@@ -164,7 +187,7 @@ impl Lent for Million {
         ];
         for (made, change, error) in attempts {
             let answer = session.edit(rt, 4, made, edit_of(alloc, change)?);
-            assert_eq!(rt; answer, Err(error), "{change:?} after {made}");
+            check_same(rt, ("after", change, made), answer, Err(error));
         }
         Ok(())
     }
@@ -173,8 +196,8 @@ impl Lent for Million {
 #[test]
 fn a_million_edits_are_the_most(rt: HostRuntime) -> Result<(), Fail> {
     let closed = lend(&rt, rt.alloc(), &Million)?;
-    assert_eq!(rt; closed.journal.len(), 1_000_000);
-    assert_eq!(rt; closed.movie.len(), 0);
+    check_same(&rt, "closed.journal", closed.journal.len(), 1_000_000);
+    check_same(&rt, "closed.movie", closed.movie.len(), 0);
     Ok(())
 }
 
@@ -267,9 +290,11 @@ fn halted_frames_are_told_and_kept(rt: HostRuntime) -> Result<(), Fail> {
     ];
     let closed = play_turns(&rt, rt.alloc(), &turns)?;
     let text = "0 0 load\n0 1 insert 0 100\n";
-    assert_eq!(rt;
+    check_same(
+        &rt,
+        "history",
         history(rt.alloc(), closed.journal.as_slice())?.as_str(),
-        text
+        text,
     );
     Ok(())
 }
@@ -288,8 +313,8 @@ fn a_frame_that_is_not_there_changes_nothing(rt: HostRuntime) -> Result<(), Fail
         Turn::Kept("1: 64"),
     ];
     let closed = play_turns(&rt, rt.alloc(), &turns)?;
-    assert_eq!(rt; closed.journal.len(), 2);
-    assert_eq!(rt; closed.movie.len(), 200);
+    check_same(&rt, "closed.journal", closed.journal.len(), 2);
+    check_same(&rt, "closed.movie", closed.movie.len(), 200);
     Ok(())
 }
 
@@ -310,9 +335,9 @@ impl Lent for OneMeter {
             // The condition of a shot: the meter has room for the whole movie.
             if meter.room() >= session.movie().len() as u64 {
                 let is_drawn = session.shot(alloc, k, &mut meter).is_ok();
-                assert_eq!(rt; is_drawn, k < 200, "frame {k}");
+                check_same(rt, ("frame", k), is_drawn, k < 200);
             }
-            assert_eq!(rt; meter.count(), count, "frame {k}");
+            check_same(rt, ("frame", k), meter.count(), count);
         }
         Ok(())
     }
@@ -325,9 +350,8 @@ fn one_meter_counts_several_shots(rt: HostRuntime) -> Result<(), Fail> {
 }
 
 #[test]
-fn errors_read_as_written(rt: HostRuntime) -> Result<(), Fail> {
+fn errors_of_opening_and_work_in_words(rt: HostRuntime) -> Result<(), Fail> {
     let alloc = rt.alloc();
-    let (at, len) = (7, 30);
     let done = Worked {
         jobs: 1,
         kept: 2,
@@ -341,8 +365,15 @@ fn errors_read_as_written(rt: HostRuntime) -> Result<(), Fail> {
         (format!(in alloc; "{NoEntry}")?, "no entry"),
     ];
     for (written, text) in &texts {
-        assert_eq!(rt; written.as_str(), *text);
+        check_same(&rt, *text, written.as_str(), *text);
     }
+    Ok(())
+}
+
+#[test]
+fn errors_of_edits_in_words(rt: HostRuntime) -> Result<(), Fail> {
+    let alloc = rt.alloc();
+    let (at, len) = (7, 30);
     let edits = [
         (
             EditError::Serial { at, counted: 3 },
@@ -357,14 +388,21 @@ fn errors_read_as_written(rt: HostRuntime) -> Result<(), Fail> {
         (EditError::Memory, "out of memory"),
     ];
     for (error, text) in edits {
-        assert_eq!(rt; format!(in alloc; "{error}")?.as_str(), text);
+        check_same(&rt, error, format!(in alloc; "{error}")?.as_str(), text);
     }
+    Ok(())
+}
+
+#[test]
+fn errors_of_looks_in_words(rt: HostRuntime) -> Result<(), Fail> {
+    let alloc = rt.alloc();
+    let (at, len) = (7, 30);
     let looks = [
         (InputError::NoEntry, "no entry"),
         (InputError::NoFrame { at, len }, "no such frame of 30 at 7"),
     ];
     for (error, text) in looks {
-        assert_eq!(rt; format!(in alloc; "{error}")?.as_str(), text);
+        check_same(&rt, error, format!(in alloc; "{error}")?.as_str(), text);
     }
     let shots = [
         (ShotError::NoEntry, "no entry"),
@@ -373,7 +411,7 @@ fn errors_read_as_written(rt: HostRuntime) -> Result<(), Fail> {
         (ShotError::Halted { at, halt: HALT }, "halted at 7"),
     ];
     for (error, text) in shots {
-        assert_eq!(rt; format!(in alloc; "{error}")?.as_str(), text);
+        check_same(&rt, error, format!(in alloc; "{error}")?.as_str(), text);
     }
     Ok(())
 }

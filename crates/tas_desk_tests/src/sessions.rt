@@ -1,6 +1,7 @@
 //! Sessions for tests: lent to turns, and closed whatever these answer.
 
 use crate::changes::{Change, edit_of};
+use crate::checks::check_that;
 use std::alloc::{AllocError, Global};
 use std::process::Abort;
 use std::str;
@@ -153,7 +154,11 @@ pub fn take_turns<R: Wait + Abort>(
     turns: &[Turn],
 ) -> Result<(), Fail> {
     for (number, turn) in turns.iter().enumerate() {
-        assert!(rt; is_answered(rt, alloc, session, *turn)?, "turn {number}");
+        check_that(
+            rt,
+            ("turn", number),
+            is_answered(rt, alloc, session, *turn)?,
+        );
     }
     Ok(())
 }

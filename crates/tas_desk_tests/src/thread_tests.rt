@@ -1,6 +1,7 @@
 //! Seats on threads of their own. What they were told is compared with the history that the desk leaves.
 
 use crate::changes::{Change, FOLDING, HALTING, PLAYFIELD, edit_of};
+use crate::checks::{check_same, check_that};
 use crate::desks::{Left, Task, play};
 use crate::gates::Door;
 use crate::players::{Fault, Habit, Player, meet};
@@ -23,8 +24,8 @@ fn judge<R: Abort>(
 ) -> Result<(), Fail> {
     let seat = notes.seat;
     match replayed(alloc, journal, notes)? {
-        Ok(count) => assert!(rt; count >= least, "seat {seat}: {count} notes"),
-        Err(number) => assert!(rt; false, "seat {seat}: note {number}"),
+        Ok(count) => check_that(rt, ("seat, notes", seat, count), count >= least),
+        Err(number) => check_that(rt, ("seat, note", seat, number), false),
     }
     Ok(())
 }
@@ -34,7 +35,7 @@ fn entries_of<R: Abort>(rt: &R, journal: &[Entry], seat: u32) -> u64 {
     let mut serial = 0u64;
     for (number, entry) in journal.iter().enumerate() {
         if entry.seat == seat {
-            assert_eq!(rt; entry.serial, serial, "entry {number}");
+            check_same(rt, ("entry", number), entry.serial, serial);
             serial = serial.saturating_add(1);
         }
     }
@@ -108,7 +109,7 @@ fn leave<N: Name, R: Abort>(
             ..
         } = player;
         let number = seat.number();
-        assert_eq!(rt; fault, None, "seat {number}");
+        check_same(rt, ("seat", number), fault, None);
         seats.push(seat)?;
         all.push(notes)?;
     }
@@ -120,12 +121,12 @@ fn two_seats_on_two_threads(rt: HostRuntime) -> Result<(), Fail> {
     let alloc = rt.alloc();
     let (closed, all) = play(&rt, alloc, 2, Task::Inserts(100))?;
     let journal = closed.journal.as_slice();
-    assert_eq!(rt; journal.len(), 200);
-    assert_eq!(rt; closed.movie.len(), 200);
-    assert_eq!(rt; entries_of(&rt, journal, 0), 100);
-    assert_eq!(rt; entries_of(&rt, journal, 1), 100);
+    check_same(&rt, "journal", journal.len(), 200);
+    check_same(&rt, "closed.movie", closed.movie.len(), 200);
+    check_same(&rt, "entries_of", entries_of(&rt, journal, 0), 100);
+    check_same(&rt, "entries_of, 2", entries_of(&rt, journal, 1), 100);
     for notes in &all {
-        assert_eq!(rt; notes.notes.len(), 300);
+        check_same(&rt, "notes.notes", notes.notes.len(), 300);
         judge(&rt, alloc, journal, notes, 300)?;
     }
     Ok(())
@@ -197,13 +198,13 @@ fn judge_all<R: Abort>(
     all: &[Notes],
     least: usize,
 ) -> Result<(), Fail> {
-    assert_eq!(rt; all.len(), 8);
+    check_same(rt, "all", all.len(), 8);
     let mut made = 0u64;
     for notes in all {
         judge(rt, alloc, closed.journal.as_slice(), notes, least)?;
         made = made.saturating_add(entries_of(rt, closed.journal.as_slice(), notes.seat));
     }
-    assert_eq!(rt; made, closed.journal.len() as u64);
+    check_same(rt, "made", made, closed.journal.len() as u64);
     Ok(())
 }
 
@@ -250,10 +251,10 @@ pub fn edit_in_the_gate<N: Name + Send + Sync, R: Threads + Wait + Abort + Sync>
             (editor, made)
         },
     );
-    assert!(rt; door.entered.was_seen(), "no job came to the gate");
-    assert!(rt; door.opened.was_seen(), "the edit waits for the job");
-    assert!(rt; made.is_ok(), "{change:?}");
-    assert_eq!(rt; worked, Ok(wanted), "{change:?}");
+    check_that(rt, "no job came to the gate", door.entered.was_seen());
+    check_that(rt, "the edit waits for the job", door.opened.was_seen());
+    check_that(rt, change, made.is_ok());
+    check_same(rt, change, worked, Ok(wanted));
     seats.push(worker)?;
     seats.push(editor)?;
     Ok((seats, Vec::new(alloc)))
@@ -268,7 +269,7 @@ fn fill<N: Name, W: CloseOnDrop, R: Wait + Abort>(
 ) -> Result<(), Fail> {
     for change in [Change::Load(PLAYFIELD), Change::Insert(0, 200)] {
         let edit = edit_of(alloc, change)?;
-        assert!(rt; desk.edit(rt, seat, edit).is_ok(), "{change:?}");
+        check_that(rt, change, desk.edit(rt, seat, edit).is_ok());
     }
     Ok(())
 }
@@ -287,7 +288,7 @@ fn jobs_run_outside_the_lock(rt: HostRuntime) -> Result<(), Fail> {
             stale,
         };
         let (closed, _) = play(&rt, rt.alloc(), 2, Task::EditInTheGate(change, worked))?;
-        assert_eq!(rt; closed.journal.len(), 3);
+        check_same(&rt, "closed.journal", closed.journal.len(), 3);
     }
     Ok(())
 }

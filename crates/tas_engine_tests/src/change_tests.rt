@@ -1,5 +1,6 @@
 //! Changes, scripts of them, and differences, on lists of inputs by hand.
 
+use crate::checks::{check_same, check_that};
 use crate::movies::frame_of;
 use std::alloc::Global;
 use std::test::Fail;
@@ -57,13 +58,14 @@ fn differences_read_as_by_hand(rt: HostRuntime) -> Result<(), Fail> {
         let wanted = movie_of(alloc, new)?;
         let changes = changes_between(alloc, movie.inputs(), wanted.inputs())?;
         let text = print_changes(alloc, changes.as_slice())?;
-        assert!(rt; text.as_slice() == script.as_bytes(), "{old} to {new}");
-        assert_eq!(rt;
+        check_that(&rt, ("to", old, new), text.as_slice() == script.as_bytes());
+        check_same(
+            &rt,
+            ("to", old, new),
             edit_movie(alloc, &mut movie, text.as_slice()),
             Ok(()),
-            "{old} to {new}"
         );
-        assert!(rt; movie.inputs() == wanted.inputs(), "{old} to {new}");
+        check_that(&rt, ("to", old, new), movie.inputs() == wanted.inputs());
     }
     Ok(())
 }
@@ -108,19 +110,20 @@ fn scripts_end_as_by_hand(rt: HostRuntime) -> Result<(), Fail> {
     let alloc = rt.alloc();
     for (script, end) in SCRIPTS {
         let mut movie = movie_of(alloc, "R.RF")?;
-        assert_eq!(rt;
+        check_same(
+            &rt,
+            script,
             edit_movie(alloc, &mut movie, script.as_bytes()),
             end,
-            "{script}"
         );
     }
     let mut movie = movie_of(alloc, "R.RF")?;
     let script =
         b"delete 1 2\ninsert 1 3 ....F ..... .....\nreplace 0 1 ..... ..... .....\ndelete 9 9\n";
     let end = edit_movie(alloc, &mut movie, script);
-    assert_eq!(rt; end, Err(ScriptFault::OutOfPlace(4)));
+    check_same(&rt, "end", end, Err(ScriptFault::OutOfPlace(4)));
     let wanted = movie_of(alloc, ".FFFF")?;
-    assert!(rt; movie.inputs() == wanted.inputs());
-    assert_eq!(rt; MAX_FRAMES, 262144);
+    check_that(&rt, "movie", movie.inputs() == wanted.inputs());
+    check_same(&rt, "MAX_FRAMES", MAX_FRAMES, 262144);
     Ok(())
 }

@@ -1,5 +1,6 @@
 //! Whole runs of `tas edit` and `tas diff`, over readers and writers of the tests' own.
 
+use crate::checks::{check_same, check_that};
 use crate::movies::{BLANK, BLANK_DIGEST, older_text_of, text_of};
 use std::alloc::Global;
 use std::test::Fail;
@@ -75,7 +76,7 @@ fn a_difference_that_is_made_gives_the_new_text(rt: HostRuntime) -> Result<(), F
             let after = blank_text(alloc, frames_from(alloc, new * 7)?.as_slice())?;
             let script = go_round(alloc, before.as_slice(), after.as_slice())?;
             let same = before.as_slice() == after.as_slice();
-            assert_eq!(rt; script.is_empty(), same, "{old} to {new}");
+            check_same(&rt, ("to", old, new), script.is_empty(), same);
         }
     }
     Ok(())
@@ -97,16 +98,25 @@ fn the_longest_movies_are_edited_and_compared(rt: HostRuntime) -> Result<(), Fai
     let full = long_movie(alloc, 262144, 262144)?;
     let other = long_movie(alloc, 262144, 40000)?;
     let script = go_round(alloc, none.as_slice(), full.as_slice())?;
-    assert_eq!(rt;
+    check_same(
+        &rt,
+        "script",
         script.as_slice(),
-        b"insert 0 262144 ..... ..... .....\n".as_slice()
+        b"insert 0 262144 ..... ..... .....\n".as_slice(),
     );
     let script = go_round(alloc, full.as_slice(), none.as_slice())?;
-    assert_eq!(rt; script.as_slice(), b"delete 0 262144\n".as_slice());
-    let script = go_round(alloc, full.as_slice(), other.as_slice())?;
-    assert_eq!(rt;
+    check_same(
+        &rt,
+        "script, 2",
         script.as_slice(),
-        b"replace 40000 1 ....F ..... .....\n".as_slice()
+        b"delete 0 262144\n".as_slice(),
+    );
+    let script = go_round(alloc, full.as_slice(), other.as_slice())?;
+    check_same(
+        &rt,
+        "script, 3",
+        script.as_slice(),
+        b"replace 40000 1 ....F ..... .....\n".as_slice(),
     );
     let (text, end) = edited(
         alloc,
@@ -114,11 +124,11 @@ fn the_longest_movies_are_edited_and_compared(rt: HostRuntime) -> Result<(), Fai
         b"insert 262144 1 ..... ..... .....\n",
         full.as_slice(),
     );
-    assert_eq!(rt; end, Err(ToolFault::EditLong { line: 1 }));
-    assert!(rt; text.is_empty());
+    check_same(&rt, "end", end, Err(ToolFault::EditLong { line: 1 }));
+    check_that(&rt, "text", text.is_empty());
     let (text, end) = edited(alloc, &BLANK, b"", other.as_slice());
-    assert_eq!(rt; end, Ok(()));
-    assert!(rt; text.as_slice() == other.as_slice());
+    check_same(&rt, "end, 2", end, Ok(()));
+    check_that(&rt, "text, 2", text.as_slice() == other.as_slice());
     Ok(())
 }
 
@@ -130,11 +140,11 @@ fn older_texts_are_edited_and_compared(rt: HostRuntime) -> Result<(), Fail> {
     let after = blank_text(alloc, b"..RRRR.")?;
     let script = b"insert 4 2 R.... ..... .....\n".as_slice();
     let (text, end) = edited(alloc, &BLANK, script, before.as_slice());
-    assert_eq!(rt; end, Ok(()));
-    assert!(rt; text.as_slice() == after.as_slice());
+    check_same(&rt, "end", end, Ok(()));
+    check_that(&rt, "text", text.as_slice() == after.as_slice());
     let (difference, end) = compared(alloc, &BLANK, before.as_slice(), after.as_slice());
-    assert_eq!(rt; end, Ok(()));
-    assert_eq!(rt; difference.as_slice(), script);
+    check_same(&rt, "end, 2", end, Ok(()));
+    check_same(&rt, "difference", difference.as_slice(), script);
     Ok(())
 }
 
@@ -163,8 +173,8 @@ fn a_line_at_fault_leaves_nothing_written(rt: HostRuntime) -> Result<(), Fail> {
     let two = blank_text(alloc, b"R.")?;
     for (number, (script, fault)) in FAULTS.iter().enumerate() {
         let (text, end) = edited(alloc, &BLANK, script, two.as_slice());
-        assert_eq!(rt; end, Err(*fault), "script {number}");
-        assert!(rt; text.is_empty(), "script {number}");
+        check_same(&rt, ("script", number), end, Err(*fault));
+        check_that(&rt, ("script", number), text.is_empty());
     }
     Ok(())
 }
@@ -190,8 +200,8 @@ fn faults_of_the_movies_come_in_order(rt: HostRuntime) -> Result<(), Fail> {
     ];
     for (number, (cart, script, input, fault)) in edits.iter().enumerate() {
         let (output, end) = edited(alloc, cart, script, input);
-        assert_eq!(rt; end, Err(*fault), "edit {number}");
-        assert!(rt; output.is_empty(), "edit {number}");
+        check_same(&rt, ("edit", number), end, Err(*fault));
+        check_that(&rt, ("edit", number), output.is_empty());
     }
     let comparisons: [(&[u8], &[u8], &[u8], ToolFault); 3] = [
         (b"", bad, b"", ToolFault::Size(0)),
@@ -200,8 +210,8 @@ fn faults_of_the_movies_come_in_order(rt: HostRuntime) -> Result<(), Fail> {
     ];
     for (number, (cart, before, after, fault)) in comparisons.iter().enumerate() {
         let (output, end) = compared(alloc, cart, before, after);
-        assert_eq!(rt; end, Err(*fault), "comparison {number}");
-        assert!(rt; output.is_empty(), "comparison {number}");
+        check_same(&rt, ("comparison", number), end, Err(*fault));
+        check_that(&rt, ("comparison", number), output.is_empty());
     }
     Ok(())
 }
@@ -235,12 +245,13 @@ fn inputs_are_read_in_order_up_to_a_fault(rt: HostRuntime) {
         let mut third = Filler::new(0, lens[2], fails[2]);
         let mut output = Vec::new(alloc);
         let end = edit_run(alloc, &mut first, &mut second, &mut third, &mut output);
-        assert_eq!(rt; end, Err(*fault), "case {number}");
-        assert!(rt; output.is_empty(), "case {number}");
-        assert_eq!(rt;
+        check_same(&rt, ("case", number), end, Err(*fault));
+        check_that(&rt, ("case", number), output.is_empty());
+        check_same(
+            &rt,
+            ("case", number),
             [first.reads, second.reads, third.reads],
             *reads,
-            "case {number}"
         );
     }
 }
@@ -260,11 +271,12 @@ fn texts_go_out_in_small_pieces(rt: HostRuntime) -> Result<(), Fail> {
         let mut script = b"delete 0 1\n".as_slice();
         let mut input = old.as_slice();
         let ended = edit_run(alloc, &mut cart, &mut script, &mut input, &mut output);
-        assert_eq!(rt; ended, end, "room {room}");
+        check_same(&rt, ("room", room), ended, end);
         let written = room.min(new.len());
-        assert!(rt;
+        check_that(
+            &rt,
+            ("room", room),
             output.taken.as_slice() == &new.as_slice()[..written],
-            "room {room}"
         );
     }
     Ok(())
@@ -291,10 +303,10 @@ fn the_movies_of_the_examples_go_round(rt: HostRuntime) -> Result<(), Fail> {
     for (number, (runs, size, changes)) in rows.iter().enumerate() {
         let mut old = blank_text(alloc, b"")?;
         old.extend_from_slice(*runs)?;
-        assert_eq!(rt; old.len(), *size, "movie {number}");
+        check_same(&rt, ("movie", number), old.len(), *size);
         let (new, end) = edited(alloc, &BLANK, *changes, old.as_slice());
-        assert_eq!(rt; end, Ok(()), "movie {number}");
-        assert!(rt; new.as_slice() != old.as_slice(), "movie {number}");
+        check_same(&rt, ("movie", number), end, Ok(()));
+        check_that(&rt, ("movie", number), new.as_slice() != old.as_slice());
         go_round(alloc, old.as_slice(), new.as_slice())?;
         go_round(alloc, new.as_slice(), old.as_slice())?;
     }

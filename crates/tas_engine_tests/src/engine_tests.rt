@@ -1,5 +1,6 @@
 //! Engines over readers and writers that give and take as a test says.
 
+use crate::checks::{check_same, check_that};
 use crate::movies::{
     HALTING, HALTING_DIGEST, PLAYFIELD, PLAYFIELD_DIGEST, STORES, image_of, older_text_of, text_of,
 };
@@ -22,11 +23,13 @@ fn a_trace_is_written_as_by_hand(rt: HostRuntime) -> Result<(), Fail> {
     let alloc = rt.alloc();
     let bytes = image_of(alloc, STORES)?;
     let mut written = Vec::new(alloc);
-    assert_eq!(rt;
+    check_same(
+        &rt,
+        "trace_run",
         trace_run(alloc, 3, &mut bytes.as_slice(), &mut written),
-        Ok(())
+        Ok(()),
     );
-    assert_eq!(rt; written.as_slice(), TRACE);
+    check_same(&rt, "written", written.as_slice(), TRACE);
     Ok(())
 }
 
@@ -35,11 +38,13 @@ fn a_trace_goes_out_in_small_pieces(rt: HostRuntime) -> Result<(), Fail> {
     let alloc = rt.alloc();
     let bytes = image_of(alloc, STORES)?;
     let mut output = Taker::new(alloc, 7, Room::Bytes(1000), Failure::Error);
-    assert_eq!(rt;
+    check_same(
+        &rt,
+        "trace_run",
         trace_run(alloc, 3, &mut bytes.as_slice(), &mut output),
-        Ok(())
+        Ok(()),
     );
-    assert_eq!(rt; output.taken.as_slice(), TRACE);
+    check_same(&rt, "output.taken", output.taken.as_slice(), TRACE);
     Ok(())
 }
 
@@ -51,14 +56,15 @@ fn a_writer_that_stops_has_the_first_bytes(rt: HostRuntime) -> Result<(), Fail> 
         for room in [0, 1, 20, 25, 26, 74] {
             let mut output = Taker::new(alloc, 9, Room::Bytes(room), failure);
             let answer = trace_run(alloc, 3, &mut bytes.as_slice(), &mut output);
-            assert_eq!(rt;
+            check_same(
+                &rt,
+                ("room", room),
                 answer,
                 Err(ToolFault::Write { written: room }),
-                "room {room}"
             );
-            assert_eq!(rt; output.taken.as_slice(), &TRACE[..room], "room {room}");
+            check_same(&rt, ("room", room), output.taken.as_slice(), &TRACE[..room]);
             // As many writes as take bytes, and the one that fails or takes none.
-            assert_eq!(rt; output.writes, room.div_ceil(9) + 1, "room {room}");
+            check_same(&rt, ("room", room), output.writes, room.div_ceil(9) + 1);
         }
     }
     Ok(())
@@ -70,8 +76,8 @@ fn other_sizes_are_refused(rt: HostRuntime) -> Result<(), Fail> {
     for size in [0, 1, 7, 2047, 4095, 4097, INPUT_LIMIT] {
         let mut written = Vec::new(alloc);
         let answer = trace_run(alloc, 3, &mut Filler::new(0, size, 0), &mut written);
-        assert_eq!(rt; answer, Err(ToolFault::Size(size)), "size {size}");
-        assert!(rt; written.is_empty(), "size {size}");
+        check_same(&rt, ("size", size), answer, Err(ToolFault::Size(size)));
+        check_that(&rt, ("size", size), written.is_empty());
     }
     Ok(())
 }
@@ -83,9 +89,9 @@ fn one_byte_past_the_limit_is_too_long(rt: HostRuntime) -> Result<(), Fail> {
         let mut input = Filler::new(0, INPUT_LIMIT + more, 0);
         let mut written = Vec::new(alloc);
         let answer = trace_run(alloc, 3, &mut input, &mut written);
-        assert_eq!(rt; answer, Err(ToolFault::TooLong));
-        assert_eq!(rt; input.left, more - 1);
-        assert!(rt; written.is_empty());
+        check_same(&rt, "answer", answer, Err(ToolFault::TooLong));
+        check_same(&rt, "input.left", input.left, more - 1);
+        check_that(&rt, "written", written.is_empty());
     }
     Ok(())
 }
@@ -97,75 +103,9 @@ fn a_failed_read_is_the_last_one(rt: HostRuntime) -> Result<(), Fail> {
         let mut input = Filler::new(0, 4096, fails_at);
         let mut written = Vec::new(alloc);
         let answer = trace_run(alloc, 3, &mut input, &mut written);
-        assert_eq!(rt; answer, Err(ToolFault::Read));
-        assert_eq!(rt; input.reads, fails_at);
-        assert!(rt; written.is_empty());
-    }
-    Ok(())
-}
-
-#[test]
-fn faults_read_as_their_lines(rt: HostRuntime) -> Result<(), Fail> {
-    let alloc = rt.alloc();
-    for (fault, line) in [
-        (ToolFault::TooLong, "fault: input is too long"),
-        (ToolFault::Read, "fault: read failed"),
-        (
-            ToolFault::Write { written: 20 },
-            "fault: write failed after 20 bytes",
-        ),
-        (ToolFault::Size(7), "fault: cartridge has 7 bytes"),
-        (
-            ToolFault::NoFrame { frame: 1, len: 1 },
-            "fault: no frame 1 of 1",
-        ),
-        (
-            ToolFault::Range {
-                from: 0,
-                to: 2,
-                len: 1,
-            },
-            "fault: range 0 to 2 of 1",
-        ),
-        (
-            ToolFault::Halted {
-                at: 0xf00d,
-                opcode: 2,
-            },
-            "fault: halted at F00D by 02",
-        ),
-        (
-            text_fault(3, TextErrorKind::End),
-            "fault: movie line 3: end",
-        ),
-        (
-            text_fault(2, TextErrorKind::Digest),
-            "fault: movie line 2: digest",
-        ),
-        (
-            text_fault(1, TextErrorKind::Head),
-            "fault: movie line 1: head",
-        ),
-        (
-            text_fault(4, TextErrorKind::Frame),
-            "fault: movie line 4: frame",
-        ),
-        (
-            text_fault(65539, TextErrorKind::TooMany),
-            "fault: movie line 65539: too many",
-        ),
-        (
-            text_fault(4, TextErrorKind::Run),
-            "fault: movie line 4: run",
-        ),
-        (ToolFault::Script { line: 12 }, "fault: script line 12"),
-        (ToolFault::NoPlace, "fault: no place"),
-        (ToolFault::NoEntry, "fault: no entry"),
-        (ToolFault::Foreign, "fault: foreign edit"),
-        (ToolFault::Memory, "fault: out of memory"),
-    ] {
-        let text = format!(in alloc; "{fault}")?;
-        assert_eq!(rt; text.as_str(), line);
+        check_same(&rt, "answer", answer, Err(ToolFault::Read));
+        check_same(&rt, "input.reads", input.reads, fails_at);
+        check_that(&rt, "written", written.is_empty());
     }
     Ok(())
 }
@@ -211,35 +151,45 @@ fn no_engine_reads_on(rt: HostRuntime) -> Result<(), Fail> {
         let mut cart = Giver::new(image.as_slice(), usize::MAX, 0);
         let mut text = Giver::new(movie.as_slice(), usize::MAX, 0);
         let answer = run(alloc, engine, &mut cart, &mut text, &mut written);
-        assert_eq!(rt; answer, Ok(()), "{engine:?}");
-        assert_eq!(rt; (cart.reads, text.reads), (2, texts), "{engine:?}");
+        check_same(&rt, engine, answer, Ok(()));
+        check_same(&rt, engine, (cart.reads, text.reads), (2, texts));
         for fails_at in [1, 2] {
             let mut none = Vec::new(alloc);
             let mut cart = Giver::new(image.as_slice(), usize::MAX, fails_at);
             let mut text = Giver::new(movie.as_slice(), usize::MAX, 0);
             let answer = run(alloc, engine, &mut cart, &mut text, &mut none);
-            assert_eq!(rt; answer, Err(ToolFault::Read), "{engine:?} {fails_at}");
-            assert_eq!(rt;
+            check_same(&rt, (engine, fails_at), answer, Err(ToolFault::Read));
+            check_same(
+                &rt,
+                (engine, fails_at),
                 (cart.reads, text.reads),
                 (fails_at, 0),
-                "{engine:?} {fails_at}"
             );
-            assert!(rt; none.is_empty(), "{engine:?} {fails_at}");
+            check_that(&rt, (engine, fails_at), none.is_empty());
         }
     }
+    Ok(())
+}
+
+#[test]
+fn a_failed_read_of_the_text_is_the_last_one(rt: HostRuntime) -> Result<(), Fail> {
+    let alloc = rt.alloc();
+    let image = image_of(alloc, PLAYFIELD)?;
+    let movie = text_of(alloc, PLAYFIELD_DIGEST, b".")?;
     for engine in [Engine::Check, Engine::Migrate, Engine::Shot] {
         for fails_at in [1, 2] {
             let mut none = Vec::new(alloc);
             let mut cart = Giver::new(image.as_slice(), usize::MAX, 0);
             let mut text = Giver::new(movie.as_slice(), usize::MAX, fails_at);
             let answer = run(alloc, engine, &mut cart, &mut text, &mut none);
-            assert_eq!(rt; answer, Err(ToolFault::Read), "{engine:?} {fails_at}");
-            assert_eq!(rt;
+            check_same(&rt, (engine, fails_at), answer, Err(ToolFault::Read));
+            check_same(
+                &rt,
+                (engine, fails_at),
                 (cart.reads, text.reads),
                 (2, fails_at),
-                "{engine:?} {fails_at}"
             );
-            assert!(rt; none.is_empty(), "{engine:?} {fails_at}");
+            check_that(&rt, (engine, fails_at), none.is_empty());
         }
     }
     Ok(())
@@ -252,15 +202,28 @@ fn texts_are_migrated(rt: HostRuntime) -> Result<(), Fail> {
     let image = image_of(alloc, PLAYFIELD)?;
     let older = older_text_of(alloc, PLAYFIELD_DIGEST, &[b'.'; 200])?;
     let newer = text_of(alloc, PLAYFIELD_DIGEST, &[b'.'; 200])?;
-    assert_eq!(rt; (older.len(), newer.len()), (3681, 104));
-    assert!(rt; newer.as_slice().ends_with(b"\n..... ..... ..... x200\n"));
+    check_same(&rt, "older", (older.len(), newer.len()), (3681, 104));
+    check_that(
+        &rt,
+        "newer",
+        newer.as_slice().ends_with(b"\n..... ..... ..... x200\n"),
+    );
     for text in [&older, &newer] {
         let mut written = Vec::new(alloc);
         let mut cart = image.as_slice();
         let answer = migrate_run(alloc, &mut cart, &mut text.as_slice(), &mut written);
-        assert_eq!(rt; answer, Ok(()));
-        assert!(rt; written.as_slice() == newer.as_slice());
+        check_same(&rt, "answer", answer, Ok(()));
+        check_that(&rt, "written", written.as_slice() == newer.as_slice());
     }
+    Ok(())
+}
+
+#[test]
+fn faults_of_migrating(rt: HostRuntime) -> Result<(), Fail> {
+    let alloc = rt.alloc();
+    let image = image_of(alloc, PLAYFIELD)?;
+    let older = older_text_of(alloc, PLAYFIELD_DIGEST, &[b'.'; 200])?;
+    let newer = text_of(alloc, PLAYFIELD_DIGEST, &[b'.'; 200])?;
     let faults: [(&[u8], &[u8], ToolFault); 4] = [
         (b"1234567", older.as_slice(), ToolFault::Size(7)),
         (
@@ -284,19 +247,18 @@ fn texts_are_migrated(rt: HostRuntime) -> Result<(), Fail> {
         let mut text = text;
         let mut written = Vec::new(alloc);
         let answer = migrate_run(alloc, &mut cart, &mut text, &mut written);
-        assert_eq!(rt; answer, Err(fault));
-        assert!(rt; written.is_empty());
+        check_same(&rt, fault, answer, Err(fault));
+        check_that(&rt, fault, written.is_empty());
     }
     Ok(())
 }
 
 /// A write of a few bytes is no failed one, and a failed one is the last.
 #[test]
-fn no_engine_writes_on(rt: HostRuntime) -> Result<(), Fail> {
+fn an_answer_goes_out_in_pieces(rt: HostRuntime) -> Result<(), Fail> {
     let alloc = rt.alloc();
     let image = image_of(alloc, PLAYFIELD)?;
     let movie = text_of(alloc, PLAYFIELD_DIGEST, b".")?;
-    let line = b"ok 1 frames\n".as_slice();
     let mut output = Taker::new(alloc, 7, Room::Bytes(100), Failure::Error);
     let answer = check_run(
         alloc,
@@ -304,9 +266,23 @@ fn no_engine_writes_on(rt: HostRuntime) -> Result<(), Fail> {
         &mut movie.as_slice(),
         &mut output,
     );
-    assert_eq!(rt; answer, Ok(()));
-    assert_eq!(rt; output.taken.as_slice(), line);
-    assert_eq!(rt; output.writes, 2);
+    check_same(&rt, "answer", answer, Ok(()));
+    check_same(
+        &rt,
+        "output.taken",
+        output.taken.as_slice(),
+        b"ok 1 frames\n".as_slice(),
+    );
+    check_same(&rt, "output.writes", output.writes, 2);
+    Ok(())
+}
+
+#[test]
+fn no_engine_writes_on(rt: HostRuntime) -> Result<(), Fail> {
+    let alloc = rt.alloc();
+    let image = image_of(alloc, PLAYFIELD)?;
+    let movie = text_of(alloc, PLAYFIELD_DIGEST, b".")?;
+    let line = b"ok 1 frames\n".as_slice();
     for failure in [Failure::Error, Failure::Nothing] {
         for room in [0, 3, 7, 11] {
             let mut output = Taker::new(alloc, 7, Room::Bytes(room), failure);
@@ -316,28 +292,14 @@ fn no_engine_writes_on(rt: HostRuntime) -> Result<(), Fail> {
                 &mut movie.as_slice(),
                 &mut output,
             );
-            assert_eq!(rt;
+            check_same(
+                &rt,
+                ("room", room),
                 answer,
                 Err(ToolFault::Write { written: room }),
-                "room {room}"
             );
-            assert_eq!(rt; output.taken.as_slice(), &line[..room], "room {room}");
-            assert_eq!(rt; output.writes, room.div_ceil(7) + 1, "room {room}");
-            let mut picture = Taker::new(alloc, 1000, Room::Bytes(100 * room), failure);
-            let answer = shot_run(
-                alloc,
-                0,
-                &mut image.as_slice(),
-                &mut movie.as_slice(),
-                &mut picture,
-            );
-            assert_eq!(rt;
-                answer,
-                Err(ToolFault::Write {
-                    written: 100 * room
-                }),
-                "room {room}"
-            );
+            check_same(&rt, ("room", room), output.taken.as_slice(), &line[..room]);
+            check_same(&rt, ("room", room), output.writes, room.div_ceil(7) + 1);
         }
     }
     Ok(())
@@ -355,16 +317,40 @@ fn a_movie_is_as_long_as_its_frames(rt: HostRuntime) -> Result<(), Fail> {
     for (frames, older_length, length, line) in cases {
         let older = older_text_of(alloc, PLAYFIELD_DIGEST, frames)?;
         let newer = text_of(alloc, PLAYFIELD_DIGEST, frames)?;
-        assert_eq!(rt; (older.len(), newer.len()), (older_length, length));
+        check_same(
+            &rt,
+            "older",
+            (older.len(), newer.len()),
+            (older_length, length),
+        );
         for text in [&older, &newer] {
             let mut written = Vec::new(alloc);
             let mut cart = cart.as_slice();
             let answer = check_run(alloc, &mut cart, &mut text.as_slice(), &mut written);
-            assert_eq!(rt; answer, Ok(()));
-            assert_eq!(rt; written.as_slice(), line.as_bytes());
+            check_same(&rt, "answer", answer, Ok(()));
+            check_same(&rt, "written", written.as_slice(), line.as_bytes());
         }
     }
     Ok(())
+}
+
+#[test]
+fn a_failed_read_comes_before_a_wrong_size(rt: HostRuntime) {
+    let alloc = rt.alloc();
+    let mut written = Vec::new(alloc);
+    // The cartridge is read before the text, and both before the size is looked at.
+    let mut unread = Filler::new(0, 10, 1);
+    let answer = check_run(alloc, &mut Filler::new(0, 7, 1), &mut unread, &mut written);
+    check_same(&rt, "answer", answer, Err(ToolFault::Read));
+    check_same(&rt, "unread.reads", unread.reads, 0);
+    let answer = check_run(
+        alloc,
+        &mut Filler::new(0, 7, 0),
+        &mut Filler::new(0, 10, 1),
+        &mut written,
+    );
+    check_same(&rt, "answer, 2", answer, Err(ToolFault::Read));
+    check_that(&rt, "written", written.is_empty());
 }
 
 #[test]
@@ -374,123 +360,34 @@ fn faults_of_a_movie_come_in_order(rt: HostRuntime) -> Result<(), Fail> {
     let text = text_of(alloc, PLAYFIELD_DIGEST, b".")?;
     let other = text_of(alloc, HALTING_DIGEST, b".")?;
     let mut written = Vec::new(alloc);
-    // Reading the cartridge comes before reading the text, this before the size, and this before the text's faults.
-    let mut unread = Filler::new(0, 10, 1);
-    let answer = check_run(alloc, &mut Filler::new(0, 7, 1), &mut unread, &mut written);
-    assert_eq!(rt; answer, Err(ToolFault::Read));
-    assert_eq!(rt; unread.reads, 0);
-    let answer = check_run(
-        alloc,
-        &mut Filler::new(0, 7, 0),
-        &mut Filler::new(0, 10, 1),
-        &mut written,
-    );
-    assert_eq!(rt; answer, Err(ToolFault::Read));
+    // The cartridge's size comes before the faults of the text, and these in the order of its lines.
     let answer = check_run(
         alloc,
         &mut Filler::new(0, 7, 0),
         &mut other.as_slice(),
         &mut written,
     );
-    assert_eq!(rt; answer, Err(ToolFault::Size(7)));
+    check_same(&rt, "answer", answer, Err(ToolFault::Size(7)));
     let answer = check_run(
         alloc,
         &mut cart.as_slice(),
         &mut other.as_slice(),
         &mut written,
     );
-    assert_eq!(rt; answer, Err(text_fault(2, TextErrorKind::Digest)));
+    check_same(
+        &rt,
+        "answer, 2",
+        answer,
+        Err(text_fault(2, TextErrorKind::Digest)),
+    );
     let mut unended = text.as_slice().get(..98).unwrap_or(&[]);
     let answer = check_run(alloc, &mut cart.as_slice(), &mut unended, &mut written);
-    assert_eq!(rt; answer, Err(text_fault(3, TextErrorKind::End)));
-    assert!(rt; written.is_empty());
-    Ok(())
-}
-
-#[test]
-fn a_playfield_is_drawn(rt: HostRuntime) -> Result<(), Fail> {
-    let alloc = rt.alloc();
-    let cart = image_of(alloc, PLAYFIELD)?;
-    let text = text_of(alloc, PLAYFIELD_DIGEST, b".")?;
-    let mut written = Vec::new(alloc);
-    let answer = shot_run(
-        alloc,
-        0,
-        &mut cart.as_slice(),
-        &mut text.as_slice(),
-        &mut written,
+    check_same(
+        &rt,
+        "answer, 3",
+        answer,
+        Err(text_fault(3, TextErrorKind::End)),
     );
-    assert_eq!(rt; answer, Ok(()));
-    assert_eq!(rt; written.len(), 100_815);
-    assert!(rt; written.as_slice().starts_with(b"P6\n160 210\n255\n"));
-    let pixels = written.as_slice().get(15..).unwrap_or(&[]);
-    for (pixel, colour) in pixels.chunks(3).enumerate() {
-        let x = pixel % 80;
-        let expected: &[u8] = if x < 4 {
-            &[0xd2, 0xc8, 0x8c]
-        } else {
-            &[0, 0, 0]
-        };
-        assert_eq!(rt; colour, expected, "at {pixel}");
-    }
-    let mut none = Vec::new(alloc);
-    let answer = shot_run(
-        alloc,
-        1,
-        &mut cart.as_slice(),
-        &mut text.as_slice(),
-        &mut none,
-    );
-    assert_eq!(rt; answer, Err(ToolFault::NoFrame { frame: 1, len: 1 }));
-    assert!(rt; none.is_empty());
-    let mut output = Taker::new(alloc, 1000, Room::Bytes(20), Failure::Error);
-    let answer = shot_run(
-        alloc,
-        0,
-        &mut cart.as_slice(),
-        &mut text.as_slice(),
-        &mut output,
-    );
-    assert_eq!(rt; answer, Err(ToolFault::Write { written: 20 }));
-    Ok(())
-}
-
-#[test]
-fn a_halted_frame_has_no_picture(rt: HostRuntime) -> Result<(), Fail> {
-    let alloc = rt.alloc();
-    let cart = image_of(alloc, HALTING)?;
-    let text = older_text_of(alloc, HALTING_DIGEST, b".....")?;
-    assert_eq!(rt; text.len(), 171);
-    for frame in [0, 1, 2] {
-        let mut written = Vec::new(alloc);
-        let answer = shot_run(
-            alloc,
-            frame,
-            &mut cart.as_slice(),
-            &mut text.as_slice(),
-            &mut written,
-        );
-        assert_eq!(rt; answer, Ok(()));
-        assert_eq!(rt; written.len(), 100_815);
-        assert!(rt; written.iter().skip(15).all(|byte| *byte == 0));
-    }
-    for frame in [3, 4] {
-        let mut written = Vec::new(alloc);
-        let answer = shot_run(
-            alloc,
-            frame,
-            &mut cart.as_slice(),
-            &mut text.as_slice(),
-            &mut written,
-        );
-        assert_eq!(rt;
-            answer,
-            Err(ToolFault::Halted {
-                at: 0xf00d,
-                opcode: 2
-            })
-        );
-        assert!(rt; written.is_empty());
-    }
+    check_that(&rt, "written", written.is_empty());
     Ok(())
 }

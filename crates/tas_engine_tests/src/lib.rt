@@ -4,10 +4,16 @@
 #[cfg(test)]
 mod change_tests;
 #[cfg(test)]
+mod checks;
+#[cfg(test)]
 mod edit_tests;
 #[cfg(test)]
 mod engine_tests;
 #[cfg(test)]
+mod fault_tests;
+#[cfg(test)]
 mod movies;
 #[cfg(test)]
 mod script_tests;
+#[cfg(test)]
+mod shot_tests;

@@ -1,5 +1,6 @@
 //! Lines and replies.
 
+use crate::checks::{check_same, check_that};
 use std::test::Fail;
 use tas_script::{Command, Image, Reply, parse_line, reply_line};
 use vcs_machine::{CART_SIZE, Input, SMALL_CART_SIZE};
@@ -29,46 +30,26 @@ fn small_image(offset: usize, byte: u8) -> Image {
 }
 
 #[test]
-fn each_line_is_its_command(rt: HostRuntime) {
+fn a_load_has_its_image(rt: HostRuntime) {
+    let cases: [(&[u8], Image); 6] = [
+        (b"load 00A=FF", large_image(10, 0xff)),
+        (b"load FFF=01", large_image(4095, 1)),
+        (b"load 00A=FF00 00B=1C 00B=00", large_image(10, 0xff)),
+        (b"load2 00A=FF", small_image(10, 0xff)),
+        (b"load2 7FF=01", small_image(2047, 1)),
+        (b"load2 7FE=FF01 7FE=00", small_image(2047, 1)),
+    ];
+    for (line, image) in cases {
+        let command = Command::Load { image };
+        check_same(&rt, line, parse_line(line), Some(command));
+    }
+}
+
+#[test]
+fn each_other_line_is_its_command(rt: HostRuntime) {
     let none = Input::none();
     let right = pressed_right();
-    let cases: [(&[u8], Command); 17] = [
-        (
-            b"load 00A=FF",
-            Command::Load {
-                image: large_image(10, 0xff),
-            },
-        ),
-        (
-            b"load FFF=01",
-            Command::Load {
-                image: large_image(4095, 1),
-            },
-        ),
-        (
-            b"load 00A=FF00 00B=1C 00B=00",
-            Command::Load {
-                image: large_image(10, 0xff),
-            },
-        ),
-        (
-            b"load2 00A=FF",
-            Command::Load {
-                image: small_image(10, 0xff),
-            },
-        ),
-        (
-            b"load2 7FF=01",
-            Command::Load {
-                image: small_image(2047, 1),
-            },
-        ),
-        (
-            b"load2 7FE=FF01 7FE=00",
-            Command::Load {
-                image: small_image(2047, 1),
-            },
-        ),
+    let cases: [(&[u8], Command); 11] = [
         (
             b"insert 0 200 ..... ..... .....",
             Command::Insert {
@@ -103,13 +84,39 @@ fn each_line_is_its_command(rt: HostRuntime) {
         (b"work 9999999", Command::Work { frame: 9_999_999 }),
     ];
     for (line, command) in cases {
-        assert_eq!(rt; parse_line(line), Some(command), "{command:?}");
+        check_same(&rt, line, parse_line(line), Some(command));
+    }
+}
+
+#[test]
+fn no_other_load_is_understood(rt: HostRuntime) {
+    let lines: [&[u8]; 17] = [
+        b"load",
+        b"load ",
+        b"load 000=",
+        b"load 000=A",
+        b"load 000=a9",
+        b"load 00=A9",
+        b"load 000 A9",
+        b"load FFF=A9FF",
+        b"load 000=A9 ",
+        b"load2",
+        b"load2 ",
+        b"load2 000=",
+        b"load2 7FF=A9FF",
+        b"load2 800=A9",
+        b"load2 000=A9 ",
+        b"load2000=A9",
+        b"load3 000=A9",
+    ];
+    for (number, line) in lines.iter().enumerate() {
+        check_that(&rt, ("line", number), parse_line(line).is_none());
     }
 }
 
 #[test]
 fn no_other_line_is_understood(rt: HostRuntime) {
-    let lines: [&[u8]; 52] = [
+    let lines: [&[u8]; 35] = [
         b"",
         b" ",
         b"len ",
@@ -145,33 +152,17 @@ fn no_other_line_is_understood(rt: HostRuntime) {
         b"insert 0  1 R.... ..... .....",
         b"insert 0 1 R....  ..... .....",
         b"replace 1 R.... ..... .....",
-        b"load",
-        b"load ",
-        b"load 000=",
-        b"load 000=A",
-        b"load 000=a9",
-        b"load 00=A9",
-        b"load 000 A9",
-        b"load FFF=A9FF",
-        b"load 000=A9 ",
-        b"load2",
-        b"load2 ",
-        b"load2 000=",
-        b"load2 7FF=A9FF",
-        b"load2 800=A9",
-        b"load2 000=A9 ",
-        b"load2000=A9",
-        b"load3 000=A9",
     ];
     for (number, line) in lines.iter().enumerate() {
-        assert!(rt; parse_line(line).is_none(), "line {number}");
+        check_that(&rt, ("line", number), parse_line(line).is_none());
     }
 }
 
 #[test]
-fn replies_read_as_written(rt: HostRuntime) -> Result<(), Fail> {
+fn replies_to_edits_and_looks(rt: HostRuntime) -> Result<(), Fail> {
     let alloc = rt.alloc();
-    let cases: [(Reply, &[u8]); 12] = [
+    let cases: [(Reply, &[u8]); 8] = [
+        (Reply::OutOfMemory, b"out of memory\n"),
         (Reply::Edited { at: 1, len: 0 }, b"edit 1 len 0\n"),
         (Reply::Misplaced { at: 5, len: 9 }, b"place 5 len 9\n"),
         (
@@ -188,6 +179,17 @@ fn replies_read_as_written(rt: HostRuntime) -> Result<(), Fail> {
             b"input 3 R.... ..... .....\n",
         ),
         (Reply::NoFrame { at: 4, len: 0 }, b"no frame 4 len 0\n"),
+    ];
+    for (reply, line) in cases {
+        check_same(&rt, reply, reply_line(alloc, reply)?.as_slice(), line);
+    }
+    Ok(())
+}
+
+#[test]
+fn replies_of_what_was_played(rt: HostRuntime) -> Result<(), Fail> {
+    let alloc = rt.alloc();
+    let cases: [(Reply, &[u8]); 4] = [
         (
             Reply::Drawn {
                 at: 2,
@@ -221,10 +223,9 @@ fn replies_read_as_written(rt: HostRuntime) -> Result<(), Fail> {
             },
             b"work jobs 1 kept 3 stale 0\n",
         ),
-        (Reply::OutOfMemory, b"out of memory\n"),
     ];
     for (reply, line) in cases {
-        assert_eq!(rt; reply_line(alloc, reply)?.as_slice(), line, "{reply:?}");
+        check_same(&rt, reply, reply_line(alloc, reply)?.as_slice(), line);
     }
     Ok(())
 }

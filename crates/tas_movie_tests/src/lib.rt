@@ -2,6 +2,8 @@
 #![tactic(auto)]
 
 #[cfg(test)]
+mod checks;
+#[cfg(test)]
 mod green_tests;
 #[cfg(test)]
 mod movie_tests;

@@ -1,5 +1,6 @@
 //! Movies: limits, edits and copies.
 
+use crate::checks::{check_same, check_that};
 use crate::movies::{PLAYFIELD, cart_of, idle};
 use crate::texts::{CART_LINE, HEAD2, NONE, joined, reads_as};
 use std::alloc::{AllocError, Global};
@@ -31,26 +32,40 @@ fn limits(rt: HostRuntime) -> Result<(), Fail> {
     let blank = Movie::blank(alloc)?;
     let cart = cart_of(alloc, PLAYFIELD)?;
     for mut movie in [blank, Movie::new(alloc, &cart)?] {
-        assert!(rt; movie.is_empty());
+        check_that(&rt, "movie", movie.is_empty());
         let long = Err(EditRefusal::Long { len: 0 });
-        assert_eq!(rt; insert(alloc, &mut movie, 0, 262145)?, long);
-        assert_eq!(rt; movie.len(), 0);
-        assert_eq!(rt; insert(alloc, &mut movie, 0, 262144)?, Ok(()));
-        assert_eq!(rt; movie.len(), 262144);
+        check_same(&rt, "insert", insert(alloc, &mut movie, 0, 262145)?, long);
+        check_same(&rt, "movie, 2", movie.len(), 0);
+        check_same(
+            &rt,
+            "insert, 2",
+            insert(alloc, &mut movie, 0, 262144)?,
+            Ok(()),
+        );
+        check_same(&rt, "movie, 3", movie.len(), 262144);
         let len = 262144;
-        assert_eq!(rt;
+        check_same(
+            &rt,
+            "insert, 3",
             insert(alloc, &mut movie, 0, 1)?,
-            Err(EditRefusal::Long { len })
+            Err(EditRefusal::Long { len }),
         );
-        assert_eq!(rt; movie.len(), 262144);
+        check_same(&rt, "movie, 4", movie.len(), 262144);
         let place = Err(EditRefusal::Place { at: 262145, len });
-        assert_eq!(rt; insert(alloc, &mut movie, 262145, 1)?, place);
-        let inputs = idle(alloc, 0)?;
-        assert_eq!(rt;
-            make(&mut movie, &Edit::Replace { at: 262144, inputs }),
-            Ok(())
+        check_same(
+            &rt,
+            "insert, 4",
+            insert(alloc, &mut movie, 262145, 1)?,
+            place,
         );
-        assert_eq!(rt; movie.len(), 262144);
+        let inputs = idle(alloc, 0)?;
+        check_same(
+            &rt,
+            "make",
+            make(&mut movie, &Edit::Replace { at: 262144, inputs }),
+            Ok(()),
+        );
+        check_same(&rt, "movie, 5", movie.len(), 262144);
     }
     Ok(())
 }
@@ -60,20 +75,27 @@ fn places_past_the_end(rt: HostRuntime) -> Result<(), Fail> {
     let alloc = rt.alloc();
     let mut movie = Movie::blank(alloc)?;
     let empty: Edit = Edit::Delete { at: 0, count: 0 };
-    assert_eq!(rt; make(&mut movie, &empty), Ok(()));
+    check_same(&rt, "make", make(&mut movie, &empty), Ok(()));
     let place = Err(EditRefusal::Place { at: 0, len: 0 });
     let one: Edit = Edit::Delete { at: 0, count: 1 };
-    assert_eq!(rt; make(&mut movie, &one), place);
+    check_same(&rt, "make, 2", make(&mut movie, &one), place);
     let inputs = idle(alloc, 1)?;
-    assert_eq!(rt; make(&mut movie, &Edit::Replace { at: 0, inputs }), place);
+    check_same(
+        &rt,
+        "make, 3",
+        make(&mut movie, &Edit::Replace { at: 0, inputs }),
+        place,
+    );
     let most: Edit = Edit::Delete {
         at: usize::MAX,
         count: usize::MAX,
     };
     let at = usize::MAX;
-    assert_eq!(rt;
+    check_same(
+        &rt,
+        "make, 4",
         make(&mut movie, &most),
-        Err(EditRefusal::Place { at, len: 0 })
+        Err(EditRefusal::Place { at, len: 0 }),
     );
     Ok(())
 }
@@ -85,13 +107,13 @@ fn refusals_in_words(rt: HostRuntime) -> Result<(), Fail> {
         (EditRefusal::Place { at: 9, len: 8 }, "place 9 of 8"),
         (EditRefusal::Long { len: 262144 }, "too long at 262144"),
     ] {
-        assert!(rt; reads_as(alloc, &refusal, words)?, "{words}");
+        check_that(&rt, words, reads_as(alloc, &refusal, words)?);
     }
     for (error, words) in [
         (CartError::Size(7), "cartridge has 7 bytes"),
         (CartError::Memory, "out of memory"),
     ] {
-        assert!(rt; reads_as(alloc, &error, words)?, "{words}");
+        check_that(&rt, words, reads_as(alloc, &error, words)?);
     }
     Ok(())
 }
@@ -118,15 +140,31 @@ fn copies(rt: HostRuntime) -> Result<(), Fail> {
     let alloc = rt.alloc();
     let cart = cart_of(alloc, PLAYFIELD)?;
     let copy = cart.copy(alloc)?;
-    assert!(rt; copy.bytes() == cart.bytes());
-    assert!(rt; copied_alike(alloc, &Edit::Load(Cart::blank(alloc)?))?);
+    check_that(&rt, "copy", copy.bytes() == cart.bytes());
+    check_that(
+        &rt,
+        "copied_alike",
+        copied_alike(alloc, &Edit::Load(Cart::blank(alloc)?))?,
+    );
     let inputs = idle(alloc, 2)?;
     let copied = inputs.copy(alloc)?.into_vec();
-    assert!(rt; copied.as_slice() == inputs.as_slice());
-    assert!(rt; copied_alike(alloc, &Edit::Insert { at: 1, inputs })?);
+    check_that(&rt, "copied", copied.as_slice() == inputs.as_slice());
+    check_that(
+        &rt,
+        "copied_alike, 2",
+        copied_alike(alloc, &Edit::Insert { at: 1, inputs })?,
+    );
     let inputs = idle(alloc, 1)?;
-    assert!(rt; copied_alike(alloc, &Edit::Replace { at: 1, inputs })?);
-    assert!(rt; copied_alike(alloc, &Edit::Delete { at: 1, count: 1 })?);
+    check_that(
+        &rt,
+        "copied_alike, 3",
+        copied_alike(alloc, &Edit::Replace { at: 1, inputs })?,
+    );
+    check_that(
+        &rt,
+        "copied_alike, 4",
+        copied_alike(alloc, &Edit::Delete { at: 1, count: 1 })?,
+    );
     Ok(())
 }
 
@@ -164,9 +202,9 @@ fn letters_of_a_frame(rt: HostRuntime) -> Result<(), Fail> {
         line[place] = *letter;
         let input = read_frame(&line).ok_or("no frame")?;
         for (other, is_pressed) in pressed(input).iter().enumerate() {
-            assert_eq!(rt; *is_pressed, other == number, "{other} of {number}");
+            check_same(&rt, ("of", other, number), *is_pressed, other == number);
         }
-        assert_eq!(rt; print_frame(input), line);
+        check_same(&rt, "print_frame", print_frame(input), line);
         number = number.wrapping_add(1);
     }
     Ok(())
@@ -184,7 +222,7 @@ fn edits_of_a_list(rt: HostRuntime) -> Result<(), Fail> {
     insert(alloc, &mut movie, 0, 3)??;
     let inputs = Inputs::from_vec(shots);
     let edit = Edit::Insert { at: 1, inputs };
-    assert_eq!(rt; edit.place(), 1);
+    check_same(&rt, "edit", edit.place(), 1);
     make(&mut movie, &edit)?;
     make(
         &mut movie,
@@ -195,8 +233,12 @@ fn edits_of_a_list(rt: HostRuntime) -> Result<(), Fail> {
     )?;
     make(&mut movie, &Edit::Delete { at: 3, count: 2 })?;
     let none = Input::none();
-    assert!(rt; movie.inputs() == [none, none, fire].as_slice());
-    assert!(rt; movie.len() == 3);
-    assert_eq!(rt; movie.input(2), fire);
+    check_that(
+        &rt,
+        "movie",
+        movie.inputs() == [none, none, fire].as_slice(),
+    );
+    check_that(&rt, "movie, 2", movie.len() == 3);
+    check_same(&rt, "movie, 3", movie.input(2), fire);
     Ok(())
 }

@@ -1,5 +1,6 @@
 //! Both texts of a movie, and their faults.
 
+use crate::checks::{check_same, check_that};
 use crate::movies::{PLAYFIELD, cart_of};
 use crate::texts::{
     BLANK_LINE, CAPITALS, CART_LINE, HEAD, HEAD2, NONE, SMALL_LINE, at, idle_lines,
@@ -28,10 +29,11 @@ fn texts_are_read_and_printed_again(rt: HostRuntime) -> Result<(), Fail> {
     ];
     for (number, (cart, line, frames, size, count)) in cases.iter().enumerate() {
         let text = joined(alloc, &[HEAD2, line, frames])?;
-        assert_eq!(rt; text.len(), *size, "text {number}");
-        assert!(rt;
+        check_same(&rt, ("text", number), text.len(), *size);
+        check_that(
+            &rt,
+            ("text", number),
             is_read_and_printed(alloc, cart, &text, *count)?,
-            "text {number}"
         );
     }
     most_inputs_is_exact();
@@ -55,7 +57,7 @@ fn cut_texts(rt: HostRuntime) -> Result<(), Fail> {
                 81 => Ok(0),
                 _ => at(3, TextErrorKind::End),
             };
-            assert_eq!(rt; cut, want, "{count} bytes before {byte}");
+            check_same(&rt, ("bytes before", count, byte), cut, want);
         }
     }
     Ok(())
@@ -79,7 +81,7 @@ fn first_two_lines_at_fault(rt: HostRuntime) -> Result<(), Fail> {
     ];
     for (number, (first, second, line, kind)) in cases.iter().enumerate() {
         let answer = told(alloc, &[first, second, NONE])?;
-        assert_eq!(rt; answer, at(*line, *kind), "text {number}");
+        check_same(&rt, ("text", number), answer, at(*line, *kind));
     }
     Ok(())
 }
@@ -97,21 +99,21 @@ fn frames_at_fault(rt: HostRuntime) -> Result<(), Fail> {
     ];
     for (number, line) in wrong.iter().enumerate() {
         let first = told(alloc, &[HEAD, CART_LINE, line, NONE, NONE])?;
-        assert_eq!(rt; first, at(3, TextErrorKind::Frame), "line {number}");
+        check_same(&rt, ("line", number), first, at(3, TextErrorKind::Frame));
         let middle = told(alloc, &[HEAD, CART_LINE, NONE, line, line])?;
-        assert_eq!(rt; middle, at(4, TextErrorKind::Frame), "line {number}");
+        check_same(&rt, ("line", number), middle, at(4, TextErrorKind::Frame));
         let last = told(alloc, &[HEAD, CART_LINE, NONE, NONE, line])?;
-        assert_eq!(rt; last, at(5, TextErrorKind::Frame), "line {number}");
+        check_same(&rt, ("line", number), last, at(5, TextErrorKind::Frame));
     }
     let open = told(alloc, &[HEAD, CART_LINE, NONE, NONE, b"."])?;
-    assert_eq!(rt; open, at(5, TextErrorKind::End));
+    check_same(&rt, "open", open, at(5, TextErrorKind::End));
     let run = told(alloc, &[HEAD, CART_LINE, b"..... ..... ..... x2\n"])?;
-    assert_eq!(rt; run, at(3, TextErrorKind::Frame));
+    check_same(&rt, "run", run, at(3, TextErrorKind::Frame));
     Ok(())
 }
 
 #[test]
-fn runs_at_fault(rt: HostRuntime) -> Result<(), Fail> {
+fn lines_that_are_no_run(rt: HostRuntime) -> Result<(), Fail> {
     let alloc = rt.alloc();
     let right = b"R.... ..... .....\n".as_slice();
     let wrong: [&[u8]; 14] = [
@@ -132,10 +134,15 @@ fn runs_at_fault(rt: HostRuntime) -> Result<(), Fail> {
     ];
     for (number, line) in wrong.iter().enumerate() {
         let first = told(alloc, &[HEAD2, CART_LINE, line, right])?;
-        assert_eq!(rt; first, at(3, TextErrorKind::Frame), "line {number}");
+        check_same(&rt, ("line", number), first, at(3, TextErrorKind::Frame));
         let later = told(alloc, &[HEAD2, CART_LINE, right, line, line])?;
-        assert_eq!(rt; later, at(4, TextErrorKind::Frame), "line {number}");
+        check_same(&rt, ("line", number), later, at(4, TextErrorKind::Frame));
     }
+    Ok(())
+}
+
+#[test]
+fn runs_at_fault(rt: HostRuntime) -> Result<(), Fail> {
     let cases: [(&[u8], Result<usize, ReadError>); 9] = [
         (
             b"..... ..... .....\n..... ..... .....\n",
@@ -172,8 +179,8 @@ fn runs_at_fault(rt: HostRuntime) -> Result<(), Fail> {
         ),
     ];
     for (number, (lines, want)) in cases.iter().enumerate() {
-        let answer = told(alloc, &[HEAD2, CART_LINE, lines])?;
-        assert_eq!(rt; answer, *want, "text {number}");
+        let answer = told(rt.alloc(), &[HEAD2, CART_LINE, lines])?;
+        check_same(&rt, ("text", number), answer, *want);
     }
     Ok(())
 }
@@ -194,7 +201,7 @@ fn the_first_fault_of_a_line_is_told(rt: HostRuntime) -> Result<(), Fail> {
     ];
     for (number, (first, second, line, kind)) in cases.iter().enumerate() {
         let answer = told(alloc, &[HEAD2, CART_LINE, first, second])?;
-        assert_eq!(rt; answer, at(*line, *kind), "text {number}");
+        check_same(&rt, ("text", number), answer, at(*line, *kind));
     }
     Ok(())
 }
@@ -212,7 +219,7 @@ fn too_many_frames(rt: HostRuntime) -> Result<(), Fail> {
     for (number, (count, end, want)) in cases.iter().enumerate() {
         let lines = idle_lines(alloc, *count, end)?;
         let answer = told(alloc, &[HEAD, CART_LINE, lines.as_slice()])?;
-        assert_eq!(rt; answer, *want, "text {number}");
+        check_same(&rt, ("text", number), answer, *want);
     }
     Ok(())
 }
@@ -224,11 +231,11 @@ fn older_texts_are_printed_as_runs(rt: HostRuntime) -> Result<(), Fail> {
     let cart = cart_of(alloc, PLAYFIELD)?;
     let lines = idle_lines(alloc, 200, b"")?;
     let text = joined(alloc, &[HEAD, CART_LINE, lines.as_slice()])?;
-    assert_eq!(rt; text.len(), 3681);
+    check_same(&rt, "text", text.len(), 3681);
     let printed = print_text(alloc, &read_text(alloc, &text, &cart)?)?;
     let want = joined(alloc, &[HEAD2, CART_LINE, b"..... ..... ..... x200\n"])?;
-    assert_eq!(rt; want.len(), 104);
-    assert!(rt; printed.as_slice() == want.as_slice());
+    check_same(&rt, "want", want.len(), 104);
+    check_that(&rt, "printed", printed.as_slice() == want.as_slice());
     let right = b"R.... ..... .....\n";
     let mixed = joined(
         alloc,
@@ -237,8 +244,12 @@ fn older_texts_are_printed_as_runs(rt: HostRuntime) -> Result<(), Fail> {
     let printed = print_text(alloc, &read_text(alloc, &mixed, &cart)?)?;
     let runs = b"R.... ..... .....\n..... ..... ..... x2\nR.... ..... ..... x3\n";
     let want = joined(alloc, &[HEAD2, CART_LINE, runs])?;
-    assert!(rt; printed.as_slice() == want.as_slice());
-    assert!(rt; is_read_and_printed(alloc, &cart, &want, 6)?);
+    check_that(&rt, "printed, 2", printed.as_slice() == want.as_slice());
+    check_that(
+        &rt,
+        "is_read_and_printed",
+        is_read_and_printed(alloc, &cart, &want, 6)?,
+    );
     Ok(())
 }
 
@@ -248,13 +259,21 @@ fn longest_texts(rt: HostRuntime) -> Result<(), Fail> {
     let alloc = rt.alloc();
     let cart = cart_of(alloc, PLAYFIELD)?;
     let one = joined(alloc, &[HEAD2, CART_LINE, b"....F ..... ..... x262144\n"])?;
-    assert!(rt; is_read_and_printed(alloc, &cart, &one, 262144)?);
+    check_that(
+        &rt,
+        "is_read_and_printed",
+        is_read_and_printed(alloc, &cart, &one, 262144)?,
+    );
     let mut many = joined(alloc, &[HEAD2, CART_LINE])?;
     for _ in 0..131072 {
         many.extend_from_slice(NONE)?;
         many.extend_from_slice(b"....F ..... .....\n")?;
     }
-    assert!(rt; is_read_and_printed(alloc, &cart, &many, 262144)?);
+    check_that(
+        &rt,
+        "is_read_and_printed, 2",
+        is_read_and_printed(alloc, &cart, &many, 262144)?,
+    );
     Ok(())
 }
 
@@ -273,7 +292,7 @@ fn errors_of_reading_in_words(rt: HostRuntime) -> Result<(), Fail> {
         (text_error(5, TextErrorKind::Run), "movie line 5: run"),
         (ReadError::Memory, "out of memory"),
     ] {
-        assert!(rt; reads_as(alloc, &error, words)?, "{words}");
+        check_that(&rt, words, reads_as(alloc, &error, words)?);
     }
     Ok(())
 }

@@ -17,56 +17,34 @@ pub fn parse_line(line: &[u8]) -> Option<Command>
         return Some(Command::Length);
     }
     if let Some(rest) = strip(line, b"load2") {
-        return match load_small_image(rest) {
-            Some(image) => Some(Command::Load {
-                image: Image::Small(image),
-            }),
-            None => None,
-        };
+        let image = Image::Small(load_small_image(rest)?);
+        return Some(Command::Load { image });
     }
     if let Some(rest) = strip(line, b"load") {
-        return match load_image(rest) {
-            Some(image) => Some(Command::Load {
-                image: Image::Large(image),
-            }),
-            None => None,
-        };
+        let image = Image::Large(load_image(rest)?);
+        return Some(Command::Load { image });
     }
     if let Some(rest) = strip(line, b"insert ") {
-        return match frames(rest) {
-            Some((at, count, input)) => Some(Command::Insert { at, count, input }),
-            None => None,
-        };
+        let (at, count, input) = frames(rest)?;
+        return Some(Command::Insert { at, count, input });
     }
     if let Some(rest) = strip(line, b"replace ") {
-        return match frames(rest) {
-            Some((at, count, input)) => Some(Command::Replace { at, count, input }),
-            None => None,
-        };
+        let (at, count, input) = frames(rest)?;
+        return Some(Command::Replace { at, count, input });
     }
     if let Some(rest) = strip(line, b"delete ") {
-        return match pair(rest) {
-            Some((at, count)) => Some(Command::Delete { at, count }),
-            None => None,
-        };
+        let (at, count) = pair(rest)?;
+        return Some(Command::Delete { at, count });
     }
     if let Some(rest) = strip(line, b"input ") {
-        return match number(rest) {
-            Some(frame) => Some(Command::InputAt { frame }),
-            None => None,
-        };
+        let frame = number(rest)?;
+        return Some(Command::InputAt { frame });
     }
     if let Some(rest) = strip(line, b"shot ") {
-        return match number(rest) {
-            Some(frame) => Some(Command::Shot { frame }),
-            None => None,
-        };
+        let frame = number(rest)?;
+        return Some(Command::Shot { frame });
     }
-    if let Some(rest) = strip(line, b"work ") {
-        return match number(rest) {
-            Some(frame) => Some(Command::Work { frame }),
-            None => None,
-        };
-    }
-    None
+    let rest = strip(line, b"work ")?;
+    let frame = number(rest)?;
+    Some(Command::Work { frame })
 }

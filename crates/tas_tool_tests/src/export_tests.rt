@@ -1,5 +1,6 @@
 //! Exports of whole movies.
 
+use crate::checks::{check_same, check_that};
 use crate::movies::{HALTING, PLAYFIELD, Program, RIGHT, image_of, text_of};
 use std::alloc::Global;
 use std::sync::Wait;
@@ -63,13 +64,13 @@ fn one_frame_is_its_shot(rt: HostRuntime) -> Result<(), Fail> {
     let text = text_of(alloc, PLAYFIELD, 1, RIGHT)?;
     let (image, text) = (image.as_slice(), text.as_str());
     let (end, output) = export(&rt, alloc, image, text, (0, 1), 4);
-    assert_eq!(rt; end, Ok(()));
-    assert_eq!(rt; output.len(), PICTURE);
-    assert!(rt; output == shots(alloc, image, text, 0, 1)?);
+    check_same(&rt, "end", end, Ok(()));
+    check_same(&rt, "output", output.len(), PICTURE);
+    check_that(&rt, "output, 2", output == shots(alloc, image, text, 0, 1)?);
     for range in [(0, 0), (1, 1)] {
         let (end, output) = export(&rt, alloc, image, text, range, 3);
-        assert_eq!(rt; end, Ok(()), "{range:?}");
-        assert!(rt; output.is_empty(), "{range:?}");
+        check_same(&rt, range, end, Ok(()));
+        check_that(&rt, range, output.is_empty());
     }
     Ok(())
 }
@@ -90,8 +91,8 @@ fn other_ranges_are_refused(rt: HostRuntime) -> Result<(), Fail> {
     ] {
         let text = text_of(alloc, PLAYFIELD, len, RIGHT)?;
         let (end, output) = export(&rt, alloc, image.as_slice(), text.as_str(), (from, to), 1);
-        assert_eq!(rt; end, Err(ToolFault::Range { from, to, len }));
-        assert!(rt; output.is_empty(), "{from} to {to} of {len}");
+        check_same(&rt, "end", end, Err(ToolFault::Range { from, to, len }));
+        check_that(&rt, ("range", from, to, len), output.is_empty());
     }
     Ok(())
 }
@@ -103,16 +104,16 @@ fn every_number_of_workers_writes_the_shots(rt: HostRuntime) -> Result<(), Fail>
     let text = text_of(alloc, FOLDING, 20, RIGHT)?;
     let (image, text) = (image.as_slice(), text.as_str());
     let pictures = shots(alloc, image, text, 2, 19)?;
-    assert_eq!(rt; pictures.len(), 17 * PICTURE);
+    check_same(&rt, "pictures", pictures.len(), 17 * PICTURE);
     let (third, fifth) = (
         shots(alloc, image, text, 2, 3)?,
         shots(alloc, image, text, 4, 5)?,
     );
-    assert!(rt; third != fifth);
+    check_that(&rt, "third", third != fifth);
     for workers in [1, 2, 3, 16, 0, 17, usize::MAX] {
         let (end, output) = export(&rt, alloc, image, text, (2, 19), workers);
-        assert_eq!(rt; end, Ok(()), "{workers} workers");
-        assert!(rt; output == pictures, "{workers} workers");
+        check_same(&rt, ("workers", workers), end, Ok(()));
+        check_that(&rt, ("workers", workers), output == pictures);
     }
     Ok(())
 }
@@ -129,12 +130,12 @@ fn halted_frames_are_not_written(rt: HostRuntime) -> Result<(), Fail> {
             at: 0xF00D,
             opcode: 2,
         };
-        assert_eq!(rt; end, Err(halted), "{range:?}");
-        assert!(rt; output.is_empty(), "{range:?}");
+        check_same(&rt, range, end, Err(halted));
+        check_that(&rt, range, output.is_empty());
     }
     let (end, output) = export(&rt, alloc, image, text, (0, 3), 2);
-    assert_eq!(rt; end, Ok(()));
-    assert!(rt; output == shots(alloc, image, text, 0, 3)?);
+    check_same(&rt, "end", end, Ok(()));
+    check_that(&rt, "output", output == shots(alloc, image, text, 0, 3)?);
     Ok(())
 }
 
@@ -144,8 +145,8 @@ fn the_longest_movie_is_exported(rt: HostRuntime) -> Result<(), Fail> {
     let image = image_of(alloc, PLAYFIELD.bytes)?;
     let text = text_of(alloc, PLAYFIELD, 262_144, RIGHT)?;
     let (end, output) = export(&rt, alloc, image.as_slice(), text.as_str(), (0, 1), 1);
-    assert_eq!(rt; end, Ok(()));
-    assert_eq!(rt; output.len(), PICTURE);
+    check_same(&rt, "end", end, Ok(()));
+    check_same(&rt, "output", output.len(), PICTURE);
     Ok(())
 }
 
@@ -161,13 +162,14 @@ fn a_writer_that_fails_has_the_first_bytes(rt: HostRuntime) -> Result<(), Fail> 
         let mut cart = image.as_slice();
         let mut input = text.as_bytes();
         let end = export_run(&rt, alloc, 1, 3, 2, &mut cart, &mut input, &mut output);
-        assert_eq!(rt; end, Err(ToolFault::Write { written: room }));
-        assert_eq!(rt; output.taken.len(), room);
-        assert!(rt;
+        check_same(&rt, "end", end, Err(ToolFault::Write { written: room }));
+        check_same(&rt, "output.taken", output.taken.len(), room);
+        check_that(
+            &rt,
+            ("room", room),
             pictures.as_slice().starts_with(output.taken.as_slice()),
-            "room {room}"
         );
-        assert_eq!(rt; output.failed, 1, "room {room}");
+        check_same(&rt, ("room", room), output.failed, 1);
     }
     Ok(())
 }
@@ -189,9 +191,9 @@ fn an_export_does_not_read_on(rt: HostRuntime) -> Result<(), Fail> {
         let mut cart = Giver::new(image.as_slice(), usize::MAX, cart_fails);
         let mut input = Giver::new(text.as_bytes(), usize::MAX, text_fails);
         let ended = export_run(&rt, alloc, 0, 1, 1, &mut cart, &mut input, &mut output);
-        assert_eq!(rt; ended, end, "{reads:?}");
-        assert_eq!(rt; (cart.reads, input.reads), reads);
-        assert_eq!(rt; output.is_empty(), end.is_err(), "{reads:?}");
+        check_same(&rt, reads, ended, end);
+        check_same(&rt, "cart.reads", (cart.reads, input.reads), reads);
+        check_same(&rt, reads, output.is_empty(), end.is_err());
     }
     Ok(())
 }
@@ -204,14 +206,14 @@ fn an_input_past_the_limit_is_too_long(rt: HostRuntime) -> Result<(), Fail> {
     let mut cart = Filler::new(0, INPUT_LIMIT + 2, 0);
     let mut input = Filler::new(0, 10, 0);
     let end = export_run(&rt, alloc, 0, 1, 1, &mut cart, &mut input, &mut output);
-    assert_eq!(rt; end, Err(ToolFault::TooLong));
-    assert_eq!(rt; (cart.left, input.reads), (1, 0));
+    check_same(&rt, "end", end, Err(ToolFault::TooLong));
+    check_same(&rt, "cart.left", (cart.left, input.reads), (1, 0));
     let mut text = Filler::new(0, INPUT_LIMIT + 2, 0);
     let mut whole = image.as_slice();
     let end = export_run(&rt, alloc, 0, 1, 1, &mut whole, &mut text, &mut output);
-    assert_eq!(rt; end, Err(ToolFault::TooLong));
-    assert_eq!(rt; text.left, 1);
-    assert!(rt; output.is_empty());
+    check_same(&rt, "end, 2", end, Err(ToolFault::TooLong));
+    check_same(&rt, "text.left", text.left, 1);
+    check_that(&rt, "output", output.is_empty());
     Ok(())
 }
 
@@ -230,8 +232,8 @@ fn faults_of_an_export_come_in_order(rt: HostRuntime) -> Result<(), Fail> {
         (image.as_slice(), digest),
     ] {
         let (end, output) = export(&rt, alloc, image, other.as_str(), (0, 2), 1);
-        assert_eq!(rt; end, Err(fault));
-        assert!(rt; output.is_empty());
+        check_same(&rt, "end", end, Err(fault));
+        check_that(&rt, "output", output.is_empty());
     }
     Ok(())
 }

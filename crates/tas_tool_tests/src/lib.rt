@@ -2,6 +2,8 @@
 #![tactic(auto)]
 
 #[cfg(test)]
+mod checks;
+#[cfg(test)]
 mod export_tests;
 #[cfg(test)]
 mod long_script_tests;

@@ -15,6 +15,7 @@
 //! - `000=A910850DA91E85084C08F0 FFC=00F0` draws four pixels in each half of each line, so `lit` is 1,680.
 //! - `000=A203A9028500A9008500CAD0F502 FFC=00F0` ends three frames at once, and halts at F00D in its fourth.
 
+use crate::checks::{check_same, check_that};
 use std::alloc::Global;
 use std::process::Abort;
 use std::test::Fail;
@@ -233,12 +234,12 @@ fn compare<R: Abort>(rt: &R, alloc: Global, text: &[u8]) -> Result<(), Fail> {
         let (line, reply) = split_once(turn, b'|').ok_or("a reply")?;
         let (told, after) = split_once(rest, b'\n').ok_or("too few replies")?;
         let line = String::from_utf8_lossy(alloc, line)?;
-        assert_eq!(rt; told, reply, "line {number}: {line}");
+        check_same(rt, ("line", number, line.as_str()), told, reply);
         turns = later;
         rest = after;
     }
-    assert!(rt; turns.is_empty());
-    assert!(rt; rest.is_empty());
+    check_that(rt, "turns", turns.is_empty());
+    check_that(rt, "rest", rest.is_empty());
     Ok(())
 }
 
@@ -262,6 +263,11 @@ fn a_long_script_is_answered_as_worked_out_apart(rt: HostRuntime) -> Result<(), 
     let script = script(alloc)?;
     let mut output = Vec::new(alloc);
     let mut input = script.as_slice();
-    assert_eq!(rt; script_run(&rt, alloc, &mut input, &mut output), Ok(()));
+    check_same(
+        &rt,
+        "script_run",
+        script_run(&rt, alloc, &mut input, &mut output),
+        Ok(()),
+    );
     compare(&rt, alloc, output.as_slice())
 }

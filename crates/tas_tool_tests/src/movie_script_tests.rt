@@ -1,5 +1,6 @@
 //! Whole scripts over a movie.
 
+use crate::checks::{check_same, check_that};
 use crate::movies::{IDLE, PLAYFIELD, image_of, text_of};
 use std::alloc::Global;
 use std::sync::Wait;
@@ -39,8 +40,8 @@ fn a_script_goes_on_from_its_movie(rt: HostRuntime) -> Result<(), Fail> {
     let cart = image_of(alloc, PLAYFIELD.bytes)?;
     let movie = text_of(alloc, PLAYFIELD, 3, IDLE)?;
     let (output, end) = written(&rt, alloc, cart.as_slice(), movie.as_bytes(), LINES);
-    assert_eq!(rt; end, Ok(()));
-    assert_eq!(rt; output.as_slice(), REPLIES);
+    check_same(&rt, "end", end, Ok(()));
+    check_same(&rt, "output", output.as_slice(), REPLIES);
     let mut script = Vec::new(alloc);
     script.extend_from_slice(LOAD)?;
     script.extend_from_slice(b"insert 0 3 ..... ..... .....\n")?;
@@ -49,7 +50,12 @@ fn a_script_goes_on_from_its_movie(rt: HostRuntime) -> Result<(), Fail> {
     let mut output = Vec::new(alloc);
     script_run(&rt, alloc, &mut input, &mut output)?;
     let made = b"edit 1 len 0\nedit 2 len 3\n".as_slice();
-    assert_eq!(rt; output.as_slice().strip_prefix(made), Some(REPLIES));
+    check_same(
+        &rt,
+        "output, 2",
+        output.as_slice().strip_prefix(made),
+        Some(REPLIES),
+    );
     Ok(())
 }
 
@@ -73,8 +79,8 @@ fn movies_of_no_frames_and_of_the_most_are_made(rt: HostRuntime) -> Result<(), F
     for (frames, lines, replies) in cases {
         let movie = text_of(alloc, PLAYFIELD, frames, IDLE)?;
         let (output, end) = written(&rt, alloc, cart.as_slice(), movie.as_bytes(), lines);
-        assert_eq!(rt; end, Ok(()), "{frames} frames");
-        assert_eq!(rt; output.as_slice(), replies, "{frames} frames");
+        check_same(&rt, ("frames", frames), end, Ok(()));
+        check_same(&rt, ("frames", frames), output.as_slice(), replies);
     }
     Ok(())
 }
@@ -115,15 +121,23 @@ fn faults_over_a_movie_come_in_order(rt: HostRuntime) -> Result<(), Fail> {
     ];
     for (number, (cart, movie, script, replies, fault)) in cases.iter().enumerate() {
         let (output, end) = written(&rt, alloc, cart, movie, script);
-        assert_eq!(rt; end, Err(*fault), "case {number}");
-        assert!(rt; output.as_slice() == *replies, "case {number}");
+        check_same(&rt, ("case", number), end, Err(*fault));
+        check_that(&rt, ("case", number), output.as_slice() == *replies);
     }
+    Ok(())
+}
+
+#[test]
+fn a_full_writer_ends_a_script_over_a_movie(rt: HostRuntime) -> Result<(), Fail> {
+    let alloc = rt.alloc();
+    let cart = image_of(alloc, PLAYFIELD.bytes)?;
+    let movie = text_of(alloc, PLAYFIELD, 1, IDLE)?;
     let mut cart = cart.as_slice();
     let mut movie = movie.as_bytes();
     let mut input = b"len\n".as_slice();
     let mut room = [0u8; 5];
     let mut output = room.as_mut_slice();
     let end = movie_script_run(&rt, alloc, &mut cart, &mut movie, &mut input, &mut output);
-    assert_eq!(rt; end, Err(ToolFault::Write { written: 5 }));
+    check_same(&rt, "end", end, Err(ToolFault::Write { written: 5 }));
     Ok(())
 }

@@ -1,9 +1,14 @@
 //! What each command writes, and what it tells of faults.
 
+use crate::checks::{check_same, check_that};
 use crate::movies::{PLAYFIELD, image_of, playfield_picture};
 use crate::programs::{ONE_FRAME, TwoFiles, run, run_words, words_of};
+use std::alloc::Global;
 use std::io::{Error, ErrorKind};
+use std::process::Abort;
+use std::sync::Wait;
 use std::test::Fail;
+use std::thread::Threads;
 use tas_program::run_program;
 
 /// LDA #42, STA 80, JMP F000.
@@ -57,109 +62,161 @@ fn each_command_writes_its_answer(rt: HostRuntime) -> Result<(), Fail> {
     ];
     for (number, (words, input, answer)) in cases.iter().enumerate() {
         let ran = run(&rt, alloc, words, cart.as_slice(), input)?;
-        assert_eq!(rt; ran.code, 0, "command {number}");
-        assert!(rt; ran.output.as_slice() == *answer, "command {number}");
-        assert!(rt; ran.errors.is_empty(), "command {number}");
+        check_same(&rt, ("command", number), ran.code, 0);
+        check_that(&rt, ("command", number), ran.output.as_slice() == *answer);
+        check_that(&rt, ("command", number), ran.errors.is_empty());
+    }
+    Ok(())
+}
+
+/// The words, the file `game.bin`, the input, and what the program then writes and tells, by hand.
+type Faulty<'a> = (&'a [&'a str], &'a [u8], &'a [u8], &'a [u8], &'a [u8]);
+
+fn check_faults<R: Threads + Wait + Abort + Sync>(
+    rt: &R,
+    alloc: Global,
+    cases: &[Faulty],
+) -> Result<(), Fail> {
+    for (words, file, input, output, line) in cases {
+        let ran = run(rt, alloc, words, file, input)?;
+        check_same(rt, *words, ran.code, 1);
+        check_that(rt, *words, ran.output.as_slice() == *output);
+        check_that(rt, *words, ran.errors.as_slice() == *line);
     }
     Ok(())
 }
 
 #[test]
-fn faults_end_with_status_1(rt: HostRuntime) -> Result<(), Fail> {
+fn faults_of_a_movie_end_with_status_1(rt: HostRuntime) -> Result<(), Fail> {
     let alloc = rt.alloc();
     let cart = image_of(alloc, PLAYFIELD.bytes)?;
     let cart = cart.as_slice();
-    let cases: [(&[&str], &[u8], &[u8], &[u8], &[u8]); 10] = [
-        (
-            &["trace", "1"],
-            cart,
-            b"1234567",
-            b"",
-            b"fault: cartridge has 7 bytes\n",
-        ),
-        (
-            &["check", "other.bin"],
-            cart,
-            ONE_FRAME,
-            b"",
-            b"fault: read failed\n",
-        ),
-        (
-            &["check", "game.bin"],
-            b"1234567",
-            ONE_FRAME,
-            b"",
-            b"fault: cartridge has 7 bytes\n",
-        ),
-        (
-            &["check", "game.bin"],
-            cart,
-            b"a26movie 1\n",
-            b"",
-            b"fault: movie line 2: end\n",
-        ),
-        (
-            &["migrate", "game.bin"],
-            cart,
-            b"a26movie 1\n",
-            b"",
-            b"fault: movie line 2: end\n",
-        ),
-        (
-            &["shot", "other.bin", "0"],
-            cart,
-            ONE_FRAME,
-            b"",
-            b"fault: read failed\n",
-        ),
-        (
-            &["shot", "game.bin", "9999999"],
-            cart,
-            ONE_FRAME,
-            b"",
-            b"fault: no frame 9999999 of 1\n",
-        ),
-        (
-            &["export", "other.bin", "0", "1", "1"],
-            cart,
-            ONE_FRAME,
-            b"",
-            b"fault: read failed\n",
-        ),
-        (
-            &["export", "game.bin", "0", "2", "1"],
-            cart,
-            ONE_FRAME,
-            b"",
-            b"fault: range 0 to 2 of 1\n",
-        ),
-        (
-            &["script"],
-            cart,
-            b"len\nplay\n",
-            b"len 0 0\n",
-            b"fault: script line 2\n",
-        ),
-    ];
-    for (number, (words, file, input, output, line)) in cases.iter().enumerate() {
-        let ran = run(&rt, alloc, words, file, input)?;
-        assert_eq!(rt; ran.code, 1, "fault {number}");
-        assert!(rt; ran.output.as_slice() == *output, "fault {number}");
-        assert!(rt; ran.errors.as_slice() == *line, "fault {number}");
-    }
+    check_faults(
+        &rt,
+        alloc,
+        &[
+            (
+                &["check", "other.bin"],
+                cart,
+                ONE_FRAME,
+                b"",
+                b"fault: read failed\n",
+            ),
+            (
+                &["check", "game.bin"],
+                b"1234567",
+                ONE_FRAME,
+                b"",
+                b"fault: cartridge has 7 bytes\n",
+            ),
+            (
+                &["check", "game.bin"],
+                cart,
+                b"a26movie 1\n",
+                b"",
+                b"fault: movie line 2: end\n",
+            ),
+            (
+                &["migrate", "game.bin"],
+                cart,
+                b"a26movie 1\n",
+                b"",
+                b"fault: movie line 2: end\n",
+            ),
+        ],
+    )
+}
+
+#[test]
+fn faults_of_pictures_end_with_status_1(rt: HostRuntime) -> Result<(), Fail> {
+    let alloc = rt.alloc();
+    let cart = image_of(alloc, PLAYFIELD.bytes)?;
+    let cart = cart.as_slice();
+    check_faults(
+        &rt,
+        alloc,
+        &[
+            (
+                &["shot", "other.bin", "0"],
+                cart,
+                ONE_FRAME,
+                b"",
+                b"fault: read failed\n",
+            ),
+            (
+                &["shot", "game.bin", "9999999"],
+                cart,
+                ONE_FRAME,
+                b"",
+                b"fault: no frame 9999999 of 1\n",
+            ),
+            (
+                &["export", "other.bin", "0", "1", "1"],
+                cart,
+                ONE_FRAME,
+                b"",
+                b"fault: read failed\n",
+            ),
+            (
+                &["export", "game.bin", "0", "2", "1"],
+                cart,
+                ONE_FRAME,
+                b"",
+                b"fault: range 0 to 2 of 1\n",
+            ),
+        ],
+    )
+}
+
+#[test]
+fn other_faults_end_with_status_1(rt: HostRuntime) -> Result<(), Fail> {
+    let alloc = rt.alloc();
+    let cart = image_of(alloc, PLAYFIELD.bytes)?;
+    let cart = cart.as_slice();
+    check_faults(
+        &rt,
+        alloc,
+        &[
+            (
+                &["trace", "1"],
+                cart,
+                b"1234567",
+                b"",
+                b"fault: cartridge has 7 bytes\n",
+            ),
+            (
+                &["script"],
+                cart,
+                b"len\nplay\n",
+                b"len 0 0\n",
+                b"fault: script line 2\n",
+            ),
+        ],
+    )
+}
+
+#[test]
+fn no_memory_for_the_words_is_a_fault(rt: HostRuntime) -> Result<(), Fail> {
+    let alloc = rt.alloc();
+    let cart = image_of(alloc, PLAYFIELD.bytes)?;
     let ran = run_words(
         &rt,
         alloc,
         Err(Error::from(ErrorKind::OutOfMemory)),
         TwoFiles {
-            game: cart,
+            game: cart.as_slice(),
             other: b"",
         },
         ONE_FRAME,
     );
-    assert_eq!(rt; ran.code, 1);
-    assert!(rt; ran.output.is_empty());
-    assert_eq!(rt; ran.errors.as_slice(), b"fault: out of memory\n".as_slice());
+    check_same(&rt, "ran.code", ran.code, 1);
+    check_that(&rt, "ran.output", ran.output.is_empty());
+    check_same(
+        &rt,
+        "ran.errors",
+        ran.errors.as_slice(),
+        b"fault: out of memory\n".as_slice(),
+    );
     Ok(())
 }
 
@@ -184,10 +241,12 @@ fn help_that_cannot_be_written_is_a_fault(rt: HostRuntime) -> Result<(), Fail> {
         &mut output,
         &mut errors,
     );
-    assert_eq!(rt; status.code(), 1);
-    assert_eq!(rt;
+    check_same(&rt, "status", status.code(), 1);
+    check_same(
+        &rt,
+        "errors",
         errors.as_slice(),
-        b"fault: write failed after 20 bytes\n".as_slice()
+        b"fault: write failed after 20 bytes\n".as_slice(),
     );
     Ok(())
 }
@@ -196,142 +255,194 @@ fn help_that_cannot_be_written_is_a_fault(rt: HostRuntime) -> Result<(), Fail> {
 static THREE_FRAMES: &[u8] =
     b"a26movie 2\ncart 820c64e9933496de683a000c5e11f0510fb7b1699b2ce86471295236b284906d\n..... ..... .....\nR.... ..... .....\n....F ..... .....\n";
 
-#[test]
-fn commands_of_two_files_write_their_answers(rt: HostRuntime) -> Result<(), Fail> {
-    let alloc = rt.alloc();
+/// The words, the file `other`, the input, and what the program then writes and tells, by hand.
+type OverTwoFiles<'a> = (&'a [&'a str], &'a [u8], &'a [u8], &'a [u8], &'a [u8]);
+
+fn check_over_two_files<R: Threads + Wait + Abort + Sync>(
+    rt: &R,
+    alloc: Global,
+    cases: &[OverTwoFiles],
+) -> Result<(), Fail> {
     let cart = image_of(alloc, PLAYFIELD.bytes)?;
-    // The words, the file `other`, the input, and what the program then writes and tells, by hand.
-    let cases: [(&[&str], &[u8], &[u8], &[u8], &[u8]); 17] = [
-        (
-            &["edit", "game.bin", "other"],
-            b"insert 1 1 R.... ..... .....\ninsert 2 1 ....F ..... .....\n",
-            ONE_FRAME,
-            THREE_FRAMES,
-            b"",
-        ),
-        (
-            &["edit", "game.bin", "other"],
-            b"",
-            ONE_FRAME,
-            ONE_FRAME,
-            b"",
-        ),
-        (
-            &["edit", "game.bin", "other"],
-            b"delete 1 2\n",
-            THREE_FRAMES,
-            ONE_FRAME,
-            b"",
-        ),
-        (
-            &["edit", "game.bin", "other"],
-            b"delete 0 1\ndelete 2 1\n",
-            THREE_FRAMES,
-            b"",
-            b"fault: script line 2: place\n",
-        ),
-        (
-            &["edit", "game.bin", "other"],
-            b"insert 3 262142 ..... ..... .....\n",
-            THREE_FRAMES,
-            b"",
-            b"fault: script line 1: long\n",
-        ),
-        (
-            &["edit", "game.bin", "other"],
-            b"len\n",
-            THREE_FRAMES,
-            b"",
-            b"fault: script line 1\n",
-        ),
-        (
-            &["edit", "game.bin", "nothing"],
-            b"",
-            THREE_FRAMES,
-            b"",
-            b"fault: read failed\n",
-        ),
-        (
-            &["diff", "game.bin", "other"],
-            ONE_FRAME,
-            THREE_FRAMES,
-            b"insert 1 1 R.... ..... .....\ninsert 2 1 ....F ..... .....\n",
-            b"",
-        ),
-        (
-            &["diff", "game.bin", "other"],
-            THREE_FRAMES,
-            THREE_FRAMES,
-            b"",
-            b"",
-        ),
-        (
-            &["diff", "game.bin", "other"],
-            b"a26movie 1\n",
-            THREE_FRAMES,
-            b"",
-            b"fault: movie line 2: end\n",
-        ),
-        (
-            &["script", "--cart", "game.bin", "--movie", "other"],
-            THREE_FRAMES,
-            b"len\ndelete 0 1\ninput 0\nshot 0\n",
-            b"len 2 3\nedit 3 len 2\ninput 3 R.... ..... .....\nshot 3 0 ran 1 lit 1680\n",
-            b"",
-        ),
-        (
-            &["script", "--cart", "game.bin", "--movie", "other"],
-            ONE_FRAME,
-            b"",
-            b"",
-            b"",
-        ),
-        (
-            &["script", "--cart", "nothing", "--movie", "other"],
-            ONE_FRAME,
-            b"len\n",
-            b"",
-            b"fault: read failed\n",
-        ),
-        (
-            &["script", "--cart", "game.bin", "--movie", "other"],
-            b"a26movie 1\n",
-            b"len\n",
-            b"",
-            b"fault: movie line 2: end\n",
-        ),
-        (
-            &["talk", "game.bin", "other"],
-            THREE_FRAMES,
-            b"len\nwhat\nshot 0\nstates\nquit\nlen\n",
-            b"len 2 3\nunknown\nshot 2 0 ran 1 lit 1680\nstates 2 0\n",
-            b"",
-        ),
-        (
-            &["talk", "nothing"],
-            ONE_FRAME,
-            b"len\n",
-            b"",
-            b"fault: read failed\n",
-        ),
-        (
-            &["talk", "game.bin", "other"],
-            b"a26movie 1\n",
-            b"len\n",
-            b"",
-            b"fault: movie line 2: end\n",
-        ),
-    ];
-    for (number, (words, other, input, output, line)) in cases.iter().enumerate() {
-        let words = words_of(alloc, words)?.into_iter();
+    for (number, (names, other, input, output, line)) in cases.iter().enumerate() {
+        let words = words_of(alloc, names)?.into_iter();
         let folder = TwoFiles {
             game: cart.as_slice(),
             other,
         };
-        let ran = run_words(&rt, alloc, Ok(words), folder, input);
-        assert_eq!(rt; ran.code, u8::from(!line.is_empty()), "edit {number}");
-        assert!(rt; ran.output.as_slice() == *output, "edit {number}");
-        assert!(rt; ran.errors.as_slice() == *line, "edit {number}");
+        let ran = run_words(rt, alloc, Ok(words), folder, input);
+        check_same(rt, (*names, number), ran.code, u8::from(!line.is_empty()));
+        check_that(rt, (*names, number), ran.output.as_slice() == *output);
+        check_that(rt, (*names, number), ran.errors.as_slice() == *line);
     }
     Ok(())
+}
+
+#[test]
+fn edits_write_their_movies(rt: HostRuntime) -> Result<(), Fail> {
+    check_over_two_files(
+        &rt,
+        rt.alloc(),
+        &[
+            (
+                &["edit", "game.bin", "other"],
+                b"insert 1 1 R.... ..... .....\ninsert 2 1 ....F ..... .....\n",
+                ONE_FRAME,
+                THREE_FRAMES,
+                b"",
+            ),
+            (
+                &["edit", "game.bin", "other"],
+                b"",
+                ONE_FRAME,
+                ONE_FRAME,
+                b"",
+            ),
+            (
+                &["edit", "game.bin", "other"],
+                b"delete 1 2\n",
+                THREE_FRAMES,
+                ONE_FRAME,
+                b"",
+            ),
+        ],
+    )
+}
+
+#[test]
+fn edits_that_are_refused_write_nothing(rt: HostRuntime) -> Result<(), Fail> {
+    check_over_two_files(
+        &rt,
+        rt.alloc(),
+        &[
+            (
+                &["edit", "game.bin", "other"],
+                b"delete 0 1\ndelete 2 1\n",
+                THREE_FRAMES,
+                b"",
+                b"fault: script line 2: place\n",
+            ),
+            (
+                &["edit", "game.bin", "other"],
+                b"insert 3 262142 ..... ..... .....\n",
+                THREE_FRAMES,
+                b"",
+                b"fault: script line 1: long\n",
+            ),
+            (
+                &["edit", "game.bin", "other"],
+                b"len\n",
+                THREE_FRAMES,
+                b"",
+                b"fault: script line 1\n",
+            ),
+            (
+                &["edit", "game.bin", "nothing"],
+                b"",
+                THREE_FRAMES,
+                b"",
+                b"fault: read failed\n",
+            ),
+        ],
+    )
+}
+
+#[test]
+fn differences_write_their_scripts(rt: HostRuntime) -> Result<(), Fail> {
+    check_over_two_files(
+        &rt,
+        rt.alloc(),
+        &[
+            (
+                &["diff", "game.bin", "other"],
+                ONE_FRAME,
+                THREE_FRAMES,
+                b"insert 1 1 R.... ..... .....\ninsert 2 1 ....F ..... .....\n",
+                b"",
+            ),
+            (
+                &["diff", "game.bin", "other"],
+                THREE_FRAMES,
+                THREE_FRAMES,
+                b"",
+                b"",
+            ),
+            (
+                &["diff", "game.bin", "other"],
+                b"a26movie 1\n",
+                THREE_FRAMES,
+                b"",
+                b"fault: movie line 2: end\n",
+            ),
+        ],
+    )
+}
+
+#[test]
+fn scripts_over_a_movie_write_their_replies(rt: HostRuntime) -> Result<(), Fail> {
+    check_over_two_files(
+        &rt,
+        rt.alloc(),
+        &[
+            (
+                &["script", "--cart", "game.bin", "--movie", "other"],
+                THREE_FRAMES,
+                b"len\ndelete 0 1\ninput 0\nshot 0\n",
+                b"len 2 3\nedit 3 len 2\ninput 3 R.... ..... .....\nshot 3 0 ran 1 lit 1680\n",
+                b"",
+            ),
+            (
+                &["script", "--cart", "game.bin", "--movie", "other"],
+                ONE_FRAME,
+                b"",
+                b"",
+                b"",
+            ),
+            (
+                &["script", "--cart", "nothing", "--movie", "other"],
+                ONE_FRAME,
+                b"len\n",
+                b"",
+                b"fault: read failed\n",
+            ),
+            (
+                &["script", "--cart", "game.bin", "--movie", "other"],
+                b"a26movie 1\n",
+                b"len\n",
+                b"",
+                b"fault: movie line 2: end\n",
+            ),
+        ],
+    )
+}
+
+#[test]
+fn conversations_over_a_movie_write_their_answers(rt: HostRuntime) -> Result<(), Fail> {
+    check_over_two_files(
+        &rt,
+        rt.alloc(),
+        &[
+            (
+                &["talk", "game.bin", "other"],
+                THREE_FRAMES,
+                b"len\nwhat\nshot 0\nstates\nquit\nlen\n",
+                b"len 2 3\nunknown\nshot 2 0 ran 1 lit 1680\nstates 2 0\n",
+                b"",
+            ),
+            (
+                &["talk", "nothing"],
+                ONE_FRAME,
+                b"len\n",
+                b"",
+                b"fault: read failed\n",
+            ),
+            (
+                &["talk", "game.bin", "other"],
+                b"a26movie 1\n",
+                b"len\n",
+                b"",
+                b"fault: movie line 2: end\n",
+            ),
+        ],
+    )
 }

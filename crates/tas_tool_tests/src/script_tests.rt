@@ -1,5 +1,6 @@
 //! Whole scripts.
 
+use crate::checks::{check_same, check_that};
 use std::alloc::Global;
 use std::sync::Wait;
 use tas_tool::{INPUT_LIMIT, ToolFault, script_run};
@@ -21,10 +22,12 @@ fn edits_and_refusals_are_answered(rt: HostRuntime) {
         alloc,
         b"len\ninput 0\nshot 0\ninsert 0 2 R.... ..... .....\ninput 1\ninput 2\ndelete 1 2\nreplace 1 1 ..... ..... .....\ninput 1\nlen\ninsert 3 1 ..... ..... .....\ninsert 0 262143 ..... ..... .....\ninsert 2 262142 ..... ..... .....\nlen\n",
     );
-    assert_eq!(rt; end, Ok(()));
-    assert_eq!(rt;
+    check_same(&rt, "end", end, Ok(()));
+    check_same(
+        &rt,
+        "output",
         output.as_slice(),
-        b"len 0 0\nno frame 0 len 0\nno frame 0 len 0\nedit 1 len 2\ninput 1 R.... ..... .....\nno frame 1 len 2\nplace 1 len 2\nedit 2 len 2\ninput 2 ..... ..... .....\nlen 2 2\nplace 2 len 2\nlong 2 len 2\nedit 3 len 262144\nlen 3 262144\n".as_slice()
+        b"len 0 0\nno frame 0 len 0\nno frame 0 len 0\nedit 1 len 2\ninput 1 R.... ..... .....\nno frame 1 len 2\nplace 1 len 2\nedit 2 len 2\ninput 2 ..... ..... .....\nlen 2 2\nplace 2 len 2\nlong 2 len 2\nedit 3 len 262144\nlen 3 262144\n".as_slice(),
     );
 }
 
@@ -39,12 +42,12 @@ fn a_line_not_understood_ends_with_its_number(rt: HostRuntime) {
     ];
     for (script, text, line) in cases {
         let (output, end) = written(&rt, alloc, script);
-        assert_eq!(rt; end, Err(ToolFault::Script { line }));
-        assert_eq!(rt; output.as_slice(), text);
+        check_same(&rt, "end", end, Err(ToolFault::Script { line }));
+        check_same(&rt, "output", output.as_slice(), text);
     }
     let (output, end) = written(&rt, alloc, b"");
-    assert_eq!(rt; end, Ok(()));
-    assert!(rt; output.is_empty());
+    check_same(&rt, "end, 2", end, Ok(()));
+    check_that(&rt, "output, 2", output.is_empty());
 }
 
 /// A cartridge that sets the playfield, its edits, and shots with the greenzone's help.
@@ -109,8 +112,8 @@ fn shots_are_answered_as_by_hand(rt: HostRuntime) {
         ("small", SMALL, SMALL_REPLIES),
     ] {
         let (output, end) = written(&rt, alloc, script);
-        assert_eq!(rt; end, Ok(()), "{name}");
-        assert_eq!(rt; output.as_slice(), text, "{name}");
+        check_same(&rt, name, end, Ok(()));
+        check_same(&rt, name, output.as_slice(), text);
     }
 }
 
@@ -129,15 +132,26 @@ fn replies_go_out_in_small_pieces(rt: HostRuntime) {
     ] {
         let mut output = Taker::new(alloc, 7, Room::Bytes(room), Failure::Error);
         let mut input = b"len\ndelete 0 0\nlen".as_slice();
-        assert_eq!(rt;
+        check_same(
+            &rt,
+            ("room", room),
             script_run(&rt, alloc, &mut input, &mut output),
             end,
-            "room {room}"
         );
         let written = room.min(21);
-        assert_eq!(rt; output.taken.as_slice(), &text[..written], "room {room}");
+        check_same(
+            &rt,
+            ("room", room),
+            output.taken.as_slice(),
+            &text[..written],
+        );
         let failed = if room < 21 { 1 } else { 0 };
-        assert_eq!(rt; output.writes, written.div_ceil(7) + failed, "room {room}");
+        check_same(
+            &rt,
+            ("room", room),
+            output.writes,
+            written.div_ceil(7) + failed,
+        );
     }
 }
 
@@ -154,8 +168,8 @@ fn a_script_that_is_not_read_is_not_answered(rt: HostRuntime) {
         let mut input = Filler::new(b' ', left, fails_at);
         let mut output = Vec::new(alloc);
         let end = script_run(&rt, alloc, &mut input, &mut output);
-        assert_eq!(rt; end, Err(fault), "{left} bytes");
-        assert_eq!(rt; input.reads, reads, "{left} bytes");
-        assert!(rt; output.is_empty(), "{left} bytes");
+        check_same(&rt, ("bytes", left), end, Err(fault));
+        check_same(&rt, ("bytes", left), input.reads, reads);
+        check_that(&rt, ("bytes", left), output.is_empty());
     }
 }

@@ -1,5 +1,6 @@
 //! Conversations over a cartridge's file and a movie's.
 
+use crate::checks::check_same;
 use crate::movies::{IDLE, PLAYFIELD, SMALL_PLAYFIELD, image_of, joined, small_image_of, text_of};
 use std::test::Fail;
 use tas_tool::{ToolFault, cart_talk_run, movie_talk_run};
@@ -31,8 +32,8 @@ fn conversations_go_on_from_a_cartridge(rt: HostRuntime) -> Result<(), Fail> {
         let mut input = OVER_FILES;
         let mut output = Vec::new(alloc);
         let end = cart_talk_run(&rt, alloc, &mut cart, &mut input, &mut output);
-        assert_eq!(rt; end, Ok(()));
-        assert_eq!(rt; output.as_slice(), wanted.as_slice());
+        check_same(&rt, "end", end, Ok(()));
+        check_same(&rt, "output", output.as_slice(), wanted.as_slice());
     }
     Ok(())
 }
@@ -60,8 +61,8 @@ fn conversations_go_on_from_a_movie(rt: HostRuntime) -> Result<(), Fail> {
         let mut input = OVER_FILES;
         let mut output = Vec::new(alloc);
         let end = movie_talk_run(&rt, alloc, &mut cart, &mut movie, &mut input, &mut output);
-        assert_eq!(rt; end, Ok(()));
-        assert_eq!(rt; output.as_slice(), wanted.as_slice());
+        check_same(&rt, "end", end, Ok(()));
+        check_same(&rt, "output", output.as_slice(), wanted.as_slice());
     }
     Ok(())
 }
@@ -77,17 +78,22 @@ fn faults_of_the_files_come_first(rt: HostRuntime) -> Result<(), Fail> {
         let short = &image.as_slice()[..image.len().min(size)];
         let mut cart = short;
         let end = cart_talk_run(&rt, alloc, &mut cart, &mut input, &mut output);
-        assert_eq!(rt; end, Err(ToolFault::Size(size)));
+        check_same(&rt, "end", end, Err(ToolFault::Size(size)));
         let mut cart = short;
         let mut movie = b"".as_slice();
         let end = movie_talk_run(&rt, alloc, &mut cart, &mut movie, &mut input, &mut output);
-        assert_eq!(rt; end, Err(ToolFault::Size(size)));
-        assert_eq!(rt; (input.reads, output.len()), (0, 0));
+        check_same(&rt, "end, 2", end, Err(ToolFault::Size(size)));
+        check_same(&rt, "input.reads", (input.reads, output.len()), (0, 0));
     }
     let mut cart = Giver::new(image.as_slice(), 1_000, 2);
     let mut movie = Giver::new(b"", 10, 0);
     let end = movie_talk_run(&rt, alloc, &mut cart, &mut movie, &mut input, &mut output);
-    assert_eq!(rt; end, Err(ToolFault::Read));
-    assert_eq!(rt; (movie.reads, input.reads, output.len()), (0, 0, 0));
+    check_same(&rt, "end, 3", end, Err(ToolFault::Read));
+    check_same(
+        &rt,
+        "movie.reads",
+        (movie.reads, input.reads, output.len()),
+        (0, 0, 0),
+    );
     Ok(())
 }

@@ -1,5 +1,6 @@
 //! Whole conversations.
 
+use crate::checks::{check_same, check_that};
 use crate::movies::{IDLE, PLAYFIELD, RIGHT, SMALL_PLAYFIELD, joined, playfield_picture, text_of};
 use std::alloc::Global;
 use std::cell::Cell;
@@ -34,8 +35,8 @@ static REPLIES: &[u8] =
 fn lines_of_a_script_are_answered_as_by_a_script(rt: HostRuntime) {
     let alloc = rt.alloc();
     let (output, end) = said(&rt, alloc, SCRIPT);
-    assert_eq!(rt; end, Ok(()));
-    assert_eq!(rt; output.as_slice(), REPLIES);
+    check_same(&rt, "end", end, Ok(()));
+    check_same(&rt, "output", output.as_slice(), REPLIES);
 }
 
 /// The picture is the one that the playfield's program draws, and its refusals are those of `shot`.
@@ -58,15 +59,17 @@ fn pictures_are_told_whole(rt: HostRuntime) -> Result<(), Fail> {
         ],
     )?;
     let (output, end) = said(&rt, alloc, lines.as_slice());
-    assert_eq!(rt; end, Ok(()));
-    assert!(rt; output.as_slice() == wanted.as_slice());
+    check_same(&rt, "end", end, Ok(()));
+    check_that(&rt, "output", output.as_slice() == wanted.as_slice());
     let halts =
         b"load 000=A203A9028500A9008500CAD0F502 FFC=00F0\ninsert 0 9 ..... ..... .....\npicture 5\n";
     let (output, end) = said(&rt, alloc, halts);
-    assert_eq!(rt; end, Ok(()));
-    assert_eq!(rt;
+    check_same(&rt, "end, 2", end, Ok(()));
+    check_same(
+        &rt,
+        "output, 2",
         output.as_slice(),
-        b"edit 1 len 0\nedit 2 len 9\nhalted 2 F00D 02\n".as_slice()
+        b"edit 1 len 0\nedit 2 len 9\nhalted 2 F00D 02\n".as_slice(),
     );
     Ok(())
 }
@@ -92,8 +95,8 @@ fn states_are_those_of_the_movie(rt: HostRuntime) -> Result<(), Fail> {
         ],
     )?;
     let (output, end) = said(&rt, alloc, lines.as_slice());
-    assert_eq!(rt; end, Ok(()));
-    assert_eq!(rt; output.as_slice(), wanted.as_slice());
+    check_same(&rt, "end", end, Ok(()));
+    check_same(&rt, "output", output.as_slice(), wanted.as_slice());
     Ok(())
 }
 
@@ -123,8 +126,8 @@ fn the_movie_is_told_as_its_text(rt: HostRuntime) -> Result<(), Fail> {
         ],
     )?;
     let (output, end) = said(&rt, alloc, lines.as_slice());
-    assert_eq!(rt; end, Ok(()));
-    assert_eq!(rt; output.as_slice(), wanted.as_slice());
+    check_same(&rt, "end", end, Ok(()));
+    check_same(&rt, "output", output.as_slice(), wanted.as_slice());
     Ok(())
 }
 
@@ -148,8 +151,8 @@ fn small_cartridges_are_talked_of(rt: HostRuntime) -> Result<(), Fail> {
         ],
     )?;
     let (output, end) = said(&rt, alloc, lines);
-    assert_eq!(rt; end, Ok(()));
-    assert!(rt; output.as_slice() == wanted.as_slice());
+    check_same(&rt, "end", end, Ok(()));
+    check_that(&rt, "output", output.as_slice() == wanted.as_slice());
     Ok(())
 }
 
@@ -163,12 +166,12 @@ fn edits_are_bounded(rt: HostRuntime) -> Result<(), Fail> {
     }
     lines.extend_from_slice(b"delete 0 0\nload 000=00\nlen\npicture 0\nstates\n")?;
     let (output, end) = said(&rt, alloc, lines.as_slice());
-    assert_eq!(rt; end, Ok(()));
+    check_same(&rt, "end", end, Ok(()));
     let last =
         b"edit 1000000 len 0\nfull 1000000\nfull 1000000\nlen 1000000 0\nno frame 1000000 len 0\nstates 1000000 0\n";
-    assert!(rt; output.as_slice().ends_with(last));
+    check_that(&rt, "output", output.as_slice().ends_with(last));
     // 12 bytes and its number's digits for each edit, and 80 behind them.
-    assert_eq!(rt; output.len(), 12_000_000 + 5_888_896 + 80);
+    check_same(&rt, "output, 2", output.len(), 12_000_000 + 5_888_896 + 80);
     Ok(())
 }
 
@@ -184,8 +187,8 @@ fn unknown_lines_change_nothing(rt: HostRuntime) -> Result<(), Fail> {
         wanted.extend_from_slice(b"unknown\n")?;
     }
     wanted.extend_from_slice(b"len 0 0\nunknown\n")?;
-    assert_eq!(rt; end, Ok(()));
-    assert_eq!(rt; output.as_slice(), wanted.as_slice());
+    check_same(&rt, "end", end, Ok(()));
+    check_same(&rt, "output", output.as_slice(), wanted.as_slice());
     let cases: [(&[u8], &[u8]); 5] = [
         (b"", b""),
         (b"quit\n", b""),
@@ -195,8 +198,8 @@ fn unknown_lines_change_nothing(rt: HostRuntime) -> Result<(), Fail> {
     ];
     for (lines, answers) in cases {
         let (output, end) = said(&rt, alloc, lines);
-        assert_eq!(rt; end, Ok(()));
-        assert_eq!(rt; output.as_slice(), answers);
+        check_same(&rt, "end, 2", end, Ok(()));
+        check_same(&rt, "output, 2", output.as_slice(), answers);
     }
     Ok(())
 }
@@ -219,9 +222,9 @@ fn load_line(alloc: Global, parts: &[usize]) -> Result<Vec<u8>, Fail> {
 fn lines_are_bounded(rt: HostRuntime) -> Result<(), Fail> {
     let alloc = rt.alloc();
     let longest = load_line(alloc, &[4096, 4089])?;
-    assert_eq!(rt; longest.len(), 16_385);
+    check_same(&rt, "longest", longest.len(), 16_385);
     let longer = load_line(alloc, &[4096, 4082, 5])?;
-    assert_eq!(rt; longer.len(), 16_386);
+    check_same(&rt, "longer", longer.len(), 16_386);
     let lines = joined(
         alloc,
         &[
@@ -236,17 +239,19 @@ fn lines_are_bounded(rt: HostRuntime) -> Result<(), Fail> {
         let mut input = Giver::new(lines.as_slice(), at_once, 0);
         let mut output = Vec::new(alloc);
         let end = talk_run(&rt, alloc, &mut input, &mut output);
-        assert_eq!(rt; end, Ok(()));
-        assert_eq!(rt;
+        check_same(&rt, "end", end, Ok(()));
+        check_same(
+            &rt,
+            "output",
             output.as_slice(),
-            b"unknown\nedit 1 len 0\nunknown\nlen 1 0\nunknown\n".as_slice()
+            b"unknown\nedit 1 len 0\nunknown\nlen 1 0\nunknown\n".as_slice(),
         );
     }
     let mut input = Filler::new(b' ', 20_000_000, 0);
     let mut output = Vec::new(alloc);
     let end = talk_run(&rt, alloc, &mut input, &mut output);
-    assert_eq!(rt; end, Ok(()));
-    assert_eq!(rt; output.as_slice(), b"unknown\n".as_slice());
+    check_same(&rt, "end, 2", end, Ok(()));
+    check_same(&rt, "output, 2", output.as_slice(), b"unknown\n".as_slice());
     Ok(())
 }
 
@@ -262,13 +267,17 @@ fn pieces_of_the_input_make_no_difference(rt: HostRuntime) -> Result<(), Fail> {
         ],
     )?;
     let (whole, end) = said(&rt, alloc, lines.as_slice());
-    assert_eq!(rt; end, Ok(()));
+    check_same(&rt, "end", end, Ok(()));
     for at_once in [1, 2, 3, 50] {
         let mut input = Giver::new(lines.as_slice(), at_once, 0);
         let mut output = Vec::new(alloc);
         let end = talk_run(&rt, alloc, &mut input, &mut output);
-        assert_eq!(rt; end, Ok(()));
-        assert!(rt; output.as_slice() == whole.as_slice(), "{at_once} at once");
+        check_same(&rt, "end, 2", end, Ok(()));
+        check_that(
+            &rt,
+            ("at once", at_once),
+            output.as_slice() == whole.as_slice(),
+        );
     }
     Ok(())
 }
@@ -346,9 +355,14 @@ fn answers_are_out_before_the_next_read(rt: HostRuntime) {
         holds: 0,
         passed: &passed,
     };
-    assert_eq!(rt; talk_run(&rt, alloc, &mut input, &mut output), Ok(()));
-    assert_eq!(rt; passed.get(), 101_052);
-    assert!(rt; input.lines.is_empty());
+    check_same(
+        &rt,
+        "talk_run",
+        talk_run(&rt, alloc, &mut input, &mut output),
+        Ok(()),
+    );
+    check_same(&rt, "passed", passed.get(), 101_052);
+    check_that(&rt, "input.lines", input.lines.is_empty());
 }
 
 /// A failed write is the last one, and tells how many bytes of the whole conversation went out, within a picture too.
@@ -357,7 +371,7 @@ fn a_failed_write_ends_the_conversation(rt: HostRuntime) -> Result<(), Fail> {
     let alloc = rt.alloc();
     let lines = joined(alloc, &[START, b"picture 3\nlen\nlen"])?;
     let (whole, end) = said(&rt, alloc, lines.as_slice());
-    assert_eq!(rt; end, Ok(()));
+    check_same(&rt, "end", end, Ok(()));
     for room in [
         0, 12, 13, 27, 28, 1_000, 100_861, 100_862, 100_863, 100_871, 100_872, 100_879,
     ] {
@@ -365,19 +379,30 @@ fn a_failed_write_ends_the_conversation(rt: HostRuntime) -> Result<(), Fail> {
             let mut input = lines.as_slice();
             let mut output = Taker::new(alloc, 5_000, Room::Bytes(room), failure);
             let end = talk_run(&rt, alloc, &mut input, &mut output);
-            assert_eq!(rt; end, Err(ToolFault::Write { written: room }), "room {room}");
-            let sent = room.min(whole.len());
-            assert!(rt;
-                output.taken.as_slice() == &whole.as_slice()[..sent],
-                "room {room}"
+            check_same(
+                &rt,
+                ("room", room),
+                end,
+                Err(ToolFault::Write { written: room }),
             );
-            assert_eq!(rt; output.failed, 1, "room {room}");
+            let sent = room.min(whole.len());
+            check_that(
+                &rt,
+                ("room", room),
+                output.taken.as_slice() == &whole.as_slice()[..sent],
+            );
+            check_same(&rt, ("room", room), output.failed, 1);
         }
     }
-    assert_eq!(rt; whole.len(), 100_880);
+    check_same(&rt, "whole", whole.len(), 100_880);
     let mut input = lines.as_slice();
     let mut output = Taker::new(alloc, 5_000, Room::Bytes(100_880), Failure::Error);
-    assert_eq!(rt; talk_run(&rt, alloc, &mut input, &mut output), Ok(()));
+    check_same(
+        &rt,
+        "talk_run",
+        talk_run(&rt, alloc, &mut input, &mut output),
+        Ok(()),
+    );
     Ok(())
 }
 
@@ -396,8 +421,8 @@ fn a_failed_read_ends_the_conversation(rt: HostRuntime) {
         let mut input = Giver::new(b"len\nx\nlen\nlen", 3, fails_at);
         let mut output = Vec::new(alloc);
         let end = talk_run(&rt, alloc, &mut input, &mut output);
-        assert_eq!(rt; end, Err(ToolFault::Read));
-        assert_eq!(rt; output.as_slice(), answers, "read {fails_at}");
-        assert_eq!(rt; input.reads, fails_at);
+        check_same(&rt, "end", end, Err(ToolFault::Read));
+        check_same(&rt, ("read", fails_at), output.as_slice(), answers);
+        check_same(&rt, "input.reads", input.reads, fails_at);
     }
 }

@@ -1,5 +1,6 @@
 //! Words that name a task, and others.
 
+use crate::checks::{check_same, check_that};
 use crate::movies::{PLAYFIELD, image_of};
 use crate::programs::{ONE_FRAME, TwoFiles, run, run_words, words_of};
 use std::io::{Error, ErrorKind};
@@ -103,8 +104,8 @@ fn each_command_is_its_task(rt: HostRuntime) -> Result<(), Fail> {
     for (number, (words, task)) in TASKS.iter().enumerate() {
         let words = words_of(alloc, words)?;
         match read_words(alloc, words.as_slice()) {
-            Ok(read) => assert_eq!(rt; read, *task, "words {number}"),
-            Err(_) => assert!(rt; false, "words {number}"),
+            Ok(read) => check_same(&rt, ("words", number), read, *task),
+            Err(_) => check_that(&rt, ("words", number), false),
         }
     }
     Ok(())
@@ -165,9 +166,9 @@ fn other_words_end_with_status_2(rt: HostRuntime) -> Result<(), Fail> {
     let cart = image_of(alloc, PLAYFIELD.bytes)?;
     for (number, words) in MISUSES.iter().enumerate() {
         let ran = run(&rt, alloc, words, cart.as_slice(), ONE_FRAME)?;
-        assert_eq!(rt; ran.code, 2, "words {number}");
-        assert!(rt; ran.output.is_empty(), "words {number}");
-        assert!(rt; ran.errors.starts_with(b"error: "), "words {number}");
+        check_same(&rt, ("words", number), ran.code, 2);
+        check_that(&rt, ("words", number), ran.output.is_empty());
+        check_that(&rt, ("words", number), ran.errors.starts_with(b"error: "));
     }
     let ran = run_words(
         &rt,
@@ -179,11 +180,13 @@ fn other_words_end_with_status_2(rt: HostRuntime) -> Result<(), Fail> {
         },
         ONE_FRAME,
     );
-    assert_eq!(rt; ran.code, 2);
-    assert!(rt; ran.output.is_empty());
-    assert_eq!(rt;
+    check_same(&rt, "ran.code", ran.code, 2);
+    check_that(&rt, "ran.output", ran.output.is_empty());
+    check_same(
+        &rt,
+        "ran.errors",
         ran.errors.as_slice(),
-        b"error: the words aren't all text\n".as_slice()
+        b"error: the words aren't all text\n".as_slice(),
     );
     Ok(())
 }
@@ -241,15 +244,17 @@ fn help_and_version_are_shown(rt: HostRuntime) -> Result<(), Fail> {
     let alloc = rt.alloc();
     for (number, (words, text)) in HELPS.iter().enumerate() {
         let ran = run(&rt, alloc, words, b"", b"")?;
-        assert_eq!(rt; ran.code, 0, "help {number}");
-        assert!(rt; ran.output.starts_with(text), "help {number}");
-        assert!(rt; ran.errors.is_empty(), "help {number}");
+        check_same(&rt, ("help", number), ran.code, 0);
+        check_that(&rt, ("help", number), ran.output.starts_with(text));
+        check_that(&rt, ("help", number), ran.errors.is_empty());
     }
     let ran = run(&rt, alloc, &["--version"], b"", b"")?;
-    assert_eq!(rt; ran.code, 0);
-    assert_eq!(rt;
+    check_same(&rt, "ran.code", ran.code, 0);
+    check_same(
+        &rt,
+        "ran.output",
         ran.output.as_slice(),
-        b"tas 0.1.0, machine profile 2\n".as_slice()
+        b"tas 0.1.0, machine profile 2\n".as_slice(),
     );
     Ok(())
 }

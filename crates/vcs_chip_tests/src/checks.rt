@@ -1,5 +1,7 @@
 //! The assertions of these tests, proved once for all their callers: each `assert_eq!` would be proved again where it stands.
 
+ghost use Rattle.std.specs.Prelude.{◌≡◌, true};
+
 use std::fmt::Debug;
 use std::process::Abort;
 
@@ -9,11 +11,15 @@ pub fn check_same<R: Abort, C: Copy + Debug, T: Copy + PartialEq + Debug>(
     case: C,
     found: T,
     wanted: T,
-) {
+)
+    ensures { T.eq found wanted ≡ true }
+{
     assert_eq!(rt; found, wanted, "{case:?}");
 }
 
 /// Fails where something doesn't hold, and then shows the case.
-pub fn check_that<R: Abort, C: Copy + Debug>(rt: &R, case: C, holds: bool) {
+pub fn check_that<R: Abort, C: Copy + Debug>(rt: &R, case: C, holds: bool)
+    ensures { holds ≡ true }
+{
     assert!(rt; holds, "{case:?}");
 }

@@ -4,6 +4,8 @@
 #[cfg(test)]
 mod carts;
 #[cfg(test)]
+mod checks;
+#[cfg(test)]
 mod console_tests;
 #[cfg(test)]
 mod frame_tests;

@@ -1,0 +1,70 @@
+//! The lines that faults are told by.
+
+use crate::checks::check_same;
+use std::test::Fail;
+use tas_engines::ToolFault;
+use tas_movie::{TextError, TextErrorKind};
+
+#[test]
+fn faults_read_as_their_lines(rt: HostRuntime) -> Result<(), Fail> {
+    let alloc = rt.alloc();
+    for (fault, line) in [
+        (ToolFault::TooLong, "fault: input is too long"),
+        (ToolFault::Read, "fault: read failed"),
+        (
+            ToolFault::Write { written: 20 },
+            "fault: write failed after 20 bytes",
+        ),
+        (ToolFault::Size(7), "fault: cartridge has 7 bytes"),
+        (
+            ToolFault::NoFrame { frame: 1, len: 1 },
+            "fault: no frame 1 of 1",
+        ),
+        (
+            ToolFault::Range {
+                from: 0,
+                to: 2,
+                len: 1,
+            },
+            "fault: range 0 to 2 of 1",
+        ),
+        (
+            ToolFault::Halted {
+                at: 0xf00d,
+                opcode: 2,
+            },
+            "fault: halted at F00D by 02",
+        ),
+        (ToolFault::Script { line: 12 }, "fault: script line 12"),
+        (ToolFault::NoPlace, "fault: no place"),
+        (ToolFault::NoEntry, "fault: no entry"),
+        (ToolFault::Foreign, "fault: foreign edit"),
+        (ToolFault::Memory, "fault: out of memory"),
+    ] {
+        let text = format!(in alloc; "{fault}")?;
+        check_same(&rt, fault, text.as_str(), line);
+    }
+    Ok(())
+}
+
+#[test]
+fn faults_of_a_movie_text_read_as_their_lines(rt: HostRuntime) -> Result<(), Fail> {
+    let alloc = rt.alloc();
+    for (line, kind, words) in [
+        (3, TextErrorKind::End, "fault: movie line 3: end"),
+        (2, TextErrorKind::Digest, "fault: movie line 2: digest"),
+        (1, TextErrorKind::Head, "fault: movie line 1: head"),
+        (4, TextErrorKind::Frame, "fault: movie line 4: frame"),
+        (
+            65539,
+            TextErrorKind::TooMany,
+            "fault: movie line 65539: too many",
+        ),
+        (4, TextErrorKind::Run, "fault: movie line 4: run"),
+    ] {
+        let fault = ToolFault::Text(TextError { line, kind });
+        let text = format!(in alloc; "{fault}")?;
+        check_same(&rt, fault, text.as_str(), words);
+    }
+    Ok(())
+}
