@@ -37,14 +37,9 @@ fn open_two<F: Folder>(folder: &F, one: &str, two: &str) -> Result<(F::File, F::
     ensures files { IfOk result (λ files. (F.File.remaining files.0 ≡ F.bytes_of folder.now one.now) × (F.File.remaining files.1 ≡ F.bytes_of folder.now two.now)) }
     ensures fault { IfErr result (λ fault. fault ≡ ToolFault.Read) }
 {
-    let first = match open_file(folder, one) {
-        Ok(file) => file,
-        Err(fault) => return Err(fault),
-    };
-    match open_file(folder, two) {
-        Ok(second) => Ok((first, second)),
-        Err(fault) => Err(fault),
-    }
+    let first = open_file(folder, one)?;
+    let second = open_file(folder, two)?;
+    Ok((first, second))
 }
 
 /// Does a task by its engine: the files that it names are opened first, a failure being `Read`, then
@@ -63,62 +58,43 @@ pub fn run_task<T: Wait + Threads + Sync, F: Folder, R: Read, W: Write>(
 {
     match task {
         Task::Trace { instructions } => trace_run(alloc, instructions, input, output),
-        Task::Check { cart } => match open_file(folder, cart) {
-            Ok(mut file) => check_run(alloc, &mut file, input, output),
-            Err(fault) => Err(fault),
-        },
-        Task::Migrate { cart } => match open_file(folder, cart) {
-            Ok(mut file) => migrate_run(alloc, &mut file, input, output),
-            Err(fault) => Err(fault),
-        },
-        Task::Shot { cart, frame } => match open_file(folder, cart) {
-            Ok(mut file) => shot_run(alloc, frame as usize, &mut file, input, output),
-            Err(fault) => Err(fault),
-        },
-        Task::Edit { cart, script } => match open_two(folder, cart, script) {
-            Ok((mut file, mut other)) => edit_run(alloc, &mut file, &mut other, input, output),
-            Err(fault) => Err(fault),
-        },
-        Task::Diff { cart, old } => match open_two(folder, cart, old) {
-            Ok((mut file, mut other)) => diff_run(alloc, &mut file, &mut other, input, output),
-            Err(fault) => Err(fault),
-        },
+        Task::Check { cart } => check_run(alloc, &mut open_file(folder, cart)?, input, output),
+        Task::Migrate { cart } => migrate_run(alloc, &mut open_file(folder, cart)?, input, output),
+        Task::Shot { cart, frame } => {
+            let mut file = open_file(folder, cart)?;
+            shot_run(alloc, frame as usize, &mut file, input, output)
+        }
+        Task::Edit { cart, script } => {
+            let (mut file, mut other) = open_two(folder, cart, script)?;
+            edit_run(alloc, &mut file, &mut other, input, output)
+        }
+        Task::Diff { cart, old } => {
+            let (mut file, mut other) = open_two(folder, cart, old)?;
+            diff_run(alloc, &mut file, &mut other, input, output)
+        }
         Task::Script => script_run(rt, alloc, input, output),
-        Task::MovieScript { cart, movie } => match open_two(folder, cart, movie) {
-            Ok((mut file, mut other)) => {
-                movie_script_run(rt, alloc, &mut file, &mut other, input, output)
-            }
-            Err(fault) => Err(fault),
-        },
+        Task::MovieScript { cart, movie } => {
+            let (mut file, mut other) = open_two(folder, cart, movie)?;
+            movie_script_run(rt, alloc, &mut file, &mut other, input, output)
+        }
         Task::Talk => talk_run(rt, alloc, input, output),
-        Task::CartTalk { cart } => match open_file(folder, cart) {
-            Ok(mut file) => cart_talk_run(rt, alloc, &mut file, input, output),
-            Err(fault) => Err(fault),
-        },
-        Task::MovieTalk { cart, movie } => match open_two(folder, cart, movie) {
-            Ok((mut file, mut other)) => {
-                movie_talk_run(rt, alloc, &mut file, &mut other, input, output)
-            }
-            Err(fault) => Err(fault),
-        },
+        Task::CartTalk { cart } => {
+            cart_talk_run(rt, alloc, &mut open_file(folder, cart)?, input, output)
+        }
+        Task::MovieTalk { cart, movie } => {
+            let (mut file, mut other) = open_two(folder, cart, movie)?;
+            movie_talk_run(rt, alloc, &mut file, &mut other, input, output)
+        }
         Task::Export {
             cart,
             from,
             to,
             workers,
-        } => match open_file(folder, cart) {
-            Ok(mut file) => export_run(
-                rt,
-                alloc,
-                from as usize,
-                to as usize,
-                workers as usize,
-                &mut file,
-                input,
-                output,
-            ),
-            Err(fault) => Err(fault),
-        },
+        } => {
+            let mut file = open_file(folder, cart)?;
+            let (from, to, workers) = (from as usize, to as usize, workers as usize);
+            export_run(rt, alloc, from, to, workers, &mut file, input, output)
+        }
     }
 }
 
