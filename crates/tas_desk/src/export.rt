@@ -70,7 +70,11 @@ impl<N: Name, W: CloseOnDrop, A: Allocator + Copy> Desk<N, W, A> {
     /// outside it, each on a thread of its own, which passes the gate first; a run starts from the nearest state of the
     /// seat's zone that a cut for the movie would leave. Nothing is written before all pixmaps are there: their room, 100,815
     /// bytes a frame and so 103 MB for 1,024, is asked for before the first frame is played, all of it from `alloc`. The seat's
-    /// zone isn't changed.
+    /// zone isn't changed, nor is the history.
+    ///
+    /// `workers` is 1 to 16; the caller shows it. `Range` comes first, where the movie hasn't these frames or they are more
+    /// than [`MAX_EXPORT`]; then `Memory`, or `Halted` with the least halted frame. Nothing was written then. `Write` tells
+    /// how many bytes had gone out.
     pub fn export<
         B: Allocator + Copy + Send + Sync,
         G: Gate + Sync,

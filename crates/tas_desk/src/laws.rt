@@ -1,4 +1,4 @@
-//! Laws.
+//! The limits of histories and exports are those of the definitions.
 
 ghost use Rattle.std.specs.Prelude.{◌≡◌};
 ghost use Rattle.tas_desk.specs.declared.session.TheConstants.{MAX_EDITS};

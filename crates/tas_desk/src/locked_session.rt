@@ -68,6 +68,8 @@ impl<N: Name, W: CloseOnDrop, A: Allocator> Model for LockedSession<N, W, A> {
 }
 
 impl<N: Name, W: CloseOnDrop, A: Allocator> LockedSession<N, W, A> {
+    /// A session without edits, the book of its seats' shares with what is left of them, and the handle that closes the
+    /// session when it is dropped.
     pub fn new(session: Session<A>, book: Book<N>, rest: Share<N>, rt: W) -> LockedSession<N, W, A>
         requires session { (session.registry ≡ N.registry) × (session.journal ≡ []) }
         requires book { book.total ≡ 0 }

@@ -16,7 +16,9 @@ pub struct MovieCopy<A: Allocator = Global>
 where
     VersionRule: Rule<LinkedList<Entry<A>, A>, u64>,
 {
+    /// The movie.
     pub movie: Movie<A>,
+    /// The version of the history that makes it.
     pub version: Version<A>,
     pub ghost whole: { movie ≡ movie_of version.history },
 }

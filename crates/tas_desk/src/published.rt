@@ -61,6 +61,7 @@ where
 }
 
 impl<A: Allocator> PublishedEdit<A> {
+    /// An edit, with the version of the history that it ends.
     pub fn new(edit: Edit<A>, version: Version<A>) -> PublishedEdit<A>
         ensures { result ≡ change_of edit version }
     {

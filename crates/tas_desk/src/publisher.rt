@@ -168,7 +168,7 @@ impl<A: Allocator + Copy> Publisher<A> {
         )
     }
 
-    // The same, by value.
+    // As [`Publisher::push`], by value, since the writer publishes by value.
     fn pushed<R: Wait>(self, rt: &R, next: Entry<A>) -> (Publisher<A>, Result<(), AllocError>)
         requires { IsNextEntry self.journal next }
         ensures done { OnOk result.1 (result.0 ≡ record { registry = self.registry; journal = self.journal ++ next ∷ []; movie = edited self.movie next.edit }) }

@@ -103,7 +103,8 @@ impl<A: Allocator + Copy> Session<A> {
         }
     }
 
-    /// The same, with places for so many readers. The writer is made last.
+    /// A session as [`Session::new`] makes it, with places for so many readers. The writer is made last: it can't be dropped,
+    /// so nothing that may fail follows it.
     pub(crate) fn with_places(alloc: A, readers: usize) -> Result<Session<A>, AllocError>
         requires { (0 < readers) × (readers < 2 ^ 32) }
         ensures { IfOk result (λ session. session ≡ record { registry = session.registry; journal = []; movie = blank_movie; zone = [] }) }
@@ -188,7 +189,8 @@ impl<A: Allocator + Copy> Session<A> {
     /// grid, halted ones too.
     ///
     /// `NoFrame` and `Memory` leave session and meter as they were. After `Halted`, as after an answer, the meter has risen by
-    /// the frames that were played. The picture takes its memory from `alloc`.
+    /// the frames that were played. The picture takes its memory from `alloc`. The caller shows that the meter has room for
+    /// the movie's length ([`Meter::room`]).
     pub fn shot<B: Allocator>(
         &mut self,
         alloc: B,
@@ -269,6 +271,7 @@ impl<A: Allocator + Copy> Session<A> {
             Err(MergeError::Cartridge) => return Err(OfferError::Cartridge { at }),
             Err(MergeError::Memory) => return Err(OfferError::Memory(batch)),
         };
+        // Called for its clause `bounded`: at most 512 states are kept, so no more were gained.
         let _count = self.green.count();
         Ok(Offered {
             at,

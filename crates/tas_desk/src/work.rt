@@ -12,7 +12,8 @@ use thiserror::Error;
 
 /// Where work may be held up, outside the lock (own).
 pub trait Gate {
-    /// It comes back when the piece of this number may go on.
+    /// Comes back when this piece may go on: the index of a target in [`Desk::work`], the number of a worker's frames in
+    /// [`Desk::export`], counted from 0.
     fn pass(&self, piece: usize);
 }
 

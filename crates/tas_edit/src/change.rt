@@ -66,6 +66,7 @@ pub fn read_change(line: &[u8]) -> Option<Change>
     let Some(command) = parse_line(line) else {
         return None;
     };
+    // Called for its law: no other command has this line.
     one_command_per_line();
     change_of(command)
 }

@@ -71,7 +71,7 @@ pub enum RunFault {
     },
     /// A desk's seat got no place to read from.
     NoPlace,
-    /// A seat's reader got no entry.
+    /// A seat's reader found its writer gone.
     NoEntry,
     /// A reply of the desk doesn't stand at just the engine's own edits.
     Foreign,
@@ -87,7 +87,8 @@ pub enum ToolFault {
     /// An input has more than [`INPUT_LIMIT`](crate::INPUT_LIMIT) bytes. Nothing was written.
     #[error("fault: input is too long")]
     TooLong,
-    /// A read failed, or a file couldn't be opened. Nothing was written.
+    /// A read failed, or a file couldn't be opened. Nothing was written, but by a conversation the answers to the lines
+    /// that were read whole.
     #[error("fault: read failed")]
     Read,
     /// A write failed, or took no byte.
@@ -151,14 +152,14 @@ pub enum ToolFault {
     /// A desk's seat got no place to read from. Nothing was written.
     #[error("fault: no place")]
     NoPlace,
-    /// A seat's reader got no entry. Nothing was written, but by a script the replies before.
+    /// A seat's reader found its writer gone. Nothing was written, but by a script or a conversation what answers the
+    /// lines before.
     #[error("fault: no entry")]
     NoEntry,
-    /// A reply of the desk doesn't stand at just the engine's own edits. Nothing was written, but by
-    /// a script the replies before.
+    /// A reply of the desk doesn't stand at just the engine's own edits. It is proved that no engine ends so.
     #[error("fault: foreign edit")]
     Foreign,
-    /// Memory was refused. Nothing was written, but by a script the replies before.
+    /// Memory was refused. Nothing was written, but by a script or a conversation what answers the lines before.
     #[error("fault: out of memory")]
     Memory,
 }

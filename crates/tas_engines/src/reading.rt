@@ -10,7 +10,7 @@ use crate::ReadFault;
 use std::alloc::Allocator;
 use std::io::Read;
 
-/// How many bytes are read of one input (own).
+/// How many bytes an input has at most (own). One more is read, to see that it is too long.
 pub const INPUT_LIMIT: usize = 16_777_216;
 
 /// How many bytes one read asks for.

@@ -148,7 +148,7 @@ fn pour_parts(text: &[u8], image: &mut [u8]) -> bool
     true
 }
 
-/// The image that the parts of a `load` line give, over zeros; nothing where the text names no parts.
+/// The image of 4,096 bytes that the parts of a `load` line give, over zeros; nothing where the text names no parts.
 pub fn load_image(text: &[u8]) -> Option<[u8; CART_SIZE]>
     ensures some { IfSome result (IsImageOf 4096 text.now) }
     ensures none { IfNone result ((image : List ℕ) → IsImageOf 4096 text.now image → ⊥) }
@@ -161,7 +161,7 @@ pub fn load_image(text: &[u8]) -> Option<[u8; CART_SIZE]>
     }
 }
 
-/// The same of a `load2` line.
+/// The image of 2,048 bytes that the parts of a `load2` line give, over zeros; nothing where the text names no parts.
 pub fn load_small_image(text: &[u8]) -> Option<[u8; SMALL_CART_SIZE]>
     ensures some { IfSome result (IsImageOf 2048 text.now) }
     ensures none { IfNone result ((image : List ℕ) → IsImageOf 2048 text.now image → ⊥) }

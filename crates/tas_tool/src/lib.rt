@@ -1,4 +1,4 @@
-//! The engines of the program `tas`: one public function for each command, over any readers and
+//! The engines of the program `tas`: a public function for each form of a command, over any readers and
 //! any writer.
 //!
 //! Those of one movie stand in `tas_engines` and those that change a movie's text in `tas_edit`, and this

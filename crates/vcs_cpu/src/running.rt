@@ -16,7 +16,7 @@ use crate::regs::Regs;
 use crate::{mode, operation};
 
 /// Executes an instruction of which this is known, with `left` more to come at most, and answers
-/// whether the run is over.
+/// whether the run is over. Only the contract reads `left`.
 #[inline(always)]
 fn perform_and_settle<O: Operation, M: Addressing, B: Settle>(
     left: u32,
@@ -73,7 +73,7 @@ pub fn run_until_over<B: Settle>(regs: &mut Regs, bus: &mut B, most: u32) -> Opt
     halt
 }
 
-/// The same with the registers in a local variable: no reference to it leaves the function, so that
+/// As [`run_until_over`], with the registers in a local variable: no reference to it leaves the function, so that
 /// the compiler can keep it in the processor's own registers. The commonest opcodes have an arm of
 /// their own, which is compiled for that one instruction; an arm says what the opcode's row says.
 #[tactic(auto, unfolding(crate::specs::Rows::instruction_of, crate::specs::Rows::row_of))]
