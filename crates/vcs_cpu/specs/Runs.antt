@@ -49,3 +49,9 @@ pub record IsAfterInstruction {Bus Content : Type 0} (d : Device Content) (conte
   pub reads : List ℕ
   pub writes : List (ℕ × ℕ)
   pub is : content ≡ after_writes d (after_loads d (d.after_advance (content_of before) cycles) reads) writes
+
+-- an instruction and what the bus does after it lead from one place to another: each run from the first one, however the bus settles,
+-- is over at the second, or goes on there with one instruction less
+pub record LeadsTo {Bus Content : Type 0} (d : Device Content) (content_of : Bus → Content) (Settles : Bus → Bus → Bool → Type 0) (regs : Regs) (content : Content) (over : Bool) (regs' : Regs) (content' : Content) : Type 0 where
+  pub runs : (s : Settling Content) (n : ℕ) → SettlesBy content_of Settles s
+      → run_within d s (suc n) regs content ≡ (if over then Some (record { regs = regs'; content = content'; halt = None }) else run_within d s n regs' content')

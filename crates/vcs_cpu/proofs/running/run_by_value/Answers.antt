@@ -1,7 +1,10 @@
-use Rattle.std.proofs.Common.{◌≡◌, ◌-◌, ◌∙◌, sym, suc, zero, arith}
+use Rattle.std.proofs.Common.{◌≡◌, ◌-◌, ◌∙◌, sym, suc, zero, arith, rules}
 use Rattle.vcs_cpu.proofs.Stepping.{step_of-undocumented}
-use Rattle.vcs_cpu.proofs.RunLemmas.{run_within-halt, run_within-none}
+use Rattle.vcs_cpu.proofs.RunLemmas.{run_within-halt, run_within-none, is_over_there}
 use Rattle.vcs_cpu.proofs.running.run_by_value.Goals as goal
+
+pub returns-in-Some-true-clause-ended : goal.returns-in-Some-true-clause-ended
+returns-in-Some-true-clause-ended g c = search (rules, is_over_there)
 
 pub returns-in-None-clause-ended : goal.returns-in-None-clause-ended
 returns-in-None-clause-ended g c =
@@ -9,7 +12,8 @@ returns-in-None-clause-ended g c =
     let one : l.left ≡ suc (l.left - 1) = omega arith in
     sym l.invariant.leads
     ∙ run_within-halt g.B.Bus.device g.settling (l.left - 1) l.left l.regs (g.B.Bus.content l.bus) _ one
-    (step_of-undocumented g.B.Bus.device l.regs (g.B.Bus.content l.bus) c.peek-opcode.result c.peek-opcode.ensures (sym c.instruction.ensures.is ∙ c.in-None.is))
+    (step_of-undocumented g.B.Bus.device l.regs (g.B.Bus.content l.bus) c.peek-opcode.result c.peek-opcode.ensures (search rules))
+    ∙ search rules
 
 pub returns-clause-ended : goal.returns-clause-ended
 returns-clause-ended g c =
