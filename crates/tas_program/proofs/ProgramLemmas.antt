@@ -5,8 +5,15 @@ use Rattle.std.specs.Io.KnownBytes.{Appends}
 use Rattle.tas_engines.specs.declared.fault.RunFault.{RunFault}
 use Rattle.tas_engines.specs.declared.fault.ToolFault.{ToolFault}
 use Rattle.tas_engines.specs.Output.{StopsWriting}
+use Rattle.std.specs.Prelude.{String}
+use Rattle.std.specs.Global.{Global}
+use Rattle.std.specs.declared.vec.IntoIter.{IntoIter}
+use Rattle.std.specs.declared.io.Error.{Error}
+use Rattle.clap.specs.Walk.{Text}
+use Rattle.tas_program.specs.declared.request.Request.{Request}
+use Rattle.tas_program.specs.declared.request.Request.TheVariants.{Do, Show, Refuse, NoMemory}
 use Rattle.tas_program.specs.declared.task.Task.{Task}
-use Rattle.tas_program.specs.Program.{Streams, end_status, EndsOver, EndsOverTwo, DoesTask, TaskEnds, TextEnds}
+use Rattle.tas_program.specs.Program.{AreGiven, IsAskedBy, IsNoTask, IsRequest, Streams, end_status, EndsOver, EndsOverTwo, DoesTask, TaskEnds, TextEnds}
 
 pub task_ends : (A : Type 0) (files : List ℕ → Option (List ℕ)) (task : Task) (old new : Streams) (end : Result (Unit {0}) ToolFault) → DoesTask A files task old new end → TaskEnds A files task old new (end_status end)
 task_ends A files task old new (Ok u) does = does
@@ -25,3 +32,17 @@ pub over_two : (runs : (file left file' left' : Option (List ℕ)) → Type 0) (
     → runs file left file' left' → EndsOverTwo one two runs old new end
 over_two runs one two file left file' left' old new end is is' ran =
     inr (left, left', subst (λ (f : Option (List ℕ)). runs f left two left') is (subst (λ (f : Option (List ℕ)). runs file left f left') is' ran))
+
+-- what listed words ask for is asked by what the system gave
+pub asked_by : (given : Result (IntoIter (String Global) Global) Error) (words : List Text) (request : Request) → AreGiven given words → IsRequest words request → IsAskedBy given request
+asked_by given words (Do chosen) are asks = (words, are, asks)
+asked_by given words (Show text) are asks = tt
+asked_by given words (Refuse text) are asks = tt
+asked_by given words NoMemory are asks = tt
+
+-- whatever it gave, no task may be asked
+pub no_task_asked_by : (given : Result (IntoIter (String Global) Global) Error) (request : Request) → IsNoTask request → IsAskedBy given request
+no_task_asked_by given (Do chosen) none = absurd none
+no_task_asked_by given (Show text) none = tt
+no_task_asked_by given (Refuse text) none = tt
+no_task_asked_by given NoMemory none = tt

@@ -1,5 +1,10 @@
 -- How the program ends: what it writes, and its status (own).
-use Rattle.std.specs.Prelude.{◌≡◌, ℕ, List, ◌⊎◌, Option, None, Result, Ok, Err, string_bytes}
+use Rattle.std.specs.Prelude.{◌≡◌, ℕ, List, ◌⊎◌, Option, None, Some, Result, Ok, Err, String, map, string_bytes}
+use Rattle.std.specs.Global.{Global}
+use Rattle.std.specs.Iterator.Runs.{WholeRun}
+use Rattle.std.specs.Vec.Iter.{into_iter_steps}
+use Rattle.std.specs.declared.vec.IntoIter.{IntoIter}
+use Rattle.std.specs.declared.io.Error.{Error}
 use Rattle.std.specs.Io.KnownBytes.{Appends}
 use Rattle.tas_engines.specs.declared.fault.RunFault.{RunFault}
 use Rattle.tas_engines.specs.declared.fault.ToolFault.{ToolFault}
@@ -18,7 +23,9 @@ use Rattle.tas_program.specs.declared.status.Status.{Status}
 use Rattle.tas_program.specs.declared.status.Status.TheVariants.{Done, Fault, Misuse}
 use Rattle.tas_program.specs.declared.task.Task.{Task}
 use Rattle.tas_program.specs.declared.task.Task.TheVariants.{Trace, Check, Migrate, Shot, Edit, Diff, Script, MovieScript, Talk, CartTalk, MovieTalk, Export}
-use Rattle.tas_program.specs.Task.{IsInRange}
+use Rattle.clap.specs.Walk.{Text}
+use Rattle.tas_program.specs.CommandLine.{named_command}
+use Rattle.tas_program.specs.Task.{IsInRange, command_name}
 
 -- the number that the system is told
 abbrev pub status_code : Status → ℕ
@@ -88,11 +95,31 @@ CarriesOut A files (Show text) old new status = (new.input ≡ old.input) × Tex
 CarriesOut A files (Refuse text) old new status = (status ≡ Misuse) × (new ≡ old)
 CarriesOut A files NoMemory old new status = (status ≡ Fault) × (new ≡ old)
 
--- a task's numbers are in their ranges
-abbrev pub IsRequest : Request → Type 0
-IsRequest (Do chosen) = IsInRange chosen
-IsRequest _ = Unit {0}
+-- what these words may ask for, the first of which is the program's name: the task of the command that they name, its numbers in
+-- their ranges; or a text, or nothing that is understood, or memory was refused
+abbrev pub IsRequest : List Text → Request → Type 0
+IsRequest words (Do chosen) = (named_command words ≡ Some (command_name chosen)) × IsInRange chosen
+IsRequest words _ = Unit {0}
 
--- the program carries some request out
-abbrev pub ProgramEnds : Type 0 → (List ℕ → Option (List ℕ)) → Streams → Streams → Status → Type 0
-ProgramEnds A files old new status = (request : Request) × IsRequest request × CarriesOut A files request old new status
+-- a request that is no task
+abbrev pub IsNoTask : Request → Type 0
+IsNoTask (Do chosen) = ⊥
+IsNoTask _ = Unit {0}
+
+-- an iterator gives these words, one after the other, and then no more
+abbrev pub Gives : IntoIter (String Global) Global → List Text → Type 0
+Gives given words = WholeRun into_iter_steps given (λ run. map string_bytes run.items ≡ words)
+
+-- the words that the system gave; where it gave an error, there are none
+abbrev pub AreGiven : Result (IntoIter (String Global) Global) Error → List Text → Type 0
+AreGiven (Ok given) words = Gives given words
+AreGiven (Err error) words = ⊥
+
+-- what may be asked for by what the system gave: a task by its words alone
+abbrev pub IsAskedBy : Result (IntoIter (String Global) Global) Error → Request → Type 0
+IsAskedBy given (Do chosen) = (words : List Text) × AreGiven given words × IsRequest words (Do chosen)
+IsAskedBy given _ = Unit {0}
+
+-- the program carries out what the words may ask for
+abbrev pub ProgramEnds : Type 0 → Result (IntoIter (String Global) Global) Error → (List ℕ → Option (List ℕ)) → Streams → Streams → Status → Type 0
+ProgramEnds A given files old new status = (request : Request) × IsAskedBy given request × CarriesOut A files request old new status

@@ -1,7 +1,7 @@
 //! What the words ask for.
 
-ghost use Rattle.std.specs.Prelude.{IfErr};
-ghost use Rattle.tas_program.specs.Program.{IsRequest};
+ghost use Rattle.std.specs.Prelude.{IfOk, IfErr, map, string_bytes};
+ghost use Rattle.tas_program.specs.Program.{AreGiven, IsNoTask, IsRequest};
 
 use crate::{Task, read_words};
 use clap::Error;
@@ -25,7 +25,7 @@ pub enum Request<'a> {
 
 /// The text of a request for help, or of words that aren't understood.
 fn request_of<'a>(alloc: Global, error: &Error) -> Request<'a>
-    ensures { IsRequest result }
+    ensures { IsNoTask result }
 {
     if error.kind() == ErrorKind::OutOfMemory {
         return Request::NoMemory;
@@ -37,9 +37,9 @@ fn request_of<'a>(alloc: Global, error: &Error) -> Request<'a>
     }
 }
 
-/// What the words ask for; the first of them is the program's name.
+/// What the words ask for; the first of them is the program's name. A task is that of the command that they name.
 pub fn read_request<'a>(alloc: Global, words: &'a [String]) -> Request<'a>
-    ensures { IsRequest result }
+    ensures { IsRequest (map string_bytes words.entry.now) result }
 {
     match read_words(alloc, words) {
         Ok(task) => Request::Do(task),
@@ -52,7 +52,8 @@ pub(crate) fn collect_words(
     alloc: Global,
     words: io::Result<Args>,
 ) -> Result<Vec<String>, Request<'static>>
-    ensures { IfErr result IsRequest }
+    ensures words { IfOk result (λ list. AreGiven words (map string_bytes list.items)) }
+    ensures none { IfErr result IsNoTask }
 {
     match words {
         Ok(words) => match words.collect(alloc) {

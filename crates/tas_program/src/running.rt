@@ -159,7 +159,7 @@ pub fn run_program<T: Wait + Threads + Sync, F: Folder, R: Read, W: Write, E: Wr
     output: &mut W,
     errors: &mut E,
 ) -> Status
-    ensures { ProgramEnds Global (F.bytes_of folder.now)
+    ensures { ProgramEnds Global words (F.bytes_of folder.now)
         (record { input = R.remaining input.old; output = W.contents output.old })
         (record { input = R.remaining input.new; output = W.contents output.new }) result }
 {
