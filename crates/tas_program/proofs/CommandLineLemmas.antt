@@ -1,5 +1,5 @@
 -- What clap says of the command line.
-use Rattle.std.proofs.Common.{◌≡◌, List, [], ◌∷◌, ◌++◌, Bool, true, false, Option, Some, None, codes, map, refl, sym, ap, ap₂, ◌∙◌, option_map}
+use Rattle.std.proofs.Common.{◌≡◌, List, [], ◌∷◌, ◌++◌, Bool, true, false, Option, Some, None, codes, map, refl, sym, subst, ap, ap₂, ◌∙◌, option_map}
 use Rattle.std.specs.Prelude.{Box, IfSome, drop, find}
 use Rattle.std.proofs.lemmas.Slice.Eq.{bytes_eq-Decides}
 use Rattle.std.specs.Str.{bytes_eq}
@@ -8,17 +8,23 @@ use Rattle.std.specs.Box.{box_value}
 use Rattle.clap.specs.Built.{AddsArg, AddsSubcommand}
 use Rattle.clap.specs.Matches.{subcommand_name_of}
 use Rattle.clap.specs.Simple.{App, Shape, HasMatchesOf, app_of, app_of_fields, new_app, with_rule, with_subcommand, label_of, on_top, rows_at, entered, built, names_of, is_simple, subcommand_of, subcommand_rows, subcommand_rows_of}
-use Rattle.clap.specs.Walk.{Row, Rule, Text, answers_to, rule_of, stop_after}
+use Rattle.clap.specs.Walk.{Row, Rule, Text, answers_to, rows_of, rule_of, stop_after}
 use Rattle.clap.specs.declared.builder.arg.Arg.{Arg}
 use Rattle.clap.specs.declared.builder.command.Command.{Command}
 use Rattle.clap.specs.declared.builder.command.Command.TheViews.{out-Command}
-use Rattle.clap.specs.declared.builder.value_parser.ValueParser.{ValueParser}
 use Rattle.clap.specs.declared.parser.matches.ArgMatches.{ArgMatches}
 use Rattle.clap.specs.declared.parser.matches.ArgMatches.TheViews.{out-ArgMatches, out-SubCommand}
 use Rattle.clap.specs.declared.parser.matches.SubCommand.{SubCommand}
 use Rattle.clap.proofs.OnLiterals.{clap_on_literals}
 use Rattle.clap.proofs.SimpleLemmas.{label_first}
-use Rattle.tas_program.specs.CommandLine.{command_names, labels, own_flags, named_command, shape_with, HasRules, command_line}
+use Rattle.tas_program.specs.CommandLine.{command_names, labels, own_flags, named_command, shape_with, HasRules, IsAsked, command_line}
+use Rattle.tas_program.specs.Task.{HasWords, HasWordsOf, IsNumber, command_name}
+use Rattle.tas_program.specs.declared.task.Task.{Task}
+use Rattle.std.specs.Prelude.{Result, Ok, ℕ}
+use Rattle.std.specs.Str.Parse.{digits_value, without_leading_plus}
+use Rattle.clap.specs.Matches.{ReadsOne, one_text}
+use Rattle.clap.specs.declared.parser.matches.Found.{Found}
+use Rattle.clap.proofs.WalkLemmas.{one_text-rows}
 
 -- ---- the commands
 
@@ -91,15 +97,15 @@ entered_by app (Some p) name is e =
     ∙ e in
     same_name p.0 name (find (answers_to p.0) (labels command_names)) (only_name p.0 command_names) labelled
 
-is_simple_line : (instructions frame from to workers : Option ValueParser) → is_simple (command_line instructions frame from to workers) ≡ true
+is_simple_line : is_simple command_line ≡ true
 unfolding clap_on_literals
-is_simple_line instructions frame from to workers = refl
+is_simple_line = refl
 
-has_flags : (instructions frame from to workers : Option ValueParser) → (built (command_line instructions frame from to workers)).top.rules ≡ own_flags
-has_flags instructions frame from to workers = refl
+has_flags : (built command_line).top.rules ≡ own_flags
+has_flags = refl
 
-has_names : (instructions frame from to workers : Option ValueParser) → names_of (built (command_line instructions frame from to workers)) ≡ labels command_names
-has_names instructions frame from to workers = refl
+has_names : names_of (built command_line) ≡ labels command_names
+has_names = refl
 
 name_in_rows : {Z : Type 0} (o : Option (Box SubCommand Z)) → option_map (λ b. (out-SubCommand (box_value b)).name.now) o ≡ option_map (λ (p : Text × List Row). p.0) (subcommand_rows o)
 name_in_rows None = refl
@@ -108,11 +114,31 @@ name_in_rows (Some s) = refl
 met_name : (m : ArgMatches) → subcommand_name_of m ≡ option_map (λ (p : Text × List Row). p.0) (subcommand_rows_of m)
 met_name m = name_in_rows (out-ArgMatches m).subcommand
 
--- the command that a parse met is the one that the words name
-pub met_named : (line : Command) (words : List Text) (m : ArgMatches) (name : Text) (instructions frame from to workers : Option ValueParser) → app_of line ≡ command_line instructions frame from to workers
-    → HasMatchesOf (app_of line) words m → subcommand_name_of m ≡ Some name → named_command words ≡ Some name
-met_named line words m name instructions frame from to workers is matches met =
-    let app : App = command_line instructions frame from to workers in
-    let rows : subcommand_rows_of m ≡ subcommand_of app words = (matches (ap is_simple is ∙ is_simple_line instructions frame from to workers)).1 ∙ ap (λ (a : App). subcommand_of a words) is in
-    entered_by (built app) (stop_after own_flags (labels command_names) (drop 1 words)) name (has_names instructions frame from to workers)
-    (ap (option_map (λ (p : Text × List Row). p.0)) (sym rows) ∙ sym (met_name m) ∙ met)
+-- the command that a parse met, with its words, is the one that the words reach
+pub met_asked : (line : Command) (words : List Text) (m : ArgMatches) (task : Task) → app_of line ≡ command_line → HasMatchesOf (app_of line) words m → HasWordsOf (subcommand_rows_of m) task → IsAsked words task
+met_asked line words m task is matches met =
+    let rows : subcommand_rows_of m ≡ subcommand_of command_line words = (matches (ap is_simple is ∙ is_simple_line)).1 ∙ ap (λ (a : App). subcommand_of a words) is in
+    subst (λ (reached : Option (Text × List Row)). HasWordsOf reached task) rows met
+
+name_reached : (reached : Option (Text × List Row)) (task : Task) → HasWordsOf reached task → option_map (λ (p : Text × List Row). p.0) reached ≡ Some (command_name task)
+name_reached None chosen has = absurd has
+name_reached (Some p) chosen has = ap Some has.0
+
+-- and it is the one that they name
+pub asked_named : (words : List Text) (task : Task) → IsAsked words task → named_command words ≡ Some (command_name task)
+asked_named words task asked =
+    let app : App = command_line in
+    entered_by (built app) (stop_after own_flags (labels command_names) (drop 1 words)) (command_name task) has_names (name_reached (subcommand_of app words) task asked)
+
+-- ---- the words of a command
+
+-- a number that was read
+pub number_read : {E : Type 0} (G : List ℕ → Result ℕ E → Type 0) (f : Found) (name : Text) (r : Option ℕ) (n : ℕ) → (one_text f name ≡ None → r ≡ None) → ((t : Text) → one_text f name ≡ Some t → ReadsOne G t r)
+    → ((t : Text) (v : ℕ) → G t (Ok v) → v ≡ digits_value 10 (without_leading_plus t)) → r ≡ Some n → IsNumber (rows_of f) name n
+number_read G f name r n none some value is = go (one_text f name) refl
+  where
+    go : (o : Option Text) → one_text f name ≡ o → IsNumber (rows_of f) name n
+    go None e =
+        let bad : Some n ≡ None = sym is ∙ none e in
+        cc
+    go (Some t) e = (t, sym (one_text-rows f name) ∙ e, value t n (subst (λ (x : Option ℕ). ReadsOne G t x) is (some t e)))

@@ -1,11 +1,15 @@
 -- The command line, as clap's definitions see it (own).
-use Rattle.std.specs.Prelude.{◌≡◌, List, [], ◌∷◌, Option, Some, None, true, false, codes, drop, map, option_map}
-use Rattle.clap.specs.Simple.{App, Shape, app_of, filled_from, help_rule, version_rule, new_rule, new_shape}
+use Rattle.std.specs.Prelude.{◌≡◌, ℕ, pos, List, [], ◌∷◌, Option, Some, None, true, false, codes, drop, map, option_map}
+use Rattle.std.specs.Int.{int_max, int_min}
+use Rattle.clap.specs.Values.{signed_between}
+use Rattle.clap.specs.Simple.{App, Shape, app_of, filled_from, help_rule, version_rule, new_rule, new_shape, subcommand_of}
 use Rattle.clap.specs.Walk.{Names, Rule, Text, stop_after}
 use Rattle.clap.specs.declared.builder.action.ArgAction.TheVariants.{Set}
 use Rattle.clap.specs.declared.builder.command.Command.{Command}
 use Rattle.clap.specs.declared.builder.command.Command.TheViews.{out-Command}
 use Rattle.clap.specs.declared.builder.value_parser.ValueParser.{ValueParser}
+use Rattle.tas_program.specs.declared.task.Task.{Task}
+use Rattle.tas_program.specs.Task.{HasWordsOf}
 
 -- ---- which command some words name
 
@@ -34,6 +38,14 @@ word_rule name parser = record (new_rule name) {
   required = true;
 }
 
+-- the numbers of 32 bits from the least to the most
+abbrev pub numbers : ℕ → ℕ → ValueParser
+numbers least most = signed_between (int_max (pos 0) (pos least)) (int_min (pos 4294967295) (pos most))
+
+-- a required word that is a number in a range
+abbrev pub number_rule : Text → ℕ → ℕ → Rule
+number_rule name least most = word_rule name (Some (numbers least most))
+
 -- a word that may stand there
 abbrev pub may_word_rule : Text → Rule
 may_word_rule name = record (new_rule name) { action = Some Set }
@@ -55,9 +67,9 @@ pub record HasRules (name : Text) (rules : List Rule) (command : Command) : Type
   pub local : (out-Command command).has_globals ≡ false
   pub app : app_of command ≡ record { top = shape_with name rules; subs = [] }
 
--- the program's command line, with the readers of its numbers
-abbrev pub command_line : (instructions frame from to workers : Option ValueParser) → App
-command_line instructions frame from to workers = record {
+-- the program's command line
+abbrev pub command_line : App
+command_line = record {
   top = record (new_shape (codes "tas")) {
     is_leaf = false;
     disable_help_subcommand = true;
@@ -65,17 +77,21 @@ command_line instructions frame from to workers = record {
     subcommand_required = true;
   };
   subs =
-      shape_with (codes "trace") (word_rule (codes "N") instructions ∷ [])
+      shape_with (codes "trace") (number_rule (codes "N") 0 1000000 ∷ [])
       ∷ shape_with (codes "check") (word_rule (codes "CART") None ∷ [])
       ∷ shape_with (codes "migrate") (word_rule (codes "CART") None ∷ [])
-      ∷ shape_with (codes "shot") (word_rule (codes "CART") None ∷ word_rule (codes "K") frame ∷ [])
+      ∷ shape_with (codes "shot") (word_rule (codes "CART") None ∷ number_rule (codes "K") 0 9999999 ∷ [])
       ∷ shape_with (codes "edit") (word_rule (codes "CART") None ∷ word_rule (codes "SCRIPT") None ∷ [])
       ∷ shape_with (codes "diff") (word_rule (codes "CART") None ∷ word_rule (codes "OLD") None ∷ [])
       ∷ shape_with (codes "script") (flag_rule (codes "CART") (codes "cart") ∷ flag_rule (codes "MOVIE") (codes "movie") ∷ [])
       ∷ shape_with (codes "talk") (may_word_rule (codes "CART") ∷ may_word_rule (codes "MOVIE") ∷ [])
-      ∷ shape_with (codes "export") (word_rule (codes "CART") None ∷ word_rule (codes "FROM") from ∷ word_rule (codes "TO") to ∷ word_rule (codes "WORKERS") workers ∷ [])
+      ∷ shape_with (codes "export") (word_rule (codes "CART") None ∷ number_rule (codes "FROM") 0 9999999 ∷ number_rule (codes "TO") 0 9999999 ∷ number_rule (codes "WORKERS") 1 16 ∷ [])
       ∷ [];
 }
 
 abbrev pub IsCommandLine : Command → Type 0
-IsCommandLine command = (instructions frame from to workers : Option ValueParser) × (app_of command ≡ command_line instructions frame from to workers)
+IsCommandLine command = app_of command ≡ command_line
+
+-- the words reach the command of a task, whose own words are among those behind it
+abbrev pub IsAsked : List Text → Task → Type 0
+IsAsked words chosen = HasWordsOf (subcommand_of command_line words) chosen

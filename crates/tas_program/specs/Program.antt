@@ -24,7 +24,7 @@ use Rattle.tas_program.specs.declared.status.Status.TheVariants.{Done, Fault, Mi
 use Rattle.tas_program.specs.declared.task.Task.{Task}
 use Rattle.tas_program.specs.declared.task.Task.TheVariants.{Trace, Check, Migrate, Shot, Edit, Diff, Script, MovieScript, Talk, CartTalk, MovieTalk, Export}
 use Rattle.clap.specs.Walk.{Text}
-use Rattle.tas_program.specs.CommandLine.{named_command}
+use Rattle.tas_program.specs.CommandLine.{named_command, IsAsked}
 use Rattle.tas_program.specs.Task.{IsInRange, command_name}
 
 -- the number that the system is told
@@ -95,10 +95,10 @@ CarriesOut A files (Show text) old new status = (new.input ≡ old.input) × Tex
 CarriesOut A files (Refuse text) old new status = (status ≡ Misuse) × (new ≡ old)
 CarriesOut A files NoMemory old new status = (status ≡ Fault) × (new ≡ old)
 
--- what these words may ask for, the first of which is the program's name: the task of the command that they name, its numbers in
--- their ranges; or a text, or nothing that is understood, or memory was refused
+-- what these words may ask for, the first of which is the program's name: the task of the command that they name, with its files and
+-- numbers, these in their ranges; or a text, or nothing that is understood, or memory was refused
 abbrev pub IsRequest : List Text → Request → Type 0
-IsRequest words (Do chosen) = (named_command words ≡ Some (command_name chosen)) × IsInRange chosen
+IsRequest words (Do chosen) = (named_command words ≡ Some (command_name chosen)) × IsAsked words chosen × IsInRange chosen
 IsRequest words _ = Unit {0}
 
 -- a request that is no task

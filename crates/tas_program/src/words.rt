@@ -1,11 +1,9 @@
 //! The words of the command line.
 
-ghost use Rattle.std.specs.Prelude.{◌≡◌, ◌≤◌, ◌∷◌, [], Option, IfOk, IfSome, None, Some, false, codes, map, string_bytes};
-ghost use Rattle.clap.specs.Words.{rule_of};
-ghost use Rattle.clap.specs.Matches.{subcommand_name_of};
-ghost use Rattle.clap.specs.declared.builder.value_parser.ValueParser.{ValueParser as Parser};
-ghost use Rattle.tas_program.specs.Task.{IsInRange, command_name};
-ghost use Rattle.tas_program.specs.CommandLine.{flag_rule, may_word_rule, word_rule, named_command, HasRules, IsCommandLine};
+ghost use Rattle.std.specs.Prelude.{◌≡◌, ◌≤◌, ◌∷◌, [], IfOk, IfSome, None, Some, false, codes, map, option_map, string_bytes};
+ghost use Rattle.clap.specs.Words.{first_of, found_of, rows_of, rule_of, subcommand_rows_of};
+ghost use Rattle.tas_program.specs.Task.{HasWords, HasWordsOf, IsInRange, IsNumber, command_name};
+ghost use Rattle.tas_program.specs.CommandLine.{flag_rule, may_word_rule, number_rule, word_rule, named_command, HasRules, IsAsked, IsCommandLine};
 
 use crate::{MAX_FRAME, MAX_INSTRUCTIONS, MAX_WORKERS, Task};
 use clap::error::ErrorKind;
@@ -18,7 +16,7 @@ static VERSION: &str = "0.1.0, machine profile 2";
 /// A required word that is a number in a range.
 fn number<'a>(alloc: Global, name: &'a str, help: &'a str, least: u32, most: u32) -> Arg<'a>
     ensures local { result.global ≡ false }
-    ensures rule { rule_of result ≡ word_rule name.now result.value_parser }
+    ensures rule { rule_of result ≡ number_rule name.now least most }
 {
     Arg::new(alloc, name)
         .required(true)
@@ -143,7 +141,7 @@ Status: 0 done, 1 a fault (one line on standard error), 2 words that aren't unde
 
 /// `tas trace`.
 fn trace_command<'a>(alloc: Global) -> Result<Command<'a>, AllocError>
-    ensures { IfOk result (λ c. (parser : Option Parser) × HasRules (codes "trace") (word_rule (codes "N") parser ∷ []) c) }
+    ensures { IfOk result (λ c. HasRules (codes "trace") (number_rule (codes "N") 0 1000000 ∷ []) c) }
 {
     Command::new(alloc, "trace")
         .about("Writes the first instructions of a cartridge, a line for each")
@@ -179,7 +177,7 @@ fn migrate_command<'a>(alloc: Global) -> Result<Command<'a>, AllocError>
 
 /// `tas shot`.
 fn shot_command<'a>(alloc: Global) -> Result<Command<'a>, AllocError>
-    ensures { IfOk result (λ c. (parser : Option Parser) × HasRules (codes "shot") (word_rule (codes "CART") None ∷ word_rule (codes "K") parser ∷ []) c) }
+    ensures { IfOk result (λ c. HasRules (codes "shot") (word_rule (codes "CART") None ∷ number_rule (codes "K") 0 9999999 ∷ []) c) }
 {
     Command::new(alloc, "shot")
         .about("Writes the picture of one frame of a movie")
@@ -290,7 +288,7 @@ fn talk_command<'a>(alloc: Global) -> Result<Command<'a>, AllocError>
 
 /// `tas export`.
 fn export_command<'a>(alloc: Global) -> Result<Command<'a>, AllocError>
-    ensures { IfOk result (λ c. (from to workers : Option Parser) × HasRules (codes "export") (word_rule (codes "CART") None ∷ word_rule (codes "FROM") from ∷ word_rule (codes "TO") to ∷ word_rule (codes "WORKERS") workers ∷ []) c) }
+    ensures { IfOk result (λ c. HasRules (codes "export") (word_rule (codes "CART") None ∷ number_rule (codes "FROM") 0 9999999 ∷ number_rule (codes "TO") 0 9999999 ∷ number_rule (codes "WORKERS") 1 16 ∷ []) c) }
 {
     Command::new(alloc, "export")
         .about("Writes the pictures of some frames of a movie, one after the other")
@@ -339,6 +337,7 @@ fn command<'a>(alloc: Global) -> Result<Command<'a>, AllocError>
 fn number_of(matches: &ArgMatches<'_>, name: &str, least: u32, most: u32) -> Option<u32>
     ensures least { IfSome result (λ n. least ≤ n) }
     ensures most { IfSome result (λ n. n ≤ most) }
+    ensures number { IfSome result (IsNumber (rows_of (found_of matches.now)) name.now) }
 {
     let n = matches.get_one::<u32>(name)?;
     if least <= n && n <= most {
@@ -348,12 +347,20 @@ fn number_of(matches: &ArgMatches<'_>, name: &str, least: u32, most: u32) -> Opt
     }
 }
 
+/// The word of this name, where there is one.
+fn word_of<'a>(matches: &ArgMatches<'a>, name: &str) -> Option<&'a str>
+    ensures { option_map (λ word. word.now) result ≡ first_of name.now (rows_of (found_of matches.now)) }
+{
+    matches.get_str(name)
+}
+
 /// What the words of `tas script` ask for; `None` where they name one file.
 fn script_task<'a>(matches: &ArgMatches<'a>) -> Option<Task<'a>>
     ensures range { IfSome result IsInRange }
     ensures named { IfSome result (λ task. command_name task ≡ codes "script") }
+    ensures words { IfSome result (HasWords (rows_of (found_of matches.now))) }
 {
-    match (matches.get_str("CART"), matches.get_str("MOVIE")) {
+    match (word_of(matches, "CART"), word_of(matches, "MOVIE")) {
         (None, None) => Some(Task::Script),
         (Some(cart), Some(movie)) => Some(Task::MovieScript { cart, movie }),
         _ => None,
@@ -364,8 +371,9 @@ fn script_task<'a>(matches: &ArgMatches<'a>) -> Option<Task<'a>>
 fn talk_task<'a>(matches: &ArgMatches<'a>) -> Option<Task<'a>>
     ensures range { IfSome result IsInRange }
     ensures named { IfSome result (λ task. command_name task ≡ codes "talk") }
+    ensures words { IfSome result (HasWords (rows_of (found_of matches.now))) }
 {
-    match (matches.get_str("CART"), matches.get_str("MOVIE")) {
+    match (word_of(matches, "CART"), word_of(matches, "MOVIE")) {
         (None, None) => Some(Task::Talk),
         (Some(cart), None) => Some(Task::CartTalk { cart }),
         (Some(cart), Some(movie)) => Some(Task::MovieTalk { cart, movie }),
@@ -373,51 +381,61 @@ fn talk_task<'a>(matches: &ArgMatches<'a>) -> Option<Task<'a>>
     }
 }
 
-/// What matched words ask for; `None` where they are no command of this program.
-fn task_of<'a>(matches: &ArgMatches<'a>) -> Option<Task<'a>>
+/// What the command of this name asks for with its words; `None` where it is no command of this program.
+fn command_task<'a>(name: &str, words: &ArgMatches<'a>) -> Option<Task<'a>>
     ensures range { IfSome result IsInRange }
-    ensures named { IfSome result (λ task. subcommand_name_of matches.now ≡ Some (command_name task)) }
+    ensures named { IfSome result (λ task. name.now ≡ command_name task) }
+    ensures words { IfSome result (HasWords (rows_of (found_of words.now))) }
 {
-    let (name, rest) = matches.subcommand()?;
     match name {
         "trace" => Some(Task::Trace {
-            instructions: number_of(rest, "N", 0, MAX_INSTRUCTIONS)?,
+            instructions: number_of(words, "N", 0, MAX_INSTRUCTIONS)?,
         }),
         "check" => Some(Task::Check {
-            cart: rest.get_str("CART")?,
+            cart: word_of(words, "CART")?,
         }),
         "migrate" => Some(Task::Migrate {
-            cart: rest.get_str("CART")?,
+            cart: word_of(words, "CART")?,
         }),
         "shot" => Some(Task::Shot {
-            cart: rest.get_str("CART")?,
-            frame: number_of(rest, "K", 0, MAX_FRAME)?,
+            cart: word_of(words, "CART")?,
+            frame: number_of(words, "K", 0, MAX_FRAME)?,
         }),
         "edit" => Some(Task::Edit {
-            cart: rest.get_str("CART")?,
-            script: rest.get_str("SCRIPT")?,
+            cart: word_of(words, "CART")?,
+            script: word_of(words, "SCRIPT")?,
         }),
         "diff" => Some(Task::Diff {
-            cart: rest.get_str("CART")?,
-            old: rest.get_str("OLD")?,
+            cart: word_of(words, "CART")?,
+            old: word_of(words, "OLD")?,
         }),
-        "script" => script_task(rest),
-        "talk" => talk_task(rest),
+        "script" => script_task(words),
+        "talk" => talk_task(words),
         "export" => Some(Task::Export {
-            cart: rest.get_str("CART")?,
-            from: number_of(rest, "FROM", 0, MAX_FRAME)?,
-            to: number_of(rest, "TO", 0, MAX_FRAME)?,
-            workers: number_of(rest, "WORKERS", 1, MAX_WORKERS)?,
+            cart: word_of(words, "CART")?,
+            from: number_of(words, "FROM", 0, MAX_FRAME)?,
+            to: number_of(words, "TO", 0, MAX_FRAME)?,
+            workers: number_of(words, "WORKERS", 1, MAX_WORKERS)?,
         }),
         _ => None,
     }
 }
 
-/// What the words ask for; the first of them is the program's name. The task is that of the command that they name. An error is
-/// clap's: a text that was asked for, or words that aren't understood, or no memory.
+/// What matched words ask for; `None` where they are no command of this program.
+fn task_of<'a>(matches: &ArgMatches<'a>) -> Option<Task<'a>>
+    ensures range { IfSome result IsInRange }
+    ensures words { IfSome result (HasWordsOf (subcommand_rows_of matches.now)) }
+{
+    let (name, words) = matches.subcommand()?;
+    command_task(name, words)
+}
+
+/// What the words ask for; the first of them is the program's name. The task is that of the command that they name, with its files and
+/// numbers. An error is clap's: a text that was asked for, or words that aren't understood, or no memory.
 pub fn read_words<'a>(alloc: Global, words: &'a [String]) -> Result<Task<'a>, Error>
     ensures range { IfOk result IsInRange }
     ensures named { IfOk result (λ task. named_command (map string_bytes words.entry.now) ≡ Some (command_name task)) }
+    ensures asked { IfOk result (IsAsked (map string_bytes words.entry.now)) }
 {
     let mut command = command(alloc)?;
     let matches = command.try_get_matches_from_mut(words)?;
