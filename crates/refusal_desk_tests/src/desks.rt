@@ -11,7 +11,7 @@ use std::alloc::{AllocError, Global};
 use std::marker::Brand;
 use std::sync::Wait;
 use std::test::Fail;
-use tas_desk::{Desk, Gate, Name, OpenError, Seat, Unopened};
+use tas_desk::{Closed, Desk, Gate, Name, OpenError, Seat, Unopened};
 
 /// A gate that nobody waits at.
 #[derive(Drop)]
@@ -31,6 +31,35 @@ const BEFORE: [Change; 4] = [
 
 /// Two edits, which make 200 frames of the playfield.
 const PLAYFIELD_OF_200: [Change; 2] = [Change::LoadPlayfield, Change::Insert(0, 200)];
+
+/// Opens a desk over a heap that has the memory for it.
+pub fn open<'r, 'a, N: Name, R: Wait>(
+    rt: &'r R,
+    heap: &'a Heap,
+    unopened: Unopened<&'a Heap>,
+) -> Result<(Desk<N, &'r R, &'a Heap>, Vec<Seat<N, &'a Heap>, &'a Heap>), Fail>
+    requires name { unopened ≡ name_of N.registry N.name N.seats }
+    requires named { N.parts ≡ N.seats }
+{
+    match Desk::<N, &R, &'a Heap>::open(rt, heap, unopened) {
+        Ok(opened) => Ok(opened),
+        Err(_) => Err("a desk that opens".into()),
+    }
+}
+
+/// Closes a desk all of whose seats are back.
+pub fn close<'a, N: Name, R: Wait>(
+    rt: &R,
+    desk: Desk<N, &R, &'a Heap>,
+    seats: Vec<Seat<N, &'a Heap>, &'a Heap>,
+) -> Result<Closed<&'a Heap>, Fail>
+    requires { N.parts ≡ N.seats }
+{
+    if !desk.whole(seats.as_slice()) {
+        return Err("all seats come back".into());
+    }
+    Ok(desk.close(rt, seats))
+}
 
 /// The seat makes these edits.
 pub fn make_edits<'a, N: Name, R: Wait>(
@@ -75,9 +104,7 @@ fn run_at<'a, N: Name, R: Wait>(
     requires named { N.parts ≡ N.seats }
     requires number { 1 ≤ number }
 {
-    let (desk, mut seats) = Desk::<N, &R, &'a Heap>::open(rt, heap, unopened).map_err(
-        |_| AllocError,
-    )?;
+    let (desk, mut seats) = open::<N, R>(rt, heap, unopened)?;
     if seats.len() != 2 {
         return Err("two seats".into());
     }
@@ -91,10 +118,7 @@ fn run_at<'a, N: Name, R: Wait>(
         set_up(rt, heap, &desk, one)?;
     }
     let run = take_call(rt, alloc, heap, &desk, (one, other), call, number)?;
-    if !desk.whole(seats.as_slice()) {
-        return Err("all seats come back".into());
-    }
-    let closed = desk.close(rt, seats);
+    let closed = close(rt, desk, seats)?;
     if history(alloc, closed.journal.as_slice())?.as_str() != history_after(call) {
         return Ok(Run::Wrong);
     }

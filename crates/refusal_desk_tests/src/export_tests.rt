@@ -5,7 +5,7 @@ ghost use Rattle.std.specs.Prelude.{◌≡◌, ◌≤◌};
 ghost use Rattle.tas_desk.specs.Seats.{name_of};
 
 use crate::checks::check_same;
-use crate::desks::{OpenGate, make_edits};
+use crate::desks::{OpenGate, close, make_edits, open};
 use crate::edits::{Change, edit_of, history};
 use crate::runs::{Heap, MOST, NEVER, Run};
 use refusals::Refusing;
@@ -239,9 +239,7 @@ fn export_at<'a, N: Name, R: Threads + Wait + Sync>(
     requires workers { (1 ≤ workers) × (workers ≤ 16) }
     requires number { 1 ≤ number }
 {
-    let (desk, mut seats) = Desk::<N, &R, &'a Heap>::open(rt, heap, unopened).map_err(
-        |_| AllocError,
-    )?;
+    let (desk, mut seats) = open::<N, R>(rt, heap, unopened)?;
     let (one, rest) = seats.split_first_mut().ok_or("a seat")?;
     let other = rest.first_mut().ok_or("two seats")?;
     make_edits(rt, heap, &desk, one, &FIRST)?;
@@ -252,10 +250,7 @@ fn export_at<'a, N: Name, R: Threads + Wait + Sync>(
         make_edits(rt, heap, &desk, other, &BEHIND)?;
     }
     let run = try_export(rt, alloc, heap, &desk, one, zone, workers, wanted, number)?;
-    if !desk.whole(seats.as_slice()) {
-        return Err("all seats come back".into());
-    }
-    let closed = desk.close(rt, seats);
+    let closed = close(rt, desk, seats)?;
     if history(alloc, closed.journal.as_slice())?.as_str() != history_of(zone) {
         return Ok(Run::Wrong);
     }

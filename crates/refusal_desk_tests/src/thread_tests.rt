@@ -5,7 +5,7 @@ ghost use Rattle.std.specs.Prelude.{◌≡◌, ◌≤◌};
 ghost use Rattle.tas_desk.specs.Seats.{name_of};
 
 use crate::checks::{check_same, check_that};
-use crate::desks::make_edits;
+use crate::desks::{close, make_edits, open};
 use crate::edits::{Change, edit_of};
 use crate::players::{FIRST_AT, FIRST_LEN, FRAME, Player, TURNS, sum_of};
 use crate::runs::{Heap, MOST, NEVER, Run};
@@ -187,9 +187,7 @@ fn run_at<'a, N: Name + Send + Sync, R: Threads + Wait + Sync>(
     requires named { N.parts ≡ N.seats }
     requires number { 1 ≤ number }
 {
-    let (desk, mut seats) = Desk::<N, &R, &'a Heap>::open(rt, heap, unopened).map_err(
-        |_| AllocError,
-    )?;
+    let (desk, mut seats) = open::<N, R>(rt, heap, unopened)?;
     let first = seats.first_mut().ok_or("a seat")?;
     make_edits(rt, heap, &desk, first, &FIRST)?;
     let mut players = players(alloc, heap, seats)?;
@@ -201,10 +199,7 @@ fn run_at<'a, N: Name + Send + Sync, R: Threads + Wait + Sync>(
         let Player { seat, .. } = player;
         seats.push(seat)?;
     }
-    if !desk.whole(seats.as_slice()) {
-        return Err("all seats come back".into());
-    }
-    let closed = desk.close(rt, seats);
+    let closed = close(rt, desk, seats)?;
     Ok(if is_complete(&closed) {
         run
     } else {
