@@ -54,6 +54,29 @@ fn said(line: &[u8], has_runs: bool) -> Option<(&[u8], usize)> {
     Some((frame, count))
 }
 
+/// How many frames there are with one more line of frames, and the frame that it says.
+fn with_line<'a>(
+    frames: usize,
+    before: &[u8],
+    line: &'a [u8],
+    has_runs: bool,
+) -> Result<(usize, &'a [u8]), TextErrorKind> {
+    if frames >= MOST {
+        return Err(TextErrorKind::TooMany);
+    }
+    let Some((frame, count)) = said(line, has_runs) else {
+        return Err(TextErrorKind::Frame);
+    };
+    if has_runs && frame == before {
+        return Err(TextErrorKind::Run);
+    }
+    let more = frames.wrapping_add(count);
+    if more > MOST {
+        return Err(TextErrorKind::TooMany);
+    }
+    Ok((more, frame))
+}
+
 fn fault(line: usize, kind: TextErrorKind) -> Result<usize, TextError> {
     Err(TextError { line, kind })
 }
@@ -86,20 +109,13 @@ pub fn read_plainly(text: &[u8], second: &[u8]) -> Result<usize, TextError> {
             }
             continue;
         }
-        if frames >= MOST {
-            return fault(number, TextErrorKind::TooMany);
+        match with_line(frames, before, line, has_runs) {
+            Ok((more, frame)) => {
+                frames = more;
+                before = frame;
+            }
+            Err(kind) => return fault(number, kind),
         }
-        let Some((frame, count)) = said(line, has_runs) else {
-            return fault(number, TextErrorKind::Frame);
-        };
-        if has_runs && frame == before {
-            return fault(number, TextErrorKind::Run);
-        }
-        frames = frames.wrapping_add(count);
-        if frames > MOST {
-            return fault(number, TextErrorKind::TooMany);
-        }
-        before = frame;
     }
     fault(20, TextErrorKind::TooMany)
 }
