@@ -1,5 +1,5 @@
 -- Runs: instructions one after the other, on a bus that does something by itself after each of them and says then whether the run is over.
-use Rattle.std.specs.Prelude.{◌≡◌, ◌≤◌, ℕ, zero, suc, Bool, List, Option, Some, None, Result, Ok, Err, if◌then◌else◌}
+use Rattle.std.specs.Prelude.{◌≡◌, ◌≤◌, ℕ, zero, suc, Bool, false, List, Option, Some, None, Result, Ok, Err, if◌then◌else◌}
 use Rattle.vcs_cpu.specs.declared.regs.Regs.{Regs}
 use Rattle.vcs_cpu.specs.declared.halt.Halt.{Halt}
 use Rattle.vcs_cpu.specs.Device.{Device, after_loads, after_writes}
@@ -55,3 +55,9 @@ pub record IsAfterInstruction {Bus Content : Type 0} (d : Device Content) (conte
 pub record LeadsTo {Bus Content : Type 0} (d : Device Content) (content_of : Bus → Content) (Settles : Bus → Bus → Bool → Type 0) (regs : Regs) (content : Content) (over : Bool) (regs' : Regs) (content' : Content) : Type 0 where
   pub runs : (s : Settling Content) (n : ℕ) → SettlesBy content_of Settles s
       → run_within d s (suc n) regs content ≡ (if over then Some (record { regs = regs'; content = content'; halt = None }) else run_within d s n regs' content')
+
+-- where an instruction and what the bus does after it led: they lead there, the run may go on there unless it is over, and the bus holds what it held
+pub record IsLedTo {Bus Content Held : Type 0} (d : Device Content) (content_of : Bus → Content) (Settles : Bus → Bus → Bool → Type 0) (Ready : Bus → Type 0) (held : Bus → Held) (regs : Regs) (bus : Bus) (over : Bool) (regs' : Regs) (bus' : Bus) : Type 0 where
+  pub leads : LeadsTo d content_of Settles regs (content_of bus) over regs' (content_of bus')
+  pub ready : over ≡ false → Ready bus'
+  pub fixed : held bus' ≡ held bus

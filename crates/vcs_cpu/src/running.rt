@@ -1,9 +1,9 @@
 //! Runs: instructions one after the other.
 #![tactic(auto)]
 
-ghost use Rattle.std.specs.Prelude.{◌≡◌, IfSome, true, false, Some, None};
+ghost use Rattle.std.specs.Prelude.{◌≡◌, IfSome, IfNone, Some, None};
 ghost use Rattle.vcs_cpu.specs.Rows.{instruction_of};
-ghost use Rattle.vcs_cpu.specs.Runs.{LeadsTo, RunEnd, Settling, SettlesBy, run_within};
+ghost use Rattle.vcs_cpu.specs.Runs.{IsLedTo, RunEnd, Settling, SettlesBy, run_within};
 
 use crate::addressing::Addressing;
 use crate::bus::Settle;
@@ -29,9 +29,7 @@ fn perform_and_settle<O: Operation, M: Addressing, B: Settle>(
     requires opcode { opcode ≡ B.device.byte_at (B.content bus.old) regs.old.pc }
     requires row { instruction_of opcode ≡ Some (O.op op, M.mode mode, cycles, crossing) }
     requires ready { B.Ready bus.old }
-    ensures leads { LeadsTo B.device B.content B.Settles regs.old (B.content bus.old) result regs.new (B.content bus.new) }
-    ensures ready { result ≡ false → B.Ready bus.new }
-    ensures fixed { B.fixed bus.new ≡ B.fixed bus.old }
+    ensures { IsLedTo B.device B.content B.Settles B.Ready B.fixed regs.old bus.old result regs.new bus.new }
 {
     perform(opcode, op, mode, cycles, crossing, regs, bus);
     bus.settle()
@@ -57,10 +55,8 @@ macro_rules! go_on {
 fn perform_any<B: Settle>(opcode: u8, regs: &mut Regs, bus: &mut B) -> Option<bool>
     requires opcode { opcode ≡ B.device.byte_at (B.content bus.old) regs.old.pc }
     requires ready { B.Ready bus.old }
-    ensures leads { IfSome result (λ over. LeadsTo B.device B.content B.Settles regs.old (B.content bus.old) over regs.new (B.content bus.new)) }
-    ensures ready { result ≡ Some false → B.Ready bus.new }
-    ensures none { result ≡ None → (instruction_of opcode ≡ None) × (regs.new ≡ regs.old) × (bus.new ≡ bus.old) }
-    ensures fixed { B.fixed bus.new ≡ B.fixed bus.old }
+    ensures led { IfSome result (λ over. IsLedTo B.device B.content B.Settles B.Ready B.fixed regs.old bus.old over regs.new bus.new) }
+    ensures none { IfNone result ((instruction_of opcode ≡ None) × (regs.new ≡ regs.old) × (bus.new ≡ bus.old)) }
 {
     let (op, mode, cycles, crossing) = instruction(opcode)?;
     Some(perform!(opcode, regs, bus: op, mode, cycles, crossing))
@@ -71,10 +67,8 @@ fn perform_any<B: Settle>(opcode: u8, regs: &mut Regs, bus: &mut B) -> Option<bo
 fn perform_rare<B: Settle>(opcode: u8, regs: &mut Regs, bus: &mut B) -> Option<bool>
     requires opcode { opcode ≡ B.device.byte_at (B.content bus.old) regs.old.pc }
     requires ready { B.Ready bus.old }
-    ensures leads { IfSome result (λ over. LeadsTo B.device B.content B.Settles regs.old (B.content bus.old) over regs.new (B.content bus.new)) }
-    ensures ready { result ≡ Some false → B.Ready bus.new }
-    ensures none { result ≡ None → (instruction_of opcode ≡ None) × (regs.new ≡ regs.old) × (bus.new ≡ bus.old) }
-    ensures fixed { B.fixed bus.new ≡ B.fixed bus.old }
+    ensures led { IfSome result (λ over. IsLedTo B.device B.content B.Settles B.Ready B.fixed regs.old bus.old over regs.new bus.new) }
+    ensures none { IfNone result ((instruction_of opcode ≡ None) × (regs.new ≡ regs.old) × (bus.new ≡ bus.old)) }
 {
     Some(match opcode {
         0x8a => perform!(opcode, regs, bus: Implied::Txa, mode::Implied, 2, false),
@@ -123,10 +117,8 @@ fn perform_rare<B: Settle>(opcode: u8, regs: &mut Regs, bus: &mut B) -> Option<b
 fn perform_uncommon<B: Settle>(opcode: u8, regs: &mut Regs, bus: &mut B) -> Option<bool>
     requires opcode { opcode ≡ B.device.byte_at (B.content bus.old) regs.old.pc }
     requires ready { B.Ready bus.old }
-    ensures leads { IfSome result (λ over. LeadsTo B.device B.content B.Settles regs.old (B.content bus.old) over regs.new (B.content bus.new)) }
-    ensures ready { result ≡ Some false → B.Ready bus.new }
-    ensures none { result ≡ None → (instruction_of opcode ≡ None) × (regs.new ≡ regs.old) × (bus.new ≡ bus.old) }
-    ensures fixed { B.fixed bus.new ≡ B.fixed bus.old }
+    ensures led { IfSome result (λ over. IsLedTo B.device B.content B.Settles B.Ready B.fixed regs.old bus.old over regs.new bus.new) }
+    ensures none { IfNone result ((instruction_of opcode ≡ None) × (regs.new ≡ regs.old) × (bus.new ≡ bus.old)) }
 {
     Some(match opcode {
         0x05 => perform!(opcode, regs, bus: Read::Ora, mode::ZeroPage, 3, false),
