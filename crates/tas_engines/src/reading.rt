@@ -68,14 +68,9 @@ pub fn read_two<A: Allocator + Copy, C: Read, R: Read>(
     ensures second { IfOk result (λ read. IsReadWhole (R.remaining second.old) (R.remaining second.new) read.1.items) }
     ensures fault { IfErr result (StopsReadingTwo (C.remaining first.old) (C.remaining first.new) (R.remaining second.old) (R.remaining second.new)) }
 {
-    let bytes = match read_input(alloc, first) {
-        Ok(bytes) => bytes,
-        Err(fault) => return Err(fault),
-    };
-    match read_input(alloc, second) {
-        Ok(more) => Ok((bytes, more)),
-        Err(fault) => Err(fault),
-    }
+    let bytes = read_input(alloc, first)?;
+    let more = read_input(alloc, second)?;
+    Ok((bytes, more))
 }
 
 /// The bytes of three inputs that were read whole.
@@ -103,16 +98,11 @@ pub fn read_three<A: Allocator + Copy, F: Read, S: Read, T: Read>(
     ensures fault { IfErr result (StopsReadingThree (F.remaining first.old) (F.remaining first.new)
         (S.remaining second.old) (S.remaining second.new) (T.remaining third.old) (T.remaining third.new)) }
 {
-    let front = match read_input(alloc, first) {
-        Ok(bytes) => bytes,
-        Err(fault) => return Err(fault),
-    };
-    match read_two(alloc, second, third) {
-        Ok((second, third)) => Ok(ThreeInputs {
-            first: front,
-            second,
-            third,
-        }),
-        Err(fault) => Err(fault),
-    }
+    let first = read_input(alloc, first)?;
+    let (second, third) = read_two(alloc, second, third)?;
+    Ok(ThreeInputs {
+        first,
+        second,
+        third,
+    })
 }
