@@ -1,5 +1,5 @@
 -- How engines end.
-use Rattle.std.proofs.Common.{◌≡◌, ◌+◌, ◌<◌, sym, ap, subst, length, ℕ, List, Option, Some, None, Result, Ok, Err, refl, inl, inr, OnOk, IfErr}
+use Rattle.std.proofs.Common.{◌≡◌, ◌+◌, ◌<◌, sym, ap, subst, length, ℕ, List, Option, Some, None, Result, Ok, Err, refl, inl, inr, OnOk, IfErr, MatchResult}
 use Rattle.std.specs.Io.KnownBytes.{Appends}
 use Rattle.std.proofs.KnownBytes.{Keeps-refl}
 use Rattle.vcs_cpu.specs.declared.halt.Halt.{Halt}
@@ -23,18 +23,18 @@ pub ends-written : (answers : Result (List ℕ) RunFault → Type 0) (old new : 
 ends-written answers old new bytes (Ok u) answer all stops = (bytes, answer, all)
 ends-written answers old new bytes (Err e) answer all stops = inr (record { bytes = bytes; answer = answer; stops = stops })
 
--- what a frame answers tells the halt
-pub halt-of_err : (o : Option Halt) (a : Result (Unit {0}) Halt) (h : Halt) → a ≡ answer_of o → a ≡ Err h → o ≡ Some h
-halt-of_err None a h e is = cc
-halt-of_err (Some h') a h e is = cc
+-- a frame's answer whose halt is told as a fault
+pub halt-of_told : (o : Option Halt) (a : Result (Unit {0}) Halt) (fault : RunFault) → a ≡ answer_of o → MatchResult a (λ u. Err fault ≡ Ok u) (λ h. fault ≡ halt_fault h) → (h : Halt) × (o ≡ Some h) × (fault ≡ halt_fault h)
+halt-of_told None a fault e tells = let same : Err fault ≡ Ok tt = subst (λ a. MatchResult a (λ u. Err fault ≡ Ok u) (λ h. fault ≡ halt_fault h)) e tells in absurd cc
+halt-of_told (Some h) a fault e tells = (h, refl, subst (λ a. MatchResult a (λ u. Err fault ≡ Ok u) (λ h. fault ≡ halt_fault h)) e tells)
 
-pub halt-of_ok : (o : Option Halt) (a : Result (Unit {0}) Halt) (u : Unit {0}) → a ≡ answer_of o → a ≡ Ok u → o ≡ None
-halt-of_ok None a u e is = refl
-halt-of_ok (Some h') a u e is = cc
+pub halt-of_ok : (o : Option Halt) (a : Result (Unit {0}) Halt) (Q : Unit {0} → Type 0) → a ≡ answer_of o → MatchResult a Q (λ h. ⊥) → o ≡ None
+halt-of_ok None a Q e tells = refl
+halt-of_ok (Some h) a Q e tells = absurd (subst (λ a. MatchResult a Q (λ h. ⊥)) e tells)
 
-pub fact-of_ok : (a : Result (Unit {0}) Halt) (u : Unit {0}) (P : Type 0) → OnOk a P → a ≡ Ok u → P
-fact-of_ok (Ok v) u P holds is = holds
-fact-of_ok (Err h) u P holds is = cc
+pub fact-of_ok : (a : Result (Unit {0}) Halt) (Q : Unit {0} → Type 0) (P : Type 0) → OnOk a P → MatchResult a Q (λ h. ⊥) → P
+fact-of_ok (Ok u) Q P holds tells = holds
+fact-of_ok (Err h) Q P holds tells = absurd tells
 
 -- a halt in frame k is told as a fault
 pub shot_fault-of_halt : (movie : MovieContent) (k : ℕ) (h : Halt) (fault : RunFault) → k < length movie.inputs → (state_after movie (k + 1)).halt ≡ Some h → fault ≡ halt_fault h → IsShotFault movie k fault

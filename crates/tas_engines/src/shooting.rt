@@ -45,10 +45,7 @@ fn shoot_movie<A: Allocator + Copy, W: Write>(
     let Ok(answer) = green.shot(&movie, k, &mut picture, &mut meter) else {
         return Err(RunFault::Memory);
     };
-    match answer {
-        Ok(()) => {}
-        Err(halt) => return Err(halt_fault(halt)),
-    }
+    answer.map_err(halt_fault)?;
     match ppm(&picture, output) {
         Ok(()) => Ok(()),
         Err(fault) => Err(RunFault::Write {
