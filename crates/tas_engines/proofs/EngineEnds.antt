@@ -13,7 +13,6 @@ use Rattle.tas_engines.specs.declared.fault.ToolFault.{ToolFault}
 use Rattle.tas_engines.specs.Faults.{unread_fault, told}
 use Rattle.tas_engines.specs.Input.{IsReadWhole}
 use Rattle.tas_engines.specs.Movies.{IsMovieRun}
-use Rattle.tas_engines.specs.Tracing.{IsTraceAnswer, IsTraceRun}
 use Rattle.tas_engines.specs.Output.{Ends, EndsAfter, StopsWriting}
 use Rattle.tas_engines.specs.ThreeInputs.{EndsAfterThree}
 
@@ -23,18 +22,27 @@ pub ends-written : (answers : Result (List ℕ) RunFault → Type 0) (old new : 
 ends-written answers old new bytes (Ok u) answer all stops = (bytes, answer, all)
 ends-written answers old new bytes (Err e) answer all stops = inr (record { bytes = bytes; answer = answer; stops = stops })
 
--- a frame's answer whose halt is told as a fault
-pub halt-of_told : (o : Option Halt) (a : Result (Unit {0}) Halt) (fault : RunFault) → a ≡ answer_of o → MatchResult a (λ u. Err fault ≡ Ok u) (λ h. fault ≡ halt_fault h) → (h : Halt) × (o ≡ Some h) × (fault ≡ halt_fault h)
-halt-of_told None a fault e tells = let same : Err fault ≡ Ok tt = subst (λ a. MatchResult a (λ u. Err fault ≡ Ok u) (λ h. fault ≡ halt_fault h)) e tells in absurd cc
-halt-of_told (Some h) a fault e tells = (h, refl, subst (λ a. MatchResult a (λ u. Err fault ≡ Ok u) (λ h. fault ≡ halt_fault h)) e tells)
+-- what a result was before `map_err`, by what its contract says of it
+pub err-of_mapped : {T E F : Type 0} (r : Result T E) (f : E → F) (error : F) → MatchResult r (λ x. Err error ≡ Ok x) (λ e. error ≡ f e) → (e : E) × (r ≡ Err e) × (error ≡ f e)
+err-of_mapped (Ok x) f error tells = cc
+err-of_mapped (Err e) f error tells = (e, refl, tells)
 
-pub halt-of_ok : (o : Option Halt) (a : Result (Unit {0}) Halt) (Q : Unit {0} → Type 0) → a ≡ answer_of o → MatchResult a Q (λ h. ⊥) → o ≡ None
-halt-of_ok None a Q e tells = refl
-halt-of_ok (Some h) a Q e tells = absurd (subst (λ a. MatchResult a Q (λ h. ⊥)) e tells)
+pub ok-of_mapped : {T E : Type 0} (r : Result T E) (P : T → Type 0) → MatchResult r P (λ e. ⊥) → (x : T) × (r ≡ Ok x)
+ok-of_mapped (Ok x) P tells = (x, refl)
+ok-of_mapped (Err e) P tells = absurd tells
 
-pub fact-of_ok : (a : Result (Unit {0}) Halt) (Q : Unit {0} → Type 0) (P : Type 0) → OnOk a P → MatchResult a Q (λ h. ⊥) → P
-fact-of_ok (Ok u) Q P holds tells = holds
-fact-of_ok (Err h) Q P holds tells = absurd tells
+-- what a frame answers tells the halt
+pub halt-of_err : (o : Option Halt) (a : Result (Unit {0}) Halt) (h : Halt) → a ≡ answer_of o → a ≡ Err h → o ≡ Some h
+halt-of_err None a h e is = cc
+halt-of_err (Some h') a h e is = cc
+
+pub halt-of_ok : (o : Option Halt) (a : Result (Unit {0}) Halt) (u : Unit {0}) → a ≡ answer_of o → a ≡ Ok u → o ≡ None
+halt-of_ok None a u e is = refl
+halt-of_ok (Some h') a u e is = cc
+
+pub fact-of_ok : (a : Result (Unit {0}) Halt) (u : Unit {0}) (P : Type 0) → OnOk a P → a ≡ Ok u → P
+fact-of_ok (Ok v) u P holds is = holds
+fact-of_ok (Err h) u P holds is = cc
 
 -- a halt in frame k is told as a fault
 pub shot_fault-of_halt : (movie : MovieContent) (k : ℕ) (h : Halt) (fault : RunFault) → k < length movie.inputs → (state_after movie (k + 1)).halt ≡ Some h → fault ≡ halt_fault h → IsShotFault movie k fault
@@ -45,11 +53,6 @@ shot_fault-of_halt movie k (Undocumented at opcode) fault within is told = subst
 -- reading stopped, and nothing was written
 pub unread : (stops : ReadFault → Type 0) (runs : Result (Unit {0}) RunFault → Type 0) (old : Option (List ℕ)) (fault : ReadFault) (e : ToolFault) → stops fault → e ≡ unread_fault fault → EndsAfter stops runs old old (Err e)
 unread stops runs old fault e stopped is = inl (fault, ap Err is, stopped, Keeps-refl old)
-
--- an engine ran on the image that it had read
-pub trace_ran : (n : ℕ) (input input' output output' : Option (List ℕ)) (read image : List ℕ) (end : Result (Unit {0}) RunFault) (result : Result (Unit {0}) ToolFault) → IsReadWhole input input' read → image ≡ read
-    → Ends (IsTraceAnswer image n) output output' end → result ≡ told end → IsTraceRun n input input' output output' result
-trace_ran n input input' output output' read image end result whole same ends is = inr (end, is, (image, subst (IsReadWhole input input') (sym same) whole, ends))
 
 -- an engine ran on the cartridge and the text that it had read
 pub movie_ran : (answers : List ℕ → List ℕ → Result (List ℕ) RunFault → Type 0) (cart cart' input input' output output' : Option (List ℕ)) (read image read' bytes : List ℕ) (end : Result (Unit {0}) RunFault)
