@@ -63,9 +63,7 @@ pub fn read_change(line: &[u8]) -> Option<Change>
     ensures some { IfSome result (IsChangeLine line.now) }
     ensures none { IfNone result ((change : Asked) → IsChangeLine line.now change → ⊥) }
 {
-    let Some(command) = parse_line(line) else {
-        return None;
-    };
+    let command = parse_line(line)?;
     // Called for its law: no other command has this line.
     one_command_per_line();
     change_of(command)

@@ -29,13 +29,9 @@ fn copies<A: Allocator>(alloc: A, input: Input, count: usize) -> Result<Inputs<A
 fn make<A: Allocator, B: Allocator>(movie: &mut Movie<A>, edit: &Edit<B>) -> Result<(), ChangeError>
     ensures { MakesEdit movie.old edit.now result movie.new }
 {
-    match check(movie, edit) {
-        Ok(()) => {
-            apply(movie, edit);
-            Ok(())
-        }
-        Err(refusal) => Err(ChangeError::Refused(refusal)),
-    }
+    check(movie, edit).map_err(ChangeError::Refused)?;
+    apply(movie, edit);
+    Ok(())
 }
 
 /// Makes a change on a movie, where it is allowed (own): `Refused` as `tas_movie::check` refuses the

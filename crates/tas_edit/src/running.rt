@@ -32,14 +32,8 @@ fn write_edited<A: Allocator + Copy, W: Write>(
 ) -> Result<(), RunFault>
     ensures { Ends (IsEditAnswer A image.now script.now bytes.now) (W.contents output.old) (W.contents output.new) result }
 {
-    let mut movie = match movie_of(alloc, image, bytes) {
-        Ok(movie) => movie,
-        Err(fault) => return Err(fault),
-    };
-    match edit_movie(alloc, &mut movie, script) {
-        Ok(()) => {}
-        Err(fault) => return Err(script_fault(fault)),
-    }
+    let mut movie = movie_of(alloc, image, bytes)?;
+    edit_movie(alloc, &mut movie, script).map_err(script_fault)?;
     let Ok(text) = print_text(alloc, &movie) else {
         return Err(RunFault::Memory);
     };
@@ -56,14 +50,8 @@ fn write_difference<A: Allocator + Copy, W: Write>(
 ) -> Result<(), RunFault>
     ensures { Ends (IsDiffAnswer A image.now before.now after.now) (W.contents output.old) (W.contents output.new) result }
 {
-    let old = match movie_of(alloc, image, before) {
-        Ok(movie) => movie,
-        Err(fault) => return Err(fault),
-    };
-    let new = match movie_of(alloc, image, after) {
-        Ok(movie) => movie,
-        Err(fault) => return Err(fault),
-    };
+    let old = movie_of(alloc, image, before)?;
+    let new = movie_of(alloc, image, after)?;
     let Ok(changes) = changes_between(alloc, old.inputs(), new.inputs()) else {
         return Err(RunFault::Memory);
     };
@@ -89,20 +77,15 @@ pub fn edit_run<A: Allocator + Copy, C: Read, S: Read, R: Read, W: Write>(
     ensures { IsEditRun A (C.remaining cart.old) (C.remaining cart.new) (S.remaining script.old) (S.remaining script.new)
         (R.remaining input.old) (R.remaining input.new) (W.contents output.old) (W.contents output.new) result }
 {
-    let read = match read_three(alloc, cart, script, input) {
-        Ok(read) => read,
-        Err(fault) => return Err(ToolFault::from(fault)),
-    };
-    match write_edited(
+    let read = read_three(alloc, cart, script, input)?;
+    write_edited(
         alloc,
         read.first.as_slice(),
         read.second.as_slice(),
         read.third.as_slice(),
         output,
-    ) {
-        Ok(()) => Ok(()),
-        Err(fault) => Err(ToolFault::from(fault)),
-    }
+    )?;
+    Ok(())
 }
 
 /// Reads a cartridge and the texts of two movies with it, the old one and the new one, and writes the
@@ -120,18 +103,13 @@ pub fn diff_run<A: Allocator + Copy, C: Read, S: Read, R: Read, W: Write>(
     ensures { IsDiffRun A (C.remaining cart.old) (C.remaining cart.new) (S.remaining before.old) (S.remaining before.new)
         (R.remaining input.old) (R.remaining input.new) (W.contents output.old) (W.contents output.new) result }
 {
-    let read = match read_three(alloc, cart, before, input) {
-        Ok(read) => read,
-        Err(fault) => return Err(ToolFault::from(fault)),
-    };
-    match write_difference(
+    let read = read_three(alloc, cart, before, input)?;
+    write_difference(
         alloc,
         read.first.as_slice(),
         read.second.as_slice(),
         read.third.as_slice(),
         output,
-    ) {
-        Ok(()) => Ok(()),
-        Err(fault) => Err(ToolFault::from(fault)),
-    }
+    )?;
+    Ok(())
 }

@@ -1,5 +1,5 @@
 -- How engines end.
-use Rattle.std.proofs.Common.{◌≡◌, ◌+◌, ◌<◌, sym, ap, subst, length, ℕ, List, Option, Some, None, Result, Ok, Err, refl, inl, inr, OnOk, IfErr}
+use Rattle.std.proofs.Common.{◌≡◌, ◌+◌, ◌<◌, sym, ap, subst, length, ℕ, List, Option, Some, None, Result, Ok, Err, refl, inl, inr, OnOk, IfErr, MatchResult}
 use Rattle.std.specs.Io.KnownBytes.{Appends}
 use Rattle.std.proofs.KnownBytes.{Keeps-refl}
 use Rattle.vcs_cpu.specs.declared.halt.Halt.{Halt}
@@ -13,7 +13,6 @@ use Rattle.tas_engines.specs.declared.fault.ToolFault.{ToolFault}
 use Rattle.tas_engines.specs.Faults.{unread_fault, told}
 use Rattle.tas_engines.specs.Input.{IsReadWhole}
 use Rattle.tas_engines.specs.Movies.{IsMovieRun}
-use Rattle.tas_engines.specs.Tracing.{IsTraceAnswer, IsTraceRun}
 use Rattle.tas_engines.specs.Output.{Ends, EndsAfter, StopsWriting}
 use Rattle.tas_engines.specs.ThreeInputs.{EndsAfterThree}
 
@@ -22,6 +21,15 @@ pub ends-written : (answers : Result (List ℕ) RunFault → Type 0) (old new : 
     OnOk r (Appends old new bytes) → IfErr r (StopsWriting old new bytes) → Ends answers old new r
 ends-written answers old new bytes (Ok u) answer all stops = (bytes, answer, all)
 ends-written answers old new bytes (Err e) answer all stops = inr (record { bytes = bytes; answer = answer; stops = stops })
+
+-- what a result was before `map_err`, by what its contract says of it
+pub err-of_mapped : {T E F : Type 0} (r : Result T E) (f : E → F) (error : F) → MatchResult r (λ x. Err error ≡ Ok x) (λ e. error ≡ f e) → (e : E) × (r ≡ Err e) × (error ≡ f e)
+err-of_mapped (Ok x) f error tells = cc
+err-of_mapped (Err e) f error tells = (e, refl, tells)
+
+pub ok-of_mapped : {T E : Type 0} (r : Result T E) (P : T → Type 0) → MatchResult r P (λ e. ⊥) → (x : T) × (r ≡ Ok x)
+ok-of_mapped (Ok x) P tells = (x, refl)
+ok-of_mapped (Err e) P tells = absurd tells
 
 -- what a frame answers tells the halt
 pub halt-of_err : (o : Option Halt) (a : Result (Unit {0}) Halt) (h : Halt) → a ≡ answer_of o → a ≡ Err h → o ≡ Some h
@@ -45,11 +53,6 @@ shot_fault-of_halt movie k (Undocumented at opcode) fault within is told = subst
 -- reading stopped, and nothing was written
 pub unread : (stops : ReadFault → Type 0) (runs : Result (Unit {0}) RunFault → Type 0) (old : Option (List ℕ)) (fault : ReadFault) (e : ToolFault) → stops fault → e ≡ unread_fault fault → EndsAfter stops runs old old (Err e)
 unread stops runs old fault e stopped is = inl (fault, ap Err is, stopped, Keeps-refl old)
-
--- an engine ran on the image that it had read
-pub trace_ran : (n : ℕ) (input input' output output' : Option (List ℕ)) (read image : List ℕ) (end : Result (Unit {0}) RunFault) (result : Result (Unit {0}) ToolFault) → IsReadWhole input input' read → image ≡ read
-    → Ends (IsTraceAnswer image n) output output' end → result ≡ told end → IsTraceRun n input input' output output' result
-trace_ran n input input' output output' read image end result whole same ends is = inr (end, is, (image, subst (IsReadWhole input input') (sym same) whole, ends))
 
 -- an engine ran on the cartridge and the text that it had read
 pub movie_ran : (answers : List ℕ → List ℕ → Result (List ℕ) RunFault → Type 0) (cart cart' input input' output output' : Option (List ℕ)) (read image read' bytes : List ℕ) (end : Result (Unit {0}) RunFault)

@@ -25,10 +25,7 @@ fn check_movie<A: Allocator + Copy, W: Write>(
 ) -> Result<(), RunFault>
     ensures { Ends (IsCheckAnswer image.now bytes.now) (W.contents output.old) (W.contents output.new) result }
 {
-    let movie = match movie_of(alloc, image, bytes) {
-        Ok(movie) => movie,
-        Err(fault) => return Err(fault),
-    };
+    let movie = movie_of(alloc, image, bytes)?;
     let Ok(line) = length_line(alloc, movie.len()) else {
         return Err(RunFault::Memory);
     };
@@ -48,12 +45,6 @@ pub fn check_run<A: Allocator + Copy, C: Read, R: Read, W: Write>(
     ensures { IsMovieRun IsCheckAnswer (C.remaining cart.old) (C.remaining cart.new) (R.remaining input.old) (R.remaining input.new)
         (W.contents output.old) (W.contents output.new) result }
 {
-    let (image, bytes) = match read_two(alloc, cart, input) {
-        Ok(read) => read,
-        Err(fault) => return Err(ToolFault::from(fault)),
-    };
-    match check_movie(alloc, image.as_slice(), bytes.as_slice(), output) {
-        Ok(()) => Ok(()),
-        Err(fault) => Err(ToolFault::from(fault)),
-    }
+    let (image, bytes) = read_two(alloc, cart, input)?;
+    Ok(check_movie(alloc, image.as_slice(), bytes.as_slice(), output)?)
 }

@@ -18,10 +18,7 @@ fn migrate_movie<A: Allocator + Copy, W: Write>(
 ) -> Result<(), RunFault>
     ensures { Ends (IsMigrateAnswer image.now bytes.now) (W.contents output.old) (W.contents output.new) result }
 {
-    let movie = match movie_of(alloc, image, bytes) {
-        Ok(movie) => movie,
-        Err(fault) => return Err(fault),
-    };
+    let movie = movie_of(alloc, image, bytes)?;
     let Ok(text) = print_text(alloc, &movie) else {
         return Err(RunFault::Memory);
     };
@@ -41,12 +38,6 @@ pub fn migrate_run<A: Allocator + Copy, C: Read, R: Read, W: Write>(
     ensures { IsMovieRun IsMigrateAnswer (C.remaining cart.old) (C.remaining cart.new) (R.remaining input.old) (R.remaining input.new)
         (W.contents output.old) (W.contents output.new) result }
 {
-    let (image, bytes) = match read_two(alloc, cart, input) {
-        Ok(read) => read,
-        Err(fault) => return Err(ToolFault::from(fault)),
-    };
-    match migrate_movie(alloc, image.as_slice(), bytes.as_slice(), output) {
-        Ok(()) => Ok(()),
-        Err(fault) => Err(ToolFault::from(fault)),
-    }
+    let (image, bytes) = read_two(alloc, cart, input)?;
+    Ok(migrate_movie(alloc, image.as_slice(), bytes.as_slice(), output)?)
 }

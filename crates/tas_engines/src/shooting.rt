@@ -32,10 +32,7 @@ fn shoot_movie<A: Allocator + Copy, W: Write>(
 ) -> Result<(), RunFault>
     ensures { Ends (IsShotAnswer k image.now bytes.now) (W.contents output.old) (W.contents output.new) result }
 {
-    let movie = match movie_of(alloc, image, bytes) {
-        Ok(movie) => movie,
-        Err(fault) => return Err(fault),
-    };
+    let movie = movie_of(alloc, image, bytes)?;
     let len = movie.len();
     if k >= len {
         return Err(RunFault::NoFrame { frame: k, len });
@@ -48,10 +45,7 @@ fn shoot_movie<A: Allocator + Copy, W: Write>(
     let Ok(answer) = green.shot(&movie, k, &mut picture, &mut meter) else {
         return Err(RunFault::Memory);
     };
-    match answer {
-        Ok(()) => {}
-        Err(halt) => return Err(halt_fault(halt)),
-    }
+    answer.map_err(halt_fault)?;
     match ppm(&picture, output) {
         Ok(()) => Ok(()),
         Err(fault) => Err(RunFault::Write {
@@ -75,12 +69,6 @@ pub fn shot_run<A: Allocator + Copy, C: Read, R: Read, W: Write>(
     ensures { IsMovieRun (IsShotAnswer k) (C.remaining cart.old) (C.remaining cart.new) (R.remaining input.old) (R.remaining input.new)
         (W.contents output.old) (W.contents output.new) result }
 {
-    let (image, bytes) = match read_two(alloc, cart, input) {
-        Ok(read) => read,
-        Err(fault) => return Err(ToolFault::from(fault)),
-    };
-    match shoot_movie(alloc, k, image.as_slice(), bytes.as_slice(), output) {
-        Ok(()) => Ok(()),
-        Err(fault) => Err(ToolFault::from(fault)),
-    }
+    let (image, bytes) = read_two(alloc, cart, input)?;
+    Ok(shoot_movie(alloc, k, image.as_slice(), bytes.as_slice(), output)?)
 }

@@ -41,12 +41,6 @@ pub fn trace_run<A: Allocator, R: Read, W: Write>(
 ) -> Result<(), ToolFault>
     ensures { IsTraceRun n (R.remaining input.old) (R.remaining input.new) (W.contents output.old) (W.contents output.new) result }
 {
-    let image = match read_input(&alloc, input) {
-        Ok(image) => image,
-        Err(fault) => return Err(ToolFault::from(fault)),
-    };
-    match trace_image(&alloc, n, image.as_slice(), output) {
-        Ok(()) => Ok(()),
-        Err(fault) => Err(ToolFault::from(fault)),
-    }
+    let image = read_input(&alloc, input)?;
+    Ok(trace_image(&alloc, n, image.as_slice(), output)?)
 }
