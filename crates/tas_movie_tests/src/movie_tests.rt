@@ -1,10 +1,10 @@
 //! Movies: limits, edits and copies.
 
-use crate::checks::{check_same, check_that};
+use crate::checks::{check_same, check_that, expect_ok, expect_some};
 use crate::movies::{PLAYFIELD, cart_of, idle};
-use crate::texts::{CART_LINE, HEAD2, NONE, joined, reads_as};
-use std::alloc::{AllocError, Global};
-use std::test::Fail;
+use crate::texts::{CART_LINE, HEAD2, NONE, is_printed, joined, reads_as};
+use std::alloc::Global;
+use std::process::Abort;
 use tas_movie::{
     Edit, EditRefusal, Inputs, Movie, apply, check, print_frame, print_text, read_frame, read_text,
 };
@@ -16,156 +16,128 @@ fn make(movie: &mut Movie, edit: &Edit) -> Result<(), EditRefusal> {
     Ok(())
 }
 
-fn insert(
+/// Puts so many inputs with nothing pressed in at a place.
+fn insert<R: Abort>(
+    rt: &R,
     alloc: Global,
     movie: &mut Movie,
     at: usize,
     count: usize,
-) -> Result<Result<(), EditRefusal>, AllocError> {
-    let inputs = idle(alloc, count)?;
-    Ok(make(movie, &Edit::Insert { at, inputs }))
+) -> Result<(), EditRefusal> {
+    let inputs = idle(rt, alloc, count);
+    make(movie, &Edit::Insert { at, inputs })
 }
 
-#[test]
-fn limits(rt: HostRuntime) -> Result<(), Fail> {
-    let alloc = rt.alloc();
-    let blank = Movie::blank(alloc)?;
-    let cart = cart_of(alloc, PLAYFIELD)?;
-    for mut movie in [blank, Movie::new(alloc, &cart)?] {
-        check_that(&rt, "movie", movie.is_empty());
-        let long = Err(EditRefusal::Long { len: 0 });
-        check_same(&rt, "insert", insert(alloc, &mut movie, 0, 262145)?, long);
-        check_same(&rt, "movie, 2", movie.len(), 0);
-        check_same(
-            &rt,
-            "insert, 2",
-            insert(alloc, &mut movie, 0, 262144)?,
-            Ok(()),
-        );
-        check_same(&rt, "movie, 3", movie.len(), 262144);
-        let len = 262144;
-        check_same(
-            &rt,
-            "insert, 3",
-            insert(alloc, &mut movie, 0, 1)?,
-            Err(EditRefusal::Long { len }),
-        );
-        check_same(&rt, "movie, 4", movie.len(), 262144);
-        let place = Err(EditRefusal::Place { at: 262145, len });
-        check_same(
-            &rt,
-            "insert, 4",
-            insert(alloc, &mut movie, 262145, 1)?,
-            place,
-        );
-        let inputs = idle(alloc, 0)?;
-        check_same(
-            &rt,
-            "make",
-            make(&mut movie, &Edit::Replace { at: 262144, inputs }),
-            Ok(()),
-        );
-        check_same(&rt, "movie, 5", movie.len(), 262144);
+/// Checks the limits on a movie without frames.
+fn check_limits<R: Abort>(rt: &R, alloc: Global, movie: &mut Movie) {
+    check_that(rt, "empty", movie.is_empty());
+    let (most, past) = (262144, 262145);
+    for (at, count, want, len) in [
+        (0, past, Err(EditRefusal::Long { len: 0 }), 0),
+        (0, most, Ok(()), most),
+        (0, 1, Err(EditRefusal::Long { len: most }), most),
+        (
+            past,
+            1,
+            Err(EditRefusal::Place {
+                at: past,
+                len: most,
+            }),
+            most,
+        ),
+    ] {
+        let answer = insert(rt, alloc, movie, at, count);
+        check_same(rt, ("insert", at, count), answer, want);
+        check_same(rt, ("length after", at, count), movie.len(), len);
     }
-    Ok(())
+    let inputs = idle(rt, alloc, 0);
+    let replaced = make(movie, &Edit::Replace { at: most, inputs });
+    check_same(rt, "replace none", replaced, Ok(()));
+    check_same(rt, "length", movie.len(), most);
 }
 
 #[test]
-fn places_past_the_end(rt: HostRuntime) -> Result<(), Fail> {
+fn limits(rt: HostRuntime) {
     let alloc = rt.alloc();
-    let mut movie = Movie::blank(alloc)?;
-    let empty: Edit = Edit::Delete { at: 0, count: 0 };
-    check_same(&rt, "make", make(&mut movie, &empty), Ok(()));
-    let place = Err(EditRefusal::Place { at: 0, len: 0 });
-    let one: Edit = Edit::Delete { at: 0, count: 1 };
-    check_same(&rt, "make, 2", make(&mut movie, &one), place);
-    let inputs = idle(alloc, 1)?;
-    check_same(
-        &rt,
-        "make, 3",
-        make(&mut movie, &Edit::Replace { at: 0, inputs }),
-        place,
-    );
-    let most: Edit = Edit::Delete {
-        at: usize::MAX,
-        count: usize::MAX,
-    };
-    let at = usize::MAX;
-    check_same(
-        &rt,
-        "make, 4",
-        make(&mut movie, &most),
-        Err(EditRefusal::Place { at, len: 0 }),
-    );
-    Ok(())
+    let mut blank = expect_ok(&rt, Movie::blank(alloc));
+    check_limits(&rt, alloc, &mut blank);
+    let cart = cart_of(&rt, alloc, PLAYFIELD);
+    let mut movie = expect_ok(&rt, Movie::new(alloc, &cart));
+    check_limits(&rt, alloc, &mut movie);
 }
 
 #[test]
-fn refusals_in_words(rt: HostRuntime) -> Result<(), Fail> {
+fn places_past_the_end(rt: HostRuntime) {
+    let alloc = rt.alloc();
+    let mut movie = expect_ok(&rt, Movie::blank(alloc));
+    let far = usize::MAX;
+    let place = Err(EditRefusal::Place { at: 0, len: 0 });
+    for (at, count, want) in [
+        (0, 0, Ok(())),
+        (0, 1, place),
+        (far, far, Err(EditRefusal::Place { at: far, len: 0 })),
+    ] {
+        let answer = make(&mut movie, &Edit::Delete { at, count });
+        check_same(&rt, ("delete", at, count), answer, want);
+    }
+    let inputs = idle(&rt, alloc, 1);
+    let replaced = make(&mut movie, &Edit::Replace { at: 0, inputs });
+    check_same(&rt, "replace", replaced, place);
+}
+
+#[test]
+fn refusals_in_words(rt: HostRuntime) {
     let alloc = rt.alloc();
     for (refusal, words) in [
         (EditRefusal::Place { at: 9, len: 8 }, "place 9 of 8"),
         (EditRefusal::Long { len: 262144 }, "too long at 262144"),
     ] {
-        check_that(&rt, words, reads_as(alloc, &refusal, words)?);
+        check_that(&rt, words, reads_as(&rt, alloc, &refusal, words));
     }
     for (error, words) in [
         (CartError::Size(7), "cartridge has 7 bytes"),
         (CartError::Memory, "out of memory"),
     ] {
-        check_that(&rt, words, reads_as(alloc, &error, words)?);
+        check_that(&rt, words, reads_as(&rt, alloc, &error, words));
     }
-    Ok(())
 }
 
-/// Whether the edit's copy makes the movie's copy what the edit makes of the movie.
-fn copied_alike(alloc: Global, edit: &Edit) -> Result<bool, Fail> {
-    let cart = cart_of(alloc, PLAYFIELD)?;
-    let text = joined(
-        alloc,
-        &[HEAD2, CART_LINE, NONE, b"R.... ..... .....\n", NONE],
-    )?;
-    let mut movie = read_text(alloc, &text, &cart)?;
-    let mut copy = movie.copy(alloc)?;
-    let same_before = print_text(alloc, &copy)?.as_slice() == text.as_slice();
-    make(&mut movie, edit)?;
-    make(&mut copy, &edit.copy(alloc)?)?;
-    let changed = print_text(alloc, &movie)?;
-    let same_after = print_text(alloc, &copy)?.as_slice() == changed.as_slice();
-    Ok(same_before && same_after && changed.as_slice() != text.as_slice())
+/// Checks that a copy of the edit makes of a copy of a movie what the edit makes of the movie, which isn't the same movie.
+fn check_copy<R: Abort>(rt: &R, alloc: Global, kind: &str, edit: &Edit) {
+    let cart = cart_of(rt, alloc, PLAYFIELD);
+    let right = b"R.... ..... .....\n";
+    let text = joined(rt, alloc, &[HEAD2, CART_LINE, NONE, right, NONE]);
+    let mut movie = expect_ok(rt, read_text(alloc, &text, &cart));
+    let mut copy = expect_ok(rt, movie.copy(alloc));
+    check_that(rt, (kind, "before"), is_printed(rt, alloc, &copy, &text));
+    expect_ok(rt, make(&mut movie, edit));
+    expect_ok(rt, make(&mut copy, &expect_ok(rt, edit.copy(alloc))));
+    let changed = expect_ok(rt, print_text(alloc, &movie));
+    check_that(rt, (kind, "after"), is_printed(rt, alloc, &copy, &changed));
+    check_that(rt, (kind, "changed"), changed.as_slice() != text.as_slice());
 }
 
 #[test]
-fn copies(rt: HostRuntime) -> Result<(), Fail> {
+fn copies_of_edits(rt: HostRuntime) {
     let alloc = rt.alloc();
-    let cart = cart_of(alloc, PLAYFIELD)?;
-    let copy = cart.copy(alloc)?;
-    check_that(&rt, "copy", copy.bytes() == cart.bytes());
-    check_that(
-        &rt,
-        "copied_alike",
-        copied_alike(alloc, &Edit::Load(Cart::blank(alloc)?))?,
-    );
-    let inputs = idle(alloc, 2)?;
-    let copied = inputs.copy(alloc)?.into_vec();
-    check_that(&rt, "copied", copied.as_slice() == inputs.as_slice());
-    check_that(
-        &rt,
-        "copied_alike, 2",
-        copied_alike(alloc, &Edit::Insert { at: 1, inputs })?,
-    );
-    let inputs = idle(alloc, 1)?;
-    check_that(
-        &rt,
-        "copied_alike, 3",
-        copied_alike(alloc, &Edit::Replace { at: 1, inputs })?,
-    );
-    check_that(
-        &rt,
-        "copied_alike, 4",
-        copied_alike(alloc, &Edit::Delete { at: 1, count: 1 })?,
-    );
-    Ok(())
+    let blank = expect_ok(&rt, Cart::blank(alloc));
+    check_copy(&rt, alloc, "load", &Edit::Load(blank));
+    let inputs = idle(&rt, alloc, 2);
+    check_copy(&rt, alloc, "insert", &Edit::Insert { at: 1, inputs });
+    let inputs = idle(&rt, alloc, 1);
+    check_copy(&rt, alloc, "replace", &Edit::Replace { at: 1, inputs });
+    check_copy(&rt, alloc, "delete", &Edit::Delete { at: 1, count: 1 });
+}
+
+#[test]
+fn copies(rt: HostRuntime) {
+    let alloc = rt.alloc();
+    let cart = cart_of(&rt, alloc, PLAYFIELD);
+    let copy = expect_ok(&rt, cart.copy(alloc));
+    check_that(&rt, "cartridge", copy.bytes() == cart.bytes());
+    let inputs = idle(&rt, alloc, 2);
+    let copied = expect_ok(&rt, inputs.copy(alloc)).into_vec();
+    check_that(&rt, "inputs", copied.as_slice() == inputs.as_slice());
 }
 
 fn pressed(input: Input) -> [bool; 15] {
@@ -191,7 +163,7 @@ fn pressed(input: Input) -> [bool; 15] {
 }
 
 #[test]
-fn letters_of_a_frame(rt: HostRuntime) -> Result<(), Fail> {
+fn letters_of_a_frame(rt: HostRuntime) {
     let full = b"RLDUF RLDUF rsbAB";
     let mut number = 0;
     for (place, letter) in full.iter().enumerate() {
@@ -200,45 +172,34 @@ fn letters_of_a_frame(rt: HostRuntime) -> Result<(), Fail> {
             continue;
         }
         line[place] = *letter;
-        let input = read_frame(&line).ok_or("no frame")?;
+        let input = expect_some(&rt, read_frame(&line));
         for (other, is_pressed) in pressed(input).iter().enumerate() {
             check_same(&rt, ("of", other, number), *is_pressed, other == number);
         }
         check_same(&rt, "print_frame", print_frame(input), line);
         number = number.wrapping_add(1);
     }
-    Ok(())
 }
 
 #[test]
-fn edits_of_a_list(rt: HostRuntime) -> Result<(), Fail> {
+fn edits_of_a_list(rt: HostRuntime) {
     let alloc = rt.alloc();
-    let mut movie = Movie::blank(alloc)?;
-    let fire = read_frame(b"....F ..... .....").ok_or("no frame")?;
-    let mut shots = Vec::new(alloc);
-    for _ in 0..2 {
-        shots.push(fire)?;
-    }
-    insert(alloc, &mut movie, 0, 3)??;
-    let inputs = Inputs::from_vec(shots);
+    let mut movie = expect_ok(&rt, Movie::blank(alloc));
+    let fire = expect_some(&rt, read_frame(b"....F ..... ....."));
+    expect_ok(&rt, insert(&rt, alloc, &mut movie, 0, 3));
+    let inputs = Inputs::from_vec(expect_ok(&rt, vec![in alloc; fire; 2]));
     let edit = Edit::Insert { at: 1, inputs };
-    check_same(&rt, "edit", edit.place(), 1);
-    make(&mut movie, &edit)?;
-    make(
-        &mut movie,
-        &Edit::Replace {
-            at: 1,
-            inputs: idle(alloc, 1)?,
-        },
-    )?;
-    make(&mut movie, &Edit::Delete { at: 3, count: 2 })?;
+    check_same(&rt, "place", edit.place(), 1);
+    expect_ok(&rt, make(&mut movie, &edit));
+    let inputs = idle(&rt, alloc, 1);
+    expect_ok(&rt, make(&mut movie, &Edit::Replace { at: 1, inputs }));
+    expect_ok(&rt, make(&mut movie, &Edit::Delete { at: 3, count: 2 }));
     let none = Input::none();
     check_that(
         &rt,
-        "movie",
+        "inputs",
         movie.inputs() == [none, none, fire].as_slice(),
     );
-    check_that(&rt, "movie, 2", movie.len() == 3);
-    check_same(&rt, "movie, 3", movie.input(2), fire);
-    Ok(())
+    check_same(&rt, "length", movie.len(), 3);
+    check_same(&rt, "last input", movie.input(2), fire);
 }

@@ -1,7 +1,8 @@
 //! Cartridges and inputs of the tests.
 
-use std::alloc::{AllocError, Global};
-use std::test::Fail;
+use crate::checks::expect_ok;
+use std::alloc::Global;
+use std::process::Abort;
 use tas_movie::Inputs;
 use vcs_machine::{Cart, Input};
 
@@ -9,7 +10,7 @@ use vcs_machine::{Cart, Input};
 pub const PLAYFIELD: &[u8] = b"\xA9\x10\x85\x0D\xA9\x1E\x85\x08\x4C\x08\xF0";
 
 /// The cartridge with a program at F000, where execution starts too; all other bytes are 0.
-pub fn cart_of(alloc: Global, program: &[u8]) -> Result<Cart, Fail> {
+pub fn cart_of<R: Abort>(rt: &R, alloc: Global, program: &[u8]) -> Cart {
     let mut image = [0u8; 4096];
     for (at, byte) in program.iter().enumerate() {
         if at < 4096 {
@@ -17,10 +18,10 @@ pub fn cart_of(alloc: Global, program: &[u8]) -> Result<Cart, Fail> {
         }
     }
     image[4093] = 0xF0;
-    Ok(Cart::from_bytes(alloc, &image)?)
+    expect_ok(rt, Cart::from_bytes(alloc, &image))
 }
 
 /// So many inputs with nothing pressed.
-pub fn idle(alloc: Global, count: usize) -> Result<Inputs, AllocError> {
-    Ok(Inputs::from_vec(vec![in alloc; Input::none(); count]?))
+pub fn idle<R: Abort>(rt: &R, alloc: Global, count: usize) -> Inputs {
+    Inputs::from_vec(expect_ok(rt, vec![in alloc; Input::none(); count]))
 }

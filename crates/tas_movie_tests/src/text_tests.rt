@@ -1,24 +1,25 @@
 //! Both texts of a movie, and their faults.
 
-use crate::checks::{check_same, check_that};
+use crate::checks::{check_same, check_that, expect_ok};
 use crate::movies::{PLAYFIELD, cart_of};
 use crate::texts::{
-    BLANK_LINE, CAPITALS, CART_LINE, HEAD, HEAD2, NONE, SMALL_LINE, at, idle_lines,
+    BLANK_LINE, CAPITALS, CART_LINE, HEAD, HEAD2, NONE, SMALL_LINE, at, idle_lines, is_printed,
     is_read_and_printed, joined, read, reads_as, text_error, told,
 };
-use std::test::Fail;
+use std::alloc::Global;
+use std::process::Abort;
 use tas_movie::{
-    ReadError, TextErrorKind, most_inputs_is_exact, one_movie_per_text, print_text, read_text,
+    ReadError, TextErrorKind, most_inputs_is_exact, one_movie_per_text, read_text,
     runs_are_longest, texts_have_no_fault,
 };
 use vcs_machine::Cart;
 
 #[test]
-fn texts_are_read_and_printed_again(rt: HostRuntime) -> Result<(), Fail> {
+fn texts_are_read_and_printed_again(rt: HostRuntime) {
     let alloc = rt.alloc();
-    let cart = cart_of(alloc, PLAYFIELD)?;
-    let blank = Cart::blank(alloc)?;
-    let small = Cart::from_bytes(alloc, &[0; 2048])?;
+    let cart = cart_of(&rt, alloc, PLAYFIELD);
+    let blank = expect_ok(&rt, Cart::blank(alloc));
+    let small = expect_ok(&rt, Cart::from_bytes(alloc, &[0; 2048]));
     let three: &[u8] = b"..... ..... .....\nRL..F .LDU. r.bAB\n..... ..... .....\n";
     let cases = [
         (&cart, CART_LINE, NONE, 99, 1),
@@ -28,27 +29,26 @@ fn texts_are_read_and_printed_again(rt: HostRuntime) -> Result<(), Fail> {
         (&small, SMALL_LINE, NONE, 99, 1),
     ];
     for (number, (cart, line, frames, size, count)) in cases.iter().enumerate() {
-        let text = joined(alloc, &[HEAD2, line, frames])?;
+        let text = joined(&rt, alloc, &[HEAD2, line, frames]);
         check_same(&rt, ("text", number), text.len(), *size);
         check_that(
             &rt,
             ("text", number),
-            is_read_and_printed(alloc, cart, &text, *count)?,
+            is_read_and_printed(&rt, alloc, cart, &text, *count),
         );
     }
     most_inputs_is_exact();
     one_movie_per_text();
     texts_have_no_fault();
     runs_are_longest();
-    Ok(())
 }
 
 #[test]
-fn cut_texts(rt: HostRuntime) -> Result<(), Fail> {
+fn cut_texts(rt: HostRuntime) {
     let alloc = rt.alloc();
-    let cart = cart_of(alloc, PLAYFIELD)?;
+    let cart = cart_of(&rt, alloc, PLAYFIELD);
     for head in [HEAD, HEAD2] {
-        let text = joined(alloc, &[head, CART_LINE, NONE])?;
+        let text = joined(&rt, alloc, &[head, CART_LINE, NONE]);
         for (count, byte) in text.iter().enumerate() {
             let cut = read(alloc, &text[..count], &cart);
             let want = match count {
@@ -60,11 +60,10 @@ fn cut_texts(rt: HostRuntime) -> Result<(), Fail> {
             check_same(&rt, ("bytes before", count, byte), cut, want);
         }
     }
-    Ok(())
 }
 
 #[test]
-fn first_two_lines_at_fault(rt: HostRuntime) -> Result<(), Fail> {
+fn first_two_lines_at_fault(rt: HostRuntime) {
     let alloc = rt.alloc();
     let cases: [(&[u8], &[u8], usize, TextErrorKind); 11] = [
         (b"a26movie 3\n", CART_LINE, 1, TextErrorKind::Head),
@@ -80,14 +79,13 @@ fn first_two_lines_at_fault(rt: HostRuntime) -> Result<(), Fail> {
         (HEAD, b"\n", 2, TextErrorKind::Digest),
     ];
     for (number, (first, second, line, kind)) in cases.iter().enumerate() {
-        let answer = told(alloc, &[first, second, NONE])?;
+        let answer = told(&rt, alloc, &[first, second, NONE]);
         check_same(&rt, ("text", number), answer, at(*line, *kind));
     }
-    Ok(())
 }
 
 #[test]
-fn frames_at_fault(rt: HostRuntime) -> Result<(), Fail> {
+fn frames_at_fault(rt: HostRuntime) {
     let alloc = rt.alloc();
     let wrong: [&[u8]; 6] = [
         b"r.... ..... .....\n",
@@ -98,22 +96,21 @@ fn frames_at_fault(rt: HostRuntime) -> Result<(), Fail> {
         b"\n",
     ];
     for (number, line) in wrong.iter().enumerate() {
-        let first = told(alloc, &[HEAD, CART_LINE, line, NONE, NONE])?;
+        let first = told(&rt, alloc, &[HEAD, CART_LINE, line, NONE, NONE]);
         check_same(&rt, ("line", number), first, at(3, TextErrorKind::Frame));
-        let middle = told(alloc, &[HEAD, CART_LINE, NONE, line, line])?;
+        let middle = told(&rt, alloc, &[HEAD, CART_LINE, NONE, line, line]);
         check_same(&rt, ("line", number), middle, at(4, TextErrorKind::Frame));
-        let last = told(alloc, &[HEAD, CART_LINE, NONE, NONE, line])?;
+        let last = told(&rt, alloc, &[HEAD, CART_LINE, NONE, NONE, line]);
         check_same(&rt, ("line", number), last, at(5, TextErrorKind::Frame));
     }
-    let open = told(alloc, &[HEAD, CART_LINE, NONE, NONE, b"."])?;
+    let open = told(&rt, alloc, &[HEAD, CART_LINE, NONE, NONE, b"."]);
     check_same(&rt, "open", open, at(5, TextErrorKind::End));
-    let run = told(alloc, &[HEAD, CART_LINE, b"..... ..... ..... x2\n"])?;
+    let run = told(&rt, alloc, &[HEAD, CART_LINE, b"..... ..... ..... x2\n"]);
     check_same(&rt, "run", run, at(3, TextErrorKind::Frame));
-    Ok(())
 }
 
 #[test]
-fn lines_that_are_no_run(rt: HostRuntime) -> Result<(), Fail> {
+fn lines_that_are_no_run(rt: HostRuntime) {
     let alloc = rt.alloc();
     let right = b"R.... ..... .....\n".as_slice();
     let wrong: [&[u8]; 14] = [
@@ -133,16 +130,15 @@ fn lines_that_are_no_run(rt: HostRuntime) -> Result<(), Fail> {
         b"\n",
     ];
     for (number, line) in wrong.iter().enumerate() {
-        let first = told(alloc, &[HEAD2, CART_LINE, line, right])?;
+        let first = told(&rt, alloc, &[HEAD2, CART_LINE, line, right]);
         check_same(&rt, ("line", number), first, at(3, TextErrorKind::Frame));
-        let later = told(alloc, &[HEAD2, CART_LINE, right, line, line])?;
+        let later = told(&rt, alloc, &[HEAD2, CART_LINE, right, line, line]);
         check_same(&rt, ("line", number), later, at(4, TextErrorKind::Frame));
     }
-    Ok(())
 }
 
 #[test]
-fn runs_at_fault(rt: HostRuntime) -> Result<(), Fail> {
+fn runs_at_fault(rt: HostRuntime) {
     let cases: [(&[u8], Result<usize, ReadError>); 9] = [
         (
             b"..... ..... .....\n..... ..... .....\n",
@@ -179,16 +175,15 @@ fn runs_at_fault(rt: HostRuntime) -> Result<(), Fail> {
         ),
     ];
     for (number, (lines, want)) in cases.iter().enumerate() {
-        let answer = told(rt.alloc(), &[HEAD2, CART_LINE, lines])?;
+        let answer = told(&rt, rt.alloc(), &[HEAD2, CART_LINE, lines]);
         check_same(&rt, ("text", number), answer, *want);
     }
-    Ok(())
 }
 
 /// Where as many frames as a movie has stand before a line, this is told before what else is wrong with it; and a
 /// line that is no run before that it is the frame of the line before.
 #[test]
-fn the_first_fault_of_a_line_is_told(rt: HostRuntime) -> Result<(), Fail> {
+fn the_first_fault_of_a_line_is_told(rt: HostRuntime) {
     let alloc = rt.alloc();
     let full: &[u8] = b"..... ..... ..... x262144\n";
     let some: &[u8] = b"..... ..... ..... x262143\n";
@@ -200,14 +195,13 @@ fn the_first_fault_of_a_line_is_told(rt: HostRuntime) -> Result<(), Fail> {
         (some, b"..... ..... ..... x2\n", 4, TextErrorKind::Run),
     ];
     for (number, (first, second, line, kind)) in cases.iter().enumerate() {
-        let answer = told(alloc, &[HEAD2, CART_LINE, first, second])?;
+        let answer = told(&rt, alloc, &[HEAD2, CART_LINE, first, second]);
         check_same(&rt, ("text", number), answer, at(*line, *kind));
     }
-    Ok(())
 }
 
 #[test]
-fn too_many_frames(rt: HostRuntime) -> Result<(), Fail> {
+fn too_many_frames(rt: HostRuntime) {
     let alloc = rt.alloc();
     let cases: [(usize, &[u8], Result<usize, ReadError>); 5] = [
         (65536, b"", Ok(65536)),
@@ -217,68 +211,80 @@ fn too_many_frames(rt: HostRuntime) -> Result<(), Fail> {
         (65536, b"..\n.", at(65539, TextErrorKind::TooMany)),
     ];
     for (number, (count, end, want)) in cases.iter().enumerate() {
-        let lines = idle_lines(alloc, *count, end)?;
-        let answer = told(alloc, &[HEAD, CART_LINE, lines.as_slice()])?;
+        let lines = idle_lines(&rt, alloc, *count, end);
+        let answer = told(&rt, alloc, &[HEAD, CART_LINE, lines.as_slice()]);
         check_same(&rt, ("text", number), answer, *want);
     }
-    Ok(())
+}
+
+/// Checks that an older text of these lines is printed again as the text of these runs, and that this is read so.
+fn check_older_text<R: Abort>(
+    rt: &R,
+    alloc: Global,
+    cart: &Cart,
+    frames: usize,
+    lines: &[&[u8]],
+    runs: &[u8],
+) {
+    let older = joined(rt, alloc, lines);
+    let newer = joined(rt, alloc, &[HEAD2, CART_LINE, runs]);
+    let movie = expect_ok(rt, read_text(alloc, &older, cart));
+    check_that(rt, frames, is_printed(rt, alloc, &movie, &newer));
+    check_that(
+        rt,
+        frames,
+        is_read_and_printed(rt, alloc, cart, &newer, frames),
+    );
 }
 
 /// An older text is printed again as a text of runs, each as long as it can be.
 #[test]
-fn older_texts_are_printed_as_runs(rt: HostRuntime) -> Result<(), Fail> {
+fn older_texts_are_printed_as_runs(rt: HostRuntime) {
     let alloc = rt.alloc();
-    let cart = cart_of(alloc, PLAYFIELD)?;
-    let lines = idle_lines(alloc, 200, b"")?;
-    let text = joined(alloc, &[HEAD, CART_LINE, lines.as_slice()])?;
-    check_same(&rt, "text", text.len(), 3681);
-    let printed = print_text(alloc, &read_text(alloc, &text, &cart)?)?;
-    let want = joined(alloc, &[HEAD2, CART_LINE, b"..... ..... ..... x200\n"])?;
-    check_same(&rt, "want", want.len(), 104);
-    check_that(&rt, "printed", printed.as_slice() == want.as_slice());
+    let cart = cart_of(&rt, alloc, PLAYFIELD);
+    let lines = idle_lines(&rt, alloc, 200, b"");
+    let older: &[&[u8]] = &[HEAD, CART_LINE, lines.as_slice()];
+    check_older_text(&rt, alloc, &cart, 200, older, b"..... ..... ..... x200\n");
+    let sizes = [
+        joined(&rt, alloc, older).len(),
+        joined(&rt, alloc, &[HEAD2, CART_LINE, b"..... ..... ..... x200\n"]).len(),
+    ];
+    check_same(&rt, "sizes", sizes, [3681, 104]);
     let right = b"R.... ..... .....\n";
-    let mixed = joined(
-        alloc,
-        &[HEAD, CART_LINE, right, NONE, NONE, right, right, right],
-    )?;
-    let printed = print_text(alloc, &read_text(alloc, &mixed, &cart)?)?;
+    let mixed: &[&[u8]] = &[HEAD, CART_LINE, right, NONE, NONE, right, right, right];
     let runs = b"R.... ..... .....\n..... ..... ..... x2\nR.... ..... ..... x3\n";
-    let want = joined(alloc, &[HEAD2, CART_LINE, runs])?;
-    check_that(&rt, "printed, 2", printed.as_slice() == want.as_slice());
-    check_that(
-        &rt,
-        "is_read_and_printed",
-        is_read_and_printed(alloc, &cart, &want, 6)?,
-    );
-    Ok(())
+    check_older_text(&rt, alloc, &cart, 6, mixed, runs);
+}
+
+/// So many times the line of nothing pressed and that of the left fire, behind the first two lines.
+fn alternating<R: Abort>(rt: &R, alloc: Global, count: usize) -> Vec<u8> {
+    let mut text = joined(rt, alloc, &[HEAD2, CART_LINE]);
+    for _ in 0..count {
+        expect_ok(rt, text.extend_from_slice(NONE));
+        expect_ok(rt, text.extend_from_slice(b"....F ..... .....\n"));
+    }
+    text
 }
 
 /// The text of the longest movie with one run, and with as many as can be.
 #[test]
-fn longest_texts(rt: HostRuntime) -> Result<(), Fail> {
+fn longest_texts(rt: HostRuntime) {
     let alloc = rt.alloc();
-    let cart = cart_of(alloc, PLAYFIELD)?;
-    let one = joined(alloc, &[HEAD2, CART_LINE, b"....F ..... ..... x262144\n"])?;
-    check_that(
+    let cart = cart_of(&rt, alloc, PLAYFIELD);
+    let one = joined(
         &rt,
-        "is_read_and_printed",
-        is_read_and_printed(alloc, &cart, &one, 262144)?,
+        alloc,
+        &[HEAD2, CART_LINE, b"....F ..... ..... x262144\n"],
     );
-    let mut many = joined(alloc, &[HEAD2, CART_LINE])?;
-    for _ in 0..131072 {
-        many.extend_from_slice(NONE)?;
-        many.extend_from_slice(b"....F ..... .....\n")?;
-    }
-    check_that(
-        &rt,
-        "is_read_and_printed, 2",
-        is_read_and_printed(alloc, &cart, &many, 262144)?,
-    );
-    Ok(())
+    let is_one = is_read_and_printed(&rt, alloc, &cart, &one, 262144);
+    check_that(&rt, "one run", is_one);
+    let many = alternating(&rt, alloc, 131072);
+    let are_many = is_read_and_printed(&rt, alloc, &cart, &many, 262144);
+    check_that(&rt, "as many runs as can be", are_many);
 }
 
 #[test]
-fn errors_of_reading_in_words(rt: HostRuntime) -> Result<(), Fail> {
+fn errors_of_reading_in_words(rt: HostRuntime) {
     let alloc = rt.alloc();
     for (error, words) in [
         (text_error(1, TextErrorKind::Head), "movie line 1: head"),
@@ -292,7 +298,6 @@ fn errors_of_reading_in_words(rt: HostRuntime) -> Result<(), Fail> {
         (text_error(5, TextErrorKind::Run), "movie line 5: run"),
         (ReadError::Memory, "out of memory"),
     ] {
-        check_that(&rt, words, reads_as(alloc, &error, words)?);
+        check_that(&rt, words, reads_as(&rt, alloc, &error, words));
     }
-    Ok(())
 }

@@ -1,10 +1,11 @@
 //! Texts of movies, in lines, and what is read of them.
 
+use crate::checks::expect_ok;
 use crate::movies::{PLAYFIELD, cart_of};
-use std::alloc::{AllocError, Global};
+use std::alloc::Global;
 use std::fmt::Display;
-use std::test::Fail;
-use tas_movie::{ReadError, TextError, TextErrorKind, print_text, read_text};
+use std::process::Abort;
+use tas_movie::{Movie, ReadError, TextError, TextErrorKind, print_text, read_text};
 use vcs_machine::Cart;
 
 /// The second line of a movie of the playfield's cartridge, with its SHA-256 by another program.
@@ -30,12 +31,12 @@ pub const HEAD2: &[u8] = b"a26movie 2\n";
 
 pub const NONE: &[u8] = b"..... ..... .....\n";
 
-pub fn joined(alloc: Global, parts: &[&[u8]]) -> Result<Vec<u8>, AllocError> {
+pub fn joined<R: Abort>(rt: &R, alloc: Global, parts: &[&[u8]]) -> Vec<u8> {
     let mut bytes = Vec::new(alloc);
     for part in parts {
-        bytes.extend_from_slice(part)?;
+        expect_ok(rt, bytes.extend_from_slice(part));
     }
-    Ok(bytes)
+    bytes
 }
 
 /// How many frames were read, or the line at fault.
@@ -53,37 +54,41 @@ pub fn at(line: usize, kind: TextErrorKind) -> Result<usize, ReadError> {
 }
 
 /// Whether a text is read as a movie with this cartridge and so many frames, and printed again.
-pub fn is_read_and_printed(
+pub fn is_read_and_printed<R: Abort>(
+    rt: &R,
     alloc: Global,
     cart: &Cart,
     text: &[u8],
     frames: usize,
-) -> Result<bool, Fail> {
-    let movie = read_text(alloc, text, cart)?;
-    let printed = print_text(alloc, &movie)?;
-    let same_cart = movie.cart().bytes() == cart.bytes();
-    Ok(same_cart && movie.len() == frames && printed.as_slice() == text)
+) -> bool {
+    let movie = expect_ok(rt, read_text(alloc, text, cart));
+    movie.cart().bytes() == cart.bytes()
+        && movie.len() == frames
+        && is_printed(rt, alloc, &movie, text)
+}
+
+/// Whether this is the movie's text.
+pub fn is_printed<R: Abort>(rt: &R, alloc: Global, movie: &Movie, text: &[u8]) -> bool {
+    expect_ok(rt, print_text(alloc, movie)).as_slice() == text
 }
 
 /// How many frames a text of these lines has, or its line at fault, with the playfield's cartridge.
-pub fn told(alloc: Global, lines: &[&[u8]]) -> Result<Result<usize, ReadError>, Fail> {
-    let cart = cart_of(alloc, PLAYFIELD)?;
-    let text = joined(alloc, lines)?;
-    Ok(read(alloc, &text, &cart))
+pub fn told<R: Abort>(rt: &R, alloc: Global, lines: &[&[u8]]) -> Result<usize, ReadError> {
+    let cart = cart_of(rt, alloc, PLAYFIELD);
+    read(alloc, &joined(rt, alloc, lines), &cart)
 }
 
 /// So many lines of a frame with nothing pressed, and then these bytes.
-pub fn idle_lines(alloc: Global, count: usize, end: &[u8]) -> Result<Vec<u8>, AllocError> {
+pub fn idle_lines<R: Abort>(rt: &R, alloc: Global, count: usize, end: &[u8]) -> Vec<u8> {
     let mut lines = Vec::new(alloc);
     for _ in 0..count {
-        lines.extend_from_slice(NONE)?;
+        expect_ok(rt, lines.extend_from_slice(NONE));
     }
-    lines.extend_from_slice(end)?;
-    Ok(lines)
+    expect_ok(rt, lines.extend_from_slice(end));
+    lines
 }
 
 /// Whether an error reads as these words.
-pub fn reads_as<E: Display>(alloc: Global, error: &E, words: &str) -> Result<bool, AllocError> {
-    let text = format!(in alloc; "{error}")?;
-    Ok(text.as_str() == words)
+pub fn reads_as<R: Abort, E: Display>(rt: &R, alloc: Global, error: &E, words: &str) -> bool {
+    expect_ok(rt, format!(in alloc; "{error}")).as_str() == words
 }
