@@ -1,5 +1,5 @@
 -- A desk of one seat, from its opening to its end.
-use Rattle.std.proofs.Common.{◌≡◌, ℕ, zero, suc, ◌+◌, ◌<◌, ◌≤◌, List, [], ◌∷◌, ◌++◌, length, take, set, Bool, true, false, cond, Some, refl, sym, ap, subst, ◌∙◌, arith, length-append}
+use Rattle.std.proofs.Common.{◌≡◌, ℕ, zero, suc, ◌+◌, ◌<◌, ◌≤◌, List, [], ◌∷◌, ◌++◌, length, take, set, Bool, true, false, cond, Some, ◌⊎◌, inl, inr, refl, sym, ap, subst, ◌∙◌, arith, length-append}
 use Rattle.std.specs.Prelude.{All, count_by, ◌==◌, slice_get, slice_index_or}
 use Rattle.logbook.specs.Pages.{Book}
 use Rattle.tas_movie.specs.Content.{MovieContent}
@@ -10,10 +10,17 @@ use Rattle.tas_desk.specs.Zones.{ZoneContent, blank_zone}
 use Rattle.tas_desk.specs.Closing.{made_by}
 use Rattle.tas_desk.proofs.HistoryLemmas.{movie_of-none}
 use Rattle.tas_desk.proofs.SeatLemmas.{count_by-cons}
+use Rattle.tas_engines.specs.declared.fault.RunFault.{RunFault}
+use Rattle.tas_engines.specs.declared.fault.RunFault.TheVariants.{NoPlace, Memory}
 use Rattle.tas_tool.specs.Turns.{Front, front_of, BeginsWithOwn}
 use Rattle.tas_tool.specs.Scripts.{start_front}
 
 -- ---- the seat of a desk that was just opened
+
+-- a desk that wasn't opened
+pub either_fault : (P : RunFault → Type 0) (fault : RunFault) → (fault ≡ Memory) ⊎ (fault ≡ NoPlace) → P Memory → P NoPlace → P fault
+either_fault P fault (inl is) memory place = subst P (sym is) memory
+either_fault P fault (inr is) memory place = subst P (sym is) place
 
 pub first_of : {X : Type 0} (xs : List X) (x d : X) → slice_get xs 0 ≡ Some x → slice_index_or xs 0 d ≡ x
 first_of [] x d e = absurd (cc e)

@@ -104,9 +104,6 @@ reads_all bytes (b ∷ rest) turns none reads = absurd (omega arith)
 pub nothing_answered : (A : Type 0) (bytes : List ℕ) (old : Option (List ℕ)) → RunsScript A bytes old old (Err Memory)
 nothing_answered A bytes old = inl ([], ([], bytes, reads_none bytes, sym (begun A start_front).1, tt), Appends-nil old)
 
-pub no_place : (A : Type 0) (bytes : List ℕ) (old : Option (List ℕ)) → RunsScript A bytes old old (Err NoPlace)
-no_place A bytes old = inl ([], ([], bytes, reads_none bytes, sym (begun A start_front).1, refl), Appends-nil old)
-
 -- no line is answered yet
 pub unanswered : (A : Type 0) (bytes text : List ℕ) → text ≡ [] → Answers A start_front bytes text (Err Memory)
 unanswered A bytes text is = ([], bytes, reads_none bytes, is ∙ sym (begun A start_front).1, tt)

@@ -87,10 +87,10 @@ fn refused_edit<N: Name, W: CloseOnDrop, A: Allocator>(
         EditError::Full { at } => checked(made, at, Reply::Full { at }),
         EditError::Place { at, place: _, len } => checked(made, at, Reply::Misplaced { at, len }),
         EditError::Long { at, len } => checked(made, at, Reply::TooLong { at, len }),
-        EditError::Memory => match own_len(desk, seat, made) {
-            Ok(_) => Ok(Reply::OutOfMemory),
-            Err(fault) => Err(fault),
-        },
+        EditError::Memory => {
+            own_len(desk, seat, made)?;
+            Ok(Reply::OutOfMemory)
+        }
     }
 }
 
@@ -124,10 +124,8 @@ pub fn make_edit<N: Name, W: CloseOnDrop, A: Allocator + Copy, R: Wait>(
         }
         Err(error) => error,
     };
-    match refused_edit(desk, seat, made, error) {
-        Ok(reply) => Ok(Answered { reply, made }),
-        Err(fault) => Err(fault),
-    }
+    let reply = refused_edit(desk, seat, made, error)?;
+    Ok(Answered { reply, made })
 }
 
 /// The reply to an edit that is refused, whatever memory there is.
@@ -193,10 +191,7 @@ fn load<N: Name, W: CloseOnDrop, A: Allocator + Copy, R: Wait>(
     ensures zone { seat.new.zone ≡ seat.old.zone }
     ensures answer { IsAnswer A seat.old seat.new (LoadLine image) result }
 {
-    match own_len(desk, seat, made) {
-        Ok(_) => {}
-        Err(fault) => return Err(fault),
-    }
+    own_len(desk, seat, made)?;
     if let Some(reply) = refused_reply(made, None) {
         return Ok(Answered { reply, made });
     }
@@ -226,10 +221,7 @@ fn insert<N: Name, W: CloseOnDrop, A: Allocator + Copy, R: Wait>(
     ensures zone { seat.new.zone ≡ seat.old.zone }
     ensures answer { IsAnswer A seat.old seat.new (InsertLine at count input) result }
 {
-    let len = match own_len(desk, seat, made) {
-        Ok(len) => len,
-        Err(fault) => return Err(fault),
-    };
+    let len = own_len(desk, seat, made)?;
     if let Some(reply) = refused_reply(made, insert_refusal(len, at, count)) {
         return Ok(Answered { reply, made });
     }
@@ -259,10 +251,7 @@ fn replace<N: Name, W: CloseOnDrop, A: Allocator + Copy, R: Wait>(
     ensures zone { seat.new.zone ≡ seat.old.zone }
     ensures answer { IsAnswer A seat.old seat.new (ReplaceLine at count input) result }
 {
-    let len = match own_len(desk, seat, made) {
-        Ok(len) => len,
-        Err(fault) => return Err(fault),
-    };
+    let len = own_len(desk, seat, made)?;
     if let Some(reply) = refused_reply(made, replace_refusal(len, at, count)) {
         return Ok(Answered { reply, made });
     }
@@ -332,10 +321,10 @@ pub fn unshown<N: Name, W: CloseOnDrop, A: Allocator>(
         ShotError::NoEntry => Err(RunFault::NoEntry),
         ShotError::NoFrame { at, len } => checked(made, at, Reply::NoFrame { at, len }),
         ShotError::Halted { at, halt } => checked(made, at, halted_reply(at, halt)),
-        ShotError::Memory => match own_len(desk, seat, made) {
-            Ok(_) => Ok(Reply::OutOfMemory),
-            Err(fault) => Err(fault),
-        },
+        ShotError::Memory => {
+            own_len(desk, seat, made)?;
+            Ok(Reply::OutOfMemory)
+        }
     }
 }
 
@@ -406,10 +395,8 @@ fn work<N: Name, W: CloseOnDrop, A: Allocator + Copy, R: Wait>(
 fn looked(reply: Result<Reply, RunFault>, made: u64) -> Result<Answered, RunFault>
     ensures { result ≡ looked reply made }
 {
-    match reply {
-        Ok(reply) => Ok(Answered { reply, made }),
-        Err(fault) => Err(fault),
-    }
+    let reply = reply?;
+    Ok(Answered { reply, made })
 }
 
 /// Does what a command asks for, as the seat that has made so many edits, all of the script, and answers it. `OutOfMemory`
@@ -442,10 +429,7 @@ pub fn answer_command<N: Name, W: CloseOnDrop, A: Allocator + Copy, R: Wait>(
             make_edit(rt, desk, seat, made, Edit::Delete { at, count })
         }
         Command::Length => {
-            let len = match own_len(desk, seat, made) {
-                Ok(len) => len,
-                Err(fault) => return Err(fault),
-            };
+            let len = own_len(desk, seat, made)?;
             let reply = Reply::Measured { at: made, len };
             Ok(Answered { reply, made })
         }

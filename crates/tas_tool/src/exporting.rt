@@ -9,12 +9,13 @@ ghost use Rattle.tas_tool.specs.TwoEdits.{StandsAtOwn};
 
 use crate::answering::OpenGate;
 use crate::making::{at_own, put_movie};
+use crate::opening::open_alone;
 use std::alloc::Allocator;
 use std::io::{Read, Write};
 use std::marker::Brand;
 use std::sync::Wait;
 use std::thread::Threads;
-use tas_desk::{CloseOnDrop, Desk, ExportError, Name, OpenError, Seat, Unopened};
+use tas_desk::{CloseOnDrop, Desk, ExportError, Name, Seat, Unopened};
 use tas_engines::{RunFault, ToolFault, halt_fault, movie_of, read_two};
 use tas_movie::Movie;
 
@@ -51,10 +52,7 @@ fn export_made<
     ensures own { StandsAtOwn seat.new result }
     ensures ends { length seat.new.front ≤ seat.new.made → Ends (IsPixmapsAnswer movie.now frames.from frames.to) (W.contents output.old) (W.contents output.new) result }
 {
-    match put_movie(rt, alloc, desk, seat, movie) {
-        Ok(()) => {}
-        Err(fault) => return Err(fault),
-    }
+    put_movie(rt, alloc, desk, seat, movie)?;
     let Frames { from, to, workers } = frames;
     match desk.export(rt, alloc, seat, from, to, workers, &OpenGate, output) {
         Ok(exported) => at_own(exported.at, Ok(())),
@@ -81,11 +79,7 @@ fn export_from_desk<N: Name, A: Allocator + Copy + Send + Sync, R: Wait + Thread
     requires workers { (1 ≤ frames.workers) × (frames.workers ≤ 16) }
     ensures { Ends (IsPixmapsAnswer movie.now frames.from frames.to) (W.contents output.old) (W.contents output.new) result }
 {
-    let (desk, mut seats) = match Desk::<N, &R, A>::open(rt, alloc, unopened) {
-        Ok(opened) => opened,
-        Err(OpenError::Memory) => return Err(RunFault::Memory),
-        Err(OpenError::NoPlace) => return Err(RunFault::NoPlace),
-    };
+    let (desk, mut seats) = open_alone::<N, A, R>(rt, alloc, unopened)?;
     let seat = &mut seats.as_mut_slice()[0];
     let end = export_made(rt, alloc, &desk, seat, movie, frames, output);
     drop(desk.close(rt, seats));
@@ -104,10 +98,7 @@ fn export_movie<A: Allocator + Copy + Send + Sync, R: Wait + Threads + Sync, W: 
     requires workers { (1 ≤ frames.workers) × (frames.workers ≤ 16) }
     ensures { Ends (IsExportAnswer frames.from frames.to image.now bytes.now) (W.contents output.old) (W.contents output.new) result }
 {
-    let movie = match movie_of(alloc, image, bytes) {
-        Ok(movie) => movie,
-        Err(fault) => return Err(fault),
-    };
+    let movie = movie_of(alloc, image, bytes)?;
     let Ok(unopened) = Unopened::new(alloc, 1) else {
         return Err(RunFault::Memory);
     };
@@ -142,24 +133,19 @@ pub fn export_run<
     ensures { IsMovieRun (IsExportAnswer from to) (C.remaining cart.old) (C.remaining cart.new) (R.remaining input.old) (R.remaining input.new)
         (W.contents output.old) (W.contents output.new) result }
 {
-    let (image, bytes) = match read_two(alloc, cart, input) {
-        Ok(read) => read,
-        Err(fault) => return Err(ToolFault::from(fault)),
-    };
+    let (image, bytes) = read_two(alloc, cart, input)?;
     let frames = Frames {
         from,
         to,
         workers: workers.clamp(1, MAX_WORKERS),
     };
-    match export_movie(
+    export_movie(
         rt,
         alloc,
         frames,
         image.as_slice(),
         bytes.as_slice(),
         output,
-    ) {
-        Ok(()) => Ok(()),
-        Err(fault) => Err(ToolFault::from(fault)),
-    }
+    )?;
+    Ok(())
 }

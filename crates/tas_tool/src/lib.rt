@@ -9,6 +9,7 @@ mod answering;
 mod exporting;
 mod making;
 mod movie_scripting;
+mod opening;
 mod scripting;
 mod talk_runs;
 mod talking;

@@ -5,12 +5,13 @@ ghost use Rattle.tas_desk.specs.Seats.{name_of};
 ghost use Rattle.tas_tool.specs.MovieScripts.{AnswersOver, RunsOver, IsMovieScriptRun};
 
 use crate::making::put_movie;
+use crate::opening::open_alone;
 use crate::scripting::answer_lines;
 use std::alloc::Allocator;
 use std::io::{Read, Write};
 use std::marker::Brand;
 use std::sync::Wait;
-use tas_desk::{CloseOnDrop, Desk, Name, OpenError, Seat, Unopened};
+use tas_desk::{CloseOnDrop, Desk, Name, Seat, Unopened};
 use tas_engines::{RunFault, ToolFault, movie_of, read_three, write_all};
 use tas_movie::Movie;
 
@@ -29,10 +30,7 @@ fn answer_made<N: Name, W: CloseOnDrop, A: Allocator + Copy, R: Wait>(
     ensures number { seat.new.number ≡ 0 }
     ensures answers { length seat.new.front ≤ seat.new.made → AnswersOver A movie.now bytes.now text.new.items result }
 {
-    match put_movie(rt, alloc, desk, seat, movie) {
-        Ok(()) => {}
-        Err(fault) => return Err(fault),
-    }
+    put_movie(rt, alloc, desk, seat, movie)?;
     answer_lines(rt, alloc, desk, seat, 2, bytes, text)
 }
 
@@ -52,11 +50,7 @@ fn answer_over<N: Name, A: Allocator + Copy, R: Wait>(
     requires empty { text.old.items ≡ [] }
     ensures { AnswersOver A movie.now bytes.now text.new.items result }
 {
-    let (desk, mut seats) = match Desk::<N, &R, A>::open(rt, alloc, unopened) {
-        Ok(opened) => opened,
-        Err(OpenError::Memory) => return Err(RunFault::Memory),
-        Err(OpenError::NoPlace) => return Err(RunFault::NoPlace),
-    };
+    let (desk, mut seats) = open_alone::<N, A, R>(rt, alloc, unopened)?;
     let seat = &mut seats.as_mut_slice()[0];
     let end = answer_made(rt, alloc, &desk, seat, movie, bytes, text);
     drop(desk.close(rt, seats));
@@ -74,21 +68,13 @@ fn run_over<A: Allocator + Copy, R: Wait, W: Write>(
 ) -> Result<(), RunFault>
     ensures { RunsOver A image.now said.now bytes.now (W.contents output.old) (W.contents output.new) result }
 {
-    let movie = match movie_of(alloc, image, said) {
-        Ok(movie) => movie,
-        Err(fault) => return Err(fault),
-    };
-    let unopened = match Unopened::new(alloc, 1) {
-        Ok(unopened) => unopened,
-        Err(OpenError::Memory) => return Err(RunFault::Memory),
-        Err(OpenError::NoPlace) => return Err(RunFault::NoPlace),
+    let movie = movie_of(alloc, image, said)?;
+    let Ok(unopened) = Unopened::new(alloc, 1) else {
+        return Err(RunFault::Memory);
     };
     let mut text = Vec::new(alloc);
     let end = answer_over::<Brand, A, R>(rt, alloc, unopened, &movie, bytes, &mut text);
-    match write_all(output, text.as_slice()) {
-        Ok(()) => {}
-        Err(fault) => return Err(fault),
-    }
+    write_all(output, text.as_slice())?;
     end
 }
 
@@ -109,19 +95,14 @@ pub fn movie_script_run<A: Allocator + Copy, T: Wait, C: Read, M: Read, R: Read,
     ensures { IsMovieScriptRun A (C.remaining cart.old) (C.remaining cart.new) (M.remaining movie.old) (M.remaining movie.new)
         (R.remaining input.old) (R.remaining input.new) (W.contents output.old) (W.contents output.new) result }
 {
-    let read = match read_three(alloc, cart, movie, input) {
-        Ok(read) => read,
-        Err(fault) => return Err(ToolFault::from(fault)),
-    };
-    match run_over(
+    let read = read_three(alloc, cart, movie, input)?;
+    run_over(
         rt,
         alloc,
         read.first.as_slice(),
         read.second.as_slice(),
         read.third.as_slice(),
         output,
-    ) {
-        Ok(()) => Ok(()),
-        Err(fault) => Err(ToolFault::from(fault)),
-    }
+    )?;
+    Ok(())
 }

@@ -6,11 +6,12 @@ ghost use Rattle.tas_tool.specs.Turns.{front_of, BeginsWithOwn};
 ghost use Rattle.tas_tool.specs.Scripts.{start_front, Answers, RunsScript, IsScriptRun};
 
 use crate::answering::answer_command;
+use crate::opening::open_alone;
 use std::alloc::Allocator;
 use std::io::{Read, Write};
 use std::marker::Brand;
 use std::sync::Wait;
-use tas_desk::{CloseOnDrop, Desk, Name, OpenError, Seat, Unopened};
+use tas_desk::{CloseOnDrop, Desk, Name, Seat, Unopened};
 use tas_engines::{RunFault, ToolFault, read_input, write_all};
 use tas_script::{parse_line, reply_line, split_once};
 
@@ -41,10 +42,7 @@ pub fn answer_lines<N: Name, W: CloseOnDrop, A: Allocator + Copy, R: Wait>(
         let Some(command) = parse_line(line) else {
             return Err(RunFault::Script { line: number });
         };
-        let answered = match answer_command(rt, alloc, desk, seat, made, command) {
-            Ok(answered) => answered,
-            Err(fault) => return Err(fault),
-        };
+        let answered = answer_command(rt, alloc, desk, seat, made, command)?;
         let Ok(words) = reply_line(alloc, answered.reply) else {
             return Err(RunFault::Memory);
         };
@@ -73,11 +71,7 @@ fn answer_script<N: Name, A: Allocator + Copy, R: Wait>(
     requires empty { text.old.items ≡ [] }
     ensures { Answers A start_front bytes.now text.new.items result }
 {
-    let (desk, mut seats) = match Desk::<N, &R, A>::open(rt, alloc, unopened) {
-        Ok(opened) => opened,
-        Err(OpenError::Memory) => return Err(RunFault::Memory),
-        Err(OpenError::NoPlace) => return Err(RunFault::NoPlace),
-    };
+    let (desk, mut seats) = open_alone::<N, A, R>(rt, alloc, unopened)?;
     let seat = &mut seats.as_mut_slice()[0];
     let end = answer_lines(rt, alloc, &desk, seat, 0, bytes, text);
     drop(desk.close(rt, seats));
@@ -93,17 +87,12 @@ fn run_script<A: Allocator + Copy, R: Wait, W: Write>(
 ) -> Result<(), RunFault>
     ensures { RunsScript A bytes.now (W.contents output.old) (W.contents output.new) result }
 {
-    let unopened = match Unopened::new(alloc, 1) {
-        Ok(unopened) => unopened,
-        Err(OpenError::Memory) => return Err(RunFault::Memory),
-        Err(OpenError::NoPlace) => return Err(RunFault::NoPlace),
+    let Ok(unopened) = Unopened::new(alloc, 1) else {
+        return Err(RunFault::Memory);
     };
     let mut text = Vec::new(alloc);
     let end = answer_script::<Brand, A, R>(rt, alloc, unopened, bytes, &mut text);
-    match write_all(output, text.as_slice()) {
-        Ok(()) => {}
-        Err(fault) => return Err(fault),
-    }
+    write_all(output, text.as_slice())?;
     end
 }
 
@@ -121,12 +110,6 @@ pub fn script_run<A: Allocator + Copy, T: Wait, R: Read, W: Write>(
 ) -> Result<(), ToolFault>
     ensures { IsScriptRun A (R.remaining input.old) (R.remaining input.new) (W.contents output.old) (W.contents output.new) result }
 {
-    let bytes = match read_input(alloc, input) {
-        Ok(bytes) => bytes,
-        Err(fault) => return Err(ToolFault::from(fault)),
-    };
-    match run_script(rt, alloc, bytes.as_slice(), output) {
-        Ok(()) => Ok(()),
-        Err(fault) => Err(ToolFault::from(fault)),
-    }
+    let bytes = read_input(alloc, input)?;
+    Ok(run_script(rt, alloc, bytes.as_slice(), output)?)
 }

@@ -6,12 +6,13 @@ ghost use Rattle.tas_desk.specs.Seats.{name_of};
 ghost use Rattle.tas_tool.specs.Talk.{stand_from, IsCartTalk, IsMovieTalk, IsTalk};
 
 use crate::making::put_movie;
+use crate::opening::open_alone;
 use crate::talking::converse;
 use std::alloc::Allocator;
 use std::io::{Read, Write};
 use std::marker::Brand;
 use std::sync::Wait;
-use tas_desk::{CloseOnDrop, Desk, Name, OpenError, Seat, Unopened};
+use tas_desk::{CloseOnDrop, Desk, Name, Seat, Unopened};
 use tas_engines::{ToolFault, movie_of, read_input, read_two};
 use tas_movie::Movie;
 use vcs_machine::{Cart, CartError};
@@ -35,10 +36,7 @@ fn talk_made<N: Name, C: CloseOnDrop, A: Allocator + Copy, T: Wait, R: Read, W: 
     let Some(movie) = movie else {
         return converse(rt, alloc, desk, seat, 0, input, output);
     };
-    match put_movie(rt, alloc, desk, seat, &movie) {
-        Ok(()) => {}
-        Err(fault) => return Err(ToolFault::from(fault)),
-    }
+    put_movie(rt, alloc, desk, seat, &movie)?;
     converse(rt, alloc, desk, seat, 2, input, output)
 }
 
@@ -57,11 +55,7 @@ fn talk_on<N: Name, A: Allocator + Copy, T: Wait, R: Read, W: Write>(
     requires one { unopened.seats ≡ 1 }
     ensures { IsTalk A (stand_from movie) (R.remaining input.old) (R.remaining input.new) (W.contents output.old) (W.contents output.new) result }
 {
-    let (desk, mut seats) = match Desk::<N, &T, A>::open(rt, alloc, unopened) {
-        Ok(opened) => opened,
-        Err(OpenError::Memory) => return Err(ToolFault::Memory),
-        Err(OpenError::NoPlace) => return Err(ToolFault::NoPlace),
-    };
+    let (desk, mut seats) = open_alone::<N, A, T>(rt, alloc, unopened)?;
     let seat = &mut seats.as_mut_slice()[0];
     let end = talk_made(rt, alloc, &desk, seat, movie, input, output);
     drop(desk.close(rt, seats));
@@ -78,10 +72,8 @@ fn talk_from<A: Allocator + Copy, T: Wait, R: Read, W: Write>(
 ) -> Result<(), ToolFault>
     ensures { IsTalk A (stand_from movie) (R.remaining input.old) (R.remaining input.new) (W.contents output.old) (W.contents output.new) result }
 {
-    let unopened = match Unopened::new(alloc, 1) {
-        Ok(unopened) => unopened,
-        Err(OpenError::Memory) => return Err(ToolFault::Memory),
-        Err(OpenError::NoPlace) => return Err(ToolFault::NoPlace),
+    let Ok(unopened) = Unopened::new(alloc, 1) else {
+        return Err(ToolFault::Memory);
     };
     talk_on::<Brand, A, T, R, W>(rt, alloc, unopened, movie, input, output)
 }
@@ -120,10 +112,7 @@ pub fn cart_talk_run<A: Allocator + Copy, T: Wait, C: Read, R: Read, W: Write>(
     ensures { IsCartTalk A (C.remaining cart.old) (C.remaining cart.new) (R.remaining input.old) (R.remaining input.new)
         (W.contents output.old) (W.contents output.new) result }
 {
-    let image = match read_input(alloc, cart) {
-        Ok(image) => image,
-        Err(fault) => return Err(ToolFault::from(fault)),
-    };
+    let image = read_input(alloc, cart)?;
     let taken = match Cart::from_bytes(alloc, image.as_slice()) {
         Ok(taken) => taken,
         Err(CartError::Size(n)) => return Err(ToolFault::Size(n)),
@@ -151,12 +140,7 @@ pub fn movie_talk_run<A: Allocator + Copy, T: Wait, C: Read, M: Read, R: Read, W
     ensures { IsMovieTalk A (C.remaining cart.old) (C.remaining cart.new) (M.remaining movie.old) (M.remaining movie.new)
         (R.remaining input.old) (R.remaining input.new) (W.contents output.old) (W.contents output.new) result }
 {
-    let (image, bytes) = match read_two(alloc, cart, movie) {
-        Ok(read) => read,
-        Err(fault) => return Err(ToolFault::from(fault)),
-    };
-    match movie_of(alloc, image.as_slice(), bytes.as_slice()) {
-        Ok(movie) => talk_from(rt, alloc, Some(movie), input, output),
-        Err(fault) => Err(ToolFault::from(fault)),
-    }
+    let (image, bytes) = read_two(alloc, cart, movie)?;
+    let movie = movie_of(alloc, image.as_slice(), bytes.as_slice())?;
+    talk_from(rt, alloc, Some(movie), input, output)
 }

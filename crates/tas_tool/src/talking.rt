@@ -77,28 +77,21 @@ fn answer_line<N: Name, C: CloseOnDrop, A: Allocator + Copy, R: Wait, W: Write>(
         → IsLineTurn seat.old seat.new said progress.written (W.contents output.old) (W.contents output.new) result }
 {
     let Some(request) = line.request() else {
-        return match tell_unknown(output, progress.written) {
-            Ok(written) => Ok(Some(Progress {
-                made: progress.made,
-                written,
-            })),
-            Err(fault) => Err(fault),
-        };
+        let written = tell_unknown(output, progress.written)?;
+        return Ok(Some(Progress {
+            made: progress.made,
+            written,
+        }));
     };
     let told = match request {
         Request::Quit => return Ok(None),
-        _ => match answer_request(rt, alloc, desk, seat, progress.made, request) {
-            Ok(told) => told,
-            Err(fault) => return Err(fault),
-        },
+        _ => answer_request(rt, alloc, desk, seat, progress.made, request)?,
     };
-    match hand_out(output, told.bytes.as_slice(), progress.written) {
-        Ok(written) => Ok(Some(Progress {
-            made: told.made,
-            written,
-        })),
-        Err(fault) => Err(fault),
-    }
+    let written = hand_out(output, told.bytes.as_slice(), progress.written)?;
+    Ok(Some(Progress {
+        made: told.made,
+        written,
+    }))
 }
 
 /// Answers each line that ends in a part of the input, the first of which may have begun before it, and holds what stands
@@ -126,11 +119,10 @@ fn answer_part<N: Name, C: CloseOnDrop, A: Allocator + Copy, R: Wait, W: Write>(
         if let Err(_) = line.add(front) {
             return Err(RunFault::Memory);
         }
-        match answer_line(rt, alloc, desk, seat, reached, &*line, output) {
-            Ok(Some(next)) => reached = next,
-            Ok(None) => return Ok(None),
-            Err(fault) => return Err(fault),
-        }
+        let Some(next) = answer_line(rt, alloc, desk, seat, reached, &*line, output)? else {
+            return Ok(None);
+        };
+        reached = next;
         line.clear();
         rest = after;
     }
@@ -153,10 +145,8 @@ fn answer_last<A: Allocator, W: Write>(
     if line.is_empty() {
         return Ok(());
     }
-    match tell_unknown(output, written) {
-        Ok(_) => Ok(()),
-        Err(fault) => Err(fault),
-    }
+    tell_unknown(output, written)?;
+    Ok(())
 }
 
 /// Reads lines and answers each before it reads on, as a seat that has made so many edits, until one asks for the end or no more
@@ -187,16 +177,12 @@ pub fn converse<N: Name, C: CloseOnDrop, A: Allocator + Copy, T: Wait, R: Read, 
             Err(_) => return Err(ToolFault::Read),
         };
         if count == 0 {
-            match answer_last(&line, progress.written, output) {
-                Ok(()) => return Ok(()),
-                Err(fault) => return Err(ToolFault::from(fault)),
-            }
+            return Ok(answer_last(&line, progress.written, output)?);
         }
         let part = &buffer[..count];
-        match answer_part(rt, alloc, desk, seat, progress, &mut line, part, output) {
-            Ok(Some(next)) => progress = next,
-            Ok(None) => return Ok(()),
-            Err(fault) => return Err(ToolFault::from(fault)),
+        match answer_part(rt, alloc, desk, seat, progress, &mut line, part, output)? {
+            Some(next) => progress = next,
+            None => return Ok(()),
         }
     }
     unreachable!()

@@ -54,14 +54,9 @@ fn tell_command<N: Name, W: CloseOnDrop, A: Allocator + Copy, R: Wait>(
     ensures number { seat.new.number ≡ seat.old.number }
     ensures answer { MatchResult result (λ told. IsToldTo seat.old seat.new (ScriptLine command) told.bytes.items told.made) (IsTalkFault seat.new) }
 {
-    let answered = match answer_command(rt, alloc, desk, seat, made, command) {
-        Ok(answered) => answered,
-        Err(fault) => return Err(fault),
-    };
-    match own_len(desk, seat, answered.made) {
-        Ok(_) => told_reply(alloc, answered.reply, answered.made),
-        Err(fault) => Err(fault),
-    }
+    let answered = answer_command(rt, alloc, desk, seat, made, command)?;
+    own_len(desk, seat, answered.made)?;
+    told_reply(alloc, answered.reply, answered.made)
 }
 
 /// A `picture` line.
@@ -80,10 +75,8 @@ fn tell_picture<N: Name, W: CloseOnDrop, A: Allocator + Copy>(
     let shot = match desk.shot(alloc, seat, frame) {
         Ok(shot) => shot,
         Err(error) => {
-            return match unshown(desk, seat, made, frame, error) {
-                Ok(reply) => told_reply(alloc, reply, made),
-                Err(fault) => Err(fault),
-            };
+            let reply = unshown(desk, seat, made, frame, error)?;
+            return told_reply(alloc, reply, made);
         }
     };
     if shot.at != made {
@@ -111,10 +104,8 @@ fn bring_zone<N: Name, W: CloseOnDrop, A: Allocator + Copy, R: Wait>(
     if let Err(_) = desk.share(rt, seat) {
         return Ok(None);
     }
-    match own_len(desk, seat, made) {
-        Ok(len) => Ok(Some(len)),
-        Err(fault) => Err(fault),
-    }
+    let len = own_len(desk, seat, made)?;
+    Ok(Some(len))
 }
 
 /// A `movie` line.
@@ -130,11 +121,9 @@ fn tell_movie<N: Name, W: CloseOnDrop, A: Allocator + Copy, R: Wait>(
     ensures number { seat.new.number ≡ seat.old.number }
     ensures answer { MatchResult result (λ told. IsToldTo seat.old seat.new MovieLine told.bytes.items told.made) (IsTalkFault seat.new) }
 {
-    match bring_zone(rt, desk, seat, made) {
-        Ok(Some(_)) => {}
-        Ok(None) => return told_reply(alloc, Reply::OutOfMemory, made),
-        Err(fault) => return Err(fault),
-    }
+    let Some(_) = bring_zone(rt, desk, seat, made)? else {
+        return told_reply(alloc, Reply::OutOfMemory, made);
+    };
     match movie_answer(alloc, made, seat.zone_movie()) {
         Ok(bytes) => Ok(Told { bytes, made }),
         Err(_) => told_reply(alloc, Reply::OutOfMemory, made),
@@ -202,10 +191,8 @@ fn tell_states<N: Name, W: CloseOnDrop, A: Allocator + Copy, R: Wait>(
     ensures number { seat.new.number ≡ seat.old.number }
     ensures answer { MatchResult result (λ told. IsToldTo seat.old seat.new StatesLine told.bytes.items told.made) (IsTalkFault seat.new) }
 {
-    let len = match bring_zone(rt, desk, seat, made) {
-        Ok(Some(len)) => len,
-        Ok(None) => return told_reply(alloc, Reply::OutOfMemory, made),
-        Err(fault) => return Err(fault),
+    let Some(len) = bring_zone(rt, desk, seat, made)? else {
+        return told_reply(alloc, Reply::OutOfMemory, made);
     };
     let Ok(frames) = frames_kept(alloc, seat, len) else {
         return told_reply(alloc, Reply::OutOfMemory, made);

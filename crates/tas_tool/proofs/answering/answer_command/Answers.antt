@@ -11,10 +11,10 @@ returns-in-Delete-clause-answer g c =
     answer_is g.row.A.Denot c.args.seat.now c.make_edit.new.seat c.args.command (Delete c.in-Delete.at c.in-Delete.count) _ c.in-Delete.is
     (delete_answer g.row.A.Denot c.args.seat.now c.make_edit.new.seat c.in-Delete.at c.in-Delete.count _ c.make_edit.ensures.answer)
 
-pub returns-in-Ok-clause-answer : goal.returns-in-Ok-clause-answer
-returns-in-Ok-clause-answer g c =
-    answer_is g.row.A.Denot c.args.seat.now c.own_len.new.seat c.args.command Length (Ok (record { reply = Measured c.args.made c.in-Ok.len; made = c.args.made })) c.in-Length.is
-    (length_answer g.row.A.Denot c.args.seat.now c.own_len.new.seat c.args.made c.in-Ok.len c.requires.own c.requires.made c.in-Ok.ensures.seen c.in-Ok.ensures.reply.1)
+pub returns-in_ok-len-in-Length-clause-answer : goal.returns-in_ok-len-in-Length-clause-answer
+returns-in_ok-len-in-Length-clause-answer g c =
+    answer_is g.row.A.Denot c.args.seat.now c.own_len.new.seat c.args.command Length (Ok (record { reply = Measured c.args.made c.in_ok-len-in-Length.len; made = c.args.made })) c.in-Length.is
+    (length_answer g.row.A.Denot c.args.seat.now c.own_len.new.seat c.args.made c.in_ok-len-in-Length.len c.requires.own c.requires.made c.in_ok-len-in-Length.ensures.seen c.in_ok-len-in-Length.ensures.reply.1)
 
 pub returns-in-InputAt-clause-answer : goal.returns-in-InputAt-clause-answer
 returns-in-InputAt-clause-answer g c =
@@ -38,8 +38,8 @@ returns-in-Replace-clause-zone g c = zone_as c.args.seat.now c.replace.new.seat 
 pub returns-in-Delete-clause-zone : goal.returns-in-Delete-clause-zone
 returns-in-Delete-clause-zone g c = zone_as c.args.seat.now c.make_edit.new.seat c.args.command (Delete c.in-Delete.at c.in-Delete.count) _ c.in-Delete.is (λ reply. c.make_edit.ensures.zone)
 
-pub returns-in-Ok-clause-zone : goal.returns-in-Ok-clause-zone
-returns-in-Ok-clause-zone g c = zone_as c.args.seat.now c.own_len.new.seat c.args.command Length (Ok (record { reply = Measured c.args.made c.in-Ok.len; made = c.args.made })) c.in-Length.is (λ reply. c.own_len.ensures.zone)
+pub returns-in_ok-len-in-Length-clause-zone : goal.returns-in_ok-len-in-Length-clause-zone
+returns-in_ok-len-in-Length-clause-zone g c = zone_as c.args.seat.now c.own_len.new.seat c.args.command Length (Ok (record { reply = Measured c.args.made c.in_ok-len-in-Length.len; made = c.args.made })) c.in-Length.is (λ reply. c.own_len.ensures.zone)
 
 pub returns-in-InputAt-clause-zone : goal.returns-in-InputAt-clause-zone
 returns-in-InputAt-clause-zone g c =

@@ -18,6 +18,6 @@ pub returns-in-Long-clause-reply : goal.returns-in-Long-clause-reply
 returns-in-Long-clause-reply g c = λ edit found.
     refused_at c.args.seat.now c.args.made c.in-Long.at (OverLong c.in-Long.at c.in-Long.len) _ _ edit c.requires.own c.requires.made refl (λ n. refl) c.checked-in-Long.ensures (error_is c.args.seat.now edit _ _ c.in-Long.is found)
 
-pub returns-in-Ok-clause-reply : goal.returns-in-Ok-clause-reply
-returns-in-Ok-clause-reply g c = λ edit found.
-    refused_memory c.args.seat.now c.own_len.new.seat edit c.requires.own c.own_len.ensures.seen (c.in-Ok.ensures.reply.0 ∙ c.requires.made) (error_is c.args.seat.now edit _ _ c.in-Memory.is found)
+pub returns-in_ok-own_len-in-Memory-clause-reply : goal.returns-in_ok-own_len-in-Memory-clause-reply
+returns-in_ok-own_len-in-Memory-clause-reply g c = λ edit found.
+    refused_memory c.args.seat.now c.own_len.new.seat edit c.requires.own c.own_len.ensures.seen (c.in_ok-own_len-in-Memory.ensures.reply.0 ∙ c.requires.made) (error_is c.args.seat.now edit _ _ c.in-Memory.is found)

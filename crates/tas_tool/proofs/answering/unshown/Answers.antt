@@ -16,10 +16,10 @@ returns-in-Halted-clause-reply g c =
     let e = shot_error_is c.args.seat.now.front c.args.frame _ _ c.in-Halted.is c.requires.error in
     halted_turn g.row.A.Denot c.args.seat.now c.args.made c.in-Halted.at c.args.frame c.in-Halted.halt c.halted_reply.result _ c.requires.own c.requires.made e.0 e.1 c.halted_reply.ensures c.checked-in-Halted.ensures
 
-pub returns-in-Ok-clause-reply : goal.returns-in-Ok-clause-reply
-returns-in-Ok-clause-reply g c =
+pub returns-in_ok-own_len-in-Memory-clause-reply : goal.returns-in_ok-own_len-in-Memory-clause-reply
+returns-in_ok-own_len-in-Memory-clause-reply g c =
     let e = shot_error_is c.args.seat.now.front c.args.frame _ _ c.in-Memory.is c.requires.error in
-    shot_without_memory g.row.A.Denot c.args.seat.now c.own_len.new.seat c.args.frame c.requires.own c.own_len.ensures.seen (c.in-Ok.ensures.reply.0 ∙ c.requires.made) e
+    shot_without_memory g.row.A.Denot c.args.seat.now c.own_len.new.seat c.args.frame c.requires.own c.own_len.ensures.seen (c.in_ok-own_len-in-Memory.ensures.reply.0 ∙ c.requires.made) e
 
 pub returns-in-NoFrame-clause-tells : goal.returns-in-NoFrame-clause-tells
 returns-in-NoFrame-clause-tells g c =

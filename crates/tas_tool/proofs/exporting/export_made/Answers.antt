@@ -5,15 +5,15 @@ use Rattle.tas_engines.specs.declared.fault.RunFault.TheVariants.{Range}
 use Rattle.tas_tool.proofs.ExportLemmas.{still_holds, told_at, pixmaps_end, range_ends}
 use Rattle.tas_tool.proofs.exporting.export_made.Goals as goal
 
-pub returns-in-Ok-export-clause-ends : goal.returns-in-Ok-export-clause-ends
-returns-in-Ok-export-clause-ends g c =
-    let holds = still_holds c.put_movie.new.seat c.export.new.seat _ c.export.ensures.seat.seen c.in-Ok.ensures.holds in
-    let reply = c.in-Ok-export.ensures.reply in
-    told_at c.export.new.seat c.args.movie.now c.in-Ok-export.exported.at c.args.frames.from c.args.frames.to _ _ (Ok tt) c.at_own.result holds reply.0 (pixmaps_end _ _ _ _ _ _ c.in-Ok-export.exported reply) c.at_own.ensures
+pub returns-in-Ok-clause-ends : goal.returns-in-Ok-clause-ends
+returns-in-Ok-clause-ends g c =
+    let holds = still_holds c.put_movie.new.seat c.export.new.seat _ c.export.ensures.seat.seen c.in_ok-put_movie.ensures.holds in
+    let reply = c.in-Ok.ensures.reply in
+    told_at c.export.new.seat c.args.movie.now c.in-Ok.exported.at c.args.frames.from c.args.frames.to _ _ (Ok tt) c.at_own.result holds reply.0 (pixmaps_end _ _ _ _ _ _ c.in-Ok.exported reply) c.at_own.ensures
 
 pub returns-in-Err-Range-clause-ends : goal.returns-in-Err-Range-clause-ends
 returns-in-Err-Range-clause-ends g c =
-    let holds = still_holds c.put_movie.new.seat c.export.new.seat _ c.export.ensures.seat.seen c.in-Ok.ensures.holds in
+    let holds = still_holds c.put_movie.new.seat c.export.new.seat _ c.export.ensures.seat.seen c.in_ok-put_movie.ensures.holds in
     let plan : Plan = record { from = c.args.frames.from; to = c.args.frames.to; workers = c.args.frames.workers } in
     let seat = c.export.new.seat in
     let reply = rw c.in-Err-Range.field-0-is at c.in-Err-Range.ensures.reply in

@@ -1,16 +1,15 @@
-use Rattle.std.proofs.Common.{ap, refl, Ok, Err}
-use Rattle.tas_engines.proofs.EngineEnds.{unread, movie_ran}
+use Rattle.std.proofs.Common.{ap, ◌∙◌, refl, Ok, Err}
+use Rattle.std.proofs.lemmas.Result.{err_from_is_err_and}
+use Rattle.tas_engines.proofs.EngineEnds.{movie_ran}
 use Rattle.tas_tool.specs.Pixmaps.{IsExportAnswer}
 use Rattle.tas_tool.proofs.exporting.export_run.Goals as goal
 
-pub returns-in-Err : goal.returns-in-Err
-returns-in-Err g c = unread _ _ _ c.in-Err.fault _ c.in-Err.ensures.fault c.from.ensures
-
-pub returns-in-Ok-export_movie : goal.returns-in-Ok-export_movie
-returns-in-Ok-export_movie g c =
-    movie_ran (IsExportAnswer c.args.from c.args.to) _ _ _ _ _ _ _ c.as_slice.result.now _ c.as_slice-2.result.now (Ok tt) _ c.in-Ok.ensures.first c.as_slice.ensures.value c.in-Ok.ensures.second c.as_slice-2.ensures.value c.in-Ok-export_movie.ensures refl
+pub returns-in_err-export_movie : goal.returns-in_err-export_movie
+returns-in_err-export_movie g c =
+    let told = err_from_is_err_and c.from_residual-in_err-export_movie.result c.from_residual-in_err-export_movie.ensures.1 in
+    movie_ran (IsExportAnswer c.args.from c.args.to) _ _ _ _ _ _ _ c.as_slice.result.now _ c.as_slice-2.result.now (Err c.in_err-export_movie.field-0.0) _ c.in_ok-image.ensures.first c.as_slice.ensures.value c.in_ok-image.ensures.second c.as_slice-2.ensures.value c.in_err-export_movie.ensures
+    (told.1 ∙ ap Err told.2)
 
 pub returns : goal.returns
 returns g c =
-    movie_ran (IsExportAnswer c.args.from c.args.to) _ _ _ _ _ _ _ c.as_slice.result.now _ c.as_slice-2.result.now (Err c.in-Err-export_movie.fault) _ c.in-Ok.ensures.first c.as_slice.ensures.value c.in-Ok.ensures.second c.as_slice-2.ensures.value c.in-Err-export_movie.ensures
-    (ap Err c.from-in-Err-export_movie.ensures)
+    movie_ran (IsExportAnswer c.args.from c.args.to) _ _ _ _ _ _ _ c.as_slice.result.now _ c.as_slice-2.result.now (Ok tt) _ c.in_ok-image.ensures.first c.as_slice.ensures.value c.in_ok-image.ensures.second c.as_slice-2.ensures.value c.in_ok-export_movie.ensures refl

@@ -1,4 +1,5 @@
 use Rattle.std.proofs.Common.{◌≡◌, ◌++◌, ◌∷◌, [], refl, sym, ◌∙◌, arith, rules}
+use Rattle.std.proofs.lemmas.Result.{err_from_is_err_and}
 use Rattle.tas_tool.specs.Turns.{Front, front_of}
 use Rattle.tas_tool.specs.Scripts.{Turn}
 use Rattle.tas_tool.proofs.ScriptLemmas.{reads_none, begun, reads_more, front_answered, replies_answered, count_more, unclear_unsplit, unclear_line, split_length, reads_all, desk_stop}
@@ -29,15 +30,17 @@ returns-in_default-parse_line-clause-answers g c = λ own.
     let (turns, i) = c.loop-rest.invariant in
     (turns, c.loop-rest.rest.now, i.reads, i.replies, (i.number, c.loop-rest-test.true, unclear_line _ c.in-Some.line.now c.in-Some.after.now c.in-Some.ensures.some.0 c.in-Some.ensures.some.1 c.in_default-parse_line.ensures.none))
 
-pub returns-in-Err-clause-number : goal.returns-in-Err-clause-number
-returns-in-Err-clause-number g c =
+pub returns-in_err-answered-clause-number : goal.returns-in_err-answered-clause-number
+returns-in_err-answered-clause-number g c =
     let (turns, i) = c.loop-rest.invariant in
     c.answer_command.ensures.number ∙ i.seat
 
-pub returns-in-Err-clause-answers : goal.returns-in-Err-clause-answers
-returns-in-Err-clause-answers g c = λ own.
+pub returns-in_err-answered-clause-answers : goal.returns-in_err-answered-clause-answers
+returns-in_err-answered-clause-answers g c = λ own.
     let (turns, i) = c.loop-rest.invariant in
-    (turns, c.loop-rest.rest.now, i.reads, i.replies, desk_stop c.answer_command.new.seat c.in-Err.fault turns c.loop-rest.rest.now c.loop-rest-test.true c.in-Err.ensures.answer own)
+    let p = err_from_is_err_and c.from_residual.result c.from_residual.ensures.1 in
+    rw (p.1, p.2)
+    (turns, c.loop-rest.rest.now, i.reads, i.replies, desk_stop c.answer_command.new.seat c.in_err-answered.field-0.0 turns c.loop-rest.rest.now c.loop-rest-test.true c.in_err-answered.ensures.answer own)
 
 pub returns-in_default-reply_line-clause-number : goal.returns-in_default-reply_line-clause-number
 returns-in_default-reply_line-clause-number g c =
@@ -52,22 +55,22 @@ returns-in_default-reply_line-clause-answers g c = λ own.
 pub loop-rest-preserved : goal.loop-rest-preserved
 loop-rest-preserved g c =
     let (turns, i) = c.loop-rest.invariant in
-    let told = c.in-Ok.ensures.answer in
+    let told = c.in_ok-answered.ensures.answer in
     let t = told.turn_is in
     let start : Front = front_of c.args.seat.now in
     let turn : Turn = record { said = c.in-Some.line.now; command = c.in-Some-parse_line.command; unforeseen = t.0 } in
     let shorter = split_length c.loop-rest.rest.now c.in-Some.line.now c.in-Some.after.now c.in-Some.ensures.some.0 in
-    let put : c.extend_from_slice.new.self.items ≡ c.loop-rest.text.items ++ c.in-Ok-reply_line.words.items = search rules in (
+    let put : c.extend_from_slice.new.self.items ≡ c.loop-rest.text.items ++ c.in-Ok.words.items = search rules in (
       turns ++ turn ∷ [],
       record {
         reads = reads_more _ c.loop-rest.rest.now c.in-Some.line.now c.in-Some.after.now turns turn i.reads refl c.in-Some.ensures.some.0 c.in-Some.ensures.some.1 c.in-Some-parse_line.ensures.some;
-        seat = c.in-Ok.ensures.number ∙ i.seat;
+        seat = c.in_ok-answered.ensures.number ∙ i.seat;
         own = told.own;
         made = told.made;
-        front = front_answered _ start _ _ turns turn c.in-Ok.answered.reply i.front t.2;
+        front = front_answered _ start _ _ turns turn c.in_ok-answered.answered.reply i.front t.2;
         number = omega (arith, i.number, count_more turns turn);
         room = omega (arith, i.room, shorter);
-        replies = replies_answered _ start _ turns turn c.in-Ok.answered.reply _ c.in-Ok-reply_line.words.items _ i.front t.1 i.replies c.in-Ok-reply_line.ensures put;
+        replies = replies_answered _ start _ turns turn c.in_ok-answered.answered.reply _ c.in-Ok.words.items _ i.front t.1 i.replies c.in-Ok.ensures put;
       },
     )
 

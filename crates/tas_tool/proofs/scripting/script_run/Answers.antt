@@ -1,13 +1,12 @@
-use Rattle.std.proofs.Common.{ap, refl, Ok, Err}
-use Rattle.tas_engines.proofs.EngineEnds.{unread}
+use Rattle.std.proofs.Common.{ap, ◌∙◌, refl, Ok, Err}
+use Rattle.std.proofs.lemmas.Result.{err_from_is_err_and}
 use Rattle.tas_tool.proofs.ScriptLemmas.{script_ran}
 use Rattle.tas_tool.proofs.scripting.script_run.Goals as goal
 
-pub returns-in-Err : goal.returns-in-Err
-returns-in-Err g c = unread _ _ _ c.in-Err.fault _ c.in-Err.ensures.fault c.from.ensures
-
-pub returns-in-Ok-run_script : goal.returns-in-Ok-run_script
-returns-in-Ok-run_script g c = script_ran g.row.A.Denot _ _ _ _ _ c.as_slice.result.now (Ok tt) _ c.in-Ok.ensures.whole c.as_slice.ensures.value c.in-Ok-run_script.ensures refl
+pub returns-in_err-run_script : goal.returns-in_err-run_script
+returns-in_err-run_script g c =
+    let told = err_from_is_err_and c.from_residual-in_err-run_script.result c.from_residual-in_err-run_script.ensures.1 in
+    script_ran g.row.A.Denot _ _ _ _ _ c.as_slice.result.now (Err c.in_err-run_script.field-0.0) _ c.in_ok-bytes.ensures.whole c.as_slice.ensures.value c.in_err-run_script.ensures (told.1 ∙ ap Err told.2)
 
 pub returns : goal.returns
-returns g c = script_ran g.row.A.Denot _ _ _ _ _ c.as_slice.result.now (Err c.in-Err-run_script.fault) _ c.in-Ok.ensures.whole c.as_slice.ensures.value c.in-Err-run_script.ensures (ap Err c.from-in-Err-run_script.ensures)
+returns g c = script_ran g.row.A.Denot _ _ _ _ _ c.as_slice.result.now (Ok tt) _ c.in_ok-bytes.ensures.whole c.as_slice.ensures.value c.in_ok-run_script.ensures refl

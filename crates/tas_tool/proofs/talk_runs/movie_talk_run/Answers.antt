@@ -1,15 +1,20 @@
+use Rattle.std.proofs.Common.{refl}
+use Rattle.std.proofs.lemmas.Result.{err_from_is_err_and}
 use Rattle.tas_tool.proofs.TalkRunLemmas.{movie_unread, movie_unmade, movie_talked}
 use Rattle.tas_tool.proofs.talk_runs.movie_talk_run.Goals as goal
 
-pub returns-in-Err : goal.returns-in-Err
-returns-in-Err g c = movie_unread g.row.A.Denot _ _ _ _ _ _ c.in-Err.fault _ c.in-Err.ensures.fault c.from.ensures
+pub returns-in_err-image : goal.returns-in_err-image
+returns-in_err-image g c =
+    let p = err_from_is_err_and c.from_residual.result c.from_residual.ensures.1 in
+    rw (p.1, p.2) (movie_unread g.row.A.Denot _ _ _ _ _ _ c.in_err-image.field-0.0 _ c.in_err-image.ensures.fault refl)
 
-pub returns-in-Ok-movie_of : goal.returns-in-Ok-movie_of
-returns-in-Ok-movie_of g c =
-    movie_talked g.row.A.Denot _ _ _ _ _ _ _ _ _ c.as_slice.result.now _ c.as_slice-2.result.now c.in-Ok-movie_of.movie _ c.in-Ok.ensures.first c.as_slice.ensures.value c.in-Ok.ensures.second c.as_slice-2.ensures.value c.in-Ok-movie_of.ensures
-    c.talk_from.ensures
+pub returns-in_err-movie : goal.returns-in_err-movie
+returns-in_err-movie g c =
+    let p = err_from_is_err_and c.from_residual-in_err-movie.result c.from_residual-in_err-movie.ensures.1 in
+    rw (p.1, p.2)
+    (movie_unmade g.row.A.Denot _ _ _ _ _ _ _ c.as_slice.result.now _ c.as_slice-2.result.now c.in_err-movie.field-0.0 _ c.in_ok-image.ensures.first c.as_slice.ensures.value c.in_ok-image.ensures.second c.as_slice-2.ensures.value c.in_err-movie.ensures refl)
 
 pub returns : goal.returns
 returns g c =
-    movie_unmade g.row.A.Denot _ _ _ _ _ _ _ c.as_slice.result.now _ c.as_slice-2.result.now c.in-Err-movie_of.fault _ c.in-Ok.ensures.first c.as_slice.ensures.value c.in-Ok.ensures.second c.as_slice-2.ensures.value c.in-Err-movie_of.ensures
-    c.from-in-Err-movie_of.ensures
+    movie_talked g.row.A.Denot _ _ _ _ _ _ _ _ _ c.as_slice.result.now _ c.as_slice-2.result.now c.in_ok-movie.movie _ c.in_ok-image.ensures.first c.as_slice.ensures.value c.in_ok-image.ensures.second c.as_slice-2.ensures.value c.in_ok-movie.ensures
+    c.talk_from.ensures

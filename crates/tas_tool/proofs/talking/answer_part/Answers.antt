@@ -1,4 +1,5 @@
 use Rattle.std.proofs.Common.{[], ◌∷◌, ◌++◌, false, refl, ap, ◌∙◌}
+use Rattle.std.proofs.lemmas.Result.{err_from_is_err_and}
 use Rattle.tas_tool.specs.Talk.{lines_of}
 use Rattle.tas_tool.proofs.TalkLemmas.{nothing_answered, no_newline, text_more, answered_more, line_breaks, line_quits, part_memory}
 use Rattle.tas_tool.proofs.talking.answer_part.Goals as goal
@@ -18,35 +19,37 @@ returns-in-Err-clause-turn g c = λ said holds none.
 pub loop-front-preserved : goal.loop-front-preserved
 loop-front-preserved g c = record {
   number = c.answer_line.ensures.number ∙ c.loop-front.invariant.number;
-  stands = rw c.in-Ok-Some.field-0-is at c.in-Ok-Some.ensures.stands;
+  stands = rw c.in-Some-2.is at c.in_ok-next.ensures.stands;
   turns = λ said holds none.
       let (xs, part, i) = c.loop-front.invariant.turns said holds none in
       let whole = no_newline part c.in-Some.front.now i.none c.in-Some.ensures.some.1 in
-      let (x, same, answered) = (rw c.in-Ok-Some.field-0-is at c.in-Ok-Some.ensures.turn) (part ++ c.in-Some.front.now) (c.in_default-add.ensures part i.holds) whole in (
+      let (x, same, answered) = (rw c.in-Some-2.is at c.in_ok-next.ensures.turn) (part ++ c.in-Some.front.now) (c.in_default-add.ensures part i.holds) whole in (
         xs ++ x ∷ [],
         [],
         record {
           text = text_more _ part c.in-Some.front.now c.in-Some.after.now xs x (i.text ∙ ap (λ l. lines_of xs ++ (part ++ l)) c.in-Some.ensures.some.0) same;
           none = tt;
           holds = c.clear.ensures;
-          answered = answered_more _ c.loop-front.seat c.answer_line.new.seat xs (x ∷ []) _ c.loop-front.reached c.in-Ok-Some.next _ _ _ i.answered answered;
+          answered = answered_more _ c.loop-front.seat c.answer_line.new.seat xs (x ∷ []) _ c.loop-front.reached c.in-Some-2.next _ _ _ i.answered answered;
         },
       );
 }
 
-pub returns-in-Ok-None-clause-turn : goal.returns-in-Ok-None-clause-turn
-returns-in-Ok-None-clause-turn g c = λ said holds none.
+pub returns-in_default-2-clause-turn : goal.returns-in_default-2-clause-turn
+returns-in_default-2-clause-turn g c = λ said holds none.
     let (xs, part, i) = c.loop-front.invariant.turns said holds none in
     let whole = no_newline part c.in-Some.front.now i.none c.in-Some.ensures.some.1 in
     line_quits c.args.seat.now c.loop-front.seat c.answer_line.new.seat xs _ c.loop-front.reached _ part c.in-Some.front.now c.in-Some.after.now [] false _ _ _ i.answered (i.text ∙ ap (λ l. lines_of xs ++ (part ++ l)) c.in-Some.ensures.some.0) whole
-    ((rw c.in-Ok-None.field-0-is at c.in-Ok-None.ensures.turn) (part ++ c.in-Some.front.now) (c.in_default-add.ensures part i.holds) whole)
+    ((rw c.in_default-2.is at c.in_ok-next.ensures.turn) (part ++ c.in-Some.front.now) (c.in_default-add.ensures part i.holds) whole)
 
-pub returns-in-Err-answer_line-clause-turn : goal.returns-in-Err-answer_line-clause-turn
-returns-in-Err-answer_line-clause-turn g c = λ said holds none.
+pub returns-in_err-next-clause-turn : goal.returns-in_err-next-clause-turn
+returns-in_err-next-clause-turn g c = λ said holds none.
     let (xs, part, i) = c.loop-front.invariant.turns said holds none in
     let whole = no_newline part c.in-Some.front.now i.none c.in-Some.ensures.some.1 in
-    line_breaks c.args.seat.now c.loop-front.seat c.answer_line.new.seat xs _ c.loop-front.reached _ part c.in-Some.front.now c.in-Some.after.now [] false _ _ _ c.in-Err-answer_line.fault i.answered
-    (i.text ∙ ap (λ l. lines_of xs ++ (part ++ l)) c.in-Some.ensures.some.0) (c.in-Err-answer_line.ensures.turn (part ++ c.in-Some.front.now) (c.in_default-add.ensures part i.holds) whole)
+    let p = err_from_is_err_and c.from_residual.result c.from_residual.ensures.1 in
+    rw (p.1, p.2)
+    (line_breaks c.args.seat.now c.loop-front.seat c.answer_line.new.seat xs _ c.loop-front.reached _ part c.in-Some.front.now c.in-Some.after.now [] false _ _ _ c.in_err-next.field-0.0 i.answered
+    (i.text ∙ ap (λ l. lines_of xs ++ (part ++ l)) c.in-Some.ensures.some.0) (c.in_err-next.ensures.turn (part ++ c.in-Some.front.now) (c.in_default-add.ensures part i.holds) whole))
 
 pub returns-clause-turn : goal.returns-clause-turn
 returns-clause-turn g c = λ said holds none.

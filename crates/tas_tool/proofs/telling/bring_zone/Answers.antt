@@ -9,13 +9,13 @@ own_len-requires-clause-own g c = own_stays c.args.seat.now c.share.new.seat c.r
 pub own_len-requires-clause-made : goal.own_len-requires-clause-made
 own_len-requires-clause-made g c = c.requires.made ∙ sym c.share.ensures.seat.made
 
-pub returns-in-Ok-clause-seen : goal.returns-in-Ok-clause-seen
-returns-in-Ok-clause-seen g c = seen_more c.args.seat.now c.share.new.seat c.own_len.new.seat c.share.ensures.seat c.own_len.ensures.seen
+pub returns-clause-seen : goal.returns-clause-seen
+returns-clause-seen g c = seen_more c.args.seat.now c.share.new.seat c.own_len.new.seat c.share.ensures.seat c.own_len.ensures.seen
 
-pub returns-in-Err-own_len-clause-seen : goal.returns-in-Err-own_len-clause-seen
-returns-in-Err-own_len-clause-seen g c = seen_more c.args.seat.now c.share.new.seat c.own_len.new.seat c.share.ensures.seat c.own_len.ensures.seen
+pub returns-in_err-len-clause-seen : goal.returns-in_err-len-clause-seen
+returns-in_err-len-clause-seen g c = seen_more c.args.seat.now c.share.new.seat c.own_len.new.seat c.share.ensures.seat c.own_len.ensures.seen
 
-pub returns-in-Ok-clause-zone : goal.returns-in-Ok-clause-zone
-returns-in-Ok-clause-zone g c =
-    brought c.args.seat.now c.share.new.seat c.own_len.new.seat c.args.made c.in-Ok.len _ c.requires.own c.requires.made c.share.ensures.seat c.in_default.ensures.zone c.own_len.ensures.seen c.own_len.ensures.zone
-    c.in-Ok.ensures.reply.0 c.in-Ok.ensures.reply.1
+pub returns-clause-zone : goal.returns-clause-zone
+returns-clause-zone g c =
+    brought c.args.seat.now c.share.new.seat c.own_len.new.seat c.args.made c.in_ok-len.len _ c.requires.own c.requires.made c.share.ensures.seat c.in_default.ensures.zone c.own_len.ensures.seen c.own_len.ensures.zone
+    c.in_ok-len.ensures.reply.0 c.in_ok-len.ensures.reply.1

@@ -1,18 +1,21 @@
 use Rattle.std.proofs.Common.{ℕ, sym, subst, ◌∙◌}
+use Rattle.std.proofs.lemmas.Result.{err_from_is_err_and}
 use Rattle.std.proofs.lemmas.Result.{MatchResult-weaker}
 use Rattle.tas_tool.specs.Talking.{TellsError}
 use Rattle.tas_tool.proofs.TellingLemmas.{talk_fault, memory_fault, told_picture, told_no_picture, told_undrawn}
 use Rattle.tas_tool.proofs.telling.tell_picture.Goals as goal
 
-pub returns-in-Ok-unshown-clause-answer : goal.returns-in-Ok-unshown-clause-answer
-returns-in-Ok-unshown-clause-answer g c =
+pub returns-in-Err-clause-answer : goal.returns-in-Err-clause-answer
+returns-in-Err-clause-answer g c =
     MatchResult-weaker c.told_reply.result c.told_reply.ensures
-    (λ told is. told_undrawn g.row.A.Denot c.args.seat.now c.shot.new.seat c.unshown.new.seat told.made c.args.frame c.in-Err.error c.in-Ok-unshown.reply told.bytes.items c.requires.own (is.1 ∙ c.requires.made) c.shot.ensures.seat c.unshown.ensures.seen
-    c.unshown.ensures.zone c.in-Err.ensures.zone c.in-Err.ensures.reply c.in-Ok-unshown.ensures.reply (subst (λ (n : ℕ). TellsError n c.in-Err.error c.in-Ok-unshown.reply) (sym is.1) c.in-Ok-unshown.ensures.tells) is.0)
+    (λ told is. told_undrawn g.row.A.Denot c.args.seat.now c.shot.new.seat c.unshown.new.seat told.made c.args.frame c.in-Err.error c.in_ok-reply-in-Err.reply told.bytes.items c.requires.own (is.1 ∙ c.requires.made) c.shot.ensures.seat c.unshown.ensures.seen
+    c.unshown.ensures.zone c.in-Err.ensures.zone c.in-Err.ensures.reply c.in_ok-reply-in-Err.ensures.reply (subst (λ (n : ℕ). TellsError n c.in-Err.error c.in_ok-reply-in-Err.reply) (sym is.1) c.in_ok-reply-in-Err.ensures.tells) is.0)
     (λ fault is. memory_fault c.unshown.new.seat fault is)
 
-pub returns-in-Err-unshown-clause-answer : goal.returns-in-Err-unshown-clause-answer
-returns-in-Err-unshown-clause-answer g c = talk_fault c.unshown.new.seat c.in-Err-unshown.fault c.in-Err-unshown.ensures.reply
+pub returns-in_err-reply-in-Err-clause-answer : goal.returns-in_err-reply-in-Err-clause-answer
+returns-in_err-reply-in-Err-clause-answer g c =
+    let p = err_from_is_err_and c.from_residual.result c.from_residual.ensures.1 in
+    rw (p.1, p.2) (talk_fault c.unshown.new.seat c.in_err-reply-in-Err.field-0.0 c.in_err-reply-in-Err.ensures.reply)
 
 pub returns-in-Ok-picture_answer-clause-answer : goal.returns-in-Ok-picture_answer-clause-answer
 returns-in-Ok-picture_answer-clause-answer g c =
