@@ -1,7 +1,8 @@
 //! What the calls are made on, in memory that isn't refused.
 
+use crate::checks::expect_ok;
 use std::alloc::{AllocError, Allocator, Global};
-use std::test::Fail;
+use std::process::Abort;
 use tas_movie::{Edit, Inputs, Movie, apply, check};
 use vcs_machine::{Cart, Input};
 
@@ -36,29 +37,33 @@ pub fn copies<A: Allocator>(alloc: A, input: Input, count: usize) -> Result<Inpu
     Ok(Inputs::from_vec(vec![in alloc; input; count]?))
 }
 
+/// Changes the movie, where the edit fits it.
+fn make<R: Abort>(rt: &R, movie: &mut Movie, edit: &Edit) {
+    expect_ok(rt, check(movie, edit));
+    apply(movie, edit);
+}
+
 /// A movie of so many frames with nothing pressed.
-pub fn movie_of(alloc: Global, program: &[u8], count: usize) -> Result<Movie, Fail> {
-    let cart = Cart::from_bytes(alloc, &image(program))?;
-    let mut movie = Movie::new(alloc, &cart)?;
+pub fn movie_of<R: Abort>(rt: &R, alloc: Global, program: &[u8], count: usize) -> Movie {
+    let cart = expect_ok(rt, Cart::from_bytes(alloc, &image(program)));
+    let mut movie = expect_ok(rt, Movie::new(alloc, &cart));
     let insert = Edit::Insert {
         at: 0,
-        inputs: copies(alloc, Input::none(), count)?,
+        inputs: expect_ok(rt, copies(alloc, Input::none(), count)),
     };
-    check(&movie, &insert)?;
-    apply(&mut movie, &insert);
-    Ok(movie)
+    make(rt, &mut movie, &insert);
+    movie
 }
 
 /// The same movie with another input in the frame `at`.
-pub fn replaced(alloc: Global, movie: &Movie, at: usize) -> Result<Movie, Fail> {
-    let mut other = movie.copy(alloc)?;
+pub fn replaced<R: Abort>(rt: &R, alloc: Global, movie: &Movie, at: usize) -> Movie {
+    let mut other = expect_ok(rt, movie.copy(alloc));
     let replace = Edit::Replace {
         at,
-        inputs: copies(alloc, right(), 1)?,
+        inputs: expect_ok(rt, copies(alloc, right(), 1)),
     };
-    check(&other, &replace)?;
-    apply(&mut other, &replace);
-    Ok(other)
+    make(rt, &mut other, &replace);
+    other
 }
 
 /// Whether two movies have the same cartridge and the same inputs.

@@ -2,12 +2,12 @@
 
 ghost use Rattle.std.specs.Prelude.{◌≤◌};
 
-use crate::checks::{check_same, check_that};
+use crate::checks::{check_same, check_that, expect_ok};
 use crate::fixtures::{PLAYFIELD, are_equal, copies, image, movie_of, right};
 use crate::runs::{Answer, Heap, MOST, NEVER, Run};
 use refusals::Refusing;
 use std::alloc::Global;
-use std::test::Fail;
+use std::process::Abort;
 use tas_movie::{Edit, Inputs, Movie, ReadError, TextError, TextErrorKind, print_text, read_text};
 use vcs_machine::{Cart, CartError};
 use vcs_tia::Picture;
@@ -155,57 +155,60 @@ fn run_making(alloc: Global, made: &Made, making: Making, number: u64) -> Run
     Run::ended(has_refused, answer == Answer::Right)
 }
 
-/// Memory is asked for before the text is looked at.
-#[test]
-fn memory_comes_before_a_fault_of_the_text(rt: HostRuntime) -> Result<(), Fail> {
-    let alloc = rt.alloc();
-    let cart = Cart::blank(alloc)?;
-    let text = b"a26movie 3\n".as_slice();
-    let head = ReadError::Text(TextError {
-        line: 1,
-        kind: TextErrorKind::Head,
-    });
-    for (number, wanted) in [
-        (1, ReadError::Memory),
-        (2, ReadError::Memory),
-        (NEVER, head),
-    ] {
-        let heap = Refusing::new(alloc, number);
-        let fault = read_text(&heap, text, &cart).err();
-        check_that(&rt, ("growth", number), fault == Some(wanted));
-        check_that(
-            &rt,
-            ("growth", number),
-            heap.has_refused() == (number < NEVER),
-        );
+/// How many growths the call has, each of which is refused in turn.
+fn growths_of<R: Abort>(rt: &R, alloc: Global, made: &Made, making: Making) -> u64 {
+    for number in 1..MOST {
+        let run = run_making(alloc, made, making, number);
+        if run == Run::Done {
+            return number - 1;
+        }
+        check_same(rt, ("growth", making, number), run, Run::Refused);
     }
-    Ok(())
+    MOST
 }
 
 #[test]
-fn what_is_made_of_a_movie(rt: HostRuntime) -> Result<(), Fail> {
+fn what_is_made_of_a_movie(rt: HostRuntime) {
     let alloc = rt.alloc();
-    let movie = movie_of(alloc, PLAYFIELD, 3)?;
-    let text = print_text(alloc, &movie)?;
-    let inputs = copies(alloc, right(), 3)?;
+    let movie = movie_of(&rt, alloc, PLAYFIELD, 3);
+    let text = expect_ok(&rt, print_text(alloc, &movie));
+    let inputs = expect_ok(&rt, copies(alloc, right(), 3));
     let made = Made {
         movie,
         inputs,
         text,
     };
     for (making, growths) in MAKINGS {
-        let mut refused = 0;
-        for number in 1..MOST {
-            let run = run_making(alloc, &made, making, number);
-            if run == Run::Done {
-                break;
-            }
-            check_same(&rt, ("growth", making, number), run, Run::Refused);
-            refused = number;
-        }
-        check_same(&rt, making, refused, growths);
+        check_same(&rt, making, growths_of(&rt, alloc, &made, making), growths);
     }
-    Ok(())
+}
+
+/// What is wrong with a text of this first line where the growth with this number is refused, and whether it was.
+fn fault_of(alloc: Global, cart: &Cart, number: u64) -> (Option<ReadError>, bool)
+    requires { 1 ≤ number }
+{
+    let heap = Refusing::new(alloc, number);
+    let fault = read_text(&heap, b"a26movie 3\n", cart).err();
+    (fault, heap.has_refused())
+}
+
+/// Memory is asked for before the text is looked at.
+#[test]
+fn memory_comes_before_a_fault_of_the_text(rt: HostRuntime) {
+    let alloc = rt.alloc();
+    let cart = expect_ok(&rt, Cart::blank(alloc));
+    let head = ReadError::Text(TextError {
+        line: 1,
+        kind: TextErrorKind::Head,
+    });
+    for (number, wanted, has_refused) in [
+        (1, ReadError::Memory, true),
+        (2, ReadError::Memory, true),
+        (NEVER, head, false),
+    ] {
+        let found = fault_of(alloc, &cart, number);
+        check_same(&rt, ("growth", number), found, (Some(wanted), has_refused));
+    }
 }
 
 /// Whether two edits are equal.
@@ -247,19 +250,19 @@ enum Kind {
 }
 
 /// An edit of this kind.
-fn edit_of<'a>(heap: &'a Heap, kind: Kind) -> Result<Edit<&'a Heap>, Fail> {
-    Ok(match kind {
-        Kind::Load => Edit::Load(Cart::from_bytes(heap, &image(PLAYFIELD))?),
+fn edit_of<'a, R: Abort>(rt: &R, heap: &'a Heap, kind: Kind) -> Edit<&'a Heap> {
+    match kind {
+        Kind::Load => Edit::Load(expect_ok(rt, Cart::from_bytes(heap, &image(PLAYFIELD)))),
         Kind::Insert => Edit::Insert {
             at: 1,
-            inputs: copies(heap, right(), 5)?,
+            inputs: expect_ok(rt, copies(heap, right(), 5)),
         },
         Kind::Replace => Edit::Replace {
             at: 2,
-            inputs: copies(heap, right(), 6)?,
+            inputs: expect_ok(rt, copies(heap, right(), 6)),
         },
         Kind::Delete => Edit::Delete { at: 3, count: 7 },
-    })
+    }
 }
 
 fn copy_edit<'a>(heap: &'a Heap, edit: &Edit<&'a Heap>) -> Answer {
@@ -274,25 +277,41 @@ fn copy_edit<'a>(heap: &'a Heap, edit: &Edit<&'a Heap>) -> Answer {
 }
 
 /// The copy of an edit with one growth refused, and the same copy after it.
-fn run_copy(alloc: Global, kind: Kind, number: u64) -> Result<Run, Fail>
-    requires { 1 ≤ number }
-{
-    let heap = Refusing::new(alloc, NEVER);
-    let edit = edit_of(&heap, kind)?;
-    heap.refuse(number);
-    let mut answer = copy_edit(&heap, &edit);
+fn copy_twice<'a>(heap: &'a Heap, edit: &Edit<&'a Heap>) -> Run {
+    let mut answer = copy_edit(heap, edit);
     let has_refused = heap.has_refused();
     if has_refused {
         if answer != Answer::Memory {
-            return Ok(Run::Wrong);
+            return Run::Wrong;
         }
-        answer = copy_edit(&heap, &edit);
+        answer = copy_edit(heap, edit);
     }
-    Ok(Run::ended(has_refused, answer == Answer::Right))
+    Run::ended(has_refused, answer == Answer::Right)
+}
+
+fn run_copy<R: Abort>(rt: &R, alloc: Global, kind: Kind, number: u64) -> Run
+    requires { 1 ≤ number }
+{
+    let heap = Refusing::new(alloc, NEVER);
+    let edit = edit_of(rt, &heap, kind);
+    heap.refuse(number);
+    copy_twice(&heap, &edit)
+}
+
+/// How many growths the copy has, each of which is refused in turn.
+fn growths_of_copy<R: Abort>(rt: &R, alloc: Global, kind: Kind) -> u64 {
+    for number in 1..MOST {
+        let run = run_copy(rt, alloc, kind, number);
+        if run == Run::Done {
+            return number - 1;
+        }
+        check_same(rt, ("growth", kind, number), run, Run::Refused);
+    }
+    MOST
 }
 
 #[test]
-fn copies_of_edits(rt: HostRuntime) -> Result<(), Fail> {
+fn copies_of_edits(rt: HostRuntime) {
     let alloc = rt.alloc();
     let kinds = [
         (Kind::Load, 1),
@@ -301,16 +320,6 @@ fn copies_of_edits(rt: HostRuntime) -> Result<(), Fail> {
         (Kind::Delete, 0),
     ];
     for (kind, growths) in kinds {
-        let mut refused = 0;
-        for number in 1..MOST {
-            let run = run_copy(alloc, kind, number)?;
-            if run == Run::Done {
-                break;
-            }
-            check_same(&rt, ("growth", kind, number), run, Run::Refused);
-            refused = number;
-        }
-        check_same(&rt, kind, refused, growths);
+        check_same(&rt, kind, growths_of_copy(&rt, alloc, kind), growths);
     }
-    Ok(())
 }
