@@ -1,29 +1,65 @@
 //! Changes, scripts of them, and differences, on lists of inputs by hand.
 
-use crate::checks::{check_same, check_that};
+use crate::checks::{check_same, check_that, expect_ok, expect_some};
 use crate::movies::frame_of;
 use std::alloc::Global;
-use std::test::Fail;
+use std::process::Abort;
 use tas_edit::{ScriptFault, changes_between, edit_movie, print_changes};
 use tas_movie::{Edit, Inputs, MAX_FRAMES, Movie, apply, check, read_frame};
 use vcs_machine::Input;
 
 /// The inputs that letters stand for.
-fn inputs_of(alloc: Global, letters: &str) -> Result<Vec<Input>, Fail> {
+fn inputs_of<R: Abort>(rt: &R, alloc: Global, letters: &str) -> Vec<Input> {
     let mut list = Vec::new(alloc);
     for letter in letters.bytes() {
-        list.push(read_frame(frame_of(letter)).ok_or("no frame")?)?;
+        let input = expect_some(rt, read_frame(frame_of(letter)));
+        expect_ok(rt, list.push(input));
     }
-    Ok(list)
+    list
 }
 
-fn movie_of(alloc: Global, letters: &str) -> Result<Movie, Fail> {
-    let mut movie = Movie::blank(alloc)?;
-    let inputs = Inputs::from_vec(inputs_of(alloc, letters)?);
+fn movie_of<R: Abort>(rt: &R, alloc: Global, letters: &str) -> Movie {
+    let mut movie = expect_ok(rt, Movie::blank(alloc));
+    let inputs = Inputs::from_vec(inputs_of(rt, alloc, letters));
     let edit = Edit::Insert { at: 0, inputs };
-    check(&movie, &edit)?;
+    expect_ok(rt, check(&movie, &edit));
     apply(&mut movie, &edit);
-    Ok(movie)
+    movie
+}
+
+/// The script between two movies.
+fn script_between<R: Abort>(rt: &R, alloc: Global, old: &Movie, new: &Movie) -> Vec<u8> {
+    let changes = expect_ok(rt, changes_between(alloc, old.inputs(), new.inputs()));
+    expect_ok(rt, print_changes(alloc, changes.as_slice()))
+}
+
+/// The script between the movies that letters stand for.
+fn script_of<R: Abort>(rt: &R, alloc: Global, old: &str, new: &str) -> Vec<u8> {
+    let old = movie_of(rt, alloc, old);
+    let new = movie_of(rt, alloc, new);
+    script_between(rt, alloc, &old, &new)
+}
+
+/// How a script ends over a movie of four inputs.
+fn end_of<R: Abort>(rt: &R, alloc: Global, script: &str) -> Result<(), ScriptFault> {
+    let mut movie = movie_of(rt, alloc, "R.RF");
+    edit_movie(alloc, &mut movie, script.as_bytes())
+}
+
+/// Fails where a script ends in another way, or makes a movie of other inputs.
+fn check_edit<R: Abort>(
+    rt: &R,
+    alloc: Global,
+    (old, new): (&str, &str),
+    script: &[u8],
+    end: Result<(), ScriptFault>,
+) {
+    let wanted = inputs_of(rt, alloc, new);
+    let mut movie = movie_of(rt, alloc, old);
+    let ended = edit_movie(alloc, &mut movie, script);
+    check_same(rt, ("to", old, new), ended, end);
+    let is_made = movie.inputs() == wanted.as_slice();
+    check_that(rt, ("to", old, new), is_made);
 }
 
 /// Two movies, and the script between them by hand.
@@ -51,26 +87,16 @@ static DIFFERENCES: [(&str, &str, &str); 12] = [
 ];
 
 #[test]
-fn differences_read_as_by_hand(rt: HostRuntime) -> Result<(), Fail> {
+fn differences_read_as_by_hand(rt: HostRuntime) {
     let alloc = rt.alloc();
     for (old, new, script) in DIFFERENCES {
-        let mut movie = movie_of(alloc, old)?;
-        let wanted = movie_of(alloc, new)?;
-        let changes = changes_between(alloc, movie.inputs(), wanted.inputs())?;
-        let text = print_changes(alloc, changes.as_slice())?;
-        check_that(&rt, ("to", old, new), text.as_slice() == script.as_bytes());
-        check_same(
-            &rt,
-            ("to", old, new),
-            edit_movie(alloc, &mut movie, text.as_slice()),
-            Ok(()),
-        );
-        check_that(&rt, ("to", old, new), movie.inputs() == wanted.inputs());
+        let text = script_of(&rt, alloc, old, new);
+        check_same(&rt, ("to", old, new), text.as_slice(), script.as_bytes());
+        check_edit(&rt, alloc, (old, new), text.as_slice(), Ok(()));
     }
-    Ok(())
 }
 
-/// Scripts for a movie of four inputs, and how each ends.
+/// Scripts for the movie of [`end_of`], and how each ends.
 static SCRIPTS: [(&str, Result<(), ScriptFault>); 16] = [
     ("", Ok(())),
     ("delete 0 4\n", Ok(())),
@@ -106,24 +132,14 @@ static SCRIPTS: [(&str, Result<(), ScriptFault>); 16] = [
 ];
 
 #[test]
-fn scripts_end_as_by_hand(rt: HostRuntime) -> Result<(), Fail> {
+fn scripts_end_as_by_hand(rt: HostRuntime) {
     let alloc = rt.alloc();
     for (script, end) in SCRIPTS {
-        let mut movie = movie_of(alloc, "R.RF")?;
-        check_same(
-            &rt,
-            script,
-            edit_movie(alloc, &mut movie, script.as_bytes()),
-            end,
-        );
+        check_same(&rt, script, end_of(&rt, alloc, script), end);
     }
-    let mut movie = movie_of(alloc, "R.RF")?;
     let script =
         b"delete 1 2\ninsert 1 3 ....F ..... .....\nreplace 0 1 ..... ..... .....\ndelete 9 9\n";
-    let end = edit_movie(alloc, &mut movie, script);
-    check_same(&rt, "end", end, Err(ScriptFault::OutOfPlace(4)));
-    let wanted = movie_of(alloc, ".FFFF")?;
-    check_that(&rt, "movie", movie.inputs() == wanted.inputs());
+    let end = Err(ScriptFault::OutOfPlace(4));
+    check_edit(&rt, alloc, ("R.RF", ".FFFF"), script, end);
     check_same(&rt, "MAX_FRAMES", MAX_FRAMES, 262144);
-    Ok(())
 }

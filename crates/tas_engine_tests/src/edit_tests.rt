@@ -1,21 +1,19 @@
 //! Whole runs of `tas edit` and `tas diff`, over readers and writers of the tests' own.
 
-use crate::checks::{check_same, check_that};
+use crate::checks::{check_same, expect_ok};
 use crate::movies::{BLANK, BLANK_DIGEST, older_text_of, text_of};
+use crate::ran::{Ran, check_fault, check_ran};
 use std::alloc::Global;
-use std::test::Fail;
+use std::process::Abort;
 use tas_edit::{diff_run, edit_run};
 use tas_engines::{INPUT_LIMIT, ToolFault};
 use tas_movie::{TextError, TextErrorKind};
 use test_streams::{Failure, Filler, Room, Taker};
 
 /// The text of a movie of the blank cartridge.
-fn blank_text(alloc: Global, letters: &[u8]) -> Result<Vec<u8>, Fail> {
-    text_of(alloc, BLANK_DIGEST, letters)
+fn blank_text<R: Abort>(rt: &R, alloc: Global, letters: &[u8]) -> Vec<u8> {
+    text_of(rt, alloc, BLANK_DIGEST, letters)
 }
-
-/// What an engine wrote, and how it ended.
-type Ran = (Vec<u8>, Result<(), ToolFault>);
 
 /// `tas edit` of these bytes.
 fn edited(alloc: Global, cart: &[u8], script: &[u8], text: &[u8]) -> Ran {
@@ -37,20 +35,17 @@ fn compared(alloc: Global, cart: &[u8], before: &[u8], after: &[u8]) -> Ran {
     (output, end)
 }
 
-/// Whether the script between two texts makes the one of the other; it is answered.
-fn go_round(alloc: Global, before: &[u8], after: &[u8]) -> Result<Vec<u8>, Fail> {
+/// The script between two texts, after a check that it makes the one of the other.
+fn go_round<R: Abort>(rt: &R, alloc: Global, before: &[u8], after: &[u8]) -> Vec<u8> {
     let (script, end) = compared(alloc, &BLANK, before, after);
-    end?;
-    let (text, end) = edited(alloc, &BLANK, script.as_slice(), before);
-    end?;
-    if text.as_slice() != after {
-        return Err("the script makes another text".into());
-    }
-    Ok(script)
+    check_same(rt, "the difference", end, Ok(()));
+    let made = edited(alloc, &BLANK, script.as_slice(), before);
+    check_ran(rt, "the text that the script makes", made, after);
+    script
 }
 
 /// A few runs of frames, made from a seed.
-fn frames_from(alloc: Global, seed: u32) -> Result<Vec<u8>, Fail> {
+fn frames_from<R: Abort>(rt: &R, alloc: Global, seed: u32) -> Vec<u8> {
     let mut state = seed;
     let mut letters = Vec::new(alloc);
     for _ in 0..seed % 9 {
@@ -61,91 +56,79 @@ fn frames_from(alloc: Global, seed: u32) -> Result<Vec<u8>, Fail> {
             _ => b'F',
         };
         for _ in 0..(state >> 16) % 4 {
-            letters.push(letter)?;
+            expect_ok(rt, letters.push(letter));
         }
     }
-    Ok(letters)
+    letters
+}
+
+/// The text of the movie of a seed.
+fn text_from<R: Abort>(rt: &R, alloc: Global, seed: u32) -> Vec<u8> {
+    let letters = frames_from(rt, alloc, seed);
+    blank_text(rt, alloc, letters.as_slice())
 }
 
 #[test]
-fn a_difference_that_is_made_gives_the_new_text(rt: HostRuntime) -> Result<(), Fail> {
+fn a_difference_that_is_made_gives_the_new_text(rt: HostRuntime) {
     let alloc = rt.alloc();
     for old in 0..24u32 {
-        let before = blank_text(alloc, frames_from(alloc, old * 7)?.as_slice())?;
+        let before = text_from(&rt, alloc, old * 7);
         for new in 0..24u32 {
-            let after = blank_text(alloc, frames_from(alloc, new * 7)?.as_slice())?;
-            let script = go_round(alloc, before.as_slice(), after.as_slice())?;
+            let after = text_from(&rt, alloc, new * 7);
+            let script = go_round(&rt, alloc, before.as_slice(), after.as_slice());
             let same = before.as_slice() == after.as_slice();
             check_same(&rt, ("to", old, new), script.is_empty(), same);
         }
     }
-    Ok(())
 }
 
 /// So many frames, all alike but one.
-fn long_movie(alloc: Global, len: usize, other: usize) -> Result<Vec<u8>, Fail> {
-    let mut letters = vec![in alloc; b'.'; len]?;
+fn long_movie<R: Abort>(rt: &R, alloc: Global, len: usize, other: usize) -> Vec<u8> {
+    let mut letters = expect_ok(rt, vec![in alloc; b'.'; len]);
     if let Some(letter) = letters.get_mut(other) {
         *letter = b'F';
     }
-    blank_text(alloc, letters.as_slice())
+    blank_text(rt, alloc, letters.as_slice())
+}
+
+/// Fails where the script between two texts is another one.
+fn check_script<R: Abort>(rt: &R, alloc: Global, before: &[u8], after: &[u8], wanted: &str) {
+    let script = go_round(rt, alloc, before, after);
+    check_same(rt, wanted, script.as_slice(), wanted.as_bytes());
 }
 
 #[test]
-fn the_longest_movies_are_edited_and_compared(rt: HostRuntime) -> Result<(), Fail> {
+fn the_longest_movies_are_edited_and_compared(rt: HostRuntime) {
     let alloc = rt.alloc();
-    let none = blank_text(alloc, b"")?;
-    let full = long_movie(alloc, 262144, 262144)?;
-    let other = long_movie(alloc, 262144, 40000)?;
-    let script = go_round(alloc, none.as_slice(), full.as_slice())?;
-    check_same(
-        &rt,
-        "script",
-        script.as_slice(),
-        b"insert 0 262144 ..... ..... .....\n".as_slice(),
-    );
-    let script = go_round(alloc, full.as_slice(), none.as_slice())?;
-    check_same(
-        &rt,
-        "script, 2",
-        script.as_slice(),
-        b"delete 0 262144\n".as_slice(),
-    );
-    let script = go_round(alloc, full.as_slice(), other.as_slice())?;
-    check_same(
-        &rt,
-        "script, 3",
-        script.as_slice(),
-        b"replace 40000 1 ....F ..... .....\n".as_slice(),
-    );
-    let (text, end) = edited(
-        alloc,
-        &BLANK,
-        b"insert 262144 1 ..... ..... .....\n",
-        full.as_slice(),
-    );
-    check_same(&rt, "end", end, Err(ToolFault::EditLong { line: 1 }));
-    check_that(&rt, "text", text.is_empty());
-    let (text, end) = edited(alloc, &BLANK, b"", other.as_slice());
-    check_same(&rt, "end, 2", end, Ok(()));
-    check_that(&rt, "text, 2", text.as_slice() == other.as_slice());
-    Ok(())
+    let none = blank_text(&rt, alloc, b"");
+    let full = long_movie(&rt, alloc, 262144, 262144);
+    let other = long_movie(&rt, alloc, 262144, 40000);
+    let scripts = [
+        (&none, &full, "insert 0 262144 ..... ..... .....\n"),
+        (&full, &none, "delete 0 262144\n"),
+        (&full, &other, "replace 40000 1 ....F ..... .....\n"),
+    ];
+    for (before, after, script) in scripts {
+        check_script(&rt, alloc, before.as_slice(), after.as_slice(), script);
+    }
+    let one_more = b"insert 262144 1 ..... ..... .....\n";
+    let ran = edited(alloc, &BLANK, one_more, full.as_slice());
+    check_fault(&rt, "one more", ran, ToolFault::EditLong { line: 1 });
+    let ran = edited(alloc, &BLANK, b"", other.as_slice());
+    check_ran(&rt, "no change", ran, other.as_slice());
 }
 
 /// Older texts are read, and the text of runs is written.
 #[test]
-fn older_texts_are_edited_and_compared(rt: HostRuntime) -> Result<(), Fail> {
+fn older_texts_are_edited_and_compared(rt: HostRuntime) {
     let alloc = rt.alloc();
-    let before = older_text_of(alloc, BLANK_DIGEST, b"..RR.")?;
-    let after = blank_text(alloc, b"..RRRR.")?;
+    let before = older_text_of(&rt, alloc, BLANK_DIGEST, b"..RR.");
+    let after = blank_text(&rt, alloc, b"..RRRR.");
     let script = b"insert 4 2 R.... ..... .....\n".as_slice();
-    let (text, end) = edited(alloc, &BLANK, script, before.as_slice());
-    check_same(&rt, "end", end, Ok(()));
-    check_that(&rt, "text", text.as_slice() == after.as_slice());
-    let (difference, end) = compared(alloc, &BLANK, before.as_slice(), after.as_slice());
-    check_same(&rt, "end, 2", end, Ok(()));
-    check_same(&rt, "difference", difference.as_slice(), script);
-    Ok(())
+    let ran = edited(alloc, &BLANK, script, before.as_slice());
+    check_ran(&rt, "edit", ran, after.as_slice());
+    let ran = compared(alloc, &BLANK, before.as_slice(), after.as_slice());
+    check_ran(&rt, "diff", ran, script);
 }
 
 /// Scripts for a movie of two frames, and how each ends.
@@ -168,21 +151,19 @@ static FAULTS: [(&[u8], ToolFault); 9] = [
 ];
 
 #[test]
-fn a_line_at_fault_leaves_nothing_written(rt: HostRuntime) -> Result<(), Fail> {
+fn a_line_at_fault_leaves_nothing_written(rt: HostRuntime) {
     let alloc = rt.alloc();
-    let two = blank_text(alloc, b"R.")?;
+    let two = blank_text(&rt, alloc, b"R.");
     for (number, (script, fault)) in FAULTS.iter().enumerate() {
-        let (text, end) = edited(alloc, &BLANK, script, two.as_slice());
-        check_same(&rt, ("script", number), end, Err(*fault));
-        check_that(&rt, ("script", number), text.is_empty());
+        let ran = edited(alloc, &BLANK, script, two.as_slice());
+        check_fault(&rt, ("script", number), ran, *fault);
     }
-    Ok(())
 }
 
 #[test]
-fn faults_of_the_movies_come_in_order(rt: HostRuntime) -> Result<(), Fail> {
+fn faults_of_the_movies_come_in_order(rt: HostRuntime) {
     let alloc = rt.alloc();
-    let two = blank_text(alloc, b"R.")?;
+    let two = blank_text(&rt, alloc, b"R.");
     let bad = b"a26movie 2\n".as_slice();
     let text = ToolFault::Text(TextError {
         line: 2,
@@ -199,9 +180,8 @@ fn faults_of_the_movies_come_in_order(rt: HostRuntime) -> Result<(), Fail> {
         ),
     ];
     for (number, (cart, script, input, fault)) in edits.iter().enumerate() {
-        let (output, end) = edited(alloc, cart, script, input);
-        check_same(&rt, ("edit", number), end, Err(*fault));
-        check_that(&rt, ("edit", number), output.is_empty());
+        let ran = edited(alloc, cart, script, input);
+        check_fault(&rt, ("edit", number), ran, *fault);
     }
     let comparisons: [(&[u8], &[u8], &[u8], ToolFault); 3] = [
         (b"", bad, b"", ToolFault::Size(0)),
@@ -209,11 +189,9 @@ fn faults_of_the_movies_come_in_order(rt: HostRuntime) -> Result<(), Fail> {
         (&BLANK, two.as_slice(), bad, text),
     ];
     for (number, (cart, before, after, fault)) in comparisons.iter().enumerate() {
-        let (output, end) = compared(alloc, cart, before, after);
-        check_same(&rt, ("comparison", number), end, Err(*fault));
-        check_that(&rt, ("comparison", number), output.is_empty());
+        let ran = compared(alloc, cart, before, after);
+        check_fault(&rt, ("comparison", number), ran, *fault);
     }
-    Ok(())
 }
 
 /// The inputs, how many reads of each succeed where it fails, the fault, and how many reads there were of each.
@@ -245,8 +223,7 @@ fn inputs_are_read_in_order_up_to_a_fault(rt: HostRuntime) {
         let mut third = Filler::new(0, lens[2], fails[2]);
         let mut output = Vec::new(alloc);
         let end = edit_run(alloc, &mut first, &mut second, &mut third, &mut output);
-        check_same(&rt, ("case", number), end, Err(*fault));
-        check_that(&rt, ("case", number), output.is_empty());
+        check_fault(&rt, ("case", number), (output, end), *fault);
         check_same(
             &rt,
             ("case", number),
@@ -256,30 +233,37 @@ fn inputs_are_read_in_order_up_to_a_fault(rt: HostRuntime) {
     }
 }
 
+/// Fails where the text of a movie without its first frame, for which there is so much room, goes out in another way.
+fn check_room<R: Abort>(
+    rt: &R,
+    alloc: Global,
+    (old, new): (&[u8], &[u8]),
+    room: usize,
+    end: Result<(), ToolFault>,
+) {
+    let mut output = Taker::new(alloc, 7, Room::Bytes(room), Failure::Error);
+    let mut cart = BLANK.as_slice();
+    let mut script = b"delete 0 1\n".as_slice();
+    let mut input = old;
+    let ended = edit_run(alloc, &mut cart, &mut script, &mut input, &mut output);
+    check_same(rt, ("room", room), ended, end);
+    let written = &new[..room.min(new.len())];
+    check_same(rt, ("room", room), output.taken.as_slice(), written);
+}
+
 #[test]
-fn texts_go_out_in_small_pieces(rt: HostRuntime) -> Result<(), Fail> {
+fn texts_go_out_in_small_pieces(rt: HostRuntime) {
     let alloc = rt.alloc();
-    let old = blank_text(alloc, b"R.")?;
-    let new = blank_text(alloc, b".")?;
+    let old = blank_text(&rt, alloc, b"R.");
+    let new = blank_text(&rt, alloc, b".");
+    let texts = (old.as_slice(), new.as_slice());
     for (room, end) in [
         (1000, Ok(())),
         (18, Err(ToolFault::Write { written: 18 })),
         (0, Err(ToolFault::Write { written: 0 })),
     ] {
-        let mut output = Taker::new(alloc, 7, Room::Bytes(room), Failure::Error);
-        let mut cart = BLANK.as_slice();
-        let mut script = b"delete 0 1\n".as_slice();
-        let mut input = old.as_slice();
-        let ended = edit_run(alloc, &mut cart, &mut script, &mut input, &mut output);
-        check_same(&rt, ("room", room), ended, end);
-        let written = room.min(new.len());
-        check_that(
-            &rt,
-            ("room", room),
-            output.taken.as_slice() == &new.as_slice()[..written],
-        );
+        check_room(&rt, alloc, texts, room, end);
     }
-    Ok(())
 }
 
 /// The frames of examples/joystick.movie.
@@ -289,26 +273,24 @@ static JOYSTICK: &[u8] =
 /// The frames of examples/motion.movie.
 static MOTION: &[u8] = b"..... ..... ..... x180\n";
 
+/// Fails where a movie of these runs isn't this long, or these changes aren't made and unmade.
+fn check_example<R: Abort>(rt: &R, alloc: Global, runs: &[u8], size: usize, changes: &[u8]) {
+    let mut old = blank_text(rt, alloc, b"");
+    expect_ok(rt, old.extend_from_slice(runs));
+    check_same(rt, ("size", size), old.len(), size);
+    let (new, end) = edited(alloc, &BLANK, changes, old.as_slice());
+    check_same(rt, ("size", size), end, Ok(()));
+    let same = new.as_slice() == old.as_slice();
+    check_same(rt, ("size", size), same, false);
+    go_round(rt, alloc, old.as_slice(), new.as_slice());
+    go_round(rt, alloc, new.as_slice(), old.as_slice());
+}
+
 #[test]
-fn the_movies_of_the_examples_go_round(rt: HostRuntime) -> Result<(), Fail> {
+fn the_movies_of_the_examples_go_round(rt: HostRuntime) {
     let alloc = rt.alloc();
-    let rows: [(&[u8], usize, &[u8]); 2] = [
-        (
-            JOYSTICK,
-            255,
-            b"delete 0 10\nreplace 0 5 R.... ..... .....\ninsert 5 3 ....F ..... .....\n",
-        ),
-        (MOTION, 104, b"delete 40 9\n"),
-    ];
-    for (number, (runs, size, changes)) in rows.iter().enumerate() {
-        let mut old = blank_text(alloc, b"")?;
-        old.extend_from_slice(*runs)?;
-        check_same(&rt, ("movie", number), old.len(), *size);
-        let (new, end) = edited(alloc, &BLANK, *changes, old.as_slice());
-        check_same(&rt, ("movie", number), end, Ok(()));
-        check_that(&rt, ("movie", number), new.as_slice() != old.as_slice());
-        go_round(alloc, old.as_slice(), new.as_slice())?;
-        go_round(alloc, new.as_slice(), old.as_slice())?;
-    }
-    Ok(())
+    let changes =
+        b"delete 0 10\nreplace 0 5 R.... ..... .....\ninsert 5 3 ....F ..... .....\n".as_slice();
+    check_example(&rt, alloc, JOYSTICK, 255, changes);
+    check_example(&rt, alloc, MOTION, 104, b"delete 40 9\n");
 }

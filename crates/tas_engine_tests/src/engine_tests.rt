@@ -2,11 +2,12 @@
 
 use crate::checks::{check_same, check_that};
 use crate::movies::{
-    HALTING, HALTING_DIGEST, PLAYFIELD, PLAYFIELD_DIGEST, STORES, image_of, older_text_of, text_of,
+    HALTING_DIGEST, PLAYFIELD, PLAYFIELD_DIGEST, STORES, image_of, older_text_of, text_of,
 };
+use crate::ran::{Ran, check_fault, check_ran};
 use std::alloc::Global;
-use std::io::{Read, Write};
-use std::test::Fail;
+use std::io::Read;
+use std::process::Abort;
 use tas_engines::{INPUT_LIMIT, ToolFault, check_run, migrate_run, shot_run, trace_run};
 use tas_movie::{TextError, TextErrorKind};
 use test_streams::{Failure, Filler, Giver, Room, Taker};
@@ -15,99 +16,108 @@ fn text_fault(line: usize, kind: TextErrorKind) -> ToolFault {
     ToolFault::Text(TextError { line, kind })
 }
 
+/// `tas trace` of three instructions.
+fn traced<C: Read>(alloc: Global, cart: &mut C) -> Ran {
+    let mut output = Vec::new(alloc);
+    let end = trace_run(alloc, 3, cart, &mut output);
+    (output, end)
+}
+
+/// `tas check` of these inputs.
+fn checked<C: Read, T: Read>(alloc: Global, cart: &mut C, text: &mut T) -> Ran {
+    let mut output = Vec::new(alloc);
+    let end = check_run(alloc, cart, text, &mut output);
+    (output, end)
+}
+
+/// `tas migrate` of these bytes.
+fn migrated(alloc: Global, cart: &[u8], text: &[u8]) -> Ran {
+    let mut cart = cart;
+    let mut text = text;
+    let mut output = Vec::new(alloc);
+    let end = migrate_run(alloc, &mut cart, &mut text, &mut output);
+    (output, end)
+}
+
 static TRACE: &[u8] =
     b"F000 A9 42 00 00 FD 34 2\nF002 85 42 00 00 FD 34 3\nF004 4C 42 00 00 FD 34 3\n";
 
 #[test]
-fn a_trace_is_written_as_by_hand(rt: HostRuntime) -> Result<(), Fail> {
+fn a_trace_is_written_as_by_hand(rt: HostRuntime) {
     let alloc = rt.alloc();
-    let bytes = image_of(alloc, STORES)?;
-    let mut written = Vec::new(alloc);
-    check_same(
-        &rt,
-        "trace_run",
-        trace_run(alloc, 3, &mut bytes.as_slice(), &mut written),
-        Ok(()),
-    );
-    check_same(&rt, "written", written.as_slice(), TRACE);
-    Ok(())
+    let bytes = image_of(&rt, alloc, STORES);
+    let ran = traced(alloc, &mut bytes.as_slice());
+    check_ran(&rt, "trace", ran, TRACE);
 }
 
 #[test]
-fn a_trace_goes_out_in_small_pieces(rt: HostRuntime) -> Result<(), Fail> {
+fn a_trace_goes_out_in_small_pieces(rt: HostRuntime) {
     let alloc = rt.alloc();
-    let bytes = image_of(alloc, STORES)?;
+    let bytes = image_of(&rt, alloc, STORES);
     let mut output = Taker::new(alloc, 7, Room::Bytes(1000), Failure::Error);
-    check_same(
-        &rt,
-        "trace_run",
-        trace_run(alloc, 3, &mut bytes.as_slice(), &mut output),
-        Ok(()),
-    );
+    let answer = trace_run(alloc, 3, &mut bytes.as_slice(), &mut output);
+    check_same(&rt, "answer", answer, Ok(()));
     check_same(&rt, "output.taken", output.taken.as_slice(), TRACE);
-    Ok(())
+}
+
+/// Fails where a writer that stops has other bytes than the wanted ones, is told of in another way, or was written to
+/// more or less often.
+fn check_stop<R: Abort>(
+    rt: &R,
+    output: &Taker,
+    answer: Result<(), ToolFault>,
+    wanted: &[u8],
+    writes: usize,
+) {
+    let written = wanted.len();
+    let fault = ToolFault::Write { written };
+    check_same(rt, ("room", written), answer, Err(fault));
+    check_same(rt, ("room", written), output.taken.as_slice(), wanted);
+    check_same(rt, ("room", written), output.writes, writes);
 }
 
 #[test]
-fn a_writer_that_stops_has_the_first_bytes(rt: HostRuntime) -> Result<(), Fail> {
+fn a_writer_that_stops_has_the_first_bytes(rt: HostRuntime) {
     let alloc = rt.alloc();
-    let bytes = image_of(alloc, STORES)?;
+    let bytes = image_of(&rt, alloc, STORES);
     for failure in [Failure::Error, Failure::Nothing] {
         for room in [0, 1, 20, 25, 26, 74] {
             let mut output = Taker::new(alloc, 9, Room::Bytes(room), failure);
             let answer = trace_run(alloc, 3, &mut bytes.as_slice(), &mut output);
-            check_same(
-                &rt,
-                ("room", room),
-                answer,
-                Err(ToolFault::Write { written: room }),
-            );
-            check_same(&rt, ("room", room), output.taken.as_slice(), &TRACE[..room]);
             // As many writes as take bytes, and the one that fails or takes none.
-            check_same(&rt, ("room", room), output.writes, room.div_ceil(9) + 1);
+            let writes = room.div_ceil(9) + 1;
+            check_stop(&rt, &output, answer, &TRACE[..room], writes);
         }
     }
-    Ok(())
 }
 
 #[test]
-fn other_sizes_are_refused(rt: HostRuntime) -> Result<(), Fail> {
+fn other_sizes_are_refused(rt: HostRuntime) {
     let alloc = rt.alloc();
     for size in [0, 1, 7, 2047, 4095, 4097, INPUT_LIMIT] {
-        let mut written = Vec::new(alloc);
-        let answer = trace_run(alloc, 3, &mut Filler::new(0, size, 0), &mut written);
-        check_same(&rt, ("size", size), answer, Err(ToolFault::Size(size)));
-        check_that(&rt, ("size", size), written.is_empty());
+        let ran = traced(alloc, &mut Filler::new(0, size, 0));
+        check_fault(&rt, ("size", size), ran, ToolFault::Size(size));
     }
-    Ok(())
 }
 
 #[test]
-fn one_byte_past_the_limit_is_too_long(rt: HostRuntime) -> Result<(), Fail> {
+fn one_byte_past_the_limit_is_too_long(rt: HostRuntime) {
     let alloc = rt.alloc();
     for more in [1, 100_000] {
         let mut input = Filler::new(0, INPUT_LIMIT + more, 0);
-        let mut written = Vec::new(alloc);
-        let answer = trace_run(alloc, 3, &mut input, &mut written);
-        check_same(&rt, "answer", answer, Err(ToolFault::TooLong));
+        check_fault(&rt, more, traced(alloc, &mut input), ToolFault::TooLong);
         check_same(&rt, "input.left", input.left, more - 1);
-        check_that(&rt, "written", written.is_empty());
     }
-    Ok(())
 }
 
 #[test]
-fn a_failed_read_is_the_last_one(rt: HostRuntime) -> Result<(), Fail> {
+fn a_failed_read_is_the_last_one(rt: HostRuntime) {
     let alloc = rt.alloc();
     for fails_at in [1, 2] {
         let mut input = Filler::new(0, 4096, fails_at);
-        let mut written = Vec::new(alloc);
-        let answer = trace_run(alloc, 3, &mut input, &mut written);
-        check_same(&rt, "answer", answer, Err(ToolFault::Read));
+        check_fault(&rt, fails_at, traced(alloc, &mut input), ToolFault::Read);
         check_same(&rt, "input.reads", input.reads, fails_at);
-        check_that(&rt, "written", written.is_empty());
     }
-    Ok(())
 }
 
 /// Which engine a test runs.
@@ -120,274 +130,191 @@ enum Engine {
 }
 
 /// Runs an engine on a cartridge and a movie text.
-fn run<C: Read, R: Read, W: Write>(
+fn run(alloc: Global, engine: Engine, cart: &mut Giver, text: &mut Giver) -> Ran {
+    let mut output = Vec::new(alloc);
+    let end = match engine {
+        Engine::Trace => trace_run(alloc, 3, cart, &mut output),
+        Engine::Check => check_run(alloc, cart, text, &mut output),
+        Engine::Migrate => migrate_run(alloc, cart, text, &mut output),
+        Engine::Shot => shot_run(alloc, 0, cart, text, &mut output),
+    };
+    (output, end)
+}
+
+/// Fails where an engine, of whose reads of the cartridge and of the text the ones with these numbers fail, ends in another
+/// way or makes other numbers of reads. Something is written where none fails (at 0), and nothing else.
+fn check_reads<R: Abort>(
+    rt: &R,
     alloc: Global,
-    engine: Engine,
-    cart: &mut C,
-    text: &mut R,
-    output: &mut W,
-) -> Result<(), ToolFault> {
-    match engine {
-        Engine::Trace => trace_run(alloc, 3, cart, output),
-        Engine::Check => check_run(alloc, cart, text, output),
-        Engine::Migrate => migrate_run(alloc, cart, text, output),
-        Engine::Shot => shot_run(alloc, 0, cart, text, output),
-    }
+    files: (&[u8], &[u8]),
+    (engine, fails_at): (Engine, (usize, usize)),
+    end: Result<(), ToolFault>,
+    reads: (usize, usize),
+) {
+    let mut cart = Giver::new(files.0, usize::MAX, fails_at.0);
+    let mut text = Giver::new(files.1, usize::MAX, fails_at.1);
+    let (written, answer) = run(alloc, engine, &mut cart, &mut text);
+    check_same(rt, (engine, fails_at), answer, end);
+    let found = (cart.reads, text.reads);
+    check_same(rt, (engine, fails_at), found, reads);
+    check_same(rt, (engine, fails_at), written.is_empty(), end.is_err());
 }
 
 /// A cartridge is one read and its end; a text of 99 bytes, too. Nothing is read after an end or a failure.
 #[test]
-fn no_engine_reads_on(rt: HostRuntime) -> Result<(), Fail> {
+fn no_engine_reads_on(rt: HostRuntime) {
     let alloc = rt.alloc();
-    let image = image_of(alloc, PLAYFIELD)?;
-    let movie = text_of(alloc, PLAYFIELD_DIGEST, b".")?;
+    let image = image_of(&rt, alloc, PLAYFIELD);
+    let movie = text_of(&rt, alloc, PLAYFIELD_DIGEST, b".");
+    let files = (image.as_slice(), movie.as_slice());
     for (engine, texts) in [
         (Engine::Trace, 0),
         (Engine::Check, 2),
         (Engine::Migrate, 2),
         (Engine::Shot, 2),
     ] {
-        let mut written = Vec::new(alloc);
-        let mut cart = Giver::new(image.as_slice(), usize::MAX, 0);
-        let mut text = Giver::new(movie.as_slice(), usize::MAX, 0);
-        let answer = run(alloc, engine, &mut cart, &mut text, &mut written);
-        check_same(&rt, engine, answer, Ok(()));
-        check_same(&rt, engine, (cart.reads, text.reads), (2, texts));
+        check_reads(&rt, alloc, files, (engine, (0, 0)), Ok(()), (2, texts));
         for fails_at in [1, 2] {
-            let mut none = Vec::new(alloc);
-            let mut cart = Giver::new(image.as_slice(), usize::MAX, fails_at);
-            let mut text = Giver::new(movie.as_slice(), usize::MAX, 0);
-            let answer = run(alloc, engine, &mut cart, &mut text, &mut none);
-            check_same(&rt, (engine, fails_at), answer, Err(ToolFault::Read));
-            check_same(
-                &rt,
-                (engine, fails_at),
-                (cart.reads, text.reads),
-                (fails_at, 0),
-            );
-            check_that(&rt, (engine, fails_at), none.is_empty());
+            let fails = (fails_at, 0);
+            let end = Err(ToolFault::Read);
+            check_reads(&rt, alloc, files, (engine, fails), end, (fails_at, 0));
         }
     }
-    Ok(())
 }
 
 #[test]
-fn a_failed_read_of_the_text_is_the_last_one(rt: HostRuntime) -> Result<(), Fail> {
+fn a_failed_read_of_the_text_is_the_last_one(rt: HostRuntime) {
     let alloc = rt.alloc();
-    let image = image_of(alloc, PLAYFIELD)?;
-    let movie = text_of(alloc, PLAYFIELD_DIGEST, b".")?;
+    let image = image_of(&rt, alloc, PLAYFIELD);
+    let movie = text_of(&rt, alloc, PLAYFIELD_DIGEST, b".");
+    let files = (image.as_slice(), movie.as_slice());
     for engine in [Engine::Check, Engine::Migrate, Engine::Shot] {
         for fails_at in [1, 2] {
-            let mut none = Vec::new(alloc);
-            let mut cart = Giver::new(image.as_slice(), usize::MAX, 0);
-            let mut text = Giver::new(movie.as_slice(), usize::MAX, fails_at);
-            let answer = run(alloc, engine, &mut cart, &mut text, &mut none);
-            check_same(&rt, (engine, fails_at), answer, Err(ToolFault::Read));
-            check_same(
-                &rt,
-                (engine, fails_at),
-                (cart.reads, text.reads),
-                (2, fails_at),
-            );
-            check_that(&rt, (engine, fails_at), none.is_empty());
+            let fails = (0, fails_at);
+            let end = Err(ToolFault::Read);
+            check_reads(&rt, alloc, files, (engine, fails), end, (2, fails_at));
         }
     }
-    Ok(())
 }
 
 /// Either text is written as the one of runs, and the faults are those of `tas check`.
 #[test]
-fn texts_are_migrated(rt: HostRuntime) -> Result<(), Fail> {
+fn texts_are_migrated(rt: HostRuntime) {
     let alloc = rt.alloc();
-    let image = image_of(alloc, PLAYFIELD)?;
-    let older = older_text_of(alloc, PLAYFIELD_DIGEST, &[b'.'; 200])?;
-    let newer = text_of(alloc, PLAYFIELD_DIGEST, &[b'.'; 200])?;
-    check_same(&rt, "older", (older.len(), newer.len()), (3681, 104));
-    check_that(
-        &rt,
-        "newer",
-        newer.as_slice().ends_with(b"\n..... ..... ..... x200\n"),
-    );
+    let image = image_of(&rt, alloc, PLAYFIELD);
+    let older = older_text_of(&rt, alloc, PLAYFIELD_DIGEST, &[b'.'; 200]);
+    let newer = text_of(&rt, alloc, PLAYFIELD_DIGEST, &[b'.'; 200]);
+    check_same(&rt, "lengths", [older.len(), newer.len()], [3681, 104]);
+    let run_line = b"\n..... ..... ..... x200\n";
+    check_that(&rt, "newer", newer.as_slice().ends_with(run_line));
     for text in [&older, &newer] {
-        let mut written = Vec::new(alloc);
-        let mut cart = image.as_slice();
-        let answer = migrate_run(alloc, &mut cart, &mut text.as_slice(), &mut written);
-        check_same(&rt, "answer", answer, Ok(()));
-        check_that(&rt, "written", written.as_slice() == newer.as_slice());
+        let ran = migrated(alloc, image.as_slice(), text.as_slice());
+        check_ran(&rt, ("from", text.len()), ran, newer.as_slice());
     }
-    Ok(())
 }
 
 #[test]
-fn faults_of_migrating(rt: HostRuntime) -> Result<(), Fail> {
+fn faults_of_migrating(rt: HostRuntime) {
     let alloc = rt.alloc();
-    let image = image_of(alloc, PLAYFIELD)?;
-    let older = older_text_of(alloc, PLAYFIELD_DIGEST, &[b'.'; 200])?;
-    let newer = text_of(alloc, PLAYFIELD_DIGEST, &[b'.'; 200])?;
+    let image = image_of(&rt, alloc, PLAYFIELD);
+    let older = older_text_of(&rt, alloc, PLAYFIELD_DIGEST, &[b'.'; 200]);
+    let newer = text_of(&rt, alloc, PLAYFIELD_DIGEST, &[b'.'; 200]);
+    let digest = text_fault(2, TextErrorKind::Digest);
+    let head = text_fault(1, TextErrorKind::Head);
     let faults: [(&[u8], &[u8], ToolFault); 4] = [
         (b"1234567", older.as_slice(), ToolFault::Size(7)),
-        (
-            &[0; 4096],
-            older.as_slice(),
-            text_fault(2, TextErrorKind::Digest),
-        ),
-        (
-            &[0; 2048],
-            newer.as_slice(),
-            text_fault(2, TextErrorKind::Digest),
-        ),
-        (
-            image.as_slice(),
-            b"a26movie 3\n",
-            text_fault(1, TextErrorKind::Head),
-        ),
+        (&[0; 4096], older.as_slice(), digest),
+        (&[0; 2048], newer.as_slice(), digest),
+        (image.as_slice(), b"a26movie 3\n", head),
     ];
     for (cart, text, fault) in faults {
-        let mut cart = cart;
-        let mut text = text;
-        let mut written = Vec::new(alloc);
-        let answer = migrate_run(alloc, &mut cart, &mut text, &mut written);
-        check_same(&rt, fault, answer, Err(fault));
-        check_that(&rt, fault, written.is_empty());
+        check_fault(&rt, fault, migrated(alloc, cart, text), fault);
     }
-    Ok(())
 }
 
 /// A write of a few bytes is no failed one, and a failed one is the last.
 #[test]
-fn an_answer_goes_out_in_pieces(rt: HostRuntime) -> Result<(), Fail> {
+fn an_answer_goes_out_in_pieces(rt: HostRuntime) {
     let alloc = rt.alloc();
-    let image = image_of(alloc, PLAYFIELD)?;
-    let movie = text_of(alloc, PLAYFIELD_DIGEST, b".")?;
+    let image = image_of(&rt, alloc, PLAYFIELD);
+    let movie = text_of(&rt, alloc, PLAYFIELD_DIGEST, b".");
     let mut output = Taker::new(alloc, 7, Room::Bytes(100), Failure::Error);
-    let answer = check_run(
-        alloc,
-        &mut image.as_slice(),
-        &mut movie.as_slice(),
-        &mut output,
-    );
+    let mut cart = image.as_slice();
+    let mut text = movie.as_slice();
+    let answer = check_run(alloc, &mut cart, &mut text, &mut output);
     check_same(&rt, "answer", answer, Ok(()));
-    check_same(
-        &rt,
-        "output.taken",
-        output.taken.as_slice(),
-        b"ok 1 frames\n".as_slice(),
-    );
+    let line = b"ok 1 frames\n".as_slice();
+    check_same(&rt, "output.taken", output.taken.as_slice(), line);
     check_same(&rt, "output.writes", output.writes, 2);
-    Ok(())
 }
 
 #[test]
-fn no_engine_writes_on(rt: HostRuntime) -> Result<(), Fail> {
+fn no_engine_writes_on(rt: HostRuntime) {
     let alloc = rt.alloc();
-    let image = image_of(alloc, PLAYFIELD)?;
-    let movie = text_of(alloc, PLAYFIELD_DIGEST, b".")?;
+    let image = image_of(&rt, alloc, PLAYFIELD);
+    let movie = text_of(&rt, alloc, PLAYFIELD_DIGEST, b".");
     let line = b"ok 1 frames\n".as_slice();
     for failure in [Failure::Error, Failure::Nothing] {
         for room in [0, 3, 7, 11] {
             let mut output = Taker::new(alloc, 7, Room::Bytes(room), failure);
-            let answer = check_run(
-                alloc,
-                &mut image.as_slice(),
-                &mut movie.as_slice(),
-                &mut output,
-            );
-            check_same(
-                &rt,
-                ("room", room),
-                answer,
-                Err(ToolFault::Write { written: room }),
-            );
-            check_same(&rt, ("room", room), output.taken.as_slice(), &line[..room]);
-            check_same(&rt, ("room", room), output.writes, room.div_ceil(7) + 1);
+            let mut cart = image.as_slice();
+            let mut text = movie.as_slice();
+            let answer = check_run(alloc, &mut cart, &mut text, &mut output);
+            let writes = room.div_ceil(7) + 1;
+            check_stop(&rt, &output, answer, &line[..room], writes);
         }
     }
-    Ok(())
 }
 
 #[test]
-fn a_movie_is_as_long_as_its_frames(rt: HostRuntime) -> Result<(), Fail> {
+fn a_movie_is_as_long_as_its_frames(rt: HostRuntime) {
     let alloc = rt.alloc();
-    let cart = image_of(alloc, PLAYFIELD)?;
-    let cases: [(&[u8], usize, usize, &str); 3] = [
-        (b"", 81, 81, "ok 0 frames\n"),
-        (b".", 99, 99, "ok 1 frames\n"),
-        (b".....", 171, 102, "ok 5 frames\n"),
+    let cart = image_of(&rt, alloc, PLAYFIELD);
+    let cases: [(&[u8], [usize; 2], &str); 3] = [
+        (b"", [81, 81], "ok 0 frames\n"),
+        (b".", [99, 99], "ok 1 frames\n"),
+        (b".....", [171, 102], "ok 5 frames\n"),
     ];
-    for (frames, older_length, length, line) in cases {
-        let older = older_text_of(alloc, PLAYFIELD_DIGEST, frames)?;
-        let newer = text_of(alloc, PLAYFIELD_DIGEST, frames)?;
-        check_same(
-            &rt,
-            "older",
-            (older.len(), newer.len()),
-            (older_length, length),
-        );
+    for (frames, lengths, line) in cases {
+        let older = older_text_of(&rt, alloc, PLAYFIELD_DIGEST, frames);
+        let newer = text_of(&rt, alloc, PLAYFIELD_DIGEST, frames);
+        check_same(&rt, line, [older.len(), newer.len()], lengths);
         for text in [&older, &newer] {
-            let mut written = Vec::new(alloc);
-            let mut cart = cart.as_slice();
-            let answer = check_run(alloc, &mut cart, &mut text.as_slice(), &mut written);
-            check_same(&rt, "answer", answer, Ok(()));
-            check_same(&rt, "written", written.as_slice(), line.as_bytes());
+            let ran = checked(alloc, &mut cart.as_slice(), &mut text.as_slice());
+            check_ran(&rt, line, ran, line.as_bytes());
         }
     }
-    Ok(())
 }
 
+/// The cartridge is read before the text, and both before the size is looked at.
 #[test]
 fn a_failed_read_comes_before_a_wrong_size(rt: HostRuntime) {
     let alloc = rt.alloc();
-    let mut written = Vec::new(alloc);
-    // The cartridge is read before the text, and both before the size is looked at.
-    let mut unread = Filler::new(0, 10, 1);
-    let answer = check_run(alloc, &mut Filler::new(0, 7, 1), &mut unread, &mut written);
-    check_same(&rt, "answer", answer, Err(ToolFault::Read));
-    check_same(&rt, "unread.reads", unread.reads, 0);
-    let answer = check_run(
-        alloc,
-        &mut Filler::new(0, 7, 0),
-        &mut Filler::new(0, 10, 1),
-        &mut written,
-    );
-    check_same(&rt, "answer, 2", answer, Err(ToolFault::Read));
-    check_that(&rt, "written", written.is_empty());
+    for (fails_at, reads) in [(1, 0), (0, 1)] {
+        let mut cart = Filler::new(0, 7, fails_at);
+        let mut text = Filler::new(0, 10, 1);
+        let ran = checked(alloc, &mut cart, &mut text);
+        check_fault(&rt, ("cartridge", fails_at), ran, ToolFault::Read);
+        check_same(&rt, ("cartridge", fails_at), text.reads, reads);
+    }
 }
 
+/// The cartridge's size comes before the faults of the text, and these in the order of its lines.
 #[test]
-fn faults_of_a_movie_come_in_order(rt: HostRuntime) -> Result<(), Fail> {
+fn faults_of_a_movie_come_in_order(rt: HostRuntime) {
     let alloc = rt.alloc();
-    let cart = image_of(alloc, PLAYFIELD)?;
-    let text = text_of(alloc, PLAYFIELD_DIGEST, b".")?;
-    let other = text_of(alloc, HALTING_DIGEST, b".")?;
-    let mut written = Vec::new(alloc);
-    // The cartridge's size comes before the faults of the text, and these in the order of its lines.
-    let answer = check_run(
-        alloc,
-        &mut Filler::new(0, 7, 0),
-        &mut other.as_slice(),
-        &mut written,
-    );
-    check_same(&rt, "answer", answer, Err(ToolFault::Size(7)));
-    let answer = check_run(
-        alloc,
-        &mut cart.as_slice(),
-        &mut other.as_slice(),
-        &mut written,
-    );
-    check_same(
-        &rt,
-        "answer, 2",
-        answer,
-        Err(text_fault(2, TextErrorKind::Digest)),
-    );
-    let mut unended = text.as_slice().get(..98).unwrap_or(&[]);
-    let answer = check_run(alloc, &mut cart.as_slice(), &mut unended, &mut written);
-    check_same(
-        &rt,
-        "answer, 3",
-        answer,
-        Err(text_fault(3, TextErrorKind::End)),
-    );
-    check_that(&rt, "written", written.is_empty());
-    Ok(())
+    let cart = image_of(&rt, alloc, PLAYFIELD);
+    let text = text_of(&rt, alloc, PLAYFIELD_DIGEST, b".");
+    let other = text_of(&rt, alloc, HALTING_DIGEST, b".");
+    let unended = text.as_slice().get(..98).unwrap_or(&[]);
+    let ran = checked(alloc, &mut Filler::new(0, 7, 0), &mut other.as_slice());
+    check_fault(&rt, "size", ran, ToolFault::Size(7));
+    let cases = [
+        (other.as_slice(), text_fault(2, TextErrorKind::Digest)),
+        (unended, text_fault(3, TextErrorKind::End)),
+    ];
+    for (text, fault) in cases {
+        let ran = checked(alloc, &mut cart.as_slice(), &mut { text });
+        check_fault(&rt, fault, ran, fault);
+    }
 }

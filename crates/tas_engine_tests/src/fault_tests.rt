@@ -1,12 +1,19 @@
 //! The lines that faults are told by.
 
-use crate::checks::check_same;
-use std::test::Fail;
+use crate::checks::{check_same, expect_ok};
+use std::alloc::Global;
+use std::process::Abort;
 use tas_engines::ToolFault;
 use tas_movie::{TextError, TextErrorKind};
 
+/// Fails where a fault is told by another line.
+fn check_line<R: Abort>(rt: &R, alloc: Global, fault: ToolFault, line: &str) {
+    let text = expect_ok(rt, format!(in alloc; "{fault}"));
+    check_same(rt, fault, text.as_str(), line);
+}
+
 #[test]
-fn faults_read_as_their_lines(rt: HostRuntime) -> Result<(), Fail> {
+fn faults_read_as_their_lines(rt: HostRuntime) {
     let alloc = rt.alloc();
     for (fault, line) in [
         (ToolFault::TooLong, "fault: input is too long"),
@@ -41,14 +48,12 @@ fn faults_read_as_their_lines(rt: HostRuntime) -> Result<(), Fail> {
         (ToolFault::Foreign, "fault: foreign edit"),
         (ToolFault::Memory, "fault: out of memory"),
     ] {
-        let text = format!(in alloc; "{fault}")?;
-        check_same(&rt, fault, text.as_str(), line);
+        check_line(&rt, alloc, fault, line);
     }
-    Ok(())
 }
 
 #[test]
-fn faults_of_a_movie_text_read_as_their_lines(rt: HostRuntime) -> Result<(), Fail> {
+fn faults_of_a_movie_text_read_as_their_lines(rt: HostRuntime) {
     let alloc = rt.alloc();
     for (line, kind, words) in [
         (3, TextErrorKind::End, "fault: movie line 3: end"),
@@ -63,8 +68,6 @@ fn faults_of_a_movie_text_read_as_their_lines(rt: HostRuntime) -> Result<(), Fai
         (4, TextErrorKind::Run, "fault: movie line 4: run"),
     ] {
         let fault = ToolFault::Text(TextError { line, kind });
-        let text = format!(in alloc; "{fault}")?;
-        check_same(&rt, fault, text.as_str(), words);
+        check_line(&rt, alloc, fault, words);
     }
-    Ok(())
 }

@@ -14,6 +14,8 @@ mod fault_tests;
 #[cfg(test)]
 mod movies;
 #[cfg(test)]
+mod ran;
+#[cfg(test)]
 mod script_tests;
 #[cfg(test)]
 mod shot_tests;

@@ -1,7 +1,8 @@
 //! Cartridges and movies of the tests. The digests come from another program.
 
+use crate::checks::expect_ok;
 use std::alloc::Global;
-use std::test::Fail;
+use std::process::Abort;
 
 /// LDA #42, STA 80, JMP F000.
 pub static STORES: &[u8] = b"\xa9\x42\x85\x80\x4c\x00\xf0";
@@ -27,8 +28,8 @@ pub static BLANK: [u8; 4096] = [0; 4096];
 pub static BLANK_DIGEST: &str = "ad7facb2586fc6e966c004d7d1d16b024f5805ff7cb47c7a85dabd8b48892ca7";
 
 /// The cartridge with a program at F000, where execution starts too; all other bytes are 0.
-pub fn image_of(alloc: Global, program: &[u8]) -> Result<Vec<u8>, Fail> {
-    let mut bytes = vec![in alloc; 0u8; 4096]?;
+pub fn image_of<R: Abort>(rt: &R, alloc: Global, program: &[u8]) -> Vec<u8> {
+    let mut bytes = expect_ok(rt, vec![in alloc; 0u8; 4096]);
     for (place, byte) in program.iter().enumerate() {
         if let Some(cell) = bytes.get_mut(place) {
             *cell = *byte;
@@ -37,7 +38,7 @@ pub fn image_of(alloc: Global, program: &[u8]) -> Result<Vec<u8>, Fail> {
     if let Some(cell) = bytes.get_mut(0xffd) {
         *cell = 0xf0;
     }
-    Ok(bytes)
+    bytes
 }
 
 /// The frame that a letter stands for: 'R' the left stick to the right, 'F' its fire button, '.' nothing.
@@ -49,35 +50,42 @@ pub fn frame_of(letter: u8) -> &'static [u8] {
     }
 }
 
+/// The head of a movie text, of one version or the other.
+fn head_of<R: Abort>(rt: &R, alloc: Global, version: u8, digest: &str) -> Vec<u8> {
+    let head = expect_ok(rt, format!(in alloc; "a26movie {version}\ncart {digest}\n"));
+    expect_ok(rt, Vec::from_slice(alloc, head.as_bytes()))
+}
+
+/// Writes the line of a run of frames behind a text.
+fn push_run<R: Abort>(rt: &R, alloc: Global, text: &mut Vec<u8>, letter: u8, count: usize) {
+    expect_ok(rt, text.extend_from_slice(frame_of(letter)));
+    if count > 1 {
+        let times = expect_ok(rt, format!(in alloc; " x{count}"));
+        expect_ok(rt, text.extend_from_slice(times.as_bytes()));
+    }
+    expect_ok(rt, text.push(b'\n'));
+}
+
 /// The text of a movie for the cartridge with this SHA-256, a letter for each frame, with a line for each run of
 /// equal ones.
-pub fn text_of(alloc: Global, digest: &str, letters: &[u8]) -> Result<Vec<u8>, Fail> {
-    let head = format!(in alloc; "a26movie 2\ncart {digest}\n")?;
-    let mut text = Vec::from_slice(alloc, head.as_bytes())?;
+pub fn text_of<R: Abort>(rt: &R, alloc: Global, digest: &str, letters: &[u8]) -> Vec<u8> {
+    let mut text = head_of(rt, alloc, 2, digest);
     let mut count = 0usize;
     for (place, letter) in letters.iter().enumerate() {
         count = count.wrapping_add(1);
-        if letters.get(place.wrapping_add(1)) == Some(letter) {
-            continue;
+        if letters.get(place.wrapping_add(1)) != Some(letter) {
+            push_run(rt, alloc, &mut text, *letter, count);
+            count = 0;
         }
-        text.extend_from_slice(frame_of(*letter))?;
-        if count > 1 {
-            let times = format!(in alloc; " x{count}")?;
-            text.extend_from_slice(times.as_bytes())?;
-        }
-        text.push(b'\n')?;
-        count = 0;
     }
-    Ok(text)
+    text
 }
 
 /// The older text of the movie, with a line for each frame.
-pub fn older_text_of(alloc: Global, digest: &str, letters: &[u8]) -> Result<Vec<u8>, Fail> {
-    let head = format!(in alloc; "a26movie 1\ncart {digest}\n")?;
-    let mut text = Vec::from_slice(alloc, head.as_bytes())?;
+pub fn older_text_of<R: Abort>(rt: &R, alloc: Global, digest: &str, letters: &[u8]) -> Vec<u8> {
+    let mut text = head_of(rt, alloc, 1, digest);
     for letter in letters {
-        text.extend_from_slice(frame_of(*letter))?;
-        text.push(b'\n')?;
+        push_run(rt, alloc, &mut text, *letter, 1);
     }
-    Ok(text)
+    text
 }

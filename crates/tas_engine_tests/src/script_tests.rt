@@ -1,7 +1,6 @@
 //! Lines and replies.
 
-use crate::checks::{check_same, check_that};
-use std::test::Fail;
+use crate::checks::{check_same, check_that, expect_ok};
 use tas_script::{Command, Image, Reply, parse_line, reply_line};
 use vcs_machine::{CART_SIZE, Input, SMALL_CART_SIZE};
 
@@ -159,7 +158,7 @@ fn no_other_line_is_understood(rt: HostRuntime) {
 }
 
 #[test]
-fn replies_to_edits_and_looks(rt: HostRuntime) -> Result<(), Fail> {
+fn replies_to_edits_and_looks(rt: HostRuntime) {
     let alloc = rt.alloc();
     let cases: [(Reply, &[u8]); 8] = [
         (Reply::OutOfMemory, b"out of memory\n"),
@@ -181,13 +180,13 @@ fn replies_to_edits_and_looks(rt: HostRuntime) -> Result<(), Fail> {
         (Reply::NoFrame { at: 4, len: 0 }, b"no frame 4 len 0\n"),
     ];
     for (reply, line) in cases {
-        check_same(&rt, reply, reply_line(alloc, reply)?.as_slice(), line);
+        let text = expect_ok(&rt, reply_line(alloc, reply));
+        check_same(&rt, reply, text.as_slice(), line);
     }
-    Ok(())
 }
 
 #[test]
-fn replies_of_what_was_played(rt: HostRuntime) -> Result<(), Fail> {
+fn replies_of_what_was_played(rt: HostRuntime) {
     let alloc = rt.alloc();
     let cases: [(Reply, &[u8]); 4] = [
         (
@@ -225,7 +224,7 @@ fn replies_of_what_was_played(rt: HostRuntime) -> Result<(), Fail> {
         ),
     ];
     for (reply, line) in cases {
-        check_same(&rt, reply, reply_line(alloc, reply)?.as_slice(), line);
+        let text = expect_ok(&rt, reply_line(alloc, reply));
+        check_same(&rt, reply, text.as_slice(), line);
     }
-    Ok(())
 }

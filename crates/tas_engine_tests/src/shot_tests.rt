@@ -4,31 +4,27 @@ use crate::checks::{check_same, check_that};
 use crate::movies::{
     HALTING, HALTING_DIGEST, PLAYFIELD, PLAYFIELD_DIGEST, image_of, older_text_of, text_of,
 };
-use std::test::Fail;
+use crate::ran::{Ran, check_fault};
+use std::alloc::Global;
+use std::process::Abort;
 use tas_engines::{ToolFault, shot_run};
 use test_streams::{Failure, Room, Taker};
 
-#[test]
-fn a_playfield_is_drawn(rt: HostRuntime) -> Result<(), Fail> {
-    let alloc = rt.alloc();
-    let cart = image_of(alloc, PLAYFIELD)?;
-    let text = text_of(alloc, PLAYFIELD_DIGEST, b".")?;
-    let mut written = Vec::new(alloc);
-    let answer = shot_run(
-        alloc,
-        0,
-        &mut cart.as_slice(),
-        &mut text.as_slice(),
-        &mut written,
-    );
-    check_same(&rt, "answer", answer, Ok(()));
-    check_same(&rt, "written", written.len(), 100_815);
-    check_that(
-        &rt,
-        "written, 2",
-        written.as_slice().starts_with(b"P6\n160 210\n255\n"),
-    );
-    let pixels = written.as_slice().get(15..).unwrap_or(&[]);
+/// `tas shot` of these bytes.
+fn shown(alloc: Global, frame: usize, cart: &[u8], text: &[u8]) -> Ran {
+    let mut cart = cart;
+    let mut text = text;
+    let mut output = Vec::new(alloc);
+    let end = shot_run(alloc, frame, &mut cart, &mut text, &mut output);
+    (output, end)
+}
+
+/// Fails where a picture isn't the one of the playfield.
+fn check_playfield<R: Abort>(rt: &R, picture: &[u8]) {
+    check_same(rt, "length", picture.len(), 100_815);
+    let head = b"P6\n160 210\n255\n";
+    check_that(rt, "head", picture.starts_with(head));
+    let pixels = picture.get(15..).unwrap_or(&[]);
     for (pixel, colour) in pixels.chunks(3).enumerate() {
         let x = pixel % 80;
         let expected: &[u8] = if x < 4 {
@@ -36,106 +32,76 @@ fn a_playfield_is_drawn(rt: HostRuntime) -> Result<(), Fail> {
         } else {
             &[0, 0, 0]
         };
-        check_same(&rt, ("at", pixel), colour, expected);
+        check_same(rt, ("at", pixel), colour, expected);
     }
-    Ok(())
 }
 
 #[test]
-fn no_frame_past_the_end_is_drawn(rt: HostRuntime) -> Result<(), Fail> {
+fn a_playfield_is_drawn(rt: HostRuntime) {
     let alloc = rt.alloc();
-    let cart = image_of(alloc, PLAYFIELD)?;
-    let text = text_of(alloc, PLAYFIELD_DIGEST, b".")?;
-    let mut none = Vec::new(alloc);
-    let answer = shot_run(
-        alloc,
-        1,
-        &mut cart.as_slice(),
-        &mut text.as_slice(),
-        &mut none,
-    );
-    check_same(
-        &rt,
-        "answer",
-        answer,
-        Err(ToolFault::NoFrame { frame: 1, len: 1 }),
-    );
-    check_that(&rt, "none", none.is_empty());
-    Ok(())
+    let cart = image_of(&rt, alloc, PLAYFIELD);
+    let text = text_of(&rt, alloc, PLAYFIELD_DIGEST, b".");
+    let (picture, answer) = shown(alloc, 0, cart.as_slice(), text.as_slice());
+    check_same(&rt, "answer", answer, Ok(()));
+    check_playfield(&rt, picture.as_slice());
 }
 
 #[test]
-fn a_cut_picture_is_told_by_its_bytes(rt: HostRuntime) -> Result<(), Fail> {
+fn no_frame_past_the_end_is_drawn(rt: HostRuntime) {
     let alloc = rt.alloc();
-    let image = image_of(alloc, PLAYFIELD)?;
-    let movie = text_of(alloc, PLAYFIELD_DIGEST, b".")?;
+    let cart = image_of(&rt, alloc, PLAYFIELD);
+    let text = text_of(&rt, alloc, PLAYFIELD_DIGEST, b".");
+    let ran = shown(alloc, 1, cart.as_slice(), text.as_slice());
+    check_fault(&rt, "one", ran, ToolFault::NoFrame { frame: 1, len: 1 });
+}
+
+#[test]
+fn a_cut_picture_is_told_by_its_bytes(rt: HostRuntime) {
+    let alloc = rt.alloc();
+    let image = image_of(&rt, alloc, PLAYFIELD);
+    let movie = text_of(&rt, alloc, PLAYFIELD_DIGEST, b".");
     for failure in [Failure::Error, Failure::Nothing] {
         for room in [0, 20, 300, 700, 1100] {
             let mut picture = Taker::new(alloc, 1000, Room::Bytes(room), failure);
-            let answer = shot_run(
-                alloc,
-                0,
-                &mut image.as_slice(),
-                &mut movie.as_slice(),
-                &mut picture,
-            );
-            check_same(
-                &rt,
-                ("room", room),
-                answer,
-                Err(ToolFault::Write { written: room }),
-            );
+            let mut cart = image.as_slice();
+            let mut text = movie.as_slice();
+            let answer = shot_run(alloc, 0, &mut cart, &mut text, &mut picture);
+            let fault = ToolFault::Write { written: room };
+            check_same(&rt, ("room", room), answer, Err(fault));
         }
     }
-    Ok(())
+}
+
+/// Fails where a picture isn't black throughout.
+fn check_black<R: Abort>(rt: &R, frame: usize, picture: &[u8]) {
+    check_same(rt, frame, picture.len(), 100_815);
+    check_that(rt, frame, picture.iter().skip(15).all(|byte| *byte == 0));
 }
 
 #[test]
-fn frames_before_a_halt_have_pictures(rt: HostRuntime) -> Result<(), Fail> {
+fn frames_before_a_halt_have_pictures(rt: HostRuntime) {
     let alloc = rt.alloc();
-    let cart = image_of(alloc, HALTING)?;
-    let text = older_text_of(alloc, HALTING_DIGEST, b".....")?;
+    let cart = image_of(&rt, alloc, HALTING);
+    let text = older_text_of(&rt, alloc, HALTING_DIGEST, b".....");
     check_same(&rt, "text", text.len(), 171);
     for frame in [0, 1, 2] {
-        let mut written = Vec::new(alloc);
-        let answer = shot_run(
-            alloc,
-            frame,
-            &mut cart.as_slice(),
-            &mut text.as_slice(),
-            &mut written,
-        );
+        let (picture, answer) = shown(alloc, frame, cart.as_slice(), text.as_slice());
         check_same(&rt, frame, answer, Ok(()));
-        check_same(&rt, frame, written.len(), 100_815);
-        check_that(&rt, frame, written.iter().skip(15).all(|byte| *byte == 0));
+        check_black(&rt, frame, picture.as_slice());
     }
-    Ok(())
 }
 
 #[test]
-fn a_halted_frame_has_no_picture(rt: HostRuntime) -> Result<(), Fail> {
+fn a_halted_frame_has_no_picture(rt: HostRuntime) {
     let alloc = rt.alloc();
-    let cart = image_of(alloc, HALTING)?;
-    let text = older_text_of(alloc, HALTING_DIGEST, b".....")?;
+    let cart = image_of(&rt, alloc, HALTING);
+    let text = older_text_of(&rt, alloc, HALTING_DIGEST, b".....");
+    let fault = ToolFault::Halted {
+        at: 0xf00d,
+        opcode: 2,
+    };
     for frame in [3, 4] {
-        let mut written = Vec::new(alloc);
-        let answer = shot_run(
-            alloc,
-            frame,
-            &mut cart.as_slice(),
-            &mut text.as_slice(),
-            &mut written,
-        );
-        check_same(
-            &rt,
-            frame,
-            answer,
-            Err(ToolFault::Halted {
-                at: 0xf00d,
-                opcode: 2,
-            }),
-        );
-        check_that(&rt, frame, written.is_empty());
+        let ran = shown(alloc, frame, cart.as_slice(), text.as_slice());
+        check_fault(&rt, frame, ran, fault);
     }
-    Ok(())
 }

@@ -2,9 +2,9 @@
 
 use super::plain::{Drawing, Plain};
 use super::{next_random, run};
-use crate::checks::{check_same, check_that};
-use std::alloc::{AllocError, Global};
-use std::test::Fail;
+use crate::checks::{check_same, check_that, expect_ok};
+use std::alloc::Global;
+use std::process::Abort;
 use vcs_tia::{Picture, Tia};
 
 /// A TIA that lags behind: clocks are owed until a write may be seen. Either it draws them then, or they only pass.
@@ -105,14 +105,14 @@ struct Race {
 }
 
 impl Race {
-    fn new(alloc: Global) -> Result<Race, AllocError> {
-        Ok(Race {
+    fn new<R: Abort>(rt: &R, alloc: Global) -> Race {
+        Race {
             drawing: Lagging::new(true),
             passing: Lagging::new(false),
             plain: Plain::new(),
-            fast: Picture::blank(alloc)?,
-            slow: Drawing::blank(alloc)?,
-        })
+            fast: expect_ok(rt, Picture::blank(alloc)),
+            slow: expect_ok(rt, Drawing::blank(alloc)),
+        }
     }
 
     fn write(&mut self, number: u16, value: u8) {
@@ -166,26 +166,31 @@ fn random_clocks(state: u32) -> u16 {
     }
 }
 
+/// One step of a race: a write, clocks, and at some steps a wait or a read, in which all three must agree.
+fn check_step<R: Abort>(rt: &R, race: &mut Race, written: &mut Written, step: u32, state: u32) {
+    let (number, value) = written.next(state);
+    if !is_strobe(number) || state % 16 == 0 {
+        race.write(number, value);
+    }
+    race.owe(random_clocks(state));
+    if number == 2 {
+        let [drawing, passing, wait] = race.wait();
+        check_same(rt, step, (drawing, passing), (wait, wait));
+    }
+    if step % 7 == 0 {
+        let [drawing, passing, byte] = race.read(((state >> 12) % 8) as u16);
+        check_same(rt, step, (drawing, passing), (byte, byte));
+    }
+}
+
 #[test]
-fn long_debts_against_the_plain_program(rt: HostRuntime) -> Result<(), Fail> {
-    let mut race = Race::new(rt.alloc())?;
+fn long_debts_against_the_plain_program(rt: HostRuntime) {
+    let mut race = Race::new(&rt, rt.alloc());
     let mut written = Written { bytes: [0; 45] };
     let mut state = 1977;
     for step in 0..6000u32 {
         state = next_random(state);
-        let (number, value) = written.next(state);
-        if !is_strobe(number) || state % 16 == 0 {
-            race.write(number, value);
-        }
-        race.owe(random_clocks(state));
-        if number == 2 {
-            let [drawing, passing, wait] = race.wait();
-            check_same(&rt, step, (drawing, passing), (wait, wait));
-        }
-        if step % 7 == 0 {
-            let [drawing, passing, byte] = race.read(((state >> 12) % 8) as u16);
-            check_same(&rt, step, (drawing, passing), (byte, byte));
-        }
+        check_step(&rt, &mut race, &mut written, step, state);
         if step % 500 == 499 {
             check_that(&rt, step, race.ends_alike());
         }
@@ -193,5 +198,4 @@ fn long_debts_against_the_plain_program(rt: HostRuntime) -> Result<(), Fail> {
     // Debts of many lines came up, without which the rest shows little.
     let longest = (race.drawing.longest, race.passing.longest);
     check_that(&rt, longest, longest.0 > 10 * 228 && longest.1 > longest.0);
-    Ok(())
 }
