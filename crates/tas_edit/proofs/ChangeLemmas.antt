@@ -1,6 +1,6 @@
 -- One change more.
 use Rattle.std.proofs.Common.{◌≡◌, ℕ, ◌+◌, ◌≤◌, List, [], ◌∷◌, ◌++◌, length, drop, None, refl, ap, ◌∙◌, arith}
-use Rattle.std.specs.Prelude.{replicate, nat_lt, if◌then◌else◌, Option, Some, IfSome, IfNone}
+use Rattle.std.specs.Prelude.{replicate, nat_lt, if◌then◌else◌, Option, Some}
 use Rattle.std.proofs.lemmas.Bool.{le-ltb}
 use Rattle.std.proofs.lemmas.List.{length-replicate}
 use lib.Seq.{take-append_seam, drop-append-add}
@@ -14,45 +14,16 @@ use Rattle.tas_script.specs.declared.command.Command.TheVariants as command
 use Rattle.tas_script.specs.Commands.{Says}
 use Rattle.tas_edit.specs.declared.change.Change.{Change}
 use Rattle.tas_edit.specs.declared.change.Change.TheVariants.{Insert, Replace, Delete}
-use Rattle.tas_edit.specs.Changes.{HasNumbers, HaveNumbers, IsChangeLine, change_of, edit_of, changed_by, AreAllowed}
+use Rattle.tas_edit.specs.Changes.{HasNumbers, HaveNumbers, IsChangeLine, edit_of, changed_by, AreAllowed}
 use Rattle.tas_edit.specs.Differences.{taken_out, put_in}
 
 -- ---- lines
-
--- a line that says a command which is none of the three says no change
-pub no_change : (said : List ℕ) (other : Command) → ((line : List ℕ) (a b : Command) → Says line a → Says line b → a ≡ b) → Says said other
-    → ((at count : ℕ) (input : Input) → other ≡ command.Insert at count input → ⊥) → ((at count : ℕ) (input : Input) → other ≡ command.Replace at count input → ⊥)
-    → ((at count : ℕ) → other ≡ command.Delete at count → ⊥) → (change : Change) → IsChangeLine said change → ⊥
-no_change said other one says insert replace delete (Insert at count input) is = insert at count input (one said other (command.Insert at count input) says (is.0, is.1.0, is.1.1))
-no_change said other one says insert replace delete (Replace at count input) is = replace at count input (one said other (command.Replace at count input) says (is.0, is.1.0, is.1.1))
-no_change said other one says insert replace delete (Delete at count) is = delete at count (one said other (command.Delete at count) says (is.0, is.1.0, is.1.1))
 
 -- a line that says no command says no change
 pub nothing_said : (said : List ℕ) → ((asked : Command) → Says said asked → ⊥) → (change : Change) → IsChangeLine said change → ⊥
 nothing_said said never (Insert at count input) is = never (command.Insert at count input) (is.0, is.1.0, is.1.1)
 nothing_said said never (Replace at count input) is = never (command.Replace at count input) (is.0, is.1.0, is.1.1)
 nothing_said said never (Delete at count) is = never (command.Delete at count) (is.0, is.1.0, is.1.1)
-
-pub change_said : (said : List ℕ) (asked : Command) (r : Option Change) → Says said asked → r ≡ change_of asked → IfSome r (IsChangeLine said)
-change_said said (command.Insert at count input) r says e = rw e (says.0, (says.1, says.2))
-change_said said (command.Replace at count input) r says e = rw e (says.0, (says.1, says.2))
-change_said said (command.Delete at count) r says e = rw e (says.0, (says.1, says.2))
-change_said said (command.Load image) r says e = rw e tt
-change_said said command.Length r says e = rw e tt
-change_said said (command.InputAt frame) r says e = rw e tt
-change_said said (command.Shot frame) r says e = rw e tt
-change_said said (command.Work frame) r says e = rw e tt
-
-pub no_change_said : (said : List ℕ) (asked : Command) (r : Option Change) → ((line : List ℕ) (a b : Command) → Says line a → Says line b → a ≡ b) → Says said asked → r ≡ change_of asked
-    → IfNone r ((change : Change) → IsChangeLine said change → ⊥)
-no_change_said said (command.Insert at count input) r one says e = rw e tt
-no_change_said said (command.Replace at count input) r one says e = rw e tt
-no_change_said said (command.Delete at count) r one says e = rw e tt
-no_change_said said (command.Load image) r one says e = rw e (no_change said (command.Load image) one says (λ at count input is. cc) (λ at count input is. cc) (λ at count is. cc))
-no_change_said said command.Length r one says e = rw e (no_change said command.Length one says (λ at count input is. cc) (λ at count input is. cc) (λ at count is. cc))
-no_change_said said (command.InputAt frame) r one says e = rw e (no_change said (command.InputAt frame) one says (λ at count input is. cc) (λ at count input is. cc) (λ at count is. cc))
-no_change_said said (command.Shot frame) r one says e = rw e (no_change said (command.Shot frame) one says (λ at count input is. cc) (λ at count input is. cc) (λ at count is. cc))
-no_change_said said (command.Work frame) r one says e = rw e (no_change said (command.Work frame) one says (λ at count input is. cc) (λ at count input is. cc) (λ at count is. cc))
 
 -- ---- lists of changes
 

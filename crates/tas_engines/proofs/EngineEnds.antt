@@ -1,19 +1,17 @@
 -- How engines end.
-use Rattle.std.proofs.Common.{◌≡◌, ◌+◌, ◌<◌, sym, ap, subst, length, ℕ, List, Option, Some, None, Result, Ok, Err, refl, inl, inr, OnOk, IfErr, MatchResult}
+use Rattle.std.proofs.Common.{◌≡◌, ◌+◌, ◌<◌, sym, subst, length, ℕ, List, Option, Some, None, Result, Ok, Err, refl, inr, OnOk, IfErr, MatchResult}
 use Rattle.std.specs.Io.KnownBytes.{Appends}
-use Rattle.std.proofs.KnownBytes.{Keeps-refl}
 use Rattle.vcs_cpu.specs.declared.halt.Halt.{Halt}
 use Rattle.vcs_cpu.specs.declared.halt.Halt.TheVariants.{Undocumented}
 use Rattle.tas_movie.specs.Content.{MovieContent}
 use Rattle.tas_green.specs.Run.{state_after, answer_of}
 use Rattle.tas_engines.specs.Movies.{IsShotFault, halt_fault}
-use Rattle.tas_engines.specs.declared.fault.ReadFault.{ReadFault}
 use Rattle.tas_engines.specs.declared.fault.RunFault.{RunFault}
 use Rattle.tas_engines.specs.declared.fault.ToolFault.{ToolFault}
-use Rattle.tas_engines.specs.Faults.{unread_fault, told}
+use Rattle.tas_engines.specs.Faults.{told}
 use Rattle.tas_engines.specs.Input.{IsReadWhole}
 use Rattle.tas_engines.specs.Movies.{IsMovieRun}
-use Rattle.tas_engines.specs.Output.{Ends, EndsAfter, StopsWriting}
+use Rattle.tas_engines.specs.Output.{Ends, StopsWriting}
 use Rattle.tas_engines.specs.ThreeInputs.{EndsAfterThree}
 
 -- a write of a whole answer ends an engine
@@ -49,10 +47,6 @@ pub shot_fault-of_halt : (movie : MovieContent) (k : ℕ) (h : Halt) (fault : Ru
 shot_fault-of_halt movie k (Undocumented at opcode) fault within is told = subst (IsShotFault movie k) (sym told) (within, is)
 
 -- ---- engines
-
--- reading stopped, and nothing was written
-pub unread : (stops : ReadFault → Type 0) (runs : Result (Unit {0}) RunFault → Type 0) (old : Option (List ℕ)) (fault : ReadFault) (e : ToolFault) → stops fault → e ≡ unread_fault fault → EndsAfter stops runs old old (Err e)
-unread stops runs old fault e stopped is = inl (fault, ap Err is, stopped, Keeps-refl old)
 
 -- an engine ran on the cartridge and the text that it had read
 pub movie_ran : (answers : List ℕ → List ℕ → Result (List ℕ) RunFault → Type 0) (cart cart' input input' output output' : Option (List ℕ)) (read image read' bytes : List ℕ) (end : Result (Unit {0}) RunFault)

@@ -1,4 +1,4 @@
-use Rattle.std.proofs.Common.{inl, inr, ◌∙◌, subst, Ok}
+use Rattle.std.proofs.Common.{inl, inr, ◌∙◌, subst}
 use Rattle.std.proofs.KnownBytes.{Keeps-refl}
 use Rattle.std.proofs.lemmas.Result.{err_from_is_err_and}
 use Rattle.tas_engines.proofs.EngineEnds.{err-of_mapped, ok-of_mapped, ends-written}
