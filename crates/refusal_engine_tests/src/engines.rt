@@ -1,8 +1,10 @@
 //! The engines, called alike.
 
+use crate::checks::check_same;
 use crate::inputs::Bytes;
-use std::alloc::Allocator;
+use std::alloc::{Allocator, Global};
 use std::io::{Read, Write};
+use std::process::Abort;
 use std::sync::Wait;
 use std::thread::Threads;
 use tas_tool::{
@@ -118,4 +120,17 @@ pub fn run<T: Wait + Threads + Sync, A: Allocator + Copy + Send + Sync, R: Read,
         Engine::Talk => talk_run(rt, alloc, first, output),
         Engine::MovieTalk => movie_talk_run(rt, alloc, first, second, third, output),
     }
+}
+
+/// What an engine writes over good inputs, where nothing is refused.
+pub fn whole_of<T: Wait + Threads + Sync + Abort>(
+    rt: &T,
+    alloc: Global,
+    engine: Engine,
+    bytes: &Bytes,
+) -> Vec<u8> {
+    let mut whole = Vec::new(alloc);
+    let end = run_whole(rt, alloc, engine, bytes, &mut whole);
+    check_same(rt, engine, end, Ok(()));
+    whole
 }

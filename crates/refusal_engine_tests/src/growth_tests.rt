@@ -3,12 +3,12 @@
 ghost use Rattle.std.specs.Prelude.{◌≤◌};
 
 use crate::checks::check_same;
-use crate::engines::{Engine, run_whole};
+use crate::engines::{Engine, run_whole, whole_of};
 use crate::inputs::{Bytes, make_inputs};
 use refusals::Refusing;
 use std::alloc::Global;
+use std::process::Abort;
 use std::sync::Wait;
-use std::test::Fail;
 use std::thread::Threads;
 use tas_tool::ToolFault;
 
@@ -47,6 +47,22 @@ fn tells_refusal(text: &[u8]) -> bool {
     false
 }
 
+/// What a run shows, of which a growth was refused or none was.
+fn run_of(
+    engine: Engine,
+    end: Result<(), ToolFault>,
+    text: &[u8],
+    whole: &[u8],
+    has_refused: bool,
+) -> Run {
+    match end {
+        Ok(()) if !has_refused && text == whole => Run::Done,
+        Ok(()) if has_refused && tells_refusal(text) => Run::Replied,
+        Err(ToolFault::Memory) if has_refused && is_start(engine, text, whole) => Run::Refused,
+        _ => Run::Wrong,
+    }
+}
+
 fn run_refused<T: Wait + Threads + Sync>(
     rt: &T,
     alloc: Global,
@@ -60,21 +76,7 @@ fn run_refused<T: Wait + Threads + Sync>(
     let heap = Refusing::new(alloc, number);
     let mut output = Vec::new(alloc);
     let end = run_whole(rt, &heap, engine, bytes, &mut output);
-    let text = output.as_slice();
-    if !heap.has_refused() {
-        return if end == Ok(()) && text == whole {
-            Run::Done
-        } else {
-            Run::Wrong
-        };
-    }
-    if end == Err(ToolFault::Memory) && is_start(engine, text, whole) {
-        Run::Refused
-    } else if end == Ok(()) && tells_refusal(text) {
-        Run::Replied
-    } else {
-        Run::Wrong
-    }
+    run_of(engine, end, output.as_slice(), whole, heap.has_refused())
 }
 
 /// Refuses an engine its growths in turn, until it grows no more: how many of them ended it, and how many an answer told. Nothing
@@ -84,23 +86,35 @@ fn count_refused<T: Wait + Threads + Sync>(
     alloc: Global,
     engine: Engine,
     bytes: &Bytes,
-) -> Result<Option<(u64, u64)>, Fail> {
-    let mut whole = Vec::new(alloc);
-    run_whole(rt, alloc, engine, bytes, &mut whole)?;
+    whole: &[u8],
+) -> Option<(u64, u64)> {
     let (mut refused, mut replied) = (0u64, 0u64);
     for number in 1..MOST {
-        match run_refused(rt, alloc, engine, bytes, whole.as_slice(), number) {
+        match run_refused(rt, alloc, engine, bytes, whole, number) {
             Run::Done => break,
             Run::Replied => replied = replied.saturating_add(1),
             Run::Refused => refused = refused.saturating_add(1),
-            Run::Wrong => return Ok(None),
+            Run::Wrong => return None,
         }
     }
-    Ok(Some((refused, replied)))
+    Some((refused, replied))
+}
+
+/// Fails where another number of an engine's growths end it, or another number is told by an answer.
+fn check_engine<T: Wait + Threads + Sync + Abort>(
+    rt: &T,
+    alloc: Global,
+    engine: Engine,
+    bytes: &Bytes,
+    wanted: (u64, u64),
+) {
+    let whole = whole_of(rt, alloc, engine, bytes);
+    let counts = count_refused(rt, alloc, engine, bytes, whole.as_slice());
+    check_same(rt, engine, counts, Some(wanted));
 }
 
 #[test]
-fn each_growth_refused(rt: HostRuntime) -> Result<(), Fail> {
+fn each_growth_refused(rt: HostRuntime) {
     let engines = [
         (Engine::Trace, 2, 0),
         (Engine::Check, 7, 0),
@@ -118,10 +132,8 @@ fn each_growth_refused(rt: HostRuntime) -> Result<(), Fail> {
         (Engine::Export(4), 36, 0),
     ];
     let alloc = rt.alloc();
-    let bytes = make_inputs(alloc)?;
+    let bytes = make_inputs(&rt, alloc);
     for (engine, growths, replies) in engines {
-        let counts = count_refused(&rt, alloc, engine, &bytes)?;
-        check_same(&rt, engine, counts, Some((growths, replies)));
+        check_engine(&rt, alloc, engine, &bytes, (growths, replies));
     }
-    Ok(())
 }

@@ -1,7 +1,8 @@
 //! What the engines read.
 
-use std::alloc::{AllocError, Global};
-use std::test::Fail;
+use crate::checks::expect_ok;
+use std::alloc::Global;
+use std::process::Abort;
 use tas_movie::{Edit, Inputs, Movie, apply, check, print_text};
 use vcs_machine::{Cart, Input};
 
@@ -36,7 +37,7 @@ const SCRIPT: &[u8] =
 const TALK: &[u8] =
     b"load 000=A9028500A90085004C00F0 FFC=00F0\ninsert 0 3 R.... ..... .....\nreplace 1 1 .L... ..... .....\nlen\ninput 1\nshot 2\ndelete 0 1\nwork 1\nlen\npicture 1\nmovie\nstates\nwhat\n";
 
-fn cart(alloc: Global) -> Result<Cart, AllocError> {
+fn cart<R: Abort>(rt: &R, alloc: Global) -> Cart {
     let mut image = [0u8; 4096];
     for (at, byte) in BRIEF.iter().enumerate() {
         if at < 4096 {
@@ -44,34 +45,42 @@ fn cart(alloc: Global) -> Result<Cart, AllocError> {
         }
     }
     image[4093] = 0xF0;
-    Cart::from_bytes(alloc, &image).map_err(|_| AllocError)
+    expect_ok(rt, Cart::from_bytes(alloc, &image))
+}
+
+/// A movie with so many frames of one input.
+fn movie_of<R: Abort>(rt: &R, alloc: Global, cart: &Cart, input: Input, count: usize) -> Movie {
+    let mut movie = expect_ok(rt, Movie::new(alloc, cart));
+    let inputs = Inputs::from_vec(expect_ok(rt, vec![in alloc; input; count]));
+    let insert = Edit::Insert { at: 0, inputs };
+    expect_ok(rt, check(&movie, &insert));
+    apply(&mut movie, &insert);
+    movie
 }
 
 /// The text of a movie with so many frames of one input.
-fn text_of(alloc: Global, cart: &Cart, input: Input, count: usize) -> Result<Vec<u8>, Fail> {
-    let mut movie = Movie::new(alloc, cart)?;
-    let insert = Edit::Insert {
-        at: 0,
-        inputs: Inputs::from_vec(vec![in alloc; input; count]?),
-    };
-    check(&movie, &insert)?;
-    apply(&mut movie, &insert);
-    Ok(print_text(alloc, &movie)?)
+fn text_of<R: Abort>(rt: &R, alloc: Global, cart: &Cart, input: Input, count: usize) -> Vec<u8> {
+    let movie = movie_of(rt, alloc, cart, input, count);
+    expect_ok(rt, print_text(alloc, &movie))
+}
+
+fn copy_of<R: Abort>(rt: &R, alloc: Global, bytes: &[u8]) -> Vec<u8> {
+    expect_ok(rt, Vec::from_slice(alloc, bytes))
 }
 
 /// All inputs.
-pub fn make_inputs(alloc: Global) -> Result<Bytes, Fail> {
-    let cart = cart(alloc)?;
+pub fn make_inputs<R: Abort>(rt: &R, alloc: Global) -> Bytes {
+    let cart = cart(rt, alloc);
     let mut right = Input::none();
     right.left.right = true;
-    Ok(Bytes {
-        old: text_of(alloc, &cart, Input::none(), 3)?,
-        new: text_of(alloc, &cart, right, 2)?,
-        replaced: text_of(alloc, &cart, right, 3)?,
-        cart: Vec::from_slice(alloc, cart.bytes())?,
-        changes: Vec::from_slice(alloc, CHANGES)?,
-        script: Vec::from_slice(alloc, SCRIPT)?,
-        talk: Vec::from_slice(alloc, TALK)?,
+    Bytes {
+        old: text_of(rt, alloc, &cart, Input::none(), 3),
+        new: text_of(rt, alloc, &cart, right, 2),
+        replaced: text_of(rt, alloc, &cart, right, 3),
+        cart: copy_of(rt, alloc, cart.bytes()),
+        changes: copy_of(rt, alloc, CHANGES),
+        script: copy_of(rt, alloc, SCRIPT),
+        talk: copy_of(rt, alloc, TALK),
         none: Vec::new(alloc),
-    })
+    }
 }

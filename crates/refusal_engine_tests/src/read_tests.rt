@@ -1,11 +1,11 @@
 //! Reads that fail, give one byte, or end early.
 
 use crate::checks::{check_same, check_that};
-use crate::engines::{ENGINES, Engine, run, run_whole};
+use crate::engines::{ENGINES, Engine, run, whole_of};
 use crate::inputs::{Bytes, make_inputs};
 use std::alloc::Global;
+use std::process::Abort;
 use std::sync::Wait;
-use std::test::Fail;
 use std::thread::Threads;
 use tas_tool::ToolFault;
 use test_streams::Giver;
@@ -82,64 +82,80 @@ fn whole_reads(engine: Engine, bytes: &Bytes) -> [usize; 3] {
     reads
 }
 
-#[test]
-fn each_read_failing(rt: HostRuntime) -> Result<(), Fail> {
-    let alloc = rt.alloc();
-    let bytes = make_inputs(alloc)?;
-    for engine in ENGINES {
-        let mut whole = Vec::new(alloc);
-        check_same(
-            &rt,
-            "run_whole",
-            run_whole(&rt, alloc, engine, &bytes, &mut whole),
-            Ok(()),
-        );
-        for input in 0..engine.count() {
-            let mut failed = 0;
-            for read in 1..MOST {
-                let done = run_failing(&rt, alloc, engine, &bytes, 2000, failing(input, read));
-                if done.end.is_ok() {
-                    check_that(&rt, engine, done.written.as_slice() == whole.as_slice());
-                    check_same(&rt, engine, done.reads, whole_reads(engine, &bytes));
-                    break;
-                }
-                check_that(
-                    &rt,
-                    ("read", engine, input, read),
-                    is_stopped(&done, input, read),
-                );
-                failed = read;
-            }
-            // A read that gives the last bytes, and one that gives none.
-            let size = engine.input(&bytes, input).len();
-            check_same(
-                &rt,
-                (engine, input),
-                failed,
-                size.div_ceil(2000).saturating_add(1),
-            );
+/// Fails where an engine that ended well wrote something else, or read its inputs more or less often.
+fn check_whole<R: Abort>(rt: &R, engine: Engine, bytes: &Bytes, done: &Done, whole: &[u8]) {
+    check_that(rt, engine, done.written.as_slice() == whole);
+    check_same(rt, engine, done.reads, whole_reads(engine, bytes));
+}
+
+/// How many reads of one input fail in turn, until there are no more of them. Each one stops the engine, and without one it
+/// writes all.
+fn failed_reads<T: Wait + Threads + Sync + Abort>(
+    rt: &T,
+    alloc: Global,
+    (engine, input): (Engine, usize),
+    bytes: &Bytes,
+    whole: &[u8],
+) -> usize {
+    let mut failed = 0;
+    for read in 1..MOST {
+        let done = run_failing(rt, alloc, engine, bytes, 2000, failing(input, read));
+        if done.end.is_ok() {
+            check_whole(rt, engine, bytes, &done, whole);
+            break;
         }
+        let is_stopped = is_stopped(&done, input, read);
+        check_that(rt, ("read", engine, input, read), is_stopped);
+        failed = read;
     }
-    Ok(())
+    failed
+}
+
+/// Each read of an engine fails in turn: one that gives the last bytes of an input, and one that gives none, too.
+fn check_reads<T: Wait + Threads + Sync + Abort>(
+    rt: &T,
+    alloc: Global,
+    engine: Engine,
+    bytes: &Bytes,
+) {
+    let whole = whole_of(rt, alloc, engine, bytes);
+    for input in 0..engine.count() {
+        let failed = failed_reads(rt, alloc, (engine, input), bytes, whole.as_slice());
+        let size = engine.input(bytes, input).len();
+        let wanted = size.div_ceil(2000).saturating_add(1);
+        check_same(rt, (engine, input), failed, wanted);
+    }
 }
 
 #[test]
-fn one_byte_at_each_read(rt: HostRuntime) -> Result<(), Fail> {
+fn each_read_failing(rt: HostRuntime) {
     let alloc = rt.alloc();
-    let bytes = make_inputs(alloc)?;
+    let bytes = make_inputs(&rt, alloc);
     for engine in ENGINES {
-        let mut whole = Vec::new(alloc);
-        check_same(
-            &rt,
-            "run_whole",
-            run_whole(&rt, alloc, engine, &bytes, &mut whole),
-            Ok(()),
-        );
-        let done = run_failing(&rt, alloc, engine, &bytes, 1, [0, 0, 0]);
-        check_same(&rt, engine, done.end, Ok(()));
-        check_that(&rt, engine, done.written.as_slice() == whole.as_slice());
+        check_reads(&rt, alloc, engine, &bytes);
     }
-    Ok(())
+}
+
+/// An engine writes the same where each read gives one byte.
+fn check_bytewise<T: Wait + Threads + Sync + Abort>(
+    rt: &T,
+    alloc: Global,
+    engine: Engine,
+    bytes: &Bytes,
+) {
+    let whole = whole_of(rt, alloc, engine, bytes);
+    let done = run_failing(rt, alloc, engine, bytes, 1, [0, 0, 0]);
+    check_same(rt, engine, done.end, Ok(()));
+    check_that(rt, engine, done.written == whole);
+}
+
+#[test]
+fn one_byte_at_each_read(rt: HostRuntime) {
+    let alloc = rt.alloc();
+    let bytes = make_inputs(&rt, alloc);
+    for engine in ENGINES {
+        check_bytewise(&rt, alloc, engine, &bytes);
+    }
 }
 
 /// The bytes without the last one.
@@ -191,9 +207,9 @@ fn run_cut<T: Wait + Threads + Sync>(
 }
 
 #[test]
-fn inputs_that_end_early(rt: HostRuntime) -> Result<(), Fail> {
+fn inputs_that_end_early(rt: HostRuntime) {
     let alloc = rt.alloc();
-    let bytes = make_inputs(alloc)?;
+    let bytes = make_inputs(&rt, alloc);
     for engine in ENGINES {
         for input in 0..engine.count() {
             let is_told = match run_cut(&rt, alloc, engine, &bytes, input) {
@@ -203,5 +219,4 @@ fn inputs_that_end_early(rt: HostRuntime) -> Result<(), Fail> {
             check_that(&rt, (engine, input), is_told);
         }
     }
-    Ok(())
 }

@@ -1,10 +1,10 @@
 //! Lines of a conversation whose memory is refused.
 
-use crate::checks::check_that;
+use crate::checks::{check_same, check_that, expect_ok};
 use refusals::Refusing;
 use std::alloc::Global;
+use std::process::Abort;
 use std::sync::Wait;
-use std::test::Fail;
 use tas_tool::talk_run;
 
 /// No conversation grows so often here.
@@ -34,36 +34,49 @@ static REFUSED_EDITS: [&[u8]; 3] = [
 ];
 
 /// What is answered to lines, where memory is there.
-fn answers<T: Wait>(rt: &T, alloc: Global, lines: &[u8]) -> Result<Vec<u8>, Fail> {
+fn answers<T: Wait + Abort>(rt: &T, alloc: Global, lines: &[u8]) -> Vec<u8> {
     let mut input = lines;
     let mut output = Vec::new(alloc);
-    talk_run(rt, alloc, &mut input, &mut output)?;
-    Ok(output)
+    let end = talk_run(rt, alloc, &mut input, &mut output);
+    check_same(rt, "end", end, Ok(()));
+    output
 }
 
 /// The lines that make the movie, and some looks.
-fn looks_of(alloc: Global, looks: &[&[u8]]) -> Result<Vec<u8>, Fail> {
-    let mut lines = Vec::from_slice(alloc, MADE)?;
+fn looks_of<R: Abort>(rt: &R, alloc: Global, looks: &[&[u8]]) -> Vec<u8> {
+    let mut lines = expect_ok(rt, Vec::from_slice(alloc, MADE));
     for look in looks {
-        lines.extend_from_slice(look)?;
+        expect_ok(rt, lines.extend_from_slice(look));
     }
-    Ok(lines)
+    lines
+}
+
+/// Writes the answer to a look behind others, where the answers to the lines that make the movie have so many bytes.
+fn push_answer<T: Wait + Abort>(
+    rt: &T,
+    alloc: Global,
+    told: &mut Vec<u8>,
+    look: &[u8],
+    made: usize,
+) {
+    let lines = looks_of(rt, alloc, &[look]);
+    let answer = answers(rt, alloc, lines.as_slice());
+    let behind = answer.as_slice().get(made..).unwrap_or(&[]);
+    expect_ok(rt, told.extend_from_slice(behind));
 }
 
 /// The answers to the lines that make the movie, and to all looks, the one at this place told as want of memory.
-fn answers_but<T: Wait>(rt: &T, alloc: Global, refused: usize) -> Result<Vec<u8>, Fail> {
-    let mut told = answers(rt, alloc, MADE)?;
+fn answers_but<T: Wait + Abort>(rt: &T, alloc: Global, refused: usize) -> Vec<u8> {
+    let mut told = answers(rt, alloc, MADE);
     let made = told.len();
     for (place, look) in LOOKS.iter().enumerate() {
         if place == refused {
-            told.extend_from_slice(b"out of memory\n")?;
-            continue;
+            expect_ok(rt, told.extend_from_slice(b"out of memory\n"));
+        } else {
+            push_answer(rt, alloc, &mut told, look, made);
         }
-        let lines = looks_of(alloc, &[*look])?;
-        let answer = answers(rt, alloc, lines.as_slice())?;
-        told.extend_from_slice(answer.as_slice().get(made..).unwrap_or(&[]))?;
     }
-    Ok(told)
+    told
 }
 
 /// In how many conversations of these lines, of which each growth is refused in turn, the answers are those.
@@ -86,18 +99,17 @@ fn times_told<T: Wait>(rt: &T, alloc: Global, lines: &[u8], wanted: &[u8]) -> u6
 
 /// Each look's want of memory is told in its place, byte by byte, and the looks behind it are answered as ever.
 #[test]
-fn looks_without_memory(rt: HostRuntime) -> Result<(), Fail> {
+fn looks_without_memory(rt: HostRuntime) {
     let alloc = rt.alloc();
-    let lines = looks_of(alloc, LOOKS.as_slice())?;
-    let whole = answers(&rt, alloc, lines.as_slice())?;
-    let all = answers_but(&rt, alloc, LOOKS.len())?;
+    let lines = looks_of(&rt, alloc, LOOKS.as_slice());
+    let whole = answers(&rt, alloc, lines.as_slice());
+    let all = answers_but(&rt, alloc, LOOKS.len());
     check_that(&rt, "whole", whole.as_slice() == all.as_slice());
     for place in 0..LOOKS.len() {
-        let wanted = answers_but(&rt, alloc, place)?;
+        let wanted = answers_but(&rt, alloc, place);
         let times = times_told(&rt, alloc, lines.as_slice(), wanted.as_slice());
         check_that(&rt, ("look", place), times > 0);
     }
-    Ok(())
 }
 
 /// An edit's want of memory is told in its place, byte by byte, and the movie is as it was.
