@@ -1,9 +1,9 @@
 //! Code in the registers of the TIA and of the RIOT, stacks that start at each place, and frames of two instructions.
 
-use crate::checks::{check_same, check_that};
-use crate::images::{cart_with, frames_of, program, traced};
+use crate::checks::{check_same, check_that, expect_ok};
+use crate::images::{cart_with, check_lines, frames_of, program};
 use std::alloc::Global;
-use std::test::Fail;
+use std::process::Abort;
 use vcs_cpu::Halt;
 use vcs_machine::Cart;
 
@@ -25,83 +25,82 @@ fn first_read(address: u16) -> u8 {
 }
 
 /// The trace of a jump to an address and of what stands there: BRK, which goes back to the jump, or no instruction.
-fn jump_lines(alloc: Global, address: u16) -> Result<String, Fail> {
+fn jump_lines<R: Abort>(rt: &R, alloc: Global, address: u16) -> String {
     let opcode = first_read(address);
     let jump = "F000 4C 00 00 00 FD 34 3\n";
-    Ok(if opcode == 0 {
-        format!(in alloc; "{jump}{address:04X} 00 00 00 00 FA 34 7\nF000 4C 00 00 00 FA 34 3\n")?
+    let lines = if opcode == 0 {
+        format!(in alloc; "{jump}{address:04X} 00 00 00 00 FA 34 7\nF000 4C 00 00 00 FA 34 3\n")
     } else {
-        format!(in alloc; "{jump}{address:04X} {opcode:02X} halt\n")?
-    })
+        format!(in alloc; "{jump}{address:04X} {opcode:02X} halt\n")
+    };
+    expect_ok(rt, lines)
 }
 
 /// The cartridge that jumps to an address, and to its start again at BRK.
-fn jump_to(alloc: Global, address: u16) -> Result<Cart, Fail> {
+fn jump_to<R: Abort>(rt: &R, alloc: Global, address: u16) -> Cart {
     let [low, high] = address.to_le_bytes();
     let vectors: &[u8] = &[0x00, 0xf0, 0x00, 0xf0];
-    cart_with(alloc, &[(0, &[0x4c, low, high]), (0xffc, vectors)])
+    cart_with(rt, alloc, &[(0, &[0x4c, low, high]), (0xffc, vectors)])
+}
+
+fn check_jump<R: Abort>(rt: &R, alloc: Global, address: u16) {
+    let cart = jump_to(rt, alloc, address);
+    let lines = jump_lines(rt, alloc, address);
+    check_lines(rt, alloc, address, &cart, (3, lines.as_bytes()));
 }
 
 #[test]
-fn code_runs_at_each_address(rt: HostRuntime) -> Result<(), Fail> {
-    let alloc = rt.alloc();
+fn code_runs_at_each_address(rt: HostRuntime) {
     for address in (0..0x100u16).chain(0x280..0x300) {
-        let cart = jump_to(alloc, address)?;
-        let lines = jump_lines(alloc, address)?;
-        check_same(
-            &rt,
-            address,
-            traced(alloc, &cart, 3)?.as_slice(),
-            lines.as_bytes(),
-        );
+        check_jump(&rt, rt.alloc(), address);
     }
-    Ok(())
+}
+
+fn check_frames_at<R: Abort>(rt: &R, alloc: Global, address: u16) {
+    let cart = jump_to(rt, alloc, address);
+    let played = frames_of(rt, alloc, &cart, 2);
+    check_that(rt, address, played.alike);
+    // A latch may become another instruction, so BRK may come to a halt too.
+    let is_halted = played.state.halted().is_some();
+    check_that(rt, address, is_halted || first_read(address) == 0);
 }
 
 // Where BRK stands it writes all over the TIA and the RAM, again and again. The addresses are those of the TIA's sixteen
 // registers, the RAM's first byte, the ports' four and the timer's two; the others show the same ones again.
 #[test]
-fn frames_of_code_at_each_register(rt: HostRuntime) -> Result<(), Fail> {
-    let alloc = rt.alloc();
+fn frames_of_code_at_each_register(rt: HostRuntime) {
     for address in (0..0x10u16).chain(0x80..0x81).chain(0x280..0x286) {
-        let cart = jump_to(alloc, address)?;
-        let played = frames_of(alloc, &cart, 2)?;
-        check_that(&rt, address, played.alike);
-        // A latch may become another instruction, so BRK may come to a halt too.
-        let is_halted = played.state.halted().is_some();
-        check_that(&rt, address, is_halted || first_read(address) == 0);
+        check_frames_at(&rt, rt.alloc(), address);
     }
-    Ok(())
 }
 
 // The timer is set to EB with one cycle left, so that its count is EA, NOP, for the next 1,024; it has not underflowed, so
 // its other register reads 0, BRK.
 #[test]
-fn code_runs_in_the_timer(rt: HostRuntime) -> Result<(), Fail> {
+fn code_runs_in_the_timer(rt: HostRuntime) {
     let alloc = rt.alloc();
-    let cart = program(alloc, b"\xa9\xeb\x8d\x97\x02\x4c\x84\x02")?;
+    let cart = program(&rt, alloc, b"\xa9\xeb\x8d\x97\x02\x4c\x84\x02");
     let lines: &[u8] =
         b"F000 A9 EB 00 00 FD B4 2\nF002 8D EB 00 00 FD B4 4\nF005 4C EB 00 00 FD B4 3\n\
         0284 EA EB 00 00 FD B4 2\n0285 00 EB 00 00 FA B4 7\n";
-    check_same(&rt, "traced", traced(alloc, &cart, 5)?.as_slice(), lines);
-    Ok(())
+    check_lines(&rt, alloc, "traced", &cart, (5, lines));
 }
 
 // Player 0, ball and playfield meet on pixel 0 of line 0. So two latches of one byte are set, which is C0: CPY with the next
 // byte, where none is.
 #[test]
-fn code_runs_in_the_collision_latches(rt: HostRuntime) -> Result<(), Fail> {
+fn code_runs_in_the_collision_latches(rt: HostRuntime) {
     let alloc = rt.alloc();
     let cart = program(
+        &rt,
         alloc,
         b"\xa2\xff\x86\x1b\x86\x1f\x86\x0d\x86\x02\x4c\x02\x00",
-    )?;
+    );
     let lines: &[u8] =
         b"F000 A2 00 FF 00 FD B4 2\nF002 86 00 FF 00 FD B4 3\nF004 86 00 FF 00 FD B4 3\n\
         F006 86 00 FF 00 FD B4 3\nF008 86 00 FF 00 FD B4 3\nF00A 4C 00 FF 00 FD B4 3\n\
         0002 C0 00 FF 00 FD 37 2\n0004 00 00 FF 00 FA 37 7\n";
-    check_same(&rt, "traced", traced(alloc, &cart, 8)?.as_slice(), lines);
-    Ok(())
+    check_lines(&rt, alloc, "traced", &cart, (8, lines));
 }
 
 /// The status byte after a load of a value at power-on: N, I and Z.
@@ -111,7 +110,7 @@ fn status_of(value: u8) -> u8 {
 
 /// The trace of LDX, TXS, LDA 5A, PHA, PLA and no instruction, with the stack at this place of page 1: the RAM is its upper
 /// half, and the TIA, which doesn't show what is written, its lower one.
-fn stack_lines(alloc: Global, place: u8) -> Result<String, Fail> {
+fn stack_lines<R: Abort>(rt: &R, alloc: Global, place: u8) -> String {
     let before = status_of(place);
     let pulled = if place < 0x80 {
         first_read(u16::from(place))
@@ -121,53 +120,59 @@ fn stack_lines(alloc: Global, place: u8) -> Result<String, Fail> {
     let (below, after) = (place.wrapping_sub(1), status_of(pulled));
     let placed = format!(in alloc;
         "F000 A2 00 {place:02X} 00 FD {before:02X} 2\nF002 9A 00 {place:02X} 00 {place:02X} {before:02X} 2\n"
-    )?;
+    );
     let pushed = format!(in alloc;
         "F003 A9 5A {place:02X} 00 {place:02X} 34 2\nF005 48 5A {place:02X} 00 {below:02X} 34 3\n"
-    )?;
-    Ok(format!(in alloc;
+    );
+    let (placed, pushed) = (expect_ok(rt, placed), expect_ok(rt, pushed));
+    let lines = format!(in alloc;
         "{placed}{pushed}F006 68 {pulled:02X} {place:02X} 00 {place:02X} {after:02X} 4\nF007 02 halt\n"
-    )?)
+    );
+    expect_ok(rt, lines)
+}
+
+fn check_stack<R: Abort>(rt: &R, alloc: Global, place: u8) {
+    let cart = program(
+        rt,
+        alloc,
+        &[0xa2, place, 0x9a, 0xa9, 0x5a, 0x48, 0x68, 0x02],
+    );
+    let lines = stack_lines(rt, alloc, place);
+    check_lines(rt, alloc, place, &cart, (9, lines.as_bytes()));
+    check_that(rt, place, frames_of(rt, alloc, &cart, 2).alike);
 }
 
 #[test]
-fn stacks_start_at_each_place(rt: HostRuntime) -> Result<(), Fail> {
-    let alloc = rt.alloc();
+fn stacks_start_at_each_place(rt: HostRuntime) {
     for place in 0..=255u8 {
-        let cart = program(alloc, &[0xa2, place, 0x9a, 0xa9, 0x5a, 0x48, 0x68, 0x02])?;
-        let lines = stack_lines(alloc, place)?;
-        check_same(
-            &rt,
-            place,
-            traced(alloc, &cart, 9)?.as_slice(),
-            lines.as_bytes(),
-        );
-        check_that(&rt, place, frames_of(alloc, &cart, 2)?.alike);
+        check_stack(&rt, rt.alloc(), place);
     }
-    Ok(())
 }
 
-// After two loads 1,000 pairs of STA VSYNC, by which it rises and a frame ends, and STX VSYNC, and then no instruction. So
+/// After two loads 1,000 pairs of STA VSYNC, by which it rises and a frame ends, and STX VSYNC, and then no instruction.
+fn vsync_pairs<R: Abort>(rt: &R, alloc: Global) -> Cart {
+    let mut code = Vec::new(alloc);
+    expect_ok(rt, code.extend_from_slice(b"\xa9\x02\xa2\x00"));
+    for _ in 0..1000u32 {
+        expect_ok(rt, code.extend_from_slice(b"\x85\x00\x86\x00"));
+    }
+    expect_ok(rt, code.push(0x02));
+    program(rt, alloc, &code)
+}
+
 // 1,000 frames end, and the next one halts behind the last pair.
 #[test]
-fn each_instruction_writes_vsync(rt: HostRuntime) -> Result<(), Fail> {
+fn each_instruction_writes_vsync(rt: HostRuntime) {
     let alloc = rt.alloc();
-    let mut code = Vec::new(alloc);
-    code.extend_from_slice(b"\xa9\x02\xa2\x00")?;
-    for _ in 0..1000u32 {
-        code.extend_from_slice(b"\x85\x00\x86\x00")?;
-    }
-    code.push(0x02)?;
-    let cart = program(alloc, &code)?;
-    let before = frames_of(alloc, &cart, 1000)?;
+    let cart = vsync_pairs(&rt, alloc);
+    let before = frames_of(&rt, alloc, &cart, 1000);
     check_that(&rt, "before.alike", before.alike);
     check_same(&rt, "before.state", before.state.halted(), None);
-    let after = frames_of(alloc, &cart, 1001)?;
+    let after = frames_of(&rt, alloc, &cart, 1001);
     check_that(&rt, "after.alike", after.alike);
     let halt = Halt::Undocumented {
         at: 0xffa4,
         opcode: 2,
     };
     check_same(&rt, "after.state", after.state.halted(), Some(halt));
-    Ok(())
 }

@@ -184,12 +184,17 @@ fn merge_twice(heap: &Heap, green: &mut Green<&Heap>, movie: &Movie, batch: &Bat
     Run::ended(has_refused, answer == Ok(merged) && is_full(green))
 }
 
+/// The states of all of the grid's places up to 384 frames.
+fn batch_of<R: Abort>(rt: &R, alloc: Global, movie: &Movie) -> Batch {
+    expect_ok(rt, Job::take(alloc, movie, &Green::new(alloc), 384)).run()
+}
+
 fn run_merge<R: Abort>(rt: &R, alloc: Global, movie: &Movie, number: u64) -> Run
     requires { 1 ≤ number }
 {
     let heap = Refusing::new(alloc, NEVER);
+    let batch = batch_of(rt, alloc, movie);
     let mut green = zone_of(rt, alloc, &heap, movie, 127);
-    let batch = expect_ok(rt, Job::take(alloc, movie, &Green::new(alloc), 384)).run();
     heap.refuse(number);
     merge_twice(&heap, &mut green, movie, &batch)
 }
@@ -378,14 +383,19 @@ fn growths_of<R: Abort>(
     MOST
 }
 
+/// Compares how many growths each call has, between these two movies.
+fn check_seekings<R: Abort>(rt: &R, alloc: Global, movie: &Movie, other: &Movie) {
+    check_that(rt, "movie", movie.len() == 400 && other.len() == 400);
+    for (seeking, growths) in SEEKINGS {
+        let found = growths_of(rt, alloc, movie, other, seeking);
+        check_same(rt, seeking, found, growths);
+    }
+}
+
 #[test]
 fn what_a_greenzone_does(rt: HostRuntime) {
     let alloc = rt.alloc();
     let movie = movie_of(&rt, alloc, BRIEF, 400);
     let other = replaced(&rt, alloc, &movie, 100);
-    check_that(&rt, "movie", movie.len() == 400 && other.len() == 400);
-    for (seeking, growths) in SEEKINGS {
-        let found = growths_of(&rt, alloc, &movie, &other, seeking);
-        check_same(&rt, seeking, found, growths);
-    }
+    check_seekings(&rt, alloc, &movie, &other);
 }

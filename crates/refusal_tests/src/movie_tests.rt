@@ -167,20 +167,28 @@ fn growths_of<R: Abort>(rt: &R, alloc: Global, made: &Made, making: Making) -> u
     MOST
 }
 
-#[test]
-fn what_is_made_of_a_movie(rt: HostRuntime) {
-    let alloc = rt.alloc();
-    let movie = movie_of(&rt, alloc, PLAYFIELD, 3);
-    let text = expect_ok(&rt, print_text(alloc, &movie));
-    let inputs = expect_ok(&rt, copies(alloc, right(), 3));
-    let made = Made {
+fn make_all<R: Abort>(rt: &R, alloc: Global) -> Made {
+    let movie = movie_of(rt, alloc, PLAYFIELD, 3);
+    let text = expect_ok(rt, print_text(alloc, &movie));
+    let inputs = expect_ok(rt, copies(alloc, right(), 3));
+    Made {
         movie,
         inputs,
         text,
-    };
-    for (making, growths) in MAKINGS {
-        check_same(&rt, making, growths_of(&rt, alloc, &made, making), growths);
     }
+}
+
+/// Compares how many growths each call has.
+fn check_makings<R: Abort>(rt: &R, alloc: Global, made: &Made) {
+    for (making, growths) in MAKINGS {
+        check_same(rt, making, growths_of(rt, alloc, made, making), growths);
+    }
+}
+
+#[test]
+fn what_is_made_of_a_movie(rt: HostRuntime) {
+    let alloc = rt.alloc();
+    check_makings(&rt, alloc, &make_all(&rt, alloc));
 }
 
 /// What is wrong with a text of this first line where the growth with this number is refused, and whether it was.
