@@ -1,12 +1,11 @@
 //! Batches of jobs, offered to a desk.
 
 use crate::changes::{Change, HALTING, PLAYFIELD, edit_of};
-use crate::checks::{check_same, check_that};
+use crate::checks::{check_same, check_that, expect_ok};
 use crate::desks::{Task, play};
 use std::alloc::Global;
 use std::process::Abort;
 use std::sync::Wait;
-use std::test::Fail;
 use tas_desk::{CloseOnDrop, Desk, Name, OfferError, Offered, Seat};
 use tas_green::Batch;
 
@@ -38,25 +37,19 @@ fn change<N: Name, W: CloseOnDrop, R: Wait + Abort>(
     desk: &Desk<N, W>,
     seat: &mut Seat<N>,
     change: Change,
-) -> Result<(), Fail> {
-    let edit = edit_of(alloc, change)?;
+) {
+    let edit = expect_ok(rt, edit_of(alloc, change));
     check_that(rt, change, desk.edit(rt, seat, edit).is_ok());
-    Ok(())
 }
 
-/// A movie of 200 frames, and three batches of all of them.
-fn make_batches<N: Name, W: CloseOnDrop, R: Wait + Abort>(
+/// A batch of all of 200 frames.
+fn batch<N: Name, W: CloseOnDrop, R: Wait + Abort>(
     rt: &R,
     alloc: Global,
     desk: &Desk<N, W>,
     seat: &mut Seat<N>,
-) -> Result<(Batch, Batch, Batch), Fail> {
-    change(rt, alloc, desk, seat, Change::Load(PLAYFIELD))?;
-    change(rt, alloc, desk, seat, Change::Insert(0, 200))?;
-    let first = desk.job(rt, alloc, seat, 200)?;
-    let second = desk.job(rt, alloc, seat, 200)?;
-    let third = desk.job(rt, alloc, seat, 200)?;
-    Ok((first.run(), second.run(), third.run()))
+) -> Batch {
+    expect_ok(rt, desk.job(rt, alloc, seat, 200)).run()
 }
 
 /// Makes an edit and offers a batch behind it: the answer, and how many states the seat's zone gains then.
@@ -67,10 +60,10 @@ fn offer_behind<N: Name, W: CloseOnDrop, R: Wait + Abort>(
     seat: &mut Seat<N>,
     edit: Change,
     batch: Batch,
-) -> Result<(Answered, usize), Fail> {
-    change(rt, alloc, desk, seat, edit)?;
+) -> (Answered, usize) {
+    change(rt, alloc, desk, seat, edit);
     let answered = offer(rt, desk, seat, batch);
-    Ok((answered, desk.share(rt, seat)?))
+    (answered, expect_ok(rt, desk.share(rt, seat)))
 }
 
 /// Three batches of 200 frames: two are offered once input 100 is another one, the third behind another cartridge.
@@ -79,22 +72,24 @@ pub fn offer_three_batches<N: Name, W: CloseOnDrop, R: Wait + Abort>(
     alloc: Global,
     desk: &Desk<N, W>,
     seat: &mut Seat<N>,
-) -> Result<(), Fail> {
-    let (first, second, third) = make_batches(rt, alloc, desk, seat)?;
+) {
+    change(rt, alloc, desk, seat, Change::Load(PLAYFIELD));
+    change(rt, alloc, desk, seat, Change::Insert(0, 200));
+    let first = batch(rt, alloc, desk, seat);
+    let second = batch(rt, alloc, desk, seat);
+    let third = batch(rt, alloc, desk, seat);
     let (at, front) = (3, 100);
     let gained = Answered::Taken(Offered { at, front, kept: 1 });
-    let told = offer_behind(rt, alloc, desk, seat, Change::ReplaceRight(100), first)?;
+    let told = offer_behind(rt, alloc, desk, seat, Change::ReplaceRight(100), first);
     check_that(rt, told, told == (gained, 1));
     let nothing = Answered::Taken(Offered { at, front, kept: 0 });
     check_same(rt, "offer", offer(rt, desk, seat, second), nothing);
-    let told = offer_behind(rt, alloc, desk, seat, Change::Load(HALTING), third)?;
+    let told = offer_behind(rt, alloc, desk, seat, Change::Load(HALTING), third);
     check_that(rt, told, told == (Answered::OtherCartridge(4), 0));
-    Ok(())
 }
 
 #[test]
-fn three_batches_are_offered_to_a_desk(rt: HostRuntime) -> Result<(), Fail> {
-    let (closed, _) = play(&rt, rt.alloc(), 1, Task::ThreeBatches)?;
+fn three_batches_are_offered_to_a_desk(rt: HostRuntime) {
+    let (closed, _) = play(&rt, rt.alloc(), 1, Task::ThreeBatches);
     check_same(&rt, "closed.journal", closed.journal.len(), 4);
-    Ok(())
 }

@@ -1,12 +1,11 @@
 //! Calls of a desk in short, taken one after the other on one thread.
 
 use crate::changes::{Change, edit_of};
-use crate::checks::check_that;
+use crate::checks::{check_that, expect_ok};
 use crate::gates::Open;
 use std::alloc::Global;
 use std::process::Abort;
 use std::sync::Wait;
-use std::test::Fail;
 use std::thread::Threads;
 use tas_desk::{
     CloseOnDrop, Desk, EditError, ExportError, InputError, Name, NoEntry, Receipt, Seat, ShotError,
@@ -57,16 +56,16 @@ fn shoot<N: Name, W: CloseOnDrop>(
 }
 
 /// Whether an edit is answered so.
-fn is_edited<N: Name, W: CloseOnDrop, R: Wait>(
+fn is_edited<N: Name, W: CloseOnDrop, R: Wait + Abort>(
     rt: &R,
     alloc: Global,
     desk: &Desk<N, W>,
     seat: &mut Seat<N>,
     change: Change,
     answer: Result<Receipt, EditError>,
-) -> Result<bool, Fail> {
-    let edit = edit_of(alloc, change)?;
-    Ok(desk.edit(rt, seat, edit) == answer)
+) -> bool {
+    let edit = expect_ok(rt, edit_of(alloc, change));
+    desk.edit(rt, seat, edit) == answer
 }
 
 /// What an export tells: how many edits there are; frames played, or the movie's length where the frames aren't all there;
@@ -109,31 +108,31 @@ fn is_seen<N: Name, W: CloseOnDrop>(
 }
 
 /// Whether a call of one seat is answered as it says.
-fn is_answered<N: Name, W: CloseOnDrop, R: Threads + Wait + Sync>(
+fn is_answered<N: Name, W: CloseOnDrop, R: Threads + Wait + Abort + Sync>(
     rt: &R,
     alloc: Global,
     desk: &Desk<N, W>,
     seat: &mut Seat<N>,
     call: Call,
-) -> Result<bool, Fail> {
+) -> bool {
     match call {
         Call::Made(_, change, at, len) => {
             is_edited(rt, alloc, desk, seat, change, Ok(Receipt { at, len }))
         }
         Call::Refused(_, change, error) => is_edited(rt, alloc, desk, seat, change, Err(error)),
         Call::Work(_, targets, worked) => {
-            Ok(desk.work(rt, alloc, seat, targets, &Open) == Ok(worked))
+            desk.work(rt, alloc, seat, targets, &Open) == Ok(worked)
         }
-        Call::Share(_, gained) => Ok(desk.share(rt, seat).ok() == Some(gained)),
+        Call::Share(_, gained) => desk.share(rt, seat).ok() == Some(gained),
         Call::Exported(_, (from, to), workers, at, played) => {
             let bytes = to.saturating_sub(from).saturating_mul(100_815);
             let told = export(rt, alloc, desk, seat, (from, to), workers);
-            Ok(told == Some((at, Ok(played), bytes)))
+            told == Some((at, Ok(played), bytes))
         }
         Call::OutOfRange(_, range, at, len) => {
-            Ok(export(rt, alloc, desk, seat, range, 3) == Some((at, Err(len), 0)))
+            export(rt, alloc, desk, seat, range, 3) == Some((at, Err(len), 0))
         }
-        _ => Ok(is_seen(alloc, desk, seat, call)),
+        _ => is_seen(alloc, desk, seat, call),
     }
 }
 
@@ -173,19 +172,19 @@ fn is_met<N: Name, W: CloseOnDrop, R: Wait>(
 }
 
 /// Whether the call is answered as it says.
-fn is_taken<N: Name, W: CloseOnDrop, R: Threads + Wait + Sync>(
+fn is_taken<N: Name, W: CloseOnDrop, R: Threads + Wait + Abort + Sync>(
     rt: &R,
     alloc: Global,
     desk: &Desk<N, W>,
     seats: &mut [Seat<N>],
     call: Call,
-) -> Result<bool, Fail> {
+) -> bool {
     if let Call::Meet(at) = call {
-        return Ok(is_met(rt, desk, seats, at));
+        return is_met(rt, desk, seats, at);
     }
     match seats.get_mut(caller(call) as usize) {
         Some(seat) => is_answered(rt, alloc, desk, seat, call),
-        None => Ok(false),
+        None => false,
     }
 }
 
@@ -196,10 +195,9 @@ pub fn take_calls<N: Name, W: CloseOnDrop, R: Threads + Wait + Abort + Sync>(
     desk: &Desk<N, W>,
     seats: &mut [Seat<N>],
     calls: &[Call],
-) -> Result<(), Fail> {
+) {
     for (number, call) in calls.iter().enumerate() {
-        let is_right = is_taken(rt, alloc, desk, seats, *call)?;
+        let is_right = is_taken(rt, alloc, desk, seats, *call);
         check_that(rt, ("call", number), is_right);
     }
-    Ok(())
 }

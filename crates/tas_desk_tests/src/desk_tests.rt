@@ -5,7 +5,6 @@ use crate::changes::{Change, HALT, HALTING, PLAYFIELD, fire};
 use crate::checks::check_same;
 use crate::desks::{Task, play};
 use crate::sessions::history;
-use std::test::Fail;
 use tas_desk::{EditError, InputError, ShotError, Worked};
 use vcs_machine::Input;
 
@@ -24,7 +23,7 @@ const fn worked(jobs: usize, kept: usize) -> Worked {
 }
 
 #[test]
-fn a_fresh_desk_has_no_frames(rt: HostRuntime) -> Result<(), Fail> {
+fn a_fresh_desk_has_no_frames(rt: HostRuntime) {
     let place = EditError::Place {
         at: 0,
         place: 0,
@@ -40,15 +39,18 @@ fn a_fresh_desk_has_no_frames(rt: HostRuntime) -> Result<(), Fail> {
         Call::OutOfRange(1, (0, 1), 0, 0),
         Call::Exported(1, (0, 0), 3, 0, 0),
     ];
-    let (closed, _) = play(&rt, rt.alloc(), 2, Task::Calls(&calls))?;
-    check_same(&rt, "closed.journal", closed.journal.len(), 0);
-    check_same(&rt, "closed.movie", closed.movie.len(), 0);
-    Ok(())
+    let (closed, _) = play(&rt, rt.alloc(), 2, Task::Calls(&calls));
+    check_same(
+        &rt,
+        "journal, movie",
+        [closed.journal.len(), closed.movie.len()],
+        [0, 0],
+    );
 }
 
 /// One seat sees the other's edit without a meeting, and without an edit of its own.
 #[test]
-fn a_seat_sees_the_other_s_edit(rt: HostRuntime) -> Result<(), Fail> {
+fn a_seat_sees_the_other_s_edit(rt: HostRuntime) {
     let calls = [
         Call::Len(1, 0, 0),
         Call::Made(0, Change::InsertFire(0), 1, 1),
@@ -60,14 +62,13 @@ fn a_seat_sees_the_other_s_edit(rt: HostRuntime) -> Result<(), Fail> {
         Call::NotDrawn(1, 2, ShotError::NoFrame { at: 2, len: 2 }),
         Call::Meet(2),
     ];
-    let (closed, _) = play(&rt, rt.alloc(), 2, Task::Calls(&calls))?;
+    let (closed, _) = play(&rt, rt.alloc(), 2, Task::Calls(&calls));
     check_same(&rt, "closed.journal", closed.journal.len(), 2);
-    Ok(())
 }
 
 /// A refused edit takes no serial.
 #[test]
-fn refusals_of_a_desk_come_in_order(rt: HostRuntime) -> Result<(), Fail> {
+fn refusals_of_a_desk_come_in_order(rt: HostRuntime) {
     let (at, len) = (1, 262144);
     let misplaced = EditError::Place {
         at,
@@ -88,19 +89,14 @@ fn refusals_of_a_desk_come_in_order(rt: HostRuntime) -> Result<(), Fail> {
         Call::Made(0, Change::Delete(0, 0), 4, 1),
     ];
     let alloc = rt.alloc();
-    let (closed, _) = play(&rt, alloc, 2, Task::Calls(&calls))?;
+    let (closed, _) = play(&rt, alloc, 2, Task::Calls(&calls));
     let text = "0 0 insert 0 262144\n1 0 replace 262144 0\n1 1 delete 1 262143\n0 1 delete 0 0\n";
-    check_same(
-        &rt,
-        "history",
-        history(alloc, closed.journal.as_slice())?.as_str(),
-        text,
-    );
-    Ok(())
+    let told = history(&rt, alloc, closed.journal.as_slice());
+    check_same(&rt, "history", told.as_str(), text);
 }
 
 #[test]
-fn work_is_shared_with_other_seats(rt: HostRuntime) -> Result<(), Fail> {
+fn work_is_shared_with_other_seats(rt: HostRuntime) {
     let calls = [
         LOADED,
         FILLED,
@@ -120,13 +116,12 @@ fn work_is_shared_with_other_seats(rt: HostRuntime) -> Result<(), Fail> {
         Call::Keeps(2, 1),
         Call::Drawn(1, 191, 3, 128, 1680),
     ];
-    play(&rt, rt.alloc(), 4, Task::Calls(&calls))?;
-    Ok(())
+    play(&rt, rt.alloc(), 4, Task::Calls(&calls));
 }
 
 /// Targets are worked in order, each from the states that the ones before it left.
 #[test]
-fn each_target_is_worked(rt: HostRuntime) -> Result<(), Fail> {
+fn each_target_is_worked(rt: HostRuntime) {
     let calls = [
         LOADED,
         FILLED,
@@ -136,13 +131,12 @@ fn each_target_is_worked(rt: HostRuntime) -> Result<(), Fail> {
         Call::Share(0, 3),
         Call::Drawn(0, 199, 2, 8, 1680),
     ];
-    play(&rt, rt.alloc(), 2, Task::Calls(&calls))?;
-    Ok(())
+    play(&rt, rt.alloc(), 2, Task::Calls(&calls));
 }
 
 /// A seat's zone is cut where it next shoots, so it keeps what an edit and its taking back leave equal.
 #[test]
-fn a_zone_of_a_movie_that_came_back(rt: HostRuntime) -> Result<(), Fail> {
+fn a_zone_of_a_movie_that_came_back(rt: HostRuntime) {
     let calls = [
         LOADED,
         FILLED,
@@ -157,12 +151,11 @@ fn a_zone_of_a_movie_that_came_back(rt: HostRuntime) -> Result<(), Fail> {
         Call::Made(0, Change::Delete(0, 200), 6, 0),
         Call::NotDrawn(0, 0, ShotError::NoFrame { at: 6, len: 0 }),
     ];
-    play(&rt, rt.alloc(), 1, Task::Calls(&calls))?;
-    Ok(())
+    play(&rt, rt.alloc(), 1, Task::Calls(&calls));
 }
 
 #[test]
-fn a_seat_s_grid_follows_the_length(rt: HostRuntime) -> Result<(), Fail> {
+fn a_seat_s_grid_follows_the_length(rt: HostRuntime) {
     let calls = [
         LOADED,
         Call::Made(0, Change::Insert(0, 32831), 2, 32831),
@@ -174,14 +167,13 @@ fn a_seat_s_grid_follows_the_length(rt: HostRuntime) -> Result<(), Fail> {
         Call::Drawn(0, 100, 4, 101, 1680),
         Call::Drawn(0, 100, 4, 37, 1680),
     ];
-    play(&rt, rt.alloc(), 1, Task::Calls(&calls))?;
-    Ok(())
+    play(&rt, rt.alloc(), 1, Task::Calls(&calls));
 }
 
 /// The state after 64 frames is halted, and is kept: a second shot of frame 80 starts there, as its share with a worker's
 /// zone shows.
 #[test]
-fn halted_states_are_kept_by_a_desk(rt: HostRuntime) -> Result<(), Fail> {
+fn halted_states_are_kept_by_a_desk(rt: HostRuntime) {
     let halted = ShotError::Halted { at: 2, halt: HALT };
     let calls = [
         Call::Made(0, Change::Load(HALTING), 1, 0),
@@ -194,6 +186,5 @@ fn halted_states_are_kept_by_a_desk(rt: HostRuntime) -> Result<(), Fail> {
         Call::Share(0, 0),
         Call::Share(1, 1),
     ];
-    play(&rt, rt.alloc(), 2, Task::Calls(&calls))?;
-    Ok(())
+    play(&rt, rt.alloc(), 2, Task::Calls(&calls));
 }

@@ -6,18 +6,17 @@ ghost use Rattle.tas_desk.specs.Seats.{name_of};
 use crate::batch_tests::offer_three_batches;
 use crate::calls::{Call, take_calls};
 use crate::changes::Change;
-use crate::checks::check_that;
+use crate::checks::{check_that, expect_ok, expect_some};
 use crate::export_tests::{
     export_by_each, export_longest, export_through_gates, export_to_the_ends, export_until_halted,
 };
 use crate::players::Habit;
 use crate::replays::Notes;
 use crate::thread_tests::{edit_in_the_gate, insert_at_once, take_turns_at_once};
-use std::alloc::{AllocError, Global};
+use std::alloc::Global;
 use std::marker::Brand;
 use std::process::Abort;
 use std::sync::Wait;
-use std::test::Fail;
 use std::thread::Threads;
 use tas_desk::{Closed, Desk, Name, Seat, Unopened, Worked};
 
@@ -49,18 +48,31 @@ pub enum Task<'a> {
 /// The seats of a desk, in any order, and what they were told.
 pub type Left<N> = (Vec<Seat<N>>, Vec<Notes>);
 
-/// Takes a task that some seats do in turn.
-fn take_in_turn<N: Name + Send + Sync, R: Threads + Wait + Abort + Sync>(
+/// Takes a task for which the seats stay with the desk's owner.
+fn take_lent<N: Name + Send + Sync, R: Threads + Wait + Abort + Sync>(
     rt: &R,
     alloc: Global,
     desk: &Desk<N, &R>,
     seats: &mut [Seat<N>],
     task: Task<'_>,
-) -> Result<(), Fail> {
-    if let Task::Calls(calls) = task {
-        return take_calls(rt, alloc, desk, seats, calls);
+) {
+    match task {
+        Task::Calls(calls) => take_calls(rt, alloc, desk, seats, calls),
+        Task::EditInTheGate(change, worked) => {
+            edit_in_the_gate(rt, alloc, desk, seats, change, worked);
+        }
+        _ => take_alone(rt, alloc, desk, expect_some(rt, seats.first_mut()), task),
     }
-    let seat = seats.first_mut().ok_or("a seat")?;
+}
+
+/// Takes a task that one seat does.
+fn take_alone<N: Name + Send + Sync, R: Threads + Wait + Abort + Sync>(
+    rt: &R,
+    alloc: Global,
+    desk: &Desk<N, &R>,
+    seat: &mut Seat<N>,
+    task: Task<'_>,
+) {
     match task {
         Task::ThreeBatches => offer_three_batches(rt, alloc, desk, seat),
         Task::ExportByEach(frames) => export_by_each(rt, alloc, desk, seat, frames),
@@ -68,7 +80,7 @@ fn take_in_turn<N: Name + Send + Sync, R: Threads + Wait + Abort + Sync>(
         Task::ExportUntilHalted => export_until_halted(rt, alloc, desk, seat),
         Task::ExportToTheEnds => export_to_the_ends(rt, alloc, desk, seat),
         Task::ExportLongest(first) => export_longest(rt, alloc, desk, seat, first),
-        _ => Err("a task of threads".into()),
+        _ => check_that(rt, "a task of one seat", false),
     }
 }
 
@@ -79,17 +91,14 @@ fn take<N: Name + Send + Sync, R: Threads + Wait + Abort + Sync>(
     desk: &Desk<N, &R>,
     seats: Vec<Seat<N>>,
     task: Task<'_>,
-) -> Result<Left<N>, Fail> {
+) -> Left<N> {
     match task {
         Task::Inserts(count) => insert_at_once(rt, alloc, desk, seats, count),
         Task::Turns(habits, turns) => take_turns_at_once(rt, alloc, desk, seats, habits, turns),
-        Task::EditInTheGate(change, worked) => {
-            edit_in_the_gate(rt, alloc, desk, seats, change, worked)
-        }
         _ => {
             let mut seats = seats;
-            take_in_turn(rt, alloc, desk, seats.as_mut_slice(), task)?;
-            Ok((seats, Vec::new(alloc)))
+            take_lent(rt, alloc, desk, seats.as_mut_slice(), task);
+            (seats, Vec::new(alloc))
         }
     }
 }
@@ -100,14 +109,14 @@ fn play_at<N: Name + Send + Sync, R: Threads + Wait + Abort + Sync>(
     alloc: Global,
     unopened: Unopened,
     task: Task<'_>,
-) -> Result<(Closed, Vec<Notes>), Fail>
+) -> (Closed, Vec<Notes>)
     requires name { unopened ≡ name_of N.registry N.name N.seats }
     requires named { N.parts ≡ N.seats }
 {
-    let (desk, seats) = Desk::<N, &R>::open(rt, alloc, unopened).map_err(|_| AllocError)?;
-    let (seats, notes) = take(rt, alloc, &desk, seats, task)?;
+    let (desk, seats) = expect_ok(rt, Desk::<N, &R>::open(rt, alloc, unopened));
+    let (seats, notes) = take(rt, alloc, &desk, seats, task);
     check_that(rt, "all seats come back", desk.whole(seats.as_slice()));
-    Ok((desk.close(rt, seats), notes))
+    (desk.close(rt, seats), notes)
 }
 
 /// Takes a task at a desk of so many seats: what the desk leaves, and what the seats were told.
@@ -116,9 +125,9 @@ pub fn play<R: Threads + Wait + Abort + Sync>(
     alloc: Global,
     seats: u32,
     task: Task<'_>,
-) -> Result<(Closed, Vec<Notes>), Fail>
+) -> (Closed, Vec<Notes>)
     requires { (1 ≤ seats) × (seats ≤ 8) }
 {
-    let unopened = Unopened::new(alloc, seats).map_err(|_| AllocError)?;
+    let unopened = expect_ok(rt, Unopened::new(alloc, seats));
     play_at::<Brand, R>(rt, alloc, unopened, task)
 }

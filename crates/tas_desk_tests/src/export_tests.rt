@@ -3,7 +3,7 @@
 ghost use Rattle.std.specs.Prelude.{◌≤◌};
 
 use crate::changes::{Change, FOLDING, HALT, HALTING, PLAYFIELD, WAITING, edit_of};
-use crate::checks::{check_same, check_that};
+use crate::checks::{check_same, check_that, expect_ok};
 use crate::desks::{Task, play};
 use crate::gates::{Counting, Open, Ordered};
 use crate::replays::images;
@@ -12,9 +12,8 @@ use std::alloc::Global;
 use std::io;
 use std::process::Abort;
 use std::sync::Wait;
-use std::test::Fail;
 use std::thread::Threads;
-use tas_desk::{CloseOnDrop, Desk, ExportError, Gate, Name, Seat};
+use tas_desk::{CloseOnDrop, Desk, ExportError, Exported, Gate, Name, Seat};
 use tas_movie::{Movie, apply, check};
 use vcs_cpu::Halt;
 
@@ -59,7 +58,16 @@ fn export<N: Name, W: CloseOnDrop, G: Gate + Sync, R: Threads + Wait + Sync>(
     (told, bytes, sum)
 }
 
-/// A movie of a program and so many inputs, by edits of the seat.
+/// The edits that make a movie of a program and so many inputs.
+fn making(program: &'static [u8], count: usize) -> [Change; 3] {
+    [
+        Change::Load(program),
+        Change::Insert(0, count),
+        Change::ReplaceRight(1),
+    ]
+}
+
+/// The seat makes a movie of a program and so many inputs.
 fn fill<N: Name, R: Threads + Wait + Abort + Sync>(
     rt: &R,
     alloc: Global,
@@ -67,21 +75,29 @@ fn fill<N: Name, R: Threads + Wait + Abort + Sync>(
     seat: &mut Seat<N>,
     program: &'static [u8],
     count: usize,
-) -> Result<Movie, Fail> {
-    let mut movie = Movie::blank(alloc)?;
-    let changes = [
-        Change::Load(program),
-        Change::Insert(0, count),
-        Change::ReplaceRight(1),
-    ];
-    for change in changes {
-        let edit = edit_of(alloc, change)?;
+) {
+    for change in making(program, count) {
+        let edit = expect_ok(rt, edit_of(alloc, change));
+        check_that(rt, change, desk.edit(rt, seat, edit).is_ok());
+    }
+}
+
+/// What an export of frames of such a movie writes: how many bytes, and the sum over them. No frame of them is halted.
+fn wanted_images<R: Abort>(
+    rt: &R,
+    alloc: Global,
+    program: &'static [u8],
+    count: usize,
+    range: (usize, usize),
+) -> (usize, u64) {
+    let mut movie = expect_ok(rt, Movie::blank(alloc));
+    for change in making(program, count) {
+        let edit = expect_ok(rt, edit_of(alloc, change));
         if check(&movie, &edit).is_ok() {
             apply(&mut movie, &edit);
         }
-        check_that(rt, change, desk.edit(rt, seat, edit).is_ok());
     }
-    Ok(movie)
+    expect_ok(rt, expect_ok(rt, images(alloc, &movie, range.0, range.1)))
 }
 
 /// So many frames, from frame 2 on, by each number of workers.
@@ -91,10 +107,10 @@ pub fn export_by_each<N: Name, R: Threads + Wait + Abort + Sync>(
     desk: &Desk<N, &R>,
     seat: &mut Seat<N>,
     frames: usize,
-) -> Result<(), Fail> {
-    let movie = fill(rt, alloc, desk, seat, FOLDING, 20)?;
+) {
+    fill(rt, alloc, desk, seat, FOLDING, 20);
     let range = (2, frames.saturating_add(2));
-    let (bytes, sum) = images(alloc, &movie, range.0, range.1)?.map_err(|_| "a halt")?;
+    let (bytes, sum) = wanted_images(rt, alloc, FOLDING, 20, range);
     check_same(rt, "bytes", bytes, frames.saturating_mul(100_815));
     for workers in 1..17usize {
         let (told, written, found) = export(
@@ -107,20 +123,17 @@ pub fn export_by_each<N: Name, R: Threads + Wait + Abort + Sync>(
             &Open,
             usize::MAX,
         );
-        check_that(rt, ("frames by workers", frames, workers), told.is_ok());
-        check_same(rt, ("frames by workers", frames, workers), written, bytes);
-        check_same(rt, ("frames by workers", frames, workers), found, sum);
+        let name = ("frames by workers", frames, workers);
+        check_same(rt, name, (told.is_ok(), written, found), (true, bytes, sum));
     }
-    Ok(())
 }
 
 #[test]
-fn every_number_of_workers_writes_the_same(rt: HostRuntime) -> Result<(), Fail> {
+fn every_number_of_workers_writes_the_same(rt: HostRuntime) {
     for frames in [0, 1, 15, 16, 17] {
-        let (closed, _) = play(&rt, rt.alloc(), 1, Task::ExportByEach(frames))?;
+        let (closed, _) = play(&rt, rt.alloc(), 1, Task::ExportByEach(frames));
         check_same(&rt, "closed.journal", closed.journal.len(), 3);
     }
-    Ok(())
 }
 
 /// Two workers of whom the first waits until the second has come, and gates that are passed by workers without frames too.
@@ -129,8 +142,8 @@ pub fn export_through_gates<N: Name, R: Threads + Wait + Abort + Sync>(
     alloc: Global,
     desk: &Desk<N, &R>,
     seat: &mut Seat<N>,
-) -> Result<(), Fail> {
-    fill(rt, alloc, desk, seat, PLAYFIELD, 2)?;
+) {
+    fill(rt, alloc, desk, seat, PLAYFIELD, 2);
     let alone = export(rt, alloc, desk, seat, (0, 2), 1, &Open, usize::MAX);
     check_same(rt, "alone.0", (alone.0, alone.1), (Ok((3, 2)), 201_630));
     let ordered = Ordered::new();
@@ -142,13 +155,11 @@ pub fn export_through_gates<N: Name, R: Threads + Wait + Abort + Sync>(
     check_same(rt, "many.1", (many.1, many.2), (alone.1, alone.2));
     // The numbers 0 to 15, each once.
     check_same(rt, "counting", counting.passed(), (16, 1240));
-    Ok(())
 }
 
 #[test]
-fn workers_run_at_once(rt: HostRuntime) -> Result<(), Fail> {
-    play(&rt, rt.alloc(), 1, Task::ExportThroughGates)?;
-    Ok(())
+fn workers_run_at_once(rt: HostRuntime) {
+    play(&rt, rt.alloc(), 1, Task::ExportThroughGates);
 }
 
 /// A halt in the last run; in two runs; in each of five; and frames before it.
@@ -157,8 +168,8 @@ pub fn export_until_halted<N: Name, R: Threads + Wait + Abort + Sync>(
     alloc: Global,
     desk: &Desk<N, &R>,
     seat: &mut Seat<N>,
-) -> Result<(), Fail> {
-    fill(rt, alloc, desk, seat, HALTING, 8)?;
+) {
+    fill(rt, alloc, desk, seat, HALTING, 8);
     let cases = [
         ((1, 5), 2, 3),
         ((1, 5), 1, 3),
@@ -184,13 +195,11 @@ pub fn export_until_halted<N: Name, R: Threads + Wait + Abort + Sync>(
     }
     let told = export(rt, alloc, desk, seat, (0, 3), 2, &Open, usize::MAX);
     check_same(rt, "told.0", (told.0, told.1), (Ok((3, 4)), 302_445));
-    Ok(())
 }
 
 #[test]
-fn the_least_halted_frame_is_told(rt: HostRuntime) -> Result<(), Fail> {
-    play(&rt, rt.alloc(), 1, Task::ExportUntilHalted)?;
-    Ok(())
+fn the_least_halted_frame_is_told(rt: HostRuntime) {
+    play(&rt, rt.alloc(), 1, Task::ExportUntilHalted);
 }
 
 /// Writers that fail at some byte, and ranges at their ends.
@@ -199,8 +208,8 @@ pub fn export_to_the_ends<N: Name, R: Threads + Wait + Abort + Sync>(
     alloc: Global,
     desk: &Desk<N, &R>,
     seat: &mut Seat<N>,
-) -> Result<(), Fail> {
-    fill(rt, alloc, desk, seat, PLAYFIELD, 1030)?;
+) {
+    fill(rt, alloc, desk, seat, PLAYFIELD, 1030);
     for room in [0, 1, 15, 150_000, 201_629] {
         let told = export(rt, alloc, desk, seat, (0, 2), 2, &Open, room);
         let broken = Refused::Write {
@@ -227,13 +236,11 @@ pub fn export_to_the_ends<N: Name, R: Threads + Wait + Abort + Sync>(
         let told = export(rt, alloc, desk, seat, (end, end), 3, &Open, usize::MAX);
         check_same(rt, ("from", end), (told.0, told.1), (Ok((3, 0)), 0));
     }
-    Ok(())
 }
 
 #[test]
-fn writers_fail_and_ranges_end(rt: HostRuntime) -> Result<(), Fail> {
-    play(&rt, rt.alloc(), 1, Task::ExportToTheEnds)?;
-    Ok(())
+fn writers_fail_and_ranges_end(rt: HostRuntime) {
+    play(&rt, rt.alloc(), 1, Task::ExportToTheEnds);
 }
 
 /// How many of 1,024 frames so many runs play that start from the kept states of every 64th frame.
@@ -258,56 +265,73 @@ pub fn export_longest<N: Name, R: Threads + Wait + Abort + Sync>(
     desk: &Desk<N, &R>,
     seat: &mut Seat<N>,
     first: usize,
-) -> Result<(), Fail> {
-    fill(rt, alloc, desk, seat, WAITING, 1024)?;
-    let mut bytes = Vec::with_capacity(alloc, 103_234_560)?;
-    let alone = desk.export(rt, alloc, seat, 0, 1024, 1, &Open, &mut bytes);
-    check_same(
-        rt,
-        "alone",
-        alone.ok().map(|told| (told.at, told.played)),
-        Some((3, 1024)),
-    );
+) {
+    fill(rt, alloc, desk, seat, WAITING, 1024);
+    let mut bytes = expect_ok(rt, Vec::with_capacity(alloc, 103_234_560));
+    let alone = told(desk.export(rt, alloc, seat, 0, 1024, 1, &Open, &mut bytes));
+    check_same(rt, "alone", alone, Some((3, 1024)));
     check_same(rt, "bytes", bytes.len(), 103_234_560);
-    let worked = desk.work(rt, alloc, seat, &[1024], &Open);
-    check_same(rt, "worked", worked.map(|worked| worked.kept), Ok(16));
-    check_same(rt, "desk", desk.share(rt, seat).ok(), Some(16));
+    keep_all(rt, alloc, desk, seat);
     for group in 0..4usize {
         let workers = 4 * group + first % 4 + 1;
-        let mut out = Compared::new(bytes.as_slice());
-        let told = desk.export(rt, alloc, seat, 0, 1024, workers, &Open, &mut out);
-        let wanted = played_from_the_grid(workers);
-        check_same(
-            rt,
-            ("workers", workers),
-            told.ok().map(|told| (told.at, told.played)),
-            Some((3, wanted)),
-        );
-        check_that(rt, ("frames by workers", workers), out.is_same());
+        export_from_the_grid(rt, alloc, desk, seat, workers, bytes.as_slice());
     }
-    Ok(())
+}
+
+/// The history and the frames played of an export that is done.
+fn told(answer: Result<Exported, ExportError>) -> Option<(u64, u64)> {
+    match answer {
+        Ok(exported) => Some((exported.at, exported.played)),
+        Err(_) => None,
+    }
+}
+
+/// The states after every 64th of 1,024 frames are kept by the desk, and then by the seat.
+fn keep_all<N: Name, R: Threads + Wait + Abort + Sync>(
+    rt: &R,
+    alloc: Global,
+    desk: &Desk<N, &R>,
+    seat: &mut Seat<N>,
+) {
+    let worked = expect_ok(rt, desk.work(rt, alloc, seat, &[1024], &Open));
+    check_same(rt, "worked", worked.kept, 16);
+    check_same(rt, "desk", desk.share(rt, seat).ok(), Some(16));
+}
+
+/// 1,024 frames by so many workers, whose runs start at kept states, have these bytes.
+fn export_from_the_grid<N: Name, R: Threads + Wait + Abort + Sync>(
+    rt: &R,
+    alloc: Global,
+    desk: &Desk<N, &R>,
+    seat: &mut Seat<N>,
+    workers: usize,
+    bytes: &[u8],
+)
+    requires { (1 ≤ workers) × (workers ≤ 16) }
+{
+    let mut out = Compared::new(bytes);
+    let told = told(desk.export(rt, alloc, seat, 0, 1024, workers, &Open, &mut out));
+    let wanted = played_from_the_grid(workers);
+    check_same(rt, ("workers", workers), told, Some((3, wanted)));
+    check_that(rt, ("frames by workers", workers), out.is_same());
 }
 
 #[test]
-fn the_longest_export_by_1_5_9_and_13_workers(rt: HostRuntime) -> Result<(), Fail> {
-    play(&rt, rt.alloc(), 1, Task::ExportLongest(0))?;
-    Ok(())
+fn the_longest_export_by_1_5_9_and_13_workers(rt: HostRuntime) {
+    play(&rt, rt.alloc(), 1, Task::ExportLongest(0));
 }
 
 #[test]
-fn the_longest_export_by_2_6_10_and_14_workers(rt: HostRuntime) -> Result<(), Fail> {
-    play(&rt, rt.alloc(), 1, Task::ExportLongest(1))?;
-    Ok(())
+fn the_longest_export_by_2_6_10_and_14_workers(rt: HostRuntime) {
+    play(&rt, rt.alloc(), 1, Task::ExportLongest(1));
 }
 
 #[test]
-fn the_longest_export_by_3_7_11_and_15_workers(rt: HostRuntime) -> Result<(), Fail> {
-    play(&rt, rt.alloc(), 1, Task::ExportLongest(2))?;
-    Ok(())
+fn the_longest_export_by_3_7_11_and_15_workers(rt: HostRuntime) {
+    play(&rt, rt.alloc(), 1, Task::ExportLongest(2));
 }
 
 #[test]
-fn the_longest_export_by_4_8_12_and_16_workers(rt: HostRuntime) -> Result<(), Fail> {
-    play(&rt, rt.alloc(), 1, Task::ExportLongest(3))?;
-    Ok(())
+fn the_longest_export_by_4_8_12_and_16_workers(rt: HostRuntime) {
+    play(&rt, rt.alloc(), 1, Task::ExportLongest(3));
 }

@@ -1,18 +1,17 @@
 //! Jobs of a session, and the batches that are offered to it.
 
 use crate::changes::{Change, HALTING, PLAYFIELD, cart, edit_of};
-use crate::checks::{check_same, check_that};
-use crate::sessions::{Lent, Turn, kept, lend, open_movie, take_turns};
-use std::alloc::{AllocError, Global};
+use crate::checks::{check_same, check_that, expect_ok};
+use crate::sessions::{Lent, Turn, lend, open_movie, take_turns};
+use std::alloc::Global;
 use std::process::Abort;
 use std::sync::Wait;
-use std::test::Fail;
 use tas_desk::{OfferError, Offered, Session};
 use tas_green::Batch;
 
 /// A job's batch.
-fn run(alloc: Global, session: &Session, near: usize) -> Result<Batch, AllocError> {
-    Ok(session.job(alloc, near)?.run())
+fn run<R: Abort>(rt: &R, alloc: Global, session: &Session, near: usize) -> Batch {
+    expect_ok(rt, session.job(alloc, near)).run()
 }
 
 /// An offer's answer, without the batch that it may hand back.
@@ -39,110 +38,86 @@ fn taken(at: u64, front: usize, kept: usize) -> Answered {
 struct Jobs;
 
 impl Lent for Jobs {
-    fn run<R: Wait + Abort>(
-        &self,
-        rt: &R,
-        alloc: Global,
-        session: &mut Session,
-    ) -> Result<(), Fail> {
-        open_movie(rt, alloc, session, PLAYFIELD, 200)?;
-        let first = run(alloc, session, 128)?;
-        check_that(
-            rt,
-            "first",
-            first.cart().bytes() == session.movie().cart().bytes(),
-        );
-        check_same(rt, "first, 2", first.inputs().len(), 128);
-        let all = run(alloc, session, 1000)?;
-        check_that(rt, "all", all.inputs() == session.movie().inputs());
-        let held = [
-            (0, false, false),
-            (64, true, true),
-            (128, true, true),
-            (192, false, true),
-            (200, false, false),
-            (256, false, false),
-        ];
-        for (frame, in_first, in_all) in held {
-            check_same(rt, ("frame", frame), first.holds(frame), in_first);
-            check_same(rt, ("frame", frame), all.holds(frame), in_all);
-        }
-        take_turns(rt, alloc, session, &[Turn::Kept("0:")])
+    fn run<R: Wait + Abort>(&self, rt: &R, alloc: Global, session: &mut Session) {
+        open_movie(rt, alloc, session, PLAYFIELD, 200);
+        let first = run(rt, alloc, session, 128);
+        let all = run(rt, alloc, session, 1000);
+        check_batches(rt, session, &first, &all);
+        take_turns(rt, alloc, session, &[Turn::Kept("0:")]);
+    }
+}
+
+/// Both batches have the session's cartridge and inputs, the one the first 128, the other all 200.
+fn check_batches<R: Abort>(rt: &R, session: &Session, first: &Batch, all: &Batch) {
+    let movie = session.movie();
+    check_that(rt, "first", first.cart().bytes() == movie.cart().bytes());
+    check_same(rt, "first, 2", first.inputs().len(), 128);
+    check_that(rt, "all", all.inputs() == movie.inputs());
+    let held = [
+        (0, [false, false]),
+        (64, [true, true]),
+        (128, [true, true]),
+        (192, [false, true]),
+        (200, [false, false]),
+        (256, [false, false]),
+    ];
+    for (frame, are_held) in held {
+        let found = [first.holds(frame), all.holds(frame)];
+        check_same(rt, ("frame", frame), found, are_held);
     }
 }
 
 #[test]
-fn jobs_hold_what_the_session_had(rt: HostRuntime) -> Result<(), Fail> {
-    let closed = lend(&rt, rt.alloc(), &Jobs)?;
+fn jobs_hold_what_the_session_had(rt: HostRuntime) {
+    let closed = lend(&rt, rt.alloc(), &Jobs);
     check_same(&rt, "closed.journal", closed.journal.len(), 2);
-    Ok(())
 }
 
 /// A job starts from the nearest kept state, whose frames it doesn't play again.
 struct Nearest;
 
 impl Lent for Nearest {
-    fn run<R: Wait + Abort>(
-        &self,
-        rt: &R,
-        alloc: Global,
-        session: &mut Session,
-    ) -> Result<(), Fail> {
-        open_movie(rt, alloc, session, PLAYFIELD, 200)?;
-        take_turns(rt, alloc, session, &[Turn::Drawn(70, 2, 71, 1680)])?;
-        let batch = run(alloc, session, 128)?;
-        check_that(
-            rt,
-            "batch",
-            !batch.holds(64) && batch.holds(128) && !batch.holds(192),
-        );
+    fn run<R: Wait + Abort>(&self, rt: &R, alloc: Global, session: &mut Session) {
+        open_movie(rt, alloc, session, PLAYFIELD, 200);
+        take_turns(rt, alloc, session, &[Turn::Drawn(70, 2, 71, 1680)]);
+        let batch = run(rt, alloc, session, 128);
+        let held = [batch.holds(64), batch.holds(128), batch.holds(192)];
+        check_same(rt, "batch", held, [false, true, false]);
         check_same(rt, "offer", offer(session, batch), taken(2, 128, 1));
         let turns = [Turn::Kept("2: 64 128"), Turn::Drawn(191, 2, 64, 1680)];
-        take_turns(rt, alloc, session, &turns)
+        take_turns(rt, alloc, session, &turns);
     }
 }
 
 #[test]
-fn a_batch_is_kept_with_what_is_there(rt: HostRuntime) -> Result<(), Fail> {
-    lend(&rt, rt.alloc(), &Nearest)?;
-    Ok(())
+fn a_batch_is_kept_with_what_is_there(rt: HostRuntime) {
+    lend(&rt, rt.alloc(), &Nearest);
 }
 
 /// Three batches of 200 frames: two are offered once input 100 is another one, the third behind another cartridge.
 struct ThreeBatches;
 
 impl Lent for ThreeBatches {
-    fn run<R: Wait + Abort>(
-        &self,
-        rt: &R,
-        alloc: Global,
-        session: &mut Session,
-    ) -> Result<(), Fail> {
-        open_movie(rt, alloc, session, PLAYFIELD, 200)?;
-        let first = run(alloc, session, 200)?;
-        let second = run(alloc, session, 200)?;
-        let third = run(alloc, session, 200)?;
+    fn run<R: Wait + Abort>(&self, rt: &R, alloc: Global, session: &mut Session) {
+        open_movie(rt, alloc, session, PLAYFIELD, 200);
+        let first = run(rt, alloc, session, 200);
+        let second = run(rt, alloc, session, 200);
+        let third = run(rt, alloc, session, 200);
         let replaced = Turn::Made(Change::ReplaceRight(100), 3, 200);
-        take_turns(rt, alloc, session, &[replaced])?;
+        take_turns(rt, alloc, session, &[replaced]);
         check_same(rt, "offer", offer(session, first), taken(3, 100, 1));
-        check_same(rt, "kept", kept(alloc, session)?.as_str(), "1: 64");
+        take_turns(rt, alloc, session, &[Turn::Kept("1: 64")]);
         check_same(rt, "offer, 2", offer(session, second), taken(3, 100, 0));
         let loaded = Turn::Made(Change::Load(HALTING), 4, 200);
-        take_turns(rt, alloc, session, &[loaded])?;
-        check_same(
-            rt,
-            "offer, 3",
-            offer(session, third),
-            Answered::OtherCartridge { at: 4 },
-        );
-        Ok(())
+        take_turns(rt, alloc, session, &[loaded]);
+        let other = Answered::OtherCartridge { at: 4 };
+        check_same(rt, "offer, 3", offer(session, third), other);
     }
 }
 
 #[test]
-fn three_batches_are_offered_in_turn(rt: HostRuntime) -> Result<(), Fail> {
-    lend(&rt, rt.alloc(), &ThreeBatches)?;
-    Ok(())
+fn three_batches_are_offered_in_turn(rt: HostRuntime) {
+    lend(&rt, rt.alloc(), &ThreeBatches);
 }
 
 /// Two batches of 200 frames, an edit, and the batches' answers behind it.
@@ -154,24 +129,19 @@ struct OfferedAfter {
 }
 
 impl Lent for OfferedAfter {
-    fn run<R: Wait + Abort>(
-        &self,
-        rt: &R,
-        alloc: Global,
-        session: &mut Session,
-    ) -> Result<(), Fail> {
-        open_movie(rt, alloc, session, PLAYFIELD, 200)?;
-        let first = run(alloc, session, 200)?;
-        let second = run(alloc, session, 200)?;
-        session.edit(rt, 0, 2, edit_of(alloc, self.change)?)?;
+    fn run<R: Wait + Abort>(&self, rt: &R, alloc: Global, session: &mut Session) {
+        open_movie(rt, alloc, session, PLAYFIELD, 200);
+        let edit = expect_ok(rt, edit_of(alloc, self.change));
+        let first = run(rt, alloc, session, 200);
+        let second = run(rt, alloc, session, 200);
+        expect_ok(rt, session.edit(rt, 0, 2, edit));
         check_same(rt, self.change, offer(session, first), self.once);
         check_same(rt, self.change, offer(session, second), self.twice);
-        Ok(())
     }
 }
 
 #[test]
-fn batches_count_as_far_as_the_inputs_agree(rt: HostRuntime) -> Result<(), Fail> {
+fn batches_count_as_far_as_the_inputs_agree(rt: HostRuntime) {
     let other = Answered::OtherCartridge { at: 3 };
     let cases = [
         (Change::InsertRight(64), taken(3, 64, 1), taken(3, 64, 0)),
@@ -187,19 +157,17 @@ fn batches_count_as_far_as_the_inputs_agree(rt: HostRuntime) -> Result<(), Fail>
             once,
             twice,
         };
-        lend(&rt, rt.alloc(), &lent)?;
+        lend(&rt, rt.alloc(), &lent);
     }
-    Ok(())
 }
 
 /// A batch of a new session's 200 frames of a program.
-fn batch_of<R: Wait + Abort>(rt: &R, alloc: Global, program: &'static [u8]) -> Result<Batch, Fail> {
-    let mut session: Session = Session::new(alloc).map_err(|_| AllocError)?;
-    let opened = open_movie(rt, alloc, &mut session, program, 200);
-    let batch = run(alloc, &session, 200);
+fn batch_of<R: Wait + Abort>(rt: &R, alloc: Global, program: &'static [u8]) -> Batch {
+    let mut session: Session = expect_ok(rt, Session::new(alloc));
+    open_movie(rt, alloc, &mut session, program, 200);
+    let batch = run(rt, alloc, &session, 200);
     session.close(rt);
-    opened?;
-    Ok(batch?)
+    batch
 }
 
 /// Another session's batch of a program, offered to a session with 100 lit frames, and what is kept then.
@@ -211,21 +179,16 @@ struct FromAnother {
 }
 
 impl Lent for FromAnother {
-    fn run<R: Wait + Abort>(
-        &self,
-        rt: &R,
-        alloc: Global,
-        session: &mut Session,
-    ) -> Result<(), Fail> {
-        open_movie(rt, alloc, session, PLAYFIELD, 100)?;
-        let batch = batch_of(rt, alloc, self.program)?;
+    fn run<R: Wait + Abort>(&self, rt: &R, alloc: Global, session: &mut Session) {
+        open_movie(rt, alloc, session, PLAYFIELD, 100);
+        let batch = batch_of(rt, alloc, self.program);
         check_same(rt, self.kept, offer(session, batch), self.answer);
-        take_turns(rt, alloc, session, &[Turn::Kept(self.kept)])
+        take_turns(rt, alloc, session, &[Turn::Kept(self.kept)]);
     }
 }
 
 #[test]
-fn batches_go_from_one_session_to_another(rt: HostRuntime) -> Result<(), Fail> {
+fn batches_go_from_one_session_to_another(rt: HostRuntime) {
     let same = FromAnother {
         program: PLAYFIELD,
         answer: taken(2, 100, 1),
@@ -236,7 +199,6 @@ fn batches_go_from_one_session_to_another(rt: HostRuntime) -> Result<(), Fail> {
         answer: Answered::OtherCartridge { at: 2 },
         kept: "0:",
     };
-    lend(&rt, rt.alloc(), &same)?;
-    lend(&rt, rt.alloc(), &other)?;
-    Ok(())
+    lend(&rt, rt.alloc(), &same);
+    lend(&rt, rt.alloc(), &other);
 }

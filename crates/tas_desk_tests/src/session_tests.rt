@@ -1,36 +1,47 @@
 //! Sessions by hand: each call with its answer, and each refusal with what it leaves.
 
 use crate::changes::{Change, HALT, HALTING, PLAYFIELD, cart, edit_of, right};
-use crate::checks::{check_same, check_that};
+use crate::checks::{check_same, check_that, expect_ok};
 use crate::sessions::{Lent, Turn, history, kept, lend, open_movie, play_turns};
 use std::alloc::Global;
+use std::fmt::Display;
 use std::process::Abort;
 use std::sync::Wait;
-use std::test::Fail;
 use tas_desk::{
-    EditError, InputError, MAX_EDITS, NoEntry, OpenError, Receipt, Session, ShotError, WorkError,
-    Worked,
+    Closed, EditError, InputError, MAX_EDITS, NoEntry, OpenError, Receipt, Session, ShotError,
+    WorkError, Worked,
 };
 use vcs_machine::{Cart, Input, Meter};
 
-#[test]
-fn a_new_session_is_empty(rt: HostRuntime) -> Result<(), Fail> {
-    let alloc = rt.alloc();
-    let none = ShotError::NoFrame { at: 0, len: 0 };
-    let turns = [Turn::Kept("0:"), Turn::NotDrawn(0, none, 0)];
-    let closed = play_turns(&rt, alloc, &turns)?;
-    check_same(&rt, "closed.journal", closed.journal.len(), 0);
-    check_same(&rt, "closed.movie", closed.movie.len(), 0);
-    check_that(
-        &rt,
-        "closed.movie, 2",
-        closed.movie.cart().bytes() == Cart::blank(alloc)?.bytes(),
-    );
-    Ok(())
+/// The history that a session leaves, in words.
+fn check_history<R: Abort>(rt: &R, alloc: Global, closed: &Closed, text: &str) {
+    let told = history(rt, alloc, closed.journal.as_slice());
+    check_same(rt, "history", told.as_str(), text);
+}
+
+/// The movie that a session leaves has this cartridge.
+fn check_cart<R: Abort>(rt: &R, closed: &Closed, cart: &Cart) {
+    check_that(rt, "cart", closed.movie.cart().bytes() == cart.bytes());
 }
 
 #[test]
-fn serials_count_the_seat_s_own_edits(rt: HostRuntime) -> Result<(), Fail> {
+fn a_new_session_is_empty(rt: HostRuntime) {
+    let alloc = rt.alloc();
+    let none = ShotError::NoFrame { at: 0, len: 0 };
+    let turns = [Turn::Kept("0:"), Turn::NotDrawn(0, none, 0)];
+    let closed = play_turns(&rt, alloc, &turns);
+    check_same(
+        &rt,
+        "journal, movie",
+        [closed.journal.len(), closed.movie.len()],
+        [0, 0],
+    );
+    let blank = expect_ok(&rt, Cart::blank(alloc));
+    check_cart(&rt, &closed, &blank);
+}
+
+#[test]
+fn serials_count_the_seat_s_own_edits(rt: HostRuntime) {
     let alloc = rt.alloc();
     let attempts = [
         (0, 5, Err(EditError::Serial { at: 0, counted: 0 })),
@@ -48,20 +59,14 @@ fn serials_count_the_seat_s_own_edits(rt: HostRuntime) -> Result<(), Fail> {
     let turns = attempts.map(|(seat, made, answer)| {
         Turn::Tried(seat, made, Change::Delete(0, 0), answer)
     });
-    let closed = play_turns(&rt, alloc, &turns)?;
+    let closed = play_turns(&rt, alloc, &turns);
     let text =
         "7 0 delete 0 0\n0 0 delete 0 0\n7 1 delete 0 0\n4294967295 0 delete 0 0\n0 1 delete 0 0\n";
-    check_same(
-        &rt,
-        "history",
-        history(alloc, closed.journal.as_slice())?.as_str(),
-        text,
-    );
-    Ok(())
+    check_history(&rt, alloc, &closed, text);
 }
 
 #[test]
-fn each_kind_of_edit_is_made(rt: HostRuntime) -> Result<(), Fail> {
+fn each_kind_of_edit_is_made(rt: HostRuntime) {
     let alloc = rt.alloc();
     let turns = [
         Turn::Made(Change::Load(PLAYFIELD), 1, 0),
@@ -72,33 +77,24 @@ fn each_kind_of_edit_is_made(rt: HostRuntime) -> Result<(), Fail> {
         Turn::Made(Change::Load(HALTING), 6, 3),
         Turn::Made(Change::InsertRight(0), 7, 4),
     ];
-    let closed = play_turns(&rt, alloc, &turns)?;
+    let closed = play_turns(&rt, alloc, &turns);
     let text =
         "0 0 load\n0 1 insert 0 5\n0 2 insert 5 2\n0 3 replace 6 1\n0 4 delete 1 4\n0 5 load\n0 6 insert 0 1\n";
-    check_same(
-        &rt,
-        "history",
-        history(alloc, closed.journal.as_slice())?.as_str(),
-        text,
-    );
+    check_history(&rt, alloc, &closed, text);
     let inputs = [right(), Input::none(), Input::none(), right()];
     check_that(
         &rt,
         "closed.movie",
         closed.movie.inputs() == inputs.as_slice(),
     );
-    check_that(
-        &rt,
-        "closed.movie, 2",
-        closed.movie.cart().bytes() == cart(alloc, HALTING)?.bytes(),
-    );
-    Ok(())
+    let halting = expect_ok(&rt, cart(alloc, HALTING));
+    check_cart(&rt, &closed, &halting);
 }
 
 /// `Serial` comes before `Place`, and `Place` before `Long`, whatever else is wrong. A refusal leaves the state after 512
 /// frames, which is kept.
 #[test]
-fn refusals_come_in_order(rt: HostRuntime) -> Result<(), Fail> {
+fn refusals_come_in_order(rt: HostRuntime) {
     let (at, len) = (2, 262108);
     let serial = Err(EditError::Serial { at, counted: 2 });
     let place = |place: usize| Err(EditError::Place { at, place, len });
@@ -134,13 +130,12 @@ fn refusals_come_in_order(rt: HostRuntime) -> Result<(), Fail> {
         Turn::Tried(0, 2, Change::Insert(262108, 36), longest),
         Turn::Kept("1: 512"),
     ];
-    let closed = play_turns(&rt, rt.alloc(), &turns)?;
+    let closed = play_turns(&rt, rt.alloc(), &turns);
     check_same(&rt, "closed.movie", closed.movie.len(), 262144);
-    Ok(())
 }
 
 #[test]
-fn movies_have_at_most_262144_inputs(rt: HostRuntime) -> Result<(), Fail> {
+fn movies_have_at_most_262144_inputs(rt: HostRuntime) {
     let len = 262144;
     let misplaced = Err(EditError::Place {
         at: 1,
@@ -158,23 +153,18 @@ fn movies_have_at_most_262144_inputs(rt: HostRuntime) -> Result<(), Fail> {
         Turn::Tried(0, 1, Change::Insert(262145, 1), misplaced),
         Turn::Tried(0, 1, Change::Replace(262144, 0), Ok(Receipt { at: 2, len })),
     ];
-    let closed = play_turns(&rt, rt.alloc(), &turns)?;
+    let closed = play_turns(&rt, rt.alloc(), &turns);
     check_same(&rt, "closed.journal", closed.journal.len(), 2);
-    Ok(())
 }
 
 /// So many edits of seat 4 that change nothing, and the edits behind them, which are refused.
 struct Million;
 
 impl Lent for Million {
-    fn run<R: Wait + Abort>(
-        &self,
-        rt: &R,
-        alloc: Global,
-        session: &mut Session,
-    ) -> Result<(), Fail> {
+    fn run<R: Wait + Abort>(&self, rt: &R, alloc: Global, session: &mut Session) {
         for made in 0..MAX_EDITS {
-            session.edit(rt, 4, made, edit_of(alloc, Change::Delete(0, 0))?)?;
+            let edit = expect_ok(rt, edit_of(alloc, Change::Delete(0, 0)));
+            expect_ok(rt, session.edit(rt, 4, made, edit));
         }
         let at = 1_000_000;
         let full = EditError::Full { at };
@@ -186,23 +176,22 @@ impl Lent for Million {
             (999_999, Change::Delete(0, 0), serial),
         ];
         for (made, change, error) in attempts {
-            let answer = session.edit(rt, 4, made, edit_of(alloc, change)?);
+            let edit = expect_ok(rt, edit_of(alloc, change));
+            let answer = session.edit(rt, 4, made, edit);
             check_same(rt, ("after", change, made), answer, Err(error));
         }
-        Ok(())
     }
 }
 
 #[test]
-fn a_million_edits_are_the_most(rt: HostRuntime) -> Result<(), Fail> {
-    let closed = lend(&rt, rt.alloc(), &Million)?;
-    check_same(&rt, "closed.journal", closed.journal.len(), 1_000_000);
-    check_same(&rt, "closed.movie", closed.movie.len(), 0);
-    Ok(())
+fn a_million_edits_are_the_most(rt: HostRuntime) {
+    let closed = lend(&rt, rt.alloc(), &Million);
+    let lengths = [closed.journal.len(), closed.movie.len()];
+    check_same(&rt, "journal, movie", lengths, [1_000_000, 0]);
 }
 
 #[test]
-fn shots_and_edits_in_turn(rt: HostRuntime) -> Result<(), Fail> {
+fn shots_and_edits_in_turn(rt: HostRuntime) {
     let none = ShotError::NoFrame { at: 4, len: 0 };
     let turns = [
         Turn::Made(Change::Load(PLAYFIELD), 1, 0),
@@ -217,12 +206,11 @@ fn shots_and_edits_in_turn(rt: HostRuntime) -> Result<(), Fail> {
         Turn::NotDrawn(0, none, 0),
         Turn::Made(Change::Delete(0, 0), 5, 0),
     ];
-    play_turns(&rt, rt.alloc(), &turns)?;
-    Ok(())
+    play_turns(&rt, rt.alloc(), &turns);
 }
 
 #[test]
-fn states_behind_an_insert_are_made_anew(rt: HostRuntime) -> Result<(), Fail> {
+fn states_behind_an_insert_are_made_anew(rt: HostRuntime) {
     let turns = [
         Turn::Made(Change::Load(PLAYFIELD), 1, 0),
         Turn::Made(Change::Insert(0, 200), 2, 200),
@@ -236,12 +224,11 @@ fn states_behind_an_insert_are_made_anew(rt: HostRuntime) -> Result<(), Fail> {
         Turn::Kept("0:"),
         Turn::Drawn(9, 4, 10, 1680),
     ];
-    play_turns(&rt, rt.alloc(), &turns)?;
-    Ok(())
+    play_turns(&rt, rt.alloc(), &turns);
 }
 
 #[test]
-fn an_edit_that_is_taken_back_still_costs_its_states(rt: HostRuntime) -> Result<(), Fail> {
+fn an_edit_that_is_taken_back_still_costs_its_states(rt: HostRuntime) {
     let turns = [
         Turn::Made(Change::Load(PLAYFIELD), 1, 0),
         Turn::Made(Change::Insert(0, 200), 2, 200),
@@ -250,12 +237,11 @@ fn an_edit_that_is_taken_back_still_costs_its_states(rt: HostRuntime) -> Result<
         Turn::Made(Change::Replace(64, 1), 4, 200),
         Turn::Drawn(191, 4, 128, 1680),
     ];
-    play_turns(&rt, rt.alloc(), &turns)?;
-    Ok(())
+    play_turns(&rt, rt.alloc(), &turns);
 }
 
 #[test]
-fn the_grid_follows_the_length(rt: HostRuntime) -> Result<(), Fail> {
+fn the_grid_follows_the_length(rt: HostRuntime) {
     let turns = [
         Turn::Made(Change::Load(PLAYFIELD), 1, 0),
         Turn::Made(Change::Insert(0, 32831), 2, 32831),
@@ -270,12 +256,11 @@ fn the_grid_follows_the_length(rt: HostRuntime) -> Result<(), Fail> {
         Turn::Drawn(100, 4, 101, 1680),
         Turn::Drawn(100, 4, 37, 1680),
     ];
-    play_turns(&rt, rt.alloc(), &turns)?;
-    Ok(())
+    play_turns(&rt, rt.alloc(), &turns);
 }
 
 #[test]
-fn halted_frames_are_told_and_kept(rt: HostRuntime) -> Result<(), Fail> {
+fn halted_frames_are_told_and_kept(rt: HostRuntime) {
     let halted = ShotError::Halted { at: 2, halt: HALT };
     let turns = [
         Turn::Made(Change::Load(HALTING), 1, 0),
@@ -288,19 +273,13 @@ fn halted_frames_are_told_and_kept(rt: HostRuntime) -> Result<(), Fail> {
         Turn::NotDrawn(80, halted, 17),
         Turn::Kept("1: 64"),
     ];
-    let closed = play_turns(&rt, rt.alloc(), &turns)?;
+    let closed = play_turns(&rt, rt.alloc(), &turns);
     let text = "0 0 load\n0 1 insert 0 100\n";
-    check_same(
-        &rt,
-        "history",
-        history(rt.alloc(), closed.journal.as_slice())?.as_str(),
-        text,
-    );
-    Ok(())
+    check_history(&rt, rt.alloc(), &closed, text);
 }
 
 #[test]
-fn a_frame_that_is_not_there_changes_nothing(rt: HostRuntime) -> Result<(), Fail> {
+fn a_frame_that_is_not_there_changes_nothing(rt: HostRuntime) {
     let none = ShotError::NoFrame { at: 2, len: 200 };
     let turns = [
         Turn::Made(Change::Load(PLAYFIELD), 1, 0),
@@ -312,10 +291,13 @@ fn a_frame_that_is_not_there_changes_nothing(rt: HostRuntime) -> Result<(), Fail
         Turn::NotDrawn(usize::MAX, none, 0),
         Turn::Kept("1: 64"),
     ];
-    let closed = play_turns(&rt, rt.alloc(), &turns)?;
-    check_same(&rt, "closed.journal", closed.journal.len(), 2);
-    check_same(&rt, "closed.movie", closed.movie.len(), 200);
-    Ok(())
+    let closed = play_turns(&rt, rt.alloc(), &turns);
+    check_same(
+        &rt,
+        "journal, movie",
+        [closed.journal.len(), closed.movie.len()],
+        [2, 200],
+    );
 }
 
 /// Frames 10 and 10 play 11 frames each; frame 70 plays 71, which keeps the state after 64, and then 7; there is no
@@ -323,13 +305,8 @@ fn a_frame_that_is_not_there_changes_nothing(rt: HostRuntime) -> Result<(), Fail
 struct OneMeter;
 
 impl Lent for OneMeter {
-    fn run<R: Wait + Abort>(
-        &self,
-        rt: &R,
-        alloc: Global,
-        session: &mut Session,
-    ) -> Result<(), Fail> {
-        open_movie(rt, alloc, session, PLAYFIELD, 200)?;
+    fn run<R: Wait + Abort>(&self, rt: &R, alloc: Global, session: &mut Session) {
+        open_movie(rt, alloc, session, PLAYFIELD, 200);
         let mut meter = Meter::new();
         for (k, count) in [(10, 11), (10, 22), (70, 93), (70, 100), (200, 100)] {
             // The condition of a shot: the meter has room for the whole movie.
@@ -339,40 +316,36 @@ impl Lent for OneMeter {
             }
             check_same(rt, ("frame", k), meter.count(), count);
         }
-        Ok(())
     }
 }
 
 #[test]
-fn one_meter_counts_several_shots(rt: HostRuntime) -> Result<(), Fail> {
-    lend(&rt, rt.alloc(), &OneMeter)?;
-    Ok(())
+fn one_meter_counts_several_shots(rt: HostRuntime) {
+    lend(&rt, rt.alloc(), &OneMeter);
+}
+
+/// An error's words.
+fn check_words<R: Abort, E: Copy + Display>(rt: &R, alloc: Global, error: E, text: &str) {
+    let words = expect_ok(rt, format!(in alloc; "{error}"));
+    check_same(rt, text, words.as_str(), text);
 }
 
 #[test]
-fn errors_of_opening_and_work_in_words(rt: HostRuntime) -> Result<(), Fail> {
+fn errors_of_opening_and_work_in_words(rt: HostRuntime) {
     let alloc = rt.alloc();
     let done = Worked {
         jobs: 1,
         kept: 2,
         stale: 3,
     };
-    let worked = WorkError::Memory { done };
-    let texts = [
-        (format!(in alloc; "{worked}")?, "out of memory"),
-        (format!(in alloc; "{}", OpenError::Memory)?, "out of memory"),
-        (format!(in alloc; "{}", OpenError::NoPlace)?, "no place"),
-        (format!(in alloc; "{NoEntry}")?, "no entry"),
-    ];
-    for (written, text) in &texts {
-        check_same(&rt, *text, written.as_str(), *text);
-    }
-    Ok(())
+    check_words(&rt, alloc, WorkError::Memory { done }, "out of memory");
+    check_words(&rt, alloc, OpenError::Memory, "out of memory");
+    check_words(&rt, alloc, OpenError::NoPlace, "no place");
+    check_words(&rt, alloc, NoEntry, "no entry");
 }
 
 #[test]
-fn errors_of_edits_in_words(rt: HostRuntime) -> Result<(), Fail> {
-    let alloc = rt.alloc();
+fn errors_of_edits_in_words(rt: HostRuntime) {
     let (at, len) = (7, 30);
     let edits = [
         (
@@ -388,21 +361,19 @@ fn errors_of_edits_in_words(rt: HostRuntime) -> Result<(), Fail> {
         (EditError::Memory, "out of memory"),
     ];
     for (error, text) in edits {
-        check_same(&rt, error, format!(in alloc; "{error}")?.as_str(), text);
+        check_words(&rt, rt.alloc(), error, text);
     }
-    Ok(())
 }
 
 #[test]
-fn errors_of_looks_in_words(rt: HostRuntime) -> Result<(), Fail> {
-    let alloc = rt.alloc();
+fn errors_of_looks_in_words(rt: HostRuntime) {
     let (at, len) = (7, 30);
     let looks = [
         (InputError::NoEntry, "no entry"),
         (InputError::NoFrame { at, len }, "no such frame of 30 at 7"),
     ];
     for (error, text) in looks {
-        check_same(&rt, error, format!(in alloc; "{error}")?.as_str(), text);
+        check_words(&rt, rt.alloc(), error, text);
     }
     let shots = [
         (ShotError::NoEntry, "no entry"),
@@ -411,7 +382,6 @@ fn errors_of_looks_in_words(rt: HostRuntime) -> Result<(), Fail> {
         (ShotError::Halted { at, halt: HALT }, "halted at 7"),
     ];
     for (error, text) in shots {
-        check_same(&rt, error, format!(in alloc; "{error}")?.as_str(), text);
+        check_words(&rt, rt.alloc(), error, text);
     }
-    Ok(())
 }

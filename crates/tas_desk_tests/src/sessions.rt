@@ -1,12 +1,11 @@
-//! Sessions for tests: lent to turns, and closed whatever these answer.
+//! Sessions for tests: lent to turns, and then closed.
 
 use crate::changes::{Change, edit_of};
-use crate::checks::check_that;
+use crate::checks::{check_that, expect_ok};
 use std::alloc::{AllocError, Global};
 use std::process::Abort;
 use std::str;
 use std::sync::Wait;
-use std::test::Fail;
 use tas_desk::{Closed, EditError, Entry, Receipt, Session, ShotError};
 use tas_movie::{Edit, MAX_FRAMES, print_text};
 use vcs_machine::Meter;
@@ -53,15 +52,16 @@ fn shoot(alloc: Global, session: &mut Session, k: usize) -> (Result<Seen, ShotEr
 }
 
 /// The places of the kept states, after their number.
-pub fn kept(alloc: Global, session: &Session) -> Result<String, Fail> {
+pub fn kept<R: Abort>(rt: &R, alloc: Global, session: &Session) -> String {
     let green = session.green();
-    let mut text = format!(in alloc; "{}:", green.count())?;
+    let mut text = expect_ok(rt, format!(in alloc; "{}:", green.count()));
     for frame in 0..MAX_FRAMES + 1 {
         if frame % 64 == 0 && green.holds(frame) {
-            text.push_str(format!(in alloc; " {frame}")?.as_str())?;
+            let place = expect_ok(rt, format!(in alloc; " {frame}"));
+            expect_ok(rt, text.push_str(place.as_str()));
         }
     }
-    Ok(text)
+    text
 }
 
 fn entry_line(alloc: Global, entry: &Entry) -> Result<String, AllocError> {
@@ -81,51 +81,50 @@ fn entry_line(alloc: Global, entry: &Entry) -> Result<String, AllocError> {
 }
 
 /// A history, an entry a line: the seat, the serial and the edit.
-pub fn history(alloc: Global, journal: &[Entry]) -> Result<String, Fail> {
+pub fn history<R: Abort>(rt: &R, alloc: Global, journal: &[Entry]) -> String {
     let mut text = String::new(alloc);
     for entry in journal {
-        text.push_str(entry_line(alloc, entry)?.as_str())?;
+        let line = expect_ok(rt, entry_line(alloc, entry));
+        expect_ok(rt, text.push_str(line.as_str()));
     }
-    Ok(text)
+    text
 }
 
 /// All that a session shows: history, kept states and movie.
-fn shown(alloc: Global, session: &Session) -> Result<String, Fail> {
-    let mut text = format!(in alloc; "{}\n", session.at())?;
-    text.push_str(history(alloc, session.journal())?.as_str())?;
-    text.push_str(kept(alloc, session)?.as_str())?;
-    let movie = print_text(alloc, session.movie())?;
-    text.push_str(str::from_utf8(movie.as_slice())?)?;
-    Ok(text)
+fn shown<R: Abort>(rt: &R, alloc: Global, session: &Session) -> String {
+    let mut text = expect_ok(rt, format!(in alloc; "{}\n", session.at()));
+    let history = history(rt, alloc, session.journal());
+    expect_ok(rt, text.push_str(history.as_str()));
+    expect_ok(rt, text.push_str(kept(rt, alloc, session).as_str()));
+    let movie = expect_ok(rt, print_text(alloc, session.movie()));
+    let movie = expect_ok(rt, str::from_utf8(movie.as_slice()));
+    expect_ok(rt, text.push_str(movie));
+    text
 }
 
 /// Whether an edit is answered as it should be, and leaves all as it was where it is refused.
-fn is_tried<R: Wait>(
+fn is_tried<R: Wait + Abort>(
     rt: &R,
     alloc: Global,
     session: &mut Session,
     attempt: (u32, u64, Change),
     answer: Result<Receipt, EditError>,
-) -> Result<bool, Fail> {
+) -> bool {
     let (seat, made, change) = attempt;
-    let before = shown(alloc, session)?;
-    let given = session.edit(rt, seat, made, edit_of(alloc, change)?);
-    let kept_all = given.is_ok() || shown(alloc, session)?.as_str() == before.as_str();
-    Ok(given == answer && kept_all)
+    let before = shown(rt, alloc, session);
+    let edit = expect_ok(rt, edit_of(alloc, change));
+    let given = session.edit(rt, seat, made, edit);
+    let kept_all = given.is_ok() || shown(rt, alloc, session).as_str() == before.as_str();
+    given == answer && kept_all
 }
 
 /// Whether a turn is answered as it says.
-fn is_answered<R: Wait>(
-    rt: &R,
-    alloc: Global,
-    session: &mut Session,
-    turn: Turn,
-) -> Result<bool, Fail> {
+fn is_answered<R: Wait + Abort>(rt: &R, alloc: Global, session: &mut Session, turn: Turn) -> bool {
     match turn {
         Turn::Made(change, at, len) => {
             let made = session.at();
-            let answer = session.edit(rt, 0, made, edit_of(alloc, change)?);
-            Ok(answer == Ok(Receipt { at, len }))
+            let edit = expect_ok(rt, edit_of(alloc, change));
+            session.edit(rt, 0, made, edit) == Ok(Receipt { at, len })
         }
         Turn::Tried(seat, made, change, answer) => {
             is_tried(rt, alloc, session, (seat, made, change), answer)
@@ -137,59 +136,38 @@ fn is_answered<R: Wait>(
                 ran,
                 lit,
             };
-            Ok(shoot(alloc, session, frame) == (Ok(seen), ran))
+            shoot(alloc, session, frame) == (Ok(seen), ran)
         }
-        Turn::NotDrawn(frame, error, ran) => {
-            Ok(shoot(alloc, session, frame) == (Err(error), ran))
-        }
-        Turn::Kept(places) => Ok(kept(alloc, session)?.as_str() == places),
+        Turn::NotDrawn(frame, error, ran) => shoot(alloc, session, frame) == (Err(error), ran),
+        Turn::Kept(places) => kept(rt, alloc, session).as_str() == places,
     }
 }
 
 /// Takes the turns, one after the other, on a session that is lent.
-pub fn take_turns<R: Wait + Abort>(
-    rt: &R,
-    alloc: Global,
-    session: &mut Session,
-    turns: &[Turn],
-) -> Result<(), Fail> {
+pub fn take_turns<R: Wait + Abort>(rt: &R, alloc: Global, session: &mut Session, turns: &[Turn]) {
     for (number, turn) in turns.iter().enumerate() {
-        check_that(
-            rt,
-            ("turn", number),
-            is_answered(rt, alloc, session, *turn)?,
-        );
+        check_that(rt, ("turn", number), is_answered(rt, alloc, session, *turn));
     }
-    Ok(())
 }
 
 /// Takes the turns, one after the other, on a new session, and answers what it leaves.
-pub fn play_turns<R: Wait + Abort>(rt: &R, alloc: Global, turns: &[Turn]) -> Result<Closed, Fail> {
-    let mut session: Session = Session::new(alloc).map_err(|_| AllocError)?;
-    let answer = take_turns(rt, alloc, &mut session, turns);
-    let closed = session.close(rt);
-    answer?;
-    Ok(closed)
+pub fn play_turns<R: Wait + Abort>(rt: &R, alloc: Global, turns: &[Turn]) -> Closed {
+    let mut session: Session = expect_ok(rt, Session::new(alloc));
+    take_turns(rt, alloc, &mut session, turns);
+    session.close(rt)
 }
 
 /// What is done on a session that is lent.
 pub trait Lent {
     /// Uses the session, which others close.
-    fn run<R: Wait + Abort>(
-        &self,
-        rt: &R,
-        alloc: Global,
-        session: &mut Session,
-    ) -> Result<(), Fail>;
+    fn run<R: Wait + Abort>(&self, rt: &R, alloc: Global, session: &mut Session);
 }
 
 /// Lends a new session and closes it.
-pub fn lend<L: Lent, R: Wait + Abort>(rt: &R, alloc: Global, lent: &L) -> Result<Closed, Fail> {
-    let mut session: Session = Session::new(alloc).map_err(|_| AllocError)?;
-    let answer = lent.run(rt, alloc, &mut session);
-    let closed = session.close(rt);
-    answer?;
-    Ok(closed)
+pub fn lend<L: Lent, R: Wait + Abort>(rt: &R, alloc: Global, lent: &L) -> Closed {
+    let mut session: Session = expect_ok(rt, Session::new(alloc));
+    lent.run(rt, alloc, &mut session);
+    session.close(rt)
 }
 
 /// Gives a new session a movie: so many frames of a program.
@@ -199,10 +177,10 @@ pub fn open_movie<R: Wait + Abort>(
     session: &mut Session,
     program: &'static [u8],
     count: usize,
-) -> Result<(), Fail> {
+) {
     let turns = [
         Turn::Made(Change::Load(program), 1, 0),
         Turn::Made(Change::Insert(0, count), 2, count),
     ];
-    take_turns(rt, alloc, session, &turns)
+    take_turns(rt, alloc, session, &turns);
 }

@@ -1,7 +1,7 @@
 //! Seats on threads of their own. What they were told is compared with the history that the desk leaves.
 
 use crate::changes::{Change, FOLDING, HALTING, PLAYFIELD, edit_of};
-use crate::checks::{check_same, check_that};
+use crate::checks::{check_same, check_that, expect_ok, expect_some};
 use crate::desks::{Left, Task, play};
 use crate::gates::Door;
 use crate::players::{Fault, Habit, Player, meet};
@@ -9,25 +9,17 @@ use crate::replays::{Notes, replayed};
 use std::alloc::Global;
 use std::process::Abort;
 use std::sync::Wait;
-use std::test::Fail;
 use std::thread;
 use std::thread::{Threads, join};
 use tas_desk::{CloseOnDrop, Closed, Desk, Entry, Name, Seat, Worked};
 
-/// Whether all that a seat was told is right; the error says which note isn't.
-fn judge<R: Abort>(
-    rt: &R,
-    alloc: Global,
-    journal: &[Entry],
-    notes: &Notes,
-    least: usize,
-) -> Result<(), Fail> {
+/// All that a seat was told is right, and so much of it there is at least; else the test fails and shows which note isn't.
+fn judge<R: Abort>(rt: &R, alloc: Global, journal: &[Entry], notes: &Notes, least: usize) {
     let seat = notes.seat;
-    match replayed(alloc, journal, notes)? {
+    match expect_ok(rt, replayed(alloc, journal, notes)) {
         Ok(count) => check_that(rt, ("seat, notes", seat, count), count >= least),
         Err(number) => check_that(rt, ("seat, note", seat, number), false),
     }
-    Ok(())
 }
 
 /// How many entries of a seat there are; its serials count up from 0.
@@ -65,8 +57,8 @@ pub fn insert_at_once<N: Name + Send + Sync, R: Threads + Wait + Abort + Sync>(
     desk: &Desk<N, &R>,
     seats: Vec<Seat<N>>,
     count: usize,
-) -> Result<Left<N>, Fail> {
-    let mut players = players(alloc, seats, &[Habit::All])?;
+) -> Left<N> {
+    let mut players = players(rt, alloc, seats, &[Habit::All]);
     thread::for_each_mut(
         rt,
         players.as_mut_slice(),
@@ -79,26 +71,23 @@ pub fn insert_at_once<N: Name + Send + Sync, R: Threads + Wait + Abort + Sync>(
 }
 
 /// Players at all seats; their habits in turn.
-fn players<N: Name>(
+fn players<N: Name, R: Abort>(
+    rt: &R,
     alloc: Global,
     seats: Vec<Seat<N>>,
     habits: &[Habit],
-) -> Result<Vec<Player<N>>, Fail> {
+) -> Vec<Player<N>> {
     let mut players = Vec::new(alloc);
     let mut habits = habits.iter().cycle();
     for seat in seats {
         let habit = habits.next().copied().unwrap_or(Habit::All);
-        players.push(Player::new(alloc, seat, habit))?;
+        expect_ok(rt, players.push(Player::new(alloc, seat, habit)));
     }
-    Ok(players)
+    players
 }
 
 /// The players' seats, and what they were told. No player had a fault.
-fn leave<N: Name, R: Abort>(
-    rt: &R,
-    alloc: Global,
-    players: Vec<Player<N>>,
-) -> Result<(Vec<Seat<N>>, Vec<Notes>), Fail> {
+fn leave<N: Name, R: Abort>(rt: &R, alloc: Global, players: Vec<Player<N>>) -> Left<N> {
     let mut seats = Vec::new(alloc);
     let mut all = Vec::new(alloc);
     for player in players {
@@ -110,26 +99,33 @@ fn leave<N: Name, R: Abort>(
         } = player;
         let number = seat.number();
         check_same(rt, ("seat", number), fault, None);
-        seats.push(seat)?;
-        all.push(notes)?;
+        expect_ok(rt, seats.push(seat));
+        expect_ok(rt, all.push(notes));
     }
-    Ok((seats, all))
+    (seats, all)
 }
 
 #[test]
-fn two_seats_on_two_threads(rt: HostRuntime) -> Result<(), Fail> {
-    let alloc = rt.alloc();
-    let (closed, all) = play(&rt, alloc, 2, Task::Inserts(100))?;
+fn two_seats_on_two_threads(rt: HostRuntime) {
+    let (closed, all) = play(&rt, rt.alloc(), 2, Task::Inserts(100));
+    judge_inserts(&rt, rt.alloc(), &closed, all.as_slice());
+}
+
+/// Two seats made 100 edits each, and all that they were told is right.
+fn judge_inserts<R: Abort>(rt: &R, alloc: Global, closed: &Closed, all: &[Notes]) {
     let journal = closed.journal.as_slice();
-    check_same(&rt, "journal", journal.len(), 200);
-    check_same(&rt, "closed.movie", closed.movie.len(), 200);
-    check_same(&rt, "entries_of", entries_of(&rt, journal, 0), 100);
-    check_same(&rt, "entries_of, 2", entries_of(&rt, journal, 1), 100);
-    for notes in &all {
-        check_same(&rt, "notes.notes", notes.notes.len(), 300);
-        judge(&rt, alloc, journal, notes, 300)?;
+    check_same(
+        rt,
+        "journal, movie",
+        [journal.len(), closed.movie.len()],
+        [200, 200],
+    );
+    let counts = [entries_of(rt, journal, 0), entries_of(rt, journal, 1)];
+    check_same(rt, "entries_of", counts, [100, 100]);
+    for notes in all {
+        check_same(rt, "notes.notes", notes.notes.len(), 300);
+        judge(rt, alloc, journal, notes, 300);
     }
-    Ok(())
 }
 
 /// Two players that take turns and meet.
@@ -155,6 +151,19 @@ fn pairs<N: Name, W: CloseOnDrop, R: Threads + Wait + Sync>(
     }
 }
 
+/// A player makes a movie, unless it has a fault.
+fn make_movie<N: Name, W: CloseOnDrop, R: Wait>(
+    rt: &R,
+    alloc: Global,
+    desk: &Desk<N, W>,
+    player: &mut Player<N>,
+) {
+    player.fault = player.edit(rt, alloc, desk, Change::Load(FOLDING)).err();
+    if player.fault.is_none() {
+        player.fault = player.edit(rt, alloc, desk, Change::Insert(0, 12)).err();
+    }
+}
+
 /// Each seat, on a thread of its own, takes so many turns at random; then pairs of them do, and meet. Seat 0 makes a movie first.
 pub fn take_turns_at_once<N: Name + Send + Sync, R: Threads + Wait + Abort + Sync>(
     rt: &R,
@@ -163,14 +172,9 @@ pub fn take_turns_at_once<N: Name + Send + Sync, R: Threads + Wait + Abort + Syn
     seats: Vec<Seat<N>>,
     habits: &[Habit],
     turns: usize,
-) -> Result<Left<N>, Fail> {
-    let mut players = players(alloc, seats, habits)?;
-    if let Some(first) = players.first_mut() {
-        first.fault = first.edit(rt, alloc, desk, Change::Load(FOLDING)).err();
-        if first.fault.is_none() {
-            first.fault = first.edit(rt, alloc, desk, Change::Insert(0, 12)).err();
-        }
-    }
+) -> Left<N> {
+    let mut players = players(rt, alloc, seats, habits);
+    make_movie(rt, alloc, desk, expect_some(rt, players.first_mut()));
     thread::for_each_mut(
         rt,
         players.as_mut_slice(),
@@ -190,36 +194,28 @@ pub fn take_turns_at_once<N: Name + Send + Sync, R: Threads + Wait + Abort + Syn
     leave(rt, alloc, players)
 }
 
-/// Whether all that eight seats were told is right, at least so much of each.
-fn judge_all<R: Abort>(
-    rt: &R,
-    alloc: Global,
-    closed: &Closed,
-    all: &[Notes],
-    least: usize,
-) -> Result<(), Fail> {
+/// All that eight seats were told is right, and there is so much of each at least.
+fn judge_all<R: Abort>(rt: &R, alloc: Global, closed: &Closed, all: &[Notes], least: usize) {
     check_same(rt, "all", all.len(), 8);
     let mut made = 0u64;
     for notes in all {
-        judge(rt, alloc, closed.journal.as_slice(), notes, least)?;
+        judge(rt, alloc, closed.journal.as_slice(), notes, least);
         made = made.saturating_add(entries_of(rt, closed.journal.as_slice(), notes.seat));
     }
     check_same(rt, "made", made, closed.journal.len() as u64);
-    Ok(())
 }
 
 #[test]
-fn eight_seats_on_eight_threads(rt: HostRuntime) -> Result<(), Fail> {
-    let task = Task::Turns(&[Habit::All], 30);
-    let (closed, all) = play(&rt, rt.alloc(), 8, task)?;
-    judge_all(&rt, rt.alloc(), &closed, all.as_slice(), 30)
+fn eight_seats_on_eight_threads(rt: HostRuntime) {
+    let (closed, all) = play(&rt, rt.alloc(), 8, Task::Turns(&[Habit::All], 30));
+    judge_all(&rt, rt.alloc(), &closed, all.as_slice(), 30);
 }
 
 #[test]
-fn shots_while_others_edit(rt: HostRuntime) -> Result<(), Fail> {
+fn shots_while_others_edit(rt: HostRuntime) {
     let task = Task::Turns(&[Habit::Shots, Habit::Edits], 15);
-    let (closed, all) = play(&rt, rt.alloc(), 8, task)?;
-    judge_all(&rt, rt.alloc(), &closed, all.as_slice(), 20)
+    let (closed, all) = play(&rt, rt.alloc(), 8, task);
+    judge_all(&rt, rt.alloc(), &closed, all.as_slice(), 20);
 }
 
 /// A work of one seat, whose job waits in its gate until another seat, on another thread, has made an edit.
@@ -227,37 +223,30 @@ pub fn edit_in_the_gate<N: Name + Send + Sync, R: Threads + Wait + Abort + Sync>
     rt: &R,
     alloc: Global,
     desk: &Desk<N, &R>,
-    seats: Vec<Seat<N>>,
+    seats: &mut [Seat<N>],
     change: Change,
     wanted: Worked,
-) -> Result<Left<N>, Fail> {
-    let mut seats = seats;
-    let mut editor = seats.pop().ok_or("two seats")?;
-    let mut worker = seats.pop().ok_or("two seats")?;
-    fill(rt, alloc, desk, &mut worker)?;
-    let edit = edit_of(alloc, change)?;
+) {
+    let (worker, others) = expect_some(rt, seats.split_first_mut());
+    let editor = expect_some(rt, others.first_mut());
+    fill(rt, alloc, desk, worker);
+    let edit = expect_ok(rt, edit_of(alloc, change));
     let door = Door::new();
     let gate = &door;
-    let ((worker, worked), (editor, made)) = join(
+    let (worked, made) = join(
         rt,
-        move || {
-            let worked = desk.work(rt, alloc, &mut worker, &[192], gate);
-            (worker, worked)
-        },
+        move || desk.work(rt, alloc, worker, &[192], gate),
         move || {
             gate.entered.wait();
-            let made = desk.edit(rt, &mut editor, edit);
+            let made = desk.edit(rt, editor, edit);
             gate.opened.set();
-            (editor, made)
+            made
         },
     );
     check_that(rt, "no job came to the gate", door.entered.was_seen());
     check_that(rt, "the edit waits for the job", door.opened.was_seen());
     check_that(rt, change, made.is_ok());
     check_same(rt, change, worked, Ok(wanted));
-    seats.push(worker)?;
-    seats.push(editor)?;
-    Ok((seats, Vec::new(alloc)))
 }
 
 /// 200 frames of a program, by two edits.
@@ -266,16 +255,15 @@ fn fill<N: Name, W: CloseOnDrop, R: Wait + Abort>(
     alloc: Global,
     desk: &Desk<N, W>,
     seat: &mut Seat<N>,
-) -> Result<(), Fail> {
+) {
     for change in [Change::Load(PLAYFIELD), Change::Insert(0, 200)] {
-        let edit = edit_of(alloc, change)?;
+        let edit = expect_ok(rt, edit_of(alloc, change));
         check_that(rt, change, desk.edit(rt, seat, edit).is_ok());
     }
-    Ok(())
 }
 
 #[test]
-fn jobs_run_outside_the_lock(rt: HostRuntime) -> Result<(), Fail> {
+fn jobs_run_outside_the_lock(rt: HostRuntime) {
     let cases = [
         (Change::Insert(200, 1), 3, 0),
         (Change::ReplaceRight(100), 1, 0),
@@ -287,8 +275,7 @@ fn jobs_run_outside_the_lock(rt: HostRuntime) -> Result<(), Fail> {
             kept,
             stale,
         };
-        let (closed, _) = play(&rt, rt.alloc(), 2, Task::EditInTheGate(change, worked))?;
+        let (closed, _) = play(&rt, rt.alloc(), 2, Task::EditInTheGate(change, worked));
         check_same(&rt, "closed.journal", closed.journal.len(), 3);
     }
-    Ok(())
 }
