@@ -1,11 +1,10 @@
 //! Each limit of the program at its last value that is taken and its first one that is refused.
 
-use crate::checks::{check_same, check_that};
-use crate::programs::{Files, run};
+use crate::checks::{check_same, check_that, expect_ok};
+use crate::programs::{Files, Ran, run};
 use std::alloc::Global;
 use std::process::Abort;
 use std::sync::Wait;
-use std::test::Fail;
 use std::thread::Threads;
 
 /// `000=A9028500A90085004C00F0 FFC=00F0`: ends frame after frame by vertical sync, so that they are soon played. Their pictures
@@ -29,36 +28,41 @@ const MOST_BYTES: usize = 16_777_216;
 const PICTURE: usize = 100_815;
 
 /// The image of the cartridge with a program at F000.
-fn cart(alloc: Global, program: &[u8]) -> Result<Vec<u8>, Fail> {
-    let mut image = vec![in alloc; 0u8; 4096]?;
+fn cart<R: Abort>(rt: &R, alloc: Global, program: &[u8]) -> Vec<u8> {
+    let mut image = expect_ok(rt, vec![in alloc; 0u8; 4096]);
     for (cell, byte) in image.iter_mut().zip(program) {
         *cell = *byte;
     }
     if let Some(cell) = image.get_mut(0xffd) {
         *cell = 0xf0;
     }
-    Ok(image)
+    image
 }
 
 /// Some bytes and then so many copies of others.
-fn repeated(alloc: Global, front: &[u8], copy: &[u8], count: usize) -> Result<Vec<u8>, Fail> {
+fn repeated<R: Abort>(rt: &R, alloc: Global, front: &[u8], copy: &[u8], count: usize) -> Vec<u8> {
     let room = copy.len().saturating_mul(count).saturating_add(front.len());
-    let mut bytes = Vec::with_capacity(alloc, room)?;
-    bytes.extend_from_slice(front)?;
+    let mut bytes = expect_ok(rt, Vec::with_capacity(alloc, room));
+    expect_ok(rt, bytes.extend_from_slice(front));
     for _ in 0..count {
-        bytes.extend_from_slice(copy)?;
+        expect_ok(rt, bytes.extend_from_slice(copy));
     }
-    Ok(bytes)
+    bytes
 }
 
 /// The older text of a movie with so many frames of nothing pressed.
-fn older_movie(alloc: Global, frames: usize) -> Result<Vec<u8>, Fail> {
-    repeated(alloc, OLDER_HEAD, FRAME, frames)
+fn older_movie<R: Abort>(rt: &R, alloc: Global, frames: usize) -> Vec<u8> {
+    repeated(rt, alloc, OLDER_HEAD, FRAME, frames)
 }
 
 /// The text of runs with these lines.
-fn runs(alloc: Global, lines: &[u8]) -> Result<Vec<u8>, Fail> {
-    repeated(alloc, HEAD, lines, 1)
+fn runs<R: Abort>(rt: &R, alloc: Global, lines: &[u8]) -> Vec<u8> {
+    repeated(rt, alloc, HEAD, lines, 1)
+}
+
+/// The folder where `game.bin` is this cartridge, and `other` is empty.
+fn only_game(game: &[u8]) -> Files<'_> {
+    Files { game, other: b"" }
 }
 
 /// How the program ends.
@@ -72,16 +76,8 @@ enum End {
     Misuse,
 }
 
-/// The program, run with these words over the cartridge, ends so.
-fn ends<R: Threads + Wait + Abort + Sync>(
-    rt: &R,
-    alloc: Global,
-    words: &[&str],
-    files: Files<'_>,
-    input: &[u8],
-    end: End,
-) -> Result<(), Fail> {
-    let ran = run(rt, alloc, words, files, input)?;
+/// Fails where a run of the program with these words ended in another way.
+fn check_ran<R: Abort>(rt: &R, words: &[&str], ran: &Ran, end: End) {
     match end {
         End::Writes(bytes, last) => {
             check_same(rt, words, (ran.code, ran.bytes), (0, bytes));
@@ -97,17 +93,26 @@ fn ends<R: Threads + Wait + Abort + Sync>(
             check_that(rt, words, ran.errors.starts_with(b"error: "));
         }
     }
-    Ok(())
+}
+
+/// Fails where the program, run with these words over these files, ends in another way.
+fn check_end<R: Threads + Wait + Abort + Sync>(
+    rt: &R,
+    alloc: Global,
+    words: &[&str],
+    files: Files<'_>,
+    input: &[u8],
+    end: End,
+) {
+    let ran = run(rt, alloc, words, files, input);
+    check_ran(rt, words, &ran, end);
 }
 
 #[test]
-fn numbers_of_the_words(rt: HostRuntime) -> Result<(), Fail> {
+fn numbers_of_the_words(rt: HostRuntime) {
     let alloc = rt.alloc();
-    let (game, text) = (cart(alloc, BRIEF)?, older_movie(alloc, 2)?);
-    let files = Files {
-        game: game.as_slice(),
-        other: b"",
-    };
+    let (game, text) = (cart(&rt, alloc, BRIEF), older_movie(&rt, alloc, 2));
+    let files = only_game(game.as_slice());
     let no_frame = End::Faults(b"fault: no frame 9999999 of 2\n");
     let past = End::Faults(b"fault: range 0 to 9999999 of 2\n");
     let turned = End::Faults(b"fault: range 9999999 to 0 of 2\n");
@@ -126,67 +131,56 @@ fn numbers_of_the_words(rt: HostRuntime) -> Result<(), Fail> {
         (&["export", "game.bin", "0", "2", "17"], End::Misuse),
     ];
     for (words, end) in cases {
-        ends(&rt, alloc, words, files, text.as_slice(), end)?;
+        check_end(&rt, alloc, words, files, text.as_slice(), end);
     }
-    Ok(())
 }
 
 #[test]
-fn instructions_of_a_trace(rt: HostRuntime) -> Result<(), Fail> {
+fn instructions_of_a_trace(rt: HostRuntime) {
     let alloc = rt.alloc();
-    let files = Files {
-        game: b"",
-        other: b"",
-    };
+    let files = only_game(b"");
     // An undocumented opcode at its first instruction ends each trace.
-    let halting = cart(alloc, b"\x02")?;
+    let halting = cart(&rt, alloc, b"\x02");
     let halt = End::Writes(13, b"F000 02 halt\n");
     for (number, end) in [
         ("0", End::Writes(0, b"")),
         ("1000000", halt),
         ("1000001", End::Misuse),
     ] {
-        ends(
+        check_end(
             &rt,
             alloc,
             &["trace", number],
             files,
             halting.as_slice(),
             end,
-        )?;
+        );
     }
-    Ok(())
 }
 
 /// A line has 25 bytes; the last one is the jump at the end of a loop of five instructions.
 #[test]
-fn lines_of_a_trace(rt: HostRuntime) -> Result<(), Fail> {
+fn lines_of_a_trace(rt: HostRuntime) {
     let alloc = rt.alloc();
-    let game = cart(alloc, BRIEF)?;
-    let files = Files {
-        game: b"",
-        other: b"",
-    };
+    let game = cart(&rt, alloc, BRIEF);
+    let files = only_game(b"");
     let all = End::Writes(25_000_000, b"4C 00 00 00 FD 36 3\n");
-    ends(
+    check_end(
         &rt,
         alloc,
         &["trace", "1000000"],
         files,
         game.as_slice(),
         all,
-    )
+    );
 }
 
 #[test]
-fn frames_of_an_older_movie(rt: HostRuntime) -> Result<(), Fail> {
+fn frames_of_an_older_movie(rt: HostRuntime) {
     let alloc = rt.alloc();
-    let (game, longest) = (cart(alloc, BRIEF)?, older_movie(alloc, 65_536)?);
-    let longer = older_movie(alloc, 65_537)?;
-    let files = Files {
-        game: game.as_slice(),
-        other: b"",
-    };
+    let (game, longest) = (cart(&rt, alloc, BRIEF), older_movie(&rt, alloc, 65_536));
+    let longer = older_movie(&rt, alloc, 65_537);
+    let files = only_game(game.as_slice());
     let too_many = End::Faults(b"fault: movie line 65539: too many\n");
     let no_frame = End::Faults(b"fault: no frame 65536 of 65536\n");
     let cases: [(&[&str], &[u8], End); 7] = [
@@ -211,22 +205,22 @@ fn frames_of_an_older_movie(rt: HostRuntime) -> Result<(), Fail> {
         (&["shot", "game.bin", "0"], &longer, too_many),
     ];
     for (words, text, end) in cases {
-        ends(&rt, alloc, words, files, text, end)?;
+        check_end(&rt, alloc, words, files, text, end);
     }
-    Ok(())
 }
 
 /// The text of runs with the most frames, in one run and in two.
 #[test]
-fn frames_of_a_movie(rt: HostRuntime) -> Result<(), Fail> {
+fn frames_of_a_movie(rt: HostRuntime) {
     let alloc = rt.alloc();
-    let game = cart(alloc, BRIEF)?;
-    let files = Files {
-        game: game.as_slice(),
-        other: b"",
-    };
-    let longest = runs(alloc, b"..... ..... ..... x262144\n")?;
-    let parted = runs(alloc, b"..... ..... ..... x262143\nR.... ..... .....\n")?;
+    let game = cart(&rt, alloc, BRIEF);
+    let files = only_game(game.as_slice());
+    let longest = runs(&rt, alloc, b"..... ..... ..... x262144\n");
+    let parted = runs(
+        &rt,
+        alloc,
+        b"..... ..... ..... x262143\nR.... ..... .....\n",
+    );
     let all = End::Writes(17, b"ok 262144 frames\n");
     let migrated = End::Writes(125, b" x262143\nR.... ..... .....\n");
     let last = End::Writes(PICTURE, b"\0");
@@ -239,20 +233,16 @@ fn frames_of_a_movie(rt: HostRuntime) -> Result<(), Fail> {
         (&["shot", "game.bin", "262144"], &longest, no_frame),
     ];
     for (words, text, end) in cases {
-        ends(&rt, alloc, words, files, text, end)?;
+        check_end(&rt, alloc, words, files, text, end);
     }
-    Ok(())
 }
 
 /// Runs with one frame more than the most, and two that would be one.
 #[test]
-fn runs_past_their_limits(rt: HostRuntime) -> Result<(), Fail> {
+fn runs_past_their_limits(rt: HostRuntime) {
     let alloc = rt.alloc();
-    let game = cart(alloc, BRIEF)?;
-    let files = Files {
-        game: game.as_slice(),
-        other: b"",
-    };
+    let game = cart(&rt, alloc, BRIEF);
+    let files = only_game(game.as_slice());
     let frame = End::Faults(b"fault: movie line 3: frame\n");
     let run = End::Faults(b"fault: movie line 4: run\n");
     let too_many = End::Faults(b"fault: movie line 4: too many\n");
@@ -267,17 +257,16 @@ fn runs_past_their_limits(rt: HostRuntime) -> Result<(), Fail> {
         ),
     ];
     for (lines, end) in cases {
-        let text = runs(alloc, lines)?;
-        ends(&rt, alloc, &["check", "game.bin"], files, &text, end)?;
+        let text = runs(&rt, alloc, lines);
+        check_end(&rt, alloc, &["check", "game.bin"], files, &text, end);
     }
-    Ok(())
 }
 
 /// Edits at the most frames, by `tas edit` of a movie of three frames and by `tas script`.
 #[test]
-fn frames_of_an_edit(rt: HostRuntime) -> Result<(), Fail> {
+fn frames_of_an_edit(rt: HostRuntime) {
     let alloc = rt.alloc();
-    let (game, text) = (cart(alloc, BRIEF)?, older_movie(alloc, 3)?);
+    let (game, text) = (cart(&rt, alloc, BRIEF), older_movie(&rt, alloc, 3));
     let longest = End::Writes(107, b"\n..... ..... ..... x262144\n");
     let too_long = End::Faults(b"fault: script line 1: long\n");
     let cases: [(&[u8], End); 2] = [
@@ -289,56 +278,49 @@ fn frames_of_an_edit(rt: HostRuntime) -> Result<(), Fail> {
             game: game.as_slice(),
             other,
         };
-        ends(
+        check_end(
             &rt,
             alloc,
             &["edit", "game.bin", "other"],
             files,
             text.as_slice(),
             end,
-        )?;
+        );
     }
-    let files = Files {
-        game: game.as_slice(),
-        other: b"",
-    };
+    let files = only_game(game.as_slice());
     let script =
         b"insert 0 262145 ..... ..... .....\ninsert 0 262144 ..... ..... .....\ninsert 0 1 ..... ..... .....\n";
     let replies = b"long 0 len 0\nedit 1 len 262144\nlong 1 len 262144\n";
-    ends(
+    check_end(
         &rt,
         alloc,
         &["script"],
         files,
         script,
         End::Writes(replies.len(), replies),
-    )
+    );
 }
 
 #[test]
-fn frames_of_one_export(rt: HostRuntime) -> Result<(), Fail> {
+fn frames_of_one_export(rt: HostRuntime) {
     let alloc = rt.alloc();
     let (game, text) = (
-        cart(alloc, BRIEF)?,
-        runs(alloc, b"..... ..... ..... x1025\n")?,
+        cart(&rt, alloc, BRIEF),
+        runs(&rt, alloc, b"..... ..... ..... x1025\n"),
     );
-    let files = Files {
-        game: game.as_slice(),
-        other: b"",
-    };
+    let files = only_game(game.as_slice());
     let most = End::Writes(1024 * PICTURE, b"\0");
     let too_many = End::Faults(b"fault: range 0 to 1025 of 1025\n");
     for (to, end) in [("1024", most), ("1025", too_many)] {
-        ends(
+        check_end(
             &rt,
             alloc,
             &["export", "game.bin", "0", to, "16"],
             files,
             text.as_slice(),
             end,
-        )?;
+        );
     }
-    Ok(())
 }
 
 /// How many bytes the replies to so many edits have that leave the movie empty.
@@ -354,26 +336,23 @@ fn bytes_of_replies(edits: usize) -> usize {
 
 /// A million edits, of 11 bytes each, and one more.
 #[test]
-fn edits_of_a_script(rt: HostRuntime) -> Result<(), Fail> {
+fn edits_of_a_script(rt: HostRuntime) {
     let alloc = rt.alloc();
-    let files = Files {
-        game: b"",
-        other: b"",
-    };
+    let files = only_game(b"");
     check_same(&rt, "bytes_of_replies", bytes_of_replies(10), 9 * 13 + 14);
-    let script = repeated(alloc, b"", b"delete 0 0\n", 1_000_001)?;
+    let script = repeated(&rt, alloc, b"", b"delete 0 0\n", 1_000_001);
     let bytes = bytes_of_replies(1_000_000).saturating_add("full 1000000\n".len());
     let end = End::Writes(bytes, b"edit 1000000 len 0\nfull 1000000\n");
-    ends(&rt, alloc, &["script"], files, script.as_slice(), end)
+    check_end(&rt, alloc, &["script"], files, script.as_slice(), end);
 }
 
 /// As many bytes as one input may have, and one more: of a cartridge, a movie text and a script.
 #[test]
-fn bytes_of_one_input(rt: HostRuntime) -> Result<(), Fail> {
+fn bytes_of_one_input(rt: HostRuntime) {
     let alloc = rt.alloc();
-    let game = cart(alloc, BRIEF)?;
-    let zeros = vec![in alloc; 0u8; MOST_BYTES]?;
-    let more = vec![in alloc; 0u8; MOST_BYTES + 1]?;
+    let game = cart(&rt, alloc, BRIEF);
+    let zeros = expect_ok(&rt, vec![in alloc; 0u8; MOST_BYTES]);
+    let more = expect_ok(&rt, vec![in alloc; 0u8; MOST_BYTES + 1]);
     let size = End::Faults(b"fault: cartridge has 16777216 bytes\n");
     let cut = End::Faults(b"fault: movie line 1: end\n");
     let long = End::Faults(b"fault: input is too long\n");
@@ -386,34 +365,37 @@ fn bytes_of_one_input(rt: HostRuntime) -> Result<(), Fail> {
         (&["check", "game.bin"], &game, &more, long),
     ];
     for (words, game, input, end) in cases {
-        let files = Files { game, other: b"" };
-        ends(&rt, alloc, words, files, input, end)?;
+        let files = only_game(game);
+        check_end(&rt, alloc, words, files, input, end);
     }
-    Ok(())
 }
 
 /// A line that loads a cartridge of so many bytes EA.
-fn load_line(alloc: Global, bytes: usize) -> Result<Vec<u8>, Fail> {
-    let mut line = repeated(alloc, b"load 000=", b"EA", bytes)?;
-    line.push(b'\n')?;
-    Ok(line)
+fn load_line<R: Abort>(rt: &R, alloc: Global, bytes: usize) -> Vec<u8> {
+    let mut line = repeated(rt, alloc, b"load 000=", b"EA", bytes);
+    expect_ok(rt, line.push(b'\n'));
+    line
 }
 
-/// 2,045 lines of 8,202 bytes and one of 4,126 have as many bytes as a script may have; with one byte more no line is answered.
+/// 2,045 lines of 8,202 bytes and one of 4,126.
+fn longest_script<R: Abort>(rt: &R, alloc: Global) -> Vec<u8> {
+    let line = load_line(rt, alloc, 4096);
+    let last = load_line(rt, alloc, 2058);
+    let mut script = repeated(rt, alloc, b"", line.as_slice(), 2045);
+    expect_ok(rt, script.extend_from_slice(last.as_slice()));
+    script
+}
+
+/// That script has as many bytes as one may have; with one byte more no line is answered.
 #[test]
-fn bytes_of_a_script(rt: HostRuntime) -> Result<(), Fail> {
+fn bytes_of_a_script(rt: HostRuntime) {
     let alloc = rt.alloc();
-    let files = Files {
-        game: b"",
-        other: b"",
-    };
-    let (line, last) = (load_line(alloc, 4096)?, load_line(alloc, 2058)?);
-    let mut script = repeated(alloc, b"", line.as_slice(), 2045)?;
-    script.extend_from_slice(last.as_slice())?;
+    let files = only_game(b"");
+    let mut script = longest_script(&rt, alloc);
     check_same(&rt, "script", script.len(), MOST_BYTES);
     let all = End::Writes(bytes_of_replies(2046), b"edit 2046 len 0\n");
-    ends(&rt, alloc, &["script"], files, script.as_slice(), all)?;
-    script.push(b'l')?;
+    check_end(&rt, alloc, &["script"], files, script.as_slice(), all);
+    expect_ok(&rt, script.push(b'l'));
     let long = End::Faults(b"fault: input is too long\n");
-    ends(&rt, alloc, &["script"], files, script.as_slice(), long)
+    check_end(&rt, alloc, &["script"], files, script.as_slice(), long);
 }

@@ -1,9 +1,10 @@
 //! A second answerer of scripts of few frames, as plain as can be: each shot is played from power-on, the frames before it without
 //! a picture.
 
-use crate::plain_script::{Frame, Image, Line, read_line};
+use crate::checks::{expect_ok, expect_some};
+use crate::plain_script::{Frame, Image, Line, read_line, split_once};
 use std::alloc::Global;
-use std::test::Fail;
+use std::process::Abort;
 use vcs_cpu::Halt;
 use vcs_machine::{Cart, Input, Meter, State, Stick, play, play_unseen};
 use vcs_tia::Picture;
@@ -63,133 +64,175 @@ impl Editor {
     }
 
     /// The frames with some of them taken out at a place, and copies of one put in there.
-    fn change(
+    fn change<R: Abort>(
         &mut self,
+        rt: &R,
         alloc: Global,
         place: usize,
         taken: usize,
         copies: &[Frame],
-    ) -> Result<(), Fail> {
+    ) {
+        let front = expect_some(rt, self.frames.get(..place));
+        let rest = expect_some(rt, self.frames.get(place.saturating_add(taken)..));
         let mut frames = Vec::new(alloc);
-        frames.extend_from_slice(self.frames.get(..place).ok_or("a place")?)?;
-        frames.extend_from_slice(copies)?;
-        let rest = place.saturating_add(taken);
-        frames.extend_from_slice(self.frames.get(rest..).ok_or("a rest")?)?;
+        for part in [front, copies, rest] {
+            expect_ok(rt, frames.extend_from_slice(part));
+        }
         self.frames = frames;
-        Ok(())
     }
 
-    /// How many pixels of a frame aren't black, or why it isn't drawn.
-    fn draw(&self, alloc: Global, k: usize) -> Result<Result<usize, Halt>, Fail> {
-        let bytes = self.image.bytes.get(..self.image.size).ok_or("an image")?;
-        let cart = Cart::from_bytes(alloc, bytes)?;
-        let mut picture = Picture::blank(alloc)?;
-        let mut state = State::power_on(&cart);
+    /// Plays up to a frame, of which it makes a picture: why it isn't drawn, if it isn't.
+    fn play_up_to(&self, cart: &Cart, k: usize, picture: &mut Picture) -> Option<Halt> {
+        let mut state = State::power_on(cart);
         let mut halted = None;
         for (place, frame) in self.frames.iter().enumerate().take(k.saturating_add(1)) {
             let (input, mut meter) = (input_of(frame), Meter::new());
             halted = if place == k {
-                play(&cart, &mut state, input, &mut picture, &mut meter).err()
+                play(cart, &mut state, input, picture, &mut meter).err()
             } else {
-                play_unseen(&cart, &mut state, input, &mut meter).err()
+                play_unseen(cart, &mut state, input, &mut meter).err()
             };
         }
-        Ok(match halted {
+        halted
+    }
+
+    /// How many pixels of a frame aren't black, or why it isn't drawn.
+    fn draw<R: Abort>(&self, rt: &R, alloc: Global, k: usize) -> Result<usize, Halt> {
+        let bytes = expect_some(rt, self.image.bytes.get(..self.image.size));
+        let cart = expect_ok(rt, Cart::from_bytes(alloc, bytes));
+        let mut picture = expect_ok(rt, Picture::blank(alloc));
+        match self.play_up_to(&cart, k, &mut picture) {
             None => Ok(picture.lit()),
             Some(halt) => Err(halt),
-        })
+        }
     }
 
     /// The reply to a shot. Below frame 64 no state is kept, so all frames are played.
-    fn shot(&self, alloc: Global, k: usize) -> Result<String, Fail> {
+    fn shot<R: Abort>(&self, rt: &R, alloc: Global, k: usize) -> String {
         let (at, ran) = (self.edits, k.saturating_add(1));
-        Ok(match self.draw(alloc, k)? {
-            Ok(lit) => format!(in alloc; "shot {at} {k} ran {ran} lit {lit}\n")?,
+        let reply = match self.draw(rt, alloc, k) {
+            Ok(lit) => format!(in alloc; "shot {at} {k} ran {ran} lit {lit}\n"),
             Err(
                 Halt::Undocumented {
                     at: address,
                     opcode,
                 },
-            ) => { format!(in alloc; "halted {at} {address:04X} {opcode:02X}\n")? }
-        })
+            ) => format!(in alloc; "halted {at} {address:04X} {opcode:02X}\n"),
+        };
+        expect_ok(rt, reply)
     }
 
     /// The reply to an edit that is made.
-    fn made(&mut self, alloc: Global) -> Result<String, Fail> {
+    fn made<R: Abort>(&mut self, rt: &R, alloc: Global) -> String {
         self.edits = self.edits.saturating_add(1);
-        Ok(format!(in alloc; "edit {} len {}\n", self.edits, self.frames.len())?)
+        let reply = format!(in alloc; "edit {} len {}\n", self.edits, self.frames.len());
+        expect_ok(rt, reply)
     }
 
     /// The reply to a change: so many frames from a place on go, and copies of one come.
-    fn edit(
+    fn edit<R: Abort>(
         &mut self,
+        rt: &R,
         alloc: Global,
         place: usize,
         taken: usize,
         copies: (usize, Frame),
-    ) -> Result<String, Fail> {
+    ) -> String {
         let (at, len) = (self.edits, self.frames.len());
         let (count, frame) = copies;
         if place.saturating_add(taken) > len {
-            return Ok(format!(in alloc; "place {at} len {len}\n")?);
+            return expect_ok(rt, format!(in alloc; "place {at} len {len}\n"));
         }
         if len.saturating_sub(taken).saturating_add(count) > MOST {
-            return Ok(format!(in alloc; "long {at} len {len}\n")?);
+            return expect_ok(rt, format!(in alloc; "long {at} len {len}\n"));
         }
-        let copies = vec![in alloc; frame; count]?;
-        self.change(alloc, place, taken, copies.as_slice())?;
-        self.made(alloc)
+        let copies = expect_ok(rt, vec![in alloc; frame; count]);
+        self.change(rt, alloc, place, taken, copies.as_slice());
+        self.made(rt, alloc)
     }
 
     /// The reply to a look at a frame that isn't there.
-    fn no_frame(&self, alloc: Global) -> Result<String, Fail> {
-        Ok(format!(in alloc; "no frame {} len {}\n", self.edits, self.frames.len())?)
+    fn no_frame<R: Abort>(&self, rt: &R, alloc: Global) -> String {
+        let reply = format!(in alloc; "no frame {} len {}\n", self.edits, self.frames.len());
+        expect_ok(rt, reply)
+    }
+
+    /// The reply to a look at the input of a frame.
+    fn input<R: Abort>(&self, rt: &R, alloc: Global, k: usize) -> String {
+        let at = self.edits;
+        match self.frames.get(k) {
+            Some(frame) => {
+                let letters = expect_ok(rt, String::from_utf8_lossy(alloc, frame));
+                expect_ok(rt, format!(in alloc; "input {at} {letters}\n"))
+            }
+            None => self.no_frame(rt, alloc),
+        }
     }
 
     /// The reply to a line.
-    fn answer(&mut self, alloc: Global, line: Line) -> Result<String, Fail> {
+    fn answer<R: Abort>(&mut self, rt: &R, alloc: Global, line: Line) -> String {
         let (at, len) = (self.edits, self.frames.len());
         match line {
             Line::Load(image) => {
                 self.image = image;
-                self.made(alloc)
+                self.made(rt, alloc)
             }
-            Line::Insert(place, count, frame) => self.edit(alloc, place, 0, (count, frame)),
-            Line::Replace(place, count, frame) => self.edit(alloc, place, count, (count, frame)),
-            Line::Delete(place, count) => self.edit(alloc, place, count, (0, [b'.'; 17])),
-            Line::Len => Ok(format!(in alloc; "len {at} {len}\n")?),
-            Line::Input(k) => match self.frames.get(k) {
-                Some(frame) => {
-                    let letters = String::from_utf8_lossy(alloc, frame)?;
-                    Ok(format!(in alloc; "input {at} {letters}\n")?)
-                }
-                None => self.no_frame(alloc),
-            },
-            Line::Shot(k) if k < len => self.shot(alloc, k),
-            Line::Shot(_) => self.no_frame(alloc),
-            Line::Work(_) => Ok(String::from_str(alloc, "work jobs 1 kept 0 stale 0\n")?),
+            Line::Insert(place, count, frame) => self.edit(rt, alloc, place, 0, (count, frame)),
+            Line::Replace(place, count, frame) => {
+                self.edit(rt, alloc, place, count, (count, frame))
+            }
+            Line::Delete(place, count) => self.edit(rt, alloc, place, count, (0, [b'.'; 17])),
+            Line::Len => expect_ok(rt, format!(in alloc; "len {at} {len}\n")),
+            Line::Input(k) => self.input(rt, alloc, k),
+            Line::Shot(k) if k < len => self.shot(rt, alloc, k),
+            Line::Shot(_) => self.no_frame(rt, alloc),
+            Line::Work(_) => {
+                expect_ok(rt, String::from_str(alloc, "work jobs 1 kept 0 stale 0\n"))
+            }
         }
+    }
+
+    /// Answers the first of some lines, and gives those behind it; nothing where it isn't understood.
+    fn answer_first<'a, R: Abort>(
+        &mut self,
+        rt: &R,
+        alloc: Global,
+        lines: &'a [u8],
+        replies: &mut Vec<u8>,
+    ) -> Option<&'a [u8]> {
+        let (line, others) = split_once(lines, b'\n')?;
+        let asked = read_line(rt, alloc, line)?;
+        let reply = self.answer(rt, alloc, asked);
+        expect_ok(rt, replies.extend_from_slice(reply.as_bytes()));
+        Some(others)
+    }
+
+    /// Answers a script of few lines up to one that isn't understood, if there is one: its number.
+    fn answer_all<R: Abort>(
+        &mut self,
+        rt: &R,
+        alloc: Global,
+        script: &[u8],
+        replies: &mut Vec<u8>,
+    ) -> Option<usize> {
+        let mut rest = script;
+        for number in 1..20usize {
+            if rest.is_empty() {
+                return None;
+            }
+            let Some(others) = self.answer_first(rt, alloc, rest, replies) else {
+                return Some(number);
+            };
+            rest = others;
+        }
+        Some(20)
     }
 }
 
 /// The replies to a script of few lines, and the line that isn't understood, if there is one.
-pub fn answer_plainly(alloc: Global, script: &[u8]) -> Result<(Vec<u8>, Option<usize>), Fail> {
+pub fn answer_plainly<R: Abort>(rt: &R, alloc: Global, script: &[u8]) -> (Vec<u8>, Option<usize>) {
     let mut editor = Editor::new(alloc);
     let mut replies = Vec::new(alloc);
-    let mut rest = script;
-    for number in 1..20usize {
-        if rest.is_empty() {
-            return Ok((replies, None));
-        }
-        let Some(end) = rest.iter().position(|byte| *byte == b'\n') else {
-            return Ok((replies, Some(number)));
-        };
-        let (line, others) = rest.split_at(end);
-        let Some(asked) = read_line(alloc, line)? else {
-            return Ok((replies, Some(number)));
-        };
-        replies.extend_from_slice(editor.answer(alloc, asked)?.as_bytes())?;
-        rest = &others[1..];
-    }
-    Ok((replies, Some(20)))
+    let fault = editor.answer_all(rt, alloc, script, &mut replies);
+    (replies, fault)
 }

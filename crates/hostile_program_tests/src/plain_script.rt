@@ -1,7 +1,8 @@
 //! A second reader of scripts, as plain as can be.
 
+use crate::checks::expect_ok;
 use std::alloc::Global;
-use std::test::Fail;
+use std::process::Abort;
 
 /// The letters of a frame, each where it stands when it is pressed or set.
 pub const LETTERS: &[u8; 17] = b"RLDUF RLDUF rsbAB";
@@ -29,20 +30,26 @@ pub enum Line {
     Work(usize),
 }
 
+/// What stands before and behind the first such byte, if there is one.
+pub fn split_once(text: &[u8], byte: u8) -> Option<(&[u8], &[u8])> {
+    let end = text.iter().position(|other| *other == byte)?;
+    let (front, others) = text.split_at(end);
+    Some((front, &others[1..]))
+}
+
 /// The words between the spaces of a line.
-fn words<'a>(alloc: Global, line: &'a [u8]) -> Result<Vec<&'a [u8]>, Fail> {
+fn words<'a, R: Abort>(rt: &R, alloc: Global, line: &'a [u8]) -> Vec<&'a [u8]> {
     let mut words = Vec::new(alloc);
     let mut rest = line;
     for _ in 0..line.len() {
-        let Some(end) = rest.iter().position(|byte| *byte == b' ') else {
+        let Some((word, others)) = split_once(rest, b' ') else {
             break;
         };
-        let (word, others) = rest.split_at(end);
-        words.push(word)?;
-        rest = &others[1..];
+        expect_ok(rt, words.push(word));
+        rest = others;
     }
-    words.push(rest)?;
-    Ok(words)
+    expect_ok(rt, words.push(rest));
+    words
 }
 
 /// A number of one to seven digits, the first of which is 0 only where it is the only one.
@@ -149,21 +156,26 @@ fn short_line(name: &[u8], words: &[&[u8]]) -> Option<Line> {
     }
 }
 
-/// What a line asks for; nothing where it isn't understood.
-pub fn read_line(alloc: Global, line: &[u8]) -> Result<Option<Line>, Fail> {
-    let words = words(alloc, line)?;
-    let Some((name, words)) = words.as_slice().split_first() else {
-        return Ok(None);
-    };
-    Ok(if *name == b"load".as_slice() {
+/// What a line of these words behind its name asks for.
+fn line_of(name: &[u8], words: &[&[u8]]) -> Option<Line> {
+    if name == b"load".as_slice() {
         image_of(4096, words).map(Line::Load)
-    } else if *name == b"load2".as_slice() {
+    } else if name == b"load2".as_slice() {
         image_of(2048, words).map(Line::Load)
-    } else if *name == b"insert".as_slice() {
+    } else if name == b"insert".as_slice() {
         frames(words).map(|(place, count, frame)| Line::Insert(place, count, frame))
-    } else if *name == b"replace".as_slice() {
+    } else if name == b"replace".as_slice() {
         frames(words).map(|(place, count, frame)| Line::Replace(place, count, frame))
     } else {
         short_line(name, words)
-    })
+    }
+}
+
+/// What a line asks for; nothing where it isn't understood.
+pub fn read_line<R: Abort>(rt: &R, alloc: Global, line: &[u8]) -> Option<Line> {
+    let words = words(rt, alloc, line);
+    match words.as_slice().split_first() {
+        Some((name, words)) => line_of(name, words),
+        None => None,
+    }
 }

@@ -4,11 +4,12 @@ ghost use Rattle.std.specs.Prelude.{Some, if◌then◌else◌, codes};
 ghost use Rattle.std.specs.Prelude.{nat_eq};
 ghost use Rattle.std.specs.Cmp.Lexicographic.{pointwise};
 
+use crate::checks::expect_ok;
 use std::alloc::Global;
 use std::io;
 use std::io::{Error, ErrorKind, Write};
+use std::process::Abort;
 use std::sync::Wait;
-use std::test::Fail;
 use std::thread::Threads;
 use tas_program::{Folder, run_program};
 
@@ -83,36 +84,47 @@ pub struct Ran {
     pub code: u8,
 }
 
+fn push_word<R: Abort>(rt: &R, alloc: Global, words: &mut Vec<String>, word: &str) {
+    let word = expect_ok(rt, String::from_str(alloc, word));
+    expect_ok(rt, words.push(word));
+}
+
+/// The program's name, and these words.
+fn words_of<R: Abort>(rt: &R, alloc: Global, words: &[&str]) -> Vec<String> {
+    let mut all = Vec::new(alloc);
+    push_word(rt, alloc, &mut all, "tas");
+    for word in words {
+        push_word(rt, alloc, &mut all, word);
+    }
+    all
+}
+
 /// Runs the program with these words.
-pub fn run<T: Threads + Wait + Sync>(
+pub fn run<T: Threads + Wait + Abort + Sync>(
     rt: &T,
     alloc: Global,
     words: &[&str],
     files: Files<'_>,
     input: &[u8],
-) -> Result<Ran, Fail> {
-    let mut all = Vec::new(alloc);
-    all.push(String::from_str(alloc, "tas")?)?;
-    for word in words {
-        all.push(String::from_str(alloc, word)?)?;
-    }
+) -> Ran {
+    let words = words_of(rt, alloc, words).into_iter();
     let mut input = input;
     let mut output = Tail::new(alloc);
     let mut errors = Vec::new(alloc);
     let status = run_program(
         rt,
         alloc,
-        Ok(all.into_iter()),
+        Ok(words),
         &files,
         &mut input,
         &mut output,
         &mut errors,
     );
     let Tail { bytes, last } = output;
-    Ok(Ran {
+    Ran {
         bytes,
         last,
         errors,
         code: status.code(),
-    })
+    }
 }

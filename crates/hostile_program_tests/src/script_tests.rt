@@ -1,11 +1,10 @@
 //! Scripts that are cut off or have one wrong byte.
 
-use crate::checks::{check_same, check_that};
+use crate::checks::{check_same, check_that, expect_ok, expect_some};
 use crate::plain_editor::answer_plainly;
 use std::alloc::Global;
 use std::process::Abort;
 use std::sync::Wait;
-use std::test::Fail;
 use tas_tool::{ToolFault, script_run};
 
 /// Ten lines. The cartridge colours a frame by what port A shows, turned round, so that it is black where nothing is pressed;
@@ -32,101 +31,96 @@ static SMALL: &[u8] = b"load2 000=AD800249FF8509A2248502CAD0FBA902850086004C00F0
     shot 0\n";
 
 /// Whether a script is answered as the second reader answers it.
-fn is_alike<R: Wait>(rt: &R, alloc: Global, script: &[u8]) -> Result<bool, Fail> {
+fn is_alike<R: Wait + Abort>(rt: &R, alloc: Global, script: &[u8]) -> bool {
     let mut replies = Vec::new(alloc);
     let mut input = script;
     let end = script_run(rt, alloc, &mut input, &mut replies);
-    let (wanted, fault) = answer_plainly(alloc, script)?;
+    let (wanted, fault) = answer_plainly(rt, alloc, script);
     let wanted_end = match fault {
         Some(line) => Err(ToolFault::Script { line }),
         None => Ok(()),
     };
-    Ok(end == wanted_end && replies == wanted)
+    end == wanted_end && replies == wanted
+}
+
+/// Fails where the second reader answers a script in another way than by hand, or one that is cut off anywhere in another way
+/// than the program.
+fn check_cuts<R: Wait + Abort>(rt: &R, alloc: Global, script: &[u8], by_hand: &[u8]) {
+    let (replies, fault) = answer_plainly(rt, alloc, script);
+    check_same(rt, "replies", replies.as_slice(), by_hand);
+    check_same(rt, "fault", fault, None);
+    for count in 0..=script.len() {
+        let front = expect_some(rt, script.get(..count));
+        check_that(rt, ("bytes", count), is_alike(rt, alloc, front));
+    }
 }
 
 #[test]
-fn scripts_are_cut_off_anywhere(rt: HostRuntime) -> Result<(), Fail> {
-    let alloc = rt.alloc();
-    let (replies, fault) = answer_plainly(alloc, SCRIPT)?;
-    check_same(&rt, "replies", replies.as_slice(), REPLIES);
-    check_same(&rt, "fault", fault, None);
-    for count in 0..SCRIPT.len() + 1 {
-        if let Some(front) = SCRIPT.get(..count) {
-            check_that(&rt, ("bytes", count), is_alike(&rt, alloc, front)?);
-        }
-    }
-    Ok(())
+fn scripts_are_cut_off_anywhere(rt: HostRuntime) {
+    check_cuts(&rt, rt.alloc(), SCRIPT, REPLIES);
+}
+
+/// Puts a byte at a place of a script, and then the one that was there.
+fn change_one<R: Wait + Abort>(
+    rt: &R,
+    alloc: Global,
+    script: &mut Vec<u8>,
+    place: usize,
+    byte: u8,
+) {
+    let before = put(rt, script, place, byte);
+    let is_alike = is_alike(rt, alloc, script.as_slice());
+    check_that(rt, ("byte at", place, byte), is_alike);
+    put(rt, script, place, before);
+}
+
+/// Puts a byte at a place of a script: the one that was there.
+fn put<R: Abort>(rt: &R, script: &mut Vec<u8>, place: usize, byte: u8) -> u8 {
+    let at = expect_some(rt, script.get_mut(place));
+    let before = *at;
+    *at = byte;
+    before
 }
 
 /// Puts each byte in turn at each of these places of a script.
-fn change_each<R: Wait + Abort>(
-    rt: &R,
-    alloc: Global,
-    right: &[u8],
-    from: usize,
-    to: usize,
-) -> Result<(), Fail> {
-    let mut script = Vec::new(alloc);
-    script.extend_from_slice(right)?;
+fn change_each<R: Wait + Abort>(rt: &R, alloc: Global, right: &[u8], from: usize, to: usize) {
+    let mut script = expect_ok(rt, Vec::from_slice(alloc, right));
     for place in from..to {
         for byte in 0..=255u8 {
-            if let Some(at) = script.get_mut(place) {
-                let before = *at;
-                *at = byte;
-                check_that(
-                    rt,
-                    ("byte at", place, byte),
-                    is_alike(rt, alloc, script.as_slice())?,
-                );
-                if let Some(at) = script.get_mut(place) {
-                    *at = before;
-                }
-            }
+            change_one(rt, alloc, &mut script, place, byte);
         }
     }
-    Ok(())
 }
 
 #[test]
-fn each_byte_of_the_load_line_may_be_wrong(rt: HostRuntime) -> Result<(), Fail> {
-    change_each(&rt, rt.alloc(), SCRIPT, 0, 69)
+fn each_byte_of_the_load_line_may_be_wrong(rt: HostRuntime) {
+    change_each(&rt, rt.alloc(), SCRIPT, 0, 69);
 }
 
 #[test]
-fn each_byte_up_to_the_deletion_may_be_wrong(rt: HostRuntime) -> Result<(), Fail> {
-    change_each(&rt, rt.alloc(), SCRIPT, 69, 117)
+fn each_byte_up_to_the_deletion_may_be_wrong(rt: HostRuntime) {
+    change_each(&rt, rt.alloc(), SCRIPT, 69, 117);
 }
 
 #[test]
-fn each_byte_of_the_replacement_may_be_wrong(rt: HostRuntime) -> Result<(), Fail> {
-    change_each(&rt, rt.alloc(), SCRIPT, 117, 151)
+fn each_byte_of_the_replacement_may_be_wrong(rt: HostRuntime) {
+    change_each(&rt, rt.alloc(), SCRIPT, 117, 151);
 }
 
 #[test]
-fn each_byte_of_the_last_lines_may_be_wrong(rt: HostRuntime) -> Result<(), Fail> {
-    change_each(&rt, rt.alloc(), SCRIPT, 151, SCRIPT.len())
+fn each_byte_of_the_last_lines_may_be_wrong(rt: HostRuntime) {
+    change_each(&rt, rt.alloc(), SCRIPT, 151, SCRIPT.len());
+}
+
+/// The replies to [`SMALL`] by hand.
+static SMALL_REPLIES: &[u8] = b"edit 1 len 0\nedit 2 len 1\nshot 2 0 ran 1 lit 320\n";
+
+#[test]
+fn small_cartridges_are_cut_off_anywhere(rt: HostRuntime) {
+    check_cuts(&rt, rt.alloc(), SMALL, SMALL_REPLIES);
 }
 
 #[test]
-fn small_cartridges_are_cut_off_anywhere(rt: HostRuntime) -> Result<(), Fail> {
-    let alloc = rt.alloc();
-    let (replies, fault) = answer_plainly(alloc, SMALL)?;
-    check_same(
-        &rt,
-        "replies",
-        replies.as_slice(),
-        b"edit 1 len 0\nedit 2 len 1\nshot 2 0 ran 1 lit 320\n".as_slice(),
-    );
-    check_same(&rt, "fault", fault, None);
-    for count in 0..SMALL.len() + 1 {
-        if let Some(front) = SMALL.get(..count) {
-            check_that(&rt, ("bytes", count), is_alike(&rt, alloc, front)?);
-        }
-    }
-    Ok(())
-}
-
-#[test]
-fn each_byte_of_the_line_of_a_small_cartridge_may_be_wrong(rt: HostRuntime) -> Result<(), Fail> {
-    change_each(&rt, rt.alloc(), SMALL, 0, 70)
+fn each_byte_of_the_line_of_a_small_cartridge_may_be_wrong(rt: HostRuntime) {
+    change_each(&rt, rt.alloc(), SMALL, 0, 70);
 }
