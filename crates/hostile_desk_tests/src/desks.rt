@@ -3,16 +3,15 @@
 ghost use Rattle.std.specs.Prelude.{◌≡◌};
 ghost use Rattle.tas_desk.specs.Seats.{name_of};
 
-use crate::checks::check_that;
+use crate::checks::{check_that, expect_ok, expect_some};
 use crate::handover_tests::{give_batch, take_batch};
 use crate::players::Reply;
 use crate::schedule_tests::play_steps;
 use crate::steps::Step;
-use std::alloc::{AllocError, Global};
+use std::alloc::Global;
 use std::marker::Brand;
 use std::process::Abort;
 use std::sync::Wait;
-use std::test::Fail;
 use std::thread::Threads;
 use tas_desk::{Closed, Desk, Name, Seat, Unopened};
 use tas_green::Batch;
@@ -47,28 +46,31 @@ fn take<N: Name + Send + Sync, R: Threads + Wait + Abort + Sync>(
     desk: &Desk<N, &R>,
     seats: Vec<Seat<N>>,
     task: Task<'_>,
-) -> Result<Left<N>, Fail> {
-    let mut told = Told {
-        replies: Vec::new(alloc),
-        batch: None,
-    };
+) -> Left<N> {
     let mut seats = seats;
     match task {
-        Task::Steps(steps) => {
-            let (back, replies) = play_steps(rt, alloc, desk, seats, steps)?;
-            told.replies = replies;
-            return Ok((back, told));
-        }
+        Task::Steps(steps) => play_steps(rt, alloc, desk, seats, steps),
         Task::Job => {
-            let seat = seats.first_mut().ok_or("a seat")?;
-            told.batch = Some(take_batch(rt, alloc, desk, seat)?);
+            let batch = take_batch(rt, alloc, desk, expect_some(rt, seats.first_mut()));
+            (
+                seats,
+                Told {
+                    replies: Vec::new(alloc),
+                    batch: Some(batch),
+                },
+            )
         }
         Task::Offer(batch) => {
-            let seat = seats.first_mut().ok_or("a seat")?;
-            give_batch(rt, alloc, desk, seat, batch)?;
+            give_batch(rt, alloc, desk, expect_some(rt, seats.first_mut()), batch);
+            (
+                seats,
+                Told {
+                    replies: Vec::new(alloc),
+                    batch: None,
+                },
+            )
         }
     }
-    Ok((seats, told))
 }
 
 /// Opens the desk, does the task and closes the desk.
@@ -77,14 +79,14 @@ fn play_at<N: Name + Send + Sync, R: Threads + Wait + Abort + Sync>(
     alloc: Global,
     unopened: Unopened,
     task: Task<'_>,
-) -> Result<(Closed, Told), Fail>
+) -> (Closed, Told)
     requires name { unopened ≡ name_of N.registry N.name N.seats }
     requires named { N.parts ≡ N.seats }
 {
-    let (desk, seats) = Desk::<N, &R>::open(rt, alloc, unopened).map_err(|_| AllocError)?;
-    let (seats, told) = take(rt, alloc, &desk, seats, task)?;
+    let (desk, seats) = expect_ok(rt, Desk::<N, &R>::open(rt, alloc, unopened));
+    let (seats, told) = take(rt, alloc, &desk, seats, task);
     check_that(rt, "all seats come back", desk.whole(seats.as_slice()));
-    Ok((desk.close(rt, seats), told))
+    (desk.close(rt, seats), told)
 }
 
 /// Does a task at a desk of eight seats: what the desk leaves, and what came of the task.
@@ -92,7 +94,7 @@ pub fn play<R: Threads + Wait + Abort + Sync>(
     rt: &R,
     alloc: Global,
     task: Task<'_>,
-) -> Result<(Closed, Told), Fail> {
-    let unopened = Unopened::new(alloc, 8).map_err(|_| AllocError)?;
+) -> (Closed, Told) {
+    let unopened = expect_ok(rt, Unopened::new(alloc, 8));
     play_at::<Brand, R>(rt, alloc, unopened, task)
 }

@@ -1,12 +1,11 @@
 //! A batch that goes from one desk to another, and the most kept states.
 
 use crate::changes::{Change, HALTING, PLAYFIELD, edit_of};
-use crate::checks::{check_same, check_that};
+use crate::checks::{check_same, check_that, expect_ok, expect_some};
 use crate::desks::{Task, play};
-use std::alloc::{AllocError, Global};
+use std::alloc::Global;
 use std::process::Abort;
 use std::sync::Wait;
-use std::test::Fail;
 use tas_desk::{CloseOnDrop, Desk, Name, Offered, Seat, Session, ShotError};
 use tas_green::Batch;
 use tas_movie::MAX_FRAMES;
@@ -20,12 +19,11 @@ fn fill<N: Name, W: CloseOnDrop, R: Wait + Abort>(
     desk: &Desk<N, W>,
     seat: &mut Seat<N>,
     frames: usize,
-) -> Result<(), Fail> {
+) {
     for change in [Change::Load(PLAYFIELD), Change::Fill(frames)] {
-        let edit = edit_of(alloc, change)?;
+        let edit = expect_ok(rt, edit_of(alloc, change));
         check_that(rt, change, desk.edit(rt, seat, edit).is_ok());
     }
-    Ok(())
 }
 
 /// The batch of a job for all of 200 frames.
@@ -34,9 +32,9 @@ pub fn take_batch<N: Name, W: CloseOnDrop, R: Wait + Abort>(
     alloc: Global,
     desk: &Desk<N, W>,
     seat: &mut Seat<N>,
-) -> Result<Batch, Fail> {
-    fill(rt, alloc, desk, seat, 200)?;
-    Ok(desk.job(rt, alloc, seat, 200)?.run())
+) -> Batch {
+    fill(rt, alloc, desk, seat, 200);
+    expect_ok(rt, desk.job(rt, alloc, seat, 200)).run()
 }
 
 /// The batch is offered to a movie of 100 frames of the same cartridge.
@@ -46,8 +44,8 @@ pub fn give_batch<N: Name, W: CloseOnDrop, R: Wait + Abort>(
     desk: &Desk<N, W>,
     seat: &mut Seat<N>,
     batch: Batch,
-) -> Result<(), Fail> {
-    fill(rt, alloc, desk, seat, 100)?;
+) {
+    fill(rt, alloc, desk, seat, 100);
     let offered = Offered {
         at: 2,
         front: 100,
@@ -55,32 +53,27 @@ pub fn give_batch<N: Name, W: CloseOnDrop, R: Wait + Abort>(
     };
     check_same(rt, "desk", desk.offer(rt, seat, batch).ok(), Some(offered));
     check_same(rt, "desk, 2", desk.share(rt, seat).ok(), Some(1));
-    Ok(())
 }
 
 #[test]
-fn a_batch_goes_from_one_desk_to_another(rt: HostRuntime) -> Result<(), Fail> {
-    let alloc = rt.alloc();
-    let (_, told) = play(&rt, alloc, Task::Job)?;
-    let batch = told.batch.ok_or("a batch")?;
-    check_that(
-        &rt,
-        "batch",
-        batch.holds(64) && batch.holds(128) && batch.holds(192),
-    );
-    let (closed, _) = play(&rt, alloc, Task::Offer(batch))?;
+fn a_batch_goes_from_one_desk_to_another(rt: HostRuntime) {
+    let (_, told) = play(&rt, rt.alloc(), Task::Job);
+    let batch = expect_some(&rt, told.batch);
+    let held = [batch.holds(64), batch.holds(128), batch.holds(192)];
+    check_same(&rt, "batch", held, [true, true, true]);
+    let (closed, _) = play(&rt, rt.alloc(), Task::Offer(batch));
     check_same(&rt, "closed.movie", closed.movie.len(), 100);
-    Ok(())
 }
 
 /// The last frame of the longest movie, which halts in its fourth frame, is asked for at a new session: the states of each
 /// 128th frame are kept, all of them halted.
-fn shoot_last<R: Wait + Abort>(rt: &R, alloc: Global, session: &mut Session) -> Result<(), Fail> {
+fn shoot_last<R: Wait + Abort>(rt: &R, alloc: Global, session: &mut Session) {
     for (made, change) in [Change::Load(HALTING), Change::Fill(65_536)]
         .iter()
         .enumerate()
     {
-        session.edit(rt, 0, made as u64, edit_of(alloc, *change)?)?;
+        let edit = expect_ok(rt, edit_of(alloc, *change));
+        expect_ok(rt, session.edit(rt, 0, made as u64, edit));
     }
     let mut meter = Meter::new();
     let len = session.movie().len();
@@ -100,16 +93,12 @@ fn shoot_last<R: Wait + Abort>(rt: &R, alloc: Global, session: &mut Session) -> 
     );
     check_same(rt, "meter", meter.count(), 65_536);
     check_same(rt, "session, 2", session.green().count(), 512);
-    Ok(())
 }
 
 #[test]
-fn a_session_keeps_at_most_512_states(rt: HostRuntime) -> Result<(), Fail> {
-    let alloc = rt.alloc();
-    let mut session: Session = Session::new(alloc).map_err(|_| AllocError)?;
-    let answer = shoot_last(&rt, alloc, &mut session);
+fn a_session_keeps_at_most_512_states(rt: HostRuntime) {
+    let mut session: Session = expect_ok(&rt, Session::new(rt.alloc()));
+    shoot_last(&rt, rt.alloc(), &mut session);
     let closed = session.close(&rt);
-    answer?;
     check_same(&rt, "closed.journal", closed.journal.len(), 2);
-    Ok(())
 }

@@ -1,10 +1,12 @@
 //! What a schedule's replies should be: a desk as lists and places, whose frames are all played from power-on.
 
 use crate::changes::{Change, right};
+use crate::checks::expect_ok;
 use crate::pictures::images;
 use crate::players::RANGE;
 use crate::steps::{Deed, Step};
-use std::alloc::{AllocError, Global};
+use std::alloc::Global;
+use std::process::Abort;
 use vcs_cpu::Halt;
 use vcs_machine::Input;
 
@@ -92,7 +94,7 @@ pub struct Model {
 
 impl Model {
     /// A desk of eight seats with the blank cartridge and no inputs.
-    pub fn new(alloc: Global) -> Result<Model, AllocError> {
+    pub fn new<R: Abort>(rt: &R, alloc: Global) -> Model {
         let blank: &'static [u8] = b"";
         let mut zones = Vec::new(alloc);
         for _ in 0..8u32 {
@@ -100,13 +102,14 @@ impl Model {
                 program: blank,
                 inputs: Vec::new(alloc),
             };
-            zones.push(Zone {
+            let zone = Zone {
                 film,
                 kept: [false; 3],
                 start: 0,
-            })?;
+            };
+            expect_ok(rt, zones.push(zone));
         }
-        Ok(Model {
+        Model {
             film: Film {
                 program: blank,
                 inputs: Vec::new(alloc),
@@ -114,64 +117,65 @@ impl Model {
             edits: 0,
             kept: [false; 3],
             zones,
-        })
+        }
     }
 
     /// Takes some inputs out at a place and puts copies of one in there. Later states go.
-    fn change(
+    fn change<R: Abort>(
         &mut self,
+        rt: &R,
         alloc: Global,
         at: usize,
         taken: usize,
         copies: (Input, usize),
-    ) -> Result<(), AllocError> {
+    ) {
         let mut inputs = Vec::new(alloc);
         let (input, count) = copies;
         for (_, before) in (0..at).zip(self.film.inputs.iter()) {
-            inputs.push(*before)?;
+            expect_ok(rt, inputs.push(*before));
         }
         for _ in 0..count {
-            inputs.push(input)?;
+            expect_ok(rt, inputs.push(input));
         }
         for behind in self.film.inputs.iter().skip(at.saturating_add(taken)) {
-            inputs.push(*behind)?;
+            expect_ok(rt, inputs.push(*behind));
         }
         self.kept = up_to(up_to(self.kept, at), inputs.len());
         self.film.inputs = inputs;
-        Ok(())
     }
 
     /// The reply to an edit.
-    pub fn edit(&mut self, alloc: Global, change: Change) -> Result<String, AllocError> {
+    pub fn edit<R: Abort>(&mut self, rt: &R, alloc: Global, change: Change) -> String {
         match change {
             Change::Load(program) => {
                 self.film.program = program;
                 self.kept = [false; 3];
             }
-            Change::Fill(count) => self.change(alloc, 0, 0, (Input::none(), count))?,
-            Change::Insert(at, count) => self.change(alloc, at, 0, (right(), count))?,
-            Change::Press(at) => self.change(alloc, at, 1, (right(), 1))?,
-            Change::Delete(at, count) => self.change(alloc, at, count, (right(), 0))?,
+            Change::Fill(count) => self.change(rt, alloc, 0, 0, (Input::none(), count)),
+            Change::Insert(at, count) => self.change(rt, alloc, at, 0, (right(), count)),
+            Change::Press(at) => self.change(rt, alloc, at, 1, (right(), 1)),
+            Change::Delete(at, count) => self.change(rt, alloc, at, count, (right(), 0)),
         }
         self.edits = self.edits.saturating_add(1);
-        format!(in alloc; "edit {} len {}", self.edits, self.film.inputs.len())
+        let (at, len) = (self.edits, self.film.inputs.len());
+        expect_ok(rt, format!(in alloc; "edit {at} len {len}"))
     }
 
     /// The film's first inputs, up to so many.
-    fn front(&self, alloc: Global, most: usize) -> Result<Film, AllocError> {
+    fn front<R: Abort>(&self, rt: &R, alloc: Global, most: usize) -> Film {
         let mut inputs = Vec::new(alloc);
         for (_, input) in (0..most).zip(self.film.inputs.iter()) {
-            inputs.push(*input)?;
+            expect_ok(rt, inputs.push(*input));
         }
-        Ok(Film {
+        Film {
             program: self.film.program,
             inputs,
-        })
+        }
     }
 
     /// The seat takes a job.
-    fn start(&mut self, alloc: Global, seat: usize, near: usize) -> Result<(), AllocError> {
-        let film = self.front(alloc, near)?;
+    fn start<R: Abort>(&mut self, rt: &R, alloc: Global, seat: usize, near: usize) {
+        let film = self.front(rt, alloc, near);
         let start = nearest(self.kept, film.inputs.len());
         if let Some(zone) = self.zones.get_mut(seat) {
             *zone = Zone {
@@ -180,7 +184,6 @@ impl Model {
                 start,
             };
         }
-        Ok(())
     }
 
     /// The common beginning of a seat's film and the desk's, its last state, and whether the cartridges differ.
@@ -195,23 +198,25 @@ impl Model {
     }
 
     /// The reply to the offer of the seat's job. Seat 1 offers, the others work.
-    fn offer(&mut self, alloc: Global, seat: usize) -> Result<String, AllocError> {
+    fn offer<R: Abort>(&mut self, rt: &R, alloc: Global, seat: usize) -> String {
         let at = self.edits;
         let (front, start, is_stale) = self.met(seat);
         if is_stale {
-            return if seat == 1 {
+            let text = if seat == 1 {
                 format!(in alloc; "other cartridge {at}")
             } else {
                 String::from_str(alloc, "work jobs 1 kept 0 stale 1")
             };
+            return expect_ok(rt, text);
         }
         let (kept, gained) = with_run(self.kept, start, front);
         self.kept = kept;
-        if seat == 1 {
+        let text = if seat == 1 {
             format!(in alloc; "offer {at} front {front} kept {gained}")
         } else {
             format!(in alloc; "work jobs 1 kept {gained} stale 0")
-        }
+        };
+        expect_ok(rt, text)
     }
 
     /// What a seat's zone keeps of the present film.
@@ -224,8 +229,8 @@ impl Model {
     }
 
     /// The seat's zone is of the present film now, and keeps these states.
-    fn keep(&mut self, alloc: Global, seat: usize, kept: Kept) -> Result<(), AllocError> {
-        let film = self.front(alloc, self.film.inputs.len())?;
+    fn keep<R: Abort>(&mut self, rt: &R, alloc: Global, seat: usize, kept: Kept) {
+        let film = self.front(rt, alloc, self.film.inputs.len());
         if let Some(zone) = self.zones.get_mut(seat) {
             *zone = Zone {
                 film,
@@ -233,17 +238,16 @@ impl Model {
                 start: 0,
             };
         }
-        Ok(())
     }
 
     /// The reply to a shot, which plays from the seat's last state.
-    fn shot(&mut self, alloc: Global, seat: usize, k: usize) -> Result<String, AllocError> {
+    fn shot<R: Abort>(&mut self, rt: &R, alloc: Global, seat: usize, k: usize) -> String {
         let kept = self.cut(seat);
         let next = k.saturating_add(1);
         let from = nearest(kept, k);
-        self.keep(alloc, seat, with_run(kept, from, next).0)?;
+        self.keep(rt, alloc, seat, with_run(kept, from, next).0);
         let at = self.edits;
-        match images(alloc, self.film.program, &self.film.inputs, (k, next))? {
+        let text = match images(rt, alloc, self.film.program, &self.film.inputs, (k, next)) {
             Ok(image) => {
                 let (ran, sum) = (next.saturating_sub(from), image.sum);
                 format!(in alloc; "shot {at} {k} ran {ran} sum {sum}")
@@ -251,52 +255,58 @@ impl Model {
             Err(Halt::Undocumented { at: address, .. }) => {
                 format!(in alloc; "halted {at} {address:04X}")
             }
-        }
+        };
+        expect_ok(rt, text)
     }
 
     /// The reply to a share.
-    fn share(&mut self, alloc: Global, seat: usize) -> Result<String, AllocError> {
+    fn share<R: Abort>(&mut self, rt: &R, alloc: Global, seat: usize) -> String {
         let (kept, gained) = with_all(self.cut(seat), self.kept);
-        self.keep(alloc, seat, kept)?;
-        format!(in alloc; "share {gained}")
+        self.keep(rt, alloc, seat, kept);
+        expect_ok(rt, format!(in alloc; "share {gained}"))
     }
 
     /// The reply to an export by a seat whose zone is empty: each of the three runs has two frames and plays all before them.
-    fn export(&self, alloc: Global) -> Result<String, AllocError> {
+    fn export<R: Abort>(&self, rt: &R, alloc: Global) -> String {
         let (at, played) = (self.edits, 3 * RANGE.0 + 12);
-        match images(alloc, self.film.program, &self.film.inputs, RANGE)? {
+        let text = match images(rt, alloc, self.film.program, &self.film.inputs, RANGE) {
             Ok(image) => {
                 let (bytes, sum) = (image.bytes, image.sum);
                 format!(in alloc; "export {at} played {played} bytes {bytes} sum {sum}")
             }
             Err(_) => String::from_str(alloc, "not exported"),
-        }
+        };
+        expect_ok(rt, text)
     }
 
     /// The reply in a step; nothing where a job is taken, or where a further run of an export passes its gate.
-    fn reply(&mut self, alloc: Global, number: usize, step: Step) -> Result<String, AllocError> {
+    fn reply<R: Abort>(&mut self, rt: &R, alloc: Global, number: usize, step: Step) -> String {
         let seat = step.seat as usize;
         match step.deed {
             Deed::Start(near) => {
-                self.start(alloc, seat, near)?;
-                Ok(String::new(alloc))
+                self.start(rt, alloc, seat, near);
+                String::new(alloc)
             }
-            Deed::Offer => self.offer(alloc, seat),
-            Deed::Pass(_) if number == 0 => self.export(alloc),
-            Deed::Pass(_) => Ok(String::new(alloc)),
-            Deed::Edit(change) => self.edit(alloc, change),
-            Deed::Len => format!(in alloc; "len {} {}", self.edits, self.film.inputs.len()),
-            Deed::Shot(k) => self.shot(alloc, seat, k),
-            Deed::Share => self.share(alloc, seat),
+            Deed::Offer => self.offer(rt, alloc, seat),
+            Deed::Pass(_) if number == 0 => self.export(rt, alloc),
+            Deed::Pass(_) => String::new(alloc),
+            Deed::Edit(change) => self.edit(rt, alloc, change),
+            Deed::Len => {
+                let (at, len) = (self.edits, self.film.inputs.len());
+                expect_ok(rt, format!(in alloc; "len {at} {len}"))
+            }
+            Deed::Shot(k) => self.shot(rt, alloc, seat, k),
+            Deed::Share => self.share(rt, alloc, seat),
         }
     }
 
     /// The replies in all steps.
-    pub fn replies(&mut self, alloc: Global, steps: &[Step]) -> Result<Vec<String>, AllocError> {
+    pub fn replies<R: Abort>(&mut self, rt: &R, alloc: Global, steps: &[Step]) -> Vec<String> {
         let mut replies = Vec::new(alloc);
         for (number, step) in steps.iter().enumerate() {
-            replies.push(self.reply(alloc, number, *step)?)?;
+            let reply = self.reply(rt, alloc, number, *step);
+            expect_ok(rt, replies.push(reply));
         }
-        Ok(replies)
+        replies
     }
 }

@@ -1,11 +1,13 @@
 //! Pictures by a plain replay from power-on, and sums over them.
 
 use crate::changes::cart;
-use std::alloc::{AllocError, Global};
+use crate::checks::expect_ok;
+use std::alloc::Global;
 use std::io;
 use std::io::Write;
+use std::process::Abort;
 use vcs_cpu::Halt;
-use vcs_machine::{Input, Meter, State, play, play_unseen};
+use vcs_machine::{Cart, Input, Meter, State, play, play_unseen};
 use vcs_tia::{Picture, ppm};
 
 /// A writer that keeps how many bytes came, and a sum over them.
@@ -48,30 +50,41 @@ pub fn sum_of(picture: &Picture) -> u64 {
 
 /// The frames of a range of a program's movie, all played from power-on, those before the range without a picture: the sum over
 /// the images of those in the range, one after the other, or the first halt in the range or before it.
-pub fn images(
+pub fn images<R: Abort>(
+    rt: &R,
     alloc: Global,
     program: &[u8],
     inputs: &[Input],
     range: (usize, usize),
-) -> Result<Result<Sum, Halt>, AllocError> {
-    let cart = cart(alloc, program)?;
-    let mut picture = Picture::blank(alloc)?;
-    let mut state = State::power_on(&cart);
+) -> Result<Sum, Halt> {
+    let cart = expect_ok(rt, cart(alloc, program));
+    let mut picture = expect_ok(rt, Picture::blank(alloc));
+    images_on(&cart, &mut picture, inputs, range)
+}
+
+/// The same for a cartridge, with a picture to draw on.
+fn images_on(
+    cart: &Cart,
+    picture: &mut Picture,
+    inputs: &[Input],
+    range: (usize, usize),
+) -> Result<Sum, Halt> {
+    let mut state = State::power_on(cart);
     let mut out = Sum::new();
     for (frame, input) in inputs.iter().enumerate().take(range.1) {
         let mut meter = Meter::new();
         let is_shown = range.0 <= frame;
         let ended = if is_shown {
-            play(&cart, &mut state, *input, &mut picture, &mut meter)
+            play(cart, &mut state, *input, picture, &mut meter)
         } else {
-            play_unseen(&cart, &mut state, *input, &mut meter)
+            play_unseen(cart, &mut state, *input, &mut meter)
         };
         if let Err(halt) = ended {
-            return Ok(Err(halt));
+            return Err(halt);
         }
         if is_shown {
-            let _ = ppm(&picture, &mut out);
+            let _ = ppm(picture, &mut out);
         }
     }
-    Ok(Ok(out))
+    Ok(out)
 }

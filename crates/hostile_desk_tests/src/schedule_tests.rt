@@ -2,16 +2,15 @@
 //! compared with a plain model, and the history that the desk leaves is played again.
 
 use crate::changes::{Change, FOLDING, cart};
-use crate::checks::{check_same, check_that};
-use crate::desks::{Task, play};
-use crate::model::Model;
+use crate::checks::{check_same, check_that, expect_ok, expect_some};
+use crate::desks::{Left, Task, Told, play};
+use crate::model::{Film, Model};
 use crate::players::{Played, Player, Reply, edit};
 use crate::score::Score;
 use crate::steps::{Deed, EXPORTER, ORDERS, Step, export_steps, job_steps};
 use std::alloc::Global;
 use std::process::Abort;
 use std::sync::Wait;
-use std::test::Fail;
 use std::thread;
 use std::thread::Threads;
 use tas_desk::{CloseOnDrop, Closed, Desk, Entry, Name, Seat};
@@ -27,22 +26,27 @@ struct Group<N: Name> {
 }
 
 /// Each seat that takes jobs or exports is alone, and all others are together.
-fn groups_of<N: Name>(alloc: Global, seats: Vec<Seat<N>>) -> Result<Vec<Group<N>>, Fail> {
+fn groups_of<N: Name, R: Abort>(rt: &R, alloc: Global, seats: Vec<Seat<N>>) -> Vec<Group<N>> {
     let mut groups = Vec::new(alloc);
     let mut others = Vec::new(alloc);
     for seat in seats {
         let number = seat.number();
         let player = Player::new(alloc, seat);
         if number <= EXPORTER {
-            let mut players = Vec::new(alloc);
-            players.push(player)?;
-            groups.push(Group { players })?;
+            expect_ok(rt, groups.push(alone(rt, alloc, player)));
         } else {
-            others.push(player)?;
+            expect_ok(rt, others.push(player));
         }
     }
-    groups.push(Group { players: others })?;
-    Ok(groups)
+    expect_ok(rt, groups.push(Group { players: others }));
+    groups
+}
+
+/// A seat that is alone on its thread.
+fn alone<N: Name, R: Abort>(rt: &R, alloc: Global, player: Player<N>) -> Group<N> {
+    let mut players = Vec::new(alloc);
+    expect_ok(rt, players.push(player));
+    Group { players }
 }
 
 /// The steps of one thread, in order.
@@ -68,11 +72,7 @@ fn play_group<N: Name, W: CloseOnDrop, R: Threads + Wait + Sync>(
 }
 
 /// The seats, and all that they were told.
-fn leave<N: Name, R: Abort>(
-    rt: &R,
-    alloc: Global,
-    groups: Vec<Group<N>>,
-) -> Result<(Vec<Seat<N>>, Vec<Reply>), Fail> {
+fn leave<N: Name, R: Abort>(rt: &R, alloc: Global, groups: Vec<Group<N>>) -> Left<N> {
     let mut seats = Vec::new(alloc);
     let mut all = Vec::new(alloc);
     for group in groups {
@@ -83,13 +83,34 @@ fn leave<N: Name, R: Abort>(
                 has_memory,
             } = player;
             check_that(rt, "want of memory", has_memory);
-            seats.push(seat)?;
-            for reply in replies {
-                all.push(reply)?;
-            }
+            expect_ok(rt, seats.push(seat));
+            append(rt, &mut all, replies);
         }
     }
-    Ok((seats, all))
+    let told = Told {
+        replies: all,
+        batch: None,
+    };
+    (seats, told)
+}
+
+/// Puts replies behind others.
+fn append<R: Abort>(rt: &R, all: &mut Vec<Reply>, replies: Vec<Reply>) {
+    for reply in replies {
+        expect_ok(rt, all.push(reply));
+    }
+}
+
+/// Seat 0 makes the edits before a schedule.
+fn make_movie<N: Name, W: CloseOnDrop, R: Wait + Abort>(
+    rt: &R,
+    alloc: Global,
+    desk: &Desk<N, W>,
+    seat: &mut Seat<N>,
+) {
+    for change in BEFORE {
+        expect_ok(rt, edit(rt, alloc, desk, seat, change));
+    }
 }
 
 /// All seats take their steps of a schedule, over 200 frames that seat 0 makes.
@@ -99,14 +120,10 @@ pub fn play_steps<N: Name + Send + Sync, R: Threads + Wait + Abort + Sync>(
     desk: &Desk<N, &R>,
     seats: Vec<Seat<N>>,
     steps: &[Step],
-) -> Result<(Vec<Seat<N>>, Vec<Reply>), Fail> {
+) -> Left<N> {
     let mut seats = seats;
-    if let Some(seat) = seats.first_mut() {
-        for change in BEFORE {
-            edit(rt, alloc, desk, seat, change)?;
-        }
-    }
-    let mut groups = groups_of(alloc, seats)?;
+    make_movie(rt, alloc, desk, expect_some(rt, seats.first_mut()));
+    let mut groups = groups_of(rt, alloc, seats);
     let score = Score::new();
     let played = Played {
         score: &score,
@@ -128,17 +145,19 @@ pub fn play_steps<N: Name + Send + Sync, R: Threads + Wait + Abort + Sync>(
     leave(rt, alloc, groups)
 }
 
-/// Whether a history played from blank is all allowed and makes this movie, with the edits of these steps in their order.
-fn is_history(alloc: Global, closed: &Closed, steps: &[Step]) -> Result<bool, Fail> {
-    let mut movie = Movie::blank(alloc)?;
-    for entry in &closed.journal {
-        if check(&movie, &entry.edit).is_err() {
-            return Ok(false);
-        }
+/// The movie that a history makes from blank. All its edits are allowed.
+fn replayed<R: Abort>(rt: &R, alloc: Global, journal: &[Entry]) -> Movie {
+    let mut movie = expect_ok(rt, Movie::blank(alloc));
+    for (number, entry) in journal.iter().enumerate() {
+        check_that(rt, ("entry", number), check(&movie, &entry.edit).is_ok());
         apply(&mut movie, &entry.edit);
     }
-    let is_same = movie.inputs() == closed.movie.inputs() && movie.cart() == closed.movie.cart();
-    Ok(is_same && are_in_order(closed.journal.as_slice(), steps))
+    movie
+}
+
+/// Whether two movies are the same.
+fn is_same(one: &Movie, other: &Movie) -> bool {
+    one.inputs() == other.inputs() && one.cart() == other.cart()
 }
 
 /// Whether the entries behind the first two are those of the steps that edit: their seats, and their serials.
@@ -158,90 +177,95 @@ fn are_in_order(journal: &[Entry], steps: &[Step]) -> bool {
     place == journal.len()
 }
 
+/// Each reply is the wanted one of its step, and none of them is missing.
+fn check_replies<R: Abort>(rt: &R, name: (usize, usize), replies: &[Reply], wanted: &[String]) {
+    for reply in replies {
+        let (step, text) = (reply.step, reply.text.as_str());
+        let right = expect_some(rt, wanted.get(step));
+        check_same(rt, ("schedule, step", name, step), text, right.as_str());
+    }
+    let count = wanted.iter().filter(|text| !text.is_empty()).count();
+    check_same(rt, ("schedule", name), replies.len(), count);
+}
+
+/// The history that a desk leaves, played from blank, makes the movie that it leaves, by the edits of these steps in their order; and
+/// this movie is the model's.
+fn check_closed<R: Abort>(
+    rt: &R,
+    alloc: Global,
+    name: (usize, usize),
+    closed: &Closed,
+    steps: &[Step],
+    film: &Film,
+) {
+    let journal = closed.journal.as_slice();
+    let movie = replayed(rt, alloc, journal);
+    check_that(rt, ("schedule", name), is_same(&movie, &closed.movie));
+    check_that(rt, ("schedule", name), are_in_order(journal, steps));
+    let right = expect_ok(rt, cart(alloc, film.program));
+    check_that(rt, ("schedule", name), *closed.movie.cart() == right);
+    let has_inputs = closed.movie.inputs() == film.inputs.as_slice();
+    check_that(rt, ("schedule", name), has_inputs);
+}
+
 /// Plays a schedule. Each reply is the model's, and the desk leaves the model's movie.
 fn judge<R: Threads + Wait + Abort + Sync>(
     rt: &R,
     alloc: Global,
     name: (usize, usize),
     steps: &[Step],
-) -> Result<(), Fail> {
-    let mut model = Model::new(alloc)?;
+) {
+    let mut model = Model::new(rt, alloc);
     for change in BEFORE {
-        model.edit(alloc, change)?;
+        model.edit(rt, alloc, change);
     }
-    let wanted = model.replies(alloc, steps)?;
-    let (closed, told) = play(rt, alloc, Task::Steps(steps))?;
-    for reply in &told.replies {
-        let (step, text) = (reply.step, reply.text.as_str());
-        let right = wanted.get(step).ok_or("a step")?;
-        check_same(rt, ("schedule, step", name, step), text, right.as_str());
-    }
-    let count = wanted.iter().filter(|text| !text.is_empty()).count();
-    check_same(rt, ("schedule", name), told.replies.len(), count);
-    check_that(rt, ("schedule", name), is_history(alloc, &closed, steps)?);
-    let right = cart(alloc, model.film.program)?;
-    check_that(rt, ("schedule", name), *closed.movie.cart() == right);
-    check_that(
-        rt,
-        ("schedule", name),
-        closed.movie.inputs() == model.film.inputs.as_slice(),
-    );
-    Ok(())
+    let wanted = model.replies(rt, alloc, steps);
+    let (closed, told) = play(rt, alloc, Task::Steps(steps));
+    check_replies(rt, name, told.replies.as_slice(), wanted.as_slice());
+    check_closed(rt, alloc, name, &closed, steps, &model.film);
 }
 
 /// Jobs that are taken in these orders, each offered in every order.
-fn judge_jobs<R: Threads + Wait + Abort + Sync>(
-    rt: &R,
-    alloc: Global,
-    from: usize,
-    to: usize,
-) -> Result<(), Fail> {
+fn judge_jobs<R: Threads + Wait + Abort + Sync>(rt: &R, alloc: Global, from: usize, to: usize) {
     for (one, starts) in ORDERS.iter().enumerate().take(to).skip(from) {
         for (other, offers) in ORDERS.iter().enumerate() {
-            let steps = job_steps(alloc, *starts, *offers, one.wrapping_add(other))?;
-            judge(rt, alloc, (one, other), steps.as_slice())?;
+            let steps = job_steps(rt, alloc, *starts, *offers, one.wrapping_add(other));
+            judge(rt, alloc, (one, other), steps.as_slice());
         }
     }
-    Ok(())
 }
 
 #[test]
-fn jobs_start_in_the_first_orders(rt: HostRuntime) -> Result<(), Fail> {
-    judge_jobs(&rt, rt.alloc(), 0, 2)
+fn jobs_start_in_the_first_orders(rt: HostRuntime) {
+    judge_jobs(&rt, rt.alloc(), 0, 2);
 }
 
 #[test]
-fn jobs_start_in_the_next_orders(rt: HostRuntime) -> Result<(), Fail> {
-    judge_jobs(&rt, rt.alloc(), 2, 4)
+fn jobs_start_in_the_next_orders(rt: HostRuntime) {
+    judge_jobs(&rt, rt.alloc(), 2, 4);
 }
 
 #[test]
-fn jobs_start_in_the_last_orders(rt: HostRuntime) -> Result<(), Fail> {
-    judge_jobs(&rt, rt.alloc(), 4, 6)
+fn jobs_start_in_the_last_orders(rt: HostRuntime) {
+    judge_jobs(&rt, rt.alloc(), 4, 6);
 }
 
 /// Exports whose runs pass in these orders, over each change that comes first.
-fn judge_exports<R: Threads + Wait + Abort + Sync>(
-    rt: &R,
-    alloc: Global,
-    from: usize,
-    to: usize,
-) -> Result<(), Fail> {
+fn judge_exports<R: Threads + Wait + Abort + Sync>(rt: &R, alloc: Global, from: usize, to: usize) {
     for (one, order) in ORDERS.iter().enumerate().take(to).skip(from) {
         for shift in 0..6usize {
-            let steps = export_steps(alloc, *order, shift)?;
-            judge(rt, alloc, (one, shift), steps.as_slice())?;
+            let steps = export_steps(rt, alloc, *order, shift);
+            judge(rt, alloc, (one, shift), steps.as_slice());
         }
     }
-    Ok(())
 }
 
 #[test]
-fn runs_of_an_export_pass_in_the_first_orders(rt: HostRuntime) -> Result<(), Fail> {
-    judge_exports(&rt, rt.alloc(), 0, 3)
+fn runs_of_an_export_pass_in_the_first_orders(rt: HostRuntime) {
+    judge_exports(&rt, rt.alloc(), 0, 3);
 }
 
 #[test]
-fn runs_of_an_export_pass_in_the_last_orders(rt: HostRuntime) -> Result<(), Fail> {
-    judge_exports(&rt, rt.alloc(), 3, 6)
+fn runs_of_an_export_pass_in_the_last_orders(rt: HostRuntime) {
+    judge_exports(&rt, rt.alloc(), 3, 6);
 }

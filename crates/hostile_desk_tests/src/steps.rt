@@ -1,7 +1,9 @@
 //! Schedules: who does what in which step.
 
 use crate::changes::{Change, FOLDING, HALTING};
-use std::alloc::{AllocError, Global};
+use crate::checks::expect_ok;
+use std::alloc::Global;
+use std::process::Abort;
 
 /// What a seat does in a step.
 #[derive(Clone, Copy, Debug, PartialEq, Eq)]
@@ -84,55 +86,59 @@ const LOOKS: [Step; 6] = [
 ];
 
 /// Puts in the edit of this number and the look that follows it.
-fn push_between(steps: &mut Vec<Step>, number: usize, shift: usize) -> Result<(), AllocError> {
+fn push_between<R: Abort>(rt: &R, steps: &mut Vec<Step>, number: usize, shift: usize) {
     let change = CHANGES[number.wrapping_add(shift) % 6];
     let seat = if number % 2 == 0 { 4 } else { 5 };
-    steps.push(Step {
+    let edit = Step {
         seat,
         deed: Deed::Edit(change),
-    })?;
-    steps.push(LOOKS[number % 6])?;
-    Ok(())
+    };
+    expect_ok(rt, steps.push(edit));
+    expect_ok(rt, steps.push(LOOKS[number % 6]));
 }
 
 /// Three jobs that are taken in one order and offered in another, with edits, loads and looks between; the changes begin with
 /// the one of this number.
-pub fn job_steps(
+pub fn job_steps<R: Abort>(
+    rt: &R,
     alloc: Global,
     starts: [u32; 3],
     offers: [u32; 3],
     shift: usize,
-) -> Result<Vec<Step>, AllocError> {
+) -> Vec<Step> {
     let mut steps = Vec::new(alloc);
     for (number, hand) in starts.iter().enumerate() {
         let target = TARGETS[(*hand % 3) as usize];
-        steps.push(Step {
+        let start = Step {
             seat: *hand,
             deed: Deed::Start(target),
-        })?;
-        push_between(&mut steps, number, shift)?;
+        };
+        expect_ok(rt, steps.push(start));
+        push_between(rt, &mut steps, number, shift);
     }
     for (number, hand) in offers.iter().enumerate() {
-        steps.push(Step {
+        let offer = Step {
             seat: *hand,
             deed: Deed::Offer,
-        })?;
-        push_between(&mut steps, number.wrapping_add(3), shift)?;
+        };
+        expect_ok(rt, steps.push(offer));
+        push_between(rt, &mut steps, number.wrapping_add(3), shift);
     }
-    Ok(steps)
+    steps
 }
 
 /// An export whose three runs pass their gates in an order, with edits, loads and looks between.
-pub fn export_steps(alloc: Global, order: [u32; 3], shift: usize) -> Result<Vec<Step>, AllocError> {
+pub fn export_steps<R: Abort>(rt: &R, alloc: Global, order: [u32; 3], shift: usize) -> Vec<Step> {
     let mut steps = Vec::new(alloc);
     for (number, run) in order.iter().enumerate() {
-        steps.push(Step {
+        let pass = Step {
             seat: EXPORTER,
             deed: Deed::Pass(*run as usize),
-        })?;
-        push_between(&mut steps, number, shift)?;
+        };
+        expect_ok(rt, steps.push(pass));
+        push_between(rt, &mut steps, number, shift);
     }
-    Ok(steps)
+    steps
 }
 
 /// The number of the first step in which this seat does this.

@@ -2,17 +2,18 @@
 
 ghost use Rattle.std.specs.Prelude.{◌≤◌};
 
-use crate::checks::check_same;
+use crate::checks::{check_same, expect_ok};
 use crate::desks::{OpenGate, run_call, run_open, run_unopened};
 use crate::edits::{Change, edit_of};
 use crate::runs::{Heap, MOST, Run};
-use std::alloc::Global;
+use std::alloc::{AllocError, Global};
+use std::process::Abort;
 use std::sync::Wait;
-use std::test::Fail;
 use tas_desk::{
     Desk, EditError, Name, OfferError, Offered, Receipt, Seat, ShotError, WorkError, Worked,
 };
-use tas_green::Batch;
+use tas_green::{Batch, Job};
+use tas_movie::Edit;
 
 /// A call at a desk.
 #[derive(Clone, Copy, Debug, PartialEq, Eq)]
@@ -48,29 +49,59 @@ fn shoot<'a, N: Name, R: Wait>(
     }
 }
 
-fn try_edit<'a, N: Name, R: Wait>(
+fn try_edit<'a, N: Name, R: Wait + Abort>(
     rt: &R,
     heap: &'a Heap,
     desk: &Desk<N, &R, &'a Heap>,
     seat: &mut Seat<N, &'a Heap>,
     change: Change,
     number: u64,
-) -> Result<Run, Fail>
+) -> Run
     requires { 1 ≤ number }
 {
-    let (edit, again) = (edit_of(heap, change)?, edit_of(heap, change)?);
+    let edit = expect_ok(rt, edit_of(heap, change));
+    let again = expect_ok(rt, edit_of(heap, change));
     heap.refuse(number);
-    let mut answer = desk.edit(rt, seat, edit);
-    let has_refused = heap.has_refused();
-    if has_refused {
-        if answer != Err(EditError::Memory) || desk.len(seat) != Ok((4, 400)) {
-            return Ok(Run::Wrong);
-        }
-        answer = desk.edit(rt, seat, again);
-    }
+    let answer = desk.edit(rt, seat, edit);
     let len = change.len_after(400);
-    let is_right = answer == Ok(Receipt { at: 5, len }) && desk.len(seat) == Ok((5, len));
-    Ok(Run::ended(has_refused, is_right))
+    if heap.has_refused() {
+        let is_unmade = is_unmade(desk, seat, answer);
+        let is_made = is_made_again(rt, desk, seat, again, len);
+        Run::ended(true, is_unmade && is_made)
+    } else {
+        Run::ended(false, is_made(desk, seat, answer, len))
+    }
+}
+
+/// Whether an edit is made, the fifth, and the movie has this length then.
+fn is_made<'a, N: Name, R: Wait>(
+    desk: &Desk<N, &R, &'a Heap>,
+    seat: &mut Seat<N, &'a Heap>,
+    answer: Result<Receipt, EditError>,
+    len: usize,
+) -> bool {
+    answer == Ok(Receipt { at: 5, len }) && desk.len(seat) == Ok((5, len))
+}
+
+/// Whether an edit was refused memory, and history and movie are as before it.
+fn is_unmade<'a, N: Name, R: Wait>(
+    desk: &Desk<N, &R, &'a Heap>,
+    seat: &mut Seat<N, &'a Heap>,
+    answer: Result<Receipt, EditError>,
+) -> bool {
+    answer == Err(EditError::Memory) && desk.len(seat) == Ok((4, 400))
+}
+
+/// Whether the refused edit is made now.
+fn is_made_again<'a, N: Name, R: Wait>(
+    rt: &R,
+    desk: &Desk<N, &R, &'a Heap>,
+    seat: &mut Seat<N, &'a Heap>,
+    again: Edit<&'a Heap>,
+    len: usize,
+) -> bool {
+    let answer = desk.edit(rt, seat, again);
+    is_made(desk, seat, answer, len)
 }
 
 fn try_shot<'a, N: Name, R: Wait>(
@@ -126,54 +157,66 @@ fn try_job<'a, N: Name, R: Wait>(
     requires { 1 ≤ number }
 {
     heap.refuse(number);
-    let mut job = desk.job(rt, heap, seat, 400).ok();
+    let job = desk.job(rt, heap, seat, 400);
     let has_refused = heap.has_refused();
-    if has_refused {
-        if job.is_some() {
-            return Run::Wrong;
-        }
-        job = desk.job(rt, heap, seat, 400).ok();
+    let first = is_whole(job);
+    if !has_refused {
+        return Run::ended(false, first == Some(true));
     }
-    let is_right = match job {
-        Some(job) => {
-            let batch = job.run();
-            batch.inputs().len() == 400 && batch.holds(384) && !batch.holds(128)
-        }
-        None => false,
-    };
-    Run::ended(has_refused, is_right)
+    let again = is_whole(desk.job(rt, heap, seat, 400));
+    Run::ended(true, first.is_none() && again == Some(true))
 }
 
-fn try_offer<'a, N: Name, R: Wait>(
+/// Whether a job makes what one for all frames does; nothing where it was refused memory.
+fn is_whole(job: Result<Job<&Heap>, AllocError>) -> Option<bool> {
+    match job {
+        Ok(job) => {
+            let batch = job.run();
+            Some(batch.inputs().len() == 400 && batch.holds(384) && !batch.holds(128))
+        }
+        Err(_) => None,
+    }
+}
+
+/// What an offer of all frames gains.
+const ALL: Offered = Offered {
+    at: 4,
+    front: 400,
+    kept: 4,
+};
+
+fn try_offer<'a, N: Name, R: Wait + Abort>(
     rt: &R,
     alloc: Global,
     heap: &'a Heap,
     desk: &Desk<N, &R, &'a Heap>,
     seat: &mut Seat<N, &'a Heap>,
     number: u64,
-) -> Result<Run, Fail>
+) -> Run
     requires { 1 ≤ number }
 {
-    let batch = desk.job(rt, alloc, seat, 400)?.run();
+    let batch = expect_ok(rt, desk.job(rt, alloc, seat, 400)).run();
     heap.refuse(number);
-    let all = Offered {
-        at: 4,
-        front: 400,
-        kept: 4,
-    };
-    let refused = match desk.offer(rt, seat, batch) {
-        Ok(offered) => return Ok(Run::ended(false, !heap.has_refused() && offered == all)),
-        Err(error) => error,
-    };
-    // The desk still keeps two states, so a job starts at the second of them.
-    let next = desk.job(rt, alloc, seat, 400)?.run();
-    if !heap.has_refused() || next.holds(128) || !next.holds(192) {
-        return Ok(Run::Wrong);
+    match desk.offer(rt, seat, batch) {
+        Ok(offered) => Run::ended(false, !heap.has_refused() && offered == ALL),
+        Err(OfferError::Memory(batch)) => {
+            let keeps_two = heap.has_refused() && starts_at_the_second(rt, alloc, desk, seat);
+            let is_taken = is_taken(rt, desk, seat, batch, ALL);
+            Run::ended(true, keeps_two && is_taken)
+        }
+        Err(OfferError::Cartridge { .. }) => Run::Wrong,
     }
-    match refused {
-        OfferError::Memory(batch) => Ok(Run::ended(true, is_taken(rt, desk, seat, batch, all))),
-        OfferError::Cartridge { .. } => Ok(Run::Wrong),
-    }
+}
+
+/// Whether the desk still keeps two states, so that a job starts at the second of them.
+fn starts_at_the_second<'a, N: Name, R: Wait + Abort>(
+    rt: &R,
+    alloc: Global,
+    desk: &Desk<N, &R, &'a Heap>,
+    seat: &mut Seat<N, &'a Heap>,
+) -> bool {
+    let next = expect_ok(rt, desk.job(rt, alloc, seat, 400)).run();
+    !next.holds(128) && next.holds(192)
 }
 
 /// Whether a batch is taken so.
@@ -244,7 +287,7 @@ fn try_two_jobs<'a, N: Name, R: Wait>(
 }
 
 /// The call with one growth refused, and the same call after it.
-pub fn take_call<'a, N: Name, R: Wait>(
+pub fn take_call<'a, N: Name, R: Wait + Abort>(
     rt: &R,
     alloc: Global,
     heap: &'a Heap,
@@ -252,24 +295,24 @@ pub fn take_call<'a, N: Name, R: Wait>(
     seats: (&mut Seat<N, &'a Heap>, &mut Seat<N, &'a Heap>),
     call: Call,
     number: u64,
-) -> Result<Run, Fail>
+) -> Run
     requires { 1 ≤ number }
 {
     let (one, other) = seats;
     match call {
         Call::Edit(change) => try_edit(rt, heap, desk, other, change, number),
-        Call::FirstShot => Ok(try_shot(heap, desk, other, 384, number)),
-        Call::Shot => Ok(try_shot(heap, desk, one, 256, number)),
-        Call::Share => Ok(try_share(rt, heap, desk, other, number)),
-        Call::Job => Ok(try_job(rt, heap, desk, other, number)),
+        Call::FirstShot => try_shot(heap, desk, other, 384, number),
+        Call::Shot => try_shot(heap, desk, one, 256, number),
+        Call::Share => try_share(rt, heap, desk, other, number),
+        Call::Job => try_job(rt, heap, desk, other, number),
         Call::Offer => try_offer(rt, alloc, heap, desk, other, number),
-        Call::Work => Ok(try_work(rt, heap, desk, other, number)),
-        Call::TwoJobs => Ok(try_two_jobs(rt, heap, desk, other, number)),
+        Call::Work => try_work(rt, heap, desk, other, number),
+        Call::TwoJobs => try_two_jobs(rt, heap, desk, other, number),
     }
 }
 
 #[test]
-fn what_a_desk_does(rt: HostRuntime) -> Result<(), Fail> {
+fn what_a_desk_does(rt: HostRuntime) {
     let calls = [
         (Call::Edit(Change::Load), 2),
         (Call::Edit(Change::Insert(400, 3)), 2),
@@ -286,7 +329,7 @@ fn what_a_desk_does(rt: HostRuntime) -> Result<(), Fail> {
     for (call, growths) in calls {
         let mut refused = 0;
         for number in 1..MOST {
-            let run = run_call(&rt, alloc, call, number)?;
+            let run = run_call(&rt, alloc, call, number);
             if run == Run::Done {
                 break;
             }
@@ -295,23 +338,21 @@ fn what_a_desk_does(rt: HostRuntime) -> Result<(), Fail> {
         }
         check_same(&rt, call, refused, growths);
     }
-    Ok(())
 }
 
 /// A job for frames has three growths, and the first state that is kept has one.
 #[test]
-fn a_second_job_that_is_refused(rt: HostRuntime) -> Result<(), Fail> {
-    let run = run_call(&rt, rt.alloc(), Call::TwoJobs, 5)?;
+fn a_second_job_that_is_refused(rt: HostRuntime) {
+    let run = run_call(&rt, rt.alloc(), Call::TwoJobs, 5);
     check_same(&rt, "run", run, Run::Refused);
-    Ok(())
 }
 
 #[test]
-fn the_opening_of_a_desk(rt: HostRuntime) -> Result<(), Fail> {
+fn the_opening_of_a_desk(rt: HostRuntime) {
     let alloc = rt.alloc();
     let mut refused = 0;
     for number in 1..MOST {
-        let run = run_open(&rt, alloc, number)?;
+        let run = run_open(&rt, alloc, number);
         if run == Run::Done {
             break;
         }
@@ -319,11 +360,10 @@ fn the_opening_of_a_desk(rt: HostRuntime) -> Result<(), Fail> {
         refused = number;
     }
     check_same(&rt, "refused", refused, 5);
-    Ok(())
 }
 
 #[test]
-fn a_desk_to_be_opened(rt: HostRuntime) -> Result<(), Fail> {
+fn a_desk_to_be_opened(rt: HostRuntime) {
     let alloc = rt.alloc();
     let mut refused = 0;
     for number in 1..MOST {
@@ -335,5 +375,4 @@ fn a_desk_to_be_opened(rt: HostRuntime) -> Result<(), Fail> {
         refused = number;
     }
     check_same(&rt, "refused", refused, 12);
-    Ok(())
 }

@@ -3,14 +3,15 @@
 ghost use Rattle.std.specs.Prelude.{◌≡◌, ◌≤◌};
 ghost use Rattle.tas_desk.specs.Seats.{name_of};
 
+use crate::checks::{check_same, check_that, expect_ok, expect_some};
 use crate::desk_tests::{Call, take_call};
 use crate::edits::{Change, edit_of, history};
 use crate::runs::{Heap, NEVER, Run};
 use refusals::Refusing;
-use std::alloc::{AllocError, Global};
+use std::alloc::Global;
 use std::marker::Brand;
+use std::process::Abort;
 use std::sync::Wait;
-use std::test::Fail;
 use tas_desk::{Closed, Desk, Gate, Name, OpenError, Seat, Unopened};
 
 /// A gate that nobody waits at.
@@ -33,96 +34,120 @@ const BEFORE: [Change; 4] = [
 const PLAYFIELD_OF_200: [Change; 2] = [Change::LoadPlayfield, Change::Insert(0, 200)];
 
 /// Opens a desk over a heap that has the memory for it.
-pub fn open<'r, 'a, N: Name, R: Wait>(
+pub fn open<'r, 'a, N: Name, R: Wait + Abort>(
     rt: &'r R,
     heap: &'a Heap,
     unopened: Unopened<&'a Heap>,
-) -> Result<(Desk<N, &'r R, &'a Heap>, Vec<Seat<N, &'a Heap>, &'a Heap>), Fail>
+) -> (Desk<N, &'r R, &'a Heap>, Vec<Seat<N, &'a Heap>, &'a Heap>)
     requires name { unopened ≡ name_of N.registry N.name N.seats }
     requires named { N.parts ≡ N.seats }
 {
-    match Desk::<N, &R, &'a Heap>::open(rt, heap, unopened) {
-        Ok(opened) => Ok(opened),
-        Err(_) => Err("a desk that opens".into()),
-    }
+    expect_ok(rt, Desk::<N, &R, &'a Heap>::open(rt, heap, unopened))
 }
 
 /// Closes a desk all of whose seats are back.
-pub fn close<'a, N: Name, R: Wait>(
+pub fn close<'a, N: Name, R: Wait + Abort>(
     rt: &R,
     desk: Desk<N, &R, &'a Heap>,
     seats: Vec<Seat<N, &'a Heap>, &'a Heap>,
-) -> Result<Closed<&'a Heap>, Fail>
+) -> Closed<&'a Heap>
     requires { N.parts ≡ N.seats }
 {
-    if !desk.whole(seats.as_slice()) {
-        return Err("all seats come back".into());
-    }
-    Ok(desk.close(rt, seats))
+    check_that(rt, "all seats come back", desk.whole(seats.as_slice()));
+    desk.close(rt, seats)
 }
 
 /// The seat makes these edits.
-pub fn make_edits<'a, N: Name, R: Wait>(
+pub fn make_edits<'a, N: Name, R: Wait + Abort>(
     rt: &R,
     heap: &'a Heap,
     desk: &Desk<N, &R, &'a Heap>,
     seat: &mut Seat<N, &'a Heap>,
     changes: &[Change],
-) -> Result<(), Fail> {
+) {
     for change in changes {
-        let edit = edit_of(heap, *change)?;
-        desk.edit(rt, seat, edit)
-            .map_err(|_| "an edit that is made")?;
+        let edit = expect_ok(rt, edit_of(heap, *change));
+        expect_ok(rt, desk.edit(rt, seat, edit));
     }
-    Ok(())
 }
 
-/// Seat 0 makes the four edits; the states after 64 and 128 frames are kept by the desk and by the seat.
-fn set_up<'a, N: Name, R: Wait>(
+/// The states of the grid up to a frame are kept by the desk and by the seat.
+pub fn keep_up_to<'a, N: Name, R: Wait + Abort>(
     rt: &R,
     heap: &'a Heap,
     desk: &Desk<N, &R, &'a Heap>,
     seat: &mut Seat<N, &'a Heap>,
-) -> Result<(), Fail> {
-    make_edits(rt, heap, desk, seat, &BEFORE)?;
-    desk.work(rt, heap, seat, &[128], &OpenGate)
-        .map_err(|_| "work that is done")?;
-    desk.share(rt, seat)?;
-    Ok(())
+    frame: usize,
+) {
+    expect_ok(rt, desk.work(rt, heap, seat, &[frame], &OpenGate));
+    expect_ok(rt, desk.share(rt, seat));
+}
+
+/// The first two seats.
+pub fn two_seats<'s, 'a, N: Name, R: Abort>(
+    rt: &R,
+    seats: &'s mut [Seat<N, &'a Heap>],
+) -> (&'s mut Seat<N, &'a Heap>, &'s mut Seat<N, &'a Heap>) {
+    let (one, others) = expect_some(rt, seats.split_first_mut());
+    (one, expect_some(rt, others.first_mut()))
+}
+
+/// A run whose history at the end is this one; else it is wrong.
+pub fn with_history<R: Abort>(
+    rt: &R,
+    alloc: Global,
+    run: Run,
+    closed: &Closed<&Heap>,
+    wanted: &str,
+) -> Run {
+    if history(rt, alloc, closed.journal.as_slice()).as_str() == wanted {
+        run
+    } else {
+        Run::Wrong
+    }
+}
+
+/// Seat 0 sets the desk up; then a call with one growth refused, and the same call after it. For most calls it makes four edits, and
+/// the states after 64 and 128 frames are kept by the desk and by the seat.
+fn take_at<'a, N: Name, R: Wait + Abort>(
+    rt: &R,
+    alloc: Global,
+    heap: &'a Heap,
+    desk: &Desk<N, &R, &'a Heap>,
+    seats: &mut [Seat<N, &'a Heap>],
+    call: Call,
+    number: u64,
+) -> Run
+    requires { 1 ≤ number }
+{
+    check_same(rt, "seats", seats.len(), 2);
+    let (one, other) = two_seats(rt, seats);
+    if call == Call::TwoJobs {
+        make_edits(rt, heap, desk, one, &PLAYFIELD_OF_200);
+    } else {
+        make_edits(rt, heap, desk, one, &BEFORE);
+        keep_up_to(rt, heap, desk, one, 128);
+    }
+    take_call(rt, alloc, heap, desk, (one, other), call, number)
 }
 
 /// A call at a new desk with one growth refused, and the same call after it.
-fn run_at<'a, N: Name, R: Wait>(
+fn run_at<'a, N: Name, R: Wait + Abort>(
     rt: &R,
     alloc: Global,
     heap: &'a Heap,
     unopened: Unopened<&'a Heap>,
     call: Call,
     number: u64,
-) -> Result<Run, Fail>
+) -> Run
     requires name { unopened ≡ name_of N.registry N.name N.seats }
     requires named { N.parts ≡ N.seats }
     requires number { 1 ≤ number }
 {
-    let (desk, mut seats) = open::<N, R>(rt, heap, unopened)?;
-    if seats.len() != 2 {
-        return Err("two seats".into());
-    }
-    let (one, rest) = seats.split_at_mut(1);
-    let (Some(one), Some(other)) = (one.first_mut(), rest.first_mut()) else {
-        return Err("two seats".into());
-    };
-    if call == Call::TwoJobs {
-        make_edits(rt, heap, &desk, one, &PLAYFIELD_OF_200)?;
-    } else {
-        set_up(rt, heap, &desk, one)?;
-    }
-    let run = take_call(rt, alloc, heap, &desk, (one, other), call, number)?;
-    let closed = close(rt, desk, seats)?;
-    if history(alloc, closed.journal.as_slice())?.as_str() != history_after(call) {
-        return Ok(Run::Wrong);
-    }
-    Ok(run)
+    let (desk, mut seats) = open::<N, R>(rt, heap, unopened);
+    let run = take_at(rt, alloc, heap, &desk, seats.as_mut_slice(), call, number);
+    let closed = close(rt, desk, seats);
+    with_history(rt, alloc, run, &closed, history_after(call))
 }
 
 /// The history at the end: no entry is there twice, and none of a refused edit.
@@ -146,11 +171,11 @@ fn history_after(call: Call) -> &'static str {
 }
 
 /// A call at a desk with one growth refused, and the same call after it.
-pub fn run_call<R: Wait>(rt: &R, alloc: Global, call: Call, number: u64) -> Result<Run, Fail>
+pub fn run_call<R: Wait + Abort>(rt: &R, alloc: Global, call: Call, number: u64) -> Run
     requires { 1 ≤ number }
 {
     let heap = Refusing::new(alloc, NEVER);
-    let unopened = Unopened::new(&heap, 2).map_err(|_| AllocError)?;
+    let unopened = expect_ok(rt, Unopened::new(&heap, 2));
     run_at::<Brand, R>(rt, alloc, &heap, unopened, call, number)
 }
 
@@ -174,12 +199,12 @@ fn open_at<'a, N: Name, R: Wait>(
 }
 
 /// The opening of a desk with two seats, with one growth refused. What was to be opened is given up then.
-pub fn run_open<R: Wait>(rt: &R, alloc: Global, number: u64) -> Result<Run, Fail>
+pub fn run_open<R: Wait + Abort>(rt: &R, alloc: Global, number: u64) -> Run
     requires { 1 ≤ number }
 {
     let heap = Refusing::new(alloc, NEVER);
-    let unopened = Unopened::new(&heap, 2).map_err(|_| AllocError)?;
-    Ok(open_at::<Brand, R>(rt, &heap, unopened, number))
+    let unopened = expect_ok(rt, Unopened::new(&heap, 2));
+    open_at::<Brand, R>(rt, &heap, unopened, number)
 }
 
 /// Whether what was to be opened is, and then opens; nothing where memory is refused to its making.

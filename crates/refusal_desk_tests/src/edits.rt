@@ -1,8 +1,9 @@
 //! Edits and movies, and what they read as.
 
+use crate::checks::expect_ok;
 use std::alloc::{AllocError, Allocator, Global};
+use std::process::Abort;
 use std::str;
-use std::test::Fail;
 use tas_desk::Entry;
 use tas_movie::{Edit, Inputs, Movie, print_text};
 use vcs_machine::{Cart, Input};
@@ -117,16 +118,18 @@ fn entry_line<A: Allocator>(alloc: Global, entry: &Entry<A>) -> Result<String, A
 }
 
 /// A history, an entry a line.
-pub fn history<A: Allocator>(alloc: Global, journal: &[Entry<A>]) -> Result<String, Fail> {
+pub fn history<A: Allocator, R: Abort>(rt: &R, alloc: Global, journal: &[Entry<A>]) -> String {
     let mut text = String::new(alloc);
     for entry in journal {
-        text.push_str(entry_line(alloc, entry)?.as_str())?;
+        let line = expect_ok(rt, entry_line(alloc, entry));
+        expect_ok(rt, text.push_str(line.as_str()));
     }
-    Ok(text)
+    text
 }
 
 /// A movie's text.
-pub fn movie_text<A: Allocator>(alloc: Global, movie: &Movie<A>) -> Result<String, Fail> {
-    let bytes = print_text(alloc, movie)?;
-    Ok(String::from_str(alloc, str::from_utf8(bytes.as_slice())?)?)
+pub fn movie_text<A: Allocator, R: Abort>(rt: &R, alloc: Global, movie: &Movie<A>) -> String {
+    let bytes = expect_ok(rt, print_text(alloc, movie));
+    let text = expect_ok(rt, str::from_utf8(bytes.as_slice()));
+    expect_ok(rt, String::from_str(alloc, text))
 }

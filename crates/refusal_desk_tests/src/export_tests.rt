@@ -4,19 +4,18 @@
 ghost use Rattle.std.specs.Prelude.{◌≡◌, ◌≤◌};
 ghost use Rattle.tas_desk.specs.Seats.{name_of};
 
-use crate::checks::check_same;
-use crate::desks::{OpenGate, close, make_edits, open};
-use crate::edits::{Change, edit_of, history};
+use crate::checks::{check_same, check_that, expect_ok};
+use crate::desks::{close, keep_up_to, make_edits, open, two_seats, with_history};
+use crate::edits::{Change, edit_of};
 use crate::runs::{Heap, MOST, NEVER, Run};
 use refusals::Refusing;
-use std::alloc::{AllocError, Global};
+use std::alloc::Global;
 use std::marker::Brand;
 use std::process::Abort;
 use std::sync::Wait;
 use std::sync::atomic::{AtomicU64, Ordering};
-use std::test::Fail;
 use std::thread::Threads;
-use tas_desk::{Desk, ExportError, Gate, Name, Seat, Unopened};
+use tas_desk::{Desk, ExportError, Exported, Gate, Name, Seat, Shot, Unopened};
 use tas_movie::{Movie, apply, check};
 use vcs_machine::{Meter, State, play};
 use vcs_tia::{Picture, ppm};
@@ -57,57 +56,53 @@ struct Wanted {
 }
 
 /// The movie of some edits.
-fn movie_of(alloc: Global, changes: &[Change]) -> Result<Movie, Fail> {
-    let mut movie = Movie::blank(alloc)?;
+fn movie_of<R: Abort>(rt: &R, alloc: Global, changes: &[Change]) -> Movie {
+    let mut movie = expect_ok(rt, Movie::blank(alloc));
     for change in changes {
-        let edit = edit_of(alloc, *change)?;
-        if check(&movie, &edit).is_err() {
-            return Err("an edit that is allowed".into());
-        }
+        let edit = expect_ok(rt, edit_of(alloc, *change));
+        check_that(rt, *change, check(&movie, &edit).is_ok());
         apply(&mut movie, &edit);
     }
-    Ok(movie)
+    movie
 }
 
 /// The pixmaps of the frames, played from power-on.
-fn pixmaps_of(alloc: Global, movie: &Movie) -> Result<Vec<u8>, Fail> {
+fn pixmaps_of<R: Abort>(rt: &R, alloc: Global, movie: &Movie) -> Vec<u8> {
     let mut pixmaps = Vec::new(alloc);
-    let mut picture = Picture::blank(alloc)?;
+    let mut picture = expect_ok(rt, Picture::blank(alloc));
     let mut state = State::power_on(movie.cart());
     for (frame, input) in movie.inputs().iter().enumerate() {
         let mut meter = Meter::new();
         let played = play(movie.cart(), &mut state, *input, &mut picture, &mut meter);
-        if played.is_err() {
-            return Err("a frame that is drawn".into());
-        }
+        check_that(rt, ("frame", frame), played.is_ok());
         if FRAMES.0 <= frame && frame < FRAMES.1 {
-            ppm(&picture, &mut pixmaps).map_err(|_| "a pixmap")?;
+            check_that(rt, ("pixmap", frame), ppm(&picture, &mut pixmaps).is_ok());
         }
     }
-    Ok(pixmaps)
+    pixmaps
 }
 
 /// What is wanted where an export plays so many frames.
-fn wanted_of(alloc: Global, zone: Zone, played: u64) -> Result<Wanted, Fail> {
+fn wanted_of<R: Abort>(rt: &R, alloc: Global, zone: Zone, played: u64) -> Wanted {
     match zone {
-        Zone::Present => Ok(Wanted {
+        Zone::Present => Wanted {
             at: 3,
             len: 72,
             played,
             ran: 6,
-            pixmaps: pixmaps_of(alloc, &movie_of(alloc, &FIRST)?)?,
-        }),
+            pixmaps: pixmaps_of(rt, alloc, &movie_of(rt, alloc, &FIRST)),
+        },
         Zone::Older => {
             let [load, insert, push] = FIRST;
             let [behind] = BEHIND;
-            let movie = movie_of(alloc, &[load, insert, push, behind])?;
-            Ok(Wanted {
+            let movie = movie_of(rt, alloc, &[load, insert, push, behind]);
+            Wanted {
                 at: 4,
                 len: 73,
                 played,
                 ran: 70,
-                pixmaps: pixmaps_of(alloc, &movie)?,
-            })
+                pixmaps: pixmaps_of(rt, alloc, &movie),
+            }
         }
     }
 }
@@ -143,10 +138,21 @@ fn export<'a, N: Name, R: Threads + Wait + Sync>(
     let mut out = Vec::new(alloc);
     let end = desk.export(rt, heap, seat, from, to, workers, &gate, &mut out);
     let passed = gate.passed.load(Ordering::SeqCst);
+    is_exported(end, passed, out.as_slice(), workers, wanted)
+}
+
+/// Whether an export's end is right, where so many workers passed the gate and this was written.
+fn is_exported(
+    end: Result<Exported, ExportError>,
+    passed: u64,
+    out: &[u8],
+    workers: usize,
+    wanted: &Wanted,
+) -> Option<bool> {
     match end {
         Ok(exported) => {
             let is_told = exported.at == wanted.at && exported.played == wanted.played;
-            Some(is_told && passed == workers as u64 && out == wanted.pixmaps)
+            Some(is_told && passed == workers as u64 && out == wanted.pixmaps.as_slice())
         }
         Err(ExportError::Memory) if passed == 0 && out.is_empty() => None,
         Err(_) => Some(false),
@@ -155,38 +161,45 @@ fn export<'a, N: Name, R: Threads + Wait + Sync>(
 
 /// Whether the movie is as before the export, and so are the zones: the seat's keeps its state, and the desk's too, unless seat 1
 /// made an edit before it. A job that starts there gives no state there.
-fn is_as_before<'a, N: Name, R: Wait>(
+fn is_as_before<'a, N: Name, R: Wait + Abort>(
     rt: &R,
     alloc: Global,
     desk: &Desk<N, &R, &'a Heap>,
     seat: &mut Seat<N, &'a Heap>,
     zone: Zone,
     wanted: &Wanted,
-) -> Result<bool, Fail> {
-    let batch = desk.job(rt, alloc, seat, wanted.len)?.run();
+) -> bool {
+    let batch = expect_ok(rt, desk.job(rt, alloc, seat, wanted.len)).run();
+    let holds_first = batch.holds(64);
     let is_seen = desk.len(seat) == Ok((wanted.at, wanted.len));
-    Ok(is_seen && seat.kept() == 1 && batch.holds(64) == (zone == Zone::Older))
+    is_seen && seat.kept() == 1 && holds_first == (zone == Zone::Older)
 }
 
 /// Whether the seat's shot of the last frame is right, and starts from the seat's zone as it was.
-fn shoots_last<'a, N: Name, R: Wait>(
+fn shoots_last<'a, N: Name, R: Wait + Abort>(
+    rt: &R,
     alloc: Global,
     heap: &'a Heap,
     desk: &Desk<N, &R, &'a Heap>,
     seat: &mut Seat<N, &'a Heap>,
     wanted: &Wanted,
-) -> Result<bool, Fail> {
-    let Ok(shot) = desk.shot(heap, seat, FRAMES.1 - 1) else {
-        return Ok(false);
-    };
+) -> bool {
+    match desk.shot(heap, seat, FRAMES.1 - 1) {
+        Ok(shot) => is_last(rt, alloc, &shot, wanted),
+        Err(_) => false,
+    }
+}
+
+/// Whether a shot is right, and its picture that of the last frame.
+fn is_last<R: Abort>(rt: &R, alloc: Global, shot: &Shot<&Heap>, wanted: &Wanted) -> bool {
     let mut pixmap = Vec::new(alloc);
-    ppm(&shot.picture, &mut pixmap).map_err(|_| "a pixmap")?;
+    check_that(rt, "a pixmap", ppm(&shot.picture, &mut pixmap).is_ok());
     let is_told = shot.at == wanted.at && shot.ran == wanted.ran;
-    Ok(is_told && wanted.pixmaps.ends_with(pixmap.as_slice()))
+    is_told && wanted.pixmaps.ends_with(pixmap.as_slice())
 }
 
 /// An export by so many workers with one growth refused, the same export after it, and a shot.
-fn try_export<'a, N: Name, R: Threads + Wait + Sync>(
+fn try_export<'a, N: Name, R: Threads + Wait + Abort + Sync>(
     rt: &R,
     alloc: Global,
     heap: &'a Heap,
@@ -196,7 +209,7 @@ fn try_export<'a, N: Name, R: Threads + Wait + Sync>(
     workers: usize,
     wanted: &Wanted,
     number: u64,
-) -> Result<Run, Fail>
+) -> Run
     requires workers { (1 ≤ workers) × (workers ≤ 16) }
     requires number { 1 ≤ number }
 {
@@ -204,15 +217,15 @@ fn try_export<'a, N: Name, R: Threads + Wait + Sync>(
     let mut answer = export(rt, alloc, heap, desk, seat, workers, wanted);
     let has_refused = heap.has_refused();
     if has_refused {
-        if answer.is_some() || !is_as_before(rt, alloc, desk, seat, zone, wanted)? {
-            return Ok(Run::Wrong);
+        if answer.is_some() || !is_as_before(rt, alloc, desk, seat, zone, wanted) {
+            return Run::Wrong;
         }
         answer = export(rt, alloc, heap, desk, seat, workers, wanted);
     }
     heap.refuse(NEVER);
-    let is_as_before = is_as_before(rt, alloc, desk, seat, zone, wanted)?;
-    let is_shot = shoots_last(alloc, heap, desk, seat, wanted)?;
-    Ok(Run::ended(has_refused, answer == Some(true) && is_as_before && is_shot))
+    let is_as_before = is_as_before(rt, alloc, desk, seat, zone, wanted);
+    let is_shot = shoots_last(rt, alloc, heap, desk, seat, wanted);
+    Run::ended(has_refused, answer == Some(true) && is_as_before && is_shot)
 }
 
 /// The history at the end: an export adds nothing to it.
@@ -223,8 +236,33 @@ fn history_of(zone: Zone) -> &'static str {
     }
 }
 
+/// Seat 0 makes a movie and keeps a state; then an export of it with one growth refused, and the same export after it. Seat 1 may make
+/// an edit between.
+fn make_and_export<'a, N: Name, R: Threads + Wait + Abort + Sync>(
+    rt: &R,
+    alloc: Global,
+    heap: &'a Heap,
+    desk: &Desk<N, &R, &'a Heap>,
+    seats: &mut [Seat<N, &'a Heap>],
+    zone: Zone,
+    workers: usize,
+    wanted: &Wanted,
+    number: u64,
+) -> Run
+    requires workers { (1 ≤ workers) × (workers ≤ 16) }
+    requires number { 1 ≤ number }
+{
+    let (one, other) = two_seats(rt, seats);
+    make_edits(rt, heap, desk, one, &FIRST);
+    keep_up_to(rt, heap, desk, one, 64);
+    if zone == Zone::Older {
+        make_edits(rt, heap, desk, other, &BEHIND);
+    }
+    try_export(rt, alloc, heap, desk, one, zone, workers, wanted, number)
+}
+
 /// An export at a new desk, by seat 0, with one growth refused, and the same export after it.
-fn export_at<'a, N: Name, R: Threads + Wait + Sync>(
+fn export_at<'a, N: Name, R: Threads + Wait + Abort + Sync>(
     rt: &R,
     alloc: Global,
     heap: &'a Heap,
@@ -233,44 +271,33 @@ fn export_at<'a, N: Name, R: Threads + Wait + Sync>(
     workers: usize,
     wanted: &Wanted,
     number: u64,
-) -> Result<Run, Fail>
+) -> Run
     requires name { unopened ≡ name_of N.registry N.name N.seats }
     requires named { N.parts ≡ N.seats }
     requires workers { (1 ≤ workers) × (workers ≤ 16) }
     requires number { 1 ≤ number }
 {
-    let (desk, mut seats) = open::<N, R>(rt, heap, unopened)?;
-    let (one, rest) = seats.split_first_mut().ok_or("a seat")?;
-    let other = rest.first_mut().ok_or("two seats")?;
-    make_edits(rt, heap, &desk, one, &FIRST)?;
-    desk.work(rt, heap, one, &[64], &OpenGate)
-        .map_err(|_| "work that is done")?;
-    desk.share(rt, one)?;
-    if zone == Zone::Older {
-        make_edits(rt, heap, &desk, other, &BEHIND)?;
-    }
-    let run = try_export(rt, alloc, heap, &desk, one, zone, workers, wanted, number)?;
-    let closed = close(rt, desk, seats)?;
-    if history(alloc, closed.journal.as_slice())?.as_str() != history_of(zone) {
-        return Ok(Run::Wrong);
-    }
-    Ok(run)
+    let (desk, mut seats) = open::<N, R>(rt, heap, unopened);
+    let lent = seats.as_mut_slice();
+    let run = make_and_export(rt, alloc, heap, &desk, lent, zone, workers, wanted, number);
+    let closed = close(rt, desk, seats);
+    with_history(rt, alloc, run, &closed, history_of(zone))
 }
 
 /// An export with one growth refused, and the same export after it.
-fn run_export<R: Threads + Wait + Sync>(
+fn run_export<R: Threads + Wait + Abort + Sync>(
     rt: &R,
     alloc: Global,
     zone: Zone,
     workers: usize,
     wanted: &Wanted,
     number: u64,
-) -> Result<Run, Fail>
+) -> Run
     requires workers { (1 ≤ workers) × (workers ≤ 16) }
     requires number { 1 ≤ number }
 {
     let heap = Refusing::new(alloc, NEVER);
-    let unopened = Unopened::new(&heap, 2).map_err(|_| AllocError)?;
+    let unopened = expect_ok(rt, Unopened::new(&heap, 2));
     export_at::<Brand, R>(rt, alloc, &heap, unopened, zone, workers, wanted, number)
 }
 
@@ -282,13 +309,13 @@ fn refuse_each<R: Threads + Wait + Abort + Sync>(
     workers: usize,
     played: u64,
     growths: u64,
-) -> Result<(), Fail>
+)
     requires { (1 ≤ workers) × (workers ≤ 16) }
 {
-    let wanted = wanted_of(alloc, zone, played)?;
+    let wanted = wanted_of(rt, alloc, zone, played);
     let mut refused = 0;
     for number in 1..MOST {
-        let run = run_export(rt, alloc, zone, workers, &wanted, number)?;
+        let run = run_export(rt, alloc, zone, workers, &wanted, number);
         if run == Run::Done {
             break;
         }
@@ -296,23 +323,22 @@ fn refuse_each<R: Threads + Wait + Abort + Sync>(
         refused = number;
     }
     check_same(rt, ("workers", workers), refused, growths);
-    Ok(())
 }
 
 /// The copy of the movie has two growths, the one of the zone one, the list of the runs one, and each run two.
 #[test]
-fn exports_from_a_zone_of_the_movie(rt: HostRuntime) -> Result<(), Fail> {
+fn exports_from_a_zone_of_the_movie(rt: HostRuntime) {
     let alloc = rt.alloc();
-    refuse_each(&rt, alloc, Zone::Present, 1, 6, 6)?;
-    refuse_each(&rt, alloc, Zone::Present, 2, 10, 8)?;
-    refuse_each(&rt, alloc, Zone::Present, 4, 18, 12)
+    refuse_each(&rt, alloc, Zone::Present, 1, 6, 6);
+    refuse_each(&rt, alloc, Zone::Present, 2, 10, 8);
+    refuse_each(&rt, alloc, Zone::Present, 4, 18, 12);
 }
 
 /// A refused export doesn't cut the zone either.
 #[test]
-fn exports_from_a_zone_of_an_older_movie(rt: HostRuntime) -> Result<(), Fail> {
+fn exports_from_a_zone_of_an_older_movie(rt: HostRuntime) {
     let alloc = rt.alloc();
-    refuse_each(&rt, alloc, Zone::Older, 1, 70, 6)?;
-    refuse_each(&rt, alloc, Zone::Older, 2, 138, 8)?;
-    refuse_each(&rt, alloc, Zone::Older, 4, 274, 12)
+    refuse_each(&rt, alloc, Zone::Older, 1, 70, 6);
+    refuse_each(&rt, alloc, Zone::Older, 2, 138, 8);
+    refuse_each(&rt, alloc, Zone::Older, 4, 274, 12);
 }

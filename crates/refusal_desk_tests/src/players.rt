@@ -5,7 +5,7 @@ use crate::runs::Heap;
 use std::alloc::Allocator;
 use std::sync::Wait;
 use tas_desk::{
-    Desk, EditError, Name, OfferError, Offered, Seat, Shot, ShotError, WorkError, Worked,
+    Desk, EditError, Name, OfferError, Offered, Receipt, Seat, Shot, ShotError, WorkError, Worked,
 };
 use tas_green::Batch;
 use tas_movie::Edit;
@@ -91,18 +91,34 @@ impl<'a, N: Name> Player<'a, N> {
 
     /// An edit. The receipt of a refused one, given again, is the next one of the seat.
     fn edit<R: Wait>(&mut self, rt: &R, desk: &Desk<N, &R, &'a Heap>) -> bool {
-        let (Some(edit), Some(again)) = (self.edits.pop(), self.edits.pop()) else {
-            return false;
-        };
+        match (self.edits.pop(), self.edits.pop()) {
+            (Some(edit), Some(again)) => self.edit_or_again(rt, desk, edit, again),
+            _ => false,
+        }
+    }
+
+    /// An edit, and where it is refused the same edit again.
+    fn edit_or_again<R: Wait>(
+        &mut self,
+        rt: &R,
+        desk: &Desk<N, &R, &'a Heap>,
+        edit: Edit<&'a Heap>,
+        again: Edit<&'a Heap>,
+    ) -> bool {
         let before = self.seen;
-        let mut answer = desk.edit(rt, &mut self.seat, edit);
+        let answer = desk.edit(rt, &mut self.seat, edit);
         if answer == Err(EditError::Memory) {
             self.count_refusal();
-            if !self.looks(desk) {
-                return false;
-            }
-            answer = desk.edit(rt, &mut self.seat, again);
+            let is_as_before = self.looks(desk);
+            let made = desk.edit(rt, &mut self.seat, again);
+            is_as_before && self.sees_made(before, made)
+        } else {
+            self.sees_made(before, answer)
         }
+    }
+
+    /// Whether an edit is made, behind the history that was seen before it.
+    fn sees_made(&mut self, before: u64, answer: Result<Receipt, EditError>) -> bool {
         match answer {
             Ok(receipt) => {
                 before < receipt.at && self.sees(receipt.at) && is_len(receipt.at, receipt.len)
@@ -127,17 +143,25 @@ impl<'a, N: Name> Player<'a, N> {
         sums: &[u64],
     ) -> bool {
         let kept = self.seat.kept();
-        let mut answer = desk.shot(heap, &mut self.seat, FRAME);
-        if let Err(ShotError::Memory) = &answer {
-            self.count_refusal();
-            if self.seat.kept() != kept {
-                return false;
-            }
-            answer = desk.shot(heap, &mut self.seat, FRAME);
+        if let Some(is_right) = self.sees_drawn(heap, desk, sums) {
+            return is_right;
         }
-        match answer {
-            Ok(shot) => self.sees(shot.at) && is_drawn(&shot, sums),
-            Err(_) => false,
+        self.count_refusal();
+        let is_as_before = self.seat.kept() == kept;
+        is_as_before && self.sees_drawn(heap, desk, sums) == Some(true)
+    }
+
+    /// Whether a shot is right; nothing where it is refused memory.
+    fn sees_drawn<R: Wait>(
+        &mut self,
+        heap: &'a Heap,
+        desk: &Desk<N, &R, &'a Heap>,
+        sums: &[u64],
+    ) -> Option<bool> {
+        match desk.shot(heap, &mut self.seat, FRAME) {
+            Ok(shot) => Some(self.sees(shot.at) && is_drawn(&shot, sums)),
+            Err(ShotError::Memory) => None,
+            Err(_) => Some(false),
         }
     }
 
@@ -190,15 +214,36 @@ impl<'a, N: Name> Player<'a, N> {
 
     /// An offer. A refused one hands back the batch, which is taken then.
     fn offer<R: Wait>(&mut self, rt: &R, heap: &'a Heap, desk: &Desk<N, &R, &'a Heap>) -> bool {
-        let Some(batch) = self.batch(rt, heap, desk) else {
-            return false;
-        };
-        let batch = match desk.offer(rt, &mut self.seat, batch) {
-            Ok(offered) => return self.sees(offered.at) && is_taken(offered),
-            Err(OfferError::Memory(batch)) => batch,
-            Err(OfferError::Cartridge { .. }) => return false,
-        };
-        self.count_refusal();
+        match self.batch(rt, heap, desk) {
+            Some(batch) => self.offer_batch(rt, desk, batch),
+            None => false,
+        }
+    }
+
+    /// An offer of this batch.
+    fn offer_batch<R: Wait>(
+        &mut self,
+        rt: &R,
+        desk: &Desk<N, &R, &'a Heap>,
+        batch: Batch<&'a Heap>,
+    ) -> bool {
+        match desk.offer(rt, &mut self.seat, batch) {
+            Ok(offered) => self.sees(offered.at) && is_taken(offered),
+            Err(OfferError::Memory(batch)) => {
+                self.count_refusal();
+                self.offer_again(rt, desk, batch)
+            }
+            Err(OfferError::Cartridge { .. }) => false,
+        }
+    }
+
+    /// Whether the batch that was handed back is taken now.
+    fn offer_again<R: Wait>(
+        &mut self,
+        rt: &R,
+        desk: &Desk<N, &R, &'a Heap>,
+        batch: Batch<&'a Heap>,
+    ) -> bool {
         match desk.offer(rt, &mut self.seat, batch) {
             Ok(offered) => self.sees(offered.at) && is_taken(offered),
             Err(_) => false,

@@ -2,13 +2,13 @@
 
 ghost use Rattle.std.specs.Prelude.{◌≤◌};
 
-use crate::checks::check_same;
+use crate::checks::{check_same, check_that, expect_ok};
 use crate::edits::{Change, edit_of, history, movie_text};
 use crate::runs::{Heap, MOST, NEVER, Run};
 use refusals::Refusing;
 use std::alloc::{AllocError, Allocator, Global};
+use std::process::Abort;
 use std::sync::Wait;
-use std::test::Fail;
 use tas_desk::{EditError, OfferError, Offered, OpenError, Receipt, Session, ShotError};
 use tas_green::{Batch, Green, Job};
 use tas_movie::MAX_FRAMES;
@@ -30,17 +30,35 @@ enum Turn {
 }
 
 /// All that a session shows: history, movie and kept states.
-fn shown<A: Allocator>(alloc: Global, session: &Session<A>) -> Result<String, Fail> {
-    let mut text = history(alloc, session.journal())?;
-    text.push_str(movie_text(alloc, session.movie())?.as_str())?;
-    let green = session.green();
-    text.push_str(format!(in alloc; "{}:", green.count())?.as_str())?;
+fn shown<A: Allocator, R: Abort>(rt: &R, alloc: Global, session: &Session<A>) -> String {
+    let mut text = history(rt, alloc, session.journal());
+    let movie = movie_text(rt, alloc, session.movie());
+    expect_ok(rt, text.push_str(movie.as_str()));
+    let kept = kept_text(rt, alloc, session.green());
+    expect_ok(rt, text.push_str(kept.as_str()));
+    text
+}
+
+/// How many states are kept, and after which of the frames on the grid.
+fn kept_text<A: Allocator, R: Abort>(rt: &R, alloc: Global, green: &Green<A>) -> String {
+    let mut text = expect_ok(rt, format!(in alloc; "{}:", green.count()));
     for frame in [64, 128, 192, 256, 320, 384] {
         if green.holds(frame) {
-            text.push_str(format!(in alloc; " {frame}")?.as_str())?;
+            let place = expect_ok(rt, format!(in alloc; " {frame}"));
+            expect_ok(rt, text.push_str(place.as_str()));
         }
     }
-    Ok(text)
+    text
+}
+
+/// Whether a session shows what it showed before.
+fn shows<A: Allocator, R: Abort>(
+    rt: &R,
+    alloc: Global,
+    session: &Session<A>,
+    before: &str,
+) -> bool {
+    shown(rt, alloc, session).as_str() == before
 }
 
 /// Four edits of seat 0, which make 400 brief frames.
@@ -52,23 +70,22 @@ const BEFORE: [Change; 4] = [
 ];
 
 /// Makes the four edits, and keeps the states after 64 and 128 frames.
-fn set_up<'a, R: Wait>(
+fn set_up<'a, R: Wait + Abort>(
     rt: &R,
     alloc: Global,
     heap: &'a Heap,
     session: &mut Session<&'a Heap>,
-) -> Result<(), Fail> {
+) {
     for change in BEFORE {
         let made = session.at();
-        let edit = edit_of(heap, change)?;
-        session
-            .edit(rt, 0, made, edit)
-            .map_err(|_| "an edit that is made")?;
+        let edit = expect_ok(rt, edit_of(heap, change));
+        expect_ok(rt, session.edit(rt, 0, made, edit));
     }
-    match shoot(alloc, session, 127).0 {
-        Ok(_) => Ok(()),
-        Err(_) => Err("a frame that is drawn".into()),
-    }
+    check_that(
+        rt,
+        "a frame that is drawn",
+        shoot(alloc, session, 127).0.is_ok(),
+    );
 }
 
 /// A shot: how many frames it says were played and how many pixels are lit, and how many frames the meter counts.
@@ -88,113 +105,124 @@ fn shoot<A: Allocator + Copy, B: Allocator>(
 }
 
 /// The edit, given by seat 1 as its first.
-fn try_edit<'a, R: Wait>(
+fn try_edit<'a, R: Wait + Abort>(
     rt: &R,
     alloc: Global,
     heap: &'a Heap,
     session: &mut Session<&'a Heap>,
+    before: &str,
     change: Change,
     number: u64,
-) -> Result<Run, Fail>
+) -> Run
     requires { 1 ≤ number }
 {
-    let before = shown(alloc, session)?;
-    let (at, len) = (session.at(), session.movie().len());
-    let (edit, again) = (edit_of(heap, change)?, edit_of(heap, change)?);
-    heap.refuse(number);
-    let mut answer = session.edit(rt, 1, 0, edit);
-    let has_refused = heap.has_refused();
-    if has_refused {
-        let is_as_before = shown(alloc, session)?.as_str() == before.as_str();
-        if answer != Err(EditError::Memory) || !is_as_before {
-            return Ok(Run::Wrong);
-        }
-        answer = session.edit(rt, 1, 0, again);
-    }
     let receipt = Receipt {
-        at: at.saturating_add(1),
-        len: change.len_after(len),
+        at: session.at().saturating_add(1),
+        len: change.len_after(session.movie().len()),
     };
-    Ok(Run::ended(has_refused, answer == Ok(receipt)))
+    let edit = expect_ok(rt, edit_of(heap, change));
+    let again = expect_ok(rt, edit_of(heap, change));
+    heap.refuse(number);
+    let answer = session.edit(rt, 1, 0, edit);
+    if heap.has_refused() {
+        let is_as_before = shows(rt, alloc, session, before);
+        let made = session.edit(rt, 1, 0, again);
+        let is_refused = answer == Err(EditError::Memory);
+        Run::ended(true, is_refused && is_as_before && made == Ok(receipt))
+    } else {
+        Run::ended(false, answer == Ok(receipt))
+    }
 }
 
-fn try_shot<'a>(
+fn try_shot<'a, R: Abort>(
+    rt: &R,
     alloc: Global,
     heap: &'a Heap,
     session: &mut Session<&'a Heap>,
+    before: &str,
     number: u64,
-) -> Result<Run, Fail>
+) -> Run
     requires { 1 ≤ number }
 {
-    let before = shown(alloc, session)?;
     heap.refuse(number);
     let mut answer = shoot(heap, session, 383);
     let has_refused = heap.has_refused();
     if has_refused {
-        let is_as_before = shown(alloc, session)?.as_str() == before.as_str();
-        if answer != (Err(ShotError::Memory), 0) || !is_as_before {
-            return Ok(Run::Wrong);
+        if answer != (Err(ShotError::Memory), 0) || !shows(rt, alloc, session, before) {
+            return Run::Wrong;
         }
         answer = shoot(heap, session, 383);
     }
-    let is_right = answer == (Ok((256, 0)), 256);
-    Ok(Run::ended(has_refused, is_right))
+    Run::ended(has_refused, answer == (Ok((256, 0)), 256))
 }
 
-fn try_job<'a>(
+fn try_job<'a, R: Abort>(
+    rt: &R,
     alloc: Global,
     heap: &'a Heap,
     session: &Session<&'a Heap>,
+    before: &str,
     number: u64,
-) -> Result<Run, Fail>
+) -> Run
     requires { 1 ≤ number }
 {
-    let before = shown(alloc, session)?;
     heap.refuse(number);
-    let mut job = session.job(heap, 400).ok();
+    let job = session.job(heap, 400);
     let has_refused = heap.has_refused();
-    if has_refused {
-        if job.is_some() || shown(alloc, session)?.as_str() != before.as_str() {
-            return Ok(Run::Wrong);
-        }
-        job = session.job(heap, 400).ok();
+    let first = is_whole(session, job);
+    if !has_refused {
+        return Run::ended(false, first == Some(true));
     }
-    let is_right = match job {
-        Some(job) => {
-            let batch = job.run();
-            batch.inputs() == session.movie().inputs() && batch.holds(384) && !batch.holds(128)
-        }
-        None => false,
-    };
-    Ok(Run::ended(has_refused, is_right))
+    let is_as_before = shows(rt, alloc, session, before);
+    let again = is_whole(session, session.job(heap, 400));
+    Run::ended(true, first.is_none() && is_as_before && again == Some(true))
 }
 
-fn try_offer<'a>(
+/// Whether a job makes what one for all frames does; nothing where it was refused memory.
+fn is_whole(session: &Session<&Heap>, job: Result<Job<&Heap>, AllocError>) -> Option<bool> {
+    match job {
+        Ok(job) => {
+            let batch = job.run();
+            let has_all = batch.inputs() == session.movie().inputs();
+            Some(has_all && batch.holds(384) && !batch.holds(128))
+        }
+        Err(_) => None,
+    }
+}
+
+/// What an offer of all frames gains.
+const ALL: Offered = Offered {
+    at: 4,
+    front: 400,
+    kept: 4,
+};
+
+/// What a job for all frames makes, with no state kept.
+fn batch_of_all<A: Allocator, R: Abort>(rt: &R, alloc: Global, session: &Session<A>) -> Batch {
+    let green = Green::new(alloc);
+    expect_ok(rt, Job::take(alloc, session.movie(), &green, 400)).run()
+}
+
+fn try_offer<'a, R: Abort>(
+    rt: &R,
     alloc: Global,
     heap: &'a Heap,
     session: &mut Session<&'a Heap>,
+    before: &str,
     number: u64,
-) -> Result<Run, Fail>
+) -> Run
     requires { 1 ≤ number }
 {
-    let before = shown(alloc, session)?;
-    let batch = Job::take(alloc, session.movie(), &Green::new(alloc), 400)?.run();
+    let batch = batch_of_all(rt, alloc, session);
     heap.refuse(number);
-    let all = Offered {
-        at: 4,
-        front: 400,
-        kept: 4,
-    };
-    let refused = match session.offer(batch) {
-        Ok(offered) => return Ok(Run::ended(false, !heap.has_refused() && offered == all)),
-        Err(error) => error,
-    };
-    if !heap.has_refused() || shown(alloc, session)?.as_str() != before.as_str() {
-        return Ok(Run::Wrong);
-    }
-    match refused {
-        OfferError::Memory(batch) => Ok(Run::ended(true, is_taken(session, batch, all))),
-        OfferError::Cartridge { .. } => Ok(Run::Wrong),
+    match session.offer(batch) {
+        Ok(offered) => Run::ended(false, !heap.has_refused() && offered == ALL),
+        Err(OfferError::Memory(batch)) => {
+            let is_as_before = heap.has_refused() && shows(rt, alloc, session, before);
+            let is_taken = is_taken(session, batch, ALL);
+            Run::ended(true, is_as_before && is_taken)
+        }
+        Err(OfferError::Cartridge { .. }) => Run::Wrong,
     }
 }
 
@@ -206,42 +234,46 @@ fn is_taken<A: Allocator + Copy>(session: &mut Session<A>, batch: Batch, taken: 
     }
 }
 
-fn take_turn<'a, R: Wait>(
+fn take_turn<'a, R: Wait + Abort>(
     rt: &R,
     alloc: Global,
     heap: &'a Heap,
     session: &mut Session<&'a Heap>,
     turn: Turn,
     number: u64,
-) -> Result<Run, Fail>
+) -> Run
     requires { 1 ≤ number }
 {
-    if turn == Turn::First {
-        return try_edit(rt, alloc, heap, session, Change::Insert(0, 3), number);
+    if turn != Turn::First {
+        set_up(rt, alloc, heap, session);
     }
-    set_up(rt, alloc, heap, session)?;
+    let before = shown(rt, alloc, session);
+    let before = before.as_str();
     match turn {
-        Turn::First => Ok(Run::Wrong),
-        Turn::Edit(change) => try_edit(rt, alloc, heap, session, change, number),
-        Turn::Shot => try_shot(alloc, heap, session, number),
-        Turn::Job => try_job(alloc, heap, session, number),
-        Turn::Offer => try_offer(alloc, heap, session, number),
+        Turn::First => {
+            let first = Change::Insert(0, 3);
+            try_edit(rt, alloc, heap, session, before, first, number)
+        }
+        Turn::Edit(change) => try_edit(rt, alloc, heap, session, before, change, number),
+        Turn::Shot => try_shot(rt, alloc, heap, session, before, number),
+        Turn::Job => try_job(rt, alloc, heap, session, before, number),
+        Turn::Offer => try_offer(rt, alloc, heap, session, before, number),
     }
 }
 
 /// A turn of a session with one growth refused, and the same turn after it.
-fn run_turn<R: Wait>(rt: &R, alloc: Global, turn: Turn, number: u64) -> Result<Run, Fail>
+fn run_turn<R: Wait + Abort>(rt: &R, alloc: Global, turn: Turn, number: u64) -> Run
     requires { 1 ≤ number }
 {
     let heap = Refusing::new(alloc, NEVER);
-    let mut session = Session::new(&heap).map_err(|_| AllocError)?;
+    let mut session = expect_ok(rt, Session::new(&heap));
     let run = take_turn(rt, alloc, &heap, &mut session, turn, number);
     drop(session.close(rt));
     run
 }
 
 #[test]
-fn what_a_session_does(rt: HostRuntime) -> Result<(), Fail> {
+fn what_a_session_does(rt: HostRuntime) {
     let turns = [
         (Turn::First, 4),
         (Turn::Edit(Change::Load), 2),
@@ -256,7 +288,7 @@ fn what_a_session_does(rt: HostRuntime) -> Result<(), Fail> {
     for (turn, growths) in turns {
         let mut refused = 0;
         for number in 1..MOST {
-            let run = run_turn(&rt, alloc, turn, number)?;
+            let run = run_turn(&rt, alloc, turn, number);
             if run == Run::Done {
                 break;
             }
@@ -265,7 +297,6 @@ fn what_a_session_does(rt: HostRuntime) -> Result<(), Fail> {
         }
         check_same(&rt, turn, refused, growths);
     }
-    Ok(())
 }
 
 /// Whether a new session is empty; nothing where memory is refused.
@@ -294,7 +325,7 @@ fn run_new<R: Wait>(rt: &R, alloc: Global, number: u64) -> Run
 }
 
 #[test]
-fn a_new_session(rt: HostRuntime) -> Result<(), Fail> {
+fn a_new_session(rt: HostRuntime) {
     let alloc = rt.alloc();
     let mut refused = 0;
     for number in 1..MOST {
@@ -306,5 +337,4 @@ fn a_new_session(rt: HostRuntime) -> Result<(), Fail> {
         refused = number;
     }
     check_same(&rt, "refused", refused, 12);
-    Ok(())
 }

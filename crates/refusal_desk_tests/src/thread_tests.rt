@@ -4,16 +4,16 @@
 ghost use Rattle.std.specs.Prelude.{◌≡◌, ◌≤◌};
 ghost use Rattle.tas_desk.specs.Seats.{name_of};
 
-use crate::checks::{check_same, check_that};
+use crate::checks::{check_same, check_that, expect_ok, expect_some};
 use crate::desks::{close, make_edits, open};
 use crate::edits::{Change, edit_of};
 use crate::players::{FIRST_AT, FIRST_LEN, FRAME, Player, TURNS, sum_of};
 use crate::runs::{Heap, MOST, NEVER, Run};
 use refusals::Refusing;
-use std::alloc::{AllocError, Global};
+use std::alloc::Global;
 use std::marker::Brand;
+use std::process::Abort;
 use std::sync::Wait;
-use std::test::Fail;
 use std::thread::{Threads, join_mut};
 use tas_desk::{Closed, Desk, Name, Seat, Unopened};
 use tas_movie::{Edit, Movie, apply, check};
@@ -34,57 +34,76 @@ const FIRST: [Change; 3] = [
 ];
 
 /// The movie's frame, played from power-on: the sum over its picture.
-fn drawn_sum(alloc: Global, movie: &Movie) -> Result<u64, Fail> {
-    let mut picture = Picture::blank(alloc)?;
+fn drawn_sum<R: Abort>(rt: &R, alloc: Global, movie: &Movie) -> u64 {
+    let mut picture = expect_ok(rt, Picture::blank(alloc));
     let mut state = State::power_on(movie.cart());
     for input in movie.inputs().iter().take(FRAME + 1) {
         let mut meter = Meter::new();
         let played = play(movie.cart(), &mut state, *input, &mut picture, &mut meter);
-        if played.is_err() {
-            return Err("a frame that is drawn".into());
-        }
+        check_that(rt, "a frame that is drawn", played.is_ok());
     }
-    Ok(sum_of(&picture))
+    sum_of(&picture)
 }
 
 /// The sums over the frame's picture after no edit of a player, after one, and so on.
-fn drawn_sums(alloc: Global) -> Result<Vec<u64>, Fail> {
-    let mut movie = Movie::blank(alloc)?;
+fn drawn_sums<R: Abort>(rt: &R, alloc: Global) -> Vec<u64> {
+    let mut movie = expect_ok(rt, Movie::blank(alloc));
     let mut sums = Vec::new(alloc);
     for number in 0..FIRST.len() + EDITS {
-        let edit = edit_of(alloc, FIRST.get(number).copied().unwrap_or(INSERTED))?;
-        if check(&movie, &edit).is_err() {
-            return Err("an edit that is allowed".into());
-        }
+        let change = FIRST.get(number).copied().unwrap_or(INSERTED);
+        let edit = expect_ok(rt, edit_of(alloc, change));
+        check_that(rt, change, check(&movie, &edit).is_ok());
         apply(&mut movie, &edit);
         if number + 1 >= FIRST.len() {
-            sums.push(drawn_sum(alloc, &movie)?)?;
+            expect_ok(rt, sums.push(drawn_sum(rt, alloc, &movie)));
         }
     }
-    Ok(sums)
+    sums
+}
+
+/// The edits of a player: two, each of them twice.
+fn edits<'a, R: Abort>(rt: &R, alloc: Global, heap: &'a Heap) -> Vec<Edit<&'a Heap>> {
+    let mut edits = Vec::new(alloc);
+    for _copy in 0..4 {
+        let edit = expect_ok(rt, edit_of(heap, INSERTED));
+        expect_ok(rt, edits.push(edit));
+    }
+    edits
 }
 
 /// A player at each seat, with its edits.
-fn players<'a, N: Name>(
+fn players<'a, N: Name, R: Abort>(
+    rt: &R,
     alloc: Global,
     heap: &'a Heap,
     seats: Vec<Seat<N, &'a Heap>, &'a Heap>,
-) -> Result<Vec<Player<'a, N>>, Fail> {
+) -> Vec<Player<'a, N>> {
     let mut players = Vec::new(alloc);
     for seat in seats {
-        let mut edits = Vec::new(alloc);
-        for _copy in 0..4 {
-            edits.push(edit_of(heap, INSERTED)?)?;
-        }
-        players.push(Player {
+        let player = Player {
             seat,
-            edits,
+            edits: edits(rt, alloc, heap),
             seen: FIRST_AT,
             refused: 0,
             wrong: None,
-        })?;
+        };
+        expect_ok(rt, players.push(player));
     }
-    Ok(players)
+    players
+}
+
+/// The players' seats.
+fn seats_of<'a, N: Name, R: Abort>(
+    rt: &R,
+    heap: &'a Heap,
+    players: Vec<Player<'a, N>>,
+) -> Vec<Seat<N, &'a Heap>, &'a Heap> {
+    let mut seats = Vec::new(heap);
+    for player in players {
+        let Player { seat, .. } = player;
+        expect_ok(rt, seats.push(seat));
+    }
+    seats
 }
 
 /// The players take their turns, each on a thread of its own.
@@ -174,78 +193,90 @@ fn is_inserted(edit: &Edit<&Heap>) -> bool {
     }
 }
 
+/// The players take their turns with one growth refused.
+fn play_turns<'a, N: Name + Send + Sync, R: Threads + Wait + Sync>(
+    rt: &R,
+    heap: &'a Heap,
+    desk: &Desk<N, &R, &'a Heap>,
+    players: &mut [Player<'a, N>],
+    sums: &[u64],
+    number: u64,
+) -> Run
+    requires { 1 ≤ number }
+{
+    heap.refuse(number);
+    take_turns(rt, heap, desk, players, sums);
+    were_right(heap, desk, players, sums)
+}
+
 /// A desk of three seats, whose players take their turns with one growth refused.
-fn run_at<'a, N: Name + Send + Sync, R: Threads + Wait + Sync>(
+fn run_at<'a, N: Name + Send + Sync, R: Threads + Wait + Abort + Sync>(
     rt: &R,
     alloc: Global,
     heap: &'a Heap,
     unopened: Unopened<&'a Heap>,
     sums: &[u64],
     number: u64,
-) -> Result<Run, Fail>
+) -> Run
     requires name { unopened ≡ name_of N.registry N.name N.seats }
     requires named { N.parts ≡ N.seats }
     requires number { 1 ≤ number }
 {
-    let (desk, mut seats) = open::<N, R>(rt, heap, unopened)?;
-    let first = seats.first_mut().ok_or("a seat")?;
-    make_edits(rt, heap, &desk, first, &FIRST)?;
-    let mut players = players(alloc, heap, seats)?;
-    heap.refuse(number);
-    take_turns(rt, heap, &desk, players.as_mut_slice(), sums);
-    let run = were_right(heap, &desk, players.as_mut_slice(), sums);
-    let mut seats = Vec::new(heap);
-    for player in players {
-        let Player { seat, .. } = player;
-        seats.push(seat)?;
-    }
-    let closed = close(rt, desk, seats)?;
-    Ok(if is_complete(&closed) {
+    let (desk, mut seats) = open::<N, R>(rt, heap, unopened);
+    make_edits(rt, heap, &desk, expect_some(rt, seats.first_mut()), &FIRST);
+    let mut players = players(rt, alloc, heap, seats);
+    let run = play_turns(rt, heap, &desk, players.as_mut_slice(), sums, number);
+    let closed = close(rt, desk, seats_of(rt, heap, players));
+    if is_complete(&closed) {
         run
     } else {
         Run::Wrong
-    })
+    }
 }
 
 /// A run of three players with one growth refused.
-fn run_players<R: Threads + Wait + Sync>(
+fn run_players<R: Threads + Wait + Abort + Sync>(
     rt: &R,
     alloc: Global,
     sums: &[u64],
     number: u64,
-) -> Result<Run, Fail>
+) -> Run
     requires { 1 ≤ number }
 {
     let heap = Refusing::new(alloc, NEVER);
-    let unopened = Unopened::new(&heap, 3).map_err(|_| AllocError)?;
+    let unopened = expect_ok(rt, Unopened::new(&heap, 3));
     run_at::<Brand, R>(rt, alloc, &heap, unopened, sums, number)
 }
 
 #[test]
-fn three_seats_on_three_threads(rt: HostRuntime) -> Result<(), Fail> {
-    let alloc = rt.alloc();
-    let sums = drawn_sums(alloc)?;
+fn three_seats_on_three_threads(rt: HostRuntime) {
+    let sums = drawn_sums(&rt, rt.alloc());
+    check_pictures(&rt, sums.as_slice());
+    refuse_each(&rt, rt.alloc(), sums.as_slice());
+}
+
+/// Each edit changes the picture.
+fn check_pictures<R: Abort>(rt: &R, sums: &[u64]) {
     for made in 1..sums.len() {
-        assert_ne!(rt;
-            sums[made - 1],
-            sums[made],
-            "the picture after {made} edits"
-        );
+        check_that(rt, ("edits", made), sums[made - 1] != sums[made]);
     }
+}
+
+/// Refuses each growth of the players' turns.
+fn refuse_each<R: Threads + Wait + Abort + Sync>(rt: &R, alloc: Global, sums: &[u64]) {
     let mut refused = 0;
     for number in 1..MOST {
-        let run = run_players(&rt, alloc, sums.as_slice(), number)?;
+        let run = run_players(rt, alloc, sums, number);
         if run == Run::Done {
             break;
         }
-        check_same(&rt, ("growth", number), run, Run::Refused);
+        check_same(rt, ("growth", number), run, Run::Refused);
         refused = number;
     }
     // How many there are depends on who comes first: where two edits come between two shots, the movie is copied once.
     check_that(
-        &rt,
+        rt,
         ("growths", refused),
         30 <= refused && refused < MOST - 1,
     );
-    Ok(())
 }
