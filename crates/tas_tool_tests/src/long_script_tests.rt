@@ -15,10 +15,9 @@
 //! - `000=A910850DA91E85084C08F0 FFC=00F0` draws four pixels in each half of each line, so `lit` is 1,680.
 //! - `000=A203A9028500A9008500CAD0F502 FFC=00F0` ends three frames at once, and halts at F00D in its fourth.
 
-use crate::checks::{check_same, check_that};
+use crate::checks::{check_same, check_that, expect_ok, expect_some};
 use std::alloc::Global;
 use std::process::Abort;
-use std::test::Fail;
 use tas_script::split_once;
 use tas_tool::script_run;
 
@@ -225,49 +224,48 @@ shot 0|no frame 73 len 0
 len|len 73 0
 ";
 
-/// Tells the first line that differs.
-fn compare<R: Abort>(rt: &R, alloc: Global, text: &[u8]) -> Result<(), Fail> {
+/// The first of these turns, as its line and its reply, and those behind it.
+fn next_turn<'a, R: Abort>(rt: &R, turns: &'a [u8]) -> (&'a [u8], &'a [u8], &'a [u8]) {
+    let (turn, later) = expect_some(rt, split_once(turns, b'\n'));
+    let (line, reply) = expect_some(rt, split_once(turn, b'|'));
+    (line, reply, later)
+}
+
+/// Fails at the first line that differs.
+fn compare<R: Abort>(rt: &R, alloc: Global, text: &[u8]) {
     let mut turns = TURNS.as_bytes();
     let mut rest = text;
     for number in 1..200u32 {
-        let (turn, later) = split_once(turns, b'\n').ok_or("a turn")?;
-        let (line, reply) = split_once(turn, b'|').ok_or("a reply")?;
-        let (told, after) = split_once(rest, b'\n').ok_or("too few replies")?;
-        let line = String::from_utf8_lossy(alloc, line)?;
+        let (line, reply, later) = next_turn(rt, turns);
+        let (told, after) = expect_some(rt, split_once(rest, b'\n'));
+        let line = expect_ok(rt, String::from_utf8_lossy(alloc, line));
         check_same(rt, ("line", number, line.as_str()), told, reply);
         turns = later;
         rest = after;
     }
     check_that(rt, "turns", turns.is_empty());
     check_that(rt, "rest", rest.is_empty());
-    Ok(())
 }
 
 /// The lines without their replies.
-fn script(alloc: Global) -> Result<Vec<u8>, Fail> {
+fn script<R: Abort>(rt: &R, alloc: Global) -> Vec<u8> {
     let mut script = Vec::new(alloc);
     let mut turns = TURNS.as_bytes();
     for _ in 1..200u32 {
-        let (turn, later) = split_once(turns, b'\n').ok_or("a turn")?;
-        let (line, _) = split_once(turn, b'|').ok_or("a reply")?;
-        script.extend_from_slice(line)?;
-        script.push(b'\n')?;
+        let (line, _reply, later) = next_turn(rt, turns);
+        expect_ok(rt, script.extend_from_slice(line));
+        expect_ok(rt, script.push(b'\n'));
         turns = later;
     }
-    Ok(script)
+    script
 }
 
 #[test]
-fn a_long_script_is_answered_as_worked_out_apart(rt: HostRuntime) -> Result<(), Fail> {
+fn a_long_script_is_answered_as_worked_out_apart(rt: HostRuntime) {
     let alloc = rt.alloc();
-    let script = script(alloc)?;
+    let script = script(&rt, alloc);
     let mut output = Vec::new(alloc);
-    let mut input = script.as_slice();
-    check_same(
-        &rt,
-        "script_run",
-        script_run(&rt, alloc, &mut input, &mut output),
-        Ok(()),
-    );
-    compare(&rt, alloc, output.as_slice())
+    let end = script_run(&rt, alloc, &mut script.as_slice(), &mut output);
+    check_same(&rt, "end", end, Ok(()));
+    compare(&rt, alloc, output.as_slice());
 }

@@ -1,10 +1,10 @@
 //! Whole scripts over a movie.
 
-use crate::checks::{check_same, check_that};
-use crate::movies::{IDLE, PLAYFIELD, image_of, text_of};
+use crate::answers::{Answer, check_answer};
+use crate::checks::check_same;
+use crate::movies::{IDLE, PLAYFIELD, image_of, joined, text_of};
 use std::alloc::Global;
 use std::sync::Wait;
-use std::test::Fail;
 use tas_movie::{TextError, TextErrorKind};
 use tas_tool::{ToolFault, movie_script_run, script_run};
 
@@ -12,13 +12,7 @@ use tas_tool::{ToolFault, movie_script_run, script_run};
 static LOAD: &[u8] = b"load 000=A910850DA91E85084C08F0 FFC=00F0\n";
 
 /// What a script over a movie writes, and how it ends.
-fn written<R: Wait>(
-    rt: &R,
-    alloc: Global,
-    cart: &[u8],
-    movie: &[u8],
-    script: &[u8],
-) -> (Vec<u8>, Result<(), ToolFault>) {
+fn written<R: Wait>(rt: &R, alloc: Global, cart: &[u8], movie: &[u8], script: &[u8]) -> Answer {
     let mut cart = cart;
     let mut movie = movie;
     let mut input = script;
@@ -35,34 +29,24 @@ static REPLIES: &[u8] =
 
 /// The replies are those of a script that makes the movie by two lines, without the replies to these.
 #[test]
-fn a_script_goes_on_from_its_movie(rt: HostRuntime) -> Result<(), Fail> {
+fn a_script_goes_on_from_its_movie(rt: HostRuntime) {
     let alloc = rt.alloc();
-    let cart = image_of(alloc, PLAYFIELD.bytes)?;
-    let movie = text_of(alloc, PLAYFIELD, 3, IDLE)?;
-    let (output, end) = written(&rt, alloc, cart.as_slice(), movie.as_bytes(), LINES);
-    check_same(&rt, "end", end, Ok(()));
-    check_same(&rt, "output", output.as_slice(), REPLIES);
-    let mut script = Vec::new(alloc);
-    script.extend_from_slice(LOAD)?;
-    script.extend_from_slice(b"insert 0 3 ..... ..... .....\n")?;
-    script.extend_from_slice(LINES)?;
-    let mut input = script.as_slice();
+    let cart = image_of(&rt, alloc, PLAYFIELD.bytes);
+    let movie = text_of(&rt, alloc, PLAYFIELD, 3, IDLE);
+    let answer = written(&rt, alloc, cart.as_slice(), movie.as_bytes(), LINES);
+    check_answer(&rt, "over a movie", answer, REPLIES, Ok(()));
+    let insert = b"insert 0 3 ..... ..... .....\n";
+    let script = joined(&rt, alloc, &[LOAD, insert, LINES]);
+    let replies = joined(&rt, alloc, &[b"edit 1 len 0\nedit 2 len 3\n", REPLIES]);
     let mut output = Vec::new(alloc);
-    script_run(&rt, alloc, &mut input, &mut output)?;
-    let made = b"edit 1 len 0\nedit 2 len 3\n".as_slice();
-    check_same(
-        &rt,
-        "output, 2",
-        output.as_slice().strip_prefix(made),
-        Some(REPLIES),
-    );
-    Ok(())
+    let end = script_run(&rt, alloc, &mut script.as_slice(), &mut output);
+    check_answer(&rt, "alone", (output, end), replies.as_slice(), Ok(()));
 }
 
 #[test]
-fn movies_of_no_frames_and_of_the_most_are_made(rt: HostRuntime) -> Result<(), Fail> {
+fn movies_of_no_frames_and_of_the_most_are_made(rt: HostRuntime) {
     let alloc = rt.alloc();
-    let cart = image_of(alloc, PLAYFIELD.bytes)?;
+    let cart = image_of(&rt, alloc, PLAYFIELD.bytes);
     let cases: [(usize, &[u8], &[u8]); 3] = [
         (0, b"", b""),
         (
@@ -77,33 +61,25 @@ fn movies_of_no_frames_and_of_the_most_are_made(rt: HostRuntime) -> Result<(), F
         ),
     ];
     for (frames, lines, replies) in cases {
-        let movie = text_of(alloc, PLAYFIELD, frames, IDLE)?;
-        let (output, end) = written(&rt, alloc, cart.as_slice(), movie.as_bytes(), lines);
-        check_same(&rt, ("frames", frames), end, Ok(()));
-        check_same(&rt, ("frames", frames), output.as_slice(), replies);
+        let movie = text_of(&rt, alloc, PLAYFIELD, frames, IDLE);
+        let answer = written(&rt, alloc, cart.as_slice(), movie.as_bytes(), lines);
+        check_answer(&rt, ("frames", frames), answer, replies, Ok(()));
     }
-    Ok(())
 }
 
 #[test]
-fn faults_over_a_movie_come_in_order(rt: HostRuntime) -> Result<(), Fail> {
+fn faults_over_a_movie_come_in_order(rt: HostRuntime) {
     let alloc = rt.alloc();
-    let cart = image_of(alloc, PLAYFIELD.bytes)?;
-    let movie = text_of(alloc, PLAYFIELD, 1, IDLE)?;
+    let cart = image_of(&rt, alloc, PLAYFIELD.bytes);
+    let movie = text_of(&rt, alloc, PLAYFIELD, 1, IDLE);
     let bad = b"a26movie 2\n".as_slice();
-    let text = TextError {
+    let text = ToolFault::Text(TextError {
         line: 2,
         kind: TextErrorKind::End,
-    };
+    });
     let cases: [(&[u8], &[u8], &[u8], &[u8], ToolFault); 4] = [
         (b"1234567", bad, b"len\nx\n", b"", ToolFault::Size(7)),
-        (
-            cart.as_slice(),
-            bad,
-            b"len\nx\n",
-            b"",
-            ToolFault::Text(text),
-        ),
+        (cart.as_slice(), bad, b"len\nx\n", b"", text),
         (
             cart.as_slice(),
             movie.as_bytes(),
@@ -120,18 +96,16 @@ fn faults_over_a_movie_come_in_order(rt: HostRuntime) -> Result<(), Fail> {
         ),
     ];
     for (number, (cart, movie, script, replies, fault)) in cases.iter().enumerate() {
-        let (output, end) = written(&rt, alloc, cart, movie, script);
-        check_same(&rt, ("case", number), end, Err(*fault));
-        check_that(&rt, ("case", number), output.as_slice() == *replies);
+        let answer = written(&rt, alloc, cart, movie, script);
+        check_answer(&rt, ("case", number), answer, replies, Err(*fault));
     }
-    Ok(())
 }
 
 #[test]
-fn a_full_writer_ends_a_script_over_a_movie(rt: HostRuntime) -> Result<(), Fail> {
+fn a_full_writer_ends_a_script_over_a_movie(rt: HostRuntime) {
     let alloc = rt.alloc();
-    let cart = image_of(alloc, PLAYFIELD.bytes)?;
-    let movie = text_of(alloc, PLAYFIELD, 1, IDLE)?;
+    let cart = image_of(&rt, alloc, PLAYFIELD.bytes);
+    let movie = text_of(&rt, alloc, PLAYFIELD, 1, IDLE);
     let mut cart = cart.as_slice();
     let mut movie = movie.as_bytes();
     let mut input = b"len\n".as_slice();
@@ -139,5 +113,4 @@ fn a_full_writer_ends_a_script_over_a_movie(rt: HostRuntime) -> Result<(), Fail>
     let mut output = room.as_mut_slice();
     let end = movie_script_run(&rt, alloc, &mut cart, &mut movie, &mut input, &mut output);
     check_same(&rt, "end", end, Err(ToolFault::Write { written: 5 }));
-    Ok(())
 }

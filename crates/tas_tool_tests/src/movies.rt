@@ -1,7 +1,8 @@
 //! Cartridges and movies of the tests.
 
+use crate::checks::expect_ok;
 use std::alloc::Global;
-use std::test::Fail;
+use std::process::Abort;
 
 /// A program at F000, and the SHA-256 of its cartridge by another program.
 #[derive(Clone, Copy, Drop)]
@@ -35,8 +36,8 @@ pub const IDLE: &str = "..... ..... .....";
 pub const RIGHT: &str = "R.... ..... .....";
 
 /// The cartridge with a program at F000, where execution starts too; all other bytes are 0.
-pub fn image_of(alloc: Global, program: &[u8]) -> Result<Vec<u8>, Fail> {
-    let mut image = vec![in alloc; 0u8; 4096]?;
+pub fn image_of<R: Abort>(rt: &R, alloc: Global, program: &[u8]) -> Vec<u8> {
+    let mut image = expect_ok(rt, vec![in alloc; 0u8; 4096]);
     for (at, byte) in program.iter().enumerate() {
         if let Some(cell) = image.get_mut(at) {
             *cell = *byte;
@@ -45,17 +46,17 @@ pub fn image_of(alloc: Global, program: &[u8]) -> Result<Vec<u8>, Fail> {
     if let Some(cell) = image.get_mut(0xFFD) {
         *cell = 0xF0;
     }
-    Ok(image)
+    image
 }
 
 /// The small cartridge with a program at F000, where execution starts too; all other bytes are 0.
-pub fn small_image_of(alloc: Global, program: &[u8]) -> Result<Vec<u8>, Fail> {
-    let mut image = image_of(alloc, program)?;
+pub fn small_image_of<R: Abort>(rt: &R, alloc: Global, program: &[u8]) -> Vec<u8> {
+    let mut image = image_of(rt, alloc, program);
     image.truncate(2048);
     if let Some(cell) = image.get_mut(0x7FD) {
         *cell = 0xF0;
     }
-    Ok(image)
+    image
 }
 
 /// Frame 1, 4, 7 and so on is `third`, any other one has nothing pressed.
@@ -63,54 +64,58 @@ fn frame_of<'a>(frame: usize, third: &'a str) -> &'a str {
     if frame % 3 == 1 { third } else { IDLE }
 }
 
+/// Writes the line of a run of frames behind a text.
+fn push_run<R: Abort>(rt: &R, alloc: Global, text: &mut String, line: &str, count: usize) {
+    let run = if count == 1 {
+        expect_ok(rt, format!(in alloc; "{line}\n"))
+    } else {
+        expect_ok(rt, format!(in alloc; "{line} x{count}\n"))
+    };
+    expect_ok(rt, text.push_str(run.as_str()));
+}
+
 /// The text of a movie of so many frames, as [`frame_of`] has them, with a line for each run of equal ones.
-pub fn text_of(
+pub fn text_of<R: Abort>(
+    rt: &R,
     alloc: Global,
     program: Program,
     frames: usize,
     third: &str,
-) -> Result<String, Fail> {
+) -> String {
     let digest = program.digest;
-    let mut text = format!(in alloc; "a26movie 2\ncart {digest}\n")?;
+    let mut text = expect_ok(rt, format!(in alloc; "a26movie 2\ncart {digest}\n"));
     let mut count = 0usize;
     for frame in 0..frames {
         count = count.wrapping_add(1);
         let line = frame_of(frame, third);
         let next = frame.wrapping_add(1);
-        if next < frames && frame_of(next, third) == line {
-            continue;
+        if next == frames || frame_of(next, third) != line {
+            push_run(rt, alloc, &mut text, line, count);
+            count = 0;
         }
-        let run = if count == 1 {
-            format!(in alloc; "{line}\n")?
-        } else {
-            format!(in alloc; "{line} x{count}\n")?
-        };
-        text.push_str(run.as_str())?;
-        count = 0;
     }
-    Ok(text)
+    text
 }
 
 /// The picture of the playfield: pixels 0 to 3 and 80 to 83 of each row have the colour 1E, all others 00.
-pub fn playfield_picture(alloc: Global) -> Result<Vec<u8>, Fail> {
-    let mut bytes = Vec::new(alloc);
-    bytes.extend_from_slice(b"P6\n160 210\n255\n")?;
+pub fn playfield_picture<R: Abort>(rt: &R, alloc: Global) -> Vec<u8> {
+    let mut bytes = joined(rt, alloc, &[b"P6\n160 210\n255\n"]);
     for place in 0..33_600u32 {
         let colour: &[u8] = if place % 80 < 4 {
             b"\xd2\xc8\x8c"
         } else {
             b"\0\0\0"
         };
-        bytes.extend_from_slice(colour)?;
+        expect_ok(rt, bytes.extend_from_slice(colour));
     }
-    Ok(bytes)
+    bytes
 }
 
 /// Bytes one after the other.
-pub fn joined(alloc: Global, parts: &[&[u8]]) -> Result<Vec<u8>, Fail> {
+pub fn joined<R: Abort>(rt: &R, alloc: Global, parts: &[&[u8]]) -> Vec<u8> {
     let mut bytes = Vec::new(alloc);
     for part in parts {
-        bytes.extend_from_slice(part)?;
+        expect_ok(rt, bytes.extend_from_slice(part));
     }
-    Ok(bytes)
+    bytes
 }

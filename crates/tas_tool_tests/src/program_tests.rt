@@ -1,13 +1,12 @@
 //! What each command writes, and what it tells of faults.
 
-use crate::checks::{check_same, check_that};
-use crate::movies::{PLAYFIELD, image_of, playfield_picture};
-use crate::programs::{ONE_FRAME, TwoFiles, run, run_words, words_of};
+use crate::checks::check_same;
+use crate::movies::{PLAYFIELD, image_of, joined, playfield_picture};
+use crate::programs::{ONE_FRAME, TwoFiles, check_ran, run, run_words, words_of};
 use std::alloc::Global;
 use std::io::{Error, ErrorKind};
 use std::process::Abort;
 use std::sync::Wait;
-use std::test::Fail;
 use std::thread::Threads;
 use tas_program::run_program;
 
@@ -28,16 +27,19 @@ static SCRIPT: &[u8] =
 static REPLIES: &[u8] =
     b"edit 1 len 0\nedit 2 len 2\nshot 2 1 ran 2 lit 1680\nedit 3 len 2\ninput 3 R.... ..... .....\nno frame 3 len 2\n";
 
+/// The folder where `game.bin` is this cartridge, and `other` is empty.
+fn only_game(game: &[u8]) -> TwoFiles<'_> {
+    TwoFiles { game, other: b"" }
+}
+
 #[test]
-fn each_command_writes_its_answer(rt: HostRuntime) -> Result<(), Fail> {
+fn each_command_writes_its_answer(rt: HostRuntime) {
     let alloc = rt.alloc();
-    let stores = image_of(alloc, STORES)?;
-    let cart = image_of(alloc, PLAYFIELD.bytes)?;
-    let picture = playfield_picture(alloc)?;
-    let mut movie = Vec::from_slice(alloc, ONE_FRAME)?;
-    movie.extend_from_slice(b"R.... ..... .....\n")?;
-    let mut pictures = Vec::from_slice(alloc, picture.as_slice())?;
-    pictures.extend_from_slice(picture.as_slice())?;
+    let stores = image_of(&rt, alloc, STORES);
+    let cart = image_of(&rt, alloc, PLAYFIELD.bytes);
+    let picture = playfield_picture(&rt, alloc);
+    let movie = joined(&rt, alloc, &[ONE_FRAME, b"R.... ..... .....\n"]);
+    let pictures = joined(&rt, alloc, &[picture.as_slice(), picture.as_slice()]);
     let cases: [(&[&str], &[u8], &[u8]); 12] = [
         (&["trace", "3"], stores.as_slice(), TRACE),
         (&["check", "game.bin"], ONE_FRAME, b"ok 1 frames\n"),
@@ -60,36 +62,26 @@ fn each_command_writes_its_answer(rt: HostRuntime) -> Result<(), Fail> {
         ),
         (&["export", "game.bin", "0", "0", "3"], ONE_FRAME, b""),
     ];
-    for (number, (words, input, answer)) in cases.iter().enumerate() {
-        let ran = run(&rt, alloc, words, cart.as_slice(), input)?;
-        check_same(&rt, ("command", number), ran.code, 0);
-        check_that(&rt, ("command", number), ran.output.as_slice() == *answer);
-        check_that(&rt, ("command", number), ran.errors.is_empty());
+    for (words, input, answer) in cases {
+        let ran = run(&rt, alloc, words, only_game(cart.as_slice()), input);
+        check_ran(&rt, words, ran, 0, answer, b"");
     }
-    Ok(())
 }
 
 /// The words, the file `game.bin`, the input, and what the program then writes and tells, by hand.
 type Faulty<'a> = (&'a [&'a str], &'a [u8], &'a [u8], &'a [u8], &'a [u8]);
 
-fn check_faults<R: Threads + Wait + Abort + Sync>(
-    rt: &R,
-    alloc: Global,
-    cases: &[Faulty],
-) -> Result<(), Fail> {
+fn check_faults<R: Threads + Wait + Abort + Sync>(rt: &R, alloc: Global, cases: &[Faulty]) {
     for (words, file, input, output, line) in cases {
-        let ran = run(rt, alloc, words, file, input)?;
-        check_same(rt, *words, ran.code, 1);
-        check_that(rt, *words, ran.output.as_slice() == *output);
-        check_that(rt, *words, ran.errors.as_slice() == *line);
+        let ran = run(rt, alloc, words, only_game(file), input);
+        check_ran(rt, words, ran, 1, output, line);
     }
-    Ok(())
 }
 
 #[test]
-fn faults_of_a_movie_end_with_status_1(rt: HostRuntime) -> Result<(), Fail> {
+fn faults_of_a_movie_end_with_status_1(rt: HostRuntime) {
     let alloc = rt.alloc();
-    let cart = image_of(alloc, PLAYFIELD.bytes)?;
+    let cart = image_of(&rt, alloc, PLAYFIELD.bytes);
     let cart = cart.as_slice();
     check_faults(
         &rt,
@@ -124,13 +116,13 @@ fn faults_of_a_movie_end_with_status_1(rt: HostRuntime) -> Result<(), Fail> {
                 b"fault: movie line 2: end\n",
             ),
         ],
-    )
+    );
 }
 
 #[test]
-fn faults_of_pictures_end_with_status_1(rt: HostRuntime) -> Result<(), Fail> {
+fn faults_of_pictures_end_with_status_1(rt: HostRuntime) {
     let alloc = rt.alloc();
-    let cart = image_of(alloc, PLAYFIELD.bytes)?;
+    let cart = image_of(&rt, alloc, PLAYFIELD.bytes);
     let cart = cart.as_slice();
     check_faults(
         &rt,
@@ -165,13 +157,13 @@ fn faults_of_pictures_end_with_status_1(rt: HostRuntime) -> Result<(), Fail> {
                 b"fault: range 0 to 2 of 1\n",
             ),
         ],
-    )
+    );
 }
 
 #[test]
-fn other_faults_end_with_status_1(rt: HostRuntime) -> Result<(), Fail> {
+fn other_faults_end_with_status_1(rt: HostRuntime) {
     let alloc = rt.alloc();
-    let cart = image_of(alloc, PLAYFIELD.bytes)?;
+    let cart = image_of(&rt, alloc, PLAYFIELD.bytes);
     let cart = cart.as_slice();
     check_faults(
         &rt,
@@ -192,42 +184,23 @@ fn other_faults_end_with_status_1(rt: HostRuntime) -> Result<(), Fail> {
                 b"fault: script line 2\n",
             ),
         ],
-    )
+    );
 }
 
 #[test]
-fn no_memory_for_the_words_is_a_fault(rt: HostRuntime) -> Result<(), Fail> {
+fn no_memory_for_the_words_is_a_fault(rt: HostRuntime) {
     let alloc = rt.alloc();
-    let cart = image_of(alloc, PLAYFIELD.bytes)?;
-    let ran = run_words(
-        &rt,
-        alloc,
-        Err(Error::from(ErrorKind::OutOfMemory)),
-        TwoFiles {
-            game: cart.as_slice(),
-            other: b"",
-        },
-        ONE_FRAME,
-    );
-    check_same(&rt, "ran.code", ran.code, 1);
-    check_that(&rt, "ran.output", ran.output.is_empty());
-    check_same(
-        &rt,
-        "ran.errors",
-        ran.errors.as_slice(),
-        b"fault: out of memory\n".as_slice(),
-    );
-    Ok(())
+    let cart = image_of(&rt, alloc, PLAYFIELD.bytes);
+    let words = Err(Error::from(ErrorKind::OutOfMemory));
+    let ran = run_words(&rt, alloc, words, only_game(cart.as_slice()), ONE_FRAME);
+    check_ran(&rt, &[], ran, 1, b"", b"fault: out of memory\n");
 }
 
 #[test]
-fn help_that_cannot_be_written_is_a_fault(rt: HostRuntime) -> Result<(), Fail> {
+fn help_that_cannot_be_written_is_a_fault(rt: HostRuntime) {
     let alloc = rt.alloc();
-    let words = words_of(alloc, &["--version"])?.into_iter();
-    let folder = TwoFiles {
-        game: b"",
-        other: b"",
-    };
+    let words = words_of(&rt, alloc, &["--version"]).into_iter();
+    let folder = only_game(b"");
     let mut input: &[u8] = b"";
     let mut room = [0u8; 20];
     let mut output = room.as_mut_slice();
@@ -248,7 +221,6 @@ fn help_that_cannot_be_written_is_a_fault(rt: HostRuntime) -> Result<(), Fail> {
         errors.as_slice(),
         b"fault: write failed after 20 bytes\n".as_slice(),
     );
-    Ok(())
 }
 
 /// A movie of the playfield's cartridge with three frames.
@@ -262,24 +234,20 @@ fn check_over_two_files<R: Threads + Wait + Abort + Sync>(
     rt: &R,
     alloc: Global,
     cases: &[OverTwoFiles],
-) -> Result<(), Fail> {
-    let cart = image_of(alloc, PLAYFIELD.bytes)?;
-    for (number, (names, other, input, output, line)) in cases.iter().enumerate() {
-        let words = words_of(alloc, names)?.into_iter();
+) {
+    let cart = image_of(rt, alloc, PLAYFIELD.bytes);
+    for (words, other, input, output, line) in cases {
         let folder = TwoFiles {
             game: cart.as_slice(),
             other,
         };
-        let ran = run_words(rt, alloc, Ok(words), folder, input);
-        check_same(rt, (*names, number), ran.code, u8::from(!line.is_empty()));
-        check_that(rt, (*names, number), ran.output.as_slice() == *output);
-        check_that(rt, (*names, number), ran.errors.as_slice() == *line);
+        let ran = run(rt, alloc, words, folder, input);
+        check_ran(rt, words, ran, u8::from(!line.is_empty()), output, line);
     }
-    Ok(())
 }
 
 #[test]
-fn edits_write_their_movies(rt: HostRuntime) -> Result<(), Fail> {
+fn edits_write_their_movies(rt: HostRuntime) {
     check_over_two_files(
         &rt,
         rt.alloc(),
@@ -306,11 +274,11 @@ fn edits_write_their_movies(rt: HostRuntime) -> Result<(), Fail> {
                 b"",
             ),
         ],
-    )
+    );
 }
 
 #[test]
-fn edits_that_are_refused_write_nothing(rt: HostRuntime) -> Result<(), Fail> {
+fn edits_that_are_refused_write_nothing(rt: HostRuntime) {
     check_over_two_files(
         &rt,
         rt.alloc(),
@@ -344,11 +312,11 @@ fn edits_that_are_refused_write_nothing(rt: HostRuntime) -> Result<(), Fail> {
                 b"fault: read failed\n",
             ),
         ],
-    )
+    );
 }
 
 #[test]
-fn differences_write_their_scripts(rt: HostRuntime) -> Result<(), Fail> {
+fn differences_write_their_scripts(rt: HostRuntime) {
     check_over_two_files(
         &rt,
         rt.alloc(),
@@ -375,11 +343,11 @@ fn differences_write_their_scripts(rt: HostRuntime) -> Result<(), Fail> {
                 b"fault: movie line 2: end\n",
             ),
         ],
-    )
+    );
 }
 
 #[test]
-fn scripts_over_a_movie_write_their_replies(rt: HostRuntime) -> Result<(), Fail> {
+fn scripts_over_a_movie_write_their_replies(rt: HostRuntime) {
     check_over_two_files(
         &rt,
         rt.alloc(),
@@ -413,11 +381,11 @@ fn scripts_over_a_movie_write_their_replies(rt: HostRuntime) -> Result<(), Fail>
                 b"fault: movie line 2: end\n",
             ),
         ],
-    )
+    );
 }
 
 #[test]
-fn conversations_over_a_movie_write_their_answers(rt: HostRuntime) -> Result<(), Fail> {
+fn conversations_over_a_movie_write_their_answers(rt: HostRuntime) {
     check_over_two_files(
         &rt,
         rt.alloc(),
@@ -444,5 +412,5 @@ fn conversations_over_a_movie_write_their_answers(rt: HostRuntime) -> Result<(),
                 b"fault: movie line 2: end\n",
             ),
         ],
-    )
+    );
 }

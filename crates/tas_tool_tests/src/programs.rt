@@ -4,12 +4,13 @@ ghost use Rattle.std.specs.Prelude.{Some, if◌then◌else◌, codes};
 ghost use Rattle.std.specs.Prelude.{nat_eq};
 ghost use Rattle.std.specs.Cmp.Lexicographic.{pointwise};
 
+use crate::checks::{check_same, check_that, expect_ok};
 use std::alloc::Global;
 use std::env::Args;
 use std::io;
 use std::io::{Error, ErrorKind};
+use std::process::Abort;
 use std::sync::Wait;
-use std::test::Fail;
 use std::thread::Threads;
 use tas_program::{Folder, run_program};
 
@@ -45,13 +46,18 @@ pub struct Ran {
 }
 
 /// The program's name, and these words.
-pub fn words_of(alloc: Global, words: &[&str]) -> Result<Vec<String>, Fail> {
+pub fn words_of<R: Abort>(rt: &R, alloc: Global, words: &[&str]) -> Vec<String> {
     let mut all = Vec::new(alloc);
-    all.push(String::from_str(alloc, "tas")?)?;
+    push_word(rt, alloc, &mut all, "tas");
     for word in words {
-        all.push(String::from_str(alloc, word)?)?;
+        push_word(rt, alloc, &mut all, word);
     }
-    Ok(all)
+    all
+}
+
+fn push_word<R: Abort>(rt: &R, alloc: Global, words: &mut Vec<String>, word: &str) {
+    let word = expect_ok(rt, String::from_str(alloc, word));
+    expect_ok(rt, words.push(word));
 }
 
 /// Runs the program with these words over this folder and input.
@@ -81,17 +87,23 @@ pub fn run_words<T: Threads + Wait + Sync>(
     }
 }
 
-/// Runs the program where the file `game.bin` is this cartridge.
-pub fn run<T: Threads + Wait + Sync>(
+/// Runs the program with these words, which are text.
+pub fn run<T: Threads + Wait + Abort + Sync>(
     rt: &T,
     alloc: Global,
     words: &[&str],
-    cart: &[u8],
+    folder: TwoFiles<'_>,
     input: &[u8],
-) -> Result<Ran, Fail> {
-    let words = words_of(alloc, words)?.into_iter();
-    let other: &[u8] = b"";
-    Ok(run_words(rt, alloc, Ok(words), TwoFiles { game: cart, other }, input))
+) -> Ran {
+    let words = words_of(rt, alloc, words).into_iter();
+    run_words(rt, alloc, Ok(words), folder, input)
+}
+
+/// Fails where a run ends with another status, writes something else, or tells something else.
+pub fn check_ran<R: Abort>(rt: &R, words: &[&str], ran: Ran, code: u8, output: &[u8], line: &[u8]) {
+    check_same(rt, words, ran.code, code);
+    check_same(rt, words, ran.errors.as_slice(), line);
+    check_that(rt, (words, line), ran.output.as_slice() == output);
 }
 
 /// A movie of the playfield's cartridge, with one frame of nothing pressed. The digest comes from another program.

@@ -1,13 +1,14 @@
 //! Whole scripts.
 
-use crate::checks::{check_same, check_that};
+use crate::answers::{Answer, check_answer};
+use crate::checks::check_same;
 use std::alloc::Global;
 use std::sync::Wait;
 use tas_tool::{INPUT_LIMIT, ToolFault, script_run};
 use test_streams::{Failure, Filler, Room, Taker};
 
 /// What a script writes, and how it ends.
-fn written<R: Wait>(rt: &R, alloc: Global, script: &[u8]) -> (Vec<u8>, Result<(), ToolFault>) {
+fn written<R: Wait>(rt: &R, alloc: Global, script: &[u8]) -> Answer {
     let mut output = Vec::new(alloc);
     let mut input = script;
     let end = script_run(rt, alloc, &mut input, &mut output);
@@ -17,17 +18,17 @@ fn written<R: Wait>(rt: &R, alloc: Global, script: &[u8]) -> (Vec<u8>, Result<()
 #[test]
 fn edits_and_refusals_are_answered(rt: HostRuntime) {
     let alloc = rt.alloc();
-    let (output, end) = written(
+    let answer = written(
         &rt,
         alloc,
         b"len\ninput 0\nshot 0\ninsert 0 2 R.... ..... .....\ninput 1\ninput 2\ndelete 1 2\nreplace 1 1 ..... ..... .....\ninput 1\nlen\ninsert 3 1 ..... ..... .....\ninsert 0 262143 ..... ..... .....\ninsert 2 262142 ..... ..... .....\nlen\n",
     );
-    check_same(&rt, "end", end, Ok(()));
-    check_same(
+    check_answer(
         &rt,
-        "output",
-        output.as_slice(),
-        b"len 0 0\nno frame 0 len 0\nno frame 0 len 0\nedit 1 len 2\ninput 1 R.... ..... .....\nno frame 1 len 2\nplace 1 len 2\nedit 2 len 2\ninput 2 ..... ..... .....\nlen 2 2\nplace 2 len 2\nlong 2 len 2\nedit 3 len 262144\nlen 3 262144\n".as_slice(),
+        "replies",
+        answer,
+        b"len 0 0\nno frame 0 len 0\nno frame 0 len 0\nedit 1 len 2\ninput 1 R.... ..... .....\nno frame 1 len 2\nplace 1 len 2\nedit 2 len 2\ninput 2 ..... ..... .....\nlen 2 2\nplace 2 len 2\nlong 2 len 2\nedit 3 len 262144\nlen 3 262144\n",
+        Ok(()),
     );
 }
 
@@ -41,13 +42,10 @@ fn a_line_not_understood_ends_with_its_number(rt: HostRuntime) {
         (b"len", b"", 1),
     ];
     for (script, text, line) in cases {
-        let (output, end) = written(&rt, alloc, script);
-        check_same(&rt, "end", end, Err(ToolFault::Script { line }));
-        check_same(&rt, "output", output.as_slice(), text);
+        let end = Err(ToolFault::Script { line });
+        check_answer(&rt, script, written(&rt, alloc, script), text, end);
     }
-    let (output, end) = written(&rt, alloc, b"");
-    check_same(&rt, "end, 2", end, Ok(()));
-    check_that(&rt, "output, 2", output.is_empty());
+    check_answer(&rt, "empty", written(&rt, alloc, b""), b"", Ok(()));
 }
 
 /// A cartridge that sets the playfield, its edits, and shots with the greenzone's help.
@@ -111,9 +109,7 @@ fn shots_are_answered_as_by_hand(rt: HostRuntime) {
         ("grids", GRIDS, GRIDS_REPLIES),
         ("small", SMALL, SMALL_REPLIES),
     ] {
-        let (output, end) = written(&rt, alloc, script);
-        check_same(&rt, name, end, Ok(()));
-        check_same(&rt, name, output.as_slice(), text);
+        check_answer(&rt, name, written(&rt, alloc, script), text, Ok(()));
     }
 }
 
@@ -132,26 +128,18 @@ fn replies_go_out_in_small_pieces(rt: HostRuntime) {
     ] {
         let mut output = Taker::new(alloc, 7, Room::Bytes(room), Failure::Error);
         let mut input = b"len\ndelete 0 0\nlen".as_slice();
-        check_same(
-            &rt,
-            ("room", room),
-            script_run(&rt, alloc, &mut input, &mut output),
-            end,
-        );
+        let ended = script_run(&rt, alloc, &mut input, &mut output);
         let written = room.min(21);
+        let failed = if room < 21 { 1 } else { 0 };
+        let writes = written.div_ceil(7) + failed;
+        check_same(&rt, ("room", room), ended, end);
         check_same(
             &rt,
             ("room", room),
             output.taken.as_slice(),
             &text[..written],
         );
-        let failed = if room < 21 { 1 } else { 0 };
-        check_same(
-            &rt,
-            ("room", room),
-            output.writes,
-            written.div_ceil(7) + failed,
-        );
+        check_same(&rt, ("room", room), output.writes, writes);
     }
 }
 
@@ -168,8 +156,7 @@ fn a_script_that_is_not_read_is_not_answered(rt: HostRuntime) {
         let mut input = Filler::new(b' ', left, fails_at);
         let mut output = Vec::new(alloc);
         let end = script_run(&rt, alloc, &mut input, &mut output);
-        check_same(&rt, ("bytes", left), end, Err(fault));
+        check_answer(&rt, ("bytes", left), (output, end), b"", Err(fault));
         check_same(&rt, ("bytes", left), input.reads, reads);
-        check_that(&rt, ("bytes", left), output.is_empty());
     }
 }

@@ -1,22 +1,49 @@
 //! Whole conversations.
 
-use crate::checks::{check_same, check_that};
+use crate::answers::{Answer, check_answer};
+use crate::checks::{check_same, check_that, expect_ok};
 use crate::movies::{IDLE, PLAYFIELD, RIGHT, SMALL_PLAYFIELD, joined, playfield_picture, text_of};
 use std::alloc::Global;
 use std::cell::Cell;
 use std::io;
 use std::io::{Error, ErrorKind, Read, Write};
+use std::process::Abort;
 use std::sync::Wait;
-use std::test::Fail;
 use tas_tool::{ToolFault, talk_run};
 use test_streams::{Failure, Filler, Giver, Room, Taker};
 
 /// What a conversation writes, and how it ends.
-fn said<R: Wait>(rt: &R, alloc: Global, lines: &[u8]) -> (Vec<u8>, Result<(), ToolFault>) {
-    let mut input = lines;
+fn said<R: Wait, I: Read>(rt: &R, alloc: Global, input: &mut I) -> Answer {
     let mut output = Vec::new(alloc);
-    let end = talk_run(rt, alloc, &mut input, &mut output);
+    let end = talk_run(rt, alloc, input, &mut output);
     (output, end)
+}
+
+/// Fails where a conversation of these lines doesn't end well, or isn't answered by these answers.
+fn check_said<R: Wait + Abort>(rt: &R, alloc: Global, lines: &[u8], answers: &[u8]) {
+    let mut input = lines;
+    let answer = said(rt, alloc, &mut input);
+    check_answer(rt, "said", answer, answers, Ok(()));
+}
+
+/// The same for lines and answers in several pieces, one after the other.
+fn check_pieces<R: Wait + Abort>(rt: &R, alloc: Global, lines: &[&[u8]], answers: &[&[u8]]) {
+    let lines = joined(rt, alloc, lines);
+    let answers = joined(rt, alloc, answers);
+    check_said(rt, alloc, lines.as_slice(), answers.as_slice());
+}
+
+/// Fails where lines that come so many bytes at a time are answered in another way.
+fn check_at_once<R: Wait + Abort>(
+    rt: &R,
+    alloc: Global,
+    lines: &[u8],
+    at_once: usize,
+    answers: &[u8],
+) {
+    let mut input = Giver::new(lines, at_once, 0);
+    let answer = said(rt, alloc, &mut input);
+    check_answer(rt, ("at once", at_once), answer, answers, Ok(()));
 }
 
 /// Loads the playfield's cartridge and puts in 200 frames.
@@ -33,23 +60,18 @@ static REPLIES: &[u8] =
 
 #[test]
 fn lines_of_a_script_are_answered_as_by_a_script(rt: HostRuntime) {
-    let alloc = rt.alloc();
-    let (output, end) = said(&rt, alloc, SCRIPT);
-    check_same(&rt, "end", end, Ok(()));
-    check_same(&rt, "output", output.as_slice(), REPLIES);
+    check_said(&rt, rt.alloc(), SCRIPT, REPLIES);
 }
 
 /// The picture is the one that the playfield's program draws, and its refusals are those of `shot`.
 #[test]
-fn pictures_are_told_whole(rt: HostRuntime) -> Result<(), Fail> {
+fn pictures_are_told_whole(rt: HostRuntime) {
     let alloc = rt.alloc();
-    let picture = playfield_picture(alloc)?;
-    let lines = joined(
+    let picture = playfield_picture(&rt, alloc);
+    check_pieces(
+        &rt,
         alloc,
         &[b"picture 0\n", START, b"picture 191\npicture 200\nlen\n"],
-    )?;
-    let wanted = joined(
-        alloc,
         &[
             b"no frame 0 len 0\n",
             STARTED,
@@ -57,64 +79,47 @@ fn pictures_are_told_whole(rt: HostRuntime) -> Result<(), Fail> {
             picture.as_slice(),
             b"no frame 2 len 200\nlen 2 200\n",
         ],
-    )?;
-    let (output, end) = said(&rt, alloc, lines.as_slice());
-    check_same(&rt, "end", end, Ok(()));
-    check_that(&rt, "output", output.as_slice() == wanted.as_slice());
-    let halts =
-        b"load 000=A203A9028500A9008500CAD0F502 FFC=00F0\ninsert 0 9 ..... ..... .....\npicture 5\n";
-    let (output, end) = said(&rt, alloc, halts);
-    check_same(&rt, "end, 2", end, Ok(()));
-    check_same(
-        &rt,
-        "output, 2",
-        output.as_slice(),
-        b"edit 1 len 0\nedit 2 len 9\nhalted 2 F00D 02\n".as_slice(),
     );
-    Ok(())
+    check_said(
+        &rt,
+        alloc,
+        b"load 000=A203A9028500A9008500CAD0F502 FFC=00F0\ninsert 0 9 ..... ..... .....\npicture 5\n",
+        b"edit 1 len 0\nedit 2 len 9\nhalted 2 F00D 02\n",
+    );
 }
 
 /// The greenzone after shots, an edit, and the edit that takes it back: states behind the edited place are gone where they are told.
 #[test]
-fn states_are_those_of_the_movie(rt: HostRuntime) -> Result<(), Fail> {
-    let alloc = rt.alloc();
-    let lines = joined(
-        alloc,
+fn states_are_those_of_the_movie(rt: HostRuntime) {
+    check_pieces(
+        &rt,
+        rt.alloc(),
         &[
             b"states\n",
             START,
             b"states\nshot 191\nstates\nreplace 64 1 R.... ..... .....\nstates\nshot 130\nstates\nreplace 64 1 ..... ..... .....\nstates\nwork 200\nstates\ndelete 0 200\nstates\n",
         ],
-    )?;
-    let wanted = joined(
-        alloc,
         &[
             b"states 0 0\n",
             STARTED,
             b"states 2 0\nshot 2 191 ran 192 lit 1680\nstates 2 3 64 128 192\nedit 3 len 200\nstates 3 1 64\nshot 3 130 ran 67 lit 1680\nstates 3 2 64 128\nedit 4 len 200\nstates 4 1 64\nwork jobs 1 kept 3 stale 0\nstates 4 3 64 128 192\nedit 5 len 0\nstates 5 0\n",
         ],
-    )?;
-    let (output, end) = said(&rt, alloc, lines.as_slice());
-    check_same(&rt, "end", end, Ok(()));
-    check_same(&rt, "output", output.as_slice(), wanted.as_slice());
-    Ok(())
+    );
 }
 
 #[test]
-fn the_movie_is_told_as_its_text(rt: HostRuntime) -> Result<(), Fail> {
+fn the_movie_is_told_as_its_text(rt: HostRuntime) {
     let alloc = rt.alloc();
-    let text = text_of(alloc, PLAYFIELD, 200, IDLE)?;
-    let lines = joined(
+    let text = text_of(&rt, alloc, PLAYFIELD, 200, IDLE);
+    let short = text_of(&rt, alloc, PLAYFIELD, 3, IDLE);
+    let runs = text_of(&rt, alloc, PLAYFIELD, 3, RIGHT);
+    check_pieces(
+        &rt,
         alloc,
         &[
             START,
             b"movie\ndelete 3 197\nmovie\nreplace 1 1 R.... ..... .....\nmovie\n",
         ],
-    )?;
-    let short = text_of(alloc, PLAYFIELD, 3, IDLE)?;
-    let runs = text_of(alloc, PLAYFIELD, 3, RIGHT)?;
-    let wanted = joined(
-        alloc,
         &[
             STARTED,
             b"movie 2 104\n",
@@ -124,23 +129,21 @@ fn the_movie_is_told_as_its_text(rt: HostRuntime) -> Result<(), Fail> {
             b"edit 4 len 3\nmovie 4 135\n",
             runs.as_bytes(),
         ],
-    )?;
-    let (output, end) = said(&rt, alloc, lines.as_slice());
-    check_same(&rt, "end", end, Ok(()));
-    check_same(&rt, "output", output.as_slice(), wanted.as_slice());
-    Ok(())
+    );
 }
 
 /// A small cartridge plays as its image doubled does; its movie's text names it. A part past its end is no line.
 #[test]
-fn small_cartridges_are_talked_of(rt: HostRuntime) -> Result<(), Fail> {
+fn small_cartridges_are_talked_of(rt: HostRuntime) {
     let alloc = rt.alloc();
-    let picture = playfield_picture(alloc)?;
-    let text = text_of(alloc, SMALL_PLAYFIELD, 200, IDLE)?;
-    let lines =
-        b"load2 000=A910850DA91E85084C08F0 7FC=00F0\ninsert 0 200 ..... ..... .....\npicture 199\nmovie\nload2 800=00\nload2\nstates\n";
-    let wanted = joined(
+    let picture = playfield_picture(&rt, alloc);
+    let text = text_of(&rt, alloc, SMALL_PLAYFIELD, 200, IDLE);
+    check_pieces(
+        &rt,
         alloc,
+        &[
+            b"load2 000=A910850DA91E85084C08F0 7FC=00F0\ninsert 0 200 ..... ..... .....\npicture 199\nmovie\nload2 800=00\nload2\nstates\n",
+        ],
         &[
             STARTED,
             b"picture 2 199 100815\n",
@@ -149,46 +152,44 @@ fn small_cartridges_are_talked_of(rt: HostRuntime) -> Result<(), Fail> {
             text.as_bytes(),
             b"unknown\nunknown\nstates 2 3 64 128 192\n",
         ],
-    )?;
-    let (output, end) = said(&rt, alloc, lines);
-    check_same(&rt, "end", end, Ok(()));
-    check_that(&rt, "output", output.as_slice() == wanted.as_slice());
-    Ok(())
+    );
+}
+
+/// A million edits that change nothing, and what stands behind them.
+fn a_million_edits<R: Abort>(rt: &R, alloc: Global, rest: &[u8]) -> Vec<u8> {
+    let mut lines = expect_ok(rt, Vec::with_capacity(alloc, 11_000_100));
+    for _ in 0..1_000_000u32 {
+        expect_ok(rt, lines.extend_from_slice(b"delete 0 0\n"));
+    }
+    expect_ok(rt, lines.extend_from_slice(rest));
+    lines
 }
 
 /// A million edits and no more are made; what refuses the next ones, and looks behind them, are told at these.
 #[test]
-fn edits_are_bounded(rt: HostRuntime) -> Result<(), Fail> {
+fn edits_are_bounded(rt: HostRuntime) {
     let alloc = rt.alloc();
-    let mut lines = Vec::with_capacity(alloc, 11_000_100)?;
-    for _ in 0..1_000_000u32 {
-        lines.extend_from_slice(b"delete 0 0\n")?;
-    }
-    lines.extend_from_slice(b"delete 0 0\nload 000=00\nlen\npicture 0\nstates\n")?;
-    let (output, end) = said(&rt, alloc, lines.as_slice());
+    let rest = b"delete 0 0\nload 000=00\nlen\npicture 0\nstates\n";
+    let lines = a_million_edits(&rt, alloc, rest);
+    let (output, end) = said(&rt, alloc, &mut lines.as_slice());
     check_same(&rt, "end", end, Ok(()));
     let last =
         b"edit 1000000 len 0\nfull 1000000\nfull 1000000\nlen 1000000 0\nno frame 1000000 len 0\nstates 1000000 0\n";
     check_that(&rt, "output", output.as_slice().ends_with(last));
     // 12 bytes and its number's digits for each edit, and 80 behind them.
     check_same(&rt, "output, 2", output.len(), 12_000_000 + 5_888_896 + 80);
-    Ok(())
 }
 
 /// Lines that aren't understood are answered `unknown`, and so is what stands behind the last newline, whatever it says.
 #[test]
-fn unknown_lines_change_nothing(rt: HostRuntime) -> Result<(), Fail> {
+fn unknown_lines_change_nothing(rt: HostRuntime) {
     let alloc = rt.alloc();
     let lines =
         b"len\n\n len\nlen \nLen\nlen\r\npicture\npicture 01\npicture -1\npicture 10000000\nmovie 1\nstates \nquit 0\nshot\n\xFF\0\nload\ninsert 0 1 R\nlen\nlen";
-    let (output, end) = said(&rt, alloc, lines);
-    let mut wanted = Vec::from_slice(alloc, b"len 0 0\n")?;
-    for _ in 0..16 {
-        wanted.extend_from_slice(b"unknown\n")?;
-    }
-    wanted.extend_from_slice(b"len 0 0\nunknown\n")?;
-    check_same(&rt, "end", end, Ok(()));
-    check_same(&rt, "output", output.as_slice(), wanted.as_slice());
+    let mut answers = [b"unknown\n".as_slice(); 19];
+    answers[0] = b"len 0 0\n";
+    answers[17] = b"len 0 0\n";
+    check_pieces(&rt, alloc, &[lines], &answers);
     let cases: [(&[u8], &[u8]); 5] = [
         (b"", b""),
         (b"quit\n", b""),
@@ -197,35 +198,37 @@ fn unknown_lines_change_nothing(rt: HostRuntime) -> Result<(), Fail> {
         (b"quit\nlen\nlen", b""),
     ];
     for (lines, answers) in cases {
-        let (output, end) = said(&rt, alloc, lines);
-        check_same(&rt, "end, 2", end, Ok(()));
-        check_same(&rt, "output, 2", output.as_slice(), answers);
+        check_said(&rt, alloc, lines, answers);
     }
-    Ok(())
 }
 
 /// A `load` line of so many parts, each of so many bytes of 00.
-fn load_line(alloc: Global, parts: &[usize]) -> Result<Vec<u8>, Fail> {
-    let mut line = Vec::from_slice(alloc, b"load")?;
+fn load_line<R: Abort>(rt: &R, alloc: Global, parts: &[usize]) -> Vec<u8> {
+    let mut line = joined(rt, alloc, &[b"load"]);
     for count in parts {
-        line.extend_from_slice(b" 000=")?;
+        expect_ok(rt, line.extend_from_slice(b" 000="));
         for _ in 0..*count {
-            line.extend_from_slice(b"00")?;
+            expect_ok(rt, line.extend_from_slice(b"00"));
         }
     }
-    line.push(b'\n')?;
-    Ok(line)
+    expect_ok(rt, line.push(b'\n'));
+    line
 }
 
 /// A line of 16,384 bytes is understood, one of 16,385 isn't, though a script takes both; and one of many more isn't held.
 #[test]
-fn lines_are_bounded(rt: HostRuntime) -> Result<(), Fail> {
+fn lines_are_bounded(rt: HostRuntime) {
     let alloc = rt.alloc();
-    let longest = load_line(alloc, &[4096, 4089])?;
-    check_same(&rt, "longest", longest.len(), 16_385);
-    let longer = load_line(alloc, &[4096, 4082, 5])?;
-    check_same(&rt, "longer", longer.len(), 16_386);
+    let longest = load_line(&rt, alloc, &[4096, 4089]);
+    let longer = load_line(&rt, alloc, &[4096, 4082, 5]);
+    check_same(
+        &rt,
+        "lengths",
+        [longest.len(), longer.len()],
+        [16_385, 16_386],
+    );
     let lines = joined(
+        &rt,
         alloc,
         &[
             longer.as_slice(),
@@ -234,52 +237,32 @@ fn lines_are_bounded(rt: HostRuntime) -> Result<(), Fail> {
             b"len\n",
             longer.as_slice(),
         ],
-    )?;
+    );
+    let answers = b"unknown\nedit 1 len 0\nunknown\nlen 1 0\nunknown\n".as_slice();
     for at_once in [1, 7, 4095, 4096] {
-        let mut input = Giver::new(lines.as_slice(), at_once, 0);
-        let mut output = Vec::new(alloc);
-        let end = talk_run(&rt, alloc, &mut input, &mut output);
-        check_same(&rt, "end", end, Ok(()));
-        check_same(
-            &rt,
-            "output",
-            output.as_slice(),
-            b"unknown\nedit 1 len 0\nunknown\nlen 1 0\nunknown\n".as_slice(),
-        );
+        check_at_once(&rt, alloc, lines.as_slice(), at_once, answers);
     }
-    let mut input = Filler::new(b' ', 20_000_000, 0);
-    let mut output = Vec::new(alloc);
-    let end = talk_run(&rt, alloc, &mut input, &mut output);
-    check_same(&rt, "end, 2", end, Ok(()));
-    check_same(&rt, "output, 2", output.as_slice(), b"unknown\n".as_slice());
-    Ok(())
+    let answer = said(&rt, alloc, &mut Filler::new(b' ', 20_000_000, 0));
+    check_answer(&rt, "blanks", answer, b"unknown\n", Ok(()));
 }
 
 /// One byte at a time, and many lines at once, are answered alike.
 #[test]
-fn pieces_of_the_input_make_no_difference(rt: HostRuntime) -> Result<(), Fail> {
+fn pieces_of_the_input_make_no_difference(rt: HostRuntime) {
     let alloc = rt.alloc();
     let lines = joined(
+        &rt,
         alloc,
         &[
             START,
             b"picture 3\nwhat\nstates\nmovie\nshot 70\nstates\nlen",
         ],
-    )?;
-    let (whole, end) = said(&rt, alloc, lines.as_slice());
+    );
+    let (whole, end) = said(&rt, alloc, &mut lines.as_slice());
     check_same(&rt, "end", end, Ok(()));
     for at_once in [1, 2, 3, 50] {
-        let mut input = Giver::new(lines.as_slice(), at_once, 0);
-        let mut output = Vec::new(alloc);
-        let end = talk_run(&rt, alloc, &mut input, &mut output);
-        check_same(&rt, "end, 2", end, Ok(()));
-        check_that(
-            &rt,
-            ("at once", at_once),
-            output.as_slice() == whole.as_slice(),
-        );
+        check_at_once(&rt, alloc, lines.as_slice(), at_once, whole.as_slice());
     }
-    Ok(())
 }
 
 /// A writer that passes on what it holds when it is flushed, and says how many bytes it has passed on.
@@ -355,55 +338,51 @@ fn answers_are_out_before_the_next_read(rt: HostRuntime) {
         holds: 0,
         passed: &passed,
     };
-    check_same(
-        &rt,
-        "talk_run",
-        talk_run(&rt, alloc, &mut input, &mut output),
-        Ok(()),
-    );
+    let end = talk_run(&rt, alloc, &mut input, &mut output);
+    check_same(&rt, "end", end, Ok(()));
     check_same(&rt, "passed", passed.get(), 101_052);
     check_that(&rt, "input.lines", input.lines.is_empty());
 }
 
+/// Fails where a writer with so much room isn't left with the first bytes of these answers, and told of, after one failed write.
+fn check_full<R: Wait + Abort>(
+    rt: &R,
+    alloc: Global,
+    lines: &[u8],
+    answers: &[u8],
+    (room, failure): (usize, Failure),
+) {
+    let mut input = lines;
+    let mut output = Taker::new(alloc, 5_000, Room::Bytes(room), failure);
+    let end = talk_run(rt, alloc, &mut input, &mut output);
+    let fault = ToolFault::Write { written: room };
+    check_same(rt, ("room", room), end, Err(fault));
+    let sent = &answers[..room.min(answers.len())];
+    check_that(rt, ("room", room), output.taken.as_slice() == sent);
+    check_same(rt, ("room", room), output.failed, 1);
+}
+
 /// A failed write is the last one, and tells how many bytes of the whole conversation went out, within a picture too.
 #[test]
-fn a_failed_write_ends_the_conversation(rt: HostRuntime) -> Result<(), Fail> {
+fn a_failed_write_ends_the_conversation(rt: HostRuntime) {
     let alloc = rt.alloc();
-    let lines = joined(alloc, &[START, b"picture 3\nlen\nlen"])?;
-    let (whole, end) = said(&rt, alloc, lines.as_slice());
+    let lines = joined(&rt, alloc, &[START, b"picture 3\nlen\nlen"]);
+    let lines = lines.as_slice();
+    let (whole, end) = said(&rt, alloc, &mut { lines });
+    let whole = whole.as_slice();
     check_same(&rt, "end", end, Ok(()));
     for room in [
         0, 12, 13, 27, 28, 1_000, 100_861, 100_862, 100_863, 100_871, 100_872, 100_879,
     ] {
         for failure in [Failure::Error, Failure::Nothing] {
-            let mut input = lines.as_slice();
-            let mut output = Taker::new(alloc, 5_000, Room::Bytes(room), failure);
-            let end = talk_run(&rt, alloc, &mut input, &mut output);
-            check_same(
-                &rt,
-                ("room", room),
-                end,
-                Err(ToolFault::Write { written: room }),
-            );
-            let sent = room.min(whole.len());
-            check_that(
-                &rt,
-                ("room", room),
-                output.taken.as_slice() == &whole.as_slice()[..sent],
-            );
-            check_same(&rt, ("room", room), output.failed, 1);
+            check_full(&rt, alloc, lines, whole, (room, failure));
         }
     }
     check_same(&rt, "whole", whole.len(), 100_880);
-    let mut input = lines.as_slice();
+    let mut input = lines;
     let mut output = Taker::new(alloc, 5_000, Room::Bytes(100_880), Failure::Error);
-    check_same(
-        &rt,
-        "talk_run",
-        talk_run(&rt, alloc, &mut input, &mut output),
-        Ok(()),
-    );
-    Ok(())
+    let end = talk_run(&rt, alloc, &mut input, &mut output);
+    check_same(&rt, "room for all", end, Ok(()));
 }
 
 /// A failed read ends the conversation, with all whole lines answered.
@@ -419,10 +398,9 @@ fn a_failed_read_ends_the_conversation(rt: HostRuntime) {
     ];
     for (fails_at, answers) in cases {
         let mut input = Giver::new(b"len\nx\nlen\nlen", 3, fails_at);
-        let mut output = Vec::new(alloc);
-        let end = talk_run(&rt, alloc, &mut input, &mut output);
-        check_same(&rt, "end", end, Err(ToolFault::Read));
-        check_same(&rt, ("read", fails_at), output.as_slice(), answers);
+        let answer = said(&rt, alloc, &mut input);
+        let end = Err(ToolFault::Read);
+        check_answer(&rt, ("read", fails_at), answer, answers, end);
         check_same(&rt, "input.reads", input.reads, fails_at);
     }
 }

@@ -2,9 +2,8 @@
 
 use crate::checks::{check_same, check_that};
 use crate::movies::{PLAYFIELD, image_of};
-use crate::programs::{ONE_FRAME, TwoFiles, run, run_words, words_of};
+use crate::programs::{ONE_FRAME, TwoFiles, check_ran, run, run_words, words_of};
 use std::io::{Error, ErrorKind};
-use std::test::Fail;
 use tas_program::{Task, read_words};
 
 /// Words that name a task, and the task.
@@ -99,16 +98,13 @@ static TASKS: [(&[&str], Task<'static>); 18] = [
 ];
 
 #[test]
-fn each_command_is_its_task(rt: HostRuntime) -> Result<(), Fail> {
+fn each_command_is_its_task(rt: HostRuntime) {
     let alloc = rt.alloc();
     for (number, (words, task)) in TASKS.iter().enumerate() {
-        let words = words_of(alloc, words)?;
-        match read_words(alloc, words.as_slice()) {
-            Ok(read) => check_same(&rt, ("words", number), read, *task),
-            Err(_) => check_that(&rt, ("words", number), false),
-        }
+        let words = words_of(&rt, alloc, words);
+        let read = read_words(alloc, words.as_slice()).ok();
+        check_same(&rt, ("words", number), read, Some(*task));
     }
-    Ok(())
 }
 
 /// Words that are no task: none, an unknown one, too few, too many, numbers past their ranges and
@@ -161,34 +157,23 @@ static MISUSES: [&[&str]; 44] = [
 ];
 
 #[test]
-fn other_words_end_with_status_2(rt: HostRuntime) -> Result<(), Fail> {
+fn other_words_end_with_status_2(rt: HostRuntime) {
     let alloc = rt.alloc();
-    let cart = image_of(alloc, PLAYFIELD.bytes)?;
+    let cart = image_of(&rt, alloc, PLAYFIELD.bytes);
+    let folder = TwoFiles {
+        game: cart.as_slice(),
+        other: b"",
+    };
     for (number, words) in MISUSES.iter().enumerate() {
-        let ran = run(&rt, alloc, words, cart.as_slice(), ONE_FRAME)?;
+        let ran = run(&rt, alloc, words, folder, ONE_FRAME);
         check_same(&rt, ("words", number), ran.code, 2);
         check_that(&rt, ("words", number), ran.output.is_empty());
         check_that(&rt, ("words", number), ran.errors.starts_with(b"error: "));
     }
-    let ran = run_words(
-        &rt,
-        alloc,
-        Err(Error::from(ErrorKind::InvalidData)),
-        TwoFiles {
-            game: cart.as_slice(),
-            other: b"",
-        },
-        ONE_FRAME,
-    );
-    check_same(&rt, "ran.code", ran.code, 2);
-    check_that(&rt, "ran.output", ran.output.is_empty());
-    check_same(
-        &rt,
-        "ran.errors",
-        ran.errors.as_slice(),
-        b"error: the words aren't all text\n".as_slice(),
-    );
-    Ok(())
+    let no_text = Err(Error::from(ErrorKind::InvalidData));
+    let ran = run_words(&rt, alloc, no_text, folder, ONE_FRAME);
+    let line = b"error: the words aren't all text\n";
+    check_ran(&rt, &[], ran, 2, b"", line);
 }
 
 /// Words that ask for help, and the beginning of the text.
@@ -240,21 +225,20 @@ static HELPS: [(&[&str], &[u8]); 11] = [
 ];
 
 #[test]
-fn help_and_version_are_shown(rt: HostRuntime) -> Result<(), Fail> {
+fn help_and_version_are_shown(rt: HostRuntime) {
     let alloc = rt.alloc();
+    let folder = TwoFiles {
+        game: b"",
+        other: b"",
+    };
     for (number, (words, text)) in HELPS.iter().enumerate() {
-        let ran = run(&rt, alloc, words, b"", b"")?;
+        let ran = run(&rt, alloc, words, folder, b"");
         check_same(&rt, ("help", number), ran.code, 0);
         check_that(&rt, ("help", number), ran.output.starts_with(text));
         check_that(&rt, ("help", number), ran.errors.is_empty());
     }
-    let ran = run(&rt, alloc, &["--version"], b"", b"")?;
-    check_same(&rt, "ran.code", ran.code, 0);
-    check_same(
-        &rt,
-        "ran.output",
-        ran.output.as_slice(),
-        b"tas 0.1.0, machine profile 2\n".as_slice(),
-    );
-    Ok(())
+    let words = ["--version"];
+    let ran = run(&rt, alloc, &words, folder, b"");
+    let version = b"tas 0.1.0, machine profile 2\n";
+    check_ran(&rt, &words, ran, 0, version, b"");
 }
