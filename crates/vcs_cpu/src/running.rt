@@ -3,7 +3,7 @@
 
 ghost use Rattle.std.specs.Prelude.{◌≡◌, IfSome, IfNone, Some, None};
 ghost use Rattle.vcs_cpu.specs.Rows.{instruction_of};
-ghost use Rattle.vcs_cpu.specs.Runs.{IsLedTo, RunEnd, Settling, SettlesBy, run_within};
+ghost use Rattle.vcs_cpu.specs.Runs.{HasEnded, IsLedTo, RunEnd, Settling, SettlesBy, run_within};
 
 use crate::addressing::Addressing;
 use crate::bus::Settle;
@@ -184,15 +184,13 @@ pub fn run_until_over<B: Settle>(regs: &mut Regs, bus: &mut B, most: u32) -> Opt
 /// As [`run_until_over`], with the registers in a local variable: no reference to it leaves the function, so that
 /// the compiler can keep it in the processor's own registers. The commonest opcodes have an arm of
 /// their own, which is compiled for that one instruction; an arm says what the opcode's row says.
-#[tactic(auto, using(crate::proofs::RunLemmas::goes_on, crate::proofs::RunLemmas::is_over_there), unfolding(crate::specs::Rows::instruction_of, crate::specs::Rows::row_of))]
+#[tactic(auto, unfolding(crate::specs::Rows::instruction_of, crate::specs::Rows::row_of))]
 fn run_by_value<B: Settle>(mut regs: Regs, bus: &mut B, most: u32, halt: &mut Option<Halt>) -> Regs
     ghost settling: { Settling B.Content }
     requires settles { SettlesBy B.content B.Settles settling }
     requires ready { B.Ready bus.old }
     requires ends { (e : RunEnd B.Content) × (run_within B.device settling most regs (B.content bus.old) ≡ Some e) }
-    ensures ended { run_within B.device settling most regs (B.content bus.old)
-        ≡ Some (record { regs = result; content = B.content bus.new; halt = halt.new }) }
-    ensures fixed { B.fixed bus.new ≡ B.fixed bus.old }
+    ensures { HasEnded B.device B.content B.fixed settling most regs bus.old result bus.new halt.new }
 {
     *halt = None;
     let mut left = most;
