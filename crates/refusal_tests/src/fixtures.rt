@@ -1,7 +1,7 @@
 //! What the calls are made on, in memory that isn't refused.
 
 use crate::checks::expect_ok;
-use std::alloc::{AllocError, Allocator, Global};
+use std::alloc::{Allocator, Global};
 use std::process::Abort;
 use tas_movie::{Edit, Inputs, Movie, apply, check};
 use vcs_machine::{Cart, Input};
@@ -32,11 +32,6 @@ pub fn right() -> Input {
     input
 }
 
-/// So many equal inputs.
-pub fn copies<A: Allocator>(alloc: A, input: Input, count: usize) -> Result<Inputs<A>, AllocError> {
-    Ok(Inputs::from_vec(vec![in alloc; input; count]?))
-}
-
 /// Changes the movie, where the edit fits it.
 fn make<R: Abort>(rt: &R, movie: &mut Movie, edit: &Edit) {
     expect_ok(rt, check(movie, edit));
@@ -49,7 +44,7 @@ pub fn movie_of<R: Abort>(rt: &R, alloc: Global, program: &[u8], count: usize) -
     let mut movie = expect_ok(rt, Movie::new(alloc, &cart));
     let insert = Edit::Insert {
         at: 0,
-        inputs: expect_ok(rt, copies(alloc, Input::none(), count)),
+        inputs: expect_ok(rt, Inputs::repeated(alloc, Input::none(), count)),
     };
     make(rt, &mut movie, &insert);
     movie
@@ -60,7 +55,7 @@ pub fn replaced<R: Abort>(rt: &R, alloc: Global, movie: &Movie, at: usize) -> Mo
     let mut other = expect_ok(rt, movie.copy(alloc));
     let replace = Edit::Replace {
         at,
-        inputs: expect_ok(rt, copies(alloc, right(), 1)),
+        inputs: expect_ok(rt, Inputs::repeated(alloc, right(), 1)),
     };
     make(rt, &mut other, &replace);
     other

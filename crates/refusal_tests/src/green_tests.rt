@@ -27,7 +27,7 @@ enum Seeking {
 }
 
 /// Each such call, and how many growths it has.
-const SEEKINGS: [(Seeking, u64); 7] = [
+static SEEKINGS: [(Seeking, u64); 7] = [
     (Seeking::Shot, 1),
     (Seeking::ShotFrom, 1),
     (Seeking::Merge, 1),

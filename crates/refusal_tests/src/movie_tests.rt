@@ -3,7 +3,7 @@
 ghost use Rattle.std.specs.Prelude.{◌≤◌};
 
 use crate::checks::{check_same, check_that, expect_ok};
-use crate::fixtures::{PLAYFIELD, are_equal, copies, image, movie_of, right};
+use crate::fixtures::{PLAYFIELD, are_equal, image, movie_of, right};
 use crate::runs::{Answer, Heap, MOST, NEVER, Run};
 use refusals::Refusing;
 use std::alloc::Global;
@@ -22,13 +22,14 @@ enum Making {
     BlankMovie,
     NewMovie,
     CopyMovie,
+    RepeatInput,
     CopyInputs,
     ReadText,
     PrintText,
 }
 
 /// Each such call, and how many growths it has.
-const MAKINGS: [(Making, u64); 10] = [
+static MAKINGS: [(Making, u64); 11] = [
     (Making::BlankPicture, 1),
     (Making::CartFromBytes, 1),
     (Making::BlankCart, 1),
@@ -36,6 +37,7 @@ const MAKINGS: [(Making, u64); 10] = [
     (Making::BlankMovie, 2),
     (Making::NewMovie, 2),
     (Making::CopyMovie, 2),
+    (Making::RepeatInput, 1),
     (Making::CopyInputs, 1),
     (Making::ReadText, 2),
     (Making::PrintText, 1),
@@ -92,6 +94,13 @@ fn copy_movie(heap: &Heap, movie: &Movie) -> Answer {
     }
 }
 
+fn repeat_input(heap: &Heap) -> Answer {
+    match Inputs::repeated(heap, right(), 3) {
+        Ok(inputs) => Answer::right(inputs.as_slice() == [right(); 3].as_slice()),
+        Err(_) => Answer::Memory,
+    }
+}
+
 fn copy_inputs(heap: &Heap, inputs: &Inputs) -> Answer {
     match inputs.copy(heap) {
         Ok(copy) => Answer::right(copy.as_slice() == inputs.as_slice()),
@@ -133,6 +142,7 @@ fn make(heap: &Heap, made: &Made, making: Making) -> Answer {
         Making::BlankMovie => blank_movie(heap),
         Making::NewMovie => new_movie(heap, movie),
         Making::CopyMovie => copy_movie(heap, movie),
+        Making::RepeatInput => repeat_input(heap),
         Making::CopyInputs => copy_inputs(heap, &made.inputs),
         Making::ReadText => read(heap, movie, text),
         Making::PrintText => print(heap, movie, text),
@@ -170,7 +180,7 @@ fn growths_of<R: Abort>(rt: &R, alloc: Global, made: &Made, making: Making) -> u
 fn make_all<R: Abort>(rt: &R, alloc: Global) -> Made {
     let movie = movie_of(rt, alloc, PLAYFIELD, 3);
     let text = expect_ok(rt, print_text(alloc, &movie));
-    let inputs = expect_ok(rt, copies(alloc, right(), 3));
+    let inputs = expect_ok(rt, Inputs::repeated(alloc, right(), 3));
     Made {
         movie,
         inputs,
@@ -263,11 +273,11 @@ fn edit_of<'a, R: Abort>(rt: &R, heap: &'a Heap, kind: Kind) -> Edit<&'a Heap> {
         Kind::Load => Edit::Load(expect_ok(rt, Cart::from_bytes(heap, &image(PLAYFIELD)))),
         Kind::Insert => Edit::Insert {
             at: 1,
-            inputs: expect_ok(rt, copies(heap, right(), 5)),
+            inputs: expect_ok(rt, Inputs::repeated(heap, right(), 5)),
         },
         Kind::Replace => Edit::Replace {
             at: 2,
-            inputs: expect_ok(rt, copies(heap, right(), 6)),
+            inputs: expect_ok(rt, Inputs::repeated(heap, right(), 6)),
         },
         Kind::Delete => Edit::Delete { at: 3, count: 7 },
     }
@@ -318,16 +328,18 @@ fn growths_of_copy<R: Abort>(rt: &R, alloc: Global, kind: Kind) -> u64 {
     MOST
 }
 
+/// Each kind, and how many growths its copy has.
+static KINDS: [(Kind, u64); 4] = [
+    (Kind::Load, 1),
+    (Kind::Insert, 1),
+    (Kind::Replace, 1),
+    (Kind::Delete, 0),
+];
+
 #[test]
 fn copies_of_edits(rt: HostRuntime) {
     let alloc = rt.alloc();
-    let kinds = [
-        (Kind::Load, 1),
-        (Kind::Insert, 1),
-        (Kind::Replace, 1),
-        (Kind::Delete, 0),
-    ];
-    for (kind, growths) in kinds {
+    for (kind, growths) in KINDS {
         check_same(&rt, kind, growths_of_copy(&rt, alloc, kind), growths);
     }
 }

@@ -1,12 +1,12 @@
 //! Making a change.
 
-ghost use Rattle.std.specs.Prelude.{◌≡◌, IfOk, replicate};
-ghost use Rattle.tas_edit.specs.Changes.{MakesEdit, Makes};
+ghost use Rattle.std.specs.Prelude.{◌≡◌, IfOk};
+ghost use Rattle.tas_movie.specs.Edit.{refusal, check_answer};
+ghost use Rattle.tas_edit.specs.Changes.{edit_of, Makes};
 
 use crate::Change;
 use std::alloc::{AllocError, Allocator};
-use tas_movie::{Edit, EditRefusal, Inputs, MAX_FRAMES, Movie, apply, check};
-use vcs_machine::Input;
+use tas_movie::{Edit, EditRefusal, Inputs, MAX_FRAMES, Movie, apply};
 
 /// Why a change wasn't made; the movie is as before (own).
 #[derive(Clone, Copy, Debug, PartialEq, Eq)]
@@ -17,21 +17,46 @@ pub enum ChangeError {
     Memory,
 }
 
-/// So many copies of one input.
-fn copies<A: Allocator>(alloc: A, input: Input, count: usize) -> Result<Inputs<A>, AllocError>
-    ensures { IfOk result (λ inputs. inputs ≡ replicate count input) }
+/// Whether a change is allowed on this movie, as `tas_movie::check` answers it of the edit.
+fn check_change<A: Allocator>(movie: &Movie<A>, change: Change) -> Result<(), EditRefusal>
+    ensures { result ≡ check_answer (refusal movie.now (edit_of A change)) }
 {
-    let list = vec![in alloc; input; count]?;
-    Ok(Inputs::from_vec(list))
+    let len = movie.len();
+    match change {
+        Change::Insert { at, count, .. } => {
+            if at > len {
+                Err(EditRefusal::Place { at, len })
+            } else if count > MAX_FRAMES - len {
+                Err(EditRefusal::Long { len })
+            } else {
+                Ok(())
+            }
+        }
+        Change::Replace { at, count, .. } | Change::Delete { at, count } => {
+            if at > len || count > len - at {
+                Err(EditRefusal::Place { at, len })
+            } else {
+                Ok(())
+            }
+        }
+    }
 }
 
-/// Makes an edit where it is allowed.
-fn make<A: Allocator, B: Allocator>(movie: &mut Movie<A>, edit: &Edit<B>) -> Result<(), ChangeError>
-    ensures { MakesEdit movie.old edit.now result movie.new }
+/// The edit that a change asks for. `AllocError` where the room for the copies of the input is refused.
+fn edit_of<A: Allocator>(alloc: A, change: Change) -> Result<Edit<A>, AllocError>
+    ensures { IfOk result (λ edit. edit ≡ edit_of A change) }
 {
-    check(movie, edit).map_err(ChangeError::Refused)?;
-    apply(movie, edit);
-    Ok(())
+    match change {
+        Change::Insert { at, count, input } => {
+            let inputs = Inputs::repeated(alloc, input, count)?;
+            Ok(Edit::Insert { at, inputs })
+        }
+        Change::Replace { at, count, input } => {
+            let inputs = Inputs::repeated(alloc, input, count)?;
+            Ok(Edit::Replace { at, inputs })
+        }
+        Change::Delete { at, count } => Ok(Edit::Delete { at, count }),
+    }
 }
 
 /// Makes a change on a movie, where it is allowed (own): `Refused` as `tas_movie::check` refuses the
@@ -44,29 +69,12 @@ pub fn make_change<A: Allocator, B: Allocator>(
 ) -> Result<(), ChangeError>
     ensures { Makes B movie.old change result movie.new }
 {
-    let len = movie.len();
-    match change {
-        Change::Insert { at, count, input } => {
-            if at > len {
-                return Err(ChangeError::Refused(EditRefusal::Place { at, len }));
-            }
-            if count > MAX_FRAMES - len {
-                return Err(ChangeError::Refused(EditRefusal::Long { len }));
-            }
-            match copies(alloc, input, count) {
-                Ok(inputs) => make(movie, &Edit::Insert { at, inputs }),
-                Err(_) => Err(ChangeError::Memory),
-            }
+    check_change(movie, change).map_err(ChangeError::Refused)?;
+    match edit_of(alloc, change) {
+        Ok(edit) => {
+            apply(movie, &edit);
+            Ok(())
         }
-        Change::Replace { at, count, input } => {
-            if at > len || count > len - at {
-                return Err(ChangeError::Refused(EditRefusal::Place { at, len }));
-            }
-            match copies(alloc, input, count) {
-                Ok(inputs) => make(movie, &Edit::Replace { at, inputs }),
-                Err(_) => Err(ChangeError::Memory),
-            }
-        }
-        Change::Delete { at, count } => make(movie, &Edit::<B>::Delete { at, count }),
+        Err(_) => Err(ChangeError::Memory),
     }
 }

@@ -1,14 +1,18 @@
 //! `tas edit` and `tas diff`.
 
-ghost use Rattle.std.specs.Prelude.{◌≡◌};
+ghost use Rattle.std.specs.Prelude.{◌≡◌, List, IfOk};
+ghost use Rattle.std.specs.List.{flat_map};
 ghost use Rattle.tas_engines.specs.Output.{Ends};
+ghost use Rattle.tas_edit.specs.declared.change.Change.{Change};
+ghost use Rattle.tas_edit.specs.Differences.{IsDifference};
+ghost use Rattle.tas_edit.specs.Scripts.{change_line};
 ghost use Rattle.tas_edit.specs.Runs.{script_fault, IsEditAnswer, IsDiffAnswer, IsEditRun, IsDiffRun};
 
 use crate::{ScriptFault, changes_between, edit_movie, print_changes};
-use std::alloc::Allocator;
+use std::alloc::{AllocError, Allocator};
 use std::io::{Read, Write};
 use tas_engines::{RunFault, ToolFault, movie_of, read_three, write_all};
-use tas_movie::print_text;
+use tas_movie::{Movie, print_text};
 
 /// How a script's fault is told.
 fn script_fault(fault: ScriptFault) -> RunFault
@@ -40,6 +44,19 @@ fn write_edited<A: Allocator + Copy, W: Write>(
     write_all(output, text.as_slice())
 }
 
+/// The script that makes one movie of another.
+fn script_between<A: Allocator + Copy>(
+    alloc: A,
+    old: &Movie<A>,
+    new: &Movie<A>,
+) -> Result<Vec<u8, A>, AllocError>
+    ensures { IfOk result (λ script. (changes : List Change) × IsDifference A old.now.inputs new.now.inputs changes
+        × (script.items ≡ flat_map change_line changes)) }
+{
+    let changes = changes_between(alloc, old.inputs(), new.inputs())?;
+    print_changes(alloc, changes.as_slice())
+}
+
 /// Writes the script that makes one movie of another, both with this cartridge.
 fn write_difference<A: Allocator + Copy, W: Write>(
     alloc: A,
@@ -52,13 +69,10 @@ fn write_difference<A: Allocator + Copy, W: Write>(
 {
     let old = movie_of(alloc, image, before)?;
     let new = movie_of(alloc, image, after)?;
-    let Ok(changes) = changes_between(alloc, old.inputs(), new.inputs()) else {
-        return Err(RunFault::Memory);
-    };
-    let Ok(script) = print_changes(alloc, changes.as_slice()) else {
-        return Err(RunFault::Memory);
-    };
-    write_all(output, script.as_slice())
+    match script_between(alloc, &old, &new) {
+        Ok(script) => write_all(output, script.as_slice()),
+        Err(_) => Err(RunFault::Memory),
+    }
 }
 
 /// Reads a cartridge, a script of changes and a movie text, and writes the text of the movie that the

@@ -1,6 +1,6 @@
 //! Scripts of changes.
 
-ghost use Rattle.std.specs.Prelude.{◌≡◌, IfOk};
+ghost use Rattle.std.specs.Prelude.{◌≡◌, ◌++◌, IfOk, OnOk};
 ghost use Rattle.std.specs.List.{flat_map};
 ghost use Rattle.tas_edit.specs.Scripts.{change_line, fault_at, MakesAll};
 
@@ -60,6 +60,18 @@ pub fn edit_movie<A: Allocator, B: Allocator + Copy>(
     Ok(())
 }
 
+/// Appends the line of a change.
+fn push_change<A: Allocator + Copy>(
+    alloc: A,
+    bytes: &mut Vec<u8, A>,
+    change: Change,
+) -> Result<(), AllocError>
+    ensures { OnOk result (bytes.new.items ≡ bytes.old.items ++ change_line change) }
+{
+    let line = change_line(alloc, change)?;
+    bytes.extend_from_slice(line.as_slice())
+}
+
 /// The script of some changes, a line each (own). `AllocError` where memory is refused.
 pub fn print_changes<A: Allocator + Copy>(
     alloc: A,
@@ -69,8 +81,7 @@ pub fn print_changes<A: Allocator + Copy>(
 {
     let mut bytes = Vec::new(alloc);
     for change in changes {
-        let line = change_line(alloc, *change)?;
-        bytes.extend_from_slice(line.as_slice())?;
+        push_change(alloc, &mut bytes, *change)?;
     }
     Ok(bytes)
 }

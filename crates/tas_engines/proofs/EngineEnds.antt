@@ -1,11 +1,6 @@
 -- How engines end.
-use Rattle.std.proofs.Common.{◌≡◌, ◌+◌, ◌<◌, sym, subst, length, ℕ, List, Option, Some, None, Result, Ok, Err, refl, inr, OnOk, IfErr, MatchResult}
+use Rattle.std.proofs.Common.{◌≡◌, sym, subst, ℕ, List, Option, Result, Ok, Err, refl, inr, OnOk, IfErr, MatchResult}
 use Rattle.std.specs.Io.KnownBytes.{Appends}
-use Rattle.vcs_cpu.specs.declared.halt.Halt.{Halt}
-use Rattle.vcs_cpu.specs.declared.halt.Halt.TheVariants.{Undocumented}
-use Rattle.tas_movie.specs.Content.{MovieContent}
-use Rattle.tas_green.specs.Run.{state_after, answer_of}
-use Rattle.tas_engines.specs.Movies.{IsShotFault, halt_fault}
 use Rattle.tas_engines.specs.declared.fault.RunFault.{RunFault}
 use Rattle.tas_engines.specs.declared.fault.ToolFault.{ToolFault}
 use Rattle.tas_engines.specs.Faults.{told}
@@ -28,23 +23,6 @@ err-of_mapped (Err e) f error tells = (e, refl, tells)
 pub ok-of_mapped : {T E : Type 0} (r : Result T E) (P : T → Type 0) → MatchResult r P (λ e. ⊥) → (x : T) × (r ≡ Ok x)
 ok-of_mapped (Ok x) P tells = (x, refl)
 ok-of_mapped (Err e) P tells = absurd tells
-
--- what a frame answers tells the halt
-pub halt-of_err : (o : Option Halt) (a : Result (Unit {0}) Halt) (h : Halt) → a ≡ answer_of o → a ≡ Err h → o ≡ Some h
-halt-of_err None a h e is = cc
-halt-of_err (Some h') a h e is = cc
-
-pub halt-of_ok : (o : Option Halt) (a : Result (Unit {0}) Halt) (u : Unit {0}) → a ≡ answer_of o → a ≡ Ok u → o ≡ None
-halt-of_ok None a u e is = refl
-halt-of_ok (Some h') a u e is = cc
-
-pub fact-of_ok : (a : Result (Unit {0}) Halt) (u : Unit {0}) (P : Type 0) → OnOk a P → a ≡ Ok u → P
-fact-of_ok (Ok v) u P holds is = holds
-fact-of_ok (Err h) u P holds is = cc
-
--- a halt in frame k is told as a fault
-pub shot_fault-of_halt : (movie : MovieContent) (k : ℕ) (h : Halt) (fault : RunFault) → k < length movie.inputs → (state_after movie (k + 1)).halt ≡ Some h → fault ≡ halt_fault h → IsShotFault movie k fault
-shot_fault-of_halt movie k (Undocumented at opcode) fault within is told = subst (IsShotFault movie k) (sym told) (within, is)
 
 -- ---- engines
 

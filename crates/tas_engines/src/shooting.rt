@@ -1,14 +1,17 @@
 //! `tas shot`.
 #![tactic(auto)]
 
-ghost use Rattle.std.specs.Prelude.{◌≡◌};
+ghost use Rattle.std.specs.Prelude.{◌≡◌, ◌⊎◌, IfOk, IfErr};
+ghost use Rattle.vcs_tia.specs.Image.{ppm_bytes};
+ghost use Rattle.tas_engines.specs.declared.fault.RunFault.TheVariants.{Memory};
 ghost use Rattle.tas_engines.specs.Output.{Ends};
-ghost use Rattle.tas_engines.specs.Movies.{IsMovieRun, IsShotAnswer, halt_fault};
+ghost use Rattle.tas_engines.specs.Movies.{IsMovieRun, IsShot, IsShotFault, IsShotAnswer, halt_fault};
 
 use crate::{RunFault, ToolFault, movie_of, read_two};
 use std::alloc::Allocator;
 use std::io::{Read, Write};
 use tas_green::Green;
+use tas_movie::Movie;
 use vcs_cpu::Halt;
 use vcs_machine::Meter;
 use vcs_tia::{Picture, ppm};
@@ -19,6 +22,31 @@ pub fn halt_fault(halt: Halt) -> RunFault
 {
     match halt {
         Halt::Undocumented { at, opcode } => RunFault::Halted { at, opcode },
+    }
+}
+
+/// The picture of frame `k` of a movie, or why there is none.
+fn draw_frame<A: Allocator + Copy>(
+    alloc: A,
+    movie: &Movie<A>,
+    k: usize,
+) -> Result<Picture<A>, RunFault>
+    ensures drawn { IfOk result (λ picture. IsShot movie.now k (ppm_bytes picture)) }
+    ensures fault { IfErr result (λ fault. (fault ≡ Memory) ⊎ IsShotFault movie.now k fault) }
+{
+    let len = movie.len();
+    if k >= len {
+        return Err(RunFault::NoFrame { frame: k, len });
+    }
+    let Ok(mut picture) = Picture::blank(alloc) else {
+        return Err(RunFault::Memory);
+    };
+    let mut green = Green::new(alloc);
+    let mut meter = Meter::new();
+    match green.shot(movie, k, &mut picture, &mut meter) {
+        Ok(Ok(())) => Ok(picture),
+        Ok(Err(halt)) => Err(halt_fault(halt)),
+        Err(_) => Err(RunFault::Memory),
     }
 }
 
@@ -33,19 +61,7 @@ fn shoot_movie<A: Allocator + Copy, W: Write>(
     ensures { Ends (IsShotAnswer k image.now bytes.now) (W.contents output.old) (W.contents output.new) result }
 {
     let movie = movie_of(alloc, image, bytes)?;
-    let len = movie.len();
-    if k >= len {
-        return Err(RunFault::NoFrame { frame: k, len });
-    }
-    let Ok(mut picture) = Picture::blank(alloc) else {
-        return Err(RunFault::Memory);
-    };
-    let mut green = Green::new(alloc);
-    let mut meter = Meter::new();
-    let Ok(answer) = green.shot(&movie, k, &mut picture, &mut meter) else {
-        return Err(RunFault::Memory);
-    };
-    answer.map_err(halt_fault)?;
+    let picture = draw_frame(alloc, &movie, k)?;
     match ppm(&picture, output) {
         Ok(()) => Ok(()),
         Err(fault) => Err(RunFault::Write {

@@ -1,6 +1,6 @@
 //! A list of inputs that an edit holds.
 
-ghost use Rattle.std.specs.Prelude.{◌≡◌, IfOk};
+ghost use Rattle.std.specs.Prelude.{◌≡◌, IfOk, replicate};
 
 use std::alloc::{AllocError, Allocator, Global};
 use std::marker::Model;
@@ -28,6 +28,14 @@ impl<A: Allocator> Inputs<A> {
         ensures { result ≡ list.items }
     {
         Self { list }
+    }
+
+    /// So many equal inputs. `AllocError` where memory is refused.
+    pub fn repeated(alloc: A, input: Input, count: usize) -> Result<Inputs<A>, AllocError>
+        ensures { IfOk result (λ inputs. inputs ≡ replicate count input) }
+    {
+        let list = vec![in alloc; input; count]?;
+        Ok(Inputs::from_vec(list))
     }
 
     /// The list that holds the inputs.

@@ -162,16 +162,10 @@ fn read_lines<A: Allocator, B: Allocator>(
         return Err(error_at(1, TextErrorKind::End));
     };
     if head == b"a26movie 1".as_slice() {
-        return match after_digest(after, cart) {
-            Ok(frames) => read_frames(list, frames),
-            Err(error) => Err(error),
-        };
+        return read_frames(list, after_digest(after, cart)?);
     }
     if head == b"a26movie 2".as_slice() {
-        return match after_digest(after, cart) {
-            Ok(runs) => read_runs(list, runs),
-            Err(error) => Err(error),
-        };
+        return read_runs(list, after_digest(after, cart)?);
     }
     Err(error_at(1, TextErrorKind::Head))
 }

@@ -102,6 +102,22 @@ fn refusals_in_words(rt: HostRuntime) {
     }
 }
 
+/// Checks that a copy of the edit makes of a movie's copy what the edit makes of the movie, which has another text then.
+fn check_copied_edit<R: Abort>(
+    rt: &R,
+    alloc: Global,
+    kind: &str,
+    edit: &Edit,
+    (movie, copy): (&mut Movie, &mut Movie),
+    text: &[u8],
+) {
+    expect_ok(rt, make(movie, edit));
+    expect_ok(rt, make(copy, &expect_ok(rt, edit.copy(alloc))));
+    let changed = expect_ok(rt, print_text(alloc, movie));
+    check_that(rt, (kind, "after"), is_printed(rt, alloc, copy, &changed));
+    check_that(rt, (kind, "changed"), changed.as_slice() != text);
+}
+
 /// Checks that a copy of the edit makes of a copy of a movie what the edit makes of the movie, which isn't the same movie.
 fn check_copy<R: Abort>(rt: &R, alloc: Global, kind: &str, edit: &Edit) {
     let cart = cart_of(rt, alloc, PLAYFIELD);
@@ -110,11 +126,7 @@ fn check_copy<R: Abort>(rt: &R, alloc: Global, kind: &str, edit: &Edit) {
     let mut movie = expect_ok(rt, read_text(alloc, &text, &cart));
     let mut copy = expect_ok(rt, movie.copy(alloc));
     check_that(rt, (kind, "before"), is_printed(rt, alloc, &copy, &text));
-    expect_ok(rt, make(&mut movie, edit));
-    expect_ok(rt, make(&mut copy, &expect_ok(rt, edit.copy(alloc))));
-    let changed = expect_ok(rt, print_text(alloc, &movie));
-    check_that(rt, (kind, "after"), is_printed(rt, alloc, &copy, &changed));
-    check_that(rt, (kind, "changed"), changed.as_slice() != text.as_slice());
+    check_copied_edit(rt, alloc, kind, edit, (&mut movie, &mut copy), &text);
 }
 
 #[test]
@@ -181,19 +193,27 @@ fn letters_of_a_frame(rt: HostRuntime) {
     }
 }
 
+/// Puts in three inputs with nothing pressed and two equal ones between, writes over the first of these, and takes the last
+/// two inputs out.
+fn edit_list<R: Abort>(rt: &R, alloc: Global, movie: &mut Movie, input: Input) {
+    expect_ok(rt, insert(rt, alloc, movie, 0, 3));
+    let inputs = expect_ok(rt, Inputs::repeated(alloc, input, 2));
+    let are_two = inputs.as_slice() == [input, input].as_slice();
+    check_that(rt, "two inputs", are_two);
+    let edit = Edit::Insert { at: 1, inputs };
+    check_same(rt, "place", edit.place(), 1);
+    expect_ok(rt, make(movie, &edit));
+    let inputs = idle(rt, alloc, 1);
+    expect_ok(rt, make(movie, &Edit::Replace { at: 1, inputs }));
+    expect_ok(rt, make(movie, &Edit::Delete { at: 3, count: 2 }));
+}
+
 #[test]
 fn edits_of_a_list(rt: HostRuntime) {
     let alloc = rt.alloc();
     let mut movie = expect_ok(&rt, Movie::blank(alloc));
     let fire = expect_some(&rt, read_frame(b"....F ..... ....."));
-    expect_ok(&rt, insert(&rt, alloc, &mut movie, 0, 3));
-    let inputs = Inputs::from_vec(expect_ok(&rt, vec![in alloc; fire; 2]));
-    let edit = Edit::Insert { at: 1, inputs };
-    check_same(&rt, "place", edit.place(), 1);
-    expect_ok(&rt, make(&mut movie, &edit));
-    let inputs = idle(&rt, alloc, 1);
-    expect_ok(&rt, make(&mut movie, &Edit::Replace { at: 1, inputs }));
-    expect_ok(&rt, make(&mut movie, &Edit::Delete { at: 3, count: 2 }));
+    edit_list(&rt, alloc, &mut movie, fire);
     let none = Input::none();
     check_that(
         &rt,

@@ -23,5 +23,5 @@ pub fn cart_of<R: Abort>(rt: &R, alloc: Global, program: &[u8]) -> Cart {
 
 /// So many inputs with nothing pressed.
 pub fn idle<R: Abort>(rt: &R, alloc: Global, count: usize) -> Inputs {
-    Inputs::from_vec(expect_ok(rt, vec![in alloc; Input::none(); count]))
+    expect_ok(rt, Inputs::repeated(alloc, Input::none(), count))
 }

@@ -3,8 +3,8 @@
 use crate::checks::{check_same, check_that, expect_ok};
 use crate::movies::{PLAYFIELD, cart_of};
 use crate::texts::{
-    BLANK_LINE, CAPITALS, CART_LINE, HEAD, HEAD2, NONE, SMALL_LINE, at, idle_lines, is_printed,
-    is_read_and_printed, joined, read, reads_as, text_error, told,
+    BLANK_LINE, CAPITALS, CART_LINE, HEAD, HEAD2, NONE, SMALL_LINE, Told, answer, at, idle_lines,
+    is_printed, is_read_and_printed, joined, read, reads_as, text_error, told,
 };
 use std::alloc::Global;
 use std::process::Abort;
@@ -14,29 +14,44 @@ use tas_movie::{
 };
 use vcs_machine::Cart;
 
+/// Checks that the text of runs with this second line and these frames has so many bytes, and is read as so many frames and
+/// printed again.
+fn check_text<R: Abort>(
+    rt: &R,
+    alloc: Global,
+    cart: &Cart,
+    (line, frames): (&[u8], &[u8]),
+    size: usize,
+    count: usize,
+) {
+    let text = joined(rt, alloc, &[HEAD2, line, frames]);
+    check_same(rt, ("size", line), text.len(), size);
+    let is_same = is_read_and_printed(rt, alloc, cart, &text, count);
+    check_that(rt, ("text", line), is_same);
+}
+
+/// The frames of a text with the playfield's cartridge, the text's bytes, and how many frames they are.
+static FRAMES: [(&[u8], usize, usize); 3] = [
+    (NONE, 99, 1),
+    (b"", 81, 0),
+    (
+        b"..... ..... .....\nRL..F .LDU. r.bAB\n..... ..... .....\n",
+        135,
+        3,
+    ),
+];
+
 #[test]
 fn texts_are_read_and_printed_again(rt: HostRuntime) {
     let alloc = rt.alloc();
     let cart = cart_of(&rt, alloc, PLAYFIELD);
-    let blank = expect_ok(&rt, Cart::blank(alloc));
-    let small = expect_ok(&rt, Cart::from_bytes(alloc, &[0; 2048]));
-    let three: &[u8] = b"..... ..... .....\nRL..F .LDU. r.bAB\n..... ..... .....\n";
-    let cases = [
-        (&cart, CART_LINE, NONE, 99, 1),
-        (&cart, CART_LINE, b"".as_slice(), 81, 0),
-        (&cart, CART_LINE, three, 135, 3),
-        (&blank, BLANK_LINE, NONE, 99, 1),
-        (&small, SMALL_LINE, NONE, 99, 1),
-    ];
-    for (number, (cart, line, frames, size, count)) in cases.iter().enumerate() {
-        let text = joined(&rt, alloc, &[HEAD2, line, frames]);
-        check_same(&rt, ("text", number), text.len(), *size);
-        check_that(
-            &rt,
-            ("text", number),
-            is_read_and_printed(&rt, alloc, cart, &text, *count),
-        );
+    for (frames, size, count) in FRAMES {
+        check_text(&rt, alloc, &cart, (CART_LINE, frames), size, count);
     }
+    let blank = expect_ok(&rt, Cart::blank(alloc));
+    check_text(&rt, alloc, &blank, (BLANK_LINE, NONE), 99, 1);
+    let small = expect_ok(&rt, Cart::from_bytes(alloc, &[0; 2048]));
+    check_text(&rt, alloc, &small, (SMALL_LINE, NONE), 99, 1);
     most_inputs_is_exact();
     one_movie_per_text();
     texts_have_no_fault();
@@ -62,40 +77,44 @@ fn cut_texts(rt: HostRuntime) {
     }
 }
 
+/// The first two lines, the one at fault, and how.
+static FIRST_LINES: [(&[u8], &[u8], usize, TextErrorKind); 11] = [
+    (b"a26movie 3\n", CART_LINE, 1, TextErrorKind::Head),
+    (b"a26movie 12\n", CART_LINE, 1, TextErrorKind::Head),
+    (HEAD2, BLANK_LINE, 2, TextErrorKind::Digest),
+    (HEAD2, CAPITALS, 2, TextErrorKind::Digest),
+    (b"A26movie 1\n", CART_LINE, 1, TextErrorKind::Head),
+    (b"\n", CART_LINE, 1, TextErrorKind::Head),
+    (b"a26movie 1 \n", CART_LINE, 1, TextErrorKind::Head),
+    (HEAD, BLANK_LINE, 2, TextErrorKind::Digest),
+    (HEAD, CAPITALS, 2, TextErrorKind::Digest),
+    (HEAD, NONE, 2, TextErrorKind::Digest),
+    (HEAD, b"\n", 2, TextErrorKind::Digest),
+];
+
 #[test]
 fn first_two_lines_at_fault(rt: HostRuntime) {
     let alloc = rt.alloc();
-    let cases: [(&[u8], &[u8], usize, TextErrorKind); 11] = [
-        (b"a26movie 3\n", CART_LINE, 1, TextErrorKind::Head),
-        (b"a26movie 12\n", CART_LINE, 1, TextErrorKind::Head),
-        (HEAD2, BLANK_LINE, 2, TextErrorKind::Digest),
-        (HEAD2, CAPITALS, 2, TextErrorKind::Digest),
-        (b"A26movie 1\n", CART_LINE, 1, TextErrorKind::Head),
-        (b"\n", CART_LINE, 1, TextErrorKind::Head),
-        (b"a26movie 1 \n", CART_LINE, 1, TextErrorKind::Head),
-        (HEAD, BLANK_LINE, 2, TextErrorKind::Digest),
-        (HEAD, CAPITALS, 2, TextErrorKind::Digest),
-        (HEAD, NONE, 2, TextErrorKind::Digest),
-        (HEAD, b"\n", 2, TextErrorKind::Digest),
-    ];
-    for (number, (first, second, line, kind)) in cases.iter().enumerate() {
+    for (number, (first, second, line, kind)) in FIRST_LINES.iter().enumerate() {
         let answer = told(&rt, alloc, &[first, second, NONE]);
         check_same(&rt, ("text", number), answer, at(*line, *kind));
     }
 }
 
+/// Lines that are no frame.
+static NO_FRAMES: [&[u8]; 6] = [
+    b"r.... ..... .....\n",
+    b"..... ..... ....\n",
+    b"..... ..... ......\n",
+    b"L.... ..... .....\n",
+    b"...........\n",
+    b"\n",
+];
+
 #[test]
 fn frames_at_fault(rt: HostRuntime) {
     let alloc = rt.alloc();
-    let wrong: [&[u8]; 6] = [
-        b"r.... ..... .....\n",
-        b"..... ..... ....\n",
-        b"..... ..... ......\n",
-        b"L.... ..... .....\n",
-        b"...........\n",
-        b"\n",
-    ];
-    for (number, line) in wrong.iter().enumerate() {
+    for (number, line) in NO_FRAMES.iter().enumerate() {
         let first = told(&rt, alloc, &[HEAD, CART_LINE, line, NONE, NONE]);
         check_same(&rt, ("line", number), first, at(3, TextErrorKind::Frame));
         let middle = told(&rt, alloc, &[HEAD, CART_LINE, NONE, line, line]);
@@ -109,111 +128,125 @@ fn frames_at_fault(rt: HostRuntime) {
     check_same(&rt, "run", run, at(3, TextErrorKind::Frame));
 }
 
+/// The stick to the right.
+const RIGHT: &[u8] = b"R.... ..... .....\n";
+
+/// Lines that are no run.
+static NO_RUNS: [&[u8]; 14] = [
+    b"..... ..... ..... x1\n",
+    b"..... ..... ..... x0\n",
+    b"..... ..... ..... x02\n",
+    b"..... ..... ..... x262145\n",
+    b"..... ..... ..... x18446744073709551618\n",
+    b"..... ..... ..... x+2\n",
+    b"..... ..... ..... x\n",
+    b"..... ..... ..... X2\n",
+    b"..... ..... .....  x2\n",
+    b"..... ..... .....x2\n",
+    b"..... ..... ..... x2 \n",
+    b"r.... ..... ..... x2\n",
+    b"..... ..... .... x2\n",
+    b"\n",
+];
+
 #[test]
 fn lines_that_are_no_run(rt: HostRuntime) {
     let alloc = rt.alloc();
-    let right = b"R.... ..... .....\n".as_slice();
-    let wrong: [&[u8]; 14] = [
-        b"..... ..... ..... x1\n",
-        b"..... ..... ..... x0\n",
-        b"..... ..... ..... x02\n",
-        b"..... ..... ..... x262145\n",
-        b"..... ..... ..... x18446744073709551618\n",
-        b"..... ..... ..... x+2\n",
-        b"..... ..... ..... x\n",
-        b"..... ..... ..... X2\n",
-        b"..... ..... .....  x2\n",
-        b"..... ..... .....x2\n",
-        b"..... ..... ..... x2 \n",
-        b"r.... ..... ..... x2\n",
-        b"..... ..... .... x2\n",
-        b"\n",
-    ];
-    for (number, line) in wrong.iter().enumerate() {
-        let first = told(&rt, alloc, &[HEAD2, CART_LINE, line, right]);
+    for (number, line) in NO_RUNS.iter().enumerate() {
+        let first = told(&rt, alloc, &[HEAD2, CART_LINE, line, RIGHT]);
         check_same(&rt, ("line", number), first, at(3, TextErrorKind::Frame));
-        let later = told(&rt, alloc, &[HEAD2, CART_LINE, right, line, line]);
+        let later = told(&rt, alloc, &[HEAD2, CART_LINE, RIGHT, line, line]);
         check_same(&rt, ("line", number), later, at(4, TextErrorKind::Frame));
     }
 }
 
+/// Lines of runs, and what is told of them.
+static RUNS: [(&[u8], Told); 9] = [
+    (
+        b"..... ..... .....\n..... ..... .....\n",
+        Err((4, TextErrorKind::Run)),
+    ),
+    (
+        b"..... ..... .....\n..... ..... ..... x2\n",
+        Err((4, TextErrorKind::Run)),
+    ),
+    (
+        b"..... ..... ..... x2\n..... ..... .....\nR.... ..... .....\n",
+        Err((4, TextErrorKind::Run)),
+    ),
+    (
+        b"..... ..... .....\nR.... ..... .....\n..... ..... .....\n",
+        Ok(3),
+    ),
+    (b"..... ..... ..... x262144\n", Ok(262144)),
+    (
+        b"..... ..... ..... x262144\nR.... ..... .....\n",
+        Err((4, TextErrorKind::TooMany)),
+    ),
+    (
+        b"..... ..... .....\nR.... ..... ..... x262144\n",
+        Err((4, TextErrorKind::TooMany)),
+    ),
+    (
+        b"..... ..... .....\nR.... ..... ..... x262143\n..... ..... .....\n",
+        Err((5, TextErrorKind::TooMany)),
+    ),
+    (
+        b"..... ..... .....\nR.... ..... .....\n..... ..... ..... x2",
+        Err((5, TextErrorKind::End)),
+    ),
+];
+
 #[test]
 fn runs_at_fault(rt: HostRuntime) {
-    let cases: [(&[u8], Result<usize, ReadError>); 9] = [
-        (
-            b"..... ..... .....\n..... ..... .....\n",
-            at(4, TextErrorKind::Run),
-        ),
-        (
-            b"..... ..... .....\n..... ..... ..... x2\n",
-            at(4, TextErrorKind::Run),
-        ),
-        (
-            b"..... ..... ..... x2\n..... ..... .....\nR.... ..... .....\n",
-            at(4, TextErrorKind::Run),
-        ),
-        (
-            b"..... ..... .....\nR.... ..... .....\n..... ..... .....\n",
-            Ok(3),
-        ),
-        (b"..... ..... ..... x262144\n", Ok(262144)),
-        (
-            b"..... ..... ..... x262144\nR.... ..... .....\n",
-            at(4, TextErrorKind::TooMany),
-        ),
-        (
-            b"..... ..... .....\nR.... ..... ..... x262144\n",
-            at(4, TextErrorKind::TooMany),
-        ),
-        (
-            b"..... ..... .....\nR.... ..... ..... x262143\n..... ..... .....\n",
-            at(5, TextErrorKind::TooMany),
-        ),
-        (
-            b"..... ..... .....\nR.... ..... .....\n..... ..... ..... x2",
-            at(5, TextErrorKind::End),
-        ),
-    ];
-    for (number, (lines, want)) in cases.iter().enumerate() {
-        let answer = told(&rt, rt.alloc(), &[HEAD2, CART_LINE, lines]);
-        check_same(&rt, ("text", number), answer, *want);
+    for (number, (lines, want)) in RUNS.iter().enumerate() {
+        let found = told(&rt, rt.alloc(), &[HEAD2, CART_LINE, lines]);
+        check_same(&rt, ("text", number), found, answer(*want));
     }
 }
+
+/// As many frames as a movie has.
+const FULL: &[u8] = b"..... ..... ..... x262144\n";
+
+/// One frame less.
+const SOME: &[u8] = b"..... ..... ..... x262143\n";
+
+/// A run, the line behind it, the one at fault, and how.
+static LAST_LINES: [(&[u8], &[u8], usize, TextErrorKind); 5] = [
+    (FULL, b"..\n", 4, TextErrorKind::TooMany),
+    (FULL, NONE, 4, TextErrorKind::TooMany),
+    (FULL, b"..", 4, TextErrorKind::End),
+    (SOME, b"..... ..... ..... x1\n", 4, TextErrorKind::Frame),
+    (SOME, b"..... ..... ..... x2\n", 4, TextErrorKind::Run),
+];
 
 /// Where as many frames as a movie has stand before a line, this is told before what else is wrong with it; and a
 /// line that is no run before that it is the frame of the line before.
 #[test]
 fn the_first_fault_of_a_line_is_told(rt: HostRuntime) {
     let alloc = rt.alloc();
-    let full: &[u8] = b"..... ..... ..... x262144\n";
-    let some: &[u8] = b"..... ..... ..... x262143\n";
-    let cases: [(&[u8], &[u8], usize, TextErrorKind); 5] = [
-        (full, b"..\n", 4, TextErrorKind::TooMany),
-        (full, NONE, 4, TextErrorKind::TooMany),
-        (full, b"..", 4, TextErrorKind::End),
-        (some, b"..... ..... ..... x1\n", 4, TextErrorKind::Frame),
-        (some, b"..... ..... ..... x2\n", 4, TextErrorKind::Run),
-    ];
-    for (number, (first, second, line, kind)) in cases.iter().enumerate() {
+    for (number, (first, second, line, kind)) in LAST_LINES.iter().enumerate() {
         let answer = told(&rt, alloc, &[HEAD2, CART_LINE, first, second]);
         check_same(&rt, ("text", number), answer, at(*line, *kind));
     }
 }
 
+/// How many frames with nothing pressed, what follows them, and what is told of that.
+static MANY_FRAMES: [(usize, &[u8], Told); 5] = [
+    (65536, b"", Ok(65536)),
+    (65537, b"", Err((65539, TextErrorKind::TooMany))),
+    (65536, b"..", Err((65539, TextErrorKind::End))),
+    (65536, b"..\n", Err((65539, TextErrorKind::TooMany))),
+    (65536, b"..\n.", Err((65539, TextErrorKind::TooMany))),
+];
+
 #[test]
 fn too_many_frames(rt: HostRuntime) {
     let alloc = rt.alloc();
-    let cases: [(usize, &[u8], Result<usize, ReadError>); 5] = [
-        (65536, b"", Ok(65536)),
-        (65537, b"", at(65539, TextErrorKind::TooMany)),
-        (65536, b"..", at(65539, TextErrorKind::End)),
-        (65536, b"..\n", at(65539, TextErrorKind::TooMany)),
-        (65536, b"..\n.", at(65539, TextErrorKind::TooMany)),
-    ];
-    for (number, (count, end, want)) in cases.iter().enumerate() {
+    for (number, (count, end, want)) in MANY_FRAMES.iter().enumerate() {
         let lines = idle_lines(&rt, alloc, *count, end);
-        let answer = told(&rt, alloc, &[HEAD, CART_LINE, lines.as_slice()]);
-        check_same(&rt, ("text", number), answer, *want);
+        let found = told(&rt, alloc, &[HEAD, CART_LINE, lines.as_slice()]);
+        check_same(&rt, ("text", number), found, answer(*want));
     }
 }
 
@@ -283,21 +316,23 @@ fn longest_texts(rt: HostRuntime) {
     check_that(&rt, "as many runs as can be", are_many);
 }
 
+/// The line at fault, what is wrong with it, and how this reads.
+static WORDS: [(usize, TextErrorKind, &str); 6] = [
+    (1, TextErrorKind::Head, "movie line 1: head"),
+    (2, TextErrorKind::Digest, "movie line 2: digest"),
+    (4, TextErrorKind::Frame, "movie line 4: frame"),
+    (3, TextErrorKind::End, "movie line 3: end"),
+    (65539, TextErrorKind::TooMany, "movie line 65539: too many"),
+    (5, TextErrorKind::Run, "movie line 5: run"),
+];
+
 #[test]
 fn errors_of_reading_in_words(rt: HostRuntime) {
     let alloc = rt.alloc();
-    for (error, words) in [
-        (text_error(1, TextErrorKind::Head), "movie line 1: head"),
-        (text_error(2, TextErrorKind::Digest), "movie line 2: digest"),
-        (text_error(4, TextErrorKind::Frame), "movie line 4: frame"),
-        (text_error(3, TextErrorKind::End), "movie line 3: end"),
-        (
-            text_error(65539, TextErrorKind::TooMany),
-            "movie line 65539: too many",
-        ),
-        (text_error(5, TextErrorKind::Run), "movie line 5: run"),
-        (ReadError::Memory, "out of memory"),
-    ] {
+    for (line, kind, words) in WORDS {
+        let error = text_error(line, kind);
         check_that(&rt, words, reads_as(&rt, alloc, &error, words));
     }
+    let words = "out of memory";
+    check_that(&rt, words, reads_as(&rt, alloc, &ReadError::Memory, words));
 }

@@ -53,6 +53,17 @@ pub fn at(line: usize, kind: TextErrorKind) -> Result<usize, ReadError> {
     Err(text_error(line, kind))
 }
 
+/// What is told of a text: how many frames it has, or the line at fault and what is wrong with it.
+pub type Told = Result<usize, (usize, TextErrorKind)>;
+
+/// What reading such a text answers.
+pub fn answer(told: Told) -> Result<usize, ReadError> {
+    match told {
+        Ok(frames) => Ok(frames),
+        Err((line, kind)) => at(line, kind),
+    }
+}
+
 /// Whether a text is read as a movie with this cartridge and so many frames, and printed again.
 pub fn is_read_and_printed<R: Abort>(
     rt: &R,

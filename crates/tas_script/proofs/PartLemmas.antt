@@ -1,7 +1,8 @@
 -- Digits, bytes and parts of a `load` line.
 use Rattle.std.proofs.Common.{◌≡◌, ℕ, zero, suc, ◌+◌, ◌*◌, ◌/◌, ◌%◌, ◌<◌, ◌≤◌, List, [], ◌∷◌, ◌++◌, length, take, drop, get_or, refl, sym, ap, subst, ◌∙◌, arith, append_assoc}
 use Rattle.std.proofs.Math.ListN.{set}
-use Rattle.std.proofs.lemmas.List.{take_more, take_all, drop_more, take_more_set, append-nil, length-append, length-drop, length-replicate, length-take-le}
+use Rattle.std.proofs.lemmas.List.{take_more, take_all, take_more_set, append-nil, length-append, length-drop, length-replicate, length-take-le}
+use Rattle.std.proofs.Math.Seq.{take-append_seam, drop-append_seam}
 use Rattle.std.proofs.lemmas.Bool.Decides.{nat_tests}
 use Rattle.std.proofs.lemmas.List.{take-append-drop}
 use Rattle.std.proofs.lemmas.Slice.{take-put_mid, drop-put_mid}
@@ -81,9 +82,13 @@ all_bytes digits room k len le done = sym (take_all (2 * k) digits (omega arith)
 
 -- ---- words
 
-pub word_end_at : (bytes rest : List ℕ) (at : ℕ) → at < length bytes → get_or bytes at 0 ≡ 32 → rest ≡ drop at bytes → IsWordEnd rest
+-- what is parted behind the first word begins with the space
+pub word_end_at : (bytes word more rest : List ℕ) → bytes ≡ word ++ 32 ∷ more → rest ≡ drop (length word) bytes → IsWordEnd rest
 unfolding IsWordEnd
-word_end_at bytes rest at lt is r = rw (r ∙ drop_more bytes at 0 lt) is
+word_end_at bytes word more rest is r = rw (r, is, drop-append_seam word (32 ∷ more)) refl
+
+pub word_at : (bytes word more front : List ℕ) → bytes ≡ word ++ 32 ∷ more → NoByte 32 word → front ≡ take (length word) bytes → NoByte 32 front
+word_at bytes word more front is none f = rw (f, is, take-append_seam word (32 ∷ more)) none
 
 pub word_end_none : (rest : List ℕ) → length rest ≡ 0 → IsWordEnd rest
 unfolding IsWordEnd

@@ -6,6 +6,7 @@ ghost use Rattle.vcs_cpu.specs.Lines.{digit_of};
 ghost use Rattle.std.specs.List.{flat_map};
 ghost use Rattle.tas_script.specs.Parts.{Part, IsPart, AreParts, IsBytes, IsWordEnd, IsImageOf, ArePoured, hex_text, offset_text, word_text, part_text, overwritten};
 
+use crate::words::split_once;
 use vcs_machine::{CART_SIZE, SMALL_CART_SIZE};
 
 /// The value of an upper case hexadecimal digit.
@@ -100,12 +101,10 @@ fn first_word(bytes: &[u8]) -> (&[u8], &[u8])
     ensures word { NoByte 32 result.0.now }
     ensures end { IsWordEnd result.1.now }
 {
-    for at in 0..bytes.len() {
-        if bytes[at] == b' ' {
-            return bytes.split_at(at);
-        }
+    match split_once(bytes, b' ') {
+        Some((word, _)) => bytes.split_at(word.len()),
+        None => bytes.split_at(bytes.len()),
     }
-    bytes.split_at(bytes.len())
 }
 
 /// Writes the first part of the text into the image, and answers what follows it.
