@@ -1,10 +1,7 @@
 -- How an export ends.
 use Rattle.std.proofs.Common.{◌≡◌, ℕ, List, length, refl, sym, subst}
-use Rattle.std.specs.Prelude.{Option, Result, Ok, Err, IfOk, IfErr, OnOk}
-use Rattle.std.specs.Io.KnownBytes.{Appends}
-use Rattle.tas_movie.specs.Content.{MovieContent, most_inputs}
-use Rattle.tas_green.specs.declared.savestate.Savestate.{Savestate}
-use Rattle.tas_green.specs.Green.{IsMoved}
+use Rattle.std.specs.Prelude.{Option, Result, Ok, Err, IfOk, IfErr}
+use Rattle.tas_movie.specs.Content.{MovieContent}
 use Rattle.tas_desk.specs.declared.exporting.ExportFault.{ExportFault}
 use Rattle.tas_desk.specs.declared.exporting.ExportFault.TheVariants.{Memory, Halted, Write}
 use Rattle.tas_desk.specs.declared.export.Exported.{Exported}
