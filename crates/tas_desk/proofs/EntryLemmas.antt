@@ -16,7 +16,7 @@ use Rattle.tas_desk.specs.Session.{IsNextEntry, SessionContent, IsSound, IsEditE
 use Rattle.std.specs.Prelude.{Option}
 use Rattle.tas_desk.specs.declared.replies.EditError.{EditError}
 use Rattle.tas_desk.specs.declared.reader_view.ReaderView.{ReaderView}
-use Rattle.tas_desk.specs.Published.{PublishedContent, ChangeContent, change_of, view_of, after, one_more, IsSoundPublished, IsCurrent, Follows}
+use Rattle.tas_desk.specs.Published.{PublishedContent, PublisherContent, ChangeContent, change_of, view_of, after, one_more, IsSoundPublished, IsCurrent, Follows}
 use Rattle.tas_desk.proofs.HistoryLemmas.{movie_of-push, legal-push}
 
 one_more_below : (n : ℕ) → n < 1000000 → one_more n ≡ n + 1
@@ -59,6 +59,20 @@ accepted_as {A} x y pending now b b' log log' seen e c v s may is none made view
 -- the published movie is the edited one
 pub edited_as : {A : Type 0} (x y : PublishedContent A) (e : Edit A) (m : VersionContent A) (c : ChangeContent A) → c ≡ change_of e m → y ≡ after x c → y.movie ≡ edited x.movie e
 edited_as {A} x y e m c is made = ap (λ (p : PublishedContent A). p.movie) (made ∙ ap (after x) is)
+
+-- the publisher after an entry
+pub pushed_as : {A : Type 0} (old : PublisherContent A) (b b' : Book) (log log' : List (Entry A)) (m m' : MovieContent) (e : Entry A) → record { registry = b; journal = log; movie = m } ≡ old → b' ≡ b → log' ≡ log ++ e ∷ [] → m' ≡ edited m e.edit
+    → ◌≡◌ {A = PublisherContent A} (record { registry = b'; journal = log'; movie = m' }) (record { registry = old.registry; journal = old.journal ++ e ∷ []; movie = edited old.movie e.edit })
+pushed_as {A} old b b' log log' m m' e view book more new =
+    let now : ◌≡◌ {A = PublisherContent A} (record { registry = b'; journal = log'; movie = m' }) (record { registry = b; journal = log ++ e ∷ []; movie = edited m e.edit }) = λ i. record { registry = book i; journal = more i; movie = new i } in
+    now ∙ ap (λ (p : PublisherContent A). record { registry = p.registry; journal = p.journal ++ e ∷ []; movie = edited p.movie e.edit }) view
+
+-- the publisher where nothing has changed
+pub left_as : {A : Type 0} (old : PublisherContent A) (b b' : Book) (log log' : List (Entry A)) (m m' : MovieContent) → record { registry = b; journal = log; movie = m } ≡ old → b' ≡ b → log' ≡ log → m' ≡ m
+    → record { registry = b'; journal = log'; movie = m' } ≡ old
+left_as {A} old b b' log log' m m' view book same new =
+    let now : ◌≡◌ {A = PublisherContent A} (record { registry = b'; journal = log'; movie = m' }) (record { registry = b; journal = log; movie = m }) = λ i. record { registry = book i; journal = same i; movie = new i } in
+    now ∙ view
 
 -- the change_of that stands for an entry
 pub change_is : {A : Type 0} (b : Book) (log items : List (Entry A)) (e : Entry A) (edit : Edit A) (op : ChangeContent A) (last again newest : VersionContent A) → edit ≡ e.edit → items ≡ log ++ e ∷ [] → again ≡ last → last ≡ newest → newest ≡ version_of b items → op ≡ change_of edit again

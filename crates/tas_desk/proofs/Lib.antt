@@ -3,6 +3,7 @@ pub mod CutLemmas
 pub mod DrawingLemmas
 pub mod EditLemmas
 pub mod EntryLemmas
+pub mod ExportLemmas
 pub mod HistoryLemmas
 pub mod PrefixLemmas
 pub mod PublishLemmas

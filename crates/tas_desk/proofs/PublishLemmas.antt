@@ -1,8 +1,7 @@
 -- What a publish did that can't fail.
-use Rattle.std.proofs.Common.{◌≡◌, true≢false, List, [], ◌∷◌, ◌++◌, ap, sym, ◌∙◌}
-use Rattle.std.specs.Prelude.{Result, Ok, Err, IsOk, MatchResult, fold}
-use Rattle.tas_desk.specs.declared.reader_view.ReaderView.{ReaderView}
-use Rattle.tas_desk.specs.Published.{PublishedContent, ChangeContent, after, Sees, view_of}
+use Rattle.std.proofs.Common.{◌≡◌, true, false, true≢false, List, [], ◌∷◌, ◌++◌, ap, sym, ◌∙◌}
+use Rattle.std.specs.Prelude.{Result, Ok, Err, IsOk, is_err, OnOk, OnErr, MatchResult, fold}
+use Rattle.tas_desk.specs.Published.{PublishedContent, ChangeContent, after}
 
 pub done_of : {X E : Type 0} (P Q : Type 0) (r : Result X E) → IsOk r → MatchResult r (λ _. P) (λ _. Q) → P
 done_of P Q (Ok x) ok v = v
@@ -16,19 +15,27 @@ stayed x y ops is none = is ∙ ap (fold after x) none
 pub showed : {A : Type 0} (x was y : PublishedContent A) (before ops : List (ChangeContent A)) (op : ChangeContent A) → y ≡ fold after was ops → was ≡ x → ops ≡ before ++ op ∷ [] → before ≡ [] → y ≡ after x op
 showed x was y before ops op is same more none = is ∙ (λ i. fold after (same i) ((more ∙ ap (λ l. l ++ op ∷ []) none) i))
 
--- the publisher has seen what it published
-pub seen_as : {A : Type 0} (v w : ReaderView A) (x y : PublishedContent A) → Sees v x y w → y ≡ x → w ≡ view_of x.version
-seen_as v w x y s same = s.seen ∙ ap (λ p. view_of p.version) same
+-- a result that isn't taken apart, where it is known to be no error, and where it is known to be one
+pub where_ok : {X E : Type 0} (P Q : Type 0) (r : Result X E) → is_err r ≡ false → MatchResult r (λ _. P) (λ _. Q) → P
+where_ok P Q (Ok x) is v = v
+where_ok P Q (Err e) is v = absurd (true≢false is)
 
--- the same, of a result that is not taken apart
-pub all_ok : {X E : Type 0} (P Q : Type 0) (r : Result X E) → IsOk r → P → MatchResult r (λ _. P) (λ _. Q)
-all_ok P Q (Ok x) ok p = p
-all_ok P Q (Err e) ok p = absurd (true≢false (sym ok))
+pub where_err : {X E : Type 0} (P Q : Type 0) (r : Result X E) → is_err r ≡ true → MatchResult r (λ _. P) (λ _. Q) → Q
+where_err P Q (Ok x) is v = absurd (true≢false (sym is))
+where_err P Q (Err e) is v = v
 
-pub ok_of : {X E : Type 0} (P Q : Type 0) (r : Result X E) (x : X) → r ≡ Ok x → MatchResult r (λ _. P) (λ _. Q) → P
-ok_of P Q (Ok y) x is v = v
-ok_of P Q (Err e) x is v = absurd (cc is)
+pub on_ok : {X E : Type 0} (P : Type 0) (r : Result X E) → P → OnOk r P
+on_ok P (Ok x) p = p
+on_ok P (Err e) p = tt
 
-pub err_of : {X E : Type 0} (P Q : Type 0) (r : Result X E) (e : E) → r ≡ Err e → MatchResult r (λ _. P) (λ _. Q) → Q
-err_of P Q (Ok y) e is v = absurd (cc is)
-err_of P Q (Err d) e is v = v
+pub on_err : {X E : Type 0} (P : Type 0) (r : Result X E) → P → OnErr r P
+on_err P (Ok x) p = tt
+on_err P (Err e) p = p
+
+pub not_ok : {X E : Type 0} (P : Type 0) (r : Result X E) → is_err r ≡ true → OnOk r P
+not_ok P (Ok x) is = absurd (true≢false (sym is))
+not_ok P (Err e) is = tt
+
+pub not_err : {X E : Type 0} (P : Type 0) (r : Result X E) → is_err r ≡ false → OnErr r P
+not_err P (Ok x) is = tt
+not_err P (Err e) is = absurd (true≢false is)

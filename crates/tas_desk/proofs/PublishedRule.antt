@@ -10,7 +10,7 @@ use Rattle.tas_desk.specs.declared.entry.Entry.{Entry}
 use Rattle.tas_desk.specs.declared.reader_view.ReaderView.{ReaderView}
 use Rattle.tas_desk.specs.Version.{VersionContent}
 use Rattle.tas_desk.specs.History.{blank_movie, movie_of, IsLegal}
-use Rattle.tas_desk.specs.Published.{PublishedContent, published_of, IsSoundPublished, HasSeenPrefix, Holds, Sees, view_of, blank_view, ChangeContent, after, Follows, IsCurrent}
+use Rattle.tas_desk.specs.Published.{PublishedContent, published_of, IsSoundPublished, HasSeenPrefix, Holds, Sees, view_of, blank_view, ChangeContent, after, GoesOn, Follows, IsCurrent}
 use Rattle.tas_desk.proofs.PrefixLemmas.{prefix_trans, prefix_self}
 use Rattle.tas_desk.proofs.HistoryLemmas.{legal_none, movie_of-none}
 
@@ -78,27 +78,28 @@ merges seat v other w x views h at apart there =
       fits = fits_set x (set views seat w) other blank_view (fits_set x views seat w h.fits theirs) (fits_none x);
     }
 
--- a change_of is published
-pub publishes : {A : Type 0} (seat : ℕ) (v : ReaderView A) (x was next : PublishedContent A) (c : ChangeContent A) → x ≡ was → next ≡ after was c → Follows was c → TurnsAt Holds seat v x next Sees
-publishes {A} seat v x was next c same is f =
-    turns seat v x next (ap (λ (p : PublishedContent A). p.version.registry) same ∙ f.registry ∙ sym (ap (λ (p : PublishedContent A). p.version.registry) is))
-    (subst (λ (p : PublishedContent A). IsPrefix p.version.history next.version.history) (sym same) (subst (λ (p : PublishedContent A). IsPrefix was.version.history p.version.history) (sym is) f.longer))
-    (λ _. subst IsSoundPublished (sym is) f.sound)
+-- what goes on is published
+pub publishes : {A : Type 0} (seat : ℕ) (v : ReaderView A) (x y next : PublishedContent A) → next ≡ y → GoesOn x y → TurnsAt Holds seat v x next Sees
+publishes {A} seat v x y next is on = subst (λ (p : PublishedContent A). TurnsAt Holds seat v x p Sees) (sym is) (turns seat v x y on.registry on.longer on.sound)
 
--- what is published is published again
-pub stays : {A : Type 0} (seat : ℕ) (v : ReaderView A) (x next : PublishedContent A) → next ≡ x → TurnsAt Holds seat v x next Sees
-stays {A} seat v x next is = subst (λ (p : PublishedContent A). TurnsAt Holds seat v x p Sees) (sym is) (looks seat v x)
+-- what nothing is changed of goes on
+pub stays : {A : Type 0} (x y : PublishedContent A) → y ≡ x → GoesOn x y
+stays {A} x y is = subst (λ (p : PublishedContent A). GoesOn x p) (sym is) (record { registry = refl; longer = prefix_self x.version.history; sound = λ s. s })
+
+-- what follows goes on
+pub follows_on : {A : Type 0} (x was y : PublishedContent A) (c : ChangeContent A) → x ≡ was → y ≡ after was c → Follows was c → GoesOn x y
+follows_on {A} x was y c same is f =
+    subst (λ (p : PublishedContent A). GoesOn p y) (sym same) (subst (λ (p : PublishedContent A). GoesOn was p) (sym is) (record { registry = f.registry; longer = f.longer; sound = λ _. f.sound }))
 
 -- a session that opens: nothing waits to be published, and what is published is the empty history
-pub opened_as : {A : Type 0} (x first : PublishedContent A) (pending : List (ChangeContent A)) (newest : VersionContent A) (journal : List (Entry A)) (movie : MovieContent) (at : ℕ) (version : VersionContent A) (v : ReaderView A) → pending ≡ [] → x ≡ first → first ≡ published_of movie at version → at ≡ 0 → movie ≡ blank_movie → version ≡ newest → newest.history ≡ [] → journal ≡ [] → v ≡ blank_view → IsCurrent x pending newest.registry journal v.seen
-opened_as {A} x first pending newest journal movie at version v none shown is start blank same empty fresh nothing =
-    let all : x ≡ published_of movie 0 version = shown ∙ is ∙ ap (λ (n : ℕ). published_of movie n version) start in record {
-      none = none;
-      registry = ap (λ (p : PublishedContent A). p.version.registry) all ∙ ap (λ (m : VersionContent A). m.registry) same;
-      same = ap (λ (p : PublishedContent A). p.version.history) all ∙ ap (λ (m : VersionContent A). m.history) same ∙ empty ∙ sym fresh;
-      view = ap (λ (w : ReaderView A). w.seen) nothing ∙ sym fresh;
-      sound = subst IsSoundPublished (sym all) (sound_none movie version blank (ap (λ (m : VersionContent A). m.history) same ∙ empty));
-    }
+pub opened_as : {A : Type 0} (x : PublishedContent A) (pending : List (ChangeContent A)) (newest : VersionContent A) (journal : List (Entry A)) (v : ReaderView A) → pending ≡ [] → x ≡ published_of blank_movie 0 newest → newest.history ≡ [] → journal ≡ [] → v ≡ blank_view → IsCurrent x pending newest.registry journal v.seen
+opened_as {A} x pending newest journal v none is empty fresh nothing = record {
+  none = none;
+  registry = ap (λ (p : PublishedContent A). p.version.registry) is;
+  same = ap (λ (p : PublishedContent A). p.version.history) is ∙ empty ∙ sym fresh;
+  view = ap (λ (w : ReaderView A). w.seen) nothing ∙ sym fresh;
+  sound = subst IsSoundPublished (sym is) (sound_none blank_movie newest refl empty);
+}
 
 -- the first thing that is published
 pub first_sound : {A : Type 0} (x : PublishedContent A) (movie : MovieContent) (version newest : VersionContent A) → x ≡ published_of movie 0 version → movie ≡ blank_movie → version ≡ newest → newest.history ≡ [] → IsSoundPublished x

@@ -1,8 +1,10 @@
 -- What a call leaves of a seat's zone.
-use Rattle.std.specs.Prelude.{IfOk}
+use Rattle.std.specs.Prelude.{IfOk, OnOk, OnErr}
 use Rattle.tas_desk.proofs.CutLemmas.{short_shot}
 use Rattle.std.proofs.Common.{◌≡◌, ℕ, List, ap, sym, ◌∙◌, subst, arith, Option, Result, Ok, Err}
 use Rattle.logbook.specs.Pages.{Book}
+use Rattle.tas_movie.specs.Content.{MovieContent}
+use Rattle.tas_green.specs.declared.savestate.Savestate.{Savestate}
 use Rattle.tas_green.specs.Green.{IsLawful, IsShotFrom}
 use Rattle.tas_desk.specs.declared.movie_copy.MovieCopy.{MovieCopy}
 use Rattle.tas_desk.specs.declared.entry.Entry.{Entry}
@@ -30,6 +32,11 @@ seated_on {A} v w b cut sum number made z y s on same = record {
 pub marked : {A : Type 0} (known old new : VersionContent A) (copied : Option (MovieCopy A)) (list : List (Entry A)) → known ≡ old → version_after known copied ≡ version_of known.registry list → new ≡ version_after old copied → new ≡ version_of old.registry list
 marked {A} known old new copied list same found is =
     is ∙ ap (λ (m : VersionContent A). version_after m copied) (sym same) ∙ found ∙ ap (λ (m : VersionContent A). version_of m.registry list) same
+
+-- a zone that a call leaves lawful, or as it was
+pub lawful_still : {X E : Type 0} (movie : MovieContent) (zone now : List Savestate) (same : Type 0) (answer : Result X E) → OnOk answer (IsLawful movie now) → OnErr answer same → (same → now ≡ zone) → IsLawful movie zone → IsLawful movie now
+lawful_still movie zone now same (Ok x) ok err is was = ok
+lawful_still movie zone now same (Err e) ok err is was = subst (IsLawful movie) (sym (is err)) was
 
 pub made_for : {A : Type 0} (z y : ZoneContent A) (list : List (Entry A)) → y.made_for ≡ version_of z.made_for.registry list → y.movie ≡ movie_of y.made_for.history → IsLawful y.movie y.states → IsMadeFor y list
 made_for {A} z y list marked movie lawful =

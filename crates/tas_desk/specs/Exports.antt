@@ -7,6 +7,8 @@ use Rattle.tas_green.specs.Green.{IsMoved}
 use Rattle.tas_desk.specs.declared.export.Exported.{Exported}
 use Rattle.tas_desk.specs.declared.export.ExportError.{ExportError}
 use Rattle.tas_desk.specs.declared.export.ExportError.TheVariants.{Range, Memory, Halted, Write}
+use Rattle.tas_desk.specs.declared.exporting.ExportFault.{ExportFault}
+use Rattle.tas_desk.specs.declared.exporting.ExportFault.TheVariants.{Memory as MemoryFault, Halted as HaltedFault, Write as WriteFault}
 use Rattle.tas_desk.specs.declared.runs.Plan.{Plan}
 use Rattle.tas_desk.specs.Frames.{AllDrawn, IsLeastHalted, pixmaps_of}
 use Rattle.tas_desk.specs.Runs.{costs}
@@ -48,3 +50,10 @@ FoundRange movie edits from to (Err (Range at len)) = (at ≡ edits) × (len ≡
 FoundRange movie edits from to (Err Memory) = IsInRange (length movie.inputs) from to
 FoundRange movie edits from to (Err (Halted at frame halt)) = ⊥
 FoundRange movie edits from to (Err (Write written error)) = ⊥
+
+-- the reply to an export of a movie that so many edits made, by how its frames were written
+abbrev pub end_at : ℕ → Result ℕ ExportFault → Result Exported ExportError
+end_at at (Ok played) = Ok (record { at = at; played = played })
+end_at at (Err MemoryFault) = Err Memory
+end_at at (Err (HaltedFault halted)) = Err (Halted at halted.frame halted.halt)
+end_at at (Err (WriteFault written error)) = Err (Write written error)

@@ -82,6 +82,12 @@ pub record IsCurrent {A : Type 0} (x : PublishedContent A) (pending : List (Chan
   pub view : writers ≡ journal
   pub sound : IsSoundPublished x
 
+-- the history goes on in the same registry, and stays sound
+pub record GoesOn {A : Type 0} (x y : PublishedContent A) : Type 0 where
+  pub registry : x.version.registry ≡ y.version.registry
+  pub longer : IsPrefix x.version.history y.version.history
+  pub sound : IsSoundPublished x → IsSoundPublished y
+
 -- a change of what is published that leaves it sound
 pub record Follows {A : Type 0} (x : PublishedContent A) (c : ChangeContent A) : Type 0 where
   pub registry : x.version.registry ≡ c.version.registry

@@ -15,7 +15,7 @@ ghost use Rattle.tas_desk.specs.Seats.{name_of, seat_of, HasSeen, HasLooked, IsZ
 ghost use Rattle.tas_desk.specs.Work.{IsJobOf, IsTaken};
 
 use crate::locked_session::{CloseOnDrop, LockedSession};
-use crate::seat_zone::SeatZone;
+use crate::seating::new_seats;
 use crate::{
     Closed, EditError, InputError, Name, NoEntry, OfferError, Offered, OpenError, Receipt, Seat,
     Session, Shot, ShotError,
@@ -156,33 +156,19 @@ impl<N: Name, W: CloseOnDrop + Wait, A: Allocator + Copy> Desk<N, W, A> {
             seats: count,
         } = unopened;
         let (book, mut rest) = blank.open::<N>();
-        let mut seats = Vec::new(alloc);
-        for number in 0..count {
-            let reader = match session.reader(&rt) {
-                Ok(reader) => reader,
-                Err(_) => {
-                    session.close(&rt);
-                    return Err(OpenError::NoPlace);
-                }
-            };
-            let zone = match SeatZone::new(alloc, session.version()) {
-                Ok(zone) => zone,
-                Err(_) => {
-                    session.close(&rt);
-                    return Err(OpenError::Memory);
-                }
-            };
-            let share = rest.split_off(1, 0);
-            if let Err(_) = seats.push(Seat::new(number, share, reader, zone)) {
+        match new_seats(&rt, alloc, &mut session, &mut rest, count) {
+            Ok(seats) => {
+                let desk = Desk {
+                    locked: Mutex::new(LockedSession::new(session, book, rest, rt)),
+                    seats: count,
+                };
+                Ok((desk, seats))
+            }
+            Err(error) => {
                 session.close(&rt);
-                return Err(OpenError::Memory);
+                Err(error)
             }
         }
-        let desk = Desk {
-            locked: Mutex::new(LockedSession::new(session, book, rest, rt)),
-            seats: count,
-        };
-        Ok((desk, seats))
     }
 }
 

@@ -1,18 +1,22 @@
 //! Exports of pictures.
 
-ghost use Rattle.std.specs.Prelude.{◌↔◌, ◌≤◌, IsTrue, length};
+ghost use Rattle.std.specs.Prelude.{◌≡◌, ◌↔◌, ◌≤◌, IsTrue, IfOk, IfErr, length};
 ghost use Rattle.tas_desk.specs.History.{movie_of};
 ghost use Rattle.tas_desk.specs.Seats.{HasLooked};
-ghost use Rattle.tas_desk.specs.Exports.{IsInRange, IsExport};
+ghost use Rattle.tas_desk.specs.Runs.{IsPlan};
+ghost use Rattle.tas_desk.specs.Exporting.{IsExportFault};
+ghost use Rattle.tas_desk.specs.Exports.{IsInRange, IsExported, IsExport, end_at as end_of};
 
 use crate::exporting::{ExportFault, export_frames};
 use crate::locked_session::CloseOnDrop;
 use crate::runs::Plan;
+use crate::seat_zone::SeatZone;
 use crate::{Desk, Gate, Name, Seat};
 use std::alloc::Allocator;
 use std::io::{Error, Write};
 use std::sync::Wait;
 use std::thread::Threads;
+use tas_movie::Movie;
 use vcs_cpu::Halt;
 
 /// How many frames one export has at most (own).
@@ -96,27 +100,56 @@ impl<N: Name, W: CloseOnDrop, A: Allocator + Copy> Desk<N, W, A> {
         ensures reply { IsExport seat.old.zone (movie_of seat.new.front) (length seat.new.front) (record { from = from; to = to; workers = workers }) (O.contents out.old) (O.contents out.new) result }
     {
         let found = self.locked.lock(rt).copy(rt, alloc, seat, from, to);
-        let (at, movie) = match found {
-            Ok(found) => found,
-            Err(error) => return Err(error),
-        };
-        let zone = match seat.zone.moved(alloc, &movie) {
-            Ok(zone) => zone,
-            Err(_) => return Err(ExportError::Memory),
-        };
-        let plan = Plan { from, to, workers };
-        match export_frames(rt, alloc, &movie, &zone, plan, gate, out) {
-            Ok(played) => Ok(Exported { at, played }),
-            Err(ExportFault::Memory) => Err(ExportError::Memory),
-            Err(ExportFault::Halted(halted)) => Err(ExportError::Halted {
-                at,
-                frame: halted.frame,
-                halt: halted.halt,
-            }),
-            Err(ExportFault::Write { written, error }) => Err(ExportError::Write {
-                written,
-                error,
-            }),
+        match found {
+            Ok((at, movie)) => {
+                let plan = Plan { from, to, workers };
+                let end = export_movie(rt, alloc, &movie, &seat.zone, plan, gate, out);
+                end_at(at, end)
+            }
+            Err(error) => Err(error),
         }
+    }
+}
+
+/// Exports the frames of a plan, each run from the nearest of the states that a cut for the movie would leave in the zone.
+fn export_movie<
+    A: Allocator + Copy,
+    B: Allocator + Copy + Send + Sync,
+    R: Threads + Sync,
+    G: Gate + Sync,
+    O: Write,
+>(
+    rt: &R,
+    alloc: B,
+    movie: &Movie<B>,
+    zone: &SeatZone<A>,
+    plan: Plan,
+    gate: &G,
+    out: &mut O,
+) -> Result<u64, ExportFault>
+    requires plan { IsPlan movie.now plan }
+    requires range { IsInRange (length movie.now.inputs) plan.from plan.to }
+    ensures ok { IfOk result (IsExported zone.now movie.now plan (O.contents out.old) (O.contents out.new)) }
+    ensures fault { IfErr result (IsExportFault movie.now plan (O.contents out.old) (O.contents out.new)) }
+{
+    match zone.moved(alloc, movie) {
+        Ok(left) => export_frames(rt, alloc, movie, &left, plan, gate, out),
+        Err(_) => Err(ExportFault::Memory),
+    }
+}
+
+/// How the export ends of a movie that so many edits made.
+fn end_at(at: u64, end: Result<u64, ExportFault>) -> Result<Exported, ExportError>
+    ensures { result ≡ end_of at end }
+{
+    match end {
+        Ok(played) => Ok(Exported { at, played }),
+        Err(ExportFault::Memory) => Err(ExportError::Memory),
+        Err(ExportFault::Halted(halted)) => Err(ExportError::Halted {
+            at,
+            frame: halted.frame,
+            halt: halted.halt,
+        }),
+        Err(ExportFault::Write { written, error }) => Err(ExportError::Write { written, error }),
     }
 }

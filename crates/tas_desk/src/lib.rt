@@ -22,6 +22,7 @@ mod replies;
 mod runs;
 mod seat;
 mod seat_zone;
+mod seating;
 mod session;
 mod version;
 mod work;

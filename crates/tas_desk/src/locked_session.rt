@@ -4,7 +4,7 @@ ghost use Rattle.std.specs.Prelude.{◌≡◌, ◌≢◌, ◌↔◌, ◌⊎◌, 
 ghost use mathlib.Core.List.{IsPrefix};
 ghost use Rattle.tas_movie.specs.Edit.{edited};
 ghost use Rattle.tas_desk.specs.declared.replies.OfferError.TheVariants.{Cartridge, Memory};
-ghost use Rattle.tas_desk.specs.History.{movie_of, IsLegal};
+ghost use Rattle.tas_desk.specs.History.{movie_of, entries_of, IsLegal};
 ghost use Rattle.tas_desk.specs.Session.{refusal_at, IsEditError};
 ghost use Rattle.tas_desk.specs.Zones.{IsShared};
 ghost use Rattle.tas_desk.specs.Exports.{FoundRange};
@@ -113,19 +113,35 @@ impl<N: Name, W: CloseOnDrop, A: Allocator> LockedSession<N, W, A> {
         let mut all = rest;
         let mut seats = seats;
         while let Some(seat) = seats.pop() {
-            let Seat {
-                number: _,
-                made: _,
-                share,
-                mut reader,
-                zone: _,
-            } = seat;
-            session.show_to(rt, &mut reader);
-            all.merge(share);
+            join_seat(rt, &session, seat, &mut all);
         }
         book.audit(&mut all);
         session.close(rt)
     }
+}
+
+// Joins a seat's share to the others, once the seat has seen the whole history.
+fn join_seat<N: Name, A: Allocator, R: Wait>(
+    rt: &R,
+    session: &Session<A>,
+    seat: Seat<N, A>,
+    all: &mut Share<N>,
+)
+    requires { session.now.registry ≡ N.registry }
+    ensures parts { all.new.parts ≡ all.old.parts + 1 }
+    ensures amount { all.new.amount ≡ all.old.amount + seat.made }
+    ensures begins { IsPrefix seat.front session.now.journal }
+    ensures fewer { seat.made ≤ entries_of seat.number seat.front }
+{
+    let Seat {
+        number: _,
+        made: _,
+        share,
+        mut reader,
+        zone: _,
+    } = seat;
+    session.show_to(rt, &mut reader);
+    all.merge(share);
 }
 
 impl<N: Name, W: CloseOnDrop, A: Allocator + Copy> LockedSession<N, W, A> {

@@ -1,13 +1,14 @@
 //! The history, and what is published of it.
 
-ghost use Rattle.std.specs.Prelude.{◌≡◌, ◌<◌, ◌^◌, [], ◌∷◌, ◌++◌, drop, IfOk, OnOk, OnErr, MatchResult};
+ghost use Rattle.std.specs.Prelude.{◌≡◌, ◌<◌, ◌^◌, List, [], ◌∷◌, ◌++◌, drop, fold, IfOk, OnOk, OnErr, MatchResult};
 ghost use Rattle.left_right.specs.Sides.{view};
 ghost use mathlib.Core.List.{IsPrefix};
 ghost use Rattle.tas_movie.specs.Edit.{edited};
+ghost use Rattle.tas_desk.specs.declared.entry.Entry.{Entry};
 ghost use Rattle.tas_desk.specs.History.{blank_movie};
 ghost use Rattle.tas_desk.specs.Session.{IsNextEntry};
 ghost use Rattle.tas_desk.specs.Version.{version_of};
-ghost use Rattle.tas_desk.specs.Published.{after, Follows, view_of, KnowsRegistry};
+ghost use Rattle.tas_desk.specs.Published.{published_of, blank_view, after, GoesOn, Follows, view_of, KnowsRegistry};
 
 use crate::Entry;
 use crate::movie_reader::MovieReader;
@@ -24,7 +25,7 @@ use std::alloc::{AllocError, Allocator, Global};
 use std::collections::LinkedList;
 use std::marker::Model;
 use std::sync::Wait;
-use tas_movie::Movie;
+use tas_movie::{Edit, Movie};
 
 /// What publishes the movie.
 type MovieWriter<A> = Writer<PublishedMovie<A>, PublishedEdit<A>, ReaderView<A>, PrefixRule, A>;
@@ -70,6 +71,28 @@ where
     ghost invariant = { λ p. IsCurrent p.writer.desk.shown.value (drop p.writer.behind p.writer.log.items) p.latest.registry p.journal.items (known_by p.writer.desk.place).seen };
 }
 
+// A writer of the blank movie, of the empty history that has this version, with places for so many readers.
+fn new_writer<A: Allocator + Copy>(
+    alloc: A,
+    readers: usize,
+    version: &Version<A>,
+) -> Result<MovieWriter<A>, AllocError>
+    requires few { (0 < readers) × (readers < 2 ^ 32) }
+    requires empty { version.now.history ≡ [] }
+    ensures none { IfOk result (λ w. drop w.behind w.log.items ≡ []) }
+    ensures value { IfOk result (λ w. w.desk.shown.value ≡ published_of blank_movie 0 version.now) }
+    ensures view { IfOk result (λ w. view w.desk.place ≡ blank_view) }
+{
+    let first = Movie::blank(alloc)?;
+    let second = Movie::blank(alloc)?;
+    Writer::new(
+        alloc,
+        PublishedMovie::new(first, version.copy()),
+        PublishedMovie::new(second, version.copy()),
+        readers,
+    )
+}
+
 // Makes the next version, of this history. Only the session numbers histories, so the first try is the one that does it.
 fn renew<A: Allocator, R: Wait>(rt: &R, latest: &mut LatestVersion<A>, journal: &Vec<Entry<A>, A>)
     ensures { latest.new ≡ version_of latest.old.registry journal.now.items }
@@ -80,6 +103,37 @@ fn renew<A: Allocator, R: Wait>(rt: &R, latest: &mut LatestVersion<A>, journal: 
         }
     }
     unreachable!()
+}
+
+// Adds an entry to a journal, and answers a second copy of its edit. Where a growth is refused the journal is as it was.
+fn add_entry<A: Allocator + Copy>(
+    journal: &mut Vec<Entry<A>, A>,
+    next: Entry<A>,
+) -> Result<Edit<A>, AllocError>
+    ensures edit { IfOk result (λ edit. edit ≡ next.edit) }
+    ensures journal { MatchResult result (λ _. journal.new.items ≡ journal.old.items ++ next ∷ []) (λ _. journal.new.items ≡ journal.old.items) }
+{
+    let edit = next.edit.copy(*journal.allocator())?;
+    journal.push(next)?;
+    Ok(edit)
+}
+
+// Takes the last entry out of a journal again.
+fn take_back<A: Allocator>(journal: &mut Vec<Entry<A>, A>)
+    ensures { (before : List (Entry A)) (last : Entry A) → journal.old.items ≡ before ++ last ∷ [] → journal.new.items ≡ before }
+{
+    journal.pop();
+}
+
+// Publishes what is pending, by value, so that the writer has seen what is published.
+fn publish<A: Allocator, R: Wait>(writer: MovieWriter<A>, rt: &R) -> MovieWriter<A>
+    requires { GoesOn writer.desk.shown.value (fold after writer.desk.shown.value (drop writer.behind writer.log.items)) }
+    ensures none { drop result.behind result.log.items ≡ [] }
+    ensures value { result.desk.shown.value ≡ fold after writer.desk.shown.value (drop writer.behind writer.log.items) }
+    ensures view { view result.desk.place ≡ view_of result.desk.shown.value.version }
+{
+    let (writer, _) = writer.publish_as::<Look, R>(rt);
+    writer
 }
 
 // Publishes one change, by value. Its only growth comes first: where that is refused nothing is published.
@@ -98,18 +152,7 @@ fn publish_edit<A: Allocator, R: Wait>(
     if let Err(_) = writer.append(change) {
         return (writer, Err(AllocError));
     }
-    writer.publish_as::<Look, R>(rt)
-}
-
-// Publishes once more what is published, so that the writer's view knows the registry.
-fn publish_again<A: Allocator, R: Wait>(writer: MovieWriter<A>, rt: &R) -> MovieWriter<A>
-    requires { drop writer.behind writer.log.items ≡ [] }
-    ensures none { drop result.behind result.log.items ≡ [] }
-    ensures value { result.desk.shown.value ≡ writer.desk.shown.value }
-    ensures view { view result.desk.place ≡ view_of writer.desk.shown.value.version }
-{
-    let (writer, _) = writer.publish_as::<Look, R>(rt);
-    writer
+    (publish(writer, rt), Ok(()))
 }
 
 // A reader that has seen what is published, or an error where there is no place for it.
@@ -123,7 +166,7 @@ fn make_reader<A: Allocator, R: Wait>(
     ensures own { view result.0.desk.place ≡ view_of writer.desk.shown.value.version }
     ensures view { IfOk result.1 (λ r. view r.place ≡ view_of writer.desk.shown.value.version) }
 {
-    let mut writer = publish_again(writer, rt);
+    let mut writer = publish(writer, rt);
     match writer.factory().reader() {
         Ok(mut reader) => {
             reader.learn::<TellAll>(writer.tell::<TellAll>());
@@ -140,12 +183,9 @@ impl<A: Allocator + Copy> Publisher<A> {
         ensures { IfOk result (λ publisher. publisher ≡ record { registry = publisher.registry; journal = []; movie = blank_movie }) }
     {
         let latest = LatestVersion::new();
-        let first = PublishedMovie::new(Movie::blank(alloc)?, latest.version().copy());
-        let second = PublishedMovie::new(Movie::blank(alloc)?, latest.version().copy());
-        let journal = Vec::new(alloc);
-        let writer: MovieWriter<A> = Writer::new(alloc, first, second, readers)?;
+        let writer = new_writer(alloc, readers, latest.version())?;
         Ok(Publisher {
-            journal,
+            journal: Vec::new(alloc),
             latest,
             writer,
         })
@@ -179,41 +219,31 @@ impl<A: Allocator + Copy> Publisher<A> {
             mut latest,
             writer,
         } = self;
-        let Ok(edit) = next.edit.copy(*journal.allocator()) else {
-            let publisher = Publisher {
-                journal,
-                latest,
-                writer,
-            };
-            return (publisher, Err(AllocError));
-        };
-        if let Err(_) = journal.push(next) {
-            let publisher = Publisher {
-                journal,
-                latest,
-                writer,
-            };
-            return (publisher, Err(AllocError));
+        match add_entry(&mut journal, next) {
+            Ok(edit) => {
+                renew(rt, &mut latest, &journal);
+                let version = latest.version().copy();
+                let change = PublishedEdit::new(edit, version);
+                let (writer, answer) = publish_edit(writer, rt, change);
+                if answer.is_err() {
+                    take_back(&mut journal);
+                }
+                let publisher = Publisher {
+                    journal,
+                    latest,
+                    writer,
+                };
+                (publisher, answer)
+            }
+            Err(error) => {
+                let publisher = Publisher {
+                    journal,
+                    latest,
+                    writer,
+                };
+                (publisher, Err(error))
+            }
         }
-        renew(rt, &mut latest, &journal);
-        let version = latest.version().copy();
-        let change = PublishedEdit::new(edit, version);
-        let (writer, answer) = publish_edit(writer, rt, change);
-        if let Err(error) = answer {
-            journal.pop();
-            let publisher = Publisher {
-                journal,
-                latest,
-                writer,
-            };
-            return (publisher, Err(error));
-        }
-        let publisher = Publisher {
-            journal,
-            latest,
-            writer,
-        };
-        (publisher, Ok(()))
     }
 }
 

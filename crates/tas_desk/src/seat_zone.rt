@@ -124,19 +124,21 @@ impl<A: Allocator + Copy> SeatZone<A> {
     {
         let old = &self.made_for;
         match copied {
-            None => {
-                let answer = self
-                    .green
-                    .shot_from(&old.movie, &old.movie, k, picture, meter)?;
-                Ok(answer)
-            }
+            None => self
+                .green
+                .shot_from(&old.movie, &old.movie, k, picture, meter),
             Some(copied) => {
                 let new = &copied;
-                let answer = self
+                match self
                     .green
-                    .shot_from(&old.movie, &new.movie, k, picture, meter)?;
-                self.made_for = copied;
-                Ok(answer)
+                    .shot_from(&old.movie, &new.movie, k, picture, meter)
+                {
+                    Ok(answer) => {
+                        self.made_for = copied;
+                        Ok(answer)
+                    }
+                    Err(error) => Err(error),
+                }
             }
         }
     }
@@ -161,13 +163,10 @@ impl<A: Allocator + Copy> SeatZone<A> {
             return Err(AllocError);
         };
         let mut meter = Meter::new();
-        let answer = match self.shot(copied, k, &mut picture, &mut meter) {
-            Ok(answer) => answer,
-            Err(error) => return Err(error),
-        };
-        match answer {
-            Ok(()) => Ok((meter.count(), Ok(picture))),
-            Err(halt) => Ok((meter.count(), Err(halt))),
+        match self.shot(copied, k, &mut picture, &mut meter) {
+            Ok(Ok(())) => Ok((meter.count(), Ok(picture))),
+            Ok(Err(halt)) => Ok((meter.count(), Err(halt))),
+            Err(error) => Err(error),
         }
     }
 

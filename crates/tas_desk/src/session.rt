@@ -218,20 +218,18 @@ impl<A: Allocator + Copy> Session<A> {
             return Err(ShotError::Memory);
         };
         let ran = (k + 1 - self.green.nearest(k)) as u64;
-        let Ok(answer) = self
+        match self
             .green
             .shot(self.publisher.movie(), k, &mut picture, meter)
-        else {
-            return Err(ShotError::Memory);
-        };
-        match answer {
-            Ok(()) => Ok(Shot {
+        {
+            Ok(Ok(())) => Ok(Shot {
                 at,
                 frame: k,
                 ran,
                 picture,
             }),
-            Err(halt) => Err(ShotError::Halted { at, halt }),
+            Ok(Err(halt)) => Err(ShotError::Halted { at, halt }),
+            Err(_) => Err(ShotError::Memory),
         }
     }
 
@@ -266,18 +264,19 @@ impl<A: Allocator + Copy> Session<A> {
         ensures few { IfOk result (λ offered. offered.kept ≤ most_states) }
     {
         let at = self.at();
-        let merged = match self.green.merge(self.publisher.movie(), &batch) {
-            Ok(merged) => merged,
-            Err(MergeError::Cartridge) => return Err(OfferError::Cartridge { at }),
-            Err(MergeError::Memory) => return Err(OfferError::Memory(batch)),
-        };
-        // Called for its clause `bounded`: at most 512 states are kept, so no more were gained.
-        let _count = self.green.count();
-        Ok(Offered {
-            at,
-            front: merged.front,
-            kept: merged.kept,
-        })
+        match self.green.merge(self.publisher.movie(), &batch) {
+            Ok(merged) => {
+                // Called for its clause `bounded`: at most 512 states are kept, so no more were gained.
+                let _count = self.green.count();
+                Ok(Offered {
+                    at,
+                    front: merged.front,
+                    kept: merged.kept,
+                })
+            }
+            Err(MergeError::Cartridge) => Err(OfferError::Cartridge { at }),
+            Err(MergeError::Memory) => Err(OfferError::Memory(batch)),
+        }
     }
 }
 

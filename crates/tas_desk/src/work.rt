@@ -1,12 +1,13 @@
 //! Work outside the lock.
 
-ghost use Rattle.std.specs.Prelude.{length};
+ghost use Rattle.std.specs.Prelude.{◌≡◌, ◌+◌, ◌<◌, ◌≤◌, ◌^◌, length, IfOk, IfSome};
+ghost use Rattle.tas_green.specs.Grid.{most_states};
 ghost use Rattle.tas_desk.specs.Seats.{HasLooked};
-ghost use Rattle.tas_desk.specs.Work.{IsWorked};
+ghost use Rattle.tas_desk.specs.Work.{IsTally, IsWorked};
 
 use crate::locked_session::CloseOnDrop;
 use crate::{Desk, Name, OfferError, Seat};
-use std::alloc::Allocator;
+use std::alloc::{AllocError, Allocator};
 use std::sync::Wait;
 use thiserror::Error;
 
@@ -26,6 +27,31 @@ pub struct Worked {
     pub kept: usize,
     /// How many jobs were of another cartridge than the movie's.
     pub stale: usize,
+}
+
+impl Worked {
+    // What was worked with one job more, which gained so many states, or was of another cartridge than the movie's.
+    fn and(self, gained: Option<usize>) -> Worked
+        requires tally { IsTally self }
+        requires room { self.jobs + 1 < 2 ^ 64 }
+        requires few { IfSome gained (λ kept. kept ≤ most_states) }
+        ensures tally { IsTally result }
+        ensures jobs { result.jobs ≡ self.jobs + 1 }
+    {
+        let jobs = self.jobs + 1;
+        match gained {
+            Some(kept) => Worked {
+                jobs,
+                kept: self.kept.saturating_add(kept),
+                stale: self.stale,
+            },
+            None => Worked {
+                jobs,
+                kept: self.kept,
+                stale: self.stale + 1,
+            },
+        }
+    }
 }
 
 /// Why not all targets were worked (own).
@@ -55,25 +81,43 @@ impl<N: Name, W: CloseOnDrop, A: Allocator + Copy> Desk<N, W, A> {
         ensures seat { HasLooked seat.old seat.new }
         ensures reply { IsWorked (length targets.now) result }
     {
-        let (mut jobs, mut kept, mut stale): (usize, usize, usize) = (0, 0, 0);
+        let mut done = Worked {
+            jobs: 0,
+            kept: 0,
+            stale: 0,
+        };
         for i in 0..targets.len() {
-            let Ok(job) = self.job(rt, alloc, seat, targets[i]) else {
-                return Err(WorkError::Memory {
-                    done: Worked { jobs, kept, stale },
-                });
-            };
-            gate.pass(i);
-            match self.offer(rt, seat, job.run()) {
-                Ok(offered) => kept = kept.saturating_add(offered.kept),
-                Err(OfferError::Cartridge { .. }) => stale += 1,
-                Err(OfferError::Memory(_)) => {
-                    return Err(WorkError::Memory {
-                        done: Worked { jobs, kept, stale },
-                    });
-                }
+            match self.work_one(rt, alloc, seat, i, targets[i], gate) {
+                Ok(gained) => done = done.and(gained),
+                Err(_) => return Err(WorkError::Memory { done }),
             }
-            jobs += 1;
         }
-        Ok(Worked { jobs, kept, stale })
+        Ok(done)
+    }
+
+    // Works the target of this number, for so many frames. Answers how many states were gained, or nothing where the job was
+    // of another cartridge than the movie's.
+    fn work_one<G: Gate, B: Allocator + Copy, R: Wait>(
+        &self,
+        rt: &R,
+        alloc: B,
+        seat: &mut Seat<N, A>,
+        number: usize,
+        near: usize,
+        gate: &G,
+    ) -> Result<Option<usize>, AllocError>
+        ensures seat { HasLooked seat.old seat.new }
+        ensures few { IfOk result (λ gained. IfSome gained (λ kept. kept ≤ most_states)) }
+    {
+        let job = match self.job(rt, alloc, seat, near) {
+            Ok(job) => job,
+            Err(error) => return Err(error),
+        };
+        gate.pass(number);
+        match self.offer(rt, seat, job.run()) {
+            Ok(offered) => Ok(Some(offered.kept)),
+            Err(OfferError::Cartridge { .. }) => Ok(None),
+            Err(OfferError::Memory(_)) => Err(AllocError),
+        }
     }
 }

@@ -24,12 +24,15 @@ fn check_cart<R: Abort>(rt: &R, closed: &Closed, cart: &Cart) {
     check_that(rt, "cart", closed.movie.cart().bytes() == cart.bytes());
 }
 
+static FIRST_TURNS: [Turn; 2] = [
+    Turn::Kept("0:"),
+    Turn::NotDrawn(0, ShotError::NoFrame { at: 0, len: 0 }, 0),
+];
+
 #[test]
 fn a_new_session_is_empty(rt: HostRuntime) {
     let alloc = rt.alloc();
-    let none = ShotError::NoFrame { at: 0, len: 0 };
-    let turns = [Turn::Kept("0:"), Turn::NotDrawn(0, none, 0)];
-    let closed = play_turns(&rt, alloc, &turns);
+    let closed = play_turns(&rt, alloc, &FIRST_TURNS);
     check_same(
         &rt,
         "journal, movie",
@@ -40,23 +43,25 @@ fn a_new_session_is_empty(rt: HostRuntime) {
     check_cart(&rt, &closed, &blank);
 }
 
+/// Edits that change nothing, of seats that say how many they have made before.
+static SERIALS: [(u32, u64, Result<Receipt, EditError>); 11] = [
+    (0, 5, Err(EditError::Serial { at: 0, counted: 0 })),
+    (7, 0, Ok(Receipt { at: 1, len: 0 })),
+    (0, 0, Ok(Receipt { at: 2, len: 0 })),
+    (7, 0, Err(EditError::Serial { at: 2, counted: 1 })),
+    (7, 2, Err(EditError::Serial { at: 2, counted: 1 })),
+    (7, 1, Ok(Receipt { at: 3, len: 0 })),
+    (0, 2, Err(EditError::Serial { at: 3, counted: 1 })),
+    (u32::MAX, 3, Err(EditError::Serial { at: 3, counted: 0 })),
+    (u32::MAX, 0, Ok(Receipt { at: 4, len: 0 })),
+    (0, 1, Ok(Receipt { at: 5, len: 0 })),
+    (7, u64::MAX, Err(EditError::Serial { at: 5, counted: 2 })),
+];
+
 #[test]
 fn serials_count_the_seat_s_own_edits(rt: HostRuntime) {
     let alloc = rt.alloc();
-    let attempts = [
-        (0, 5, Err(EditError::Serial { at: 0, counted: 0 })),
-        (7, 0, Ok(Receipt { at: 1, len: 0 })),
-        (0, 0, Ok(Receipt { at: 2, len: 0 })),
-        (7, 0, Err(EditError::Serial { at: 2, counted: 1 })),
-        (7, 2, Err(EditError::Serial { at: 2, counted: 1 })),
-        (7, 1, Ok(Receipt { at: 3, len: 0 })),
-        (0, 2, Err(EditError::Serial { at: 3, counted: 1 })),
-        (u32::MAX, 3, Err(EditError::Serial { at: 3, counted: 0 })),
-        (u32::MAX, 0, Ok(Receipt { at: 4, len: 0 })),
-        (0, 1, Ok(Receipt { at: 5, len: 0 })),
-        (7, u64::MAX, Err(EditError::Serial { at: 5, counted: 2 })),
-    ];
-    let turns = attempts.map(|(seat, made, answer)| {
+    let turns = SERIALS.map(|(seat, made, answer)| {
         Turn::Tried(seat, made, Change::Delete(0, 0), answer)
     });
     let closed = play_turns(&rt, alloc, &turns);
@@ -65,19 +70,20 @@ fn serials_count_the_seat_s_own_edits(rt: HostRuntime) {
     check_history(&rt, alloc, &closed, text);
 }
 
+static EACH_KIND: [Turn; 7] = [
+    Turn::Made(Change::Load(PLAYFIELD), 1, 0),
+    Turn::Made(Change::Insert(0, 5), 2, 5),
+    Turn::Made(Change::Insert(5, 2), 3, 7),
+    Turn::Made(Change::ReplaceRight(6), 4, 7),
+    Turn::Made(Change::Delete(1, 4), 5, 3),
+    Turn::Made(Change::Load(HALTING), 6, 3),
+    Turn::Made(Change::InsertRight(0), 7, 4),
+];
+
 #[test]
 fn each_kind_of_edit_is_made(rt: HostRuntime) {
     let alloc = rt.alloc();
-    let turns = [
-        Turn::Made(Change::Load(PLAYFIELD), 1, 0),
-        Turn::Made(Change::Insert(0, 5), 2, 5),
-        Turn::Made(Change::Insert(5, 2), 3, 7),
-        Turn::Made(Change::ReplaceRight(6), 4, 7),
-        Turn::Made(Change::Delete(1, 4), 5, 3),
-        Turn::Made(Change::Load(HALTING), 6, 3),
-        Turn::Made(Change::InsertRight(0), 7, 4),
-    ];
-    let closed = play_turns(&rt, alloc, &turns);
+    let closed = play_turns(&rt, alloc, &EACH_KIND);
     let text =
         "0 0 load\n0 1 insert 0 5\n0 2 insert 5 2\n0 3 replace 6 1\n0 4 delete 1 4\n0 5 load\n0 6 insert 0 1\n";
     check_history(&rt, alloc, &closed, text);
@@ -91,69 +97,99 @@ fn each_kind_of_edit_is_made(rt: HostRuntime) {
     check_cart(&rt, &closed, &halting);
 }
 
+/// Behind two edits, at 262,108 inputs.
+const SERIAL: Result<Receipt, EditError> = Err(EditError::Serial { at: 2, counted: 2 });
+
+const LONG: Result<Receipt, EditError> = Err(EditError::Long { at: 2, len: 262108 });
+
+const LONGEST: Result<Receipt, EditError> = Ok(Receipt { at: 3, len: 262144 });
+
+const fn place(place: usize) -> Result<Receipt, EditError> {
+    Err(EditError::Place {
+        at: 2,
+        place,
+        len: 262108,
+    })
+}
+
+static REFUSALS: [Turn; 22] = [
+    Turn::Made(Change::Load(HALTING), 1, 0),
+    Turn::Made(Change::Insert(0, 262108), 2, 262108),
+    Turn::NotDrawn(600, ShotError::Halted { at: 2, halt: HALT }, 601),
+    Turn::Tried(0, 1, Change::Insert(0, 1), SERIAL),
+    Turn::Tried(0, 3, Change::Load(PLAYFIELD), SERIAL),
+    Turn::Tried(0, 0, Change::Insert(262109, 1), SERIAL),
+    Turn::Tried(0, 9, Change::Insert(0, 37), SERIAL),
+    Turn::Tried(0, 9, Change::Insert(262109, 37), SERIAL),
+    Turn::Tried(0, 9, Change::ReplaceRight(262108), SERIAL),
+    Turn::Tried(0, 9, Change::Delete(0, 262109), SERIAL),
+    Turn::Tried(0, 2, Change::Insert(262109, 1), place(262109)),
+    Turn::Tried(0, 2, Change::Insert(262109, 0), place(262109)),
+    Turn::Tried(0, 2, Change::Insert(262109, 37), place(262109)),
+    Turn::Tried(0, 2, Change::ReplaceRight(262108), place(262108)),
+    Turn::Tried(0, 2, Change::Replace(64, 262045), place(64)),
+    Turn::Tried(0, 2, Change::Delete(0, 262109), place(0)),
+    Turn::Tried(0, 2, Change::Delete(262108, 1), place(262108)),
+    Turn::Tried(
+        0,
+        2,
+        Change::Delete(usize::MAX, usize::MAX),
+        place(usize::MAX),
+    ),
+    Turn::Tried(0, 2, Change::Insert(0, 37), LONG),
+    Turn::Tried(0, 2, Change::Insert(262108, 37), LONG),
+    Turn::Tried(0, 2, Change::Insert(262108, 36), LONGEST),
+    Turn::Kept("1: 512"),
+];
+
 /// `Serial` comes before `Place`, and `Place` before `Long`, whatever else is wrong. A refusal leaves the state after 512
 /// frames, which is kept.
 #[test]
 fn refusals_come_in_order(rt: HostRuntime) {
-    let (at, len) = (2, 262108);
-    let serial = Err(EditError::Serial { at, counted: 2 });
-    let place = |place: usize| Err(EditError::Place { at, place, len });
-    let long = Err(EditError::Long { at, len });
-    let longest = Ok(Receipt { at: 3, len: 262144 });
-    let halted = ShotError::Halted { at, halt: HALT };
-    let turns = [
-        Turn::Made(Change::Load(HALTING), 1, 0),
-        Turn::Made(Change::Insert(0, 262108), 2, 262108),
-        Turn::NotDrawn(600, halted, 601),
-        Turn::Tried(0, 1, Change::Insert(0, 1), serial),
-        Turn::Tried(0, 3, Change::Load(PLAYFIELD), serial),
-        Turn::Tried(0, 0, Change::Insert(262109, 1), serial),
-        Turn::Tried(0, 9, Change::Insert(0, 37), serial),
-        Turn::Tried(0, 9, Change::Insert(262109, 37), serial),
-        Turn::Tried(0, 9, Change::ReplaceRight(262108), serial),
-        Turn::Tried(0, 9, Change::Delete(0, 262109), serial),
-        Turn::Tried(0, 2, Change::Insert(262109, 1), place(262109)),
-        Turn::Tried(0, 2, Change::Insert(262109, 0), place(262109)),
-        Turn::Tried(0, 2, Change::Insert(262109, 37), place(262109)),
-        Turn::Tried(0, 2, Change::ReplaceRight(262108), place(262108)),
-        Turn::Tried(0, 2, Change::Replace(64, 262045), place(64)),
-        Turn::Tried(0, 2, Change::Delete(0, 262109), place(0)),
-        Turn::Tried(0, 2, Change::Delete(262108, 1), place(262108)),
-        Turn::Tried(
-            0,
-            2,
-            Change::Delete(usize::MAX, usize::MAX),
-            place(usize::MAX),
-        ),
-        Turn::Tried(0, 2, Change::Insert(0, 37), long),
-        Turn::Tried(0, 2, Change::Insert(262108, 37), long),
-        Turn::Tried(0, 2, Change::Insert(262108, 36), longest),
-        Turn::Kept("1: 512"),
-    ];
-    let closed = play_turns(&rt, rt.alloc(), &turns);
+    let closed = play_turns(&rt, rt.alloc(), &REFUSALS);
     check_same(&rt, "closed.movie", closed.movie.len(), 262144);
 }
 
+static LENGTHS: [Turn; 5] = [
+    Turn::Tried(
+        0,
+        0,
+        Change::Insert(0, 262145),
+        Err(EditError::Long { at: 0, len: 0 }),
+    ),
+    Turn::Tried(
+        0,
+        0,
+        Change::Insert(0, 262144),
+        Ok(Receipt { at: 1, len: 262144 }),
+    ),
+    Turn::Tried(
+        0,
+        1,
+        Change::Insert(0, 1),
+        Err(EditError::Long { at: 1, len: 262144 }),
+    ),
+    Turn::Tried(
+        0,
+        1,
+        Change::Insert(262145, 1),
+        Err(EditError::Place {
+            at: 1,
+            place: 262145,
+            len: 262144,
+        }),
+    ),
+    Turn::Tried(
+        0,
+        1,
+        Change::Replace(262144, 0),
+        Ok(Receipt { at: 2, len: 262144 }),
+    ),
+];
+
 #[test]
 fn movies_have_at_most_262144_inputs(rt: HostRuntime) {
-    let len = 262144;
-    let misplaced = Err(EditError::Place {
-        at: 1,
-        place: 262145,
-        len,
-    });
-    let (empty, full) = (
-        Err(EditError::Long { at: 0, len: 0 }),
-        Err(EditError::Long { at: 1, len }),
-    );
-    let turns = [
-        Turn::Tried(0, 0, Change::Insert(0, 262145), empty),
-        Turn::Tried(0, 0, Change::Insert(0, 262144), Ok(Receipt { at: 1, len })),
-        Turn::Tried(0, 1, Change::Insert(0, 1), full),
-        Turn::Tried(0, 1, Change::Insert(262145, 1), misplaced),
-        Turn::Tried(0, 1, Change::Replace(262144, 0), Ok(Receipt { at: 2, len })),
-    ];
-    let closed = play_turns(&rt, rt.alloc(), &turns);
+    let closed = play_turns(&rt, rt.alloc(), &LENGTHS);
     check_same(&rt, "closed.journal", closed.journal.len(), 2);
 }
 
@@ -190,108 +226,111 @@ fn a_million_edits_are_the_most(rt: HostRuntime) {
     check_same(&rt, "journal, movie", lengths, [1_000_000, 0]);
 }
 
+static SHOTS_AND_EDITS: [Turn; 11] = [
+    Turn::Made(Change::Load(PLAYFIELD), 1, 0),
+    Turn::Made(Change::Insert(0, 200), 2, 200),
+    Turn::Drawn(191, 2, 192, 1680),
+    Turn::Kept("3: 64 128 192"),
+    Turn::Made(Change::ReplaceRight(64), 3, 200),
+    Turn::Kept("1: 64"),
+    Turn::Drawn(64, 3, 1, 1680),
+    Turn::Made(Change::Delete(0, 200), 4, 0),
+    Turn::Kept("0:"),
+    Turn::NotDrawn(0, ShotError::NoFrame { at: 4, len: 0 }, 0),
+    Turn::Made(Change::Delete(0, 0), 5, 0),
+];
+
 #[test]
 fn shots_and_edits_in_turn(rt: HostRuntime) {
-    let none = ShotError::NoFrame { at: 4, len: 0 };
-    let turns = [
-        Turn::Made(Change::Load(PLAYFIELD), 1, 0),
-        Turn::Made(Change::Insert(0, 200), 2, 200),
-        Turn::Drawn(191, 2, 192, 1680),
-        Turn::Kept("3: 64 128 192"),
-        Turn::Made(Change::ReplaceRight(64), 3, 200),
-        Turn::Kept("1: 64"),
-        Turn::Drawn(64, 3, 1, 1680),
-        Turn::Made(Change::Delete(0, 200), 4, 0),
-        Turn::Kept("0:"),
-        Turn::NotDrawn(0, none, 0),
-        Turn::Made(Change::Delete(0, 0), 5, 0),
-    ];
-    play_turns(&rt, rt.alloc(), &turns);
+    play_turns(&rt, rt.alloc(), &SHOTS_AND_EDITS);
 }
+
+static INSERTED: [Turn; 11] = [
+    Turn::Made(Change::Load(PLAYFIELD), 1, 0),
+    Turn::Made(Change::Insert(0, 200), 2, 200),
+    Turn::Drawn(199, 2, 200, 1680),
+    Turn::Drawn(150, 2, 23, 1680),
+    Turn::Made(Change::InsertRight(127), 3, 201),
+    Turn::Kept("1: 64"),
+    Turn::Drawn(200, 3, 137, 1680),
+    Turn::Kept("3: 64 128 192"),
+    Turn::Made(Change::Delete(10, 191), 4, 10),
+    Turn::Kept("0:"),
+    Turn::Drawn(9, 4, 10, 1680),
+];
 
 #[test]
 fn states_behind_an_insert_are_made_anew(rt: HostRuntime) {
-    let turns = [
-        Turn::Made(Change::Load(PLAYFIELD), 1, 0),
-        Turn::Made(Change::Insert(0, 200), 2, 200),
-        Turn::Drawn(199, 2, 200, 1680),
-        Turn::Drawn(150, 2, 23, 1680),
-        Turn::Made(Change::InsertRight(127), 3, 201),
-        Turn::Kept("1: 64"),
-        Turn::Drawn(200, 3, 137, 1680),
-        Turn::Kept("3: 64 128 192"),
-        Turn::Made(Change::Delete(10, 191), 4, 10),
-        Turn::Kept("0:"),
-        Turn::Drawn(9, 4, 10, 1680),
-    ];
-    play_turns(&rt, rt.alloc(), &turns);
+    play_turns(&rt, rt.alloc(), &INSERTED);
 }
+
+static TAKEN_BACK: [Turn; 6] = [
+    Turn::Made(Change::Load(PLAYFIELD), 1, 0),
+    Turn::Made(Change::Insert(0, 200), 2, 200),
+    Turn::Drawn(191, 2, 192, 1680),
+    Turn::Made(Change::ReplaceRight(64), 3, 200),
+    Turn::Made(Change::Replace(64, 1), 4, 200),
+    Turn::Drawn(191, 4, 128, 1680),
+];
 
 #[test]
 fn an_edit_that_is_taken_back_still_costs_its_states(rt: HostRuntime) {
-    let turns = [
-        Turn::Made(Change::Load(PLAYFIELD), 1, 0),
-        Turn::Made(Change::Insert(0, 200), 2, 200),
-        Turn::Drawn(191, 2, 192, 1680),
-        Turn::Made(Change::ReplaceRight(64), 3, 200),
-        Turn::Made(Change::Replace(64, 1), 4, 200),
-        Turn::Drawn(191, 4, 128, 1680),
-    ];
-    play_turns(&rt, rt.alloc(), &turns);
+    play_turns(&rt, rt.alloc(), &TAKEN_BACK);
 }
+
+static LENGTHENED: [Turn; 12] = [
+    Turn::Made(Change::Load(PLAYFIELD), 1, 0),
+    Turn::Made(Change::Insert(0, 32831), 2, 32831),
+    Turn::Drawn(199, 2, 200, 1680),
+    Turn::Kept("3: 64 128 192"),
+    Turn::Made(Change::InsertRight(32831), 3, 32832),
+    Turn::Kept("1: 128"),
+    Turn::Drawn(150, 3, 23, 1680),
+    Turn::Drawn(100, 3, 101, 1680),
+    Turn::Made(Change::Delete(32831, 1), 4, 32831),
+    Turn::Kept("1: 128"),
+    Turn::Drawn(100, 4, 101, 1680),
+    Turn::Drawn(100, 4, 37, 1680),
+];
 
 #[test]
 fn the_grid_follows_the_length(rt: HostRuntime) {
-    let turns = [
-        Turn::Made(Change::Load(PLAYFIELD), 1, 0),
-        Turn::Made(Change::Insert(0, 32831), 2, 32831),
-        Turn::Drawn(199, 2, 200, 1680),
-        Turn::Kept("3: 64 128 192"),
-        Turn::Made(Change::InsertRight(32831), 3, 32832),
-        Turn::Kept("1: 128"),
-        Turn::Drawn(150, 3, 23, 1680),
-        Turn::Drawn(100, 3, 101, 1680),
-        Turn::Made(Change::Delete(32831, 1), 4, 32831),
-        Turn::Kept("1: 128"),
-        Turn::Drawn(100, 4, 101, 1680),
-        Turn::Drawn(100, 4, 37, 1680),
-    ];
-    play_turns(&rt, rt.alloc(), &turns);
+    play_turns(&rt, rt.alloc(), &LENGTHENED);
 }
+
+static HALTED: [Turn; 9] = [
+    Turn::Made(Change::Load(HALTING), 1, 0),
+    Turn::Made(Change::Insert(0, 100), 2, 100),
+    Turn::Drawn(2, 2, 3, 0),
+    Turn::Kept("0:"),
+    Turn::NotDrawn(3, ShotError::Halted { at: 2, halt: HALT }, 4),
+    Turn::NotDrawn(99, ShotError::Halted { at: 2, halt: HALT }, 100),
+    Turn::Kept("1: 64"),
+    Turn::NotDrawn(80, ShotError::Halted { at: 2, halt: HALT }, 17),
+    Turn::Kept("1: 64"),
+];
 
 #[test]
 fn halted_frames_are_told_and_kept(rt: HostRuntime) {
-    let halted = ShotError::Halted { at: 2, halt: HALT };
-    let turns = [
-        Turn::Made(Change::Load(HALTING), 1, 0),
-        Turn::Made(Change::Insert(0, 100), 2, 100),
-        Turn::Drawn(2, 2, 3, 0),
-        Turn::Kept("0:"),
-        Turn::NotDrawn(3, halted, 4),
-        Turn::NotDrawn(99, halted, 100),
-        Turn::Kept("1: 64"),
-        Turn::NotDrawn(80, halted, 17),
-        Turn::Kept("1: 64"),
-    ];
-    let closed = play_turns(&rt, rt.alloc(), &turns);
+    let closed = play_turns(&rt, rt.alloc(), &HALTED);
     let text = "0 0 load\n0 1 insert 0 100\n";
     check_history(&rt, rt.alloc(), &closed, text);
 }
 
+static NO_FRAME: [Turn; 8] = [
+    Turn::Made(Change::Load(PLAYFIELD), 1, 0),
+    Turn::Made(Change::Insert(0, 200), 2, 200),
+    Turn::Drawn(100, 2, 101, 1680),
+    Turn::NotDrawn(200, ShotError::NoFrame { at: 2, len: 200 }, 0),
+    Turn::NotDrawn(201, ShotError::NoFrame { at: 2, len: 200 }, 0),
+    Turn::NotDrawn(262144, ShotError::NoFrame { at: 2, len: 200 }, 0),
+    Turn::NotDrawn(usize::MAX, ShotError::NoFrame { at: 2, len: 200 }, 0),
+    Turn::Kept("1: 64"),
+];
+
 #[test]
 fn a_frame_that_is_not_there_changes_nothing(rt: HostRuntime) {
-    let none = ShotError::NoFrame { at: 2, len: 200 };
-    let turns = [
-        Turn::Made(Change::Load(PLAYFIELD), 1, 0),
-        Turn::Made(Change::Insert(0, 200), 2, 200),
-        Turn::Drawn(100, 2, 101, 1680),
-        Turn::NotDrawn(200, none, 0),
-        Turn::NotDrawn(201, none, 0),
-        Turn::NotDrawn(262144, none, 0),
-        Turn::NotDrawn(usize::MAX, none, 0),
-        Turn::Kept("1: 64"),
-    ];
-    let closed = play_turns(&rt, rt.alloc(), &turns);
+    let closed = play_turns(&rt, rt.alloc(), &NO_FRAME);
     check_same(
         &rt,
         "journal, movie",

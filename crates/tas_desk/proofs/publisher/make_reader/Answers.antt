@@ -1,4 +1,6 @@
-use Rattle.tas_desk.proofs.PublishedRule.{admits, forks, merges}
+use Rattle.std.proofs.Common.{refl}
+use Rattle.tas_desk.proofs.PublishedRule.{admits, forks, merges, stays}
+use Rattle.tas_desk.proofs.PublishLemmas.{stayed}
 use Rattle.tas_desk.proofs.publisher.make_reader.Goals as goal
 
 pub reader-requires : goal.reader-requires
@@ -9,3 +11,6 @@ tell-requires g c = forks _ _
 
 pub learn-requires-clause-rule : goal.learn-requires-clause-rule
 learn-requires-clause-rule g c = merges _ _ _ _
+
+pub publish-writer-requires : goal.publish-writer-requires
+publish-writer-requires g c = stays _ _ (stayed _ _ _ refl c.requires)

@@ -7,9 +7,8 @@ use Rattle.tas_desk.proofs.locked_session.LockedSession.close.Goals as goal
 
 pub loop-seat-preserved : goal.loop-seat-preserved
 loop-seat-preserved g c =
-    let i = c.seat.invariant in
-    let m = c.merge.ensures in
-    joins_as _ _ _ _ _ _ _ _ _ _ _ _ _ _ _ c.loop-seat.invariant c.in-Some.ensures.items c.seat.view_is m.parts m.amount i.parts i.amount c.show_to.ensures.begins i.fewer
+    let e = c.join_seat.ensures in
+    joins_as _ _ _ _ _ _ _ _ _ c.loop-seat.invariant c.in-Some.ensures.items e.parts e.amount e.begins e.fewer
 
 pub returns-clause-seats : goal.returns-clause-seats
 returns-clause-seats g c =
