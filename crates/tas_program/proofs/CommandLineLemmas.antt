@@ -19,7 +19,7 @@ use Rattle.clap.specs.declared.parser.matches.SubCommand.{SubCommand}
 use Rattle.clap.proofs.OnLiterals.{clap_on_literals}
 use Rattle.clap.proofs.SimpleLemmas.{label_first}
 use Rattle.tas_program.specs.CommandLine.{command_names, labels, own_flags, named_command, rule_of_word, shape_with, HasRules, IsAsked, command_line, empty_line}
-use Rattle.tas_program.specs.Task.{HasWords, HasWordsOf, IsNumber, command_name}
+use Rattle.tas_program.specs.Task.{HasWordsOf, IsNumber, command_name}
 use Rattle.tas_program.specs.declared.command_line.Word.{Word}
 use Rattle.tas_program.specs.declared.task.Task.{Task}
 use Rattle.std.specs.Prelude.{Result, Ok, ℕ}

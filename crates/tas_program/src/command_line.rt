@@ -159,7 +159,8 @@ fn help_of(name: &str) -> &'static str {
         "diff" => DIFF_HELP,
         "script" => SCRIPT_HELP,
         "talk" => TALK_HELP,
-        _ => EXPORT_HELP,
+        "export" => EXPORT_HELP,
+        _ => "",
     }
 }
 
