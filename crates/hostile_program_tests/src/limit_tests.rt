@@ -108,54 +108,74 @@ fn check_end<R: Threads + Wait + Abort + Sync>(
     check_ran(rt, words, &ran, end);
 }
 
+/// Fails where the program, run with each of these words over these files, ends in another way.
+fn check_ends<R: Threads + Wait + Abort + Sync>(
+    rt: &R,
+    alloc: Global,
+    files: Files<'_>,
+    input: &[u8],
+    cases: &[(&[&str], End)],
+) {
+    for (words, end) in cases {
+        check_end(rt, alloc, words, files, input, *end);
+    }
+}
+
+const NO_FRAME: End = End::Faults(b"fault: no frame 9999999 of 2\n");
+
+const PAST: End = End::Faults(b"fault: range 0 to 9999999 of 2\n");
+
+const TURNED: End = End::Faults(b"fault: range 9999999 to 0 of 2\n");
+
+const BOTH: End = End::Writes(2 * PICTURE, b"\0");
+
+/// Numbers of the words, over a movie of two frames.
+static NUMBERS: [(&[&str], End); 11] = [
+    (&["shot", "game.bin", "9999999"], NO_FRAME),
+    (&["shot", "game.bin", "10000000"], End::Misuse),
+    (&["shot", "game.bin", "1"], End::Writes(PICTURE, b"\0")),
+    (&["export", "game.bin", "0", "9999999", "1"], PAST),
+    (&["export", "game.bin", "0", "10000000", "1"], End::Misuse),
+    (&["export", "game.bin", "9999999", "0", "1"], TURNED),
+    (&["export", "game.bin", "10000000", "0", "1"], End::Misuse),
+    (&["export", "game.bin", "0", "2", "0"], End::Misuse),
+    (&["export", "game.bin", "0", "2", "1"], BOTH),
+    (&["export", "game.bin", "0", "2", "16"], BOTH),
+    (&["export", "game.bin", "0", "2", "17"], End::Misuse),
+];
+
 #[test]
 fn numbers_of_the_words(rt: HostRuntime) {
     let alloc = rt.alloc();
     let (game, text) = (cart(&rt, alloc, BRIEF), older_movie(&rt, alloc, 2));
-    let files = only_game(game.as_slice());
-    let no_frame = End::Faults(b"fault: no frame 9999999 of 2\n");
-    let past = End::Faults(b"fault: range 0 to 9999999 of 2\n");
-    let turned = End::Faults(b"fault: range 9999999 to 0 of 2\n");
-    let both = End::Writes(2 * PICTURE, b"\0");
-    let cases: [(&[&str], End); 11] = [
-        (&["shot", "game.bin", "9999999"], no_frame),
-        (&["shot", "game.bin", "10000000"], End::Misuse),
-        (&["shot", "game.bin", "1"], End::Writes(PICTURE, b"\0")),
-        (&["export", "game.bin", "0", "9999999", "1"], past),
-        (&["export", "game.bin", "0", "10000000", "1"], End::Misuse),
-        (&["export", "game.bin", "9999999", "0", "1"], turned),
-        (&["export", "game.bin", "10000000", "0", "1"], End::Misuse),
-        (&["export", "game.bin", "0", "2", "0"], End::Misuse),
-        (&["export", "game.bin", "0", "2", "1"], both),
-        (&["export", "game.bin", "0", "2", "16"], both),
-        (&["export", "game.bin", "0", "2", "17"], End::Misuse),
-    ];
-    for (words, end) in cases {
-        check_end(&rt, alloc, words, files, text.as_slice(), end);
-    }
+    check_ends(
+        &rt,
+        alloc,
+        only_game(game.as_slice()),
+        text.as_slice(),
+        NUMBERS.as_slice(),
+    );
 }
+
+/// Instructions of a trace that halts at its first one.
+static INSTRUCTIONS: [(&[&str], End); 3] = [
+    (&["trace", "0"], End::Writes(0, b"")),
+    (&["trace", "1000000"], End::Writes(13, b"F000 02 halt\n")),
+    (&["trace", "1000001"], End::Misuse),
+];
 
 #[test]
 fn instructions_of_a_trace(rt: HostRuntime) {
     let alloc = rt.alloc();
-    let files = only_game(b"");
     // An undocumented opcode at its first instruction ends each trace.
     let halting = cart(&rt, alloc, b"\x02");
-    let halt = End::Writes(13, b"F000 02 halt\n");
-    for (number, end) in [
-        ("0", End::Writes(0, b"")),
-        ("1000000", halt),
-        ("1000001", End::Misuse),
-    ] {
-        check_end(
-            &rt,
-            alloc,
-            &["trace", number],
-            files,
-            halting.as_slice(),
-            end,
-        );
-    }
+    check_ends(
+        &rt,
+        alloc,
+        only_game(b""),
+        halting.as_slice(),
+        INSTRUCTIONS.as_slice(),
+    );
 }
 
 /// A line has 25 bytes; the last one is the jump at the end of a loop of five instructions.
@@ -175,39 +195,74 @@ fn lines_of_a_trace(rt: HostRuntime) {
     );
 }
 
+/// Over an older text of the most frames.
+static OLDER_LONGEST: [(&[&str], End); 4] = [
+    (
+        &["check", "game.bin"],
+        End::Writes(16, b"ok 65536 frames\n"),
+    ),
+    (
+        &["migrate", "game.bin"],
+        End::Writes(106, b"\n..... ..... ..... x65536\n"),
+    ),
+    (&["shot", "game.bin", "65535"], End::Writes(PICTURE, b"\0")),
+    (
+        &["shot", "game.bin", "65536"],
+        End::Faults(b"fault: no frame 65536 of 65536\n"),
+    ),
+];
+
+const OLDER_TOO_MANY: End = End::Faults(b"fault: movie line 65539: too many\n");
+
+/// Over an older text of one frame more.
+static OLDER_LONGER: [(&[&str], End); 3] = [
+    (&["check", "game.bin"], OLDER_TOO_MANY),
+    (&["migrate", "game.bin"], OLDER_TOO_MANY),
+    (&["shot", "game.bin", "0"], OLDER_TOO_MANY),
+];
+
 #[test]
 fn frames_of_an_older_movie(rt: HostRuntime) {
     let alloc = rt.alloc();
     let (game, longest) = (cart(&rt, alloc, BRIEF), older_movie(&rt, alloc, 65_536));
     let longer = older_movie(&rt, alloc, 65_537);
     let files = only_game(game.as_slice());
-    let too_many = End::Faults(b"fault: movie line 65539: too many\n");
-    let no_frame = End::Faults(b"fault: no frame 65536 of 65536\n");
-    let cases: [(&[&str], &[u8], End); 7] = [
-        (
-            &["check", "game.bin"],
-            &longest,
-            End::Writes(16, b"ok 65536 frames\n"),
-        ),
-        (&["check", "game.bin"], &longer, too_many),
-        (
-            &["migrate", "game.bin"],
-            &longest,
-            End::Writes(106, b"\n..... ..... ..... x65536\n"),
-        ),
-        (&["migrate", "game.bin"], &longer, too_many),
-        (
-            &["shot", "game.bin", "65535"],
-            &longest,
-            End::Writes(PICTURE, b"\0"),
-        ),
-        (&["shot", "game.bin", "65536"], &longest, no_frame),
-        (&["shot", "game.bin", "0"], &longer, too_many),
-    ];
-    for (words, text, end) in cases {
-        check_end(&rt, alloc, words, files, text, end);
-    }
+    check_ends(
+        &rt,
+        alloc,
+        files,
+        longest.as_slice(),
+        OLDER_LONGEST.as_slice(),
+    );
+    check_ends(
+        &rt,
+        alloc,
+        files,
+        longer.as_slice(),
+        OLDER_LONGER.as_slice(),
+    );
 }
+
+const ALL_FRAMES: End = End::Writes(17, b"ok 262144 frames\n");
+
+/// Over the text of the most frames in one run.
+static LONGEST: [(&[&str], End); 3] = [
+    (&["check", "game.bin"], ALL_FRAMES),
+    (&["shot", "game.bin", "262143"], End::Writes(PICTURE, b"\0")),
+    (
+        &["shot", "game.bin", "262144"],
+        End::Faults(b"fault: no frame 262144 of 262144\n"),
+    ),
+];
+
+/// Over the text of as many in two runs.
+static PARTED: [(&[&str], End); 2] = [
+    (&["check", "game.bin"], ALL_FRAMES),
+    (
+        &["migrate", "game.bin"],
+        End::Writes(125, b" x262143\nR.... ..... .....\n"),
+    ),
+];
 
 /// The text of runs with the most frames, in one run and in two.
 #[test]
@@ -221,59 +276,65 @@ fn frames_of_a_movie(rt: HostRuntime) {
         alloc,
         b"..... ..... ..... x262143\nR.... ..... .....\n",
     );
-    let all = End::Writes(17, b"ok 262144 frames\n");
-    let migrated = End::Writes(125, b" x262143\nR.... ..... .....\n");
-    let last = End::Writes(PICTURE, b"\0");
-    let no_frame = End::Faults(b"fault: no frame 262144 of 262144\n");
-    let cases: [(&[&str], &[u8], End); 5] = [
-        (&["check", "game.bin"], &longest, all),
-        (&["check", "game.bin"], &parted, all),
-        (&["migrate", "game.bin"], &parted, migrated),
-        (&["shot", "game.bin", "262143"], &longest, last),
-        (&["shot", "game.bin", "262144"], &longest, no_frame),
-    ];
-    for (words, text, end) in cases {
-        check_end(&rt, alloc, words, files, text, end);
-    }
+    check_ends(&rt, alloc, files, longest.as_slice(), LONGEST.as_slice());
+    check_ends(&rt, alloc, files, parted.as_slice(), PARTED.as_slice());
 }
 
+const FRAME_FAULT: End = End::Faults(b"fault: movie line 3: frame\n");
+
+const TOO_MANY: End = End::Faults(b"fault: movie line 4: too many\n");
+
 /// Runs with one frame more than the most, and two that would be one.
+static PAST_RUNS: [(&[u8], End); 5] = [
+    (b"..... ..... ..... x262145\n", FRAME_FAULT),
+    (b"..... ..... ..... x1\n", FRAME_FAULT),
+    (
+        b"..... ..... ..... x2\n..... ..... .....\n",
+        End::Faults(b"fault: movie line 4: run\n"),
+    ),
+    (b"..... ..... ..... x262144\nR.... ..... .....\n", TOO_MANY),
+    (
+        b"..... ..... ..... x262143\nR.... ..... ..... x2\n",
+        TOO_MANY,
+    ),
+];
+
 #[test]
 fn runs_past_their_limits(rt: HostRuntime) {
     let alloc = rt.alloc();
     let game = cart(&rt, alloc, BRIEF);
     let files = only_game(game.as_slice());
-    let frame = End::Faults(b"fault: movie line 3: frame\n");
-    let run = End::Faults(b"fault: movie line 4: run\n");
-    let too_many = End::Faults(b"fault: movie line 4: too many\n");
-    let cases: [(&[u8], End); 5] = [
-        (b"..... ..... ..... x262145\n", frame),
-        (b"..... ..... ..... x1\n", frame),
-        (b"..... ..... ..... x2\n..... ..... .....\n", run),
-        (b"..... ..... ..... x262144\nR.... ..... .....\n", too_many),
-        (
-            b"..... ..... ..... x262143\nR.... ..... ..... x2\n",
-            too_many,
-        ),
-    ];
-    for (lines, end) in cases {
+    for (lines, end) in PAST_RUNS.iter() {
         let text = runs(&rt, alloc, lines);
-        check_end(&rt, alloc, &["check", "game.bin"], files, &text, end);
+        check_end(
+            &rt,
+            alloc,
+            &["check", "game.bin"],
+            files,
+            text.as_slice(),
+            *end,
+        );
     }
 }
+
+/// Changes that make a movie of three frames one of the most, and longer.
+static CHANGES: [(&[u8], End); 2] = [
+    (
+        b"insert 3 262141 ..... ..... .....\n",
+        End::Writes(107, b"\n..... ..... ..... x262144\n"),
+    ),
+    (
+        b"insert 3 262142 ..... ..... .....\n",
+        End::Faults(b"fault: script line 1: long\n"),
+    ),
+];
 
 /// Edits at the most frames, by `tas edit` of a movie of three frames and by `tas script`.
 #[test]
 fn frames_of_an_edit(rt: HostRuntime) {
     let alloc = rt.alloc();
     let (game, text) = (cart(&rt, alloc, BRIEF), older_movie(&rt, alloc, 3));
-    let longest = End::Writes(107, b"\n..... ..... ..... x262144\n");
-    let too_long = End::Faults(b"fault: script line 1: long\n");
-    let cases: [(&[u8], End); 2] = [
-        (b"insert 3 262141 ..... ..... .....\n", longest),
-        (b"insert 3 262142 ..... ..... .....\n", too_long),
-    ];
-    for (other, end) in cases {
+    for (other, end) in CHANGES.iter() {
         let files = Files {
             game: game.as_slice(),
             other,
@@ -284,7 +345,7 @@ fn frames_of_an_edit(rt: HostRuntime) {
             &["edit", "game.bin", "other"],
             files,
             text.as_slice(),
-            end,
+            *end,
         );
     }
     let files = only_game(game.as_slice());
@@ -301,6 +362,18 @@ fn frames_of_an_edit(rt: HostRuntime) {
     );
 }
 
+/// Exports of a movie of 1025 frames.
+static EXPORTS: [(&[&str], End); 2] = [
+    (
+        &["export", "game.bin", "0", "1024", "16"],
+        End::Writes(1024 * PICTURE, b"\0"),
+    ),
+    (
+        &["export", "game.bin", "0", "1025", "16"],
+        End::Faults(b"fault: range 0 to 1025 of 1025\n"),
+    ),
+];
+
 #[test]
 fn frames_of_one_export(rt: HostRuntime) {
     let alloc = rt.alloc();
@@ -308,19 +381,13 @@ fn frames_of_one_export(rt: HostRuntime) {
         cart(&rt, alloc, BRIEF),
         runs(&rt, alloc, b"..... ..... ..... x1025\n"),
     );
-    let files = only_game(game.as_slice());
-    let most = End::Writes(1024 * PICTURE, b"\0");
-    let too_many = End::Faults(b"fault: range 0 to 1025 of 1025\n");
-    for (to, end) in [("1024", most), ("1025", too_many)] {
-        check_end(
-            &rt,
-            alloc,
-            &["export", "game.bin", "0", to, "16"],
-            files,
-            text.as_slice(),
-            end,
-        );
-    }
+    check_ends(
+        &rt,
+        alloc,
+        only_game(game.as_slice()),
+        text.as_slice(),
+        EXPORTS.as_slice(),
+    );
 }
 
 /// How many bytes the replies to so many edits have that leave the movie empty.

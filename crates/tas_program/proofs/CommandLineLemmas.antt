@@ -1,6 +1,7 @@
 -- What clap says of the command line.
-use Rattle.std.proofs.Common.{◌≡◌, List, [], ◌∷◌, ◌++◌, Bool, true, false, Option, Some, None, codes, map, refl, sym, subst, ap, ap₂, ◌∙◌, option_map}
+use Rattle.std.proofs.Common.{◌+◌, ◌<◌, get_or, length, take, ◌≡◌, List, [], ◌∷◌, ◌++◌, Bool, true, false, Option, Some, None, codes, map, refl, sym, subst, ap, ap₂, ◌∙◌, option_map}
 use Rattle.std.specs.Prelude.{Box, IfSome, drop, find}
+use Rattle.std.proofs.lemmas.List.{map-append, take_more}
 use Rattle.std.proofs.lemmas.Slice.Eq.{bytes_eq-Decides}
 use Rattle.std.specs.Str.{bytes_eq}
 use Rattle.std.specs.Borrow.{Bor}
@@ -17,8 +18,9 @@ use Rattle.clap.specs.declared.parser.matches.ArgMatches.TheViews.{out-ArgMatche
 use Rattle.clap.specs.declared.parser.matches.SubCommand.{SubCommand}
 use Rattle.clap.proofs.OnLiterals.{clap_on_literals}
 use Rattle.clap.proofs.SimpleLemmas.{label_first}
-use Rattle.tas_program.specs.CommandLine.{command_names, labels, own_flags, named_command, shape_with, HasRules, IsAsked, command_line}
-use Rattle.tas_program.specs.Task.{HasWords, HasWordsOf, IsNumber, command_name}
+use Rattle.tas_program.specs.CommandLine.{command_names, labels, own_flags, named_command, rule_of_word, shape_with, HasRules, IsAsked, command_line, empty_line}
+use Rattle.tas_program.specs.Task.{HasWordsOf, IsNumber, command_name}
+use Rattle.tas_program.specs.declared.command_line.Word.{Word}
 use Rattle.tas_program.specs.declared.task.Task.{Task}
 use Rattle.std.specs.Prelude.{Result, Ok, ℕ}
 use Rattle.std.specs.Str.Parse.{digits_value, without_leading_plus}
@@ -43,6 +45,11 @@ with_word name rules old new arg rule has local is added = record {
   app = added.shape local ∙ ap₂ with_rule has.app is;
 }
 
+-- a command with the words up to i, and the one there
+pub with_next_word : (name : Text) (words : List Word) (i : ℕ) (d : Word) (command : Command) → i < length words
+    → HasRules name (map rule_of_word (take i words) ++ rule_of_word (get_or words i d) ∷ []) command → HasRules name (map rule_of_word (take (i + 1) words)) command
+with_next_word name words i d command below has = rw (take_more words i d below, map-append) has
+
 abbrev with_version : Shape → Shape
 with_version s = record s { has_version = true }
 
@@ -51,10 +58,6 @@ with_required s = record s { subcommand_required = true }
 
 abbrev without_help : Shape → Shape
 without_help s = record s { disable_help_subcommand = true }
-
--- the command line before it has commands
-abbrev empty_line : App
-empty_line = on_top without_help (on_top with_required (on_top with_version (new_app (codes "tas"))))
 
 pub line_start : (new named versioned told helped required last : Command) (version : Bor Text) (about after : Option (Bor Text)) → app_of new ≡ new_app (codes "tas")
     → out-Command named ≡ record (out-Command new) { bin_name = (out-Command named).bin_name } → out-Command versioned ≡ record (out-Command named) { version = Some version }

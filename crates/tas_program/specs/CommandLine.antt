@@ -1,13 +1,17 @@
 -- The command line, as clap's definitions see it (own).
-use Rattle.std.specs.Prelude.{◌≡◌, ℕ, pos, List, [], ◌∷◌, Option, Some, None, true, false, codes, drop, map, option_map}
+use Rattle.std.specs.Prelude.{◌≡◌, ℕ, pos, List, [], ◌∷◌, Option, Some, None, true, false, codes, drop, fold, map, option_map}
 use Rattle.std.specs.Int.{int_max, int_min}
 use Rattle.clap.specs.Values.{signed_between}
-use Rattle.clap.specs.Simple.{App, Shape, app_of, filled_from, help_rule, version_rule, new_rule, new_shape, subcommand_of}
+use Rattle.clap.specs.Simple.{App, Shape, app_of, filled_from, help_rule, version_rule, new_rule, new_shape, subcommand_of, with_subcommand}
 use Rattle.clap.specs.Walk.{Names, Rule, Text, stop_after}
 use Rattle.clap.specs.declared.builder.action.ArgAction.TheVariants.{Set}
 use Rattle.clap.specs.declared.builder.command.Command.{Command}
 use Rattle.clap.specs.declared.builder.command.Command.TheViews.{out-Command}
 use Rattle.clap.specs.declared.builder.value_parser.ValueParser.{ValueParser}
+use Rattle.tas_program.specs.declared.command_line.Subcommand.{Subcommand}
+use Rattle.tas_program.specs.declared.command_line.Word.{Word}
+use Rattle.tas_program.specs.declared.command_line.WordKind.{WordKind}
+use Rattle.tas_program.specs.declared.command_line.WordKind.TheVariants.{File, OptionalFile, Flag, Number}
 use Rattle.tas_program.specs.declared.task.Task.{Task}
 use Rattle.tas_program.specs.Task.{HasWordsOf}
 
@@ -59,6 +63,16 @@ flag_rule name flag = record (new_rule name) {
   is_free = false;
 }
 
+-- a word, as clap reads it
+abbrev pub kind_rule : Text → WordKind → Rule
+kind_rule name File = word_rule name None
+kind_rule name OptionalFile = may_word_rule name
+kind_rule name (Flag flag other) = flag_rule name flag.now
+kind_rule name (Number least most) = number_rule name least most
+
+abbrev pub rule_of_word : Word → Rule
+rule_of_word word = kind_rule word.name.now word.kind
+
 abbrev pub shape_with : Text → List Rule → Shape
 shape_with name rules = record (new_shape name) { rules = rules }
 
@@ -66,6 +80,21 @@ shape_with name rules = record (new_shape name) { rules = rules }
 pub record HasRules (name : Text) (rules : List Rule) (command : Command) : Type 0 where
   pub local : (out-Command command).has_globals ≡ false
   pub app : app_of command ≡ record { top = shape_with name rules; subs = [] }
+
+-- the command line before it has commands
+abbrev pub empty_line : App
+empty_line = record {
+  top = record (new_shape (codes "tas")) {
+    disable_help_subcommand = true;
+    has_version = true;
+    subcommand_required = true;
+  };
+  subs = [];
+}
+
+-- a command line with these commands behind its own
+abbrev pub with_commands : App → List Subcommand → App
+with_commands line commands = fold (λ l command. with_subcommand l (shape_with command.name.now (map rule_of_word command.words.now))) line commands
 
 -- the program's command line
 abbrev pub command_line : App

@@ -5,6 +5,7 @@
 //! hands it the real arguments, files and streams; tests hand it others.
 #![tactic(auto)]
 
+mod command_line;
 mod folder;
 mod request;
 mod running;

@@ -4,11 +4,13 @@ use Rattle.std.proofs.lemmas.Bool.{eq-eqb}
 use Rattle.std.proofs.lemmas.List.{take-append-le, take_all}
 use Rattle.std.proofs.KnownBytes.{Keeps-refl}
 use Rattle.std.specs.Io.KnownBytes.{Keeps}
+use Rattle.vcs_cpu.specs.declared.halt.Halt.{Halt}
+use Rattle.vcs_cpu.specs.declared.halt.Halt.TheVariants.{Undocumented}
 use Rattle.tas_movie.specs.Content.{MovieContent}
 use Rattle.tas_desk.specs.declared.entry.Entry.{Entry}
 use Rattle.tas_desk.specs.declared.export.Exported.{Exported}
 use Rattle.tas_desk.specs.declared.runs.Plan.{Plan}
-use Rattle.tas_desk.specs.declared.export.ExportError.TheVariants.{Range as OffRange}
+use Rattle.tas_desk.specs.declared.export.ExportError.TheVariants.{Range as OffRange, Halted as HaltedAt}
 use Rattle.tas_desk.specs.History.{movie_of, entries_of}
 use Rattle.tas_desk.specs.Seats.{SeatContent, HasSeen}
 use Rattle.tas_desk.specs.Zones.{ZoneContent}
@@ -16,7 +18,7 @@ use Rattle.tas_desk.specs.Exports.{IsExport}
 use Rattle.tas_desk.specs.Frames.{pixmaps_of}
 use Rattle.tas_engines.specs.declared.fault.RunFault.{RunFault}
 use Rattle.tas_engines.specs.declared.fault.RunFault.TheVariants.{Range}
-use Rattle.tas_engines.specs.Movies.{IsMovieOf}
+use Rattle.tas_engines.specs.Movies.{halt_fault, IsMovieOf}
 use Rattle.tas_engines.specs.Output.{Ends}
 use Rattle.tas_tool.specs.Pixmaps.{IsPixmapsAnswer, IsExportAnswer}
 use Rattle.tas_tool.specs.TwoEdits.{own_end, HoldsMovie}
@@ -68,6 +70,11 @@ pixmaps_end zone movie edits plan old new exported is =
 pub range_ends : {A : Type 0} (zone : ZoneContent A) (movie : MovieContent) (edits : ℕ) (plan : Plan) (old new : Option (List ℕ)) (at len : ℕ) → IsExport zone movie edits plan old new (Err (OffRange at len))
     → Ends (IsPixmapsAnswer movie plan.from plan.to) old new (Err (Range plan.from plan.to len))
 range_ends zone movie edits plan old new at len is = inl ((refl, refl, is.1, is.2), kept old new is.3)
+
+pub halted_ends : {A : Type 0} (zone : ZoneContent A) (movie : MovieContent) (edits : ℕ) (plan : Plan) (old new : Option (List ℕ)) (at frame : ℕ) (halt : Halt) (fault : RunFault) → IsExport zone movie edits plan old new (Err (HaltedAt at frame halt))
+    → fault ≡ halt_fault halt → Ends (IsPixmapsAnswer movie plan.from plan.to) old new (Err fault)
+halted_ends zone movie edits plan old new at frame (Undocumented address opcode) fault is told =
+    subst (λ (f : RunFault). Ends (IsPixmapsAnswer movie plan.from plan.to) old new (Err f)) (sym told) (inl ((is.1, (frame, is.2)), kept old new is.3))
 
 -- what an export of a movie does, it does for the cartridge and the text that the movie is one of
 pub movie_ends : (from to : ℕ) (image bytes : List ℕ) (movie : MovieContent) (old new : Option (List ℕ)) (end : Result (Unit {0}) RunFault) → IsMovieOf image bytes movie → Ends (IsPixmapsAnswer movie from to) old new end

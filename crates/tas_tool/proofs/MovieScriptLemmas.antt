@@ -1,14 +1,18 @@
 -- Scripts that start from a movie.
-use Rattle.std.proofs.Common.{◌≡◌, ℕ, ◌≤◌, List, [], length, take, Result, Ok, Err, inl, inr, sym, ap, subst, ◌∙◌, arith}
+use Rattle.std.proofs.Common.{◌≡◌, ℕ, ◌≤◌, List, [], length, take, Option, Result, Ok, Err, inl, inr, refl, sym, ap, subst, ◌∙◌, arith}
+use Rattle.std.proofs.KnownBytes.{Appends-nil}
+use Rattle.std.specs.Io.KnownBytes.{Appends}
 use Rattle.tas_movie.specs.Content.{MovieContent}
 use Rattle.tas_desk.specs.History.{movie_of, entries_of}
 use Rattle.tas_desk.specs.Seats.{SeatContent}
 use Rattle.tas_engines.specs.declared.fault.RunFault.{RunFault}
 use Rattle.tas_engines.specs.declared.fault.RunFault.TheVariants.{Write, Size, Text, NoFrame as OffMovie, Range as OffRange, Halted as Stopped, Script, EditPlace, EditLong, NoPlace, NoEntry, Foreign, Memory}
+use Rattle.tas_engines.specs.Movies.{IsMovieOf}
 use Rattle.tas_tool.specs.Turns.{Front, front_of, BeginsWithOwn}
 use Rattle.tas_tool.specs.TwoEdits.{HoldsMovie, IsMakingFault}
 use Rattle.tas_tool.specs.Scripts.{Answers}
-use Rattle.tas_tool.specs.MovieScripts.{movie_front, IsUnmade, AnswersOver}
+use Rattle.tas_tool.specs.MovieScripts.{movie_front, IsUnmade, AnswersOver, RunsOver}
+use Rattle.tas_tool.proofs.ScriptLemmas.{written}
 
 -- a seat that holds a movie begins with its own edits
 pub holds_own : {A : Type 0} (seat : SeatContent A) (movie : MovieContent) → HoldsMovie seat movie → BeginsWithOwn seat
@@ -49,3 +53,13 @@ unmade A movie bytes text seat fault none is own = inl (none, unmade_by seat fau
 pub answered_over : (A : Type 0) (movie : MovieContent) (front : Front) (bytes text : List ℕ) (end : Result (Unit {0}) RunFault) → front ≡ movie_front movie → Answers A front bytes text end → AnswersOver A movie bytes text end
 answered_over A movie front bytes text (Ok u) at answers = subst (λ (f : Front). Answers A f bytes text (Ok u)) at answers
 answered_over A movie front bytes text (Err fault) at answers = inr (subst (λ (f : Front). Answers A f bytes text (Err fault)) at answers)
+
+-- there is no desk for the movie
+pub unopened_over : (A : Type 0) (image said bytes : List ℕ) (movie : MovieContent) (old : Option (List ℕ)) → IsMovieOf image said movie → RunsOver A image said bytes old old (Err Memory)
+unopened_over A image said bytes movie old is = inr (movie, is, inl ([], inl (refl, tt), Appends-nil old))
+
+-- the replies over the movie are written
+pub written_over : (A : Type 0) (image said bytes : List ℕ) (movie : MovieContent) (items text : List ℕ) (old new : Option (List ℕ)) (end : Result (Unit {0}) RunFault) → IsMovieOf image said movie → AnswersOver A movie bytes items end → text ≡ items
+    → Appends old new text → RunsOver A image said bytes old new end
+written_over A image said bytes movie items text old new (Ok u) is at same out = (movie, is, written (AnswersOver A movie bytes) items text old new (Ok u) at same out)
+written_over A image said bytes movie items text old new (Err fault) is at same out = inr (movie, is, written (AnswersOver A movie bytes) items text old new (Err fault) at same out)

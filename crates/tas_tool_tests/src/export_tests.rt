@@ -108,20 +108,23 @@ fn one_frame_is_its_shot(rt: HostRuntime) {
     }
 }
 
+/// Ranges that movies of so many frames haven't, or that are too long.
+static OTHER_RANGES: [(usize, usize, usize); 8] = [
+    (0, 2, 1),
+    (1, 0, 1),
+    (2, 2, 1),
+    (0, 1, 0),
+    (0, 9_999_999, 1),
+    (9_999_999, 0, 1),
+    (0, 1025, 1025),
+    (1, 1026, 1026),
+];
+
 #[test]
 fn other_ranges_are_refused(rt: HostRuntime) {
     let alloc = rt.alloc();
     let image = image_of(&rt, alloc, PLAYFIELD.bytes);
-    for (from, to, len) in [
-        (0, 2, 1),
-        (1, 0, 1),
-        (2, 2, 1),
-        (0, 1, 0),
-        (0, 9_999_999, 1),
-        (9_999_999, 0, 1),
-        (0, 1025, 1025),
-        (1, 1026, 1026),
-    ] {
+    for (from, to, len) in OTHER_RANGES {
         let text = text_of(&rt, alloc, PLAYFIELD, len, RIGHT);
         let answer = export(&rt, alloc, image.as_slice(), text.as_str(), (from, to), 1);
         let end = Err(ToolFault::Range { from, to, len });
@@ -207,19 +210,22 @@ fn a_writer_that_fails_has_the_first_bytes(rt: HostRuntime) {
     }
 }
 
+/// At which reads cartridge and text fail, the end, and how often each is read.
+static FAILED_READS: [(usize, usize, Result<(), ToolFault>, (usize, usize)); 5] = [
+    (0, 0, Ok(()), (2, 2)),
+    (1, 0, Err(ToolFault::Read), (1, 0)),
+    (2, 0, Err(ToolFault::Read), (2, 0)),
+    (0, 1, Err(ToolFault::Read), (2, 1)),
+    (0, 2, Err(ToolFault::Read), (2, 2)),
+];
+
 /// A cartridge is one read and its end; a text of 99 bytes, too. Nothing is read after an end or a failure.
 #[test]
 fn an_export_does_not_read_on(rt: HostRuntime) {
     let alloc = rt.alloc();
     let image = image_of(&rt, alloc, PLAYFIELD.bytes);
     let text = text_of(&rt, alloc, PLAYFIELD, 1, RIGHT);
-    for (cart_fails, text_fails, end, reads) in [
-        (0, 0, Ok(()), (2, 2)),
-        (1, 0, Err(ToolFault::Read), (1, 0)),
-        (2, 0, Err(ToolFault::Read), (2, 0)),
-        (0, 1, Err(ToolFault::Read), (2, 1)),
-        (0, 2, Err(ToolFault::Read), (2, 2)),
-    ] {
+    for (cart_fails, text_fails, end, reads) in FAILED_READS {
         let mut cart = Giver::new(image.as_slice(), usize::MAX, cart_fails);
         let mut input = Giver::new(text.as_bytes(), usize::MAX, text_fails);
         let (output, ended) = export_first(&rt, alloc, &mut cart, &mut input);

@@ -43,25 +43,27 @@ fn a_script_goes_on_from_its_movie(rt: HostRuntime) {
     check_answer(&rt, "alone", (output, end), replies.as_slice(), Ok(()));
 }
 
+/// Frames of a movie, lines, and the replies.
+static LENGTHS: [(usize, &[u8], &[u8]); 3] = [
+    (0, b"", b""),
+    (
+        0,
+        b"len\nshot 0\ninsert 0 1 ..... ..... .....\nshot 0\n",
+        b"len 2 0\nno frame 2 len 0\nedit 3 len 1\nshot 3 0 ran 1 lit 1680\n",
+    ),
+    (
+        262144,
+        b"len\ninsert 262144 1 ..... ..... .....\ninput 262143\n",
+        b"len 2 262144\nlong 2 len 262144\ninput 2 ..... ..... .....\n",
+    ),
+];
+
 #[test]
 fn movies_of_no_frames_and_of_the_most_are_made(rt: HostRuntime) {
     let alloc = rt.alloc();
     let cart = image_of(&rt, alloc, PLAYFIELD.bytes);
-    let cases: [(usize, &[u8], &[u8]); 3] = [
-        (0, b"", b""),
-        (
-            0,
-            b"len\nshot 0\ninsert 0 1 ..... ..... .....\nshot 0\n",
-            b"len 2 0\nno frame 2 len 0\nedit 3 len 1\nshot 3 0 ran 1 lit 1680\n",
-        ),
-        (
-            262144,
-            b"len\ninsert 262144 1 ..... ..... .....\ninput 262143\n",
-            b"len 2 262144\nlong 2 len 262144\ninput 2 ..... ..... .....\n",
-        ),
-    ];
-    for (frames, lines, replies) in cases {
-        let movie = text_of(&rt, alloc, PLAYFIELD, frames, IDLE);
+    for (frames, lines, replies) in LENGTHS.iter() {
+        let movie = text_of(&rt, alloc, PLAYFIELD, *frames, IDLE);
         let answer = written(&rt, alloc, cart.as_slice(), movie.as_bytes(), lines);
         check_answer(&rt, ("frames", frames), answer, replies, Ok(()));
     }

@@ -14,17 +14,17 @@ use tas_program::run_program;
 static STORES: &[u8] = b"\xa9\x42\x85\x80\x4c\x00\xf0";
 
 /// The older text of this movie.
-static OLDER_FRAME: &[u8] =
+const OLDER_FRAME: &[u8] =
     b"a26movie 1\ncart 820c64e9933496de683a000c5e11f0510fb7b1699b2ce86471295236b284906d\n..... ..... .....\n";
 
 static TRACE: &[u8] =
     b"F000 A9 42 00 00 FD 34 2\nF002 85 42 00 00 FD 34 3\nF004 4C 42 00 00 FD 34 3\n";
 
 /// A script with the same playfield, and the replies by hand.
-static SCRIPT: &[u8] =
+const SCRIPT: &[u8] =
     b"load 000=A910850DA91E85084C08F0 FFC=00F0\ninsert 0 2 ..... ..... .....\nshot 1\nreplace 0 1 R.... ..... .....\ninput 0\nshot 2\n";
 
-static REPLIES: &[u8] =
+const REPLIES: &[u8] =
     b"edit 1 len 0\nedit 2 len 2\nshot 2 1 ran 2 lit 1680\nedit 3 len 2\ninput 3 R.... ..... .....\nno frame 3 len 2\n";
 
 /// The folder where `game.bin` is this cartridge, and `other` is empty.
@@ -32,159 +32,168 @@ fn only_game(game: &[u8]) -> TwoFiles<'_> {
     TwoFiles { game, other: b"" }
 }
 
-#[test]
-fn each_command_writes_its_answer(rt: HostRuntime) {
-    let alloc = rt.alloc();
-    let stores = image_of(&rt, alloc, STORES);
-    let cart = image_of(&rt, alloc, PLAYFIELD.bytes);
-    let picture = playfield_picture(&rt, alloc);
-    let movie = joined(&rt, alloc, &[ONE_FRAME, b"R.... ..... .....\n"]);
-    let pictures = joined(&rt, alloc, &[picture.as_slice(), picture.as_slice()]);
-    let cases: [(&[&str], &[u8], &[u8]); 12] = [
-        (&["trace", "3"], stores.as_slice(), TRACE),
-        (&["check", "game.bin"], ONE_FRAME, b"ok 1 frames\n"),
-        (&["check", "game.bin"], OLDER_FRAME, b"ok 1 frames\n"),
-        (&["migrate", "game.bin"], OLDER_FRAME, ONE_FRAME),
-        (&["migrate", "game.bin"], ONE_FRAME, ONE_FRAME),
-        (&["shot", "game.bin", "0"], ONE_FRAME, picture.as_slice()),
-        (&["script"], SCRIPT, REPLIES),
-        (&["talk"], SCRIPT, REPLIES),
-        (&["talk", "game.bin"], b"len\nwhat", b"len 2 0\nunknown\n"),
-        (
-            &["export", "game.bin", "0", "1", "4"],
-            ONE_FRAME,
-            picture.as_slice(),
-        ),
-        (
-            &["export", "game.bin", "0", "2", "3"],
-            movie.as_slice(),
-            pictures.as_slice(),
-        ),
-        (&["export", "game.bin", "0", "0", "3"], ONE_FRAME, b""),
-    ];
-    for (words, input, answer) in cases {
-        let ran = run(&rt, alloc, words, only_game(cart.as_slice()), input);
-        check_ran(&rt, words, ran, 0, answer, b"");
-    }
+/// Fails where a command over this cartridge and input doesn't end well, or writes another answer.
+fn check_done<R: Threads + Wait + Abort + Sync>(
+    rt: &R,
+    alloc: Global,
+    words: &[&str],
+    cart: &[u8],
+    input: &[u8],
+    answer: &[u8],
+) {
+    let ran = run(rt, alloc, words, only_game(cart), input);
+    check_ran(rt, words, ran, 0, answer, b"");
 }
 
-/// The words, the file `game.bin`, the input, and what the program then writes and tells, by hand.
-type Faulty<'a> = (&'a [&'a str], &'a [u8], &'a [u8], &'a [u8], &'a [u8]);
+/// Words, the input, and what the program then writes.
+static ANSWERS: [(&[&str], &[u8], &[u8]); 8] = [
+    (&["check", "game.bin"], ONE_FRAME, b"ok 1 frames\n"),
+    (&["check", "game.bin"], OLDER_FRAME, b"ok 1 frames\n"),
+    (&["migrate", "game.bin"], OLDER_FRAME, ONE_FRAME),
+    (&["migrate", "game.bin"], ONE_FRAME, ONE_FRAME),
+    (&["script"], SCRIPT, REPLIES),
+    (&["talk"], SCRIPT, REPLIES),
+    (&["talk", "game.bin"], b"len\nwhat", b"len 2 0\nunknown\n"),
+    (&["export", "game.bin", "0", "0", "3"], ONE_FRAME, b""),
+];
 
-fn check_faults<R: Threads + Wait + Abort + Sync>(rt: &R, alloc: Global, cases: &[Faulty]) {
-    for (words, file, input, output, line) in cases {
-        let ran = run(rt, alloc, words, only_game(file), input);
+#[test]
+fn commands_write_their_answers(rt: HostRuntime) {
+    let alloc = rt.alloc();
+    let cart = image_of(&rt, alloc, PLAYFIELD.bytes);
+    for (words, input, answer) in ANSWERS.iter() {
+        check_done(&rt, alloc, words, cart.as_slice(), input, answer);
+    }
+    let stores = image_of(&rt, alloc, STORES);
+    let words = ["trace", "3"];
+    check_done(
+        &rt,
+        alloc,
+        &words,
+        cart.as_slice(),
+        stores.as_slice(),
+        TRACE,
+    );
+}
+
+#[test]
+fn commands_write_their_pictures(rt: HostRuntime) {
+    let alloc = rt.alloc();
+    let cart = image_of(&rt, alloc, PLAYFIELD.bytes);
+    let cart = cart.as_slice();
+    let picture = playfield_picture(&rt, alloc);
+    let picture = picture.as_slice();
+    check_done(
+        &rt,
+        alloc,
+        &["shot", "game.bin", "0"],
+        cart,
+        ONE_FRAME,
+        picture,
+    );
+    let words = ["export", "game.bin", "0", "1", "4"];
+    check_done(&rt, alloc, &words, cart, ONE_FRAME, picture);
+    let movie = joined(&rt, alloc, &[ONE_FRAME, b"R.... ..... .....\n"]);
+    let pictures = joined(&rt, alloc, &[picture, picture]);
+    let words = ["export", "game.bin", "0", "2", "3"];
+    check_done(
+        &rt,
+        alloc,
+        &words,
+        cart,
+        movie.as_slice(),
+        pictures.as_slice(),
+    );
+}
+
+/// The words, the input, and what the program then writes and tells, by hand.
+type Faulty<'a> = (&'a [&'a str], &'a [u8], &'a [u8], &'a [u8]);
+
+/// Faults over the playfield's cartridge.
+static FAULTS: [Faulty<'static>; 9] = [
+    (
+        &["trace", "1"],
+        b"1234567",
+        b"",
+        b"fault: cartridge has 7 bytes\n",
+    ),
+    (
+        &["check", "other.bin"],
+        ONE_FRAME,
+        b"",
+        b"fault: read failed\n",
+    ),
+    (
+        &["check", "game.bin"],
+        b"a26movie 1\n",
+        b"",
+        b"fault: movie line 2: end\n",
+    ),
+    (
+        &["migrate", "game.bin"],
+        b"a26movie 1\n",
+        b"",
+        b"fault: movie line 2: end\n",
+    ),
+    (
+        &["shot", "other.bin", "0"],
+        ONE_FRAME,
+        b"",
+        b"fault: read failed\n",
+    ),
+    (
+        &["shot", "game.bin", "9999999"],
+        ONE_FRAME,
+        b"",
+        b"fault: no frame 9999999 of 1\n",
+    ),
+    (
+        &["export", "other.bin", "0", "1", "1"],
+        ONE_FRAME,
+        b"",
+        b"fault: read failed\n",
+    ),
+    (
+        &["export", "game.bin", "0", "2", "1"],
+        ONE_FRAME,
+        b"",
+        b"fault: range 0 to 2 of 1\n",
+    ),
+    (
+        &["script"],
+        b"len\nplay\n",
+        b"len 0 0\n",
+        b"fault: script line 2\n",
+    ),
+];
+
+/// A fault over a cartridge of seven bytes.
+static SIZE_FAULT: [Faulty<'static>; 1] = [(
+    &["check", "game.bin"],
+    ONE_FRAME,
+    b"",
+    b"fault: cartridge has 7 bytes\n",
+)];
+
+/// Fails where these commands over a cartridge don't end with these faults.
+fn check_faults<R: Threads + Wait + Abort + Sync>(
+    rt: &R,
+    alloc: Global,
+    cart: &[u8],
+    cases: &[Faulty],
+) {
+    for (words, input, output, line) in cases {
+        let ran = run(rt, alloc, words, only_game(cart), input);
         check_ran(rt, words, ran, 1, output, line);
     }
 }
 
 #[test]
-fn faults_of_a_movie_end_with_status_1(rt: HostRuntime) {
+fn faults_end_with_status_1(rt: HostRuntime) {
     let alloc = rt.alloc();
     let cart = image_of(&rt, alloc, PLAYFIELD.bytes);
-    let cart = cart.as_slice();
-    check_faults(
-        &rt,
-        alloc,
-        &[
-            (
-                &["check", "other.bin"],
-                cart,
-                ONE_FRAME,
-                b"",
-                b"fault: read failed\n",
-            ),
-            (
-                &["check", "game.bin"],
-                b"1234567",
-                ONE_FRAME,
-                b"",
-                b"fault: cartridge has 7 bytes\n",
-            ),
-            (
-                &["check", "game.bin"],
-                cart,
-                b"a26movie 1\n",
-                b"",
-                b"fault: movie line 2: end\n",
-            ),
-            (
-                &["migrate", "game.bin"],
-                cart,
-                b"a26movie 1\n",
-                b"",
-                b"fault: movie line 2: end\n",
-            ),
-        ],
-    );
-}
-
-#[test]
-fn faults_of_pictures_end_with_status_1(rt: HostRuntime) {
-    let alloc = rt.alloc();
-    let cart = image_of(&rt, alloc, PLAYFIELD.bytes);
-    let cart = cart.as_slice();
-    check_faults(
-        &rt,
-        alloc,
-        &[
-            (
-                &["shot", "other.bin", "0"],
-                cart,
-                ONE_FRAME,
-                b"",
-                b"fault: read failed\n",
-            ),
-            (
-                &["shot", "game.bin", "9999999"],
-                cart,
-                ONE_FRAME,
-                b"",
-                b"fault: no frame 9999999 of 1\n",
-            ),
-            (
-                &["export", "other.bin", "0", "1", "1"],
-                cart,
-                ONE_FRAME,
-                b"",
-                b"fault: read failed\n",
-            ),
-            (
-                &["export", "game.bin", "0", "2", "1"],
-                cart,
-                ONE_FRAME,
-                b"",
-                b"fault: range 0 to 2 of 1\n",
-            ),
-        ],
-    );
-}
-
-#[test]
-fn other_faults_end_with_status_1(rt: HostRuntime) {
-    let alloc = rt.alloc();
-    let cart = image_of(&rt, alloc, PLAYFIELD.bytes);
-    let cart = cart.as_slice();
-    check_faults(
-        &rt,
-        alloc,
-        &[
-            (
-                &["trace", "1"],
-                cart,
-                b"1234567",
-                b"",
-                b"fault: cartridge has 7 bytes\n",
-            ),
-            (
-                &["script"],
-                cart,
-                b"len\nplay\n",
-                b"len 0 0\n",
-                b"fault: script line 2\n",
-            ),
-        ],
-    );
+    check_faults(&rt, alloc, cart.as_slice(), FAULTS.as_slice());
+    check_faults(&rt, alloc, b"1234567", SIZE_FAULT.as_slice());
 }
 
 #[test]
@@ -224,7 +233,7 @@ fn help_that_cannot_be_written_is_a_fault(rt: HostRuntime) {
 }
 
 /// A movie of the playfield's cartridge with three frames.
-static THREE_FRAMES: &[u8] =
+const THREE_FRAMES: &[u8] =
     b"a26movie 2\ncart 820c64e9933496de683a000c5e11f0510fb7b1699b2ce86471295236b284906d\n..... ..... .....\nR.... ..... .....\n....F ..... .....\n";
 
 /// The words, the file `other`, the input, and what the program then writes and tells, by hand.
@@ -246,171 +255,166 @@ fn check_over_two_files<R: Threads + Wait + Abort + Sync>(
     }
 }
 
+/// Edits, and their movies.
+static EDITS: [OverTwoFiles<'static>; 3] = [
+    (
+        &["edit", "game.bin", "other"],
+        b"insert 1 1 R.... ..... .....\ninsert 2 1 ....F ..... .....\n",
+        ONE_FRAME,
+        THREE_FRAMES,
+        b"",
+    ),
+    (
+        &["edit", "game.bin", "other"],
+        b"",
+        ONE_FRAME,
+        ONE_FRAME,
+        b"",
+    ),
+    (
+        &["edit", "game.bin", "other"],
+        b"delete 1 2\n",
+        THREE_FRAMES,
+        ONE_FRAME,
+        b"",
+    ),
+];
+
 #[test]
 fn edits_write_their_movies(rt: HostRuntime) {
-    check_over_two_files(
-        &rt,
-        rt.alloc(),
-        &[
-            (
-                &["edit", "game.bin", "other"],
-                b"insert 1 1 R.... ..... .....\ninsert 2 1 ....F ..... .....\n",
-                ONE_FRAME,
-                THREE_FRAMES,
-                b"",
-            ),
-            (
-                &["edit", "game.bin", "other"],
-                b"",
-                ONE_FRAME,
-                ONE_FRAME,
-                b"",
-            ),
-            (
-                &["edit", "game.bin", "other"],
-                b"delete 1 2\n",
-                THREE_FRAMES,
-                ONE_FRAME,
-                b"",
-            ),
-        ],
-    );
+    check_over_two_files(&rt, rt.alloc(), EDITS.as_slice());
 }
+
+/// Edits that are refused.
+static REFUSED_EDITS: [OverTwoFiles<'static>; 4] = [
+    (
+        &["edit", "game.bin", "other"],
+        b"delete 0 1\ndelete 2 1\n",
+        THREE_FRAMES,
+        b"",
+        b"fault: script line 2: place\n",
+    ),
+    (
+        &["edit", "game.bin", "other"],
+        b"insert 3 262142 ..... ..... .....\n",
+        THREE_FRAMES,
+        b"",
+        b"fault: script line 1: long\n",
+    ),
+    (
+        &["edit", "game.bin", "other"],
+        b"len\n",
+        THREE_FRAMES,
+        b"",
+        b"fault: script line 1\n",
+    ),
+    (
+        &["edit", "game.bin", "nothing"],
+        b"",
+        THREE_FRAMES,
+        b"",
+        b"fault: read failed\n",
+    ),
+];
 
 #[test]
 fn edits_that_are_refused_write_nothing(rt: HostRuntime) {
-    check_over_two_files(
-        &rt,
-        rt.alloc(),
-        &[
-            (
-                &["edit", "game.bin", "other"],
-                b"delete 0 1\ndelete 2 1\n",
-                THREE_FRAMES,
-                b"",
-                b"fault: script line 2: place\n",
-            ),
-            (
-                &["edit", "game.bin", "other"],
-                b"insert 3 262142 ..... ..... .....\n",
-                THREE_FRAMES,
-                b"",
-                b"fault: script line 1: long\n",
-            ),
-            (
-                &["edit", "game.bin", "other"],
-                b"len\n",
-                THREE_FRAMES,
-                b"",
-                b"fault: script line 1\n",
-            ),
-            (
-                &["edit", "game.bin", "nothing"],
-                b"",
-                THREE_FRAMES,
-                b"",
-                b"fault: read failed\n",
-            ),
-        ],
-    );
+    check_over_two_files(&rt, rt.alloc(), REFUSED_EDITS.as_slice());
 }
+
+/// Differences, and their scripts.
+static DIFFERENCES: [OverTwoFiles<'static>; 3] = [
+    (
+        &["diff", "game.bin", "other"],
+        ONE_FRAME,
+        THREE_FRAMES,
+        b"insert 1 1 R.... ..... .....\ninsert 2 1 ....F ..... .....\n",
+        b"",
+    ),
+    (
+        &["diff", "game.bin", "other"],
+        THREE_FRAMES,
+        THREE_FRAMES,
+        b"",
+        b"",
+    ),
+    (
+        &["diff", "game.bin", "other"],
+        b"a26movie 1\n",
+        THREE_FRAMES,
+        b"",
+        b"fault: movie line 2: end\n",
+    ),
+];
 
 #[test]
 fn differences_write_their_scripts(rt: HostRuntime) {
-    check_over_two_files(
-        &rt,
-        rt.alloc(),
-        &[
-            (
-                &["diff", "game.bin", "other"],
-                ONE_FRAME,
-                THREE_FRAMES,
-                b"insert 1 1 R.... ..... .....\ninsert 2 1 ....F ..... .....\n",
-                b"",
-            ),
-            (
-                &["diff", "game.bin", "other"],
-                THREE_FRAMES,
-                THREE_FRAMES,
-                b"",
-                b"",
-            ),
-            (
-                &["diff", "game.bin", "other"],
-                b"a26movie 1\n",
-                THREE_FRAMES,
-                b"",
-                b"fault: movie line 2: end\n",
-            ),
-        ],
-    );
+    check_over_two_files(&rt, rt.alloc(), DIFFERENCES.as_slice());
 }
+
+/// Scripts over a movie.
+static SCRIPTS: [OverTwoFiles<'static>; 4] = [
+    (
+        &["script", "--cart", "game.bin", "--movie", "other"],
+        THREE_FRAMES,
+        b"len\ndelete 0 1\ninput 0\nshot 0\n",
+        b"len 2 3\nedit 3 len 2\ninput 3 R.... ..... .....\nshot 3 0 ran 1 lit 1680\n",
+        b"",
+    ),
+    (
+        &["script", "--cart", "game.bin", "--movie", "other"],
+        ONE_FRAME,
+        b"",
+        b"",
+        b"",
+    ),
+    (
+        &["script", "--cart", "nothing", "--movie", "other"],
+        ONE_FRAME,
+        b"len\n",
+        b"",
+        b"fault: read failed\n",
+    ),
+    (
+        &["script", "--cart", "game.bin", "--movie", "other"],
+        b"a26movie 1\n",
+        b"len\n",
+        b"",
+        b"fault: movie line 2: end\n",
+    ),
+];
 
 #[test]
 fn scripts_over_a_movie_write_their_replies(rt: HostRuntime) {
-    check_over_two_files(
-        &rt,
-        rt.alloc(),
-        &[
-            (
-                &["script", "--cart", "game.bin", "--movie", "other"],
-                THREE_FRAMES,
-                b"len\ndelete 0 1\ninput 0\nshot 0\n",
-                b"len 2 3\nedit 3 len 2\ninput 3 R.... ..... .....\nshot 3 0 ran 1 lit 1680\n",
-                b"",
-            ),
-            (
-                &["script", "--cart", "game.bin", "--movie", "other"],
-                ONE_FRAME,
-                b"",
-                b"",
-                b"",
-            ),
-            (
-                &["script", "--cart", "nothing", "--movie", "other"],
-                ONE_FRAME,
-                b"len\n",
-                b"",
-                b"fault: read failed\n",
-            ),
-            (
-                &["script", "--cart", "game.bin", "--movie", "other"],
-                b"a26movie 1\n",
-                b"len\n",
-                b"",
-                b"fault: movie line 2: end\n",
-            ),
-        ],
-    );
+    check_over_two_files(&rt, rt.alloc(), SCRIPTS.as_slice());
 }
+
+/// Conversations over a cartridge or a movie.
+static TALKS: [OverTwoFiles<'static>; 3] = [
+    (
+        &["talk", "game.bin", "other"],
+        THREE_FRAMES,
+        b"len\nwhat\nshot 0\nstates\nquit\nlen\n",
+        b"len 2 3\nunknown\nshot 2 0 ran 1 lit 1680\nstates 2 0\n",
+        b"",
+    ),
+    (
+        &["talk", "nothing"],
+        ONE_FRAME,
+        b"len\n",
+        b"",
+        b"fault: read failed\n",
+    ),
+    (
+        &["talk", "game.bin", "other"],
+        b"a26movie 1\n",
+        b"len\n",
+        b"",
+        b"fault: movie line 2: end\n",
+    ),
+];
 
 #[test]
 fn conversations_over_a_movie_write_their_answers(rt: HostRuntime) {
-    check_over_two_files(
-        &rt,
-        rt.alloc(),
-        &[
-            (
-                &["talk", "game.bin", "other"],
-                THREE_FRAMES,
-                b"len\nwhat\nshot 0\nstates\nquit\nlen\n",
-                b"len 2 3\nunknown\nshot 2 0 ran 1 lit 1680\nstates 2 0\n",
-                b"",
-            ),
-            (
-                &["talk", "nothing"],
-                ONE_FRAME,
-                b"len\n",
-                b"",
-                b"fault: read failed\n",
-            ),
-            (
-                &["talk", "game.bin", "other"],
-                b"a26movie 1\n",
-                b"len\n",
-                b"",
-                b"fault: movie line 2: end\n",
-            ),
-        ],
-    );
+    check_over_two_files(&rt, rt.alloc(), TALKS.as_slice());
 }

@@ -107,5 +107,5 @@ pub fn check_ran<R: Abort>(rt: &R, words: &[&str], ran: Ran, code: u8, output: &
 }
 
 /// A movie of the playfield's cartridge, with one frame of nothing pressed. The digest comes from another program.
-pub static ONE_FRAME: &[u8] =
+pub const ONE_FRAME: &[u8] =
     b"a26movie 2\ncart 820c64e9933496de683a000c5e11f0510fb7b1699b2ce86471295236b284906d\n..... ..... .....\n";

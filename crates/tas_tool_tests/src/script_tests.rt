@@ -32,84 +32,89 @@ fn edits_and_refusals_are_answered(rt: HostRuntime) {
     );
 }
 
+/// Scripts, their replies, and the line that isn't understood.
+static NOT_UNDERSTOOD: [(&[u8], &[u8], usize); 4] = [
+    (b"len\nwork\nlen\n", b"len 0 0\n", 2),
+    (b"\n", b"", 1),
+    (b"len\ndelete 0 0\nlen", b"len 0 0\nedit 1 len 0\n", 3),
+    (b"len", b"", 1),
+];
+
 #[test]
 fn a_line_not_understood_ends_with_its_number(rt: HostRuntime) {
     let alloc = rt.alloc();
-    let cases: [(&[u8], &[u8], usize); 4] = [
-        (b"len\nwork\nlen\n", b"len 0 0\n", 2),
-        (b"\n", b"", 1),
-        (b"len\ndelete 0 0\nlen", b"len 0 0\nedit 1 len 0\n", 3),
-        (b"len", b"", 1),
-    ];
-    for (script, text, line) in cases {
-        let end = Err(ToolFault::Script { line });
-        check_answer(&rt, script, written(&rt, alloc, script), text, end);
+    for (script, text, line) in NOT_UNDERSTOOD.iter() {
+        let end = Err(ToolFault::Script { line: *line });
+        check_answer(&rt, *script, written(&rt, alloc, script), text, end);
     }
     check_answer(&rt, "empty", written(&rt, alloc, b""), b"", Ok(()));
 }
 
 /// A cartridge that sets the playfield, its edits, and shots with the greenzone's help.
-static PLAYFIELD: &[u8] =
+const PLAYFIELD: &[u8] =
     b"load 000=A910850DA91E85084C08F0 FFC=00F0\ninsert 0 200 ..... ..... .....\nshot 191\nreplace 64 1 R.... ..... .....\nshot 64\ndelete 0 200\nshot 0\ndelete 0 0\n";
 
-static PLAYFIELD_REPLIES: &[u8] =
+const PLAYFIELD_REPLIES: &[u8] =
     b"edit 1 len 0\nedit 2 len 200\nshot 2 191 ran 192 lit 1680\nedit 3 len 200\nshot 3 64 ran 1 lit 1680\nedit 4 len 0\nno frame 4 len 0\nedit 5 len 0\n";
 
 /// Shots between edits.
-static SHOTS: &[u8] =
+const SHOTS: &[u8] =
     b"load 000=A910850DA91E85084C08F0 FFC=00F0\ninsert 0 200 ..... ..... .....\nshot 199\nshot 150\ninsert 127 1 R.... ..... .....\nshot 200\ndelete 10 191\nshot 9\n";
 
-static SHOTS_REPLIES: &[u8] =
+const SHOTS_REPLIES: &[u8] =
     b"edit 1 len 0\nedit 2 len 200\nshot 2 199 ran 200 lit 1680\nshot 2 150 ran 23 lit 1680\nedit 3 len 201\nshot 3 200 ran 137 lit 1680\nedit 4 len 10\nshot 4 9 ran 10 lit 1680\n";
 
 /// A cartridge that halts in its fourth frame.
-static HALTS: &[u8] =
+const HALTS: &[u8] =
     b"load 000=A203A9028500A9008500CAD0F502 FFC=00F0\ninsert 0 100 ..... ..... .....\nshot 2\nshot 99\nshot 80\n";
 
-static HALTS_REPLIES: &[u8] =
+const HALTS_REPLIES: &[u8] =
     b"edit 1 len 0\nedit 2 len 100\nshot 2 2 ran 3 lit 0\nhalted 2 F00D 02\nhalted 2 F00D 02\n";
 
 /// Jobs fill the states that a shot needs.
-static WORKS: &[u8] =
+const WORKS: &[u8] =
     b"load 000=A910850DA91E85084C08F0 FFC=00F0\ninsert 0 200 ..... ..... .....\nwork 192\nwork 192\nshot 191\n";
 
-static WORKS_REPLIES: &[u8] =
+const WORKS_REPLIES: &[u8] =
     b"edit 1 len 0\nedit 2 len 200\nwork jobs 1 kept 3 stale 0\nwork jobs 1 kept 0 stale 0\nshot 2 191 ran 64 lit 1680\n";
 
 /// An edit and the one that takes it back leave the states that a shot made.
-static TAKEN_BACK: &[u8] =
+const TAKEN_BACK: &[u8] =
     b"load 000=A910850DA91E85084C08F0 FFC=00F0\ninsert 0 200 ..... ..... .....\nshot 191\nreplace 64 1 R.... ..... .....\nreplace 64 1 ..... ..... .....\nshot 191\n";
 
-static TAKEN_BACK_REPLIES: &[u8] =
+const TAKEN_BACK_REPLIES: &[u8] =
     b"edit 1 len 0\nedit 2 len 200\nshot 2 191 ran 192 lit 1680\nedit 3 len 200\nedit 4 len 200\nshot 4 191 ran 64 lit 1680\n";
 
 /// A movie of 32,832 inputs has a grid of every 128th frame, one of 32,831 of every 64th.
-static GRIDS: &[u8] =
+const GRIDS: &[u8] =
     b"load 000=A910850DA91E85084C08F0 FFC=00F0\ninsert 0 32831 ..... ..... .....\nshot 199\ninsert 32831 1 R.... ..... .....\nshot 150\nshot 100\ndelete 32831 1\nshot 100\nshot 100\n";
 
-static GRIDS_REPLIES: &[u8] =
+const GRIDS_REPLIES: &[u8] =
     b"edit 1 len 0\nedit 2 len 32831\nshot 2 199 ran 200 lit 1680\nedit 3 len 32832\nshot 3 150 ran 23 lit 1680\nshot 3 100 ran 101 lit 1680\nedit 4 len 32831\nshot 4 100 ran 101 lit 1680\nshot 4 100 ran 37 lit 1680\n";
 
 /// A small cartridge, the same again, and its image doubled: that is another cartridge, which no kept state is of.
-static SMALL: &[u8] =
+const SMALL: &[u8] =
     b"load2 000=A910850DA91E85084C08F0 7FC=00F0\ninsert 0 200 ..... ..... .....\nshot 199\nload2 000=A910850DA91E85084C08F0 7FC=00F0\nshot 199\nload 000=A910850DA91E85084C08F0 800=A910850DA91E85084C08F0 7FC=00F0 FFC=00F0\nshot 199\n";
 
-static SMALL_REPLIES: &[u8] =
+const SMALL_REPLIES: &[u8] =
     b"edit 1 len 0\nedit 2 len 200\nshot 2 199 ran 200 lit 1680\nedit 3 len 200\nshot 3 199 ran 8 lit 1680\nedit 4 len 200\nshot 4 199 ran 200 lit 1680\n";
+
+/// These scripts, and their replies by hand.
+static BY_HAND: [(&str, &[u8], &[u8]); 7] = [
+    ("playfield", PLAYFIELD, PLAYFIELD_REPLIES),
+    ("shots", SHOTS, SHOTS_REPLIES),
+    ("halts", HALTS, HALTS_REPLIES),
+    ("works", WORKS, WORKS_REPLIES),
+    ("taken back", TAKEN_BACK, TAKEN_BACK_REPLIES),
+    ("grids", GRIDS, GRIDS_REPLIES),
+    ("small", SMALL, SMALL_REPLIES),
+];
 
 #[test]
 fn shots_are_answered_as_by_hand(rt: HostRuntime) {
     let alloc = rt.alloc();
-    for (name, script, text) in [
-        ("playfield", PLAYFIELD, PLAYFIELD_REPLIES),
-        ("shots", SHOTS, SHOTS_REPLIES),
-        ("halts", HALTS, HALTS_REPLIES),
-        ("works", WORKS, WORKS_REPLIES),
-        ("taken back", TAKEN_BACK, TAKEN_BACK_REPLIES),
-        ("grids", GRIDS, GRIDS_REPLIES),
-        ("small", SMALL, SMALL_REPLIES),
-    ] {
-        check_answer(&rt, name, written(&rt, alloc, script), text, Ok(()));
+    for (name, script, text) in BY_HAND.iter() {
+        check_answer(&rt, *name, written(&rt, alloc, script), text, Ok(()));
     }
 }
 

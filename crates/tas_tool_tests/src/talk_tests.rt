@@ -47,7 +47,7 @@ fn check_at_once<R: Wait + Abort>(
 }
 
 /// Loads the playfield's cartridge and puts in 200 frames.
-static START: &[u8] = b"load 000=A910850DA91E85084C08F0 FFC=00F0\ninsert 0 200 ..... ..... .....\n";
+const START: &[u8] = b"load 000=A910850DA91E85084C08F0 FFC=00F0\ninsert 0 200 ..... ..... .....\n";
 
 static STARTED: &[u8] = b"edit 1 len 0\nedit 2 len 200\n";
 
@@ -180,6 +180,15 @@ fn edits_are_bounded(rt: HostRuntime) {
     check_same(&rt, "output, 2", output.len(), 12_000_000 + 5_888_896 + 80);
 }
 
+/// How conversations end, with their answers.
+static ENDS: [(&[u8], &[u8]); 5] = [
+    (b"", b""),
+    (b"quit\n", b""),
+    (b"quit", b"unknown\n"),
+    (b"\n", b"unknown\n"),
+    (b"quit\nlen\nlen", b""),
+];
+
 /// Lines that aren't understood are answered `unknown`, and so is what stands behind the last newline, whatever it says.
 #[test]
 fn unknown_lines_change_nothing(rt: HostRuntime) {
@@ -190,14 +199,7 @@ fn unknown_lines_change_nothing(rt: HostRuntime) {
     answers[0] = b"len 0 0\n";
     answers[17] = b"len 0 0\n";
     check_pieces(&rt, alloc, &[lines], &answers);
-    let cases: [(&[u8], &[u8]); 5] = [
-        (b"", b""),
-        (b"quit\n", b""),
-        (b"quit", b"unknown\n"),
-        (b"\n", b"unknown\n"),
-        (b"quit\nlen\nlen", b""),
-    ];
-    for (lines, answers) in cases {
+    for (lines, answers) in ENDS.iter() {
         check_said(&rt, alloc, lines, answers);
     }
 }
@@ -311,26 +313,27 @@ impl<'a> Read for Asking<'a> {
     }
 }
 
-/// Each answer is out, and passed on, before the next read: whole lines, parts of lines and several lines at once, with so many bytes
-/// of answers.
+/// Whole lines, parts of lines and several lines at once, with so many bytes of answers.
+static ASKED: [(&[u8], usize); 10] = [
+    (START, 28),
+    (b"len\n", 10),
+    (b"le", 0),
+    (b"n", 0),
+    (b"\n", 10),
+    (b"insert 0 3 ..... ..... .....\nlen\nle", 25),
+    (b"n\npicture 2\n", 10 + 19 + 100_815),
+    (b"states\nnothing\n", 11 + 8),
+    (b"movie\n", 12 + 104),
+    (b"quit\nlen\n", 0),
+];
+
+/// Each answer is out, and passed on, before the next read.
 #[test]
 fn answers_are_out_before_the_next_read(rt: HostRuntime) {
     let alloc = rt.alloc();
-    let lines: [(&[u8], usize); 10] = [
-        (START, 28),
-        (b"len\n", 10),
-        (b"le", 0),
-        (b"n", 0),
-        (b"\n", 10),
-        (b"insert 0 3 ..... ..... .....\nlen\nle", 25),
-        (b"n\npicture 2\n", 10 + 19 + 100_815),
-        (b"states\nnothing\n", 11 + 8),
-        (b"movie\n", 12 + 104),
-        (b"quit\nlen\n", 0),
-    ];
     let passed = Cell::new(0);
     let mut input = Asking {
-        lines: lines.as_slice(),
+        lines: ASKED.as_slice(),
         wanted: 0,
         passed: &passed,
     };
@@ -362,6 +365,11 @@ fn check_full<R: Wait + Abort>(
     check_same(rt, ("room", room), output.failed, 1);
 }
 
+/// Rooms within and between the answers of the next test.
+static ROOMS: [usize; 12] = [
+    0, 12, 13, 27, 28, 1_000, 100_861, 100_862, 100_863, 100_871, 100_872, 100_879,
+];
+
 /// A failed write is the last one, and tells how many bytes of the whole conversation went out, within a picture too.
 #[test]
 fn a_failed_write_ends_the_conversation(rt: HostRuntime) {
@@ -371,9 +379,7 @@ fn a_failed_write_ends_the_conversation(rt: HostRuntime) {
     let (whole, end) = said(&rt, alloc, &mut { lines });
     let whole = whole.as_slice();
     check_same(&rt, "end", end, Ok(()));
-    for room in [
-        0, 12, 13, 27, 28, 1_000, 100_861, 100_862, 100_863, 100_871, 100_872, 100_879,
-    ] {
+    for room in ROOMS {
         for failure in [Failure::Error, Failure::Nothing] {
             check_full(&rt, alloc, lines, whole, (room, failure));
         }
@@ -385,18 +391,21 @@ fn a_failed_write_ends_the_conversation(rt: HostRuntime) {
     check_same(&rt, "room for all", end, Ok(()));
 }
 
+/// Reads that fail, and the answers before.
+static FAILED_READS: [(usize, &[u8]); 5] = [
+    (1, b""),
+    (2, b""),
+    (3, b"len 0 0\nunknown\n"),
+    (4, b"len 0 0\nunknown\n"),
+    (5, b"len 0 0\nunknown\nlen 0 0\n"),
+];
+
 /// A failed read ends the conversation, with all whole lines answered.
 #[test]
 fn a_failed_read_ends_the_conversation(rt: HostRuntime) {
     let alloc = rt.alloc();
-    let cases: [(usize, &[u8]); 5] = [
-        (1, b""),
-        (2, b""),
-        (3, b"len 0 0\nunknown\n"),
-        (4, b"len 0 0\nunknown\n"),
-        (5, b"len 0 0\nunknown\nlen 0 0\n"),
-    ];
-    for (fails_at, answers) in cases {
+    for (fails_at, answers) in FAILED_READS.iter() {
+        let fails_at = *fails_at;
         let mut input = Giver::new(b"len\nx\nlen\nlen", 3, fails_at);
         let answer = said(&rt, alloc, &mut input);
         let end = Err(ToolFault::Read);

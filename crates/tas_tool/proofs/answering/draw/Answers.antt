@@ -1,3 +1,4 @@
+use Rattle.tas_tool.proofs.TurnLemmas.{seen_more}
 use Rattle.tas_tool.proofs.LookLemmas.{shot_turn}
 use Rattle.tas_tool.proofs.GreenLemmas.{unshown_leaves, drawn_leaves}
 use Rattle.tas_tool.proofs.answering.draw.Goals as goal
@@ -16,3 +17,6 @@ pub returns-clause-zone : goal.returns-clause-zone
 returns-clause-zone g c =
     drawn_leaves c.args.seat.now c.shot.new.seat c.args.made c.in-Ok.shot.at c.in-Ok.shot.frame c.args.frame c.in-Ok.shot.ran c.lit-lit.result _ c.requires.own c.requires.made c.shot.ensures.seat c.in-Ok.ensures.reply.1 c.in-Ok.ensures.zone
     c.checked.ensures
+
+pub returns-in-Err-clause-seen : goal.returns-in-Err-clause-seen
+returns-in-Err-clause-seen g c = seen_more c.args.seat.now c.shot.new.seat c.unshown.new.seat c.shot.ensures.seat c.unshown.ensures.seen

@@ -1,6 +1,6 @@
 use Rattle.std.proofs.Common.{sym, ◌∙◌}
 use Rattle.tas_script.specs.declared.command.Command.TheVariants.{Load as LoadLine}
-use Rattle.tas_tool.proofs.TurnLemmas.{after_looks, load_early, load_late, load_answer}
+use Rattle.tas_tool.proofs.TurnLemmas.{own_stays, after_looks, load_early, load_late, load_answer}
 use Rattle.tas_tool.proofs.answering.load.Goals as goal
 
 pub returns-in-Some-clause-answer : goal.returns-in-Some-clause-answer
@@ -13,3 +13,6 @@ returns-in-Ok-clause-answer g c =
 
 pub returns-in-Err-clause-answer : goal.returns-in-Err-clause-answer
 returns-in-Err-clause-answer g c = load_late g.row.A.Denot c.args.seat.now c.own_len.new.seat c.args.image c.args.made c.requires.own c.requires.made c.in_ok-own_len.ensures.seen (sym c.refused_reply.ensures ∙ c.in_default.is)
+
+pub make_edit-requires-clause-own : goal.make_edit-requires-clause-own
+make_edit-requires-clause-own g c = own_stays c.args.seat.now c.own_len.new.seat c.requires.own c.in_ok-own_len.ensures.seen

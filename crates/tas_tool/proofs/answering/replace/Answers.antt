@@ -1,7 +1,7 @@
 use Rattle.std.proofs.Common.{ap, sym, ◌∙◌}
 use Rattle.tas_tool.specs.Turns.{refused_reply}
 use Rattle.tas_script.specs.declared.command.Command.TheVariants.{Replace as ReplaceLine}
-use Rattle.tas_tool.proofs.TurnLemmas.{after_looks, replace_early, replace_late, replace_answer}
+use Rattle.tas_tool.proofs.TurnLemmas.{own_stays, after_looks, replace_early, replace_late, replace_answer}
 use Rattle.tas_tool.proofs.answering.replace.Goals as goal
 
 pub returns-in-Some-clause-answer : goal.returns-in-Some-clause-answer
@@ -18,3 +18,6 @@ pub returns-in-Err-clause-answer : goal.returns-in-Err-clause-answer
 returns-in-Err-clause-answer g c =
     replace_late g.row.A.Denot c.args.seat.now c.own_len.new.seat c.args.at c.args.count c.in_ok-len.len c.args.made c.args.input c.requires.own c.requires.made c.in_ok-len.ensures.seen c.in_ok-len.ensures.reply.1
     (ap (refused_reply c.args.made) (sym c.replace_refusal.ensures) ∙ sym c.refused_reply.ensures ∙ c.in_default.is)
+
+pub make_edit-requires-clause-own : goal.make_edit-requires-clause-own
+make_edit-requires-clause-own g c = own_stays c.args.seat.now c.own_len.new.seat c.requires.own c.in_ok-len.ensures.seen

@@ -21,3 +21,9 @@ returns-in_default-share-clause-zone g c = c.in_default-share.ensures.zone ∙ c
 
 pub returns-clause-zone : goal.returns-clause-zone
 returns-clause-zone g c = worked_zone c.args.seat.now c.work.new.seat c.share.new.seat c.in-Ok.worked.jobs c.in-Ok.worked.kept c.in-Ok.worked.stale _ c.work.ensures.seat.zone c.in-Ok-share.ensures.zone
+
+pub returns-in_default-share-clause-seen : goal.returns-in_default-share-clause-seen
+returns-in_default-share-clause-seen g c = seen_more c.args.seat.now c.work.new.seat c.share.new.seat c.work.ensures.seat.seen c.share.ensures.seat
+
+pub returns-clause-seen : goal.returns-clause-seen
+returns-clause-seen g c = seen_more c.args.seat.now c.work.new.seat c.share.new.seat c.work.ensures.seat.seen c.share.ensures.seat

@@ -8,6 +8,9 @@ use Rattle.tas_tool.proofs.movie_scripting.answer_over.Goals as goal
 pub answer_made-end-requires-clause-first : goal.answer_made-end-requires-clause-first
 answer_made-end-requires-clause-first g c = fresh_first _ _ (first_of c.as_mut_slice.result.now _ c.index-as_mut_slice-0.result (ap (λ l. slice_get l 0) c.as_mut_slice.ensures.value ∙ c.in_ok-desk.ensures.fresh))
 
+pub answer_made-end-requires-clause-empty : goal.answer_made-end-requires-clause-empty
+answer_made-end-requires-clause-empty g c = c.requires.empty
+
 pub close-requires-clause-whole : goal.close-requires-clause-whole
 close-requires-clause-whole g c =
     let lent = c.as_mut_slice.ensures in

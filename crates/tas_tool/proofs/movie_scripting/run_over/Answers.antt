@@ -2,6 +2,7 @@ use Rattle.std.proofs.Common.{inr}
 use Rattle.std.proofs.lemmas.Result.{err_from_is_err_and}
 use Rattle.tas_tool.specs.MovieScripts.{AnswersOver}
 use Rattle.tas_tool.proofs.ScriptLemmas.{broken_off}
+use Rattle.tas_tool.proofs.MovieScriptLemmas.{unopened_over, written_over}
 use Rattle.tas_tool.proofs.movie_scripting.run_over.Goals as goal
 
 pub returns-in_err-write_all : goal.returns-in_err-write_all
@@ -14,3 +15,11 @@ returns-in_err-write_all g c =
       broken_off (AnswersOver g.row.A.Denot c.in_ok-movie.movie c.args.bytes.now) c.answer_over-end.new.text.items c.as_slice.result.now _ _ c.answer_over-end.result c.in_err-write_all.field-0.0 c.answer_over-end.ensures c.as_slice.ensures.value
           c.in_err-write_all.ensures.fault,
     ))
+
+pub returns-in_default : goal.returns-in_default
+returns-in_default g c = unopened_over g.row.A.Denot c.args.image.now c.args.said.now c.args.bytes.now c.in_ok-movie.movie _ c.in_ok-movie.ensures
+
+pub returns : goal.returns
+returns g c =
+    written_over g.row.A.Denot c.args.image.now c.args.said.now c.args.bytes.now c.in_ok-movie.movie c.answer_over-end.new.text.items c.as_slice.result.now _ _ c.answer_over-end.result c.in_ok-movie.ensures c.answer_over-end.ensures c.as_slice.ensures.value
+    c.in_ok-write_all.ensures.ok

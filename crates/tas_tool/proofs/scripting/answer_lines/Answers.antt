@@ -52,6 +52,20 @@ returns-in_default-reply_line-clause-answers g c = λ own.
     let (turns, i) = c.loop-rest.invariant in
     (turns, c.loop-rest.rest.now, i.reads, i.replies, tt)
 
+pub returns-in_default-extend_from_slice-clause-number : goal.returns-in_default-extend_from_slice-clause-number
+returns-in_default-extend_from_slice-clause-number g c =
+    let (turns, i) = c.loop-rest.invariant in
+    c.answer_command.ensures.number ∙ i.seat
+
+pub returns-in_default-extend_from_slice-clause-answers : goal.returns-in_default-extend_from_slice-clause-answers
+returns-in_default-extend_from_slice-clause-answers g c = λ own.
+    let (turns, i) = c.loop-rest.invariant in
+    let same : c.extend_from_slice.new.self.items ≡ c.loop-rest.text.items = search rules in
+    (turns, c.loop-rest.rest.now, i.reads, same ∙ i.replies, tt)
+
+pub loop-rest-smaller : goal.loop-rest-smaller
+loop-rest-smaller g c = omega (arith, split_length c.loop-rest.rest.now c.in-Some.line.now c.in-Some.after.now c.in-Some.ensures.some.0)
+
 pub loop-rest-preserved : goal.loop-rest-preserved
 loop-rest-preserved g c =
     let (turns, i) = c.loop-rest.invariant in

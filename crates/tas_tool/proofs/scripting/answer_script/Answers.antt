@@ -14,6 +14,9 @@ pub answer_lines-end-requires-clause-made : goal.answer_lines-end-requires-claus
 answer_lines-end-requires-clause-made g c =
     sym (fresh_made _ _ (first_of c.as_mut_slice.result.now _ c.index-as_mut_slice-0.result (ap (λ l. slice_get l 0) c.as_mut_slice.ensures.value ∙ c.in_ok-desk.ensures.fresh)))
 
+pub answer_lines-end-requires-clause-empty : goal.answer_lines-end-requires-clause-empty
+answer_lines-end-requires-clause-empty g c = c.requires.empty
+
 pub close-requires-clause-whole : goal.close-requires-clause-whole
 close-requires-clause-whole g c =
     let lent = c.as_mut_slice.ensures in

@@ -2,6 +2,7 @@ use Rattle.std.proofs.Common.{ℕ, sym, subst, ◌∙◌}
 use Rattle.std.proofs.lemmas.Result.{err_from_is_err_and}
 use Rattle.std.proofs.lemmas.Result.{MatchResult-weaker}
 use Rattle.tas_tool.specs.Talking.{TellsError}
+use Rattle.tas_tool.proofs.TurnLemmas.{foreign}
 use Rattle.tas_tool.proofs.TellingLemmas.{talk_fault, memory_fault, told_picture, told_no_picture, told_undrawn}
 use Rattle.tas_tool.proofs.telling.tell_picture.Goals as goal
 
@@ -28,3 +29,6 @@ returns-clause-answer g c =
     (λ told is. told_no_picture g.row.A.Denot c.args.seat.now c.shot.new.seat told.made c.in-Ok.shot.at c.args.frame c.in-Ok.shot.ran c.in-Ok.shot.picture told.bytes.items c.requires.own (is.1 ∙ c.requires.made) c.shot.ensures.seat c.in-Ok.ensures.reply.0
     c.in-Ok.ensures.reply.1 (c.if-shot-made.false ∙ sym is.1) c.in-Ok.ensures.zone is.0)
     (λ fault is. memory_fault c.shot.new.seat fault is)
+
+pub returns-then-shot-made-clause-answer : goal.returns-then-shot-made-clause-answer
+returns-then-shot-made-clause-answer g c = foreign c.args.seat.now c.shot.new.seat c.args.made c.in-Ok.shot.at c.requires.own c.shot.ensures.seat c.requires.made c.in-Ok.ensures.reply.1 c.if-shot-made.true
