@@ -32,7 +32,7 @@ pub enum Engine {
 }
 
 /// Those that read their inputs whole before they write anything.
-pub const ENGINES: [Engine; 10] = [
+pub static ENGINES: [Engine; 10] = [
     Engine::Trace,
     Engine::Check,
     Engine::Migrate,

@@ -113,27 +113,29 @@ fn check_engine<T: Wait + Threads + Sync + Abort>(
     check_same(rt, engine, counts, Some(wanted));
 }
 
+/// Each engine, how many of its growths end it, and how many an answer tells.
+static GROWTHS: [(Engine, u64, u64); 14] = [
+    (Engine::Trace, 2, 0),
+    (Engine::Check, 7, 0),
+    (Engine::Migrate, 6, 0),
+    (Engine::Shot, 6, 0),
+    (Engine::Edit, 9, 0),
+    (Engine::Diff, 17, 0),
+    (Engine::DiffReplaced, 14, 0),
+    (Engine::Script, 40, 16),
+    (Engine::MovieScript, 52, 14),
+    (Engine::Talk, 35, 28),
+    (Engine::MovieTalk, 47, 26),
+    (Engine::Export(1), 32, 0),
+    (Engine::Export(2), 34, 0),
+    (Engine::Export(4), 36, 0),
+];
+
 #[test]
 fn each_growth_refused(rt: HostRuntime) {
-    let engines = [
-        (Engine::Trace, 2, 0),
-        (Engine::Check, 7, 0),
-        (Engine::Migrate, 6, 0),
-        (Engine::Shot, 6, 0),
-        (Engine::Edit, 9, 0),
-        (Engine::Diff, 17, 0),
-        (Engine::DiffReplaced, 14, 0),
-        (Engine::Script, 40, 16),
-        (Engine::MovieScript, 52, 14),
-        (Engine::Talk, 35, 28),
-        (Engine::MovieTalk, 47, 26),
-        (Engine::Export(1), 32, 0),
-        (Engine::Export(2), 34, 0),
-        (Engine::Export(4), 36, 0),
-    ];
     let alloc = rt.alloc();
     let bytes = make_inputs(&rt, alloc);
-    for (engine, growths, replies) in engines {
+    for (engine, growths, replies) in GROWTHS {
         check_engine(&rt, alloc, engine, &bytes, (growths, replies));
     }
 }

@@ -51,7 +51,7 @@ fn cart<R: Abort>(rt: &R, alloc: Global) -> Cart {
 /// A movie with so many frames of one input.
 fn movie_of<R: Abort>(rt: &R, alloc: Global, cart: &Cart, input: Input, count: usize) -> Movie {
     let mut movie = expect_ok(rt, Movie::new(alloc, cart));
-    let inputs = Inputs::from_vec(expect_ok(rt, vec![in alloc; input; count]));
+    let inputs = expect_ok(rt, Inputs::repeated(alloc, input, count));
     let insert = Edit::Insert { at: 0, inputs };
     expect_ok(rt, check(&movie, &insert));
     apply(&mut movie, &insert);

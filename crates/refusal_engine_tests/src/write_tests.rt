@@ -54,21 +54,23 @@ fn fail_each<T: Wait + Threads + Abort + Sync>(
     check_that(rt, engine, failed > 0);
 }
 
+/// Engines that write a text.
+static TEXTS: [Engine; 8] = [
+    Engine::Trace,
+    Engine::Check,
+    Engine::Migrate,
+    Engine::Edit,
+    Engine::Diff,
+    Engine::DiffReplaced,
+    Engine::Script,
+    Engine::MovieScript,
+];
+
 /// Seven bytes at a time.
 #[test]
 fn each_write_of_a_text(rt: HostRuntime) {
-    let engines = [
-        Engine::Trace,
-        Engine::Check,
-        Engine::Migrate,
-        Engine::Edit,
-        Engine::Diff,
-        Engine::DiffReplaced,
-        Engine::Script,
-        Engine::MovieScript,
-    ];
     let bytes = make_inputs(&rt, rt.alloc());
-    for engine in engines {
+    for engine in TEXTS {
         for failure in [Failure::Error, Failure::Nothing] {
             fail_each(&rt, rt.alloc(), &bytes, engine, (7, failure));
         }

@@ -266,23 +266,37 @@ fn no_engine_writes_on(rt: HostRuntime) {
     }
 }
 
+/// Checks how long both texts of a movie are, and what `tas check` tells of each.
+fn check_length<R: Abort>(
+    rt: &R,
+    alloc: Global,
+    cart: &[u8],
+    frames: &[u8],
+    lengths: [usize; 2],
+    line: &str,
+) {
+    let older = older_text_of(rt, alloc, PLAYFIELD_DIGEST, frames);
+    let newer = text_of(rt, alloc, PLAYFIELD_DIGEST, frames);
+    check_same(rt, line, [older.len(), newer.len()], lengths);
+    for text in [&older, &newer] {
+        let ran = checked(alloc, &mut { cart }, &mut text.as_slice());
+        check_ran(rt, line, ran, line.as_bytes());
+    }
+}
+
+/// The frames of movies, how many bytes their older and newer texts have, and what is told of both.
+static LENGTHS: [(&[u8], [usize; 2], &str); 3] = [
+    (b"", [81, 81], "ok 0 frames\n"),
+    (b".", [99, 99], "ok 1 frames\n"),
+    (b".....", [171, 102], "ok 5 frames\n"),
+];
+
 #[test]
 fn a_movie_is_as_long_as_its_frames(rt: HostRuntime) {
     let alloc = rt.alloc();
     let cart = image_of(&rt, alloc, PLAYFIELD);
-    let cases: [(&[u8], [usize; 2], &str); 3] = [
-        (b"", [81, 81], "ok 0 frames\n"),
-        (b".", [99, 99], "ok 1 frames\n"),
-        (b".....", [171, 102], "ok 5 frames\n"),
-    ];
-    for (frames, lengths, line) in cases {
-        let older = older_text_of(&rt, alloc, PLAYFIELD_DIGEST, frames);
-        let newer = text_of(&rt, alloc, PLAYFIELD_DIGEST, frames);
-        check_same(&rt, line, [older.len(), newer.len()], lengths);
-        for text in [&older, &newer] {
-            let ran = checked(alloc, &mut cart.as_slice(), &mut text.as_slice());
-            check_ran(&rt, line, ran, line.as_bytes());
-        }
+    for (frames, lengths, line) in LENGTHS {
+        check_length(&rt, alloc, cart.as_slice(), frames, lengths, line);
     }
 }
 

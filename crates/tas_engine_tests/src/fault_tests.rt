@@ -12,61 +12,67 @@ fn check_line<R: Abort>(rt: &R, alloc: Global, fault: ToolFault, line: &str) {
     check_same(rt, fault, text.as_str(), line);
 }
 
+/// Faults, and the line that tells each.
+static LINES: [(ToolFault, &str); 12] = [
+    (ToolFault::TooLong, "fault: input is too long"),
+    (ToolFault::Read, "fault: read failed"),
+    (
+        ToolFault::Write { written: 20 },
+        "fault: write failed after 20 bytes",
+    ),
+    (ToolFault::Size(7), "fault: cartridge has 7 bytes"),
+    (
+        ToolFault::NoFrame { frame: 1, len: 1 },
+        "fault: no frame 1 of 1",
+    ),
+    (
+        ToolFault::Range {
+            from: 0,
+            to: 2,
+            len: 1,
+        },
+        "fault: range 0 to 2 of 1",
+    ),
+    (
+        ToolFault::Halted {
+            at: 0xf00d,
+            opcode: 2,
+        },
+        "fault: halted at F00D by 02",
+    ),
+    (ToolFault::Script { line: 12 }, "fault: script line 12"),
+    (ToolFault::NoPlace, "fault: no place"),
+    (ToolFault::NoEntry, "fault: no entry"),
+    (ToolFault::Foreign, "fault: foreign edit"),
+    (ToolFault::Memory, "fault: out of memory"),
+];
+
 #[test]
 fn faults_read_as_their_lines(rt: HostRuntime) {
     let alloc = rt.alloc();
-    for (fault, line) in [
-        (ToolFault::TooLong, "fault: input is too long"),
-        (ToolFault::Read, "fault: read failed"),
-        (
-            ToolFault::Write { written: 20 },
-            "fault: write failed after 20 bytes",
-        ),
-        (ToolFault::Size(7), "fault: cartridge has 7 bytes"),
-        (
-            ToolFault::NoFrame { frame: 1, len: 1 },
-            "fault: no frame 1 of 1",
-        ),
-        (
-            ToolFault::Range {
-                from: 0,
-                to: 2,
-                len: 1,
-            },
-            "fault: range 0 to 2 of 1",
-        ),
-        (
-            ToolFault::Halted {
-                at: 0xf00d,
-                opcode: 2,
-            },
-            "fault: halted at F00D by 02",
-        ),
-        (ToolFault::Script { line: 12 }, "fault: script line 12"),
-        (ToolFault::NoPlace, "fault: no place"),
-        (ToolFault::NoEntry, "fault: no entry"),
-        (ToolFault::Foreign, "fault: foreign edit"),
-        (ToolFault::Memory, "fault: out of memory"),
-    ] {
+    for (fault, line) in LINES {
         check_line(&rt, alloc, fault, line);
     }
 }
 
+/// The line of a movie text at fault, what is wrong with it, and the line that tells this.
+static TEXT_LINES: [(usize, TextErrorKind, &str); 6] = [
+    (3, TextErrorKind::End, "fault: movie line 3: end"),
+    (2, TextErrorKind::Digest, "fault: movie line 2: digest"),
+    (1, TextErrorKind::Head, "fault: movie line 1: head"),
+    (4, TextErrorKind::Frame, "fault: movie line 4: frame"),
+    (
+        65539,
+        TextErrorKind::TooMany,
+        "fault: movie line 65539: too many",
+    ),
+    (4, TextErrorKind::Run, "fault: movie line 4: run"),
+];
+
 #[test]
 fn faults_of_a_movie_text_read_as_their_lines(rt: HostRuntime) {
     let alloc = rt.alloc();
-    for (line, kind, words) in [
-        (3, TextErrorKind::End, "fault: movie line 3: end"),
-        (2, TextErrorKind::Digest, "fault: movie line 2: digest"),
-        (1, TextErrorKind::Head, "fault: movie line 1: head"),
-        (4, TextErrorKind::Frame, "fault: movie line 4: frame"),
-        (
-            65539,
-            TextErrorKind::TooMany,
-            "fault: movie line 65539: too many",
-        ),
-        (4, TextErrorKind::Run, "fault: movie line 4: run"),
-    ] {
+    for (line, kind, words) in TEXT_LINES {
         let fault = ToolFault::Text(TextError { line, kind });
         check_line(&rt, alloc, fault, words);
     }

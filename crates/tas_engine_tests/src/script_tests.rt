@@ -1,6 +1,8 @@
 //! Lines and replies.
 
 use crate::checks::{check_same, check_that, expect_ok};
+use std::alloc::Global;
+use std::process::Abort;
 use tas_script::{Command, Image, Reply, parse_line, reply_line};
 use vcs_machine::{CART_SIZE, Input, SMALL_CART_SIZE};
 
@@ -28,27 +30,51 @@ fn small_image(offset: usize, byte: u8) -> Image {
     Image::Small(image)
 }
 
+/// An image of this size with one byte.
+fn image(size: usize, offset: usize, byte: u8) -> Image {
+    if size == SMALL_CART_SIZE {
+        small_image(offset, byte)
+    } else {
+        large_image(offset, byte)
+    }
+}
+
+/// Lines, the size of the image of each, and its byte.
+static LOADS: [(&[u8], usize, usize, u8); 6] = [
+    (b"load 00A=FF", CART_SIZE, 10, 0xff),
+    (b"load FFF=01", CART_SIZE, 4095, 1),
+    (b"load 00A=FF00 00B=1C 00B=00", CART_SIZE, 10, 0xff),
+    (b"load2 00A=FF", SMALL_CART_SIZE, 10, 0xff),
+    (b"load2 7FF=01", SMALL_CART_SIZE, 2047, 1),
+    (b"load2 7FE=FF01 7FE=00", SMALL_CART_SIZE, 2047, 1),
+];
+
 #[test]
 fn a_load_has_its_image(rt: HostRuntime) {
-    let cases: [(&[u8], Image); 6] = [
-        (b"load 00A=FF", large_image(10, 0xff)),
-        (b"load FFF=01", large_image(4095, 1)),
-        (b"load 00A=FF00 00B=1C 00B=00", large_image(10, 0xff)),
-        (b"load2 00A=FF", small_image(10, 0xff)),
-        (b"load2 7FF=01", small_image(2047, 1)),
-        (b"load2 7FE=FF01 7FE=00", small_image(2047, 1)),
-    ];
-    for (line, image) in cases {
+    for (line, size, offset, byte) in LOADS {
+        let image = image(size, offset, byte);
         let command = Command::Load { image };
         check_same(&rt, line, parse_line(line), Some(command));
     }
 }
 
+/// Lines, and the command of each.
+static COMMANDS: [(&[u8], Command); 8] = [
+    (b"delete 10 191", Command::Delete { at: 10, count: 191 }),
+    (b"len", Command::Length),
+    (b"input 0", Command::InputAt { frame: 0 }),
+    (b"input 9999999", Command::InputAt { frame: 9_999_999 }),
+    (b"shot 191", Command::Shot { frame: 191 }),
+    (b"shot 10", Command::Shot { frame: 10 }),
+    (b"work 0", Command::Work { frame: 0 }),
+    (b"work 9999999", Command::Work { frame: 9_999_999 }),
+];
+
 #[test]
 fn each_other_line_is_its_command(rt: HostRuntime) {
     let none = Input::none();
     let right = pressed_right();
-    let cases: [(&[u8], Command); 11] = [
+    let with_frames: [(&[u8], Command); 3] = [
         (
             b"insert 0 200 ..... ..... .....",
             Command::Insert {
@@ -73,158 +99,161 @@ fn each_other_line_is_its_command(rt: HostRuntime) {
                 input: right,
             },
         ),
-        (b"delete 10 191", Command::Delete { at: 10, count: 191 }),
-        (b"len", Command::Length),
-        (b"input 0", Command::InputAt { frame: 0 }),
-        (b"input 9999999", Command::InputAt { frame: 9_999_999 }),
-        (b"shot 191", Command::Shot { frame: 191 }),
-        (b"shot 10", Command::Shot { frame: 10 }),
-        (b"work 0", Command::Work { frame: 0 }),
-        (b"work 9999999", Command::Work { frame: 9_999_999 }),
     ];
-    for (line, command) in cases {
+    for (line, command) in with_frames {
+        check_same(&rt, line, parse_line(line), Some(command));
+    }
+    for (line, command) in COMMANDS {
         check_same(&rt, line, parse_line(line), Some(command));
     }
 }
 
+/// Lines that load nothing.
+static NO_LOADS: [&[u8]; 17] = [
+    b"load",
+    b"load ",
+    b"load 000=",
+    b"load 000=A",
+    b"load 000=a9",
+    b"load 00=A9",
+    b"load 000 A9",
+    b"load FFF=A9FF",
+    b"load 000=A9 ",
+    b"load2",
+    b"load2 ",
+    b"load2 000=",
+    b"load2 7FF=A9FF",
+    b"load2 800=A9",
+    b"load2 000=A9 ",
+    b"load2000=A9",
+    b"load3 000=A9",
+];
+
 #[test]
 fn no_other_load_is_understood(rt: HostRuntime) {
-    let lines: [&[u8]; 17] = [
-        b"load",
-        b"load ",
-        b"load 000=",
-        b"load 000=A",
-        b"load 000=a9",
-        b"load 00=A9",
-        b"load 000 A9",
-        b"load FFF=A9FF",
-        b"load 000=A9 ",
-        b"load2",
-        b"load2 ",
-        b"load2 000=",
-        b"load2 7FF=A9FF",
-        b"load2 800=A9",
-        b"load2 000=A9 ",
-        b"load2000=A9",
-        b"load3 000=A9",
-    ];
-    for (number, line) in lines.iter().enumerate() {
+    for (number, line) in NO_LOADS.iter().enumerate() {
         check_that(&rt, ("line", number), parse_line(line).is_none());
     }
 }
 
+/// Other lines that are no command.
+static NO_COMMANDS: [&[u8]; 35] = [
+    b"",
+    b" ",
+    b"len ",
+    b" len",
+    b"Len",
+    b"lenx",
+    b"len 0",
+    b"work",
+    b"shot",
+    b"shot ",
+    b"shot 01",
+    b"shot 00",
+    b"shot -1",
+    b"shot +1",
+    b"shot 1 ",
+    b"shot  1",
+    b"shot 1 1",
+    b"shot 1\r",
+    b"shot\t1",
+    b"shot 10000000",
+    b"shot 99999999999999999999",
+    b"shot \xff",
+    b"input",
+    b"input 1x",
+    b"delete 1",
+    b"delete 1  1",
+    b"delete 1 1 1",
+    b"delete 1,1",
+    b"insert 0 1",
+    b"insert 0 1 ",
+    b"insert 0 1 r.... ..... .....",
+    b"insert 0 1 R.... ..... ..... ",
+    b"insert 0  1 R.... ..... .....",
+    b"insert 0 1 R....  ..... .....",
+    b"replace 1 R.... ..... .....",
+];
+
 #[test]
 fn no_other_line_is_understood(rt: HostRuntime) {
-    let lines: [&[u8]; 35] = [
-        b"",
-        b" ",
-        b"len ",
-        b" len",
-        b"Len",
-        b"lenx",
-        b"len 0",
-        b"work",
-        b"shot",
-        b"shot ",
-        b"shot 01",
-        b"shot 00",
-        b"shot -1",
-        b"shot +1",
-        b"shot 1 ",
-        b"shot  1",
-        b"shot 1 1",
-        b"shot 1\r",
-        b"shot\t1",
-        b"shot 10000000",
-        b"shot 99999999999999999999",
-        b"shot \xff",
-        b"input",
-        b"input 1x",
-        b"delete 1",
-        b"delete 1  1",
-        b"delete 1 1 1",
-        b"delete 1,1",
-        b"insert 0 1",
-        b"insert 0 1 ",
-        b"insert 0 1 r.... ..... .....",
-        b"insert 0 1 R.... ..... ..... ",
-        b"insert 0  1 R.... ..... .....",
-        b"insert 0 1 R....  ..... .....",
-        b"replace 1 R.... ..... .....",
-    ];
-    for (number, line) in lines.iter().enumerate() {
+    for (number, line) in NO_COMMANDS.iter().enumerate() {
         check_that(&rt, ("line", number), parse_line(line).is_none());
     }
 }
+
+/// Checks the line of a reply.
+fn check_reply<R: Abort>(rt: &R, alloc: Global, reply: Reply, line: &[u8]) {
+    let text = expect_ok(rt, reply_line(alloc, reply));
+    check_same(rt, reply, text.as_slice(), line);
+}
+
+/// Replies to edits and looks, and the line of each.
+static REPLIES: [(Reply, &[u8]); 7] = [
+    (Reply::OutOfMemory, b"out of memory\n"),
+    (Reply::Edited { at: 1, len: 0 }, b"edit 1 len 0\n"),
+    (Reply::Misplaced { at: 5, len: 9 }, b"place 5 len 9\n"),
+    (
+        Reply::TooLong { at: 2, len: 262144 },
+        b"long 2 len 262144\n",
+    ),
+    (Reply::Full { at: 1_000_000 }, b"full 1000000\n"),
+    (Reply::Measured { at: 0, len: 0 }, b"len 0 0\n"),
+    (Reply::NoFrame { at: 4, len: 0 }, b"no frame 4 len 0\n"),
+];
 
 #[test]
 fn replies_to_edits_and_looks(rt: HostRuntime) {
     let alloc = rt.alloc();
-    let cases: [(Reply, &[u8]); 8] = [
-        (Reply::OutOfMemory, b"out of memory\n"),
-        (Reply::Edited { at: 1, len: 0 }, b"edit 1 len 0\n"),
-        (Reply::Misplaced { at: 5, len: 9 }, b"place 5 len 9\n"),
-        (
-            Reply::TooLong { at: 2, len: 262144 },
-            b"long 2 len 262144\n",
-        ),
-        (Reply::Full { at: 1_000_000 }, b"full 1000000\n"),
-        (Reply::Measured { at: 0, len: 0 }, b"len 0 0\n"),
-        (
-            Reply::Pressed {
-                at: 3,
-                input: pressed_right(),
-            },
-            b"input 3 R.... ..... .....\n",
-        ),
-        (Reply::NoFrame { at: 4, len: 0 }, b"no frame 4 len 0\n"),
-    ];
-    for (reply, line) in cases {
-        let text = expect_ok(&rt, reply_line(alloc, reply));
-        check_same(&rt, reply, text.as_slice(), line);
+    for (reply, line) in REPLIES {
+        check_reply(&rt, alloc, reply, line);
     }
+    let input = pressed_right();
+    let pressed = Reply::Pressed { at: 3, input };
+    check_reply(&rt, alloc, pressed, b"input 3 R.... ..... .....\n");
 }
+
+/// Replies of what was played, and the line of each.
+static PLAYED: [(Reply, &[u8]); 4] = [
+    (
+        Reply::Drawn {
+            at: 2,
+            frame: 191,
+            ran: 192,
+            lit: 1680,
+        },
+        b"shot 2 191 ran 192 lit 1680\n",
+    ),
+    (
+        Reply::Halted {
+            at: 2,
+            address: 0xf00d,
+            opcode: 2,
+        },
+        b"halted 2 F00D 02\n",
+    ),
+    (
+        Reply::Halted {
+            at: 2,
+            address: 0x00ab,
+            opcode: 0xef,
+        },
+        b"halted 2 00AB EF\n",
+    ),
+    (
+        Reply::Worked {
+            jobs: 1,
+            kept: 3,
+            stale: 0,
+        },
+        b"work jobs 1 kept 3 stale 0\n",
+    ),
+];
 
 #[test]
 fn replies_of_what_was_played(rt: HostRuntime) {
     let alloc = rt.alloc();
-    let cases: [(Reply, &[u8]); 4] = [
-        (
-            Reply::Drawn {
-                at: 2,
-                frame: 191,
-                ran: 192,
-                lit: 1680,
-            },
-            b"shot 2 191 ran 192 lit 1680\n",
-        ),
-        (
-            Reply::Halted {
-                at: 2,
-                address: 0xf00d,
-                opcode: 2,
-            },
-            b"halted 2 F00D 02\n",
-        ),
-        (
-            Reply::Halted {
-                at: 2,
-                address: 0x00ab,
-                opcode: 0xef,
-            },
-            b"halted 2 00AB EF\n",
-        ),
-        (
-            Reply::Worked {
-                jobs: 1,
-                kept: 3,
-                stale: 0,
-            },
-            b"work jobs 1 kept 3 stale 0\n",
-        ),
-    ];
-    for (reply, line) in cases {
-        let text = expect_ok(&rt, reply_line(alloc, reply));
-        check_same(&rt, reply, text.as_slice(), line);
+    for (reply, line) in PLAYED {
+        check_reply(&rt, alloc, reply, line);
     }
 }
