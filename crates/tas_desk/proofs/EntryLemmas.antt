@@ -4,15 +4,13 @@ use Rattle.std.proofs.lemmas.Bool.Decides.{nat_tests}
 use Rattle.logbook.specs.Pages.{Book}
 use Rattle.tas_movie.specs.Content.{MovieContent}
 use Rattle.tas_movie.specs.declared.edit.Edit.{Edit}
-use Rattle.tas_movie.specs.Edit.{edited, edited_place}
-use Rattle.tas_green.specs.declared.savestate.Savestate.{Savestate}
-use Rattle.tas_green.specs.Green.{is_left}
+use Rattle.tas_movie.specs.Edit.{edited}
 use Rattle.std.proofs.Math.Seq.{take-append_seam}
-use Rattle.std.specs.Prelude.{filter, take}
+use Rattle.std.specs.Prelude.{take}
 use Rattle.tas_desk.specs.declared.entry.Entry.{Entry}
 use Rattle.tas_desk.specs.Version.{VersionContent, version_of}
-use Rattle.tas_desk.specs.History.{movie_of, entries_of, IsLegal}
-use Rattle.tas_desk.specs.Session.{IsNextEntry, SessionContent, IsSound, IsEditError, after_entry, refusal_of, edit_refusal, refusal_at}
+use Rattle.tas_desk.specs.History.{movie_of, IsLegal}
+use Rattle.tas_desk.specs.Session.{IsNextEntry, SessionContent, IsEditError, refusal_of, edit_refusal, refusal_at}
 use Rattle.std.specs.Prelude.{Option}
 use Rattle.tas_desk.specs.declared.replies.EditError.{EditError}
 use Rattle.tas_desk.specs.declared.reader_view.ReaderView.{ReaderView}
