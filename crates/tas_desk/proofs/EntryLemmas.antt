@@ -4,15 +4,13 @@ use Rattle.std.proofs.lemmas.Bool.Decides.{nat_tests}
 use Rattle.logbook.specs.Pages.{Book}
 use Rattle.tas_movie.specs.Content.{MovieContent}
 use Rattle.tas_movie.specs.declared.edit.Edit.{Edit}
-use Rattle.tas_movie.specs.Edit.{edited, edited_place}
-use Rattle.tas_green.specs.declared.savestate.Savestate.{Savestate}
-use Rattle.tas_green.specs.Green.{is_left}
+use Rattle.tas_movie.specs.Edit.{edited}
 use Rattle.std.proofs.Math.Seq.{take-append_seam}
-use Rattle.std.specs.Prelude.{filter, take}
+use Rattle.std.specs.Prelude.{take}
 use Rattle.tas_desk.specs.declared.entry.Entry.{Entry}
 use Rattle.tas_desk.specs.Version.{VersionContent, version_of}
-use Rattle.tas_desk.specs.History.{movie_of, entries_of, IsLegal}
-use Rattle.tas_desk.specs.Session.{IsNextEntry, SessionContent, IsSound, IsEditError, after_entry, refusal_of, edit_refusal, refusal_at}
+use Rattle.tas_desk.specs.History.{movie_of, IsLegal}
+use Rattle.tas_desk.specs.Session.{IsNextEntry, SessionContent, IsEditError, refusal_of, edit_refusal, refusal_at}
 use Rattle.std.specs.Prelude.{Option}
 use Rattle.tas_desk.specs.declared.replies.EditError.{EditError}
 use Rattle.tas_desk.specs.declared.reader_view.ReaderView.{ReaderView}
@@ -79,21 +77,6 @@ pub change_is : {A : Type 0} (b : Book) (log items : List (Entry A)) (e : Entry 
     → op ≡ change_of e.edit (version_of b (log ++ e ∷ []))
 change_is b log items e edit op last again newest p q r s t u = u ∙ (λ i. change_of (p i) ((r ∙ s ∙ t ∙ ap (version_of b) q) i))
 
--- the session after an entry
-pub content_as : {A : Type 0} (old : SessionContent A) (b b' : Book) (log log' : List (Entry A)) (m m' : MovieContent) (z z' : List Savestate) (e : Entry A) (place len : ℕ) → record { registry = b; journal = log; movie = m; zone = z } ≡ old → b' ≡ b → log' ≡ log ++ e ∷ []
-    → m' ≡ edited m e.edit → z' ≡ filter (is_left place len) z → place ≡ edited_place e.edit → len ≡ length m'.inputs → record { registry = b'; journal = log'; movie = m'; zone = z' } ≡ after_entry old e
-content_as {A} old b b' log log' m m' z z' e place len view book more new cut at long =
-    let kept : z' ≡ filter (is_left (edited_place e.edit) (length (edited m e.edit).inputs)) z = cut ∙ (λ i. filter (is_left (at i) ((long ∙ ap (λ (x : MovieContent). length x.inputs) new) i)) z) in
-    let now : record { registry = b'; journal = log'; movie = m'; zone = z' } ≡ after_entry (record { registry = b; journal = log; movie = m; zone = z }) e = λ i. record { registry = book i; journal = more i; movie = new i; zone = kept i } in
-    now ∙ ap (λ (s : SessionContent A). after_entry s e) view
-
--- the session where nothing has changed
-pub same_content : {A : Type 0} (old : SessionContent A) (b b' : Book) (log log' : List (Entry A)) (m m' : MovieContent) (z : List Savestate) → record { registry = b; journal = log; movie = m; zone = z } ≡ old → b' ≡ b → log' ≡ log → m' ≡ m
-    → record { registry = b'; journal = log'; movie = m'; zone = z } ≡ old
-same_content {A} old b b' log log' m m' z view book same new =
-    let now : record { registry = b'; journal = log'; movie = m'; zone = z } ≡ record { registry = b; journal = log; movie = m; zone = z } = λ i. record { registry = book i; journal = same i; movie = new i; zone = z } in
-    now ∙ view
-
 -- what is published is the journal still
 pub same_current : {A : Type 0} (x y : PublishedContent A) (pending now : List (ChangeContent A)) (b b' : Book) (log log' : List (Entry A)) (v w : ReaderView A) → IsCurrent x pending b log v.seen → y ≡ x → now ≡ [] → w ≡ v → b' ≡ b → log' ≡ log → IsCurrent y now b' log' w.seen
 same_current {A} x y pending now b b' log log' v w s same none view book list = record {
@@ -103,12 +86,6 @@ same_current {A} x y pending now b b' log log' v w s same none view book list = 
   view = ap (λ (u : ReaderView A). u.seen) view ∙ s.view ∙ sym list;
   sound = subst IsSoundPublished (sym same) s.sound;
 }
-
-pub same_sound : {A : Type 0} (log log' : List (Entry A)) (m m' : MovieContent) (z : List Savestate) → IsSound log m z → log' ≡ log → m' ≡ m → IsSound log' m' z
-same_sound {A} log log' m m' z s list same = subst (λ (x : MovieContent). IsSound log' x z) (sym same) (subst (λ (h : List (Entry A)). IsSound h m z) (sym list) s)
-
-pub same_count : {A : Type 0} (log log' : List (Entry A)) (seat old reserved : ℕ) → old ≡ entries_of seat log → reserved ≡ old → log' ≡ log → reserved ≡ entries_of seat log'
-same_count {A} log log' seat old reserved is same list = same ∙ is ∙ ap (λ (h : List (Entry A)). entries_of seat h) (sym list)
 
 -- an entry is taken back
 pub restored : {A : Type 0} (log pushed popped : List (Entry A)) (e : Entry A) (n : ℕ) → pushed ≡ log ++ e ∷ [] → popped ≡ take n pushed → n + 1 ≡ length pushed → popped ≡ log

@@ -3,7 +3,6 @@ pub mod CutLemmas
 pub mod DrawingLemmas
 pub mod EditLemmas
 pub mod EntryLemmas
-pub mod ExportLemmas
 pub mod HistoryLemmas
 pub mod PrefixLemmas
 pub mod PublishLemmas

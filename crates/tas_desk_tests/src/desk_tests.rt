@@ -13,19 +13,18 @@ const LOADED: Call = Call::Made(0, Change::Load(PLAYFIELD), 1, 0);
 
 const FILLED: Call = Call::Made(0, Change::Insert(0, 200), 2, 200);
 
-/// So many jobs, none of them stale, and so many states.
-const fn worked(jobs: usize, kept: usize) -> Worked {
-    Worked {
-        jobs,
-        kept,
-        stale: 0,
-    }
-}
-
 static FRESH: [Call; 8] = [
     Call::Input(1, 0, Err(InputError::NoFrame { at: 0, len: 0 })),
     Call::NotDrawn(1, 0, ShotError::NoFrame { at: 0, len: 0 }),
-    Call::Refused(1, Change::Delete(0, 1), EditError::Place { at: 0, place: 0, len: 0 }),
+    Call::Refused(
+        1,
+        Change::Delete(0, 1),
+        EditError::Place {
+            at: 0,
+            place: 0,
+            len: 0,
+        },
+    ),
     Call::Len(1, 0, 0),
     Call::Share(1, 0),
     Call::Meet(0),
@@ -69,8 +68,20 @@ static REFUSALS: [Call; 7] = [
         EditError::Long { at: 0, len: 0 },
     ),
     Call::Made(0, Change::Insert(0, 262144), 1, 262144),
-    Call::Refused(1, Change::Insert(0, 1), EditError::Long { at: 1, len: 262144 }),
-    Call::Refused(1, Change::Insert(262145, 1), EditError::Place { at: 1, place: 262145, len: 262144 }),
+    Call::Refused(
+        1,
+        Change::Insert(0, 1),
+        EditError::Long { at: 1, len: 262144 },
+    ),
+    Call::Refused(
+        1,
+        Change::Insert(262145, 1),
+        EditError::Place {
+            at: 1,
+            place: 262145,
+            len: 262144,
+        },
+    ),
     Call::Made(1, Change::Replace(262144, 0), 2, 262144),
     Call::Made(1, Change::Delete(1, 262143), 3, 1),
     Call::Made(0, Change::Delete(0, 0), 4, 1),
@@ -89,8 +100,24 @@ fn refusals_of_a_desk_come_in_order(rt: HostRuntime) {
 static SHARED: [Call; 17] = [
     LOADED,
     FILLED,
-    Call::Work(0, &[192], worked(1, 3)),
-    Call::Work(0, &[192], worked(1, 0)),
+    Call::Work(
+        0,
+        &[192],
+        Worked {
+            jobs: 1,
+            kept: 3,
+            stale: 0,
+        },
+    ),
+    Call::Work(
+        0,
+        &[192],
+        Worked {
+            jobs: 1,
+            kept: 0,
+            stale: 0,
+        },
+    ),
     Call::Keeps(1, 0),
     Call::Share(1, 3),
     Call::Keeps(1, 3),
@@ -114,9 +141,33 @@ fn work_is_shared_with_other_seats(rt: HostRuntime) {
 static TARGETS: [Call; 7] = [
     LOADED,
     FILLED,
-    Call::Work(0, &[], worked(0, 0)),
-    Call::Work(0, &[64, 192, 63], worked(3, 3)),
-    Call::Work(1, &[0, 1000], worked(2, 0)),
+    Call::Work(
+        0,
+        &[],
+        Worked {
+            jobs: 0,
+            kept: 0,
+            stale: 0,
+        },
+    ),
+    Call::Work(
+        0,
+        &[64, 192, 63],
+        Worked {
+            jobs: 3,
+            kept: 3,
+            stale: 0,
+        },
+    ),
+    Call::Work(
+        1,
+        &[0, 1000],
+        Worked {
+            jobs: 2,
+            kept: 0,
+            stale: 0,
+        },
+    ),
     Call::Share(0, 3),
     Call::Drawn(0, 199, 2, 8, 1680),
 ];
@@ -172,7 +223,15 @@ static HALTED: [Call; 9] = [
     Call::NotDrawn(0, 99, ShotError::Halted { at: 2, halt: HALT }),
     Call::Keeps(0, 1),
     Call::NotDrawn(0, 80, ShotError::Halted { at: 2, halt: HALT }),
-    Call::Work(1, &[100], worked(1, 1)),
+    Call::Work(
+        1,
+        &[100],
+        Worked {
+            jobs: 1,
+            kept: 1,
+            stale: 0,
+        },
+    ),
     Call::Share(0, 0),
     Call::Share(1, 1),
 ];

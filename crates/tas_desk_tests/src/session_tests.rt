@@ -104,13 +104,17 @@ const LONG: Result<Receipt, EditError> = Err(EditError::Long { at: 2, len: 26210
 
 const LONGEST: Result<Receipt, EditError> = Ok(Receipt { at: 3, len: 262144 });
 
-const fn place(place: usize) -> Result<Receipt, EditError> {
-    Err(EditError::Place {
-        at: 2,
-        place,
-        len: 262108,
-    })
-}
+const BEHIND_THE_END: Result<Receipt, EditError> = Err(EditError::Place {
+    at: 2,
+    place: 262109,
+    len: 262108,
+});
+
+const AT_THE_END: Result<Receipt, EditError> = Err(EditError::Place {
+    at: 2,
+    place: 262108,
+    len: 262108,
+});
 
 static REFUSALS: [Turn; 22] = [
     Turn::Made(Change::Load(HALTING), 1, 0),
@@ -123,18 +127,40 @@ static REFUSALS: [Turn; 22] = [
     Turn::Tried(0, 9, Change::Insert(262109, 37), SERIAL),
     Turn::Tried(0, 9, Change::ReplaceRight(262108), SERIAL),
     Turn::Tried(0, 9, Change::Delete(0, 262109), SERIAL),
-    Turn::Tried(0, 2, Change::Insert(262109, 1), place(262109)),
-    Turn::Tried(0, 2, Change::Insert(262109, 0), place(262109)),
-    Turn::Tried(0, 2, Change::Insert(262109, 37), place(262109)),
-    Turn::Tried(0, 2, Change::ReplaceRight(262108), place(262108)),
-    Turn::Tried(0, 2, Change::Replace(64, 262045), place(64)),
-    Turn::Tried(0, 2, Change::Delete(0, 262109), place(0)),
-    Turn::Tried(0, 2, Change::Delete(262108, 1), place(262108)),
+    Turn::Tried(0, 2, Change::Insert(262109, 1), BEHIND_THE_END),
+    Turn::Tried(0, 2, Change::Insert(262109, 0), BEHIND_THE_END),
+    Turn::Tried(0, 2, Change::Insert(262109, 37), BEHIND_THE_END),
+    Turn::Tried(0, 2, Change::ReplaceRight(262108), AT_THE_END),
+    Turn::Tried(
+        0,
+        2,
+        Change::Replace(64, 262045),
+        Err(EditError::Place {
+            at: 2,
+            place: 64,
+            len: 262108,
+        }),
+    ),
+    Turn::Tried(
+        0,
+        2,
+        Change::Delete(0, 262109),
+        Err(EditError::Place {
+            at: 2,
+            place: 0,
+            len: 262108,
+        }),
+    ),
+    Turn::Tried(0, 2, Change::Delete(262108, 1), AT_THE_END),
     Turn::Tried(
         0,
         2,
         Change::Delete(usize::MAX, usize::MAX),
-        place(usize::MAX),
+        Err(EditError::Place {
+            at: 2,
+            place: usize::MAX,
+            len: 262108,
+        }),
     ),
     Turn::Tried(0, 2, Change::Insert(0, 37), LONG),
     Turn::Tried(0, 2, Change::Insert(262108, 37), LONG),
