@@ -1,6 +1,6 @@
 //! Answering a command on a desk whose one seat is the script's.
 
-ghost use Rattle.std.specs.Prelude.{◌≡◌, ◌+◌, Err, IfOk, MatchResult, length, replicate};
+ghost use Rattle.std.specs.Prelude.{◌≡◌, ◌+◌, Err, IfOk, MatchResult, length};
 ghost use Rattle.tas_movie.specs.declared.edit.Edit.{Edit as EditContent};
 ghost use Rattle.tas_movie.specs.Edit.{place_refusal};
 ghost use Rattle.tas_desk.specs.Session.{refusal_at, IsEditError};
@@ -12,7 +12,7 @@ ghost use Rattle.tas_tool.specs.Talk.{ShotLeaves};
 ghost use Rattle.tas_tool.specs.Talking.{stand_of, IsCommandZone, IsWorkedZone, TellsError};
 ghost use Rattle.tas_script.specs.declared.command.Command.TheVariants.{Load as LoadLine, Insert as InsertLine, Replace as ReplaceLine, InputAt as InputLine, Shot as ShotLine, Work as WorkLine};
 
-use std::alloc::{AllocError, Allocator};
+use std::alloc::Allocator;
 use std::sync::Wait;
 use tas_desk::{CloseOnDrop, Desk, EditError, Gate, InputError, MAX_EDITS, Name, Seat, ShotError};
 use tas_engines::RunFault;
@@ -159,21 +159,10 @@ fn insert_refusal(len: usize, at: usize, count: usize) -> Option<EditRefusal>
 fn replace_refusal(len: usize, at: usize, count: usize) -> Option<EditRefusal>
     ensures { result ≡ place_refusal len at (at + count) }
 {
-    if at > len {
-        return Some(EditRefusal::Place { at, len });
-    }
-    if count > len - at {
+    if at > len || count > len - at {
         return Some(EditRefusal::Place { at, len });
     }
     None
-}
-
-/// So many copies of one input.
-fn copies<A: Allocator>(alloc: A, input: Input, count: usize) -> Result<Inputs<A>, AllocError>
-    ensures { IfOk result (λ inputs. inputs ≡ replicate count input) }
-{
-    let list = vec![in alloc; input; count]?;
-    Ok(Inputs::from_vec(list))
 }
 
 /// A `load` or `load2` line. Memory is asked for once nothing else refuses the edit.
@@ -225,7 +214,7 @@ fn insert<N: Name, W: CloseOnDrop, A: Allocator + Copy, R: Wait>(
     if let Some(reply) = refused_reply(made, insert_refusal(len, at, count)) {
         return Ok(Answered { reply, made });
     }
-    match copies(alloc, input, count) {
+    match Inputs::repeated(alloc, input, count) {
         Ok(inputs) => make_edit(rt, desk, seat, made, Edit::Insert { at, inputs }),
         Err(_) => Ok(Answered {
             reply: Reply::OutOfMemory,
@@ -255,7 +244,7 @@ fn replace<N: Name, W: CloseOnDrop, A: Allocator + Copy, R: Wait>(
     if let Some(reply) = refused_reply(made, replace_refusal(len, at, count)) {
         return Ok(Answered { reply, made });
     }
-    match copies(alloc, input, count) {
+    match Inputs::repeated(alloc, input, count) {
         Ok(inputs) => make_edit(rt, desk, seat, made, Edit::Replace { at, inputs }),
         Err(_) => Ok(Answered {
             reply: Reply::OutOfMemory,
