@@ -56,7 +56,7 @@ impl Addressing for Immediate {
     }
 }
 
-/// Its address is on page 0.
+/// The operand's address is on page 0.
 #[derive(Clone, Copy)]
 pub(crate) struct ZeroPage;
 
@@ -71,7 +71,7 @@ impl Addressing for ZeroPage {
     }
 }
 
-/// Its address is on page 0, X further.
+/// The operand's address is on page 0, X further, modulo 256.
 #[derive(Clone, Copy)]
 pub(crate) struct ZeroPageX;
 
@@ -87,7 +87,7 @@ impl Addressing for ZeroPageX {
     }
 }
 
-/// Its address is on page 0, Y further.
+/// The operand's address is on page 0, Y further, modulo 256.
 #[derive(Clone, Copy)]
 pub(crate) struct ZeroPageY;
 
@@ -103,7 +103,7 @@ impl Addressing for ZeroPageY {
     }
 }
 
-/// Its address is given.
+/// The operand's address is the given one.
 #[derive(Clone, Copy)]
 pub(crate) struct Absolute;
 
@@ -118,7 +118,7 @@ impl Addressing for Absolute {
     }
 }
 
-/// Its address is X further than the given one.
+/// The operand's address is X further than the given one.
 #[derive(Clone, Copy)]
 pub(crate) struct AbsoluteX;
 
@@ -136,7 +136,7 @@ impl Addressing for AbsoluteX {
     }
 }
 
-/// Its address is Y further than the given one.
+/// The operand's address is Y further than the given one.
 #[derive(Clone, Copy)]
 pub(crate) struct AbsoluteY;
 
@@ -154,7 +154,7 @@ impl Addressing for AbsoluteY {
     }
 }
 
-/// Its address is at the given one.
+/// The operand's address is held by a pointer at the given address.
 #[derive(Clone, Copy)]
 pub(crate) struct Indirect;
 
@@ -170,7 +170,7 @@ impl Addressing for Indirect {
     }
 }
 
-/// Its address is on page 0, X further than the given byte.
+/// The operand's address is held by a pointer on page 0, X further than the given byte, modulo 256.
 #[derive(Clone, Copy)]
 pub(crate) struct IndexedIndirect;
 
@@ -186,7 +186,7 @@ impl Addressing for IndexedIndirect {
     }
 }
 
-/// Its address is Y further than the one on page 0.
+/// The operand's address is Y further than the one that a pointer on page 0 holds.
 #[derive(Clone, Copy)]
 pub(crate) struct IndirectIndexed;
 
@@ -205,7 +205,7 @@ impl Addressing for IndirectIndexed {
     }
 }
 
-/// It is a branch's target.
+/// The operand is a branch's target.
 #[derive(Clone, Copy)]
 pub(crate) struct Relative;
 
@@ -222,7 +222,7 @@ impl Addressing for Relative {
     }
 }
 
-/// Its address is the one of the interrupt vector.
+/// The operand's address is the one that the vector at FFFE holds.
 #[derive(Clone, Copy)]
 pub(crate) struct Vector;
 

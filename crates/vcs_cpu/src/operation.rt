@@ -240,20 +240,17 @@ impl Operation for Op {
             Op::Implied(implied) => implied.execute(operand, regs, bus),
             Op::Branch(branch) => branch.execute(operand, regs, bus),
             Op::Brk => break_to(destination(operand), regs, bus),
-            Op::Jmp => regs.pc = destination(operand),
-            Op::Jsr => call(destination(operand), regs, bus),
-            Op::Pha => push(regs.a, regs, bus),
+            Op::Jmp => Jmp.execute(operand, regs, bus),
+            Op::Jsr => Jsr.execute(operand, regs, bus),
+            Op::Pha => Pha.execute(operand, regs, bus),
             Op::Php => push(regs.status(), regs, bus),
-            Op::Pla => {
-                let value = pull(regs, bus);
-                load_a(regs, value);
-            }
+            Op::Pla => Pla.execute(operand, regs, bus),
             Op::Plp => {
                 let status = pull(regs, bus);
                 regs.set_status(status);
             }
             Op::Rti => return_from_break(operand, regs, bus),
-            Op::Rts => return_from_call(operand, regs, bus),
+            Op::Rts => Rts.execute(operand, regs, bus),
         }
     }
 }
