@@ -21,6 +21,7 @@ use Rattle.vcs_machine.specs.Step.{console_step, with_wait}
 use Rattle.vcs_machine.specs.Frame.{is_frame_over}
 use Rattle.vcs_machine.specs.TraceFrames.{board_into_next_frame}
 use Rattle.vcs_machine.proofs.AlikeSteps.{EndAlike, instruction-alike}
+use Rattle.vcs_machine.proofs.Clocks.{kept-board_after_write, tia-board_after_load}
 
 -- ---- the TIA without the beam's line and VSYNC's rise
 
@@ -166,18 +167,11 @@ loaded-by_region false false b r = refl
 board_load-without_line : (b : Board) (addr : ℕ) → board_without_line (board_after_load b addr) ≡ board_after_load (board_without_line b) addr
 board_load-without_line b addr = loaded-by_region (is_high 12 addr) (is_high 7 addr) b (riot_after_load addr b.riot)
 
-unpressed-by_region : (cart riot : Bool) (b u : Board) → u.tia ≡ b.tia → are_pressed (if cart then b else (if riot then u else b)).tia ≡ are_pressed b.tia
-unpressed-by_region true riot b u k = refl
-unpressed-by_region false true b u k = ap are_pressed k
-unpressed-by_region false false b u k = refl
-
 loads-alike : (o p : Observed (Unit {0})) (addr : ℕ) → BoardsAlike o p →
     BoardsAlike ((bus_device nothing_seen).after_load o addr) ((bus_device nothing_seen).after_load p addr)
 loads-alike o p addr h = record {
   same = board_load-without_line o.board addr ∙ ap (λ (b : Board). board_after_load b addr) h.same ∙ sym (board_load-without_line p.board addr);
-  none_pressed =
-      unpressed-by_region (is_high 12 addr) (is_high 7 addr) o.board (record o.board { riot = riot_after_load addr o.board.riot }) refl
-      ∙ h.none_pressed;
+  none_pressed = ap are_pressed (tia-board_after_load o.board addr) ∙ h.none_pressed;
 }
 
 written-by_region : (cart riot : Bool) (b : Board) (r : Riot) (t u : Tia) → without_line t ≡ without_line u →
@@ -192,21 +186,12 @@ board_write-without_line b addr v =
     written-by_region (is_high 12 addr) (is_high 7 addr) b (riot_after_write addr v b.riot) (written_at addr v b.tia) (written_at addr v (without_line b.tia))
     (written-without_line (register_at addr) v b.tia.beam.clock b.tia)
 
-pressed-by_region : (cart riot : Bool) (b u : Board) (t : Tia) → u.tia ≡ b.tia → are_pressed t ≡ are_pressed b.tia →
-    are_pressed (if cart then b else (if riot then u else record b { tia = t })).tia ≡ are_pressed b.tia
-pressed-by_region true riot b u t k e = refl
-pressed-by_region false true b u t k e = ap are_pressed k
-pressed-by_region false false b u t k e = e
-
 pokes-alike : (o p : Observed (Unit {0})) (addr v : ℕ) → BoardsAlike o p →
     BoardsAlike ((bus_device nothing_seen).after_poke o addr v) ((bus_device nothing_seen).after_poke p addr v)
 pokes-alike o p addr v h = record {
   same = board_write-without_line o.board addr v
       ∙ ap (λ (b : Board). board_without_line (board_after_write b addr v)) h.same ∙ sym (board_write-without_line p.board addr v);
-  none_pressed =
-      pressed-by_region (is_high 12 addr) (is_high 7 addr) o.board (record o.board { riot = riot_after_write addr v o.board.riot }) (written_at addr v o.board.tia) refl
-      (pressed-written (register_at addr) v o.board.tia.beam.clock o.board.tia)
-      ∙ h.none_pressed;
+  none_pressed = kept-board_after_write are_pressed (λ a w t. pressed-written (register_at a) w t.beam.clock t) o.board addr v ∙ h.none_pressed;
 }
 
 time-alike : (n k : ℕ) (o p : Observed (Unit {0})) → BoardsAlike o p → BoardsAlike (after_time nothing_seen n k o) (after_time nothing_seen n k p)

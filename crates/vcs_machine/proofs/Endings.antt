@@ -1,36 +1,25 @@
 -- A frame's steps are a run of the processor's, and they come to an end.
-use Rattle.std.proofs.Common.{◌≡◌, ◌≤◌, ◌<◌, ℕ, zero, suc, ◌+◌, ◌*◌, ◌∙◌, ◌||◌, nat_le, ap, refl, Bool, true, false, List, [], ◌∷◌, Option, Some, None, Result, Ok, Err, if◌then◌else◌, arith}
+use Rattle.std.proofs.Common.{◌≡◌, ◌≤◌, ◌<◌, ℕ, zero, suc, ◌+◌, ◌*◌, ◌∙◌, ◌||◌, nat_le, ap, refl, Bool, true, false, List, Option, Some, None, Result, Ok, Err, if◌then◌else◌, arith}
 use Rattle.std.proofs.lemmas.Bool.Decides.{nat_tests}
 use Rattle.vcs_cpu.specs.declared.regs.Regs.{Regs}
 use Rattle.vcs_cpu.specs.declared.halt.Halt.{Halt}
-use Rattle.vcs_cpu.specs.Device.{after_loads, after_writes}
+use Rattle.vcs_cpu.specs.Device.{after_loads}
 use Rattle.vcs_cpu.specs.Steps.{Step, step_of}
 use Rattle.vcs_cpu.specs.Runs.{RunEnd, run_within}
 use Rattle.vcs_cpu.specs.Runs as runs
 use Rattle.vcs_cpu.proofs.Timed.{step_of-passes}
-use Rattle.vcs_riot.specs.Address.{is_high}
 use Rattle.vcs_tia.specs.declared.chip.Tia.{Tia}
-use Rattle.vcs_tia.specs.Tia.{clocks_passed, clocks_owed, wait_cleared, vsync_rose, line_of, clock_of, written_at}
+use Rattle.vcs_tia.specs.Tia.{clocks_passed, clocks_owed, wait_cleared, vsync_rose, line_of, clock_of}
 use Rattle.vcs_tia.specs.Trace.{after_clocks}
 use Rattle.vcs_tia.proofs.Later.{clock-after_clocks}
 use Rattle.vcs_tia.proofs.Writes.{clock_of-written_at}
-use Rattle.vcs_machine.specs.Bus.{Board, Observed, board_after_write, bus_device, after_time, after_wait}
+use Rattle.vcs_machine.specs.Bus.{Observed, bus_device, after_time, after_wait}
 use Rattle.vcs_machine.specs.Step.{console_step, with_wait}
 use Rattle.vcs_machine.specs.Frame.{FrameEnd, end_within, is_frame_over, console_settling}
 use Rattle.vcs_machine.specs.Frame as frame
-use Rattle.vcs_machine.proofs.Clocks.{clocks-instruction, clocks-after_wait, tia-after_loads}
+use Rattle.vcs_machine.proofs.Clocks.{clocks-instruction, clocks-after_wait, kept-after_writes, tia-after_loads}
 
 -- ---- the clock of the line stays below 228
-
-clock-by_region : (cart riot : Bool) (x : Tia) (b u : Board) → clock_of x ≡ clock_of b.tia → u.tia ≡ b.tia →
-    clock_of (if cart then b else (if riot then u else record b { tia = x })).tia ≡ clock_of b.tia
-clock-by_region true riot x b u e k = refl
-clock-by_region false true x b u e k = ap clock_of k
-clock-by_region false false x b u e k = e
-
-clock-board_after_write : (b : Board) (addr v : ℕ) → clock_of (board_after_write b addr v).tia ≡ clock_of b.tia
-clock-board_after_write b addr v =
-    clock-by_region (is_high 12 addr) (is_high 7 addr) (written_at addr v b.tia) b _ (clock_of-written_at addr v b.tia) refl
 
 pub clock-later : (n : ℕ) (t : Tia) → clock_of t < 228 → clock_of (after_clocks n t) < 228
 clock-later n t h = let e = clock-after_clocks n t h in omega (arith, e)
@@ -44,11 +33,6 @@ low_unless_over : (t : Tia) → clock_of t < 228 → is_frame_over t ≡ false �
 low_unless_over t h over = low_unless_over-by (vsync_rose t) t h over
 
 module _ {Seen : Type 0} (observe : List Tia → Seen → Seen) where
-  clock-after_writes : (ws : List (ℕ × ℕ)) (o : Observed Seen) → clock_of (after_writes (bus_device observe) o ws).board.tia ≡ clock_of o.board.tia
-  clock-after_writes [] o = refl
-  clock-after_writes (w ∷ ws) o =
-      clock-after_writes ws (record o { board = board_after_write o.board w.0 w.1 }) ∙ clock-board_after_write o.board w.0 w.1
-
   -- an instruction and its wait take six clocks at least
   abbrev Goes : Observed Seen → Observed Seen → Type 0
   Goes o y = (clocks_passed o.board.tia + 6 ≤ clocks_passed y.board.tia) × (clock_of y.board.tia < 228)
@@ -63,7 +47,7 @@ module _ {Seen : Type 0} (observe : List Tia → Seen → Seen) where
       let clocks = clocks-instruction observe x.cycles reads writes o x.content passes.1.1.1 in
       let waits = clocks-after_wait observe x.content in
       let same = ap (λ (y : Observed Seen). clock_of y.board.tia) passes.1.1.1
-      ∙ clock-after_writes writes (after_loads (bus_device observe) time reads) ∙ ap clock_of (tia-after_loads observe reads time) in
+      ∙ kept-after_writes clock_of clock_of-written_at observe writes (after_loads (bus_device observe) time reads) ∙ ap clock_of (tia-after_loads observe reads time) in
       let later = clock-later (3 * x.cycles) o.board.tia h in
       let before : clock_of x.content.board.tia < 228 = omega (arith, same, later) in
       (omega (arith, least, clocks, waits), clock-later (clocks_owed x.content.board.tia) (wait_cleared x.content.board.tia) before)

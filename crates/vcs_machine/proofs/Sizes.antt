@@ -1,5 +1,5 @@
 -- The sizes of cartridges.
-use Rattle.std.proofs.Common.{◌≡◌, ℕ, ◌-◌, ◌%◌, ◌<◌, ◌≤◌, ◌==◌, true, sym, subst, arith, ⊎_elim}
+use Rattle.std.proofs.Common.{◌≡◌, ℕ, ◌-◌, ◌%◌, ◌<◌, ◌==◌, true, sym, subst, arith, ⊎_elim}
 use Rattle.std.specs.Prelude.{bit_and}
 use Rattle.std.proofs.lemmas.Bool.{or_cases, eqb-true}
 use Rattle.std.proofs.lemmas.Nat.{and_mask}
@@ -16,6 +16,3 @@ low_lines n addr is = by_size (λ m. bit_and addr (m - 1) ≡ addr % m) n is (an
 
 pub some_bytes : (n : ℕ) → is_cart_size n ≡ true → 0 < n
 some_bytes n is = by_size (λ m. 0 < m) n is (omega arith) (omega arith)
-
-pub few_bytes : (n : ℕ) → is_cart_size n ≡ true → n ≤ 4096
-few_bytes n is = by_size (λ m. m ≤ 4096) n is (omega arith) (omega arith)

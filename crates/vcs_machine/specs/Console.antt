@@ -1,6 +1,7 @@
 -- What a bus holds and shows as a whole. Only the private functions of the bus cite this file.
 use Rattle.std.specs.Prelude.{ℕ, List}
 use Rattle.vcs_riot.specs.declared.chip.Pins.{Pins}
+use Rattle.vcs_tia.specs.declared.chip.Tia.{Tia}
 use Rattle.vcs_machine.specs.Bus.{Observed, observed_of, after_time}
 use Rattle.vcs_machine.specs.declared.bus.Observer.{Ghosts}
 use Rattle.vcs_machine.specs.declared.bus.ConsoleBus.{ConsoleBus}
@@ -13,6 +14,10 @@ module _ {O : Type 0} {observer : Ghosts O} where
   -- what the bus shows: the same after the ticks and clocks that are owed
   abbrev pub content_of : ConsoleBus O observer → Observed observer.Seen
   content_of b = after_time observer.observe b.ticks b.clocks (chips_of b)
+
+  -- the same with another TIA
+  abbrev pub content_with : Tia → ConsoleBus O observer → Observed observer.Seen
+  content_with t b = after_time observer.observe b.ticks b.clocks (observed_of b.rom.now b.pins b.riot.now t (observer.seen b.observer.now))
 
   -- what no call on the bus changes: bytes and pins, and which chips and observer it holds
   abbrev pub fixed_of : ConsoleBus O observer → List ℕ × (Pins × (ℕ × (ℕ × ℕ)))
