@@ -10,7 +10,7 @@ use crate::bus::Settle;
 use crate::halt::Halt;
 use crate::instruction::perform;
 use crate::op::{Branch, Implied, Modify, Read, Store};
-use crate::opcode::instruction;
+use crate::opcode::{Instruction, look_up};
 use crate::operation::Operation;
 use crate::regs::Regs;
 use crate::{mode, operation};
@@ -28,7 +28,7 @@ fn perform_and_settle<O: Operation, M: Addressing, B: Settle>(
     bus: &mut B,
 ) -> bool
     requires opcode { opcode ≡ B.device.byte_at (B.content bus.old) regs.old.pc }
-    requires row { instruction_of opcode ≡ Some (O.op op, M.mode mode, cycles, crossing) }
+    requires row { instruction_of opcode ≡ Some (record { op = O.op op; mode = M.mode mode; cycles = cycles; crossing = crossing }) }
     requires ready { B.Ready bus.old }
     ensures { IsLedTo B.device B.content B.Settles B.Ready B.fixed regs.old bus.old result regs.new bus.new }
 {
@@ -52,7 +52,12 @@ fn perform_any<B: Settle>(opcode: u8, regs: &mut Regs, bus: &mut B) -> Option<bo
     ensures led { IfSome result (λ over. IsLedTo B.device B.content B.Settles B.Ready B.fixed regs.old bus.old over regs.new bus.new) }
     ensures none { IfNone result ((instruction_of opcode ≡ None) × (regs.new ≡ regs.old) × (bus.new ≡ bus.old)) }
 {
-    let (op, mode, cycles, crossing) = instruction(opcode)?;
+    let Instruction {
+        op,
+        mode,
+        cycles,
+        crossing,
+    } = look_up(opcode)?;
     Some(perform_and_settle(opcode, op, mode, cycles, crossing, regs, bus))
 }
 
