@@ -6,7 +6,7 @@ ghost use Rattle.std.specs.Io.KnownBytes.{Appends};
 
 use std::io::{Error, ErrorKind, Write};
 
-/// A write failed, or took no byte, after so many bytes.
+/// A write failed, or took no byte, after so many bytes (own).
 #[derive(Drop)]
 pub struct WriteFault {
     /// How many bytes had gone out: fewer than all.

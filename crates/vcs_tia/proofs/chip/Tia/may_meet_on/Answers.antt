@@ -1,7 +1,6 @@
 use Rattle.std.proofs.Common.{◌≡◌, ◌+◌, ◌-◌, ◌*◌, ◌∙◌, ap, sym, arith}
 use Rattle.std.proofs.lemmas.Bool.{not-false}
-use Rattle.vcs_tia.specs.declared.beam.Lit.{Lit}
-use Rattle.vcs_tia.specs.Beam.{pairs_added}
+use Rattle.vcs_tia.specs.Beam.{Lit, pairs_added}
 use Rattle.vcs_tia.specs.Tia.{lit_at}
 use Rattle.vcs_tia.proofs.Cuts.{none_twice}
 use Rattle.vcs_tia.proofs.chip.Tia.may_meet_on.Goals as goal

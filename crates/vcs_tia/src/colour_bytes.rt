@@ -5,14 +5,14 @@ ghost use Rattle.std.specs.Int.{bit_at};
 ghost use Rattle.vcs_tia.specs.Words.{packed};
 
 /// Eight bits, each a byte that is 0 or a colour, bit 0 as the lowest.
-pub fn tinted(bits: u8, colour: u8) -> u64
+pub(crate) fn coloured(bits: u8, colour: u8) -> u64
     ensures { result ≡ packed (λ k. bit_at bits k * colour) 0 8 }
 {
-    SPREAD[bits as usize] * colour as u64
+    BYTES_OF_BITS[bits as usize] * colour as u64
 }
 
 /// Eight bits, a byte of each, bit 0 as the lowest.
-static SPREAD: [u64; 256] = [
+static BYTES_OF_BITS: [u64; 256] = [
     0x0000000000000000,
     0x0000000000000001,
     0x0000000000000100,
