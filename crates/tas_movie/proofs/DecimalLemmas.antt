@@ -1,10 +1,20 @@
 -- Numbers in decimal digits.
-use Rattle.std.proofs.Common.{◌≡◌, ℕ, ◌^◌, ◌<◌, Bool, true, false, List, Result, Ok, Err, sym, ◌∙◌}
+use Rattle.std.proofs.Common.{◌≡◌, ℕ, ◌^◌, ◌<◌, Bool, true, false, List, Some, None, Result, Ok, Err, refl, sym, ◌∙◌}
 use Rattle.std.specs.Prelude.{decimal}
+use Rattle.std.specs.Result.{result_ok}
 use Rattle.std.specs.Str.{bytes_eq}
 use Rattle.std.specs.Str.Parse.{ParsesUnsigned}
 use Rattle.std.proofs.lemmas.Fmt.{parse-decimal}
 use Rattle.std.proofs.lemmas.Slice.Eq.{bytes_eq-Decides}
+
+-- a result of which `ok` makes something, or nothing
+pub was_ok : {T E : Type 0} (r : Result T E) (x : T) → Some x ≡ result_ok r → r ≡ Ok x
+was_ok (Ok y) x e = cc
+was_ok (Err y) x e = absurd cc
+
+pub was_err : {T E : Type 0} (r : Result T E) → None ≡ result_ok r → (x : E) × (r ≡ Err x)
+was_err (Ok y) e = absurd cc
+was_err (Err y) e = (y, refl)
 
 pub not_same : (a b : List ℕ) (r : Bool) → r ≡ bytes_eq a b → r ≡ false → a ≡ b → ⊥
 not_same a b r is off same = let on : bytes_eq a b ≡ true = (bytes_eq-Decides a b).1 same in cc

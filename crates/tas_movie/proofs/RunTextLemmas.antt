@@ -284,13 +284,6 @@ pub no_count : (bytes : List ℕ) → length bytes ≡ 0 → bytes ≡ count_tex
 no_count [] e = refl
 no_count (b ∷ bytes) e = absurd (omega arith)
 
-pub count_made : (bytes mark digits : List ℕ) (n : ℕ) → mark ≡ take 2 bytes → digits ≡ drop 2 bytes → mark ≡ 32 ∷ 120 ∷ [] → digits ≡ decimal n → 2 ≤ n → bytes ≡ count_text n
-count_made bytes mark digits n front back is number le =
-    sym (take-append-drop 2 bytes)
-    ∙ ap (λ (l : List ℕ). l ++ drop 2 bytes) (sym front ∙ is)
-    ∙ ap (λ (l : List ℕ). 32 ∷ 120 ∷ l) (sym back ∙ number)
-    ∙ sym (count_more n le)
-
 -- ---- a frame and what stands behind it
 
 pub run_made : (l letters behind : List ℕ) (i : Input) (n : ℕ) → letters ≡ take 17 l → behind ≡ drop 17 l → letters ≡ frame_text i → behind ≡ count_text n → l ≡ run_text (record { input = i; count = n })
@@ -310,10 +303,7 @@ run_length-ge l r is = let e : length l ≡ length (run_text r) = ap length is i
 pub same_count : (bytes digits : List ℕ) (m n : ℕ) → digits ≡ drop 2 bytes → digits ≡ decimal m → m < 2 ^ 64 → n < 2 ^ 64 → bytes ≡ 32 ∷ 120 ∷ decimal n → n ≡ m
 same_count bytes digits m n back number lt less is = decimal_injective n m less lt (sym (ap (λ (l : List ℕ). drop 2 l) is) ∙ sym back ∙ number)
 
--- the mark and the digits of a count
-pub mark_is : (bytes mark : List ℕ) (n : ℕ) → bytes ≡ count_text n → 1 ≤ n → (length bytes ≡ 0 → ⊥) → mark ≡ take 2 bytes → mark ≡ 32 ∷ 120 ∷ []
-mark_is bytes mark n is le some front = front ∙ ap (λ (l : List ℕ). take 2 l) (count_is bytes n is le some).1
-
+-- the digits of a count
 pub digits_are : (bytes digits : List ℕ) (n : ℕ) → bytes ≡ count_text n → 1 ≤ n → (length bytes ≡ 0 → ⊥) → digits ≡ drop 2 bytes → digits ≡ decimal n
 digits_are bytes digits n is le some back = back ∙ ap (λ (l : List ℕ). drop 2 l) (count_is bytes n is le some).1
 

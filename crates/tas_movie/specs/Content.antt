@@ -1,5 +1,5 @@
 -- A movie as contracts see it: the cartridge's bytes, and one input for each frame (own).
-use Rattle.std.specs.Prelude.{ℕ, List}
+use Rattle.std.specs.Prelude.{ℕ, List, [], replicate}
 use Rattle.vcs_machine.specs.declared.input.Input.{Input}
 
 -- how many inputs a movie has at most (own)
@@ -9,3 +9,7 @@ most_inputs = 262144
 pub record MovieContent : Type 0 where
   pub cart : List ℕ
   pub inputs : List Input
+
+-- the movie with the blank cartridge, all zeros, and with no inputs
+abbrev pub blank_movie : MovieContent
+blank_movie = record { cart = replicate 4096 0; inputs = [] }

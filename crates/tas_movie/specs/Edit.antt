@@ -15,13 +15,17 @@ spliced at count new inputs = take at inputs ++ new ++ drop (at + count) inputs
 abbrev pub place_refusal : ℕ → ℕ → ℕ → Option EditRefusal
 place_refusal len at end = if nat_lt len end then Some (Place at len) else None
 
--- why an edit is refused, where it is: first its place, then the length that an insertion would give
+-- putting so many inputs in at the place `at` of `len` inputs is refused for its place first, then for the length that it would give
+abbrev pub insert_refusal : ℕ → ℕ → ℕ → Option EditRefusal
+insert_refusal len at count =
+    if nat_lt len at then Some (Place at len)
+    else if nat_lt most_inputs (len + count) then Some (Long len)
+    else None
+
+-- why an edit is refused, where it is
 abbrev pub refusal : {A : Type 0} → MovieContent → Edit A → Option EditRefusal
 refusal movie (Load cart) = None
-refusal movie (Insert at inputs) =
-    if nat_lt (length movie.inputs) at then Some (Place at (length movie.inputs))
-    else if nat_lt most_inputs (length movie.inputs + length inputs) then Some (Long (length movie.inputs))
-    else None
+refusal movie (Insert at inputs) = insert_refusal (length movie.inputs) at (length inputs)
 refusal movie (Replace at inputs) = place_refusal (length movie.inputs) at (at + length inputs)
 refusal movie (Delete at count) = place_refusal (length movie.inputs) at (at + count)
 

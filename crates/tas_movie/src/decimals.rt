@@ -11,12 +11,8 @@ pub fn read_decimal(word: &[u8]) -> Option<usize>
     ensures some { IfSome result (λ n. word.now ≡ decimal n) }
     ensures none { IfNone result ((n : ℕ) → n < 2 ^ 64 → word.now ≢ decimal n) }
 {
-    let Ok(text) = str::from_utf8(word) else {
-        return None;
-    };
-    let Ok(n) = text.parse::<usize>() else {
-        return None;
-    };
+    let text = str::from_utf8(word).ok()?;
+    let n = text.parse::<usize>().ok()?;
     let mut buffer = Buffer::new();
     if buffer.format(n).as_bytes() == word {
         Some(n)

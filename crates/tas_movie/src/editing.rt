@@ -1,7 +1,7 @@
 //! Checking and making an edit.
 
 ghost use Rattle.std.specs.Prelude.{◌≡◌, ◌+◌, ◌<◌, take};
-ghost use Rattle.tas_movie.specs.Edit.{IsAllowed, refusal, place_refusal, check_answer, edited, edited_place};
+ghost use Rattle.tas_movie.specs.Edit.{IsAllowed, refusal, insert_refusal, place_refusal, check_answer, edited, edited_place};
 
 use crate::lists::{delete_at, insert_at, replace_at};
 use crate::{Edit, EditRefusal, MAX_FRAMES, Movie};
@@ -19,22 +19,29 @@ pub fn check<A: Allocator, B: Allocator>(
     let len = movie.len();
     match edit {
         Edit::Load(_) => Ok(()),
-        Edit::Insert { at, inputs } => {
-            let at = *at;
-            if at > len {
-                return Err(EditRefusal::Place { at, len });
-            }
-            if inputs.as_slice().len() > MAX_FRAMES - len {
-                return Err(EditRefusal::Long { len });
-            }
-            Ok(())
-        }
-        Edit::Replace { at, inputs } => place_within(*at, inputs.as_slice().len(), len),
-        Edit::Delete { at, count } => place_within(*at, *count, len),
+        Edit::Insert { at, inputs } => check_insertion(len, *at, inputs.as_slice().len()),
+        Edit::Replace { at, inputs } => check_place(len, *at, inputs.as_slice().len()),
+        Edit::Delete { at, count } => check_place(len, *at, *count),
     }
 }
 
-fn place_within(at: usize, count: usize, len: usize) -> Result<(), EditRefusal>
+/// Whether `count` inputs may be put in at the place `at` of a movie with `len` inputs (own): `Place`
+/// where `at` is past the last one, and then `Long` where the movie would have more than `MAX_FRAMES`.
+pub fn check_insertion(len: usize, at: usize, count: usize) -> Result<(), EditRefusal>
+    ensures { result ≡ check_answer (insert_refusal len at count) }
+{
+    if at > len {
+        return Err(EditRefusal::Place { at, len });
+    }
+    if len.saturating_add(count) > MAX_FRAMES {
+        return Err(EditRefusal::Long { len });
+    }
+    Ok(())
+}
+
+/// Whether a movie with `len` inputs has the `count` inputs from the place `at` on (own): `Place` where
+/// they reach past the last one.
+pub fn check_place(len: usize, at: usize, count: usize) -> Result<(), EditRefusal>
     ensures { result ≡ check_answer (place_refusal len at (at + count)) }
 {
     if at > len || count > len - at {

@@ -34,9 +34,8 @@ pub fn runs_are_longest()
     ensures only { (runs : List FrameRun) → AreLongest runs → runs_of (flat_map run_inputs runs) ≡ runs }
 {}
 
-/// The most inputs of a movie are as many as the definitions say: 262,144. So are the most frames of the older
-/// text: 65,536 (own).
-pub fn most_inputs_is_exact()
+/// The limits are those of the definitions: 262,144 inputs of a movie, 65,536 frames of an older text (own).
+pub fn limits_are_exact()
     ensures movie { MAX_FRAMES ≡ most_inputs }
     ensures text { MAX_FRAMES1 ≡ most_frames1 }
 {}

@@ -16,11 +16,11 @@ mod run_reading;
 
 pub use decimals::read_decimal;
 pub use edit::{Edit, EditRefusal};
-pub use editing::{apply, check};
+pub use editing::{apply, check, check_insertion, check_place};
 pub use error::{ReadError, TextError, TextErrorKind};
 pub use inputs::Inputs;
-pub use laws::{most_inputs_is_exact, one_movie_per_text, runs_are_longest, texts_have_no_fault};
+pub use laws::{limits_are_exact, one_movie_per_text, runs_are_longest, texts_have_no_fault};
 pub use movie::{MAX_FRAMES, Movie};
-pub use printing::{print_frame, print_text};
-pub use reading::{read_frame, read_text};
-pub use run::run_length;
+pub use printing::{FRAME_TEXT_SIZE, print_frame, print_text};
+pub use reading::{MAX_FRAMES1, read_frame, read_text};
+pub use run::{FrameRun, run_length};

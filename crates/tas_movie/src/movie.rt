@@ -1,14 +1,14 @@
 //! A movie: a cartridge and one input for each frame.
 
-ghost use Rattle.std.specs.Prelude.{◌≡◌, ◌≤◌, ◌<◌, ◌==◌, [], length, replicate, slice_get, Some, IfOk};
-ghost use Rattle.tas_movie.specs.Content.{most_inputs};
+ghost use Rattle.std.specs.Prelude.{◌≡◌, ◌≤◌, ◌<◌, ◌==◌, [], length, slice_get, Some, IfOk};
+ghost use Rattle.tas_movie.specs.Content.{most_inputs, blank_movie};
 
 use std::alloc::{AllocError, Allocator, Global};
 use std::marker::Model;
 use vcs_machine::{Cart, Input};
 
 /// How many inputs a movie has at most (own).
-pub const MAX_FRAMES: usize = 262144;
+pub const MAX_FRAMES: usize = 262_144;
 
 /// A cartridge and at most `MAX_FRAMES` inputs, one for each frame, with room reserved for all of
 /// them (own).
@@ -32,7 +32,7 @@ impl<A: Allocator> Model for Movie<A> {
 impl<A: Allocator + Copy> Movie<A> {
     /// The blank cartridge, all zeros, with no inputs. `AllocError` where memory is refused.
     pub fn blank(alloc: A) -> Result<Movie<A>, AllocError>
-        ensures { IfOk result (λ movie. movie ≡ record { cart = replicate 4096 0; inputs = [] }) }
+        ensures { IfOk result (λ movie. movie ≡ blank_movie) }
     {
         let cart = Cart::blank(alloc)?;
         let list = Vec::with_capacity(alloc, MAX_FRAMES)?;

@@ -13,11 +13,20 @@ use sha2::{Digest, Sha256};
 use std::alloc::{AllocError, Allocator};
 use vcs_machine::{Cart, Input};
 
+/// How many characters a frame has.
+pub const FRAME_TEXT_SIZE: usize = 17;
+
+/// How many bytes stand before the digest in the line that names a cartridge: `cart ` has so many.
+const DIGEST_PLACE: usize = 5;
+
+/// How many bytes the line that names a cartridge has, without its newline.
+const DIGEST_LINE_SIZE: usize = 69;
+
 /// How many bytes the first two lines of a text have.
 const HEAD_SIZE: usize = 81;
 
 /// How many bytes the line of one frame has. That of a run has fewer than this for each frame.
-const FRAME_SIZE: usize = 18;
+const FRAME_LINE_SIZE: usize = FRAME_TEXT_SIZE + 1;
 
 fn mark(letter: u8, pressed: bool) -> u8
     ensures { result ≡ mark letter pressed }
@@ -26,7 +35,7 @@ fn mark(letter: u8, pressed: bool) -> u8
 }
 
 /// The 17 characters of a frame, as `RLDUF RLDUF rsbAB`: left stick, right stick, switches (own).
-pub fn print_frame(input: Input) -> [u8; 17]
+pub fn print_frame(input: Input) -> [u8; FRAME_TEXT_SIZE]
     ensures { result ≡ frame_text input }
 {
     let left = input.left;
@@ -54,13 +63,13 @@ pub fn print_frame(input: Input) -> [u8; 17]
 
 /// The line that names a cartridge by its digest, without its newline.
 #[tactic(auto, unfolding(crate::specs::Text::digest_text))]
-pub fn print_digest<A: Allocator>(cart: &Cart<A>) -> [u8; 69]
+pub fn print_digest<A: Allocator>(cart: &Cart<A>) -> [u8; DIGEST_LINE_SIZE]
     ensures { result ≡ digest_text cart.now }
 {
     let digest = Sha256::digest(cart.bytes());
-    let mut text = [0; 69];
-    text[..5].copy_from_slice(b"cart ");
-    hex::encode_to_slice(digest, &mut text[5..]).unwrap();
+    let mut text = [0; DIGEST_LINE_SIZE];
+    text[..DIGEST_PLACE].copy_from_slice(b"cart ");
+    hex::encode_to_slice(digest, &mut text[DIGEST_PLACE..]).unwrap();
     text
 }
 
@@ -100,7 +109,7 @@ pub fn print_text<A: Allocator, B: Allocator>(
 ) -> Result<Vec<u8, B>, AllocError>
     ensures { IfOk result (λ bytes. bytes.items ≡ text2 movie.now) }
 {
-    let mut out = Vec::with_capacity(alloc, HEAD_SIZE + FRAME_SIZE * movie.len())?;
+    let mut out = Vec::with_capacity(alloc, HEAD_SIZE + FRAME_LINE_SIZE * movie.len())?;
     out.extend_from_slice(b"a26movie 2\n")?;
     out.extend_from_slice(&print_digest(movie.cart()))?;
     out.push(b'\n')?;

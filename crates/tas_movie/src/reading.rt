@@ -9,14 +9,14 @@ ghost use Rattle.tas_movie.specs.Content.{MovieContent, most_inputs};
 ghost use Rattle.tas_movie.specs.Text.{line, frame_text, frame_line, digest_text, most_frames1, IsText};
 ghost use Rattle.tas_movie.specs.Fault.{shown_input, is_frame, split_lines, frames_fault, digest_fault, fault_by, fault, IsReadError};
 
-use crate::printing::{print_digest, print_frame};
+use crate::printing::{FRAME_TEXT_SIZE, print_digest, print_frame};
 use crate::run_reading::read_runs;
 use crate::{Movie, ReadError, TextError, TextErrorKind};
 use std::alloc::Allocator;
 use vcs_machine::{Cart, Input, Stick};
 
 /// How many frames the older text has at most (own).
-pub(crate) const MAX_FRAMES1: usize = 65536;
+pub const MAX_FRAMES1: usize = 65_536;
 
 /// The first line, without its newline, and what follows; nothing where no newline ends it.
 pub(crate) fn split_line(bytes: &[u8]) -> Option<(&[u8], &[u8])>
@@ -37,7 +37,7 @@ pub(crate) fn split_line(bytes: &[u8]) -> Option<(&[u8], &[u8])>
 
 /// The input that the letters of a line show.
 fn shown_input(line: &[u8]) -> Input
-    requires { length line.now ≡ 17 }
+    requires { length line.now ≡ FRAME_TEXT_SIZE }
     ensures { result ≡ shown_input line.now }
 {
     Input {
@@ -71,7 +71,7 @@ pub fn read_frame(line: &[u8]) -> Option<Input>
     ensures is_frame { OnSome result (is_frame line.now ≡ true) }
     ensures is_none { IfNone result (is_frame line.now ≡ false) }
 {
-    if line.len() != 17 {
+    if line.len() != FRAME_TEXT_SIZE {
         return None;
     }
     let input = shown_input(line);
@@ -171,8 +171,8 @@ fn read_lines<A: Allocator, B: Allocator>(
 }
 
 /// Reads a text of a movie with this cartridge (own): the one that [`print_text`](crate::print_text) writes, or the
-/// older one, which has a line for each of at most 65,536 frames. `Memory` comes first, since the room for a
-/// movie is reserved before the text is looked at; `Text` names the first line at fault.
+/// older one, which has a line for each of at most 65,536 frames. `Memory` comes first (no clause says so),
+/// since the room for a movie is reserved before the text is looked at; `Text` names the first line at fault.
 pub fn read_text<A: Allocator + Copy, B: Allocator>(
     alloc: A,
     bytes: &[u8],

@@ -4,9 +4,9 @@ ghost use Rattle.std.specs.Prelude.{◌≡◌, ◌≢◌, ◌<◌, ◌≤◌, le
 
 use vcs_machine::Input;
 
-/// So many frames with one input, one behind the other.
+/// So many frames with one input, one behind the other (own).
 #[derive(Clone, Copy, Debug, PartialEq, Eq)]
-pub(crate) struct FrameRun {
+pub struct FrameRun {
     /// The input of each of them.
     pub input: Input,
     /// How many they are.

@@ -9,6 +9,7 @@ ghost use Rattle.tas_movie.specs.Text.{count_text, run_line};
 ghost use Rattle.tas_movie.specs.Fault.{is_repeated, run_fault, runs_fault, fault_by, IsRunLine};
 
 use crate::decimals::read_decimal;
+use crate::printing::FRAME_TEXT_SIZE;
 use crate::reading::{error_at, read_frame, split_line};
 use crate::run::FrameRun;
 use crate::{MAX_FRAMES, TextError, TextErrorKind};
@@ -34,9 +35,7 @@ fn read_count(bytes: &[u8]) -> Option<usize>
     if mark != b" x".as_slice() {
         return None;
     }
-    let Some(count) = read_decimal(digits) else {
-        return None;
-    };
+    let count = read_decimal(digits)?;
     if count < LEAST_COUNT {
         return None;
     }
@@ -51,16 +50,12 @@ fn read_run(line: &[u8]) -> Option<FrameRun>
     ensures some { IfSome result (IsRunLine line.now) }
     ensures none { IfNone result ((run : SaidRun) → IsRunLine line.now run → ⊥) }
 {
-    if line.len() < 17 {
+    if line.len() < FRAME_TEXT_SIZE {
         return None;
     }
-    let (letters, behind) = line.split_at(17);
-    let Some(input) = read_frame(letters) else {
-        return None;
-    };
-    let Some(count) = read_count(behind) else {
-        return None;
-    };
+    let (letters, behind) = line.split_at(FRAME_TEXT_SIZE);
+    let input = read_frame(letters)?;
+    let count = read_count(behind)?;
     Some(FrameRun { input, count })
 }
 

@@ -9,8 +9,8 @@ use crate::texts::{
 use std::alloc::Global;
 use std::process::Abort;
 use tas_movie::{
-    ReadError, TextErrorKind, most_inputs_is_exact, one_movie_per_text, read_text,
-    runs_are_longest, texts_have_no_fault,
+    ReadError, TextErrorKind, limits_are_exact, one_movie_per_text, read_text, runs_are_longest,
+    texts_have_no_fault,
 };
 use vcs_machine::Cart;
 
@@ -52,7 +52,7 @@ fn texts_are_read_and_printed_again(rt: HostRuntime) {
     check_text(&rt, alloc, &blank, (BLANK_LINE, NONE), 99, 1);
     let small = expect_ok(&rt, Cart::from_bytes(alloc, &[0; 2048]));
     check_text(&rt, alloc, &small, (SMALL_LINE, NONE), 99, 1);
-    most_inputs_is_exact();
+    limits_are_exact();
     one_movie_per_text();
     texts_have_no_fault();
     runs_are_longest();

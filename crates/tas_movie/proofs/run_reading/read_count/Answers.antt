@@ -11,18 +11,18 @@ returns-then-bytes-lt2-clause-none c = λ n le few is.
     let long = long_count c.args.bytes.now n is le (eqb-false _ _ (sym c.is_empty.ensures ∙ c.if-is_empty.false)) in
     omega (arith, long)
 
-pub returns-in_default-clause-none : goal.returns-in_default-clause-none
-returns-in_default-clause-none c = λ n le few is.
-    c.in_default.ensures.none n (omega arith) (digits_are c.args.bytes.now c.split_at.result.1.now n is le (eqb-false _ _ (sym c.is_empty.ensures ∙ c.if-is_empty.false)) c.split_at.ensures.back)
+pub returns-in_err-count-clause-none : goal.returns-in_err-count-clause-none
+returns-in_err-count-clause-none c = rw c.from_residual.ensures (λ n le few is.
+    c.in_err-count.ensures.none n (omega arith) (digits_are c.args.bytes.now c.split_at.result.1.now n is le (eqb-false _ _ (sym c.is_empty.ensures ∙ c.if-is_empty.false)) c.split_at.ensures.back))
 
 pub returns-then-count-lt-LEAST_COUNT-clause-none : goal.returns-then-count-lt-LEAST_COUNT-clause-none
 returns-then-count-lt-LEAST_COUNT-clause-none c = λ n le few is.
     let p = count_is c.args.bytes.now n is le (eqb-false _ _ (sym c.is_empty.ensures ∙ c.if-is_empty.false)) in
-    let same = same_count c.args.bytes.now c.split_at.result.1.now c.in-Some.count n c.split_at.ensures.back c.in-Some.ensures.some (omega arith) (omega arith) p.1 in
+    let same = same_count c.args.bytes.now c.split_at.result.1.now c.in_ok-count.count n c.split_at.ensures.back c.in_ok-count.ensures.some (omega arith) (omega arith) p.1 in
     omega (arith, same, p.0)
 
 pub returns-then-count-gt-MAX_FRAMES-clause-none : goal.returns-then-count-gt-MAX_FRAMES-clause-none
 returns-then-count-gt-MAX_FRAMES-clause-none c = λ n le few is.
     let p = count_is c.args.bytes.now n is le (eqb-false _ _ (sym c.is_empty.ensures ∙ c.if-is_empty.false)) in
-    let same = same_count c.args.bytes.now c.split_at.result.1.now c.in-Some.count n c.split_at.ensures.back c.in-Some.ensures.some (omega arith) (omega arith) p.1 in
+    let same = same_count c.args.bytes.now c.split_at.result.1.now c.in_ok-count.count n c.split_at.ensures.back c.in_ok-count.ensures.some (omega arith) (omega arith) p.1 in
     omega (arith, same)
