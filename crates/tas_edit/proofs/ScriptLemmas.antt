@@ -36,10 +36,6 @@ reads_more bytes rest first after changes change reads is says = record {
   numbers = numbers_more changes change reads.numbers says.1;
 }
 
-pub reads_all : (bytes rest : List ℕ) (changes : List Change) → length rest ≡ 0 → Reads bytes changes rest → Reads bytes changes []
-reads_all bytes [] changes none reads = reads
-reads_all bytes (b ∷ rest) changes none reads = absurd (omega arith)
-
 pub count_more : (changes : List Change) (change : Change) → length (changes ++ change ∷ []) ≡ length changes + 1
 count_more changes change = length-append changes (change ∷ [])
 

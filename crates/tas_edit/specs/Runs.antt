@@ -1,4 +1,4 @@
--- What `tas edit` and `tas diff` answer.
+-- What `tas edit` and `tas diff` answer (own).
 use Rattle.std.specs.Prelude.{◌≡◌, ℕ, List, ◌⊎◌, Option, Result, Ok, Err}
 use Rattle.std.specs.List.{flat_map}
 use Rattle.tas_movie.specs.Content.{MovieContent}

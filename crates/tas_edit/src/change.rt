@@ -1,9 +1,10 @@
 //! Changes of a movie, and the lines that say them.
 
-ghost use Rattle.std.specs.Prelude.{◌≡◌, IfOk, IfSome, IfNone};
+ghost use Rattle.std.specs.Prelude.{◌≡◌, ◌++◌, ◌∷◌, IfOk, IfSome, IfNone};
 ghost use Rattle.tas_movie.specs.Text.{line};
+ghost use Rattle.tas_script.specs.Commands.{frames_text};
 ghost use Rattle.tas_edit.specs.declared.change.Change.{Change as Asked};
-ghost use Rattle.tas_edit.specs.declared.change.Change.TheVariants.{Insert, Replace, Delete};
+ghost use Rattle.tas_edit.specs.declared.change.Change.TheVariants.{Delete};
 ghost use Rattle.tas_edit.specs.Changes.{change_of, change_text, IsChangeLine};
 
 use std::alloc::{AllocError, Allocator};
@@ -69,34 +70,23 @@ pub fn read_change(line: &[u8]) -> Option<Change>
     change_of(command)
 }
 
-fn insert_line<A: Allocator>(
+/// The line of a word, a place, a count and a frame.
+fn frames_line<A: Allocator>(
     alloc: A,
+    word: &str,
     at: usize,
     count: usize,
     input: Input,
 ) -> Result<Vec<u8, A>, AllocError>
-    ensures { IfOk result (λ bytes. bytes.items ≡ line (change_text (Insert at count input))) }
+    ensures { IfOk result (λ bytes. bytes.items ≡ line (word.now ++ 32 ∷ frames_text at count input)) }
 {
-    let mut bytes = format!(in alloc; "insert {at} {count} ")?.into_bytes();
+    let mut bytes = format!(in alloc; "{word} {at} {count} ")?.into_bytes();
     bytes.extend_from_slice(&print_frame(input))?;
     bytes.push(b'\n')?;
     Ok(bytes)
 }
 
-fn replace_line<A: Allocator>(
-    alloc: A,
-    at: usize,
-    count: usize,
-    input: Input,
-) -> Result<Vec<u8, A>, AllocError>
-    ensures { IfOk result (λ bytes. bytes.items ≡ line (change_text (Replace at count input))) }
-{
-    let mut bytes = format!(in alloc; "replace {at} {count} ")?.into_bytes();
-    bytes.extend_from_slice(&print_frame(input))?;
-    bytes.push(b'\n')?;
-    Ok(bytes)
-}
-
+/// The line of a deletion.
 fn delete_line<A: Allocator>(alloc: A, at: usize, count: usize) -> Result<Vec<u8, A>, AllocError>
     ensures { IfOk result (λ bytes. bytes.items ≡ line (change_text (Delete at count))) }
 {
@@ -108,8 +98,8 @@ pub fn change_line<A: Allocator>(alloc: A, change: Change) -> Result<Vec<u8, A>,
     ensures { IfOk result (λ bytes. bytes.items ≡ line (change_text change)) }
 {
     match change {
-        Change::Insert { at, count, input } => insert_line(alloc, at, count, input),
-        Change::Replace { at, count, input } => replace_line(alloc, at, count, input),
+        Change::Insert { at, count, input } => frames_line(alloc, "insert", at, count, input),
+        Change::Replace { at, count, input } => frames_line(alloc, "replace", at, count, input),
         Change::Delete { at, count } => delete_line(alloc, at, count),
     }
 }

@@ -34,9 +34,9 @@ fn run_change(replaces: bool, at: usize, count: usize, input: Input) -> Change
 }
 
 /// The changes that make `new` of `old`, in order (own): behind the common beginning and in front of the
-/// common end, replacements where as many inputs come as go, else one deletion and insertions, each of
-/// as many copies of an input as follow one another; none where the lists are equal. `AllocError` where
-/// memory is refused.
+/// common end, replacements where as many inputs come as go, else a deletion of those that go, if any
+/// do, and insertions of those that come. A replacement or an insertion is of as many copies of an input
+/// as follow one another. There are none where the lists are equal. `AllocError` where memory is refused.
 pub fn changes_between<A: Allocator>(
     alloc: A,
     old: &[Input],
@@ -48,20 +48,20 @@ pub fn changes_between<A: Allocator>(
 {
     let front = common_front(old, new);
     let end = common_end(&old[front..], &new[front..]);
-    let gone = old.len() - end - front;
-    let behind = new.len() - end;
-    let replaces = gone == behind - front;
+    let removed = old.len() - end - front;
+    let new_end = new.len() - end;
+    let replaces = removed == new_end - front;
     let mut changes = Vec::new(alloc);
-    if gone > 0 && !replaces {
+    if removed > 0 && !replaces {
         changes.push(Change::Delete {
             at: front,
-            count: gone,
+            count: removed,
         })?;
     }
     let mut at = front;
-    while at < behind {
+    while at < new_end {
         let input = new[at];
-        let count = 1 + run_length(&new[at + 1..behind], input);
+        let count = 1 + run_length(&new[at + 1..new_end], input);
         changes.push(run_change(replaces, at, count, input))?;
         at += count;
     }

@@ -38,9 +38,7 @@ fn write_edited<A: Allocator + Copy, W: Write>(
 {
     let mut movie = movie_of(alloc, image, bytes)?;
     edit_movie(alloc, &mut movie, script).map_err(script_fault)?;
-    let Ok(text) = print_text(alloc, &movie) else {
-        return Err(RunFault::Memory);
-    };
+    let text = print_text(alloc, &movie)?;
     write_all(output, text.as_slice())
 }
 
@@ -69,10 +67,8 @@ fn write_difference<A: Allocator + Copy, W: Write>(
 {
     let old = movie_of(alloc, image, before)?;
     let new = movie_of(alloc, image, after)?;
-    match script_between(alloc, &old, &new) {
-        Ok(script) => write_all(output, script.as_slice()),
-        Err(_) => Err(RunFault::Memory),
-    }
+    let script = script_between(alloc, &old, &new)?;
+    write_all(output, script.as_slice())
 }
 
 /// Reads a cartridge, a script of changes and a movie text, and writes the text of the movie that the
@@ -80,7 +76,8 @@ fn write_difference<A: Allocator + Copy, W: Write>(
 ///
 /// Faults, in order: those of reading the three, then `Size` and `Text`, then the script's first line at
 /// fault: `Script` where it isn't understood, `EditPlace` and `EditLong` where it is refused; each with
-/// nothing written. `Memory` with nothing written at any point; `Write`.
+/// nothing written. `Memory` with nothing written at any point; `Write` with the first bytes of the answer
+/// written, and how many.
 pub fn edit_run<A: Allocator + Copy, C: Read, S: Read, R: Read, W: Write>(
     alloc: A,
     cart: &mut C,
@@ -92,21 +89,21 @@ pub fn edit_run<A: Allocator + Copy, C: Read, S: Read, R: Read, W: Write>(
         (R.remaining input.old) (R.remaining input.new) (W.contents output.old) (W.contents output.new) result }
 {
     let read = read_three(alloc, cart, script, input)?;
-    write_edited(
+    Ok(write_edited(
         alloc,
         read.first.as_slice(),
         read.second.as_slice(),
         read.third.as_slice(),
         output,
-    )?;
-    Ok(())
+    )?)
 }
 
 /// Reads a cartridge and the texts of two movies with it, the old one and the new one, and writes the
 /// script that makes the new one of the old one: nothing where they are equal (own).
 ///
 /// Faults, in order: those of reading the three, then `Size`, then `Text` of the old text and of the new
-/// one; each with nothing written. `Memory` with nothing written at any point; `Write`.
+/// one; each with nothing written. `Memory` with nothing written at any point; `Write` with the first bytes
+/// of the answer written, and how many.
 pub fn diff_run<A: Allocator + Copy, C: Read, S: Read, R: Read, W: Write>(
     alloc: A,
     cart: &mut C,
@@ -118,12 +115,11 @@ pub fn diff_run<A: Allocator + Copy, C: Read, S: Read, R: Read, W: Write>(
         (R.remaining input.old) (R.remaining input.new) (W.contents output.old) (W.contents output.new) result }
 {
     let read = read_three(alloc, cart, before, input)?;
-    write_difference(
+    Ok(write_difference(
         alloc,
         read.first.as_slice(),
         read.second.as_slice(),
         read.third.as_slice(),
         output,
-    )?;
-    Ok(())
+    )?)
 }

@@ -34,7 +34,8 @@ fn fault_at(line: usize, error: ChangeError) -> ScriptFault
 }
 
 /// Makes the changes of a script, line by line (own). The first line that isn't understood or is refused
-/// ends it with its fault; the lines before it are made then.
+/// ends it with its fault, and so does one for which memory is refused (`Memory`); the lines before it
+/// are made then.
 pub fn edit_movie<A: Allocator, B: Allocator + Copy>(
     alloc: B,
     movie: &mut Movie<A>,
@@ -44,7 +45,7 @@ pub fn edit_movie<A: Allocator, B: Allocator + Copy>(
 {
     let mut rest = bytes;
     let mut number = 1;
-    while 0 < rest.len() {
+    while !rest.is_empty() {
         let Some((line, after)) = split_once(rest, b'\n') else {
             return Err(ScriptFault::Line(number));
         };

@@ -1,5 +1,9 @@
--- How an engine tells the faults of its two parts.
+-- How an engine tells the faults of its two parts, and those of what it calls (own).
 use Rattle.std.specs.Prelude.{Result, Ok, Err}
+use Rattle.vcs_machine.specs.declared.cart.CartError.{CartError}
+use Rattle.vcs_machine.specs.declared.cart.CartError.TheVariants as cart
+use Rattle.tas_movie.specs.declared.error.ReadError.{ReadError}
+use Rattle.tas_movie.specs.declared.error.ReadError.TheVariants as text
 use Rattle.tas_engines.specs.declared.fault.ReadFault.{ReadFault}
 use Rattle.tas_engines.specs.declared.fault.ReadFault.TheVariants.{TooLong as PastLimit, Read as ReadFailed, Memory as NoRoom}
 use Rattle.tas_engines.specs.declared.fault.RunFault.{RunFault}
@@ -28,6 +32,16 @@ run_fault WithoutPlace = NoPlace
 run_fault WithoutEntry = NoEntry
 run_fault OthersEdit = Foreign
 run_fault Refused = Memory
+
+-- why an image made no cartridge
+abbrev pub cart_fault : CartError → RunFault
+cart_fault (cart.Size len) = WrongSize len
+cart_fault cart.Memory = Refused
+
+-- why a text made no movie
+abbrev pub text_fault : ReadError → RunFault
+text_fault (text.Text error) = WrongText error
+text_fault text.Memory = Refused
 
 -- how an engine ends that has read its inputs
 abbrev pub told : Result (Unit {0}) RunFault → Result (Unit {0}) ToolFault

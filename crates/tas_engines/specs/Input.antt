@@ -1,5 +1,5 @@
--- What an engine reads of its inputs.
-use Rattle.std.specs.Prelude.{◌≡◌, ℕ, List, length, ◌≤◌, Option, Some, ◌⊎◌}
+-- What an engine reads of its inputs (own).
+use Rattle.std.specs.Prelude.{◌≡◌, ℕ, ◌+◌, List, length, ◌≤◌, Option, Some, ◌⊎◌}
 use Rattle.std.specs.Io.KnownBytes.{Consumes, IsAtEnd}
 use Rattle.tas_engines.specs.declared.fault.ReadFault.{ReadFault}
 use Rattle.tas_engines.specs.declared.fault.ReadFault.TheVariants.{TooLong, Read, Memory}
@@ -8,13 +8,16 @@ use Rattle.tas_engines.specs.declared.fault.ReadFault.TheVariants.{TooLong, Read
 abbrev pub IfKnown : Option (List ℕ) → (List ℕ → Type 0) → Type 0
 IfKnown known P = (bytes : List ℕ) → known ≡ Some bytes → P bytes
 
--- an input was read to its end: these bytes left the reader and none is left, so they are all that it had; they are at most
--- 16,777,216
+-- how many bytes an input has at most: 16 MiB
+abbrev pub most_input_bytes : ℕ
+most_input_bytes = 16777216
+
+-- an input was read to its end: these bytes left the reader and none is left, so they are all that it had; they are not too many
 pub record IsReadWhole (old new : Option (List ℕ)) (bytes : List ℕ) : Type 0 where
   pub left_reader : Consumes old new bytes
   pub none_is_left : IsAtEnd new
   pub are_all : IfKnown old (λ input. bytes ≡ input)
-  pub within : length bytes ≤ 16777216
+  pub within : length bytes ≤ most_input_bytes
 
 -- so many bytes left the reader
 abbrev pub LeftReader : Option (List ℕ) → Option (List ℕ) → (ℕ → Type 0) → Type 0
@@ -22,9 +25,9 @@ LeftReader old new count = (bytes : List ℕ) × Consumes old new bytes × count
 
 -- reading stopped: with the byte past the limit, or where a read or a growth failed, with at most the limit
 abbrev pub StopsReading : Option (List ℕ) → Option (List ℕ) → ReadFault → Type 0
-StopsReading old new TooLong = LeftReader old new (λ n. n ≡ 16777217)
-StopsReading old new Read = LeftReader old new (λ n. n ≤ 16777216)
-StopsReading old new Memory = LeftReader old new (λ n. n ≤ 16777216)
+StopsReading old new TooLong = LeftReader old new (λ n. n ≡ most_input_bytes + 1)
+StopsReading old new Read = LeftReader old new (λ n. n ≤ most_input_bytes)
+StopsReading old new Memory = LeftReader old new (λ n. n ≤ most_input_bytes)
 
 -- reading one input after another stopped: at the first, and the second is untouched; or the first was read whole
 abbrev pub StopsReadingTwo : (old new old' new' : Option (List ℕ)) → ReadFault → Type 0

@@ -1,4 +1,4 @@
--- What `tas check`, `tas migrate` and `tas shot` answer.
+-- What `tas check`, `tas migrate` and `tas shot` answer (own).
 use Rattle.std.specs.Prelude.{◌≡◌, ℕ, ◌+◌, ◌<◌, ◌≤◌, true, false, List, length, ◌++◌, codes, decimal, ◌⊎◌, Option, Some, None, Result, Ok, Err}
 use Rattle.vcs_cpu.specs.declared.halt.Halt.{Halt}
 use Rattle.vcs_cpu.specs.declared.halt.Halt.TheVariants.{Undocumented}
@@ -43,7 +43,7 @@ abbrev pub IsCheckAnswer : List ℕ → List ℕ → Result (List ℕ) RunFault 
 IsCheckAnswer image bytes (Ok line) = (movie : MovieContent) × IsMovieOf image bytes movie × (line ≡ length_line (length movie.inputs))
 IsCheckAnswer image bytes (Err e) = IsMovieFault image bytes e
 
--- the movie's text as it is written today, or why there is no movie
+-- the movie's text of runs ('a26movie 2'), or why there is no movie
 abbrev pub IsMigrateAnswer : List ℕ → List ℕ → Result (List ℕ) RunFault → Type 0
 IsMigrateAnswer image bytes (Ok out) = (movie : MovieContent) × IsMovieOf image bytes movie × (out ≡ text2 movie)
 IsMigrateAnswer image bytes (Err e) = IsMovieFault image bytes e

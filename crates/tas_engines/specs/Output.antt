@@ -1,4 +1,4 @@
--- What an engine writes, and how it ends.
+-- What an engine writes, and how it ends (own).
 use Rattle.std.specs.Prelude.{◌≡◌, ℕ, ◌<◌, List, length, take, Option, Result, Ok, Err, ◌⊎◌}
 use Rattle.std.specs.Io.KnownBytes.{Appends, Keeps}
 use Rattle.tas_engines.specs.declared.fault.ReadFault.{ReadFault}

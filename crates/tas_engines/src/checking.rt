@@ -1,5 +1,4 @@
 //! `tas check`.
-#![tactic(auto)]
 
 ghost use Rattle.std.specs.Prelude.{◌≡◌, IfOk, string_bytes};
 ghost use Rattle.tas_engines.specs.Output.{Ends};
@@ -26,16 +25,15 @@ fn check_movie<A: Allocator + Copy, W: Write>(
     ensures { Ends (IsCheckAnswer image.now bytes.now) (W.contents output.old) (W.contents output.new) result }
 {
     let movie = movie_of(alloc, image, bytes)?;
-    let Ok(line) = length_line(alloc, movie.len()) else {
-        return Err(RunFault::Memory);
-    };
+    let line = length_line(alloc, movie.len())?;
     write_all(output, line.as_bytes())
 }
 
 /// Reads a cartridge and a movie text of either kind, and writes `ok F frames`, where the text is one of a movie
-/// of F frames with this cartridge.
+/// of F frames with this cartridge (own).
 ///
-/// Faults: those of [`read_two`], then those of [`movie_of`], with nothing written, and `Write`.
+/// Faults: those of [`read_two`], then those of [`movie_of`], with nothing written; `Write` with the first bytes of
+/// the answer written, and how many.
 pub fn check_run<A: Allocator + Copy, C: Read, R: Read, W: Write>(
     alloc: A,
     cart: &mut C,

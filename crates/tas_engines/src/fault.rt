@@ -1,13 +1,16 @@
 //! Why an engine ended without its answer.
-#![tactic(auto)]
 
 ghost use Rattle.std.specs.Prelude.{◌≡◌};
-ghost use Rattle.tas_engines.specs.Faults.{unread_fault, run_fault};
+ghost use Rattle.tas_engines.specs.declared.fault.RunFault.TheVariants.{Write as WriteFailed, Memory as Refused};
+ghost use Rattle.tas_engines.specs.Faults.{unread_fault, run_fault, cart_fault, text_fault};
 
-use tas_movie::TextError;
+use counted_write::WriteFault;
+use std::alloc::AllocError;
+use tas_movie::{ReadError, TextError};
 use thiserror::Error;
+use vcs_machine::CartError;
 
-/// Why an input wasn't read whole. Reading ends with it; no read follows.
+/// Why an input wasn't read whole (own). Reading ends with it; no read follows (no clause says so; a test does).
 #[derive(Clone, Copy, Debug, PartialEq, Eq)]
 pub enum ReadFault {
     /// The input has more than [`INPUT_LIMIT`](crate::INPUT_LIMIT) bytes.
@@ -18,7 +21,7 @@ pub enum ReadFault {
     Memory,
 }
 
-/// Why an engine that has read its inputs ended without its answer.
+/// Why an engine that has read its inputs ended without its answer (own).
 #[derive(Clone, Copy, Debug, PartialEq, Eq)]
 pub enum RunFault {
     /// A write failed, or took no byte.
@@ -162,6 +165,46 @@ pub enum ToolFault {
     /// Memory was refused. Nothing was written, but by a script or a conversation what answers the lines before.
     #[error("fault: out of memory")]
     Memory,
+}
+
+impl From<CartError> for RunFault {
+    ghost from_gives = { λ error fault. fault ≡ cart_fault error };
+
+    fn from(error: CartError) -> RunFault {
+        match error {
+            CartError::Size(len) => RunFault::Size(len),
+            CartError::Memory => RunFault::Memory,
+        }
+    }
+}
+
+impl From<ReadError> for RunFault {
+    ghost from_gives = { λ error fault. fault ≡ text_fault error };
+
+    fn from(error: ReadError) -> RunFault {
+        match error {
+            ReadError::Text(error) => RunFault::Text(error),
+            ReadError::Memory => RunFault::Memory,
+        }
+    }
+}
+
+impl From<AllocError> for RunFault {
+    ghost from_gives = { λ _ fault. fault ≡ Refused };
+
+    fn from(_error: AllocError) -> RunFault {
+        RunFault::Memory
+    }
+}
+
+impl From<WriteFault> for RunFault {
+    ghost from_gives = { λ error fault. fault ≡ WriteFailed error.written };
+
+    fn from(error: WriteFault) -> RunFault {
+        RunFault::Write {
+            written: error.written,
+        }
+    }
 }
 
 impl From<ReadFault> for ToolFault {

@@ -1,5 +1,4 @@
 //! `tas migrate`.
-#![tactic(auto)]
 
 ghost use Rattle.tas_engines.specs.Output.{Ends};
 ghost use Rattle.tas_engines.specs.Movies.{IsMigrateAnswer, IsMovieRun};
@@ -19,16 +18,15 @@ fn migrate_movie<A: Allocator + Copy, W: Write>(
     ensures { Ends (IsMigrateAnswer image.now bytes.now) (W.contents output.old) (W.contents output.new) result }
 {
     let movie = movie_of(alloc, image, bytes)?;
-    let Ok(text) = print_text(alloc, &movie) else {
-        return Err(RunFault::Memory);
-    };
+    let text = print_text(alloc, &movie)?;
     write_all(output, text.as_slice())
 }
 
 /// Reads a cartridge and a movie text of either kind, and writes the text of runs of the movie that it
 /// is one of (own).
 ///
-/// Faults: those of [`read_two`], then those of [`movie_of`], with nothing written, and `Write`.
+/// Faults: those of [`read_two`], then those of [`movie_of`], with nothing written; `Write` with the first
+/// bytes of the answer written, and how many.
 pub fn migrate_run<A: Allocator + Copy, C: Read, R: Read, W: Write>(
     alloc: A,
     cart: &mut C,

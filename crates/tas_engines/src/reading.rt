@@ -1,5 +1,4 @@
 //! Reading an input whole.
-#![tactic(auto)]
 
 ghost use Rattle.std.specs.Prelude.{◌≡◌, ◌≤◌, ◌<◌, length, take, IfOk, IfErr, IfSome, IfNone};
 ghost use Rattle.std.specs.Io.KnownBytes.{Consumes, Keeps, IsAtEnd};
@@ -28,11 +27,11 @@ fn read_some<R: Read>(reader: &mut R, buffer: &mut [u8]) -> Option<usize>
     reader.read(buffer).ok()
 }
 
-/// Reads an input to its end, and answers its bytes: at most [`INPUT_LIMIT`].
+/// Reads an input to its end, and answers its bytes: at most [`INPUT_LIMIT`] (own).
 ///
 /// Reading ends at the first read that fails (`Read`) or gives no bytes, or with the byte past the
-/// limit (`TooLong`); no read is tried again, and at most the limit and one byte leave the reader.
-/// `Memory` where a growth was refused.
+/// limit (`TooLong`); at most the limit and one byte leave the reader. No read is tried again (no
+/// clause says so; a test does). `Memory` where a growth was refused.
 pub fn read_input<A: Allocator, R: Read>(alloc: A, reader: &mut R) -> Result<Vec<u8, A>, ReadFault>
     ensures whole { IfOk result (λ bytes. IsReadWhole (R.remaining reader.old) (R.remaining reader.new) bytes.items) }
     ensures fault { IfErr result (StopsReading (R.remaining reader.old) (R.remaining reader.new)) }
@@ -57,8 +56,8 @@ pub fn read_input<A: Allocator, R: Read>(alloc: A, reader: &mut R) -> Result<Vec
     }
 }
 
-/// Reads two inputs, each as [`read_input`] does. Where reading the first one fails, the second one
-/// is left untouched.
+/// Reads two inputs, each as [`read_input`] does (own). Where reading the first one fails, the second
+/// one is left untouched.
 pub fn read_two<A: Allocator + Copy, C: Read, R: Read>(
     alloc: A,
     first: &mut C,
@@ -73,7 +72,7 @@ pub fn read_two<A: Allocator + Copy, C: Read, R: Read>(
     Ok((bytes, more))
 }
 
-/// The bytes of three inputs that were read whole.
+/// The bytes of three inputs that were read whole (own).
 #[derive(Drop)]
 pub struct ThreeInputs<A: Allocator> {
     /// Those of the input that was read first.
@@ -84,8 +83,8 @@ pub struct ThreeInputs<A: Allocator> {
     pub third: Vec<u8, A>,
 }
 
-/// Reads three inputs, each as [`read_input`] does. Where reading one fails, those behind it are left
-/// untouched.
+/// Reads three inputs, each as [`read_input`] does (own). Where reading one fails, those behind it are
+/// left untouched.
 pub fn read_three<A: Allocator + Copy, F: Read, S: Read, T: Read>(
     alloc: A,
     first: &mut F,

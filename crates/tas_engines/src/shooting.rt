@@ -1,5 +1,4 @@
 //! `tas shot`.
-#![tactic(auto)]
 
 ghost use Rattle.std.specs.Prelude.{◌≡◌, ◌⊎◌, IfOk, IfErr};
 ghost use Rattle.vcs_tia.specs.Image.{ppm_bytes};
@@ -38,15 +37,12 @@ fn draw_frame<A: Allocator + Copy>(
     if k >= len {
         return Err(RunFault::NoFrame { frame: k, len });
     }
-    let Ok(mut picture) = Picture::blank(alloc) else {
-        return Err(RunFault::Memory);
-    };
+    let mut picture = Picture::blank(alloc)?;
     let mut green = Green::new(alloc);
     let mut meter = Meter::new();
-    match green.shot(movie, k, &mut picture, &mut meter) {
-        Ok(Ok(())) => Ok(picture),
-        Ok(Err(halt)) => Err(halt_fault(halt)),
-        Err(_) => Err(RunFault::Memory),
+    match green.shot(movie, k, &mut picture, &mut meter)? {
+        Ok(()) => Ok(picture),
+        Err(halt) => Err(halt_fault(halt)),
     }
 }
 
@@ -62,19 +58,15 @@ fn shoot_movie<A: Allocator + Copy, W: Write>(
 {
     let movie = movie_of(alloc, image, bytes)?;
     let picture = draw_frame(alloc, &movie, k)?;
-    match ppm(&picture, output) {
-        Ok(()) => Ok(()),
-        Err(fault) => Err(RunFault::Write {
-            written: fault.written,
-        }),
-    }
+    Ok(ppm(&picture, output)?)
 }
 
 /// Reads a cartridge and a movie text, and writes the picture of the movie's frame `k`, counted
-/// from 0, as a binary portable pixmap.
+/// from 0, as a binary portable pixmap (own).
 ///
 /// Faults, in order: those of [`read_two`], those of [`movie_of`], then `NoFrame`, then `Halted`,
-/// each with nothing written; `Memory` with nothing written; `Write`.
+/// each with nothing written; `Memory` with nothing written; `Write` with the first bytes of the answer
+/// written, and how many.
 pub fn shot_run<A: Allocator + Copy, C: Read, R: Read, W: Write>(
     alloc: A,
     k: usize,

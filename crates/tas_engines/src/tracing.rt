@@ -1,5 +1,4 @@
 //! `tas trace`.
-#![tactic(auto)]
 
 ghost use Rattle.tas_engines.specs.Output.{Ends};
 ghost use Rattle.tas_engines.specs.Tracing.{IsTraceAnswer, IsTraceRun};
@@ -7,7 +6,7 @@ ghost use Rattle.tas_engines.specs.Tracing.{IsTraceAnswer, IsTraceRun};
 use crate::{RunFault, ToolFault, read_input};
 use std::alloc::Allocator;
 use std::io::{Read, Write};
-use vcs_machine::{Cart, CartError, trace};
+use vcs_machine::{Cart, trace};
 
 /// Writes the trace of an image's first `n` instructions.
 fn trace_image<A: Allocator, W: Write>(
@@ -18,18 +17,14 @@ fn trace_image<A: Allocator, W: Write>(
 ) -> Result<(), RunFault>
     ensures { Ends (IsTraceAnswer image.now n) (W.contents output.old) (W.contents output.new) result }
 {
-    let cart = match Cart::from_bytes(alloc, image) {
-        Ok(cart) => cart,
-        Err(CartError::Size(n)) => return Err(RunFault::Size(n)),
-        Err(CartError::Memory) => return Err(RunFault::Memory),
-    };
+    let cart = Cart::from_bytes(alloc, image)?;
     match trace(&cart, n, output) {
         Ok(()) => Ok(()),
         Err((written, _error)) => Err(RunFault::Write { written }),
     }
 }
 
-/// Reads a cartridge and writes the trace of its first `n` instructions from power-on.
+/// Reads a cartridge and writes the trace of its first `n` instructions from power-on (own).
 ///
 /// Faults, in order: those of [`read_input`], then `Size`, each with nothing written; `Memory` with
 /// nothing written; `Write` with the first bytes of the trace written, and how many.

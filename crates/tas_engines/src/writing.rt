@@ -1,5 +1,4 @@
 //! Writing an answer.
-#![tactic(auto)]
 
 ghost use Rattle.std.specs.Prelude.{OnOk, IfErr};
 ghost use Rattle.std.specs.Io.KnownBytes.{Appends};
@@ -9,16 +8,13 @@ use crate::RunFault;
 use counted_write::write_counted;
 use std::io::Write;
 
-/// Writes all of an answer. A write that fails or takes no byte ends the call with
-/// [`RunFault::Write`], which tells how many bytes had gone out; no write is tried again.
+/// Writes all of an answer (own). A write that fails or takes no byte ends the call with
+/// [`RunFault::Write`], which tells how many bytes had gone out; no write is tried again (no clause
+/// says so; a test does).
 pub fn write_all<W: Write>(writer: &mut W, bytes: &[u8]) -> Result<(), RunFault>
     ensures ok { OnOk result (Appends (W.contents writer.old) (W.contents writer.new) bytes.now) }
     ensures fault { IfErr result (StopsWriting (W.contents writer.old) (W.contents writer.new) bytes.now) }
 {
-    match write_counted(bytes, 0, writer) {
-        Ok(_) => Ok(()),
-        Err(fault) => Err(RunFault::Write {
-            written: fault.written,
-        }),
-    }
+    write_counted(bytes, 0, writer)?;
+    Ok(())
 }

@@ -12,7 +12,7 @@ use Rattle.tas_script.specs.declared.image.Image.{Image}
 use Rattle.tas_script.specs.declared.image.Image.TheVariants.{Large, Small}
 use Rattle.tas_script.specs.Commands.{Says, Loads, IsNumber, pair_text, frames_text}
 use Rattle.vcs_cpu.specs.Lines.{digit_of}
-use Rattle.tas_script.specs.Parts.{Part, IsPart, AreParts, IsBytes, IsImageOf, hex_text, word_text, part_text, poured}
+use Rattle.tas_script.specs.Parts.{Part, IsPart, AreParts, IsBytes, IsImageOf, hex_text, word_text, part_text, overwritten_by_all}
 use Rattle.tas_script.proofs.PartLemmas.{digit_same, offset_same, same_word, word_no_space, end_of_parts, parts_begin}
 use Rattle.tas_script.proofs.WordLemmas.{same_front, decimal_no_space}
 
@@ -48,7 +48,7 @@ parts_same size (p ∷ ps) (q ∷ qs) most hp hq e =
     ap (λ (r : Part). r ∷ ps) (part_same size p q most hp.0 hq.0 both.0) ∙ ap (λ (r : List Part). q ∷ r) (parts_same size ps qs most hp.1 hq.1 both.1)
 
 image_same : (size : ℕ) (said a b : List ℕ) → size ≤ 4096 → IsImageOf size said a → IsImageOf size said b → a ≡ b
-image_same size said a b most ia ib = ia.image_is ∙ ap (poured (replicate size 0)) (parts_same size ia.parts ib.parts most ia.are_parts ib.are_parts (sym ia.text ∙ ib.text)) ∙ sym ib.image_is
+image_same size said a b most ia ib = ia.image_is ∙ ap (overwritten_by_all (replicate size 0)) (parts_same size ia.parts ib.parts most ia.are_parts ib.are_parts (sym ia.text ∙ ib.text)) ∙ sym ib.image_is
 
 -- a line that `load2` begins is none that `load` begins
 pub sizes_apart : (line small large : List ℕ) (image : List ℕ) → codes "load" ++ large ≡ codes "load2" ++ small → IsImageOf 4096 large image → ⊥

@@ -12,7 +12,7 @@ use Rattle.std.specs.Prelude.{◌≢◌, replicate}
 use Rattle.std.specs.List.{flat_map}
 use Rattle.tas_script.specs.Commands.{NoByte}
 use Rattle.vcs_cpu.specs.Lines.{digit_of}
-use Rattle.tas_script.specs.Parts.{Part, IsPart, AreParts, IsBytes, IsWordEnd, IsImageOf, ArePoured, hex_text, offset_text, word_text, part_text, overwritten, poured}
+use Rattle.tas_script.specs.Parts.{Part, IsPart, AreParts, IsBytes, IsWordEnd, IsImageOf, AreWritten, hex_text, offset_text, word_text, part_text, overwritten, overwritten_by_all}
 
 -- ---- bytes of two digits
 
@@ -163,9 +163,8 @@ same_word (k ∷ a) (m ∷ b) x y ha hb ex ey e =
     (whole, both.1)
 
 -- a word and its end, behind a space
-pub spaced : (text more word rest : List ℕ) → 0 < length text → get_or text 0 0 ≡ 32 → more ≡ drop 1 text → more ≡ word ++ rest → text ≡ 32 ∷ word ++ rest
-spaced [] more word rest lt is m w = absurd (omega arith)
-spaced (b ∷ text) more word rest lt is m w = ap (λ (n : ℕ). n ∷ text) is ∙ ap (λ (l : List ℕ). 32 ∷ l) (sym m ∙ w)
+pub spaced : (text : List ℕ) (first : ℕ) (more word rest : List ℕ) → text ≡ first ∷ more → first ≡ 32 → more ≡ word ++ rest → text ≡ 32 ∷ word ++ rest
+spaced text first more word rest whole is w = whole ∙ ap (λ (n : ℕ). n ∷ more) is ∙ ap (λ (l : List ℕ). 32 ∷ l) w
 
 pub word_of : (text word rest more : List ℕ) (part : Part) → text ≡ 32 ∷ word ++ rest → NoByte 32 word → IsWordEnd rest → IsWordEnd more → text ≡ part_text part ++ more → word ≡ word_text part
 word_of text word rest more part a n e e' b =
@@ -193,10 +192,10 @@ next_parts size rest after part (first ∷ more) e is are r =
     let tails : word_text part ++ after ≡ word_text first ++ flat_map part_text more = ap (drop 1) (sym is ∙ r) in
     (more, are.1, (same_word (word_text part) (word_text first) after (flat_map part_text more) (word_no_space part) (word_no_space first) e (end_of_parts more) tails).1)
 
-pub poured_more : (image : List ℕ) (parts : List Part) (part : Part) → poured image (parts ++ part ∷ []) ≡ overwritten part (poured image parts)
-unfolding poured
-poured_more image [] part = refl
-poured_more image (first ∷ parts) part = poured_more (overwritten first image) parts part
+pub overwritten_more : (image : List ℕ) (parts : List Part) (part : Part) → overwritten_by_all image (parts ++ part ∷ []) ≡ overwritten part (overwritten_by_all image parts)
+unfolding overwritten_by_all
+overwritten_more image [] part = refl
+overwritten_more image (first ∷ parts) part = overwritten_more (overwritten first image) parts part
 
 -- a part that is written leaves as many bytes
 pub length-overwritten : (part : Part) (image : List ℕ) → IsPart (length image) part → length (overwritten part image) ≡ length image
@@ -225,21 +224,21 @@ pub no_parts_no_text : (text : List ℕ) (parts : List Part) → length text ≡
 no_parts_no_text text [] len some is = omega arith
 no_parts_no_text text (part ∷ parts) len some is = let l : length text ≡ suc (length (word_text part ++ flat_map part_text parts)) = ap length is in omega arith
 
-pub all_poured : (text rest old new : List ℕ) (parts : List Part) → (length text ≡ 0 → ⊥) → length rest ≡ 0 → AreParts (length old) parts → text ≡ flat_map part_text parts ++ rest
-    → new ≡ poured old parts → ArePoured text old new
-all_poured text [] old new [] some none are is i = absurd (some (ap length is))
-all_poured text [] old new (part ∷ parts) some none are is i = record { parts = part ∷ parts; some = omega arith; are_parts = are; text = is ∙ append-nil (flat_map part_text (part ∷ parts)); image_is = i }
-all_poured text (b ∷ rest) old new parts some none are is i = absurd (omega arith)
+pub all_written : (text rest old new : List ℕ) (parts : List Part) → (length text ≡ 0 → ⊥) → length rest ≡ 0 → AreParts (length old) parts → text ≡ flat_map part_text parts ++ rest
+    → new ≡ overwritten_by_all old parts → AreWritten text old new
+all_written text [] old new [] some none are is i = absurd (some (ap length is))
+all_written text [] old new (part ∷ parts) some none are is i = record { parts = part ∷ parts; some = omega arith; are_parts = are; text = is ∙ append-nil (flat_map part_text (part ∷ parts)); image_is = i }
+all_written text (b ∷ rest) old new parts some none are is i = absurd (omega arith)
 
 -- the image of a whole text
-pub image_of : (size : ℕ) (said old new : List ℕ) → old ≡ replicate size 0 → ArePoured said old new → IsImageOf size said new
+pub image_of : (size : ℕ) (said old new : List ℕ) → old ≡ replicate size 0 → AreWritten said old new → IsImageOf size said new
 image_of size said old new zeros p =
     let len : length old ≡ size = ap length zeros ∙ length-replicate size 0 in record {
       parts = p.parts;
       some = p.some;
       are_parts = subst (λ (n : ℕ). AreParts n p.parts) len p.are_parts;
       text = p.text;
-      image_is = p.image_is ∙ ap (λ (l : List ℕ). poured l p.parts) zeros;
+      image_is = p.image_is ∙ ap (λ (l : List ℕ). overwritten_by_all l p.parts) zeros;
     }
 
 pub no_image : (size : ℕ) (said old image : List ℕ) → old ≡ replicate size 0 → ((parts : List Part) → 0 < length parts → AreParts (length old) parts → said ≢ flat_map part_text parts) → IsImageOf size said image → ⊥

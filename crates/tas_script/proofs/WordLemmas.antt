@@ -1,6 +1,6 @@
 -- Words, numbers and the bytes between them.
-use Rattle.std.proofs.Common.{◌≡◌, ℕ, ◌+◌, ◌<◌, ◌≤◌, List, [], ◌∷◌, ◌++◌, length, take, drop, get_or, Option, Some, None, refl, sym, ap, subst, ◌∙◌, arith}
-use Rattle.std.proofs.lemmas.List.{take_more, take_all, take-append-drop, drop_more}
+use Rattle.std.proofs.Common.{◌≡◌, ℕ, ◌+◌, ◌<◌, ◌≤◌, List, [], ◌∷◌, ◌++◌, length, take, get_or, Option, Some, None, refl, sym, subst, ◌∙◌, arith}
+use Rattle.std.proofs.lemmas.List.{take_more}
 use Rattle.std.proofs.Common.{Bool, true, false, ◌%◌, ◌^◌}
 use Rattle.std.specs.Prelude.{decimal}
 use Rattle.std.specs.Str.{bytes_eq}
@@ -16,12 +16,6 @@ push_no_byte c (x ∷ xs) b h ne = (h.0, push_no_byte c xs b h.1 ne)
 
 pub no_byte_more : (c : ℕ) (bytes : List ℕ) (at : ℕ) → at < length bytes → (get_or bytes at 0 ≡ c → ⊥) → NoByte c (take at bytes) → NoByte c (take (at + 1) bytes)
 no_byte_more c bytes at lt ne h = subst (NoByte c) (sym (take_more bytes at 0 lt)) (push_no_byte c (take at bytes) (get_or bytes at 0) h ne)
-
-pub no_byte_all : (c : ℕ) (bytes : List ℕ) (at : ℕ) → length bytes ≤ at → NoByte c (take at bytes) → NoByte c bytes
-no_byte_all c bytes at le h = subst (NoByte c) (take_all at bytes le) h
-
-pub parted : (c : ℕ) (bytes : List ℕ) (at : ℕ) → at < length bytes → get_or bytes at 0 ≡ c → bytes ≡ take at bytes ++ c ∷ drop (at + 1) bytes
-parted c bytes at lt is = sym (take-append-drop at bytes) ∙ ap (λ (r : List ℕ). take at bytes ++ r) (drop_more bytes at 0 lt ∙ rw is refl)
 
 pub no_parts : (c : ℕ) (a x : List ℕ) → NoByte c (a ++ c ∷ x) → ⊥
 no_parts c [] x h = h.0 refl

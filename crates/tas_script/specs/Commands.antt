@@ -13,9 +13,13 @@ abbrev pub NoByte : ℕ → List ℕ → Type 0
 NoByte c [] = Unit {0}
 NoByte c (b ∷ bytes) = (b ≡ c → ⊥) × NoByte c bytes
 
+-- the greatest number: seven digits
+abbrev pub most_number : ℕ
+most_number = 9999999
+
 -- a number of one to seven digits
 abbrev pub IsNumber : ℕ → Type 0
-IsNumber n = n ≤ 9999999
+IsNumber n = n ≤ most_number
 
 -- two numbers with one space between
 abbrev pub pair_text : ℕ → ℕ → List ℕ

@@ -45,9 +45,9 @@ abbrev pub overwritten : Part → List ℕ → List ℕ
 overwritten part image = take part.offset image ++ part.bytes ++ drop (part.offset + length part.bytes) image
 
 -- the image with the bytes of all parts, later ones over earlier ones
-unfoldable pub poured : List ℕ → List Part → List ℕ
-poured image [] = image
-poured image (part ∷ parts) = poured (overwritten part image) parts
+unfoldable pub overwritten_by_all : List ℕ → List Part → List ℕ
+overwritten_by_all image [] = image
+overwritten_by_all image (part ∷ parts) = overwritten_by_all (overwritten part image) parts
 
 -- each is a part of an image of so many bytes
 unfoldable pub AreParts : ℕ → List Part → Type 0
@@ -60,12 +60,12 @@ pub record IsImageOf (size : ℕ) (said : List ℕ) (image : List ℕ) : Type 0 
   pub some : 0 < length parts
   pub are_parts : AreParts size parts
   pub text : said ≡ flat_map part_text parts
-  pub image_is : image ≡ poured (replicate size 0) parts
+  pub image_is : image ≡ overwritten_by_all (replicate size 0) parts
 
 -- the text names one or more parts, and the new image has their bytes over the old one's. Private functions cite it
-pub record ArePoured (said old new : List ℕ) : Type 0 where
+pub record AreWritten (said old new : List ℕ) : Type 0 where
   pub parts : List Part
   pub some : 0 < length parts
   pub are_parts : AreParts (length old) parts
   pub text : said ≡ flat_map part_text parts
-  pub image_is : new ≡ poured old parts
+  pub image_is : new ≡ overwritten_by_all old parts

@@ -50,7 +50,7 @@ pub enum Command {
     },
     /// `work K`: the states up to a frame are filled.
     Work {
-        /// The frame, counted from 0.
+        /// How many frames from power-on; it may lie past the end.
         frame: usize,
     },
 }

@@ -4,7 +4,7 @@ ghost use Rattle.std.specs.Prelude.{◌≡◌, ◌≢◌, ◌<◌, ◌≤◌, �
 ghost use Rattle.tas_script.specs.Commands.{NoByte};
 ghost use Rattle.vcs_cpu.specs.Lines.{digit_of};
 ghost use Rattle.std.specs.List.{flat_map};
-ghost use Rattle.tas_script.specs.Parts.{Part, IsPart, AreParts, IsBytes, IsWordEnd, IsImageOf, ArePoured, hex_text, offset_text, word_text, part_text, overwritten};
+ghost use Rattle.tas_script.specs.Parts.{Part, IsPart, AreParts, IsBytes, IsWordEnd, IsImageOf, AreWritten, hex_text, offset_text, word_text, part_text, overwritten};
 
 use crate::words::split_once;
 use vcs_machine::{CART_SIZE, SMALL_CART_SIZE};
@@ -26,12 +26,8 @@ fn byte_of(first: u8, second: u8) -> Option<u8>
     ensures some { IfSome result (λ byte. hex_text (byte ∷ []) ≡ first ∷ second ∷ []) }
     ensures none { IfNone result ((byte : ℕ) → byte < 256 → hex_text (byte ∷ []) ≢ first ∷ second ∷ []) }
 {
-    let Some(high) = digit(first) else {
-        return None;
-    };
-    let Some(low) = digit(second) else {
-        return None;
-    };
+    let high = digit(first)?;
+    let low = digit(second)?;
     Some(high * 16 + low)
 }
 
@@ -40,15 +36,9 @@ fn offset_of(first: u8, second: u8, third: u8) -> Option<usize>
     ensures some { IfSome result (λ offset. (offset < CART_SIZE) × (offset_text offset ≡ first ∷ second ∷ third ∷ [])) }
     ensures none { IfNone result ((offset : ℕ) → offset < CART_SIZE → offset_text offset ≢ first ∷ second ∷ third ∷ []) }
 {
-    let Some(high) = digit(first) else {
-        return None;
-    };
-    let Some(middle) = digit(second) else {
-        return None;
-    };
-    let Some(low) = digit(third) else {
-        return None;
-    };
+    let high = digit(first)?;
+    let middle = digit(second)?;
+    let low = digit(third)?;
     Some(usize::from(high) * 256 + usize::from(middle) * 16 + usize::from(low))
 }
 
@@ -113,13 +103,10 @@ fn read_part<'a>(text: &'a [u8], image: &mut [u8]) -> Option<&'a [u8]>
     ensures some { IfSome result (λ rest. (part : Part) × IsPart (length image.old) part × IsWordEnd rest.now × (text.entry.now ≡ part_text part ++ rest.now) × (image.new ≡ overwritten part image.old)) }
     ensures none { IfNone result ((part : Part) (rest : List ℕ) → IsPart (length image.old) part → IsWordEnd rest → text.entry.now ≢ part_text part ++ rest) }
 {
-    if text.len() == 0 {
+    let (&first, words) = text.split_first()?;
+    if first != b' ' {
         return None;
     }
-    if text[0] != b' ' {
-        return None;
-    }
-    let (_space, words) = text.split_at(1);
     let (word, rest) = first_word(words);
     if write_part(word, image) {
         Some(rest)
@@ -129,16 +116,16 @@ fn read_part<'a>(text: &'a [u8], image: &mut [u8]) -> Option<&'a [u8]>
 }
 
 /// Writes the bytes of a text's parts into the image, later ones over earlier ones. Whether the text names parts.
-fn pour_parts(text: &[u8], image: &mut [u8]) -> bool
+fn write_parts(text: &[u8], image: &mut [u8]) -> bool
     requires { length image.old ≤ CART_SIZE }
-    ensures poured { result ≡ true → ArePoured text.now image.old image.new }
+    ensures written { result ≡ true → AreWritten text.now image.old image.new }
     ensures other { result ≡ false → (parts : List Part) → 0 < length parts → AreParts (length image.old) parts → text.now ≢ flat_map part_text parts }
 {
-    if text.len() == 0 {
+    if text.is_empty() {
         return false;
     }
     let mut rest = text;
-    while 0 < rest.len() {
+    while !rest.is_empty() {
         let Some(after) = read_part(rest, image) else {
             return false;
         };
@@ -153,7 +140,7 @@ pub fn load_image(text: &[u8]) -> Option<[u8; CART_SIZE]>
     ensures none { IfNone result ((image : List ℕ) → IsImageOf 4096 text.now image → ⊥) }
 {
     let mut image = [0; CART_SIZE];
-    if pour_parts(text, &mut image) {
+    if write_parts(text, &mut image) {
         Some(image)
     } else {
         None
@@ -166,7 +153,7 @@ pub fn load_small_image(text: &[u8]) -> Option<[u8; SMALL_CART_SIZE]>
     ensures none { IfNone result ((image : List ℕ) → IsImageOf 2048 text.now image → ⊥) }
 {
     let mut image = [0; SMALL_CART_SIZE];
-    if pour_parts(text, &mut image) {
+    if write_parts(text, &mut image) {
         Some(image)
     } else {
         None

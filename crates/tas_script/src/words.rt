@@ -11,7 +11,7 @@ use vcs_machine::Input;
 /// The greatest number of a script: seven digits (own).
 pub const MAX_NUMBER: usize = 9_999_999;
 
-/// What follows a beginning.
+/// The bytes of `line` behind `front`; nothing where the line doesn't begin with it (own).
 pub fn strip<'a>(line: &'a [u8], front: &[u8]) -> Option<&'a [u8]>
     ensures some { IfSome result (λ rest. line.entry.now ≡ front.now ++ rest.now) }
     ensures none { IfNone result ((rest : List ℕ) → line.entry.now ≢ front.now ++ rest) }
@@ -23,14 +23,13 @@ pub fn strip<'a>(line: &'a [u8], front: &[u8]) -> Option<&'a [u8]>
     if head == front { Some(rest) } else { None }
 }
 
-/// A number of one to seven digits without leading zeros.
+/// The number of one to seven digits without leading zeros that these bytes write; nothing where they
+/// write none (own).
 pub fn number(word: &[u8]) -> Option<usize>
     ensures some { IfSome result (λ n. (word.now ≡ decimal n) × IsNumber n) }
     ensures none { IfNone result ((n : ℕ) → IsNumber n → word.now ≢ decimal n) }
 {
-    let Some(n) = read_decimal(word) else {
-        return None;
-    };
+    let n = read_decimal(word)?;
     if n > MAX_NUMBER {
         return None;
     }
@@ -55,15 +54,9 @@ pub fn pair(bytes: &[u8]) -> Option<(usize, usize)>
     ensures some { IfSome result (λ found. (bytes.now ≡ pair_text found.0 found.1) × IsNumber found.0 × IsNumber found.1) }
     ensures none { IfNone result ((a b : ℕ) → IsNumber a → IsNumber b → bytes.now ≢ pair_text a b) }
 {
-    let Some((first, second)) = split_once(bytes, b' ') else {
-        return None;
-    };
-    let Some(a) = number(first) else {
-        return None;
-    };
-    let Some(b) = number(second) else {
-        return None;
-    };
+    let (first, second) = split_once(bytes, b' ')?;
+    let a = number(first)?;
+    let b = number(second)?;
     Some((a, b))
 }
 
@@ -72,15 +65,9 @@ fn count_and_frame(bytes: &[u8]) -> Option<(usize, Input)>
     ensures some { IfSome result (λ found. (bytes.now ≡ decimal found.0 ++ 32 ∷ frame_text found.1) × IsNumber found.0) }
     ensures none { IfNone result ((count : ℕ) (input : Pressed) → IsNumber count → bytes.now ≢ decimal count ++ 32 ∷ frame_text input) }
 {
-    let Some((first, second)) = split_once(bytes, b' ') else {
-        return None;
-    };
-    let Some(count) = number(first) else {
-        return None;
-    };
-    let Some(input) = read_frame(second) else {
-        return None;
-    };
+    let (first, second) = split_once(bytes, b' ')?;
+    let count = number(first)?;
+    let input = read_frame(second)?;
     Some((count, input))
 }
 
@@ -89,14 +76,8 @@ pub fn frames(bytes: &[u8]) -> Option<(usize, usize, Input)>
     ensures some { IfSome result (λ found. (bytes.now ≡ frames_text found.0 found.1 found.2) × IsNumber found.0 × IsNumber found.1) }
     ensures none { IfNone result ((at count : ℕ) (input : Pressed) → IsNumber at → IsNumber count → bytes.now ≢ frames_text at count input) }
 {
-    let Some((first, second)) = split_once(bytes, b' ') else {
-        return None;
-    };
-    let Some(at) = number(first) else {
-        return None;
-    };
-    let Some((count, input)) = count_and_frame(second) else {
-        return None;
-    };
+    let (first, second) = split_once(bytes, b' ')?;
+    let at = number(first)?;
+    let (count, input) = count_and_frame(second)?;
     Some((at, count, input))
 }

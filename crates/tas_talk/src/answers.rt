@@ -11,7 +11,7 @@ use std::alloc::{AllocError, Allocator};
 use tas_movie::{Movie, print_text};
 use vcs_tia::{Picture, ppm};
 
-/// How many bytes the pixmap of a picture has.
+/// How many bytes the pixmap of a picture has: a header of 15 bytes and three for each of 160 by 210 pixels.
 const PIXMAP_SIZE: usize = 100_815;
 
 /// The pixmap of a picture. There is room for it, so no more memory is asked for; no clause of a writer says so.

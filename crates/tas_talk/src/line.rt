@@ -1,6 +1,6 @@
 //! A line that comes in pieces.
 
-ghost use Rattle.std.specs.Prelude.{◌≡◌, ◌<◌, ◌++◌, ℕ, [], List, length, true, false, IfOk, OnOk};
+ghost use Rattle.std.specs.Prelude.{◌≡◌, ◌<◌, ◌++◌, ℕ, [], List, length, true, false, IfOk, OnOk, OnErr};
 ghost use Rattle.tas_talk.specs.Requests.{IsHeard};
 ghost use Rattle.tas_talk.specs.Held.{HoldsLine};
 
@@ -10,7 +10,8 @@ use std::alloc::{AllocError, Allocator, Global};
 /// The longest line that is understood, in bytes without its newline (own).
 pub const MAX_LINE: usize = 16_384;
 
-/// The bytes of a line so far. Of one that is longer than [`MAX_LINE`] only this is known, so it never takes more memory.
+/// The bytes of a line so far (own). Of one that is longer than [`MAX_LINE`] only this is known, so it never takes more memory
+/// (no clause says so).
 #[derive(Drop)]
 pub struct Line<A: Allocator = Global> {
     /// The bytes so far; none of a line that is too long.
@@ -20,7 +21,7 @@ pub struct Line<A: Allocator = Global> {
 }
 
 impl<A: Allocator> Line<A> {
-    /// No bytes yet, and room for the longest line that is understood.
+    /// No bytes yet, and room for the longest line that is understood. `AllocError` where that room is refused.
     pub fn new(alloc: A) -> Result<Line<A>, AllocError>
         ensures { IfOk result (λ line. HoldsLine [] line.bytes.items line.long) }
     {
@@ -28,9 +29,10 @@ impl<A: Allocator> Line<A> {
         Ok(Line { bytes, long: false })
     }
 
-    /// Takes the line's next bytes.
+    /// Takes the line's next bytes. After `AllocError` the line is as before.
     pub fn add(&mut self, more: &[u8]) -> Result<(), AllocError>
-        ensures { OnOk result ((said : List ℕ) → HoldsLine said self.old.bytes.items self.old.long → HoldsLine (said ++ more.now) self.new.bytes.items self.new.long) }
+        ensures added { OnOk result ((said : List ℕ) → HoldsLine said self.old.bytes.items self.old.long → HoldsLine (said ++ more.now) self.new.bytes.items self.new.long) }
+        ensures err { OnErr result ((self.new.bytes.items ≡ self.old.bytes.items) × (self.new.long ≡ self.old.long)) }
     {
         if self.long {
             return Ok(());

@@ -13,10 +13,7 @@ fn picture_frame(line: &[u8]) -> Option<usize>
     ensures some { IfSome result (λ frame. (line.now ≡ codes "picture " ++ decimal frame) × IsNumber frame) }
     ensures none { IfNone result ((frame : ℕ) → IsNumber frame → line.now ≢ codes "picture " ++ decimal frame) }
 {
-    match strip(line, b"picture ") {
-        Some(rest) => number(rest),
-        None => None,
-    }
+    number(strip(line, b"picture ")?)
 }
 
 /// What a line of any length, without its newline, asks for; nothing where it isn't understood (own). Takes no memory.
@@ -36,8 +33,5 @@ pub fn parse_request(line: &[u8]) -> Option<Request>
     if let Some(frame) = picture_frame(line) {
         return Some(Request::Picture { frame });
     }
-    match parse_line(line) {
-        Some(command) => Some(Request::Do(command)),
-        None => None,
-    }
+    parse_line(line).map(Request::Do)
 }

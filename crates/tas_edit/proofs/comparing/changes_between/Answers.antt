@@ -2,7 +2,7 @@ use Rattle.std.proofs.Common.{◌≤◌, ◌+◌, ◌-◌, ◌++◌, ◌∷◌, 
 use Rattle.std.proofs.lemmas.Bool.{ne_eqb, eq-eqb}
 use Rattle.tas_edit.specs.declared.change.Change.TheVariants.{Delete}
 use Rattle.tas_edit.proofs.DifferenceLemmas.{places, plain_end, run_of, first_deletion, first_replacement, first_insertion, reached_next, reached_last}
-use Rattle.tas_edit.proofs.comparing.changes_between.Goals.{then-gone-gt0+then-not-replaces+in_ok-push, else-gone-gt0, else-gone-gt0-via-then-gone-gt0+else-not-replaces, else-gone-gt0-via-else-gone-gt0}
+use Rattle.tas_edit.proofs.comparing.changes_between.Goals.{then-removed-gt0+then-not-replaces+in_ok-push, else-removed-gt0, else-removed-gt0-via-then-removed-gt0+else-not-replaces, else-removed-gt0-via-else-removed-gt0}
 use Rattle.tas_edit.proofs.comparing.changes_between.Goals as goal
 
 pub loop-at-init : goal.loop-at-init
@@ -12,12 +12,12 @@ loop-at-init g c =
     let front = c.common_front-front.result in
     let end = c.common_end-end.result in
     let p = places old new front end c.common_front-front.ensures (plain_end old new front end c.common_end-end.ensures) c.requires.old_bound c.requires.new_bound in
-    elim c.if-gone-gt0.branch [
-      | then-gone-gt0+then-not-replaces+in_ok-push w ↦ first_deletion g.row.A.Denot old new _ front end _ _ c.if-gone-gt0.changes.items (ne_eqb _ _ w.if-not-replaces.true) p w.if-gone-gt0.true
+    elim c.if-removed-gt0.branch [
+      | then-removed-gt0+then-not-replaces+in_ok-push w ↦ first_deletion g.row.A.Denot old new _ front end _ _ c.if-removed-gt0.changes.items (ne_eqb _ _ w.if-not-replaces.true) p w.if-removed-gt0.true
           (ap (λ v. v.items) w.changes-is ∙ w.in_ok-push.ensures.items ∙ ap (λ l. l ++ Delete front (length old - end - front) ∷ []) c.new-changes.ensures.items)
-      | else-gone-gt0 w ↦ elim w.else-gone-gt0.branch [
-        | else-gone-gt0-via-then-gone-gt0+else-not-replaces v ↦ first_replacement g.row.A.Denot old new _ front end _ _ c.if-gone-gt0.changes.items (eq-eqb _ _ v.if-not-replaces.false) p (ap (λ v. v.items) w.changes-is ∙ c.new-changes.ensures.items)
-        | else-gone-gt0-via-else-gone-gt0 v ↦ first_insertion g.row.A.Denot old new _ front end _ _ c.if-gone-gt0.changes.items (let none = v.if-gone-gt0.false in omega (arith, none)) p (ap (λ v. v.items) w.changes-is ∙ c.new-changes.ensures.items)
+      | else-removed-gt0 w ↦ elim w.else-removed-gt0.branch [
+        | else-removed-gt0-via-then-removed-gt0+else-not-replaces v ↦ first_replacement g.row.A.Denot old new _ front end _ _ c.if-removed-gt0.changes.items (eq-eqb _ _ v.if-not-replaces.false) p (ap (λ v. v.items) w.changes-is ∙ c.new-changes.ensures.items)
+        | else-removed-gt0-via-else-removed-gt0 v ↦ first_insertion g.row.A.Denot old new _ front end _ _ c.if-removed-gt0.changes.items (let none = v.if-removed-gt0.false in omega (arith, none)) p (ap (λ v. v.items) w.changes-is ∙ c.new-changes.ensures.items)
       ]
     ]
 

@@ -19,4 +19,4 @@ returns g c =
     let (u, is) = ok-of_mapped _ _ c.in_ok-map_err.ensures.cases in
     let made = subst (λ r. MakesAll g.row.A.Denot c.in_ok-movie.movie c.args.script.now c.edit_movie.new.movie r) is c.edit_movie.ensures in
     ends-written (IsEditAnswer g.row.A.Denot c.args.image.now c.args.script.now c.args.bytes.now) _ _ c.as_slice.result.now _
-    (c.in_ok-movie.movie, c.edit_movie.new.movie, c.in_ok-movie.ensures, made, c.as_slice.ensures.value ∙ c.in-Ok.ensures) c.write_all.ensures.ok c.write_all.ensures.fault
+    (c.in_ok-movie.movie, c.edit_movie.new.movie, c.in_ok-movie.ensures, made, c.as_slice.ensures.value ∙ c.in_ok-text.ensures) c.write_all.ensures.ok c.write_all.ensures.fault

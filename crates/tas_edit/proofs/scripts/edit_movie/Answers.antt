@@ -1,4 +1,5 @@
 use Rattle.std.proofs.Common.{◌++◌, ◌∷◌, [], refl, sym, subst, ◌∙◌, ap, arith}
+use Rattle.std.proofs.lemmas.Bool.{eqb-false}
 use Rattle.tas_movie.specs.Edit.{edited, IsAllowed}
 use Rattle.tas_edit.specs.Changes.{edit_of}
 use Rattle.tas_edit.specs.Scripts.{IsStop}
@@ -12,12 +13,14 @@ loop-rest-init g c = ([], record { reads = reads_none c.args.bytes.now; allowed 
 pub returns-in_default : goal.returns-in_default
 returns-in_default g c =
     let (changes, i) = c.loop-rest.invariant in
-    (changes, c.loop-rest.rest.now, i.reads, i.allowed, sym i.made, (i.number, c.loop-rest-test.true, unclear_unsplit _ c.in_default.ensures.none))
+    let some = eqb-false _ _ (sym c.is_empty.ensures ∙ c.loop-rest-test.true) in
+    (changes, c.loop-rest.rest.now, i.reads, i.allowed, sym i.made, (i.number, omega (arith, some), unclear_unsplit _ c.in_default.ensures.none))
 
 pub returns-in_default-read_change : goal.returns-in_default-read_change
 returns-in_default-read_change g c =
     let (changes, i) = c.loop-rest.invariant in
-    (changes, c.loop-rest.rest.now, i.reads, i.allowed, sym i.made, (i.number, c.loop-rest-test.true, unclear_line _ c.in-Some.line.now c.in-Some.after.now c.in-Some.ensures.some.0 c.in-Some.ensures.some.1 c.in_default-read_change.ensures.none))
+    let some = eqb-false _ _ (sym c.is_empty.ensures ∙ c.loop-rest-test.true) in
+    (changes, c.loop-rest.rest.now, i.reads, i.allowed, sym i.made, (i.number, omega (arith, some), unclear_line _ c.in-Some.line.now c.in-Some.after.now c.in-Some.ensures.some.0 c.in-Some.ensures.some.1 c.in_default-read_change.ensures.none))
 
 pub returns-in-Err : goal.returns-in-Err
 returns-in-Err g c =

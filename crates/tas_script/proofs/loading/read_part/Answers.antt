@@ -1,8 +1,7 @@
-use Rattle.std.proofs.Common.{arith}
 use Rattle.tas_script.proofs.PartLemmas.{spaced, word_of}
 use Rattle.tas_script.proofs.loading.read_part.Goals as goal
 
 pub returns-else-write_part-clause-none : goal.returns-else-write_part-clause-none
 returns-else-write_part-clause-none c = λ part rest is-part end is.
-    let whole = spaced c.args.text.now c.split_at.result.1.now c.first_word.result.0.now c.first_word.result.1.now (omega arith) c.if-text-ne32.false c.split_at.ensures.back c.first_word.ensures.bytes in
+    let whole = spaced c.args.text.now c.in_ok-first.field-0-0.now c.in_ok-first.words.now c.first_word.result.0.now c.first_word.result.1.now c.in_ok-first.ensures.cases.0 c.if-first-ne32.false c.first_word.ensures.bytes in
     c.write_part.ensures.other c.if-write_part.false part is-part (word_of c.args.text.now c.first_word.result.0.now c.first_word.result.1.now rest part whole c.first_word.ensures.word c.first_word.ensures.end end is)
