@@ -39,8 +39,7 @@ pub fn open<'r, 'a, N: Name, R: Wait + Abort>(
     heap: &'a Heap,
     unopened: Unopened<&'a Heap>,
 ) -> (Desk<N, &'r R, &'a Heap>, Vec<Seat<N, &'a Heap>, &'a Heap>)
-    requires name { unopened ≡ name_of N.registry N.name N.seats }
-    requires named { N.parts ≡ N.seats }
+    requires name { unopened ≡ name_of N.registry N.name N.parts }
 {
     expect_ok(rt, Desk::<N, &R, &'a Heap>::open(rt, heap, unopened))
 }
@@ -50,9 +49,7 @@ pub fn close<'a, N: Name, R: Wait + Abort>(
     rt: &R,
     desk: Desk<N, &R, &'a Heap>,
     seats: Vec<Seat<N, &'a Heap>, &'a Heap>,
-) -> Closed<&'a Heap>
-    requires { N.parts ≡ N.seats }
-{
+) -> Closed<&'a Heap> {
     check_that(rt, "all seats come back", desk.whole(seats.as_slice()));
     desk.close(rt, seats)
 }
@@ -140,8 +137,7 @@ fn run_at<'a, N: Name, R: Wait + Abort>(
     call: Call,
     number: u64,
 ) -> Run
-    requires name { unopened ≡ name_of N.registry N.name N.seats }
-    requires named { N.parts ≡ N.seats }
+    requires name { unopened ≡ name_of N.registry N.name N.parts }
     requires number { 1 ≤ number }
 {
     let (desk, mut seats) = open::<N, R>(rt, heap, unopened);
@@ -186,8 +182,7 @@ fn open_at<'a, N: Name, R: Wait>(
     unopened: Unopened<&'a Heap>,
     number: u64,
 ) -> Run
-    requires name { unopened ≡ name_of N.registry N.name N.seats }
-    requires named { N.parts ≡ N.seats }
+    requires name { unopened ≡ name_of N.registry N.name N.parts }
     requires number { 1 ≤ number }
 {
     heap.refuse(number);

@@ -272,8 +272,7 @@ fn export_at<'a, N: Name, R: Threads + Wait + Abort + Sync>(
     wanted: &Wanted,
     number: u64,
 ) -> Run
-    requires name { unopened ≡ name_of N.registry N.name N.seats }
-    requires named { N.parts ≡ N.seats }
+    requires name { unopened ≡ name_of N.registry N.name N.parts }
     requires workers { (1 ≤ workers) × (workers ≤ 16) }
     requires number { 1 ≤ number }
 {

@@ -218,8 +218,7 @@ fn run_at<'a, N: Name + Send + Sync, R: Threads + Wait + Abort + Sync>(
     sums: &[u64],
     number: u64,
 ) -> Run
-    requires name { unopened ≡ name_of N.registry N.name N.seats }
-    requires named { N.parts ≡ N.seats }
+    requires name { unopened ≡ name_of N.registry N.name N.parts }
     requires number { 1 ≤ number }
 {
     let (desk, mut seats) = open::<N, R>(rt, heap, unopened);

@@ -1,4 +1,3 @@
-pub mod ApartLemmas
 pub mod CutLemmas
 pub mod DrawingLemmas
 pub mod EditLemmas
@@ -10,6 +9,7 @@ pub mod PublishedRule
 pub mod RegistryLemmas
 pub mod RunLemmas
 pub mod SeatLemmas
+pub mod ThreadLemmas
 pub mod WriteLemmas
 pub mod ZoneLemmas
 pub mod WorkLemmas

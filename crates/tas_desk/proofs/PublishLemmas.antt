@@ -11,7 +11,7 @@ done_of P Q (Err e) ok v = absurd (true≢false (sym ok))
 pub stayed : {A : Type 0} (x y : PublishedContent A) (ops : List (ChangeContent A)) → y ≡ fold after x ops → ops ≡ [] → y ≡ x
 stayed x y ops is none = is ∙ ap (fold after x) none
 
--- where one change_of is pending, it is made
+-- where one change is pending, it is made
 pub showed : {A : Type 0} (x was y : PublishedContent A) (before ops : List (ChangeContent A)) (op : ChangeContent A) → y ≡ fold after was ops → was ≡ x → ops ≡ before ++ op ∷ [] → before ≡ [] → y ≡ after x op
 showed x was y before ops op is same more none = is ∙ (λ i. fold after (same i) ((more ∙ ap (λ l. l ++ op ∷ []) none) i))
 

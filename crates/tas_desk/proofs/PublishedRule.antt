@@ -82,7 +82,7 @@ merges seat v other w x views h at apart there =
 pub publishes : {A : Type 0} (seat : ℕ) (v : ReaderView A) (x y next : PublishedContent A) → next ≡ y → GoesOn x y → TurnsAt Holds seat v x next Sees
 publishes {A} seat v x y next is on = subst (λ (p : PublishedContent A). TurnsAt Holds seat v x p Sees) (sym is) (turns seat v x y on.registry on.longer on.sound)
 
--- what nothing is changed of goes on
+-- what stays the same goes on
 pub stays : {A : Type 0} (x y : PublishedContent A) → y ≡ x → GoesOn x y
 stays {A} x y is = subst (λ (p : PublishedContent A). GoesOn x p) (sym is) (record { registry = refl; longer = prefix_self x.version.history; sound = λ s. s })
 

@@ -108,15 +108,6 @@ none_parts : (h k : Option Stop) → first_of h k ≡ None → (h ≡ None) × (
 none_parts (Some h) k e = absurd cc
 none_parts None k e = (refl, e)
 
--- no run yet
-pub runs_none : (movie : MovieContent) (zone : List Savestate) (plan : Plan) (end : RunEnd) → end ≡ record { played = 0; stop = None } → AreRunsEnd movie zone plan 0 [] end
-runs_none movie zone plan end ended =
-    rw ended (record {
-      shows = shows_none movie plan.from (first_of_run plan 0) (sym (begins plan));
-      played = λ none. refl;
-      most = omega arith;
-    })
-
 one_sum : (x : ℕ) → sum (x ∷ []) ≡ x
 one_sum x = sum_by-cons (λ (y : ℕ). y) x [] ∙ (let e : x + 0 ≡ x = omega arith in e)
 
@@ -161,13 +152,6 @@ pub runs_more : {A : Type 0} (movie : MovieContent) (zone : List Savestate) (pla
 runs_more {A = A} movie zone plan i runs run front back end is lt here so_far one played stop =
     subst (λ (all_pixmaps : List (List ℕ)). AreRunsEnd movie zone plan (i + 1) all_pixmaps end) (sym (map_more (λ (r : Run A). r.pixmaps) runs i run here))
     (runs_joined movie zone plan i (pixmaps_in (take i runs)) (get_or runs i run).pixmaps front back end is lt so_far one played stop)
-
--- all runs
-pub runs_all : {A : Type 0} (movie : MovieContent) (zone : List Savestate) (plan : Plan) (i : ℕ) (runs : List (Run A)) (end : RunEnd)
-    → i ≡ plan.workers → length runs ≡ plan.workers → AreRunsEnd movie zone plan i (pixmaps_in (take i runs)) end → AreRunsEnd movie zone plan plan.workers (pixmaps_in runs) end
-runs_all {A = A} movie zone plan i runs end last count so_far =
-    subst (λ (xs : List (Run A)). AreRunsEnd movie zone plan plan.workers (pixmaps_in xs) end) (take_all plan.workers runs (omega arith))
-    (subst (λ (n : ℕ). AreRunsEnd movie zone plan n (pixmaps_in (take n runs)) end) last so_far)
 
 -- all runs show all frames
 pub runs_shown : (movie : MovieContent) (zone : List Savestate) (plan : Plan) (all_pixmaps : List (List ℕ)) (end : RunEnd) → IsPlan movie plan → AreRunsEnd movie zone plan plan.workers all_pixmaps end

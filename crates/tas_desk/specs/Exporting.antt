@@ -1,19 +1,32 @@
--- How an export fails (own).
-use Rattle.std.specs.Prelude.{◌≡◌, ℕ, ◌-◌, ◌<◌, List, length, take, Option}
-use Rattle.std.specs.Io.KnownBytes.{Appends}
-use Rattle.tas_movie.specs.Content.{MovieContent}
+-- Parts of an export: the copy of the movie, how its frames fail to be written, and the reply (own).
+use Rattle.std.specs.Prelude.{◌≡◌, ℕ, ◌-◌, ◌≤◌, List, length, Option, Result, Ok, Err}
+use Rattle.tas_movie.specs.Content.{MovieContent, most_inputs}
+use Rattle.tas_desk.specs.declared.export.Exported.{Exported}
+use Rattle.tas_desk.specs.declared.export.ExportError.{ExportError}
+use Rattle.tas_desk.specs.declared.export.ExportError.TheVariants.{Range, Memory, Halted, Write}
 use Rattle.tas_desk.specs.declared.exporting.ExportFault.{ExportFault}
-use Rattle.tas_desk.specs.declared.exporting.ExportFault.TheVariants.{Memory, Halted, Write}
+use Rattle.tas_desk.specs.declared.exporting.ExportFault.TheVariants.{Memory as MemoryFault, Halted as HaltedFault, Write as WriteFault}
 use Rattle.tas_desk.specs.declared.runs.Plan.{Plan}
 use Rattle.tas_desk.specs.Frames.{AllDrawn, IsLeastHalted, pixmaps_of}
-
--- a write failed: only the first bytes went out, and some are missing
-pub record BrokeOff (old new : Option (List ℕ)) (bytes : List ℕ) (written : ℕ) : Type 0 where
-  pub front : Appends old new (take written bytes)
-  pub missing : written < length bytes
+use Rattle.tas_desk.specs.Exports.{IsInRange, BrokeOff}
 
 -- after want of memory and after a halt nothing is written; where something is, no frame is halted
 abbrev pub IsExportFault : MovieContent → Plan → Option (List ℕ) → Option (List ℕ) → ExportFault → Type 0
-IsExportFault movie plan old new Memory = new ≡ old
-IsExportFault movie plan old new (Halted halted) = IsLeastHalted movie plan.from plan.to halted × (new ≡ old)
-IsExportFault movie plan old new (Write written error) = AllDrawn movie plan.from plan.to × BrokeOff old new (pixmaps_of movie plan.from (plan.to - plan.from)) written
+IsExportFault movie plan old new MemoryFault = new ≡ old
+IsExportFault movie plan old new (HaltedFault halted) = IsLeastHalted movie plan.from plan.to halted × (new ≡ old)
+IsExportFault movie plan old new (WriteFault written error) = AllDrawn movie plan.from plan.to × BrokeOff old new (pixmaps_of movie plan.from (plan.to - plan.from)) written
+
+-- a copy of a movie that so many edits made, where it has these frames
+abbrev pub FoundRange : MovieContent → ℕ → ℕ → ℕ → Result (ℕ × MovieContent) ExportError → Type 0
+FoundRange movie edits from to (Ok found) = (found.0 ≡ edits) × (found.1 ≡ movie) × IsInRange (length movie.inputs) from to × (length movie.inputs ≤ most_inputs)
+FoundRange movie edits from to (Err (Range at len)) = (at ≡ edits) × (len ≡ length movie.inputs) × (IsInRange (length movie.inputs) from to → ⊥)
+FoundRange movie edits from to (Err Memory) = IsInRange (length movie.inputs) from to
+FoundRange movie edits from to (Err (Halted at frame halt)) = ⊥
+FoundRange movie edits from to (Err (Write written error)) = ⊥
+
+-- the reply to an export of a movie that so many edits made, by how its frames were written
+abbrev pub end_at : ℕ → Result ℕ ExportFault → Result Exported ExportError
+end_at at (Ok played) = Ok (record { at = at; played = played })
+end_at at (Err MemoryFault) = Err Memory
+end_at at (Err (HaltedFault halted)) = Err (Halted at halted.frame halted.halt)
+end_at at (Err (WriteFault written error)) = Err (Write written error)

@@ -1,18 +1,15 @@
 -- Replies to exports (own).
-use Rattle.std.specs.Prelude.{◌≡◌, ℕ, ◌+◌, ◌-◌, ◌≤◌, List, length, Option, Result, Ok, Err}
+use Rattle.std.specs.Prelude.{◌≡◌, ℕ, ◌+◌, ◌-◌, ◌<◌, ◌≤◌, List, length, take, Option, Result, Ok, Err}
 use Rattle.std.specs.Io.KnownBytes.{Appends}
-use Rattle.tas_movie.specs.Content.{MovieContent, most_inputs}
+use Rattle.tas_movie.specs.Content.{MovieContent}
 use Rattle.tas_green.specs.declared.savestate.Savestate.{Savestate}
 use Rattle.tas_green.specs.Green.{IsMoved}
 use Rattle.tas_desk.specs.declared.export.Exported.{Exported}
 use Rattle.tas_desk.specs.declared.export.ExportError.{ExportError}
 use Rattle.tas_desk.specs.declared.export.ExportError.TheVariants.{Range, Memory, Halted, Write}
-use Rattle.tas_desk.specs.declared.exporting.ExportFault.{ExportFault}
-use Rattle.tas_desk.specs.declared.exporting.ExportFault.TheVariants.{Memory as MemoryFault, Halted as HaltedFault, Write as WriteFault}
 use Rattle.tas_desk.specs.declared.runs.Plan.{Plan}
 use Rattle.tas_desk.specs.Frames.{AllDrawn, IsLeastHalted, pixmaps_of}
 use Rattle.tas_desk.specs.Runs.{costs}
-use Rattle.tas_desk.specs.Exporting.{BrokeOff}
 use Rattle.tas_desk.specs.Zones.{ZoneContent}
 
 -- how many frames one export has at most (own)
@@ -35,6 +32,11 @@ pub record IsExported {A : Type 0} (zone : ZoneContent A) (movie : MovieContent)
   pub moved : IsMoved zone.movie movie zone.states left
   pub cost : played ≡ costs left plan 0 plan.workers
 
+-- a write failed: only the first bytes went out, and some are missing
+pub record BrokeOff (old new : Option (List ℕ)) (bytes : List ℕ) (written : ℕ) : Type 0 where
+  pub front : Appends old new (take written bytes)
+  pub missing : written < length bytes
+
 -- how an export of a movie that so many edits made ends, by a seat with this zone
 abbrev pub IsExport : {A : Type 0} → ZoneContent A → MovieContent → ℕ → Plan → Option (List ℕ) → Option (List ℕ) → Result Exported ExportError → Type 0
 IsExport zone movie edits plan old new (Ok exported) = (exported.at ≡ edits) × IsExported zone movie plan old new exported.played
@@ -42,18 +44,3 @@ IsExport zone movie edits plan old new (Err (Range at len)) = (at ≡ edits) × 
 IsExport zone movie edits plan old new (Err Memory) = IsInRange (length movie.inputs) plan.from plan.to × (new ≡ old)
 IsExport zone movie edits plan old new (Err (Halted at frame halt)) = (at ≡ edits) × IsInRange (length movie.inputs) plan.from plan.to × IsLeastHalted movie plan.from plan.to (record { frame = frame; halt = halt }) × (new ≡ old)
 IsExport zone movie edits plan old new (Err (Write written error)) = IsInRange (length movie.inputs) plan.from plan.to × AllDrawn movie plan.from plan.to × BrokeOff old new (pixmaps_of movie plan.from (plan.to - plan.from)) written
-
--- a copy of a movie that so many edits made, where it has these frames
-abbrev pub FoundRange : MovieContent → ℕ → ℕ → ℕ → Result (ℕ × MovieContent) ExportError → Type 0
-FoundRange movie edits from to (Ok found) = (found.0 ≡ edits) × (found.1 ≡ movie) × IsInRange (length movie.inputs) from to × (length movie.inputs ≤ most_inputs)
-FoundRange movie edits from to (Err (Range at len)) = (at ≡ edits) × (len ≡ length movie.inputs) × (IsInRange (length movie.inputs) from to → ⊥)
-FoundRange movie edits from to (Err Memory) = IsInRange (length movie.inputs) from to
-FoundRange movie edits from to (Err (Halted at frame halt)) = ⊥
-FoundRange movie edits from to (Err (Write written error)) = ⊥
-
--- the reply to an export of a movie that so many edits made, by how its frames were written
-abbrev pub end_at : ℕ → Result ℕ ExportFault → Result Exported ExportError
-end_at at (Ok played) = Ok (record { at = at; played = played })
-end_at at (Err MemoryFault) = Err Memory
-end_at at (Err (HaltedFault halted)) = Err (Halted at halted.frame halted.halt)
-end_at at (Err (WriteFault written error)) = Err (Write written error)

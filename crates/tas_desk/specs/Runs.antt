@@ -21,10 +21,14 @@ cost zone first next = if nat_lt first next then next - nearest first zone else 
 abbrev pub costs : List Savestate → Plan → ℕ → ℕ → ℕ
 costs zone plan i count = sum (map (λ j. cost zone (first_of_run plan j) (first_of_run plan (j + 1))) (range_with_len i count))
 
--- there is a worker, and the frames are in the movie
+-- how many workers an export has at most (own)
+abbrev pub most_workers : ℕ
+most_workers = 16
+
+-- there is a worker, there are not too many, and the frames are in the movie
 pub record IsPlan (movie : MovieContent) (plan : Plan) : Type 0 where
   pub some : 0 < plan.workers
-  pub most : plan.workers ≤ 16
+  pub most : plan.workers ≤ most_workers
   pub order : plan.from ≤ plan.to
   pub within : plan.to ≤ length movie.inputs
   pub few : plan.to ≤ most_inputs

@@ -4,15 +4,18 @@ use mathlib.Core.List.{IsPrefix}
 use Rattle.logbook.specs.Pages.{Book}
 use Rattle.vcs_machine.specs.declared.input.Input.{Input}
 use Rattle.tas_movie.specs.declared.edit.Edit.{Edit}
+use Rattle.tas_movie.specs.Content.{MovieContent}
+use Rattle.tas_movie.specs.declared.edit.EditRefusal.TheVariants.{Place as PlaceRefusal, Long as LongRefusal}
 use Rattle.tas_movie.specs.Edit.{edited}
 use Rattle.tas_desk.specs.declared.entry.Entry.{Entry}
 use Rattle.tas_desk.specs.declared.reader_view.ReaderView.{ReaderView}
 use Rattle.tas_desk.specs.declared.replies.Receipt.{Receipt}
 use Rattle.tas_desk.specs.declared.replies.EditError.{EditError}
+use Rattle.tas_desk.specs.declared.replies.EditError.TheVariants.{Serial, Full, Place, Long, Memory}
 use Rattle.tas_desk.specs.declared.replies.InputError.{InputError}
 use Rattle.tas_desk.specs.declared.replies.InputError.TheVariants.{NoEntry, NoFrame}
 use Rattle.tas_desk.specs.History.{movie_of, entries_of}
-use Rattle.tas_desk.specs.Answers.{answer_input}
+use Rattle.tas_desk.specs.Answers.{answer_edit, answer_input}
 use Rattle.tas_desk.specs.Session.{refusal_at, IsEditError}
 use Rattle.tas_desk.specs.Published.{KnowsRegistry}
 use Rattle.tas_desk.specs.declared.replies.Shot.{Shot}
@@ -27,7 +30,7 @@ pub record SeatContent (A : Type 0) : Type 0 where
   pub front : List (Entry A)
   pub zone : ZoneContent A
 
--- a desk that isn't open yet: the registry of its history's versions, the ledger, and the number of its seats
+-- a desk that isn't open yet: the registry of its history's versions, the ledger, and how many seats it is to have
 pub record UnopenedContent : Type 0 where
   pub registry : Book
   pub ledger : ℕ
@@ -63,10 +66,20 @@ pub record HasSeen {A : Type 0} (before now : SeatContent A) : Type 0 where
   pub made : now.made ≡ before.made
   pub begins : IsPrefix before.front now.front
 
--- a call that leaves the seat's greenzone as it was
-pub record HasLooked {A : Type 0} (before now : SeatContent A) : Type 0 where
+-- the same of a call that leaves the seat's greenzone as it was
+pub record KeepsZone {A : Type 0} (before now : SeatContent A) : Type 0 where
   pub seen : HasSeen before now
   pub zone : now.zone ≡ before.zone
+
+-- what an answer to an edit says of a movie: a receipt's length, and the refusals `Place` and `Long`, are the answer of a session
+-- that has this movie alone; the other errors say nothing of it
+abbrev pub AnswersEdit : {A : Type 0} → MovieContent → Edit A → Result Receipt EditError → Type 0
+AnswersEdit movie edit (Ok receipt) = answer_edit movie edit ≡ Ok receipt.len
+AnswersEdit movie edit (Err (Place at place len)) = answer_edit movie edit ≡ Err (PlaceRefusal place len)
+AnswersEdit movie edit (Err (Long at len)) = answer_edit movie edit ≡ Err (LongRefusal len)
+AnswersEdit movie edit (Err (Serial at counted)) = Unit {0}
+AnswersEdit movie edit (Err (Full at)) = Unit {0}
+AnswersEdit movie edit (Err Memory) = Unit {0}
 
 -- the answer to an edit that was made or not: it is given at a history that begins with what the seat had seen. Where it
 -- was made, the seat's front is this history and the edit, else this history
@@ -75,6 +88,7 @@ pub record IsEdited {A : Type 0} (before now : SeatContent A) (edit : Edit A) (a
   pub begins : IsPrefix before.front at
   pub receipt : MatchResult answer (λ receipt. receipt ≡ record { at = length at + 1; len = length (edited (movie_of at) edit).inputs }) (λ _. Unit {0})
   pub refusal : MatchResult answer (λ _. refusal_at at before.number before.made edit ≡ None) (IsEditError (refusal_at at before.number before.made edit))
+  pub answered : AnswersEdit (movie_of at) edit answer
   pub seat : MatchResult answer
       (λ _. now ≡ seat_of before.number (before.made + 1) (at ++ entry_of before.number before.made edit ∷ []) before.zone)
       (λ _. now ≡ seat_of before.number before.made at before.zone)

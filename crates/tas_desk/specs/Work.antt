@@ -33,7 +33,7 @@ pub record IsTaken (movie : MovieContent) (batch : BatchContent) (offered : Offe
   pub gained : length now ≡ length before + offered.kept
   pub lawful_now : IsLawful movie now
 
--- no more jobs are stale than were run, and each that isn't gained at most all states of a zone
+-- no more jobs are stale than were run, and each of the others gained at most as many states as a zone has
 pub record IsTally (worked : Worked) : Type 0 where
   pub stale : worked.stale ≤ worked.jobs
   pub kept : worked.kept + most_states * worked.stale ≤ most_states * worked.jobs

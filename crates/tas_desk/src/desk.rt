@@ -2,16 +2,19 @@
 //!
 //! Each call that takes a seat gives it back with its number, and with a front, the history that the seat has now seen, which
 //! begins with the one that it had seen before. In every reply `at` is the length of this front.
+//!
+//! What is said of the kept states under the lock, of gates and of threads no clause can say; docs/PROOFS.md lists it.
 
 ghost use Rattle.std.specs.Prelude.{◌≡◌, ◌≢◌, ◌↔◌, ◌⊎◌, ℕ, ◌+◌, ◌<◌, ◌≤◌, ◌==◌, [], length, slice_get, Some, count_by, IsTrue, IfOk, IfErr, Err, MatchResult, All};
 ghost use Rattle.tas_desk.specs.declared.replies.OfferError.TheVariants.{Cartridge, Memory};
 ghost use Rattle.tas_desk.specs.declared.replies.OpenError.TheVariants.{Memory as OutOfMemory};
+ghost use Rattle.tas_desk.specs.Answers.{answer_len};
 ghost use Rattle.tas_desk.specs.History.{movie_of, IsLegal};
 ghost use Rattle.tas_desk.specs.Shots.{IsShotAt};
 ghost use Rattle.tas_desk.specs.Zones.{IsShared, IsShort, blank_zone};
 ghost use Rattle.tas_green.specs.Grid.{most_states};
 ghost use Rattle.tas_desk.specs.Closing.{made_by};
-ghost use Rattle.tas_desk.specs.Seats.{name_of, seat_of, HasSeen, HasLooked, IsZoneShot, IsEdited, IsWhole, IsSettled, IsInput};
+ghost use Rattle.tas_desk.specs.Seats.{name_of, seat_of, HasSeen, KeepsZone, IsZoneShot, IsEdited, IsWhole, IsSettled, IsInput};
 ghost use Rattle.tas_desk.specs.Work.{IsJobOf, IsTaken};
 
 use crate::locked_session::{CloseOnDrop, LockedSession};
@@ -66,19 +69,29 @@ impl<A: Allocator + Copy> Unopened<A> {
     }
 }
 
-/// A desk: a session behind a lock, whose movie each seat reads without the lock (own).
+/// A desk: a session behind a lock, whose movie each seat reads without the lock (own). Contracts see nothing of it; the type keeps
+/// that it has as many seats as its ledger has parts.
 #[derive(Drop)]
 pub struct Desk<N: Name, W: CloseOnDrop, A: Allocator = Global> {
     pub(crate) locked: Mutex<LockedSession<N, W, A>>,
     seats: u32,
-    pub ghost named: { seats ≡ N.seats },
+}
+
+impl<N: Name, W: CloseOnDrop, A: Allocator> Model for Desk<N, W, A> {
+    ghost use Rattle.std.specs.Prelude.{◌≡◌};
+
+    ghost Value = { Unit {0} };
+
+    ghost view = { λ d. tt };
+
+    ghost invariant = { λ d. d.seats ≡ N.parts };
 }
 
 impl<N: Name, W: CloseOnDrop, A: Allocator> Desk<N, W, A> {
     /// Lets two seats see one history, and answers its length: how many edits it has.
     pub fn meet<R: Wait>(&self, rt: &R, one: &mut Seat<N, A>, other: &mut Seat<N, A>) -> u64
-        ensures one { HasLooked one.old one.new }
-        ensures other { HasLooked other.old other.new }
+        ensures one { KeepsZone one.old one.new }
+        ensures other { KeepsZone other.old other.new }
         ensures same { one.new.front ≡ other.new.front }
         ensures at { result ≡ length one.new.front }
     {
@@ -90,8 +103,8 @@ impl<N: Name, W: CloseOnDrop, A: Allocator> Desk<N, W, A> {
     /// How many edits there are, and how many inputs. It waits for nobody. `NoEntry`, where the seat's reader got no entry,
     /// leaves the seat as it was.
     pub fn len(&self, seat: &mut Seat<N, A>) -> Result<(u64, usize), NoEntry>
-        ensures seat { HasLooked seat.old seat.new }
-        ensures reply { MatchResult result (λ p. (p.0 ≡ length seat.new.front) × (p.1 ≡ length (movie_of seat.new.front).inputs)) (λ _. seat.new ≡ seat.old) }
+        ensures seat { KeepsZone seat.old seat.new }
+        ensures reply { MatchResult result (λ p. (p.0 ≡ length seat.new.front) × (p.1 ≡ answer_len (movie_of seat.new.front))) (λ _. seat.new ≡ seat.old) }
     {
         seat.len()
     }
@@ -99,7 +112,7 @@ impl<N: Name, W: CloseOnDrop, A: Allocator> Desk<N, W, A> {
     /// The number of edits, and the input of frame `k`, counted from 0. It waits for nobody. `NoFrame` comes exactly where the
     /// movie isn't that long; `NoEntry` leaves the seat as it was.
     pub fn input(&self, seat: &mut Seat<N, A>, k: usize) -> Result<(u64, Input), InputError>
-        ensures seat { HasLooked seat.old seat.new }
+        ensures seat { KeepsZone seat.old seat.new }
         ensures reply { IsInput seat.old seat.new k result }
     {
         seat.input(k)
@@ -107,7 +120,7 @@ impl<N: Name, W: CloseOnDrop, A: Allocator> Desk<N, W, A> {
 
     /// Whether these are all seats of the desk: the numbers from 0 on, each once, and no others.
     pub fn whole(&self, seats: &[Seat<N, A>]) -> bool
-        ensures { IsTrue result ↔ IsWhole N.seats seats.now }
+        ensures { IsTrue result ↔ IsWhole N.parts seats.now }
     {
         if seats.len() != self.seats as usize || !below(seats, self.seats) {
             return false;
@@ -123,8 +136,7 @@ impl<N: Name, W: CloseOnDrop, A: Allocator> Desk<N, W, A> {
     /// Ends the desk, with all its seats, for which [`Desk::whole`] is the test. It answers the movie and the history that made it,
     /// in which each seat has just as many entries as edits that it made, and nobody else has any.
     pub fn close<R: Wait>(self, rt: &R, seats: Vec<Seat<N, A>, A>) -> Closed<A>
-        requires named { N.parts ≡ N.seats }
-        requires whole { IsWhole N.seats seats.items }
+        requires whole { IsWhole N.parts seats.items }
         ensures movie { result.movie ≡ movie_of result.journal.items }
         ensures legal { IsLegal result.journal.items }
         ensures count { length result.journal.items ≡ made_by seats.items }
@@ -145,8 +157,7 @@ impl<N: Name, W: CloseOnDrop + Wait, A: Allocator + Copy> Desk<N, W, A> {
         alloc: A,
         unopened: Unopened<A>,
     ) -> Result<(Desk<N, W, A>, Vec<Seat<N, A>, A>), OpenError>
-        requires name { unopened ≡ name_of N.registry N.name N.seats }
-        requires named { N.parts ≡ N.seats }
+        requires name { unopened ≡ name_of N.registry N.name N.parts }
         ensures seats { IfOk result (λ opened. length opened.1.items ≡ unopened.seats) }
         ensures fresh { IfOk result (λ opened. (k : ℕ) → k < unopened.seats → slice_get opened.1.items k ≡ Some (seat_of k 0 [] (blank_zone N.registry))) }
     {
@@ -225,7 +236,7 @@ impl<N: Name, W: CloseOnDrop, A: Allocator + Copy> Desk<N, W, A> {
         seat: &mut Seat<N, A>,
         near: usize,
     ) -> Result<Job<B>, AllocError>
-        ensures seat { HasLooked seat.old seat.new }
+        ensures seat { KeepsZone seat.old seat.new }
         ensures job { IfOk result (IsJobOf (movie_of seat.new.front) near) }
     {
         self.locked.lock(rt).job(rt, alloc, seat, near)
@@ -241,7 +252,7 @@ impl<N: Name, W: CloseOnDrop, A: Allocator + Copy> Desk<N, W, A> {
         seat: &mut Seat<N, A>,
         batch: Batch<B>,
     ) -> Result<Offered, OfferError<B>>
-        ensures seat { HasLooked seat.old seat.new }
+        ensures seat { KeepsZone seat.old seat.new }
         ensures cartridge { (result ≡ Err (Cartridge (length seat.new.front))) ↔ (batch.cart ≢ (movie_of seat.new.front).cart) }
         ensures error { IfErr result (λ error. (error ≡ Cartridge (length seat.new.front)) ⊎ (error ≡ Memory batch)) }
         ensures at { IfOk result (λ offered. offered.at ≡ length seat.new.front) }
@@ -252,7 +263,7 @@ impl<N: Name, W: CloseOnDrop, A: Allocator + Copy> Desk<N, W, A> {
     }
 }
 
-// Whether each seat's number is below n.
+/// Whether each seat's number is below `n`.
 fn below<N: Name, A: Allocator>(seats: &[Seat<N, A>], n: u32) -> bool
     ensures { IsTrue result ↔ All (λ s. s.number < n) seats.now }
 {
@@ -264,7 +275,7 @@ fn below<N: Name, A: Allocator>(seats: &[Seat<N, A>], n: u32) -> bool
     true
 }
 
-// How many seats have this number.
+/// How many seats have this number.
 fn times<N: Name, A: Allocator>(seats: &[Seat<N, A>], k: u32) -> usize
     ensures { result ≡ count_by (λ s. s.number == k) seats.now }
 {

@@ -2,10 +2,10 @@
 
 ghost use Rattle.std.specs.Prelude.{◌≡◌, ◌↔◌, ◌≤◌, IsTrue, IfOk, IfErr, length};
 ghost use Rattle.tas_desk.specs.History.{movie_of};
-ghost use Rattle.tas_desk.specs.Seats.{HasLooked};
-ghost use Rattle.tas_desk.specs.Runs.{IsPlan};
-ghost use Rattle.tas_desk.specs.Exporting.{IsExportFault};
-ghost use Rattle.tas_desk.specs.Exports.{IsInRange, IsExported, IsExport, end_at as end_of};
+ghost use Rattle.tas_desk.specs.Seats.{KeepsZone};
+ghost use Rattle.tas_desk.specs.Runs.{most_workers, IsPlan};
+ghost use Rattle.tas_desk.specs.Exporting.{IsExportFault, end_at as end_of};
+ghost use Rattle.tas_desk.specs.Exports.{IsInRange, IsExported, IsExport};
 
 use crate::exporting::{ExportFault, export_frames};
 use crate::locked_session::CloseOnDrop;
@@ -21,6 +21,9 @@ use vcs_cpu::Halt;
 
 /// How many frames one export has at most (own).
 pub const MAX_EXPORT: usize = 1024;
+
+/// How many workers one export has at most (own).
+pub const MAX_WORKERS: usize = 16;
 
 /// Frames were written (own).
 #[derive(Clone, Copy, Debug, PartialEq, Eq)]
@@ -72,11 +75,12 @@ impl<N: Name, W: CloseOnDrop, A: Allocator + Copy> Desk<N, W, A> {
     /// Writes the portable pixmaps of the frames from `from` to the one before `to`, one after the other. The movie is
     /// copied under the lock. The frames are split into `workers` runs in order, which are played and made into pixmaps
     /// outside it, each on a thread of its own, which passes the gate first; a run starts from the nearest state of the
-    /// seat's zone that a cut for the movie would leave. Nothing is written before all pixmaps are there: their room, 100,815
+    /// seat's zone that a cut for the movie would leave. A run whose thread can't be started passes its gate and is played by
+    /// the calling thread, last. Nothing is written before all pixmaps are there: their room, 100,815
     /// bytes a frame and so 103 MB for 1,024, is asked for before the first frame is played, all of it from `alloc`. The seat's
     /// zone isn't changed, nor is the history.
     ///
-    /// `workers` is 1 to 16; the caller shows it. `Range` comes first, where the movie hasn't these frames or they are more
+    /// `workers` is 1 to [`MAX_WORKERS`]; the caller shows it. `Range` comes first, where the movie hasn't these frames or they are more
     /// than [`MAX_EXPORT`]; then `Memory`, or `Halted` with the least halted frame. Nothing was written then. `Write` tells
     /// how many bytes had gone out.
     pub fn export<
@@ -95,8 +99,8 @@ impl<N: Name, W: CloseOnDrop, A: Allocator + Copy> Desk<N, W, A> {
         gate: &G,
         out: &mut O,
     ) -> Result<Exported, ExportError>
-        requires { (1 ≤ workers) × (workers ≤ 16) }
-        ensures seat { HasLooked seat.old seat.new }
+        requires { (1 ≤ workers) × (workers ≤ most_workers) }
+        ensures seat { KeepsZone seat.old seat.new }
         ensures reply { IsExport seat.old.zone (movie_of seat.new.front) (length seat.new.front) (record { from = from; to = to; workers = workers }) (O.contents out.old) (O.contents out.new) result }
     {
         let found = self.locked.lock(rt).copy(rt, alloc, seat, from, to);

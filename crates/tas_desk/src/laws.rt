@@ -2,12 +2,15 @@
 
 ghost use Rattle.std.specs.Prelude.{◌≡◌};
 ghost use Rattle.tas_desk.specs.declared.session.TheConstants.{MAX_EDITS};
-ghost use Rattle.tas_desk.specs.declared.export.TheConstants.{MAX_EXPORT};
+ghost use Rattle.tas_desk.specs.declared.export.TheConstants.{MAX_EXPORT, MAX_WORKERS};
 ghost use Rattle.tas_desk.specs.History.{most_edits};
 ghost use Rattle.tas_desk.specs.Exports.{most_exported};
+ghost use Rattle.tas_desk.specs.Runs.{most_workers};
 
-/// The limits are those of the definitions: 1,000,000 edits of a history, 1,024 frames of an export (own).
+/// The limits are those of the definitions: 1,000,000 edits of a history, 1,024 frames and 16 workers of
+/// an export (own).
 pub fn limits_are_exact()
     ensures edits { MAX_EDITS ≡ most_edits }
     ensures export { MAX_EXPORT ≡ most_exported }
+    ensures workers { MAX_WORKERS ≡ most_workers }
 {}

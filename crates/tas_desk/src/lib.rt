@@ -2,7 +2,6 @@
 //! seats, which read without waiting.
 #![tactic(auto)]
 
-mod apart;
 mod counts;
 mod desk;
 mod drawing;
@@ -24,13 +23,14 @@ mod seat;
 mod seat_zone;
 mod seating;
 mod session;
+mod threads;
 mod version;
 mod work;
 mod writing;
 
 pub use desk::{Desk, Unopened};
 pub use entry::Entry;
-pub use export::{ExportError, Exported, MAX_EXPORT};
+pub use export::{ExportError, Exported, MAX_EXPORT, MAX_WORKERS};
 pub use laws::limits_are_exact;
 pub use locked_session::CloseOnDrop;
 pub use name::Name;

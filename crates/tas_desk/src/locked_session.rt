@@ -7,11 +7,11 @@ ghost use Rattle.tas_desk.specs.declared.replies.OfferError.TheVariants.{Cartrid
 ghost use Rattle.tas_desk.specs.History.{movie_of, entries_of, IsLegal};
 ghost use Rattle.tas_desk.specs.Session.{refusal_at, IsEditError};
 ghost use Rattle.tas_desk.specs.Zones.{IsShared};
-ghost use Rattle.tas_desk.specs.Exports.{FoundRange};
+ghost use Rattle.tas_desk.specs.Exporting.{FoundRange};
 ghost use Rattle.tas_desk.specs.Work.{IsJobOf, IsTaken};
 ghost use Rattle.tas_green.specs.Grid.{most_states};
 ghost use Rattle.tas_desk.specs.Closing.{made_by};
-ghost use Rattle.tas_desk.specs.Seats.{seat_of, entry_of, IsWhole, IsSettled};
+ghost use Rattle.tas_desk.specs.Seats.{seat_of, entry_of, IsWhole, IsSettled, AnswersEdit};
 
 use crate::export::{ExportError, is_in_range};
 use crate::{Closed, EditError, Entry, Name, OfferError, Offered, Receipt, Seat, Session};
@@ -96,8 +96,7 @@ impl<N: Name, W: CloseOnDrop, A: Allocator> LockedSession<N, W, A> {
 
     /// Ends the session, with all seats.
     pub fn close<R: Wait>(self, rt: &R, seats: Vec<Seat<N, A>, A>) -> Closed<A>
-        requires named { N.parts ≡ N.seats }
-        requires whole { IsWhole N.seats seats.items }
+        requires whole { IsWhole N.parts seats.items }
         ensures journal { result.journal.items ≡ self }
         ensures movie { result.movie ≡ movie_of self }
         ensures legal { IsLegal self }
@@ -120,7 +119,7 @@ impl<N: Name, W: CloseOnDrop, A: Allocator> LockedSession<N, W, A> {
     }
 }
 
-// Joins a seat's share to the others, once the seat has seen the whole history.
+/// Joins a seat's share to the others, once the seat has seen the whole history.
 fn join_seat<N: Name, A: Allocator, R: Wait>(
     rt: &R,
     session: &Session<A>,
@@ -155,6 +154,7 @@ impl<N: Name, W: CloseOnDrop, A: Allocator + Copy> LockedSession<N, W, A> {
         ensures begins { IsPrefix seat.old.front self.old }
         ensures receipt { IfOk result (λ receipt. receipt ≡ record { at = length self.old + 1; len = length (edited (movie_of self.old) edit).inputs }) }
         ensures refusal { MatchResult result (λ _. refusal_at self.old seat.old.number seat.old.made edit ≡ None) (IsEditError (refusal_at self.old seat.old.number seat.old.made edit)) }
+        ensures answered { AnswersEdit (movie_of self.old) edit result }
         ensures journal { MatchResult result (λ _. self.new ≡ self.old ++ entry_of seat.old.number seat.old.made edit ∷ []) (λ _. self.new ≡ self.old) }
         ensures seat { MatchResult result (λ _. seat.new ≡ seat_of seat.old.number (seat.old.made + 1) self.new seat.old.zone) (λ _. seat.new ≡ seat_of seat.old.number seat.old.made self.new seat.old.zone) }
     {

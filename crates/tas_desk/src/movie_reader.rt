@@ -105,7 +105,7 @@ impl<A: Allocator + Copy> MovieReader<A> {
     }
 }
 
-// Reads how long the movie is.
+/// Reads how long the movie is.
 fn look_len<A: Allocator>(reader: RuledReader<A>) -> (RuledReader<A>, Result<(u64, usize), NoEntry>)
     ensures { FoundLen (view reader.place) (view result.0.place) result.1 }
 {
@@ -119,7 +119,7 @@ fn look_len<A: Allocator>(reader: RuledReader<A>) -> (RuledReader<A>, Result<(u6
     }
 }
 
-// Reads an input.
+/// Reads an input.
 fn look_input<A: Allocator>(
     reader: RuledReader<A>,
     k: usize,
@@ -140,7 +140,7 @@ fn look_input<A: Allocator>(
     }
 }
 
-// Copies the movie, where it has a frame `k` and its history isn't the known one.
+/// Copies the movie, where it has a frame `k` and its history isn't the known one.
 fn look_copy<A: Allocator + Copy>(
     reader: RuledReader<A>,
     alloc: A,

@@ -13,7 +13,7 @@ use vcs_cpu::Halt;
 use vcs_machine::{Meter, State, play};
 use vcs_tia::{Picture, ppm};
 
-/// How many bytes the pixmap of a picture has.
+/// How many bytes the pixmap of a picture has: a header of 15 bytes and three for each of 160 by 210 pixels.
 const PIXMAP_SIZE: usize = 100_815;
 
 /// A frame in which the machine is halted.

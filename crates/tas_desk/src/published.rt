@@ -115,7 +115,7 @@ impl<A: Allocator> PublishedMovie<A> {
     }
 }
 
-// Makes an edit where it is allowed; one that isn't changes nothing, as in the history's movie.
+/// Makes an edit where it is allowed; one that isn't changes nothing, as in the history's movie.
 fn apply_if_allowed<A: Allocator>(movie: &mut Movie<A>, edit: &Edit<A>)
     ensures { movie.new ≡ edited movie.old edit.now }
 {

@@ -71,7 +71,7 @@ where
     ghost invariant = { λ p. IsCurrent p.writer.desk.shown.value (drop p.writer.behind p.writer.log.items) p.latest.registry p.journal.items (known_by p.writer.desk.place).seen };
 }
 
-// A writer of the blank movie, of the empty history that has this version, with places for so many readers.
+/// A writer of the blank movie, of the empty history that has this version, with places for so many readers.
 fn new_writer<A: Allocator + Copy>(
     alloc: A,
     readers: usize,
@@ -93,7 +93,7 @@ fn new_writer<A: Allocator + Copy>(
     )
 }
 
-// Makes the next version, of this history. Only the session numbers histories, so the first try is the one that does it.
+/// Makes the next version, of this history. Only the session numbers histories, so the first try is the one that does it.
 fn renew<A: Allocator, R: Wait>(rt: &R, latest: &mut LatestVersion<A>, journal: &Vec<Entry<A>, A>)
     ensures { latest.new ≡ version_of latest.old.registry journal.now.items }
 {
@@ -105,7 +105,7 @@ fn renew<A: Allocator, R: Wait>(rt: &R, latest: &mut LatestVersion<A>, journal: 
     unreachable!()
 }
 
-// Adds an entry to a journal, and answers a second copy of its edit. Where a growth is refused the journal is as it was.
+/// Adds an entry to a journal, and answers a second copy of its edit. Where a growth is refused the journal is as it was.
 fn add_entry<A: Allocator + Copy>(
     journal: &mut Vec<Entry<A>, A>,
     next: Entry<A>,
@@ -118,14 +118,14 @@ fn add_entry<A: Allocator + Copy>(
     Ok(edit)
 }
 
-// Takes the last entry out of a journal again.
+/// Takes the last entry out of a journal again.
 fn take_back<A: Allocator>(journal: &mut Vec<Entry<A>, A>)
     ensures { (before : List (Entry A)) (last : Entry A) → journal.old.items ≡ before ++ last ∷ [] → journal.new.items ≡ before }
 {
     journal.pop();
 }
 
-// Publishes what is pending, by value, so that the writer has seen what is published.
+/// Publishes what is pending, by value, so that the writer has seen what is published.
 fn publish<A: Allocator, R: Wait>(writer: MovieWriter<A>, rt: &R) -> MovieWriter<A>
     requires { GoesOn writer.desk.shown.value (fold after writer.desk.shown.value (drop writer.behind writer.log.items)) }
     ensures none { drop result.behind result.log.items ≡ [] }
@@ -136,7 +136,7 @@ fn publish<A: Allocator, R: Wait>(writer: MovieWriter<A>, rt: &R) -> MovieWriter
     writer
 }
 
-// Publishes one change, by value. Its only growth comes first: where that is refused nothing is published.
+/// Publishes one change, by value. Its only growth comes first: where that is refused nothing is published.
 fn publish_edit<A: Allocator, R: Wait>(
     writer: MovieWriter<A>,
     rt: &R,
@@ -155,7 +155,7 @@ fn publish_edit<A: Allocator, R: Wait>(
     (publish(writer, rt), Ok(()))
 }
 
-// A reader that has seen what is published, or an error where there is no place for it.
+/// A reader that has seen what is published, or an error where there is no place for it.
 fn make_reader<A: Allocator, R: Wait>(
     writer: MovieWriter<A>,
     rt: &R,
@@ -208,7 +208,7 @@ impl<A: Allocator + Copy> Publisher<A> {
         )
     }
 
-    // As [`Publisher::push`], by value, since the writer publishes by value.
+    /// As [`Publisher::push`], by value, since the writer publishes by value.
     fn pushed<R: Wait>(self, rt: &R, next: Entry<A>) -> (Publisher<A>, Result<(), AllocError>)
         requires { IsNextEntry self.journal next }
         ensures done { OnOk result.1 (result.0 ≡ record { registry = self.registry; journal = self.journal ++ next ∷ []; movie = edited self.movie next.edit }) }
@@ -248,7 +248,7 @@ impl<A: Allocator + Copy> Publisher<A> {
 }
 
 impl<A: Allocator> Publisher<A> {
-    // A reader under the rule that has seen the history.
+    /// A reader under the rule that has seen the history.
     fn ruled_reader<R: Wait>(&mut self, rt: &R) -> Result<RuledReader<A>, AllocError>
         ensures same { self.new ≡ self.old }
         ensures view { IfOk result (λ r. view r.place ≡ view_of (version_of self.old.registry self.old.journal)) }
@@ -269,8 +269,8 @@ impl<A: Allocator> Publisher<A> {
         )
     }
 
-    // Lets a reader enter until it sees the version that this publisher published last. While the publisher is lent nobody
-    // publishes, so its first entry does.
+    /// Lets a reader enter until it sees the version that this publisher published last. While the publisher is lent nobody
+    /// publishes, so its first entry does.
     fn read_latest<R: Wait>(&self, rt: &R, reader: RuledReader<A>) -> RuledReader<A>
         requires { KnowsRegistry (view reader.place) self.now.registry }
         ensures seen { view result.place ≡ view_of (version_of self.now.registry self.now.journal) }

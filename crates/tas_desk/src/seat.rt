@@ -4,10 +4,11 @@ ghost use Rattle.std.specs.Prelude.{◌≡◌, ◌≤◌, length, is_some, Match
 ghost use Rattle.tas_green.specs.Grid.{most_states};
 ghost use Rattle.tas_green.specs.Zone.{state_at};
 ghost use Rattle.tas_desk.specs.Shots.{IsShotAt};
+ghost use Rattle.tas_desk.specs.Answers.{answer_len};
 ghost use Rattle.tas_desk.specs.History.{movie_of};
 ghost use Rattle.tas_desk.specs.Published.{KnowsRegistry};
 ghost use Rattle.tas_desk.specs.Zones.{IsShort};
-ghost use Rattle.tas_desk.specs.Seats.{seat_of, HasSeen, HasLooked, IsInput, IsZoneShot};
+ghost use Rattle.tas_desk.specs.Seats.{seat_of, HasSeen, KeepsZone, IsInput, IsZoneShot};
 
 use crate::movie_reader::MovieReader;
 use crate::seat_zone::SeatZone;
@@ -39,6 +40,7 @@ impl<N: Name, A: Allocator> Model for Seat<N, A> {
 }
 
 impl<N: Name, A: Allocator> Seat<N, A> {
+    /// A seat that has made nothing, with one part of the ledger.
     pub(crate) fn new(
         number: u32,
         share: Share<N>,
@@ -91,15 +93,15 @@ impl<N: Name, A: Allocator> Seat<N, A> {
 
     /// How many edits there are, and how many inputs.
     pub(crate) fn len(&mut self) -> Result<(u64, usize), NoEntry>
-        ensures seat { HasLooked self.old self.new }
-        ensures reply { MatchResult result (λ p. (p.0 ≡ length self.new.front) × (p.1 ≡ length (movie_of self.new.front).inputs)) (λ _. self.new ≡ self.old) }
+        ensures seat { KeepsZone self.old self.new }
+        ensures reply { MatchResult result (λ p. (p.0 ≡ length self.new.front) × (p.1 ≡ answer_len (movie_of self.new.front))) (λ _. self.new ≡ self.old) }
     {
         self.reader.len()
     }
 
     /// The input of frame `k`.
     pub(crate) fn input(&mut self, k: usize) -> Result<(u64, Input), InputError>
-        ensures seat { HasLooked self.old self.new }
+        ensures seat { KeepsZone self.old self.new }
         ensures reply { IsInput self.old self.new k result }
     {
         self.reader.input(k)

@@ -136,8 +136,8 @@ impl<A: Allocator> Version<A> {
         true
     }
 
-    // Becomes the version of this history, under the next number, and says whether it did: not where another one has that
-    // number already, which is taken in then, nor where numbers run out.
+    /// Becomes the version of this history, under the next number, and says whether it did: not where another one has that
+    /// number already, which is taken in then, nor where numbers run out.
     fn try_renew(
         &mut self,
         counter: &Word<LinkedList<Entry<A>, A>, u64, VersionRule>,

@@ -2,7 +2,7 @@
 
 ghost use Rattle.std.specs.Prelude.{◌≡◌, ◌+◌, ◌<◌, ◌≤◌, ◌^◌, length, IfOk, IfSome};
 ghost use Rattle.tas_green.specs.Grid.{most_states};
-ghost use Rattle.tas_desk.specs.Seats.{HasLooked};
+ghost use Rattle.tas_desk.specs.Seats.{KeepsZone};
 ghost use Rattle.tas_desk.specs.Work.{IsTally, IsWorked};
 
 use crate::locked_session::CloseOnDrop;
@@ -13,8 +13,8 @@ use thiserror::Error;
 
 /// Where work may be held up, outside the lock (own).
 pub trait Gate {
-    /// Comes back when this piece may go on: the index of a target in [`Desk::work`], the number of a worker's frames in
-    /// [`Desk::export`], counted from 0.
+    /// Comes back when this piece may go on: the index of a target in [`Desk::work`], of a worker's run of frames in
+    /// [`Desk::export`], each counted from 0.
     fn pass(&self, piece: usize);
 }
 
@@ -30,7 +30,7 @@ pub struct Worked {
 }
 
 impl Worked {
-    // What was worked with one job more, which gained so many states, or was of another cartridge than the movie's.
+    /// What was worked with one job more, which gained so many states, or was of another cartridge than the movie's.
     fn and(self, gained: Option<usize>) -> Worked
         requires tally { IsTally self }
         requires room { self.jobs + 1 < 2 ^ 64 }
@@ -78,7 +78,7 @@ impl<N: Name, W: CloseOnDrop, A: Allocator + Copy> Desk<N, W, A> {
         targets: &[usize],
         gate: &G,
     ) -> Result<Worked, WorkError>
-        ensures seat { HasLooked seat.old seat.new }
+        ensures seat { KeepsZone seat.old seat.new }
         ensures reply { IsWorked (length targets.now) result }
     {
         let mut done = Worked {
@@ -95,8 +95,8 @@ impl<N: Name, W: CloseOnDrop, A: Allocator + Copy> Desk<N, W, A> {
         Ok(done)
     }
 
-    // Works the target of this number, for so many frames. Answers how many states were gained, or nothing where the job was
-    // of another cartridge than the movie's.
+    /// Works the target of this number, for so many frames. Answers how many states were gained, or nothing where the job was
+    /// of another cartridge than the movie's.
     fn work_one<G: Gate, B: Allocator + Copy, R: Wait>(
         &self,
         rt: &R,
@@ -106,7 +106,7 @@ impl<N: Name, W: CloseOnDrop, A: Allocator + Copy> Desk<N, W, A> {
         near: usize,
         gate: &G,
     ) -> Result<Option<usize>, AllocError>
-        ensures seat { HasLooked seat.old seat.new }
+        ensures seat { KeepsZone seat.old seat.new }
         ensures few { IfOk result (λ gained. IfSome gained (λ kept. kept ≤ most_states)) }
     {
         let job = match self.job(rt, alloc, seat, near) {

@@ -110,8 +110,7 @@ fn play_at<N: Name + Send + Sync, R: Threads + Wait + Abort + Sync>(
     unopened: Unopened,
     task: Task<'_>,
 ) -> (Closed, Vec<Notes>)
-    requires name { unopened ≡ name_of N.registry N.name N.seats }
-    requires named { N.parts ≡ N.seats }
+    requires name { unopened ≡ name_of N.registry N.name N.parts }
 {
     let (desk, seats) = expect_ok(rt, Desk::<N, &R>::open(rt, alloc, unopened));
     let (seats, notes) = take(rt, alloc, &desk, seats, task);

@@ -73,8 +73,7 @@ fn export_from_desk<N: Name, A: Allocator + Copy + Send + Sync, R: Wait + Thread
     frames: Frames,
     output: &mut W,
 ) -> Result<(), RunFault>
-    requires name { unopened ≡ name_of N.registry N.name N.seats }
-    requires named { N.parts ≡ N.seats }
+    requires name { unopened ≡ name_of N.registry N.name N.parts }
     requires one { unopened.seats ≡ 1 }
     requires workers { (1 ≤ frames.workers) × (frames.workers ≤ 16) }
     ensures { Ends (IsPixmapsAnswer movie.now frames.from frames.to) (W.contents output.old) (W.contents output.new) result }

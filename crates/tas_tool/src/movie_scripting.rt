@@ -44,8 +44,7 @@ fn answer_over<N: Name, A: Allocator + Copy, R: Wait>(
     bytes: &[u8],
     text: &mut Vec<u8, A>,
 ) -> Result<(), RunFault>
-    requires name { unopened ≡ name_of N.registry N.name N.seats }
-    requires named { N.parts ≡ N.seats }
+    requires name { unopened ≡ name_of N.registry N.name N.parts }
     requires one { unopened.seats ≡ 1 }
     requires empty { text.old.items ≡ [] }
     ensures { AnswersOver A movie.now bytes.now text.new.items result }

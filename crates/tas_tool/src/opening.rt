@@ -18,8 +18,7 @@ pub fn open_alone<N: Name, A: Allocator + Copy, R: Wait>(
     alloc: A,
     unopened: Unopened<A>,
 ) -> Result<(Desk<N, &R, A>, Vec<Seat<N, A>, A>), RunFault>
-    requires name { unopened ≡ name_of N.registry N.name N.seats }
-    requires named { N.parts ≡ N.seats }
+    requires name { unopened ≡ name_of N.registry N.name N.parts }
     requires one { unopened.seats ≡ 1 }
     ensures alone { IfOk result (λ opened. length opened.1.items ≡ 1) }
     ensures fresh { IfOk result (λ opened. slice_get opened.1.items 0 ≡ Some (seat_of 0 0 [] (blank_zone N.registry))) }

@@ -65,8 +65,7 @@ fn answer_script<N: Name, A: Allocator + Copy, R: Wait>(
     bytes: &[u8],
     text: &mut Vec<u8, A>,
 ) -> Result<(), RunFault>
-    requires name { unopened ≡ name_of N.registry N.name N.seats }
-    requires named { N.parts ≡ N.seats }
+    requires name { unopened ≡ name_of N.registry N.name N.parts }
     requires one { unopened.seats ≡ 1 }
     requires empty { text.old.items ≡ [] }
     ensures { Answers A start_front bytes.now text.new.items result }

@@ -4,4 +4,4 @@ abbrev pub ghosts-export_from_desk-N-Ledger : goal.ghosts-export_from_desk-N-Led
 ghosts-export_from_desk-N-Ledger g a = record { name = a.unopened.ledger; parts = a.unopened.seats }
 
 abbrev pub ghosts-export_from_desk-N-Name : goal.ghosts-export_from_desk-N-Name
-ghosts-export_from_desk-N-Name g a = record { registry = a.unopened.registry; seats = a.unopened.seats }
+ghosts-export_from_desk-N-Name g a = record { registry = a.unopened.registry }

@@ -11,11 +11,11 @@ answer_made-end-requires-clause-first g c = fresh_first _ _ (first_of c.as_mut_s
 pub answer_made-end-requires-clause-empty : goal.answer_made-end-requires-clause-empty
 answer_made-end-requires-clause-empty g c = c.requires.empty
 
-pub close-requires-clause-whole : goal.close-requires-clause-whole
-close-requires-clause-whole g c =
+pub close-requires : goal.close-requires
+close-requires g c =
     let lent = c.as_mut_slice.ensures in
     let one : length c.as_mut_slice.result.now ≡ 1 = ap (λ l. length l) lent.value ∙ c.in_ok-desk.ensures.alone in
-    whole_alone _ c.answer_made-end.new.seat _ (written_back c.as_mut_slice.result.now _ _ c.answer_made-end.new.seat c.in_ok-desk.seats.len one (sym lent.len ∙ one) refl) (sym (ap (λ u. u.seats) c.requires.name) ∙ c.requires.one) c.answer_made-end.ensures.number
+    record { whole = whole_alone _ c.answer_made-end.new.seat _ (written_back c.as_mut_slice.result.now _ _ c.answer_made-end.new.seat c.in_ok-desk.seats.len one (sym lent.len ∙ one) refl) (sym (ap (λ u. u.seats) c.requires.name) ∙ c.requires.one) c.answer_made-end.ensures.number }
 
 pub returns-in_err-desk : goal.returns-in_err-desk
 returns-in_err-desk g c =

@@ -4,4 +4,4 @@ abbrev pub ghosts-answer_over-N-Ledger : goal.ghosts-answer_over-N-Ledger
 ghosts-answer_over-N-Ledger g a = record { name = a.unopened.ledger; parts = a.unopened.seats }
 
 abbrev pub ghosts-answer_over-N-Name : goal.ghosts-answer_over-N-Name
-ghosts-answer_over-N-Name g a = record { registry = a.unopened.registry; seats = a.unopened.seats }
+ghosts-answer_over-N-Name g a = record { registry = a.unopened.registry }

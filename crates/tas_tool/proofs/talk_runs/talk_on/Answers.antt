@@ -13,11 +13,11 @@ talk_made-end-requires-clause-first g c = fresh_first _ _ (first_of c.as_mut_sli
 pub talk_made-end-requires-clause-zone : goal.talk_made-end-requires-clause-zone
 talk_made-end-requires-clause-zone g c = fresh_zone _ _ (first_of c.as_mut_slice.result.now _ c.index-as_mut_slice-0.result (ap (λ l. slice_get l 0) c.as_mut_slice.ensures.value ∙ c.in_ok-desk.ensures.fresh))
 
-pub close-requires-clause-whole : goal.close-requires-clause-whole
-close-requires-clause-whole g c =
+pub close-requires : goal.close-requires
+close-requires g c =
     let lent = c.as_mut_slice.ensures in
     let one : length c.as_mut_slice.result.now ≡ 1 = ap (λ l. length l) lent.value ∙ c.in_ok-desk.ensures.alone in
-    whole_alone _ c.talk_made-end.new.seat _ (written_back c.as_mut_slice.result.now _ _ c.talk_made-end.new.seat c.in_ok-desk.seats.len one (sym lent.len ∙ one) refl) (sym (ap (λ u. u.seats) c.requires.name) ∙ c.requires.one) c.talk_made-end.ensures.number
+    record { whole = whole_alone _ c.talk_made-end.new.seat _ (written_back c.as_mut_slice.result.now _ _ c.talk_made-end.new.seat c.in_ok-desk.seats.len one (sym lent.len ∙ one) refl) (sym (ap (λ u. u.seats) c.requires.name) ∙ c.requires.one) c.talk_made-end.ensures.number }
 
 pub returns-in_err-desk : goal.returns-in_err-desk
 returns-in_err-desk g c =

@@ -9,4 +9,4 @@ pub loop-k-preserved : goal.loop-k-preserved
 loop-k-preserved g c = once_more c.args.seats.now c.loop-k.k c.loop-k.invariant (let t = c.times.ensures in let b = c.if-times-gt1.false in omega arith)
 
 pub returns : goal.returns
-returns g c = (λ _. whole_of c.args.self.now.seats g.N.Name.seats c.args.seats.now c.loop-k.k c.args.self.now.named c.if-seats-self.false (c.below.ensures.0 c.if-not-below.false) c.loop-k-test.false c.loop-k.invariant, λ _. refl)
+returns g c = (λ _. whole_of _ _ c.args.seats.now c.loop-k.k c.self.invariant c.if-seats-self.false (c.below.ensures.0 c.if-not-below.false) c.loop-k-test.false c.loop-k.invariant, λ _. refl)

@@ -15,13 +15,13 @@ returns-clause-seats g c =
     let left = c.loop-seat.seats.items in
     let none : length left ≡ 0 = omega (arith, c.in_default.ensures.cases.0, c.loop-seat.seats.ok.0) in
     subst (λ (l : List (Entry _)). All (IsSettled l) c.args.seats.items) c.self.view_is
-    (settles _ _ _ _ _ _ c.requires.whole c.loop-seat.invariant (none_left left none) (λ p. c.audit.ensures.whole (p ∙ sym c.requires.named) ∙ c.self.invariant.1))
+    (settles _ _ _ _ _ _ c.requires.whole c.loop-seat.invariant (none_left left none) (λ p. c.audit.ensures.whole p ∙ c.self.invariant.1))
 
 pub returns-clause-count : goal.returns-clause-count
 returns-clause-count g c =
     let left = c.loop-seat.seats.items in
     let none : length left ≡ 0 = omega (arith, c.in_default.ensures.cases.0, c.loop-seat.seats.ok.0) in
-    ap length (sym c.self.view_is) ∙ counts_all _ _ _ _ _ _ c.requires.whole c.loop-seat.invariant (none_left left none) (λ p. c.audit.ensures.whole (p ∙ sym c.requires.named) ∙ c.self.invariant.1)
+    ap length (sym c.self.view_is) ∙ counts_all _ _ _ _ _ _ c.requires.whole c.loop-seat.invariant (none_left left none) (λ p. c.audit.ensures.whole p ∙ c.self.invariant.1)
 
 pub loop-seat-init : goal.loop-seat-init
 loop-seat-init g c = joined_none _ _ _ _ c.self.invariant.2 c.self.invariant.3

@@ -1,5 +1,5 @@
 use Rattle.std.proofs.Common.{vec_len}
-use Rattle.tas_desk.specs.Closing.{Joined}
+use Rattle.tas_desk.proofs.SeatLemmas.{Joined}
 use Rattle.tas_desk.proofs.locked_session.LockedSession.close.Given as goal
 
 abbrev pub invariant-loop-seat : goal.invariant-loop-seat

@@ -8,7 +8,7 @@ use std::thread::{Threads, join_mut};
 
 /// Calls `f` with each item and its place, each on a thread of its own. This thread starts them one after the other, and makes last
 /// the calls whose thread can't be started.
-pub fn for_each_apart<R: Threads + Sync, T: Send, F: Fn(usize, &mut T) + Sync>(
+pub fn for_each_on_threads<R: Threads + Sync, T: Send, F: Fn(usize, &mut T) + Sync>(
     rt: &R,
     items: &mut [T],
     f: &F,
@@ -16,12 +16,12 @@ pub fn for_each_apart<R: Threads + Sync, T: Send, F: Fn(usize, &mut T) + Sync>(
     requires { AcceptsEach F.Fn f.now items.old }
     ensures { ChangesEach F.Fn f.now items.old items.new }
 {
-    apart_from(rt, f, 0, items.len(), items);
+    on_threads_from(rt, f, 0, items.len(), items);
 }
 
 /// The calls with the items from a place on, up to the last one, which stands before `end`.
-#[cycle(apart)]
-fn apart_from<R: Threads + Sync, T: Send, F: Fn(usize, &mut T) + Sync>(
+#[cycle(threads)]
+fn on_threads_from<R: Threads + Sync, T: Send, F: Fn(usize, &mut T) + Sync>(
     rt: &R,
     f: &F,
     at: usize,
@@ -38,7 +38,7 @@ fn apart_from<R: Threads + Sync, T: Send, F: Fn(usize, &mut T) + Sync>(
 }
 
 /// The call with one item, and those with the items behind it.
-#[cycle(apart)]
+#[cycle(threads)]
 fn first_and_others<R: Threads + Sync, T: Send, F: Fn(usize, &mut T) + Sync>(
     rt: &R,
     f: &F,
@@ -61,7 +61,7 @@ fn first_and_others<R: Threads + Sync, T: Send, F: Fn(usize, &mut T) + Sync>(
     let mut back = ||
         requires { IsSync R.row × IsSync F.row × IsSend T.row × (next + length others.now ≡ end) × ((k : ℕ) (d : T) → k < length others.now → AcceptsAt F.Fn f.now (next + k) (slice_index_or others.now k d)) }
         ensures { (k : ℕ) (d : T) → k < length others.entry.now → ChangesAt F.Fn f.entry.now (next + k) (slice_index_or others.entry.now k d) (slice_index_or others.exit.now k d) }
-    { apart_from(rt, f, next, end, others) };
+    { on_threads_from(rt, f, next, end, others) };
     join_mut(rt, &mut front, &mut back);
 }
 

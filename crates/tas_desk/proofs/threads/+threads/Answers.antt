@@ -1,16 +1,16 @@
 use Rattle.std.proofs.Common.{◌≡◌, ◌+◌, List, get_or, subst, rules}
 use Rattle.std.specs.Fork.{AcceptsAt, ChangesAt}
-use Rattle.tas_desk.proofs.ApartLemmas.{allowed_first, allowed_others, left_all}
-use Rattle.tas_desk.proofs.apart.+apart.Goals as goal
+use Rattle.tas_desk.proofs.ThreadLemmas.{allowed_first, allowed_others, left_all}
+use Rattle.tas_desk.proofs.threads.+threads.Goals as goal
 
-pub apart_from-first_and_others-requires-clause-first : goal.apart_from-first_and_others-requires-clause-first
-apart_from-first_and_others-requires-clause-first g t c κs within = allowed_first (AcceptsAt g.F.Fn c.args.f.now) c.args.at c.args.items.now c.in-Some.first.now c.in-Some.others.now c.in-Some.ensures.cases.0 c.requires.accepts
+pub on_threads_from-first_and_others-requires-clause-first : goal.on_threads_from-first_and_others-requires-clause-first
+on_threads_from-first_and_others-requires-clause-first g t c κs within = allowed_first (AcceptsAt g.F.Fn c.args.f.now) c.args.at c.args.items.now c.in-Some.first.now c.in-Some.others.now c.in-Some.ensures.cases.0 c.requires.accepts
 
-pub apart_from-first_and_others-requires-clause-others : goal.apart_from-first_and_others-requires-clause-others
-apart_from-first_and_others-requires-clause-others g t c κs within = allowed_others (AcceptsAt g.F.Fn c.args.f.now) c.args.at c.args.items.now c.in-Some.first.now c.in-Some.others.now c.in-Some.ensures.cases.0 c.requires.accepts
+pub on_threads_from-first_and_others-requires-clause-others : goal.on_threads_from-first_and_others-requires-clause-others
+on_threads_from-first_and_others-requires-clause-others g t c κs within = allowed_others (AcceptsAt g.F.Fn c.args.f.now) c.args.at c.args.items.now c.in-Some.first.now c.in-Some.others.now c.in-Some.ensures.cases.0 c.requires.accepts
 
-pub apart_from-returns-in-Some : goal.apart_from-returns-in-Some
-apart_from-returns-in-Some g t c =
+pub on_threads_from-returns-in-Some : goal.on_threads_from-returns-in-Some
+on_threads_from-returns-in-Some g t c =
     left_all (ChangesAt g.F.Fn c.args.f.now) c.args.at c.args.items.now c.in-Some.first.now c.first_and_others.new.first c.in-Some.others.now c.first_and_others.new.others c.in-Some.ensures.cases.0
     c.first_and_others.ensures.first c.first_and_others.ensures.others
 

@@ -1,8 +1,8 @@
 use Rattle.std.proofs.Common.{◌+◌, ◌-◌, ◌*◌}
-use Rattle.tas_desk.proofs.apart.+apart.Given as goal
+use Rattle.tas_desk.proofs.threads.+threads.Given as goal
 
-abbrev pub decreases-apart_from : goal.decreases-apart_from
-decreases-apart_from g l = 3 * (l.end - l.at)
+abbrev pub decreases-on_threads_from : goal.decreases-on_threads_from
+decreases-on_threads_from g l = 3 * (l.end - l.at)
 
 abbrev pub decreases-first_and_others : goal.decreases-first_and_others
 decreases-first_and_others g l = 3 * (l.end - l.next) + 2
