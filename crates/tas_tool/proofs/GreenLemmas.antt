@@ -18,7 +18,7 @@ use Rattle.tas_script.specs.declared.reply.Reply.{Reply}
 use Rattle.tas_script.specs.declared.reply.Reply.TheVariants.{Drawn, Worked}
 use Rattle.tas_tool.specs.declared.answering.Answered.{Answered}
 use Rattle.tas_tool.specs.Turns.{Front, front_of, BeginsWithOwn}
-use Rattle.tas_tool.specs.Checking.{checked_reply, looked}
+use Rattle.tas_tool.specs.Checking.{checked_end, looked}
 use Rattle.tas_tool.specs.Talk.{Stand, Rests, IsGreen, Plays, Gains, ShotLeaves, CommandLeaves, WorkLeaves}
 use Rattle.tas_tool.specs.Talking.{stand_of, TellsError, IsWorkedZone, IsCommandZone}
 use Rattle.tas_tool.proofs.TurnLemmas.{front_stays, own_movie, own_stays, longer, seen_self, checked_ends}
@@ -92,7 +92,7 @@ unshown_leaves before mid now made k error (Ok reply) own m seen more same zone 
 unshown_leaves before mid now made k error (Err fault) own m seen more same zone shown tells = tt
 
 -- a checked reply, and a fact of it where it stands at just the seat's own edits
-pub checked_fact : (made at : ℕ) (reply : Reply) (r : Result Reply RunFault) (P : Reply → Type 0) → r ≡ checked_reply made at reply → (at ≡ made → P reply) → IfOk r P
+pub checked_fact : (made at : ℕ) (reply : Reply) (r : Result Reply RunFault) (P : Reply → Type 0) → r ≡ checked_end made at (Ok reply) → (at ≡ made → P reply) → IfOk r P
 checked_fact made at reply r P is fact = go r (checked_ends made at reply r P (λ fault. Unit {0}) is fact (λ other. tt))
   where
     go : (x : Result Reply RunFault) → MatchResult x P (λ fault. Unit {0}) → IfOk x P
@@ -104,7 +104,7 @@ pub error_as : (made : ℕ) (error said : ShotError) (r : Result Reply RunFault)
 error_as made error said r is tells = subst (λ (x : ShotError). IfOk r (TellsError made x)) (sym is) tells
 
 pub drawn_leaves : {A : Type 0} (before now : SeatContent A) (made at frame k ran lit : ℕ) (r : Result Reply RunFault) → BeginsWithOwn before → made ≡ before.made → HasSeen before now → at ≡ length now.front
-    → IsPlayed before.zone now.zone now.front k ran → r ≡ checked_reply made at (Drawn at frame ran lit) → IfOk r (ShotLeaves (stand_of before) (stand_of now) k)
+    → IsPlayed before.zone now.zone now.front k ran → r ≡ checked_end made at (Ok (Drawn at frame ran lit)) → IfOk r (ShotLeaves (stand_of before) (stand_of now) k)
 drawn_leaves before now made at frame k ran lit r own m seen here played is =
     checked_fact made at (Drawn at frame ran lit) r (ShotLeaves (stand_of before) (stand_of now) k) is
     (λ (same : at ≡ made). plays_at before now now k ran (own_stays before now own seen) (seen_self now) refl (sym here ∙ same ∙ m ∙ sym seen.made) played)

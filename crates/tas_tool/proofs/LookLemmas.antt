@@ -21,7 +21,7 @@ use Rattle.tas_script.specs.declared.reply.Reply.{Reply}
 use Rattle.tas_script.specs.declared.reply.Reply.TheVariants.{Measured, Pressed, NoFrame, Drawn, Worked, OutOfMemory}
 use Rattle.tas_tool.specs.declared.answering.Answered.{Answered}
 use Rattle.tas_tool.specs.Turns.{Unforeseen, front_of, BeginsWithOwn, IsDeskFault, input_reply, halted_reply, shot_reply, reply_to, front_after, IsTurn}
-use Rattle.tas_tool.specs.Checking.{checked_reply, looked, IsAnswer}
+use Rattle.tas_tool.specs.Checking.{checked_end, looked, IsAnswer}
 use Rattle.tas_tool.proofs.TurnLemmas.{unforeseen, front_stays, own_stays, own_movie, seen_self, first_front, foreign, checked_ends}
 
 -- ---- looks
@@ -57,7 +57,7 @@ length_answer A before now made len own m seen long = record {
 }
 
 pub input_turn : (A : Type 0) (before now : SeatContent A) (made at k : ℕ) (input : Input) (r : Result Reply RunFault) → BeginsWithOwn before → made ≡ before.made → HasSeen before now → at ≡ length now.front
-    → answer_input (movie_of now.front) k ≡ Some input → r ≡ checked_reply made at (Pressed at input) → MatchResult r (λ reply. IsTurn A (front_of before) (InputAt k) reply (front_of now)) (IsDeskFault now)
+    → answer_input (movie_of now.front) k ≡ Some input → r ≡ checked_end made at (Ok (Pressed at input)) → MatchResult r (λ reply. IsTurn A (front_of before) (InputAt k) reply (front_of now)) (IsDeskFault now)
 input_turn A before now made at k input r own m seen here found is =
     checked_ends made at (Pressed at input) r (λ reply. IsTurn A (front_of before) (InputAt k) reply (front_of now)) (IsDeskFault now) is
     (λ (same : at ≡ made).
@@ -66,7 +66,7 @@ input_turn A before now made at k input r own m seen here found is =
     (λ (other : at ≡ made → ⊥). foreign before now made at own seen m here other)
 
 pub no_input_turn : (A : Type 0) (before now : SeatContent A) (made at len k : ℕ) (r : Result Reply RunFault) → BeginsWithOwn before → made ≡ before.made → HasSeen before now → at ≡ length now.front
-    → len ≡ length (movie_of now.front).inputs → len ≤ k → r ≡ checked_reply made at (NoFrame at len) → MatchResult r (λ reply. IsTurn A (front_of before) (InputAt k) reply (front_of now)) (IsDeskFault now)
+    → len ≡ length (movie_of now.front).inputs → len ≤ k → r ≡ checked_end made at (Ok (NoFrame at len)) → MatchResult r (λ reply. IsTurn A (front_of before) (InputAt k) reply (front_of now)) (IsDeskFault now)
 no_input_turn A before now made at len k r own m seen here long past is =
     checked_ends made at (NoFrame at len) r (λ reply. IsTurn A (front_of before) (InputAt k) reply (front_of now)) (IsDeskFault now) is
     (λ (same : at ≡ made).
@@ -84,7 +84,7 @@ pub shot_error_is : {A : Type 0} (history : List (Entry A)) (k : ℕ) (error sai
 shot_error_is {A} history k error said is found = subst (λ (x : ShotError). IsShotAt {B = A} history k (Err x)) is found
 
 pub shot_turn : (A : Type 0) (before now : SeatContent A) (made at frame k ran lit : ℕ) (picture : List ℕ) (r : Result Reply RunFault) → BeginsWithOwn before → made ≡ before.made → HasSeen before now → at ≡ length now.front
-    → frame ≡ k → answer_shot (movie_of now.front) k ≡ Some (Ok picture) → lit ≡ lit_count picture → r ≡ checked_reply made at (Drawn at frame ran lit)
+    → frame ≡ k → answer_shot (movie_of now.front) k ≡ Some (Ok picture) → lit ≡ lit_count picture → r ≡ checked_end made at (Ok (Drawn at frame ran lit))
     → MatchResult r (λ reply. IsTurn A (front_of before) (Shot k) reply (front_of now)) (IsDeskFault now)
 shot_turn A before now made at frame k ran lit picture r own m seen here which shows l is =
     checked_ends made at (Drawn at frame ran lit) r (λ reply. IsTurn A (front_of before) (Shot k) reply (front_of now)) (IsDeskFault now) is
@@ -100,7 +100,7 @@ shot_turn A before now made at frame k ran lit picture r own m seen here which s
     (λ (other : at ≡ made → ⊥). foreign before now made at own seen m here other)
 
 pub no_frame_turn : (A : Type 0) (seat : SeatContent A) (made at len k : ℕ) (r : Result Reply RunFault) → BeginsWithOwn seat → made ≡ seat.made → answer_shot (movie_of seat.front) k ≡ None → at ≡ length seat.front
-    → len ≡ length (movie_of seat.front).inputs → r ≡ checked_reply made at (NoFrame at len) → MatchResult r (λ reply. IsTurn A (front_of seat) (Shot k) reply (front_of seat)) (IsDeskFault seat)
+    → len ≡ length (movie_of seat.front).inputs → r ≡ checked_end made at (Ok (NoFrame at len)) → MatchResult r (λ reply. IsTurn A (front_of seat) (Shot k) reply (front_of seat)) (IsDeskFault seat)
 no_frame_turn A seat made at len k r own m none here long is =
     checked_ends made at (NoFrame at len) r (λ reply. IsTurn A (front_of seat) (Shot k) reply (front_of seat)) (IsDeskFault seat) is
     (λ (same : at ≡ made).
@@ -114,7 +114,7 @@ no_frame_turn A seat made at len k r own m none here long is =
     (λ (other : at ≡ made → ⊥). foreign seat seat made at own (seen_self seat) m here other)
 
 pub halted_turn : (A : Type 0) (seat : SeatContent A) (made at k : ℕ) (halt : Halt) (reply : Reply) (r : Result Reply RunFault) → BeginsWithOwn seat → made ≡ seat.made → answer_shot (movie_of seat.front) k ≡ Some (Err halt)
-    → at ≡ length seat.front → reply ≡ halted_reply at halt → r ≡ checked_reply made at reply → MatchResult r (λ reply'. IsTurn A (front_of seat) (Shot k) reply' (front_of seat)) (IsDeskFault seat)
+    → at ≡ length seat.front → reply ≡ halted_reply at halt → r ≡ checked_end made at (Ok reply) → MatchResult r (λ reply'. IsTurn A (front_of seat) (Shot k) reply' (front_of seat)) (IsDeskFault seat)
 halted_turn A seat made at k halt reply r own m shows here says is =
     checked_ends made at reply r (λ reply'. IsTurn A (front_of seat) (Shot k) reply' (front_of seat)) (IsDeskFault seat) is
     (λ (same : at ≡ made).

@@ -54,9 +54,6 @@ pub begun : (A : Type 0) (front : Front) → (front_after_all A front [] ≡ fro
 unfolding front_after_all replies_to_all
 begun A front = (refl, refl)
 
-turn_of : List ℕ → Command → Unforeseen → Turn
-turn_of said command unforeseen = record { said = said; command = command; unforeseen = unforeseen }
-
 pub count_more : (turns : List Turn) (turn : Turn) → length (turns ++ turn ∷ []) ≡ length turns + 1
 count_more turns turn = length-append turns (turn ∷ [])
 

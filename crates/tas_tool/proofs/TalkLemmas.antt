@@ -69,9 +69,6 @@ front_taken old new bytes n out =
     let same : n - 0 ≡ n = omega arith in
     subst (λ (k : ℕ). Appends old new (take k bytes)) same out
 
-pub handed_nothing : (old : Option (List ℕ)) → Appends old old []
-handed_nothing old = Appends-nil old
-
 -- a line that was heard as something and answered
 exchange_of : List ℕ → Option Request → List ℕ → Stand → Exchange
 exchange_of said heard answer next = record { said = said; heard = heard; answer = answer; next = next }

@@ -15,6 +15,7 @@ use Rattle.tas_green.specs.Grid.{stride}
 use Rattle.tas_green.specs.Green.{IsLawful}
 use Rattle.tas_green.specs.Zone.{state_at}
 use Rattle.tas_desk.specs.Answers.{answer_shot}
+use Rattle.tas_desk.proofs.DrawingLemmas.{range_joined}
 use Rattle.tas_desk.specs.History.{movie_of}
 use Rattle.tas_desk.specs.declared.replies.ShotError.{ShotError}
 use Rattle.tas_desk.specs.declared.replies.ShotError.TheVariants.{NoEntry, NoFrame as NoShotFrame, Memory as NoShotMemory, Halted as ShotHalted}
@@ -236,13 +237,6 @@ off_grid movie zone frame step lawful is off = go (state_at frame zone) refl
     go None e = refl
     go (Some s) e = absurd (off (ap (λ (n : ℕ). frame % n) is ∙ (lawful.each frame s e).on_grid))
 
-range_push : (a n : ℕ) → range_with_len a (n + 1) ≡ range_with_len a n ++ (a + n) ∷ []
-range_push a zero = let here : a ≡ a + 0 = omega arith in ap (λ (k : ℕ). k ∷ []) here
-range_push a (suc n) =
-    let more : suc n + 1 ≡ suc (n + 1) = omega arith in
-    let behind : (a + 1) + n ≡ a + suc n = omega arith in
-    ap (range_with_len a) more ∙ ap (λ (xs : List ℕ). a ∷ xs) (range_push (a + 1) n ∙ ap (λ (k : ℕ). range_with_len (a + 1) n ++ k ∷ []) behind)
-
 pub frames_more : (zone : List Savestate) (n : ℕ) (now next : List ℕ) → now ≡ kept_frames n zone → next ≡ now ++ (if is_some (state_at (n + 1) zone) then (n + 1) ∷ [] else []) → next ≡ kept_frames (n + 1) zone
 frames_more zone n now next so_far is =
     let test : ℕ → Bool = λ (f : ℕ). is_some (state_at f zone) in
@@ -251,7 +245,7 @@ frames_more zone n now next so_far is =
     ∙ ap (λ (l : List ℕ). l ++ filter test ((n + 1) ∷ [])) so_far
     ∙ ap (λ (k : ℕ). kept_frames n zone ++ filter test (k ∷ [])) (sym same)
     ∙ sym (filter-append test (range_with_len 1 n) ((1 + n) ∷ []))
-    ∙ ap (filter test) (sym (range_push 1 n))
+    ∙ ap (filter test) (sym (range_joined 1 n 1))
 
 pub told_states : {A : Type 0} (before now : SeatContent A) (made len : ℕ) (frames bytes : List ℕ) → BeginsWithOwn before → made ≡ before.made → HasSeen before now → IsBrought before now len → frames ≡ kept_frames len now.zone.states
     → bytes ≡ states_text made frames → IsToldTo before now States bytes made

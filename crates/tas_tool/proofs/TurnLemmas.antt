@@ -16,7 +16,7 @@ use Rattle.tas_desk.specs.declared.entry.Entry.{Entry}
 use Rattle.tas_desk.specs.declared.replies.Receipt.{Receipt}
 use Rattle.tas_desk.specs.declared.replies.EditError.{EditError}
 use Rattle.tas_desk.specs.declared.replies.EditError.TheVariants.{Serial, Full as AllMade, Place as OutOfPlace, Long as OverLong, Memory as NoRoom}
-use Rattle.tas_desk.specs.History.{movie_of, entries_of}
+use Rattle.tas_desk.specs.History.{most_edits, movie_of, entries_of}
 use Rattle.tas_desk.specs.Session.{refusal_at, error_at, IsEditError}
 use Rattle.tas_desk.specs.Seats.{SeatContent, seat_of, entry_of, HasSeen, IsEdited}
 use Rattle.tas_desk.proofs.HistoryLemmas.{movie_of-push}
@@ -31,7 +31,7 @@ use Rattle.tas_script.specs.declared.reply.Reply.TheVariants.{Edited, Misplaced,
 use Rattle.tas_tool.specs.declared.answering.Answered.{Answered}
 use Rattle.tas_tool.specs.Edits.{load_edit, insert_edit, replace_edit, delete_edit}
 use Rattle.tas_tool.specs.Turns.{Unforeseen, Front, front_of, BeginsWithOwn, HasForeign, IsDeskFault, refused_reply, refusal_reply, edit_reply, edited_front, IsEditTurn, IsTurn}
-use Rattle.tas_tool.specs.Checking.{checked_reply, insert_refusal, looked, IsAnswer, IsEditAnswer}
+use Rattle.tas_tool.specs.Checking.{checked_end, insert_refusal, looked, IsAnswer, IsEditAnswer}
 
 -- ---- what a seat has seen
 
@@ -90,16 +90,34 @@ foreign before now made at own seen m is other = has_foreign now (own_stays befo
 
 -- ---- checked replies
 
-pub checked_ends : (made at : ℕ) (reply : Reply) (r : Result Reply RunFault) (P : Reply → Type 0) (Q : RunFault → Type 0) → r ≡ checked_reply made at reply → (at ≡ made → P reply) → ((at ≡ made → ⊥) → Q Foreign)
-    → MatchResult r P Q
-checked_ends made at reply r P Q is same_at other_at = go (at == made) refl
+-- what was compared is as it was where it stands at just these edits, and `Foreign` where it doesn't
+pub checked_cases : {X : Type 0} (made at : ℕ) (end r : Result X RunFault) (P : Result X RunFault → Type 0) → r ≡ checked_end made at end → (at ≡ made → P end) → ((at ≡ made → ⊥) → P (Err Foreign)) → P r
+checked_cases {X} made at end r P is same_at other_at = go (at == made) refl
   where
-    Goal : Result Reply RunFault → Type 0
-    Goal x = MatchResult x P Q
+    go : (b : Bool) → at == made ≡ b → P r
+    go true e = let e' : r ≡ end = is ∙ rw e refl in subst P (sym e') (same_at (eqb-true at made e))
+    go false e = let e' : r ≡ Err Foreign = is ∙ rw e refl in subst P (sym e') (other_at (λ (same : at ≡ made). let t : true ≡ false = sym (eq-eqb at made same) ∙ e in absurd (cc t)))
 
-    go : (b : Bool) → at == made ≡ b → MatchResult r P Q
-    go true e = let e' : r ≡ Ok reply = is ∙ rw e refl in subst Goal (sym e') (same_at (eqb-true at made e))
-    go false e = let e' : r ≡ Err Foreign = is ∙ rw e refl in subst Goal (sym e') (other_at (λ (same : at ≡ made). let t : true ≡ false = sym (eq-eqb at made same) ∙ e in absurd (cc t)))
+pub checked_ends : {X : Type 0} (made at : ℕ) (reply : X) (r : Result X RunFault) (P : X → Type 0) (Q : RunFault → Type 0) → r ≡ checked_end made at (Ok reply) → (at ≡ made → P reply) → ((at ≡ made → ⊥) → Q Foreign)
+    → MatchResult r P Q
+checked_ends {X} made at reply r P Q is same_at other_at = checked_cases made at (Ok reply) r (λ (x : Result X RunFault). MatchResult x P Q) is same_at other_at
+
+-- the movie's length is told where it stands at just the seat's own edits
+pub length_ends : {A : Type 0} (before now : SeatContent A) (made at len : ℕ) (r : Result ℕ RunFault) → BeginsWithOwn before → made ≡ before.made → HasSeen before now → at ≡ length now.front → len ≡ length (movie_of now.front).inputs
+    → r ≡ checked_end made at (Ok len) → MatchResult r (λ n. (length now.front ≡ made) × (n ≡ length (front_of before).movie.inputs)) (IsDeskFault now)
+length_ends before now made at len r own m seen here long is =
+    checked_ends made at len r (λ n. (length now.front ≡ made) × (n ≡ length (front_of before).movie.inputs)) (IsDeskFault now) is
+    (λ (same : at ≡ made). (sym here ∙ same, long ∙ ap (λ (x : MovieContent). length x.inputs) (own_movie before now own seen (sym here ∙ same ∙ m))))
+    (λ (other : at ≡ made → ⊥). foreign before now made at own seen m here other)
+
+-- what stands at just the seat's own edits, and what doesn't
+pub checked_at : {X : Type 0} (made at : ℕ) (reply told : X) → Ok told ≡ checked_end made at (Ok reply) → at ≡ made
+checked_at made at reply told is = checked_ends made at reply (Ok told) (λ x. at ≡ made) (λ fault. Unit {0}) is (λ same. same) (λ other. tt)
+
+pub unchecked : {X A : Type 0} (before now : SeatContent A) (made at : ℕ) (reply : X) (fault : RunFault) → BeginsWithOwn before → made ≡ before.made → HasSeen before now → at ≡ length now.front → Err fault ≡ checked_end made at (Ok reply)
+    → IsDeskFault now fault
+unchecked before now made at reply fault own m seen here is =
+    checked_ends made at reply (Err fault) (λ x. Unit {0}) (IsDeskFault now) is (λ same. tt) (λ other. foreign before now made at own seen m here other)
 
 -- ---- refusals of a desk
 
@@ -143,7 +161,7 @@ not_serial false n at k (Some (LongRefusal len)) e = absurd (cc e)
 
 -- why the desk refuses an edit at a front that is just the seat's own edits
 own_refusal : {A : Type 0} (seat : SeatContent A) (edit : Edit A) → BeginsWithOwn seat → length seat.front ≡ seat.made
-    → refusal_at seat.front seat.number seat.made edit ≡ unserial (length seat.front == 1000000) (length seat.front) (refusal (movie_of seat.front) edit)
+    → refusal_at seat.front seat.number seat.made edit ≡ unserial (length seat.front == most_edits) (length seat.front) (refusal (movie_of seat.front) edit)
 own_refusal {A} seat edit own at =
     let whole : seat.front ≡ take seat.made seat.front = own_front seat seat own (seen_self seat) at in
     let counted : entries_of seat.number seat.front ≡ seat.made = ap (λ (l : List (Entry A)). entries_of seat.number l) whole ∙ own.own in
@@ -155,7 +173,7 @@ own_told : {A : Type 0} (seat : SeatContent A) (edit : Edit A) (found : Option E
 own_told seat edit found own at is =
     ap (λ (m : MovieContent). refused_reply seat.made (refusal m edit)) (sym (own_movie seat seat own (seen_self seat) at))
     ∙ ap (λ (n : ℕ). refused_reply n (refusal (movie_of seat.front) edit)) (sym at)
-    ∙ same_refusal (length seat.front == 1000000) (length seat.front) (refusal (movie_of seat.front) edit)
+    ∙ same_refusal (length seat.front == most_edits) (length seat.front) (refusal (movie_of seat.front) edit)
     ∙ ap told_of (sym (own_refusal seat edit own at) ∙ is)
 
 -- ---- turns of edits
@@ -189,11 +207,11 @@ error_is seat edit error said is found = subst (λ (x : EditError). IsEditError 
 
 -- an error that names its place
 pub refused_at : {A : Type 0} (seat : SeatContent A) (made at : ℕ) (error : EditError) (reply : Reply) (r : Result Reply RunFault) (edit : Edit A) → BeginsWithOwn seat → made ≡ seat.made
-    → told_of (Some error) ≡ Some reply → ((n : ℕ) → place_of error n ≡ at) → r ≡ checked_reply made at reply → refusal_at seat.front seat.number seat.made edit ≡ Some error
+    → told_of (Some error) ≡ Some reply → ((n : ℕ) → place_of error n ≡ at) → r ≡ checked_end made at (Ok reply) → refusal_at seat.front seat.number seat.made edit ≡ Some error
     → MatchResult r (λ reply'. IsEditTurn (front_of seat) edit reply' (front_of seat)) (IsDeskFault seat)
 refused_at seat made at error reply r edit own m told place is found =
     let here : at ≡ length seat.front = sym (place (length seat.front))
-    ∙ place_is (entries_of seat.number seat.front == seat.made) (length seat.front == 1000000) (length seat.front) (entries_of seat.number seat.front) (refusal (movie_of seat.front) edit) error found in
+    ∙ place_is (entries_of seat.number seat.front == seat.made) (length seat.front == most_edits) (length seat.front) (entries_of seat.number seat.front) (refusal (movie_of seat.front) edit) error found in
     checked_ends made at reply r (λ reply'. IsEditTurn (front_of seat) edit reply' (front_of seat)) (IsDeskFault seat) is
     (λ (same : at ≡ made). turn_refused (front_of seat) edit reply (own_told seat edit (Some error) own (sym here ∙ same ∙ m) found ∙ told))
     (λ (other : at ≡ made → ⊥). foreign seat seat made at own (seen_self seat) m here other)
@@ -203,7 +221,7 @@ pub refused_serial : {A : Type 0} (seat : SeatContent A) (at counted : ℕ) (edi
 refused_serial seat at counted edit own found =
     has_foreign seat own
     (λ (e : length seat.front ≡ seat.made).
-    not_serial (length seat.front == 1000000) (length seat.front) at counted (refusal (movie_of seat.front) edit) (sym (own_refusal seat edit own e) ∙ found))
+    not_serial (length seat.front == most_edits) (length seat.front) at counted (refusal (movie_of seat.front) edit) (sym (own_refusal seat edit own e) ∙ found))
 
 -- a front that is followed by one as long as the seat's own edits
 pub first_front : {A : Type 0} (before now : SeatContent A) → BeginsWithOwn before → HasSeen before now → length now.front ≡ before.made → length before.front ≡ before.made
@@ -230,6 +248,13 @@ entries_push {A} history entry k is =
     let e = sum_by-append (λ (y : Entry A). if y.seat == k then 1 else 0) history (entry ∷ []) in
     let one : ◌≡◌ {A = ℕ} (if entry.seat == k then 1 else 0) 1 = rw (eq-eqb entry.seat k is) refl in
     omega (arith, e, one)
+
+pub refused_seen : {A : Type 0} (before now : SeatContent A) (edit : Edit A) (error : EditError) → IsEdited before now edit (Err error) → HasSeen before now
+refused_seen {A} before now edit error e = subst (λ (s : SeatContent A). HasSeen before s) (sym e.seat) (seen_history before e.at e.begins)
+
+pub edited_number : {A : Type 0} (before now : SeatContent A) (edit : Edit A) (answer : Result Receipt EditError) → IsEdited before now edit answer → now.number ≡ before.number
+edited_number {A} before now edit (Ok receipt) e = ap (λ (s : SeatContent A). s.number) e.seat
+edited_number {A} before now edit (Err error) e = ap (λ (s : SeatContent A). s.number) e.seat
 
 pub edit_made : {A : Type 0} (before now : SeatContent A) (edit : Edit A) (receipt : Receipt) (made : ℕ) → BeginsWithOwn before → made ≡ before.made → IsEdited before now edit (Ok receipt) → receipt.at ≡ made + 1
     → IsEditAnswer before now edit (Ok (record { reply = Edited receipt.at receipt.len; made = receipt.at }))
@@ -270,13 +295,28 @@ edit_foreign {A} before now edit receipt made own m e other =
     let more = longer before (at_history before e.at) (seen_history before e.at e.begins) in
     more_than now.made (length now.front) (omega (arith, so_many, long, more, own.seen)) (λ (same : length now.front ≡ now.made). other (omega (arith, counted, long, so_many, same, m)))
 
+-- an edit that was made, where its place was compared
+pub edit_ends : {A : Type 0} (before now : SeatContent A) (edit : Edit A) (receipt : Receipt) (made at : ℕ) (r : Result Answered RunFault) → BeginsWithOwn before → made ≡ before.made → IsEdited before now edit (Ok receipt) → at + 1 ≡ receipt.at
+    → r ≡ checked_end made at (Ok (record { reply = Edited receipt.at receipt.len; made = receipt.at })) → IsEditAnswer before now edit r
+edit_ends before now edit receipt made at r own m e behind is = go r ends
+  where
+    go : (x : Result Answered RunFault) → MatchResult x (λ answered. IsEditAnswer before now edit (Ok answered)) (IsDeskFault now) → IsEditAnswer before now edit x
+    go (Ok answered) told = told
+    go (Err fault) told = told
+
+    ends : MatchResult r (λ answered. IsEditAnswer before now edit (Ok answered)) (IsDeskFault now)
+    ends =
+        checked_ends made at (record { reply = Edited receipt.at receipt.len; made = receipt.at }) r (λ answered. IsEditAnswer before now edit (Ok answered)) (IsDeskFault now) is
+        (λ (same : at ≡ made). edit_made before now edit receipt made own m e (sym behind ∙ ap (λ (n : ℕ). n + 1) same))
+        (λ (other : at ≡ made → ⊥). edit_foreign before now edit receipt made own m e (λ (same : receipt.at ≡ made + 1). other (omega (arith, behind, same))))
+
 -- an edit that was refused, with what was told then
 pub edit_refused : {A : Type 0} (before mid now : SeatContent A) (edit : Edit A) (error : EditError) (made : ℕ) (r : Result Reply RunFault) (answer : Result Answered RunFault) → BeginsWithOwn before → made ≡ before.made
     → IsEdited before mid edit (Err error) → HasSeen mid now
     → ((edit' : Edit A) → IsEditError (refusal_at mid.front mid.number mid.made edit') error → MatchResult r (λ reply. IsEditTurn (front_of mid) edit' reply (front_of now)) (IsDeskFault now))
     → answer ≡ looked r made → IsEditAnswer before now edit answer
 edit_refused {A} before mid now edit error made r answer own m e more told is =
-    let seen : HasSeen before mid = subst (λ (s : SeatContent A). HasSeen before s) (sym e.seat) (seen_history before e.at e.begins) in
+    let seen : HasSeen before mid = refused_seen before mid edit error e in
     let found : IsEditError (refusal_at mid.front mid.number mid.made edit) error =
     subst (λ (s : SeatContent A). IsEditError (refusal_at s.front s.number s.made edit) error) (sym e.seat) e.refusal in
     subst (λ (x : Result Answered RunFault). IsEditAnswer before now edit x) (sym is) (go r (told edit found) seen)
@@ -298,16 +338,13 @@ line_turn before now command edit (Ok answered) says told = record { turn_is = s
 line_turn before now command edit (Err fault) says told = told
 
 -- the answer of a seat that has only looked before
-pub after_look : {A : Type 0} (before mid now : SeatContent A) (command : Command) (r : Result Answered RunFault) → BeginsWithOwn before → HasSeen before mid → IsAnswer A mid now command r → IsAnswer A before now command r
-after_look {A} before mid now command (Ok answered) own seen told = record {
+pub after_look : (A : Type 0) (before mid now : SeatContent A) (command : Command) (r : Result Answered RunFault) → BeginsWithOwn before → HasSeen before mid → IsAnswer A mid now command r → IsAnswer A before now command r
+after_look A before mid now command (Ok answered) own seen told = record {
   turn_is = subst (λ (f : Front). IsTurn A f command answered.reply (front_of now)) (front_stays before mid own seen) told.turn_is;
   made = told.made;
   own = told.own;
 }
-after_look before mid now command (Err fault) own seen told = told
-
-pub after_looks : (A : Type 0) (before mid now : SeatContent A) (command : Command) (r : Result Answered RunFault) → BeginsWithOwn before → HasSeen before mid → IsAnswer A mid now command r → IsAnswer A before now command r
-after_looks A before mid now command r own seen told = after_look before mid now command r own seen told
+after_look A before mid now command (Err fault) own seen told = told
 
 abbrev pub inserted : (A : Type 0) → ℕ → List Input → Edit A
 inserted A at inputs = InsertEdit at inputs

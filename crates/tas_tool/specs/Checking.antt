@@ -12,9 +12,9 @@ use Rattle.tas_script.specs.declared.reply.Reply.{Reply}
 use Rattle.tas_tool.specs.declared.answering.Answered.{Answered}
 use Rattle.tas_tool.specs.Turns.{front_of, BeginsWithOwn, IsDeskFault, IsEditTurn, IsTurn}
 
--- a reply that stands at so many edits, where these are just the script's own
-abbrev pub checked_reply : ℕ → ℕ → Reply → Result Reply RunFault
-checked_reply made at reply = if at == made then Ok reply else Err Foreign
+-- an answer, or another end, that stands at so many edits, where these are just the seat's own
+abbrev pub checked_end : {X : Type 0} → ℕ → ℕ → Result X RunFault → Result X RunFault
+checked_end made at end = if at == made then end else Err Foreign
 
 -- why so many inputs can't be put in
 abbrev pub insert_refusal : ℕ → ℕ → ℕ → Option EditRefusal

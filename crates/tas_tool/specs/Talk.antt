@@ -88,7 +88,7 @@ abbrev pub WorkLeaves : Stand → Stand → Reply → Type 0
 WorkLeaves old new (Worked jobs kept stale) = Gains old new
 WorkLeaves old new _ = Rests old new
 
--- what a script's line leaves of it: an edit only makes that it is cut later
+-- what a script's line leaves of it: an edit leaves it; the next shot cuts it
 abbrev pub CommandLeaves : Stand → Stand → Command → Reply → Type 0
 CommandLeaves old new (Shot k) reply = ShotLeaves old new k reply
 CommandLeaves old new (Work k) reply = WorkLeaves old new reply

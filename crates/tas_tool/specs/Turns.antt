@@ -9,7 +9,7 @@ use Rattle.tas_movie.specs.declared.edit.Edit.{Edit}
 use Rattle.tas_movie.specs.declared.edit.EditRefusal.{EditRefusal}
 use Rattle.tas_movie.specs.declared.edit.EditRefusal.TheVariants.{Place, Long}
 use Rattle.tas_movie.specs.Edit.{refusal, edited}
-use Rattle.tas_desk.specs.History.{movie_of, entries_of}
+use Rattle.tas_desk.specs.History.{most_edits, movie_of, entries_of}
 use Rattle.tas_desk.specs.Answers.{answer_input, answer_shot}
 use Rattle.tas_desk.specs.Seats.{SeatContent}
 use Rattle.tas_engines.specs.declared.fault.RunFault.{RunFault}
@@ -62,7 +62,7 @@ refusal_reply made (Some (Long len)) = Some (TooLong made len)
 
 -- the reply to an edit that is refused, whatever memory there is: so many edits were made, or the movie doesn't allow it
 abbrev pub refused_reply : ℕ → Option EditRefusal → Option Reply
-refused_reply made refused = if made == 1000000 then Some (Full made) else refusal_reply made refused
+refused_reply made refused = if made == most_edits then Some (Full made) else refusal_reply made refused
 
 abbrev pub edit_reply : Option Reply → Bool → ℕ → ℕ → Reply
 edit_reply None no_memory made len = if no_memory then OutOfMemory else Edited (made + 1) len

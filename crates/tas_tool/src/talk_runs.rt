@@ -5,7 +5,7 @@ ghost use Rattle.tas_desk.specs.History.{blank_movie};
 ghost use Rattle.tas_desk.specs.Seats.{name_of};
 ghost use Rattle.tas_tool.specs.Talk.{stand_from, IsCartTalk, IsMovieTalk, IsTalk};
 
-use crate::making::put_movie;
+use crate::making::{MOVIE_EDITS, put_movie};
 use crate::opening::open_alone;
 use crate::talking::converse;
 use std::alloc::Allocator;
@@ -37,7 +37,7 @@ fn talk_made<N: Name, C: CloseOnDrop, A: Allocator + Copy, T: Wait, R: Read, W: 
         return converse(rt, alloc, desk, seat, 0, input, output);
     };
     put_movie(rt, alloc, desk, seat, &movie)?;
-    converse(rt, alloc, desk, seat, 2, input, output)
+    converse(rt, alloc, desk, seat, MOVIE_EDITS, input, output)
 }
 
 /// Answers lines on a desk of one seat, from a movie on where there is one, and closes the desk. That nobody else made an edit is

@@ -17,7 +17,7 @@ use std::sync::Wait;
 use tas_desk::{CloseOnDrop, Desk, Name, Seat};
 use tas_engines::{RunFault, ToolFault};
 use tas_script::split_once;
-use tas_talk::{Line, Request};
+use tas_talk::Line;
 
 /// How many bytes one read asks for.
 const CHUNK: usize = 4096;
@@ -45,7 +45,8 @@ fn hand_out<W: Write>(output: &mut W, bytes: &[u8], before: usize) -> Result<usi
             });
         }
     }
-    // A writer that can't pass on what it holds fails at the next write.
+    // A flush that fails isn't told: a writer that can't pass on what it holds may fail at its next write, and behind the
+    // last answer there is none.
     let _ = output.flush();
     Ok(before.saturating_add(bytes.len()))
 }
@@ -83,9 +84,8 @@ fn answer_line<N: Name, C: CloseOnDrop, A: Allocator + Copy, R: Wait, W: Write>(
             written,
         }));
     };
-    let told = match request {
-        Request::Quit => return Ok(None),
-        _ => answer_request(rt, alloc, desk, seat, progress.made, request)?,
+    let Some(told) = answer_request(rt, alloc, desk, seat, progress.made, request)? else {
+        return Ok(None);
     };
     let written = hand_out(output, told.bytes.as_slice(), progress.written)?;
     Ok(Some(Progress {
@@ -116,19 +116,19 @@ fn answer_part<N: Name, C: CloseOnDrop, A: Allocator + Copy, R: Wait, W: Write>(
     let mut rest = part;
     let mut reached = progress;
     while let Some((front, after)) = split_once(rest, b'\n') {
-        if let Err(_) = line.add(front) {
+        let Ok(()) = line.add(front) else {
             return Err(RunFault::Memory);
-        }
-        let Some(next) = answer_line(rt, alloc, desk, seat, reached, &*line, output)? else {
+        };
+        let Some(next) = answer_line(rt, alloc, desk, seat, reached, line, output)? else {
             return Ok(None);
         };
         reached = next;
         line.clear();
         rest = after;
     }
-    if let Err(_) = line.add(rest) {
+    let Ok(()) = line.add(rest) else {
         return Err(RunFault::Memory);
-    }
+    };
     Ok(Some(reached))
 }
 

@@ -1,4 +1,4 @@
-use Rattle.std.proofs.Common.{◌≡◌, ◌∙◌, length, refl, ap, sym, subst, Err}
+use Rattle.std.proofs.Common.{◌≡◌, ◌∙◌, length, refl, ap, sym, subst, Err, arith}
 use Rattle.std.proofs.lemmas.Result.{err_from_is_err_and}
 use Rattle.std.specs.Prelude.{slice_get}
 use Rattle.tas_tool.specs.Scripts.{start_front, Answers}
@@ -39,3 +39,8 @@ returns g c =
     subst (λ f. Answers g.row.A.Denot f c.args.bytes.now c.answer_lines-end.new.text.items c.answer_lines-end.result)
     (fresh_front _ _ (first_of c.as_mut_slice.result.now _ c.index-as_mut_slice-0.result (ap (λ l. slice_get l 0) c.as_mut_slice.ensures.value ∙ c.in_ok-desk.ensures.fresh)))
     (c.answer_lines-end.ensures.answers (sees_own _ _ c.answer_lines-end.new.seat alone c.close.ensures.seats c.close.ensures.count))
+
+pub bounds-as_mut_slice-0 : goal.bounds-as_mut_slice-0
+bounds-as_mut_slice-0 g c =
+    let one : length c.as_mut_slice.result.now ≡ 1 = ap (λ l. length l) c.as_mut_slice.ensures.value ∙ c.in_ok-desk.ensures.alone in
+    omega (arith, one)

@@ -58,3 +58,24 @@ returns-in_err-next-clause-talk g c = λ own.
     rw (p.1, p.2)
     (breaks_off c.args.seat.now c.loop.seat c.answer_part.new.seat c.loop.progress c.loop.line.bytes.items c.answer_part.new.line.bytes.items c.loop.line.long c.answer_part.new.line.long _ _ _ _ _ _ xs part
     (take c.in-Ok-read.count c.read.new.buf) c.in_err-next.field-0.0 way c.in-Ok-read.ensures.bytes.0 (c.in_err-next.ensures.turn part way.holds way.none) own)
+
+pub answer_part-requires-clause-own : goal.answer_part-requires-clause-own
+answer_part-requires-clause-own g c = c.loop.invariant.stands.0
+
+pub answer_part-requires-clause-made : goal.answer_part-requires-clause-made
+answer_part-requires-clause-made g c = c.loop.invariant.stands.1
+
+pub returns-in-Err-clause-number : goal.returns-in-Err-clause-number
+returns-in-Err-clause-number g c = c.loop.invariant.number
+
+pub returns-then-count-eq0-clause-number : goal.returns-then-count-eq0-clause-number
+returns-then-count-eq0-clause-number g c = c.loop.invariant.number
+
+pub returns-in_err-answer_last-clause-number : goal.returns-in_err-answer_last-clause-number
+returns-in_err-answer_last-clause-number g c = c.loop.invariant.number
+
+pub returns-in-None-2-clause-number : goal.returns-in-None-2-clause-number
+returns-in-None-2-clause-number g c = c.answer_part.ensures.number ∙ c.loop.invariant.number
+
+pub returns-in_err-next-clause-number : goal.returns-in_err-next-clause-number
+returns-in_err-next-clause-number g c = c.answer_part.ensures.number ∙ c.loop.invariant.number
