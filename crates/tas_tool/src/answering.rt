@@ -6,10 +6,10 @@ ghost use Rattle.tas_movie.specs.Edit.{place_refusal};
 ghost use Rattle.tas_desk.specs.Session.{refusal_at, IsEditError};
 ghost use Rattle.tas_desk.specs.Seats.{HasSeen};
 ghost use Rattle.tas_desk.specs.Shots.{IsShotAt};
-ghost use Rattle.tas_tool.specs.Turns.{front_of, refused_reply, halted_reply, BeginsWithOwn, IsDeskFault, IsEditTurn, IsTurn};
+ghost use Rattle.tas_tool.specs.Turns.{own_edits_of, refused_reply, halted_reply, BeginsWithOwn, IsDeskFault, IsEditTurn, IsTurn};
 ghost use Rattle.tas_tool.specs.Checking.{checked_end, insert_refusal, looked, IsAnswer, IsEditAnswer};
 ghost use Rattle.tas_tool.specs.Talk.{ShotLeaves};
-ghost use Rattle.tas_tool.specs.Talking.{stand_of, IsCommandZone, IsWorkedZone, TellsError};
+ghost use Rattle.tas_tool.specs.Talking.{talk_state_of, IsCommandZone, IsWorkedZone, TellsError};
 ghost use Rattle.tas_script.specs.declared.command.Command.TheVariants.{Load as LoadLine, Insert as InsertLine, Replace as ReplaceLine, InputAt as InputLine, Shot as ShotLine, Work as WorkLine};
 
 use std::alloc::Allocator;
@@ -52,7 +52,7 @@ pub fn own_len<N: Name, W: CloseOnDrop, A: Allocator>(
     ensures seen { HasSeen seat.old seat.new }
     ensures zone { seat.new.zone ≡ seat.old.zone }
     ensures reply { MatchResult result
-        (λ len. (length seat.new.front ≡ made) × (len ≡ length (front_of seat.old).movie.inputs)) (IsDeskFault seat.new) }
+        (λ len. (length seat.new.front ≡ made) × (len ≡ length (own_edits_of seat.old).movie.inputs)) (IsDeskFault seat.new) }
 {
     match desk.len(seat) {
         Ok((at, len)) => checked(made, at, Ok(len)),
@@ -75,7 +75,7 @@ fn refused_edit<N: Name, W: CloseOnDrop, A: Allocator>(
     ensures seen { HasSeen seat.old seat.new }
     ensures zone { seat.new.zone ≡ seat.old.zone }
     ensures reply { (edit : EditContent A) → IsEditError (refusal_at seat.old.front seat.old.number seat.old.made edit) error
-        → MatchResult result (λ reply. IsEditTurn (front_of seat.old) edit reply (front_of seat.new)) (IsDeskFault seat.new) }
+        → MatchResult result (λ reply. IsEditTurn (own_edits_of seat.old) edit reply (own_edits_of seat.new)) (IsDeskFault seat.new) }
 {
     match error {
         EditError::Serial { .. } => Err(RunFault::Foreign),
@@ -263,7 +263,7 @@ fn show_input<N: Name, W: CloseOnDrop, A: Allocator>(
     requires made { made ≡ seat.old.made }
     ensures seen { HasSeen seat.old seat.new }
     ensures zone { seat.new.zone ≡ seat.old.zone }
-    ensures reply { MatchResult result (λ reply. IsTurn A (front_of seat.old) (InputLine frame) reply (front_of seat.new)) (IsDeskFault seat.new) }
+    ensures reply { MatchResult result (λ reply. IsTurn A (own_edits_of seat.old) (InputLine frame) reply (own_edits_of seat.new)) (IsDeskFault seat.new) }
 {
     match desk.input(seat, frame) {
         Ok((at, input)) => checked(made, at, Ok(Reply::Pressed { at, input })),
@@ -302,7 +302,7 @@ pub fn unshown<N: Name, W: CloseOnDrop, A: Allocator>(
     ensures seen { HasSeen seat.old seat.new }
     ensures zone { seat.new.zone ≡ seat.old.zone }
     ensures tells { IfOk result (TellsError made error) }
-    ensures reply { MatchResult result (λ reply. IsTurn A (front_of seat.old) (ShotLine frame) reply (front_of seat.new)) (IsDeskFault seat.new) }
+    ensures reply { MatchResult result (λ reply. IsTurn A (own_edits_of seat.old) (ShotLine frame) reply (own_edits_of seat.new)) (IsDeskFault seat.new) }
 {
     match error {
         ShotError::NoEntry => Err(RunFault::NoEntry),
@@ -326,8 +326,8 @@ fn draw<N: Name, W: CloseOnDrop, A: Allocator + Copy>(
     requires own { BeginsWithOwn seat.old }
     requires made { made ≡ seat.old.made }
     ensures seen { HasSeen seat.old seat.new }
-    ensures zone { IfOk result (ShotLeaves (stand_of seat.old) (stand_of seat.new) frame) }
-    ensures reply { MatchResult result (λ reply. IsTurn A (front_of seat.old) (ShotLine frame) reply (front_of seat.new)) (IsDeskFault seat.new) }
+    ensures zone { IfOk result (ShotLeaves (talk_state_of seat.old) (talk_state_of seat.new) frame) }
+    ensures reply { MatchResult result (λ reply. IsTurn A (own_edits_of seat.old) (ShotLine frame) reply (own_edits_of seat.new)) (IsDeskFault seat.new) }
 {
     let shot = match desk.shot(alloc, seat, frame) {
         Ok(shot) => shot,
@@ -361,7 +361,7 @@ fn work<N: Name, W: CloseOnDrop, A: Allocator + Copy, R: Wait>(
     requires own { BeginsWithOwn seat.old }
     ensures seen { HasSeen seat.old seat.new }
     ensures zone { IsWorkedZone seat.old seat.new result }
-    ensures reply { IsTurn A (front_of seat.old) (WorkLine frame) result (front_of seat.new) }
+    ensures reply { IsTurn A (own_edits_of seat.old) (WorkLine frame) result (own_edits_of seat.new) }
 {
     let Ok(worked) = desk.work(rt, alloc, seat, &[frame], &OpenGate) else {
         return Reply::OutOfMemory;

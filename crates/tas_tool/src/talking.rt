@@ -7,7 +7,7 @@ ghost use Rattle.tas_talk.specs.Answers.{unknown_text};
 ghost use Rattle.tas_talk.specs.Held.{HoldsLine};
 ghost use Rattle.tas_tool.specs.Turns.{BeginsWithOwn};
 ghost use Rattle.tas_tool.specs.Talk.{last_answer, most_counted, IsTalk};
-ghost use Rattle.tas_tool.specs.Talking.{stand_of, CutsOff, IsLineTurn, IsPartTurn, StandsAt};
+ghost use Rattle.tas_tool.specs.Talking.{talk_state_of, CutsOff, IsLineTurn, IsPartTurn, StandsAt};
 
 use crate::telling::answer_request;
 use counted_write::write_counted;
@@ -163,7 +163,7 @@ pub fn converse<N: Name, C: CloseOnDrop, A: Allocator + Copy, T: Wait, R: Read, 
     requires own { BeginsWithOwn seat.old }
     requires made { made ≡ seat.old.made }
     ensures number { seat.new.number ≡ seat.old.number }
-    ensures talk { length seat.new.front ≤ seat.new.made → IsTalk A (stand_of seat.old) (R.remaining input.old) (R.remaining input.new)
+    ensures talk { length seat.new.front ≤ seat.new.made → IsTalk A (talk_state_of seat.old) (R.remaining input.old) (R.remaining input.new)
         (W.contents output.old) (W.contents output.new) result }
 {
     let Ok(mut line) = Line::new(alloc) else {

@@ -1,8 +1,8 @@
 use Rattle.std.proofs.Common.{subst}
 use Rattle.std.specs.Prelude.{MatchResult}
 use Rattle.tas_script.specs.declared.command.Command.TheVariants.{Shot}
-use Rattle.tas_tool.specs.Turns.{Front, front_of, IsDeskFault, IsTurn}
-use Rattle.tas_tool.proofs.TurnLemmas.{seen_more, front_stays, own_stays}
+use Rattle.tas_tool.specs.Turns.{OwnEdits, own_edits_of, IsDeskFault, IsTurn}
+use Rattle.tas_tool.proofs.TurnLemmas.{seen_more, own_edits_stay, own_stays}
 use Rattle.tas_tool.proofs.LookLemmas.{shot_turn}
 use Rattle.tas_tool.proofs.GreenLemmas.{unshown_leaves, drawn_leaves}
 use Rattle.tas_tool.proofs.answering.draw.Goals as goal
@@ -27,8 +27,8 @@ returns-in-Err-clause-seen g c = seen_more c.args.seat.now c.shot.new.seat c.uns
 
 pub returns-in-Err-clause-reply : goal.returns-in-Err-clause-reply
 returns-in-Err-clause-reply g c =
-    subst (λ (f : Front). MatchResult c.unshown.result (λ reply. IsTurn g.row.A.Denot f (Shot c.args.frame) reply (front_of c.unshown.new.seat)) (IsDeskFault c.unshown.new.seat))
-    (front_stays c.args.seat.now c.shot.new.seat c.requires.own c.shot.ensures.seat) c.unshown.ensures.reply
+    subst (λ (f : OwnEdits). MatchResult c.unshown.result (λ reply. IsTurn g.row.A.Denot f (Shot c.args.frame) reply (own_edits_of c.unshown.new.seat)) (IsDeskFault c.unshown.new.seat))
+    (own_edits_stay c.args.seat.now c.shot.new.seat c.requires.own c.shot.ensures.seat) c.unshown.ensures.reply
 
 pub unshown-requires-clause-own : goal.unshown-requires-clause-own
 unshown-requires-clause-own g c = own_stays c.args.seat.now c.shot.new.seat c.requires.own c.shot.ensures.seat

@@ -2,7 +2,7 @@ use Rattle.std.proofs.Common.{◌≡◌, ◌∙◌, ℕ, List, Option, length, r
 use Rattle.std.proofs.lemmas.Result.{err_from_is_err_and}
 use Rattle.std.specs.Prelude.{slice_get}
 use Rattle.tas_engines.specs.Faults.{run_fault}
-use Rattle.tas_tool.specs.Talk.{stand_from, IsTalk}
+use Rattle.tas_tool.specs.Talk.{talk_state_from, IsTalk}
 use Rattle.tas_tool.proofs.OneSeatLemmas.{either_fault, first_of, fresh_first, fresh_zone, whole_alone, sees_own, written_back}
 use Rattle.tas_tool.proofs.TalkLemmas.{no_memory_yet, no_place_yet}
 use Rattle.tas_tool.proofs.talk_runs.talk_on.Goals as goal
@@ -22,8 +22,8 @@ close-requires-clause-whole g c =
 pub returns-in_err-desk : goal.returns-in_err-desk
 returns-in_err-desk g c =
     let p = err_from_is_err_and c.from_residual.result c.from_residual.ensures.1 in
-    let talk = either_fault (λ fault. (input output : Option (List ℕ)) → IsTalk g.row.A.Denot (stand_from c.args.movie) input input output output (Err (run_fault fault))) _ c.in_err-desk.ensures.fault
-    (no_memory_yet g.row.A.Denot (stand_from c.args.movie)) (no_place_yet g.row.A.Denot (stand_from c.args.movie)) in
+    let talk = either_fault (λ fault. (input output : Option (List ℕ)) → IsTalk g.row.A.Denot (talk_state_from c.args.movie) input input output output (Err (run_fault fault))) _ c.in_err-desk.ensures.fault
+    (no_memory_yet g.row.A.Denot (talk_state_from c.args.movie)) (no_place_yet g.row.A.Denot (talk_state_from c.args.movie)) in
     rw (p.1, p.2) (talk _ _)
 
 pub returns : goal.returns
