@@ -13,7 +13,7 @@ use Rattle.tas_engines.specs.Movies.{IsCheckAnswer, IsMigrateAnswer, IsShotAnswe
 use Rattle.tas_engines.specs.Output.{StopsWriting}
 use Rattle.tas_engines.specs.Tracing.{IsTraceRun}
 use Rattle.tas_tool.specs.Scripts.{IsScriptRun}
-use Rattle.tas_tool.specs.Talk.{stand_from, IsTalk, IsCartTalk, IsMovieTalk}
+use Rattle.tas_tool.specs.Talk.{talk_state_from, IsTalk, IsCartTalk, IsMovieTalk}
 use Rattle.tas_tool.specs.Pixmaps.{IsExportAnswer}
 use Rattle.tas_tool.specs.MovieScripts.{IsMovieScriptRun}
 use Rattle.tas_edit.specs.Runs.{IsEditRun, IsDiffRun}
@@ -69,7 +69,7 @@ DoesTask A files (Diff cart before) old new end =
 DoesTask A files Script old new end = IsScriptRun A old.input new.input old.output new.output end
 DoesTask A files (MovieScript cart movie) old new end =
     EndsOverTwo (files cart.now) (files movie.now) (λ file left file' left'. IsMovieScriptRun A file left file' left' old.input new.input old.output new.output end) old new end
-DoesTask A files Talk old new end = IsTalk A (stand_from None) old.input new.input old.output new.output end
+DoesTask A files Talk old new end = IsTalk A (talk_state_from None) old.input new.input old.output new.output end
 DoesTask A files (CartTalk cart) old new end = EndsOver (files cart.now) (λ file left. IsCartTalk A file left old.input new.input old.output new.output end) old new end
 DoesTask A files (MovieTalk cart movie) old new end =
     EndsOverTwo (files cart.now) (files movie.now) (λ file left file' left'. IsMovieTalk A file left file' left' old.input new.input old.output new.output end) old new end

@@ -1,6 +1,5 @@
 -- The export of a movie that was made by two edits.
 use Rattle.std.proofs.Common.{◌≡◌, ℕ, ◌-◌, ◌≤◌, List, length, take, Option, Result, Ok, Err, inl, inr, refl, sym, ap, subst, ◌∙◌, arith}
-use Rattle.std.proofs.lemmas.Bool.{eq-eqb}
 use Rattle.std.proofs.lemmas.List.{take-append-le, take_all}
 use Rattle.std.proofs.KnownBytes.{Keeps-refl}
 use Rattle.std.specs.Io.KnownBytes.{Keeps}
@@ -10,19 +9,21 @@ use Rattle.tas_movie.specs.Content.{MovieContent}
 use Rattle.tas_desk.specs.declared.entry.Entry.{Entry}
 use Rattle.tas_desk.specs.declared.export.Exported.{Exported}
 use Rattle.tas_desk.specs.declared.runs.Plan.{Plan}
-use Rattle.tas_desk.specs.declared.export.ExportError.TheVariants.{Range as OffRange, Halted as HaltedAt}
+use Rattle.tas_desk.specs.declared.export.ExportError.TheVariants.{Range as OffRange, Memory as OutOfRoom, Halted as HaltedAt}
 use Rattle.tas_desk.specs.History.{movie_of, entries_of}
 use Rattle.tas_desk.specs.Seats.{SeatContent, HasSeen}
 use Rattle.tas_desk.specs.Zones.{ZoneContent}
-use Rattle.tas_desk.specs.Exports.{IsExport}
-use Rattle.tas_desk.specs.Frames.{pixmaps_of}
+use Rattle.tas_desk.specs.Exporting.{BrokeOff}
+use Rattle.tas_desk.specs.Exports.{IsInRange, IsExport}
+use Rattle.tas_desk.specs.Frames.{AllDrawn, pixmaps_of}
 use Rattle.tas_engines.specs.declared.fault.RunFault.{RunFault}
-use Rattle.tas_engines.specs.declared.fault.RunFault.TheVariants.{Range}
+use Rattle.tas_engines.specs.declared.fault.RunFault.TheVariants.{Write, Size, Text, NoFrame, Range, Halted, Script, EditPlace, EditLong, NoPlace, NoEntry, Foreign, Memory}
 use Rattle.tas_engines.specs.Movies.{halt_fault, IsMovieOf}
 use Rattle.tas_engines.specs.Output.{Ends}
 use Rattle.tas_tool.specs.Pixmaps.{IsPixmapsAnswer, IsExportAnswer}
-use Rattle.tas_tool.specs.TwoEdits.{own_end, HoldsMovie}
-use Rattle.tas_tool.proofs.TurnLemmas.{longer}
+use Rattle.tas_tool.specs.Checking.{checked_end}
+use Rattle.tas_tool.specs.TwoEdits.{HoldsMovie, IsMakingFault, StandsAtOwn}
+use Rattle.tas_tool.proofs.TurnLemmas.{longer, more_than, checked_cases}
 
 pub still_holds : {A : Type 0} (before now : SeatContent A) (movie : MovieContent) → HasSeen before now → HoldsMovie before movie → HoldsMovie now movie
 still_holds {A} before now movie seen holds =
@@ -35,12 +36,6 @@ still_holds {A} before now movie seen holds =
       own = ap (λ (k : ℕ). entries_of k (take 2 now.front)) seen.number ∙ ap (λ (l : List (Entry A)). entries_of before.number l) first ∙ holds.own;
       movie_is = ap (λ (l : List (Entry A)). movie_of l) first ∙ holds.movie_is;
     }
-
-own_is : {A : Type 0} (seat : SeatContent A) (movie : MovieContent) (at : ℕ) (end : Result (Unit {0}) RunFault) → HoldsMovie seat movie → at ≡ length seat.front → length seat.front ≤ seat.made → own_end at end ≡ end
-own_is {A} seat movie at end holds is le =
-    let two = holds.seen in
-    let made = holds.made in
-    rw (eq-eqb at 2 (omega (arith, two, made, is, le))) refl
 
 -- the movie of a seat that has seen no others' edits
 own_movie : {A : Type 0} (seat : SeatContent A) (movie : MovieContent) → HoldsMovie seat movie → length seat.front ≤ seat.made → movie_of seat.front ≡ movie
@@ -55,9 +50,24 @@ at_movie {A} seat movie from to old new end holds ends le = subst (λ (m : Movie
 
 -- the same where the answer was compared
 pub told_at : {A : Type 0} (seat : SeatContent A) (movie : MovieContent) (at from to : ℕ) (old new : Option (List ℕ)) (end told : Result (Unit {0}) RunFault) → HoldsMovie seat movie → at ≡ length seat.front
-    → Ends (IsPixmapsAnswer (movie_of seat.front) from to) old new end → told ≡ own_end at end → length seat.front ≤ seat.made → Ends (IsPixmapsAnswer movie from to) old new told
+    → Ends (IsPixmapsAnswer (movie_of seat.front) from to) old new end → told ≡ checked_end 2 at end → length seat.front ≤ seat.made → Ends (IsPixmapsAnswer movie from to) old new told
 told_at {A} seat movie at from to old new end told holds is ends same le =
-    subst (λ (r : Result (Unit {0}) RunFault). Ends (IsPixmapsAnswer movie from to) old new r) (sym (same ∙ own_is seat movie at end holds is le)) (at_movie seat movie from to old new end holds ends le)
+    let two = holds.seen in
+    let made = holds.made in
+    checked_cases 2 at end told (Ends (IsPixmapsAnswer movie from to) old new) same (λ (here : at ≡ 2). at_movie seat movie from to old new end holds ends le)
+    (λ (other : at ≡ 2 → ⊥). absurd (other (omega (arith, two, made, is, le))))
+
+-- where it stands
+pub own_at : {A : Type 0} (seat : SeatContent A) (movie : MovieContent) (at : ℕ) (end told : Result (Unit {0}) RunFault) → HoldsMovie seat movie → at ≡ length seat.front → (length seat.front ≡ seat.made → StandsAtOwn seat end)
+    → told ≡ checked_end 2 at end → StandsAtOwn seat told
+own_at seat movie at end told holds is stands same =
+    let two = holds.seen in
+    let made = holds.made in
+    checked_cases 2 at end told (StandsAtOwn seat) same (λ (here : at ≡ 2). stands (omega (arith, is, here, made)))
+    (λ (other : at ≡ 2 → ⊥). more_than seat.made (length seat.front) (omega (arith, two, made)) (λ (own : length seat.front ≡ seat.made). other (omega (arith, is, own, made))))
+
+pub halted_own : {A : Type 0} (seat : SeatContent A) (halt : Halt) (fault : RunFault) → fault ≡ halt_fault halt → length seat.front ≡ seat.made → StandsAtOwn seat (Err fault)
+halted_own seat (Undocumented address opcode) fault is own = subst (λ (f : RunFault). StandsAtOwn seat (Err f)) (sym is) own
 
 kept : (old new : Option (List ℕ)) → new ≡ old → Keeps old new
 kept old new same = subst (λ (o : Option (List ℕ)). Keeps old o) (sym same) (Keeps-refl old)
@@ -75,6 +85,36 @@ pub halted_ends : {A : Type 0} (zone : ZoneContent A) (movie : MovieContent) (ed
     → fault ≡ halt_fault halt → Ends (IsPixmapsAnswer movie plan.from plan.to) old new (Err fault)
 halted_ends zone movie edits plan old new at frame (Undocumented address opcode) fault is told =
     subst (λ (f : RunFault). Ends (IsPixmapsAnswer movie plan.from plan.to) old new (Err f)) (sym told) (inl ((is.1, (frame, is.2)), kept old new is.3))
+
+pub memory_ends : {A : Type 0} (zone : ZoneContent A) (movie : MovieContent) (edits : ℕ) (plan : Plan) (old new : Option (List ℕ)) → IsExport zone movie edits plan old new (Err OutOfRoom)
+    → Ends (IsPixmapsAnswer movie plan.from plan.to) old new (Err Memory)
+memory_ends zone movie edits plan old new is = inl (tt, kept old new is.1)
+
+pub write_ends : (movie : MovieContent) (plan : Plan) (old new : Option (List ℕ)) (written : ℕ) → IsInRange (length movie.inputs) plan.from plan.to → AllDrawn movie plan.from plan.to
+    → BrokeOff old new (pixmaps_of movie plan.from (plan.to - plan.from)) written → Ends (IsPixmapsAnswer movie plan.from plan.to) old new (Err (Write written))
+write_ends movie plan old new written range drawn broke =
+    inr (record {
+      bytes = pixmaps_of movie plan.from (plan.to - plan.from);
+      answer = record { range = range; drawn = drawn; pixmaps = refl };
+      stops = record { written = written; is_write = refl; rest_is_missing = broke.missing; front = broke.front };
+    })
+
+-- the movie isn't made
+pub unmade_ends : {A : Type 0} (seat : SeatContent A) (movie : MovieContent) (from to : ℕ) (old : Option (List ℕ)) (fault : RunFault) → IsMakingFault seat fault → length seat.front ≤ seat.made
+    → Ends (IsPixmapsAnswer movie from to) old old (Err fault)
+unmade_ends seat movie from to old Memory is own = inl (tt, Keeps-refl old)
+unmade_ends seat movie from to old Foreign is own = absurd (omega (arith, is, own))
+unmade_ends seat movie from to old NoEntry is own = absurd is
+unmade_ends seat movie from to old NoPlace is own = absurd is
+unmade_ends seat movie from to old (Write written) is own = absurd is
+unmade_ends seat movie from to old (Size n) is own = absurd is
+unmade_ends seat movie from to old (Text error) is own = absurd is
+unmade_ends seat movie from to old (NoFrame frame len) is own = absurd is
+unmade_ends seat movie from to old (Range first end len) is own = absurd is
+unmade_ends seat movie from to old (Halted at opcode) is own = absurd is
+unmade_ends seat movie from to old (Script line) is own = absurd is
+unmade_ends seat movie from to old (EditPlace line) is own = absurd is
+unmade_ends seat movie from to old (EditLong line) is own = absurd is
 
 -- what an export of a movie does, it does for the cartridge and the text that the movie is one of
 pub movie_ends : (from to : ℕ) (image bytes : List ℕ) (movie : MovieContent) (old new : Option (List ℕ)) (end : Result (Unit {0}) RunFault) → IsMovieOf image bytes movie → Ends (IsPixmapsAnswer movie from to) old new end

@@ -1,7 +1,7 @@
 -- A movie that is made by two edits.
-use Rattle.std.proofs.Common.{◌≡◌, ℕ, ◌+◌, ◌<◌, ◌≤◌, List, [], ◌∷◌, ◌++◌, length, take, Bool, true, false, cond, Option, Some, None, Result, Ok, Err, inl, inr, refl, sym, ap, subst, ◌∙◌, arith, length-append, append-nil}
-use Rattle.std.specs.Prelude.{◌==◌, OnOk, IfErr}
-use Rattle.std.proofs.lemmas.Bool.{eqb-true, eq-eqb, le-ltb, cases_lt}
+use Rattle.std.proofs.Common.{◌≡◌, ℕ, ◌+◌, ◌<◌, ◌≤◌, List, [], ◌∷◌, ◌++◌, length, take, Option, Some, None, Result, Ok, Err, inl, inr, refl, sym, ap, subst, ◌∙◌, arith, length-append, append-nil}
+use Rattle.std.specs.Prelude.{OnOk, IfErr}
+use Rattle.std.proofs.lemmas.Bool.{le-ltb, cases_lt}
 use Rattle.std.proofs.lemmas.List.{take_all}
 use mathlib.Core.List.{IsPrefix}
 use Rattle.vcs_machine.specs.declared.input.Input.{Input}
@@ -19,12 +19,11 @@ use Rattle.tas_desk.specs.Session.{refusal_at, IsEditError}
 use Rattle.tas_desk.specs.Seats.{SeatContent, seat_of, entry_of, IsEdited}
 use Rattle.tas_desk.specs.Zones.{ZoneContent}
 use Rattle.tas_desk.proofs.HistoryLemmas.{movie_of-push, movie_of-none}
-use Rattle.tas_desk.proofs.SeatLemmas.{count_by-cons}
 use Rattle.tas_engines.specs.declared.fault.RunFault.{RunFault}
-use Rattle.tas_engines.specs.declared.fault.RunFault.TheVariants.{Foreign}
 use Rattle.tas_tool.specs.Turns.{HasForeign}
-use Rattle.tas_tool.specs.TwoEdits.{edit_fault, own_end, HoldsMovie, IsMakingFault}
-use Rattle.tas_tool.proofs.TurnLemmas.{entries_push, more_than}
+use Rattle.tas_tool.specs.Checking.{checked_end}
+use Rattle.tas_tool.specs.TwoEdits.{edit_fault, HoldsMovie, IsMakingFault}
+use Rattle.tas_tool.proofs.TurnLemmas.{entries_push, more_than, checked_cases}
 
 -- ---- the first edit
 
@@ -36,9 +35,6 @@ load_of A cart = Load cart
 
 abbrev insert_of : (A : Type 0) → List Input → Edit A
 insert_of A inputs = Insert 0 inputs
-
-abbrev one_if : Bool → ℕ
-one_if b = cond b 1 0
 
 -- the seat loaded a cartridge, and has made no other edit
 pub record HasLoaded {A : Type 0} (seat : SeatContent A) (cart : List ℕ) : Type 0 where
@@ -63,11 +59,7 @@ loaded_movie {A} at entry cart is none =
     ∙ ap (λ (m : MovieContent). edited m (load_of A cart)) (movie_of-none A)
 
 loaded_count : {A : Type 0} (at : List (Entry A)) (entry : Entry A) → entry.seat ≡ 0 → at ≡ [] → entries_of 0 (at ++ entry ∷ []) ≡ 1
-loaded_count {A} at entry is none =
-    let alone : entries_of 0 (at ++ entry ∷ []) ≡ entries_of 0 (entry ∷ []) = ap (λ (l : List (Entry A)). entries_of 0 (l ++ entry ∷ [])) none in
-    let one = count_by-cons (λ (e : Entry A). e.seat == 0) entry [] in
-    let mine : one_if (entry.seat == 0) ≡ 1 = ap one_if (eq-eqb entry.seat 0 is) in
-    omega (arith, alone, one, mine)
+loaded_count {A} at entry is none = entries_push at entry 0 is ∙ ap (λ (l : List (Entry A)). entries_of 0 l + 1) none
 
 loaded_at : {A : Type 0} (zone : ZoneContent A) (at : List (Entry A)) (number made : ℕ) (cart : List ℕ) → number ≡ 0 → made ≡ 0
     → HasLoaded (seat_of number (made + 1) (at ++ entry_of number made (Load cart) ∷ []) zone) cart
@@ -163,19 +155,12 @@ seen_others seat cart inputs second other =
 abbrev IsMade : {A : Type 0} → SeatContent A → MovieContent → Result (Unit {0}) RunFault → Type 0
 IsMade seat movie r = OnOk r (HoldsMovie seat movie) × IfErr r (IsMakingFault seat)
 
-ended : {A : Type 0} (seat : SeatContent A) (cart : List ℕ) (inputs : List Input) (at : ℕ) (r : Result (Unit {0}) RunFault) → HasInserted seat cart inputs → at ≡ length seat.front → r ≡ own_end at (Ok tt)
+ended : {A : Type 0} (seat : SeatContent A) (cart : List ℕ) (inputs : List Input) (at : ℕ) (r : Result (Unit {0}) RunFault) → HasInserted seat cart inputs → at ≡ length seat.front → r ≡ checked_end 2 at (Ok tt)
     → IsMade seat (record { cart = cart; inputs = inputs }) r
-ended {A} seat cart inputs at r second here is = go (at == 2) refl
-  where
-    Goal : Result (Unit {0}) RunFault → Type 0
-    Goal x = IsMade seat (record { cart = cart; inputs = inputs }) x
-
-    go : (b : Bool) → at == 2 ≡ b → Goal r
-    go true e = let e' : r ≡ Ok tt = is ∙ rw e refl in subst Goal (sym e') (holds seat cart inputs second (sym here ∙ eqb-true at 2 e), tt)
-    go false e =
-        let e' : r ≡ Err Foreign = is ∙ rw e refl in
-        let other : length seat.front ≡ 2 → ⊥ = λ (same : length seat.front ≡ 2). let t : true ≡ false = sym (eq-eqb at 2 (here ∙ same)) ∙ e in absurd (cc t) in
-        subst Goal (sym e') (tt, seen_others seat cart inputs second other)
+ended {A} seat cart inputs at r second here is =
+    checked_cases 2 at (Ok tt) r (λ (x : Result (Unit {0}) RunFault). IsMade seat (record { cart = cart; inputs = inputs }) x) is
+    (λ (same : at ≡ 2). (holds seat cart inputs second (sym here ∙ same), tt))
+    (λ (other : at ≡ 2 → ⊥). (tt, seen_others seat cart inputs second (λ (same : length seat.front ≡ 2). other (here ∙ same))))
 
 inserted : {A : Type 0} (before now : SeatContent A) (cart : List ℕ) (inputs : List Input) (receipt : Receipt) → length inputs ≤ most_inputs → HasLoaded before cart → IsEdited before now (Insert 0 inputs) (Ok receipt)
     → HasInserted now cart inputs
@@ -189,7 +174,7 @@ inserted_here {A} before now edit receipt e =
     counted ∙ sym long
 
 pub movie_made : {A : Type 0} (before now : SeatContent A) (movie : MovieContent) (cart : List ℕ) (inputs : List Input) (receipt : Receipt) (r : Result (Unit {0}) RunFault) → movie ≡ record { cart = cart; inputs = inputs }
-    → length inputs ≤ most_inputs → HasLoaded before cart → IsEdited before now (Insert 0 inputs) (Ok receipt) → r ≡ own_end receipt.at (Ok tt) → IsMade now movie r
+    → length inputs ≤ most_inputs → HasLoaded before cart → IsEdited before now (Insert 0 inputs) (Ok receipt) → r ≡ checked_end 2 receipt.at (Ok tt) → IsMade now movie r
 movie_made {A} before now movie cart inputs receipt r whole few first edit is =
     subst (λ (m : MovieContent). IsMade now m r) (sym whole)
     (ended now cart inputs receipt.at r (inserted before now cart inputs receipt few first edit) (inserted_here before now (insert_of A inputs) receipt edit) is)
@@ -213,6 +198,11 @@ making_fault {A} seat edit error found none = go error found
     go (Full at) is = more (Full at) is
     go (Place at place len) is = more (Place at place len) is
     go (Long at len) is = more (Long at len) is
+
+pub load_refused : {A : Type 0} (before now : SeatContent A) (cart : List ℕ) (error : EditError) → before.made ≡ 0 → IsEdited before now (Load cart) (Err error) → IsMakingFault now (edit_fault error)
+load_refused {A} before now cart error none edit =
+    let free : length edit.at ≤ before.made → refusal_at edit.at before.number before.made (Load cart) ≡ None = λ le. rw (empty_of edit.at (omega (arith, none, le)), none) refl in
+    subst (λ (s : SeatContent A). IsMakingFault s (edit_fault error)) (sym edit.seat) (making_fault (seat_of before.number before.made edit.at before.zone) (Load cart) error edit.refusal free)
 
 second_allowed : {A : Type 0} (seat : SeatContent A) (at : List (Entry A)) (cart : List ℕ) (inputs : List Input) → length inputs ≤ most_inputs → HasLoaded seat cart → IsPrefix seat.front at → length at ≤ seat.made
     → refusal_at at seat.number seat.made (Insert 0 inputs) ≡ None

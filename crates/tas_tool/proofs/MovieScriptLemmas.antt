@@ -8,10 +8,10 @@ use Rattle.tas_desk.specs.Seats.{SeatContent}
 use Rattle.tas_engines.specs.declared.fault.RunFault.{RunFault}
 use Rattle.tas_engines.specs.declared.fault.RunFault.TheVariants.{Write, Size, Text, NoFrame as OffMovie, Range as OffRange, Halted as Stopped, Script, EditPlace, EditLong, NoPlace, NoEntry, Foreign, Memory}
 use Rattle.tas_engines.specs.Movies.{IsMovieOf}
-use Rattle.tas_tool.specs.Turns.{Front, front_of, BeginsWithOwn}
+use Rattle.tas_tool.specs.Turns.{OwnEdits, own_edits_of, BeginsWithOwn}
 use Rattle.tas_tool.specs.TwoEdits.{HoldsMovie, IsMakingFault}
 use Rattle.tas_tool.specs.Scripts.{Answers}
-use Rattle.tas_tool.specs.MovieScripts.{movie_front, IsUnmade, AnswersOver, RunsOver}
+use Rattle.tas_tool.specs.MovieScripts.{own_edits_of_movie, IsUnmade, AnswersOver, RunsOver}
 use Rattle.tas_tool.proofs.ScriptLemmas.{written}
 
 -- a seat that holds a movie begins with its own edits
@@ -25,10 +25,10 @@ holds_own {A} seat movie holds =
     }
 
 -- which make the movie
-pub holds_front : {A : Type 0} (seat : SeatContent A) (movie : MovieContent) → HoldsMovie seat movie → front_of seat ≡ movie_front movie
-holds_front {A} seat movie holds =
-    ap (λ (n : ℕ). let f : Front = record { movie = movie_of (take n seat.front); made = n } in f) holds.made
-    ∙ ap (λ (m : MovieContent). let f : Front = record { movie = m; made = 2 } in f) holds.movie_is
+pub holds_own_edits : {A : Type 0} (seat : SeatContent A) (movie : MovieContent) → HoldsMovie seat movie → own_edits_of seat ≡ own_edits_of_movie movie
+holds_own_edits {A} seat movie holds =
+    ap (λ (n : ℕ). let f : OwnEdits = record { movie = movie_of (take n seat.front); made = n } in f) holds.made
+    ∙ ap (λ (m : MovieContent). let f : OwnEdits = record { movie = m; made = 2 } in f) holds.movie_is
 
 -- the movie isn't made
 unmade_by : {A : Type 0} (seat : SeatContent A) (fault : RunFault) → IsMakingFault seat fault → length seat.front ≤ seat.made → IsUnmade fault
@@ -49,10 +49,10 @@ unmade_by seat (EditLong line) is own = absurd is
 pub unmade : (A : Type 0) (movie : MovieContent) (bytes text : List ℕ) (seat : SeatContent A) (fault : RunFault) → text ≡ [] → IsMakingFault seat fault → length seat.front ≤ seat.made → AnswersOver A movie bytes text (Err fault)
 unmade A movie bytes text seat fault none is own = inl (none, unmade_by seat fault is own)
 
--- the lines are answered from the movie's front on
-pub answered_over : (A : Type 0) (movie : MovieContent) (front : Front) (bytes text : List ℕ) (end : Result (Unit {0}) RunFault) → front ≡ movie_front movie → Answers A front bytes text end → AnswersOver A movie bytes text end
-answered_over A movie front bytes text (Ok u) at answers = subst (λ (f : Front). Answers A f bytes text (Ok u)) at answers
-answered_over A movie front bytes text (Err fault) at answers = inr (subst (λ (f : Front). Answers A f bytes text (Err fault)) at answers)
+-- the lines are answered from the movie's two edits on
+pub answered_over : (A : Type 0) (movie : MovieContent) (own : OwnEdits) (bytes text : List ℕ) (end : Result (Unit {0}) RunFault) → own ≡ own_edits_of_movie movie → Answers A own bytes text end → AnswersOver A movie bytes text end
+answered_over A movie own bytes text (Ok u) at answers = subst (λ (f : OwnEdits). Answers A f bytes text (Ok u)) at answers
+answered_over A movie own bytes text (Err fault) at answers = inr (subst (λ (f : OwnEdits). Answers A f bytes text (Err fault)) at answers)
 
 -- there is no desk for the movie
 pub unopened_over : (A : Type 0) (image said bytes : List ℕ) (movie : MovieContent) (old : Option (List ℕ)) → IsMovieOf image said movie → RunsOver A image said bytes old old (Err Memory)

@@ -12,8 +12,8 @@ use Rattle.tas_desk.proofs.HistoryLemmas.{movie_of-none}
 use Rattle.tas_desk.proofs.SeatLemmas.{count_by-cons}
 use Rattle.tas_engines.specs.declared.fault.RunFault.{RunFault}
 use Rattle.tas_engines.specs.declared.fault.RunFault.TheVariants.{NoPlace, Memory}
-use Rattle.tas_tool.specs.Turns.{Front, front_of, BeginsWithOwn}
-use Rattle.tas_tool.specs.Scripts.{start_front}
+use Rattle.tas_tool.specs.Turns.{OwnEdits, own_edits_of, BeginsWithOwn}
+use Rattle.tas_tool.specs.Scripts.{own_edits_at_start}
 
 -- ---- the seat of a desk that was just opened
 
@@ -32,8 +32,8 @@ fresh_own seat zone is = subst BeginsWithOwn (sym is) (record { seen = omega ari
 pub fresh_made : {A : Type 0} (seat : SeatContent A) (zone : ZoneContent A) → seat ≡ seat_of 0 0 [] zone → seat.made ≡ 0
 fresh_made {A} seat zone is = ap (λ (s : SeatContent A). s.made) is
 
-pub fresh_front : {A : Type 0} (seat : SeatContent A) (zone : ZoneContent A) → seat ≡ seat_of 0 0 [] zone → front_of seat ≡ start_front
-fresh_front {A} seat zone is = ap (λ (s : SeatContent A). front_of s) is ∙ ap (λ (m : MovieContent). let f : Front = record { movie = m; made = 0 } in f) (movie_of-none A)
+pub fresh_own_edits : {A : Type 0} (seat : SeatContent A) (zone : ZoneContent A) → seat ≡ seat_of 0 0 [] zone → own_edits_of seat ≡ own_edits_at_start
+fresh_own_edits {A} seat zone is = ap (λ (s : SeatContent A). own_edits_of s) is ∙ ap (λ (m : MovieContent). let f : OwnEdits = record { movie = m; made = 0 } in f) (movie_of-none A)
 
 pub fresh_first : {A : Type 0} (seat : SeatContent A) (zone : ZoneContent A) → seat ≡ seat_of 0 0 [] zone → (seat.number ≡ 0) × (seat.made ≡ 0) × (seat.front ≡ [])
 fresh_first {A} seat zone is = (ap (λ (s : SeatContent A). s.number) is, ap (λ (s : SeatContent A). s.made) is, ap (λ (s : SeatContent A). s.front) is)

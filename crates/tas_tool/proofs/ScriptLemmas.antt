@@ -15,8 +15,8 @@ use Rattle.tas_script.specs.declared.reply.Reply.{Reply}
 use Rattle.tas_script.specs.Commands.{Says, NoByte}
 use Rattle.tas_script.specs.Replies.{reply_text}
 use Rattle.tas_desk.specs.Seats.{SeatContent}
-use Rattle.tas_tool.specs.Turns.{Unforeseen, Front, IsDeskFault, reply_to, front_after}
-use Rattle.tas_tool.specs.Scripts.{Turn, turn_line, AreSaid, front_after_all, replies_to_all, IsUnclear, IsStop, Reads, Answers, start_front, EndsWithReplies, RunsScript, IsScriptRun}
+use Rattle.tas_tool.specs.Turns.{OwnEdits, IsDeskFault, reply_to, own_edits_after}
+use Rattle.tas_tool.specs.Scripts.{Turn, turn_line, AreSaid, own_edits_after_all, replies_to_all, IsUnclear, IsStop, Reads, Answers, own_edits_at_start, EndsWithReplies, RunsScript, IsScriptRun}
 use Rattle.tas_script.proofs.WordLemmas.{no_parts, same_front}
 
 -- ---- one line more
@@ -30,32 +30,29 @@ unfolding AreSaid
 said_more [] turn h s n = ((s, n), tt)
 said_more (t ∷ turns) turn h s n = (h.0, said_more turns turn h.1 s n)
 
-front_more : (A : Type 0) (front : Front) (turns : List Turn) (turn : Turn) → front_after_all A front (turns ++ turn ∷ []) ≡ front_after A turn.unforeseen (front_after_all A front turns) turn.command
-unfolding front_after_all
-front_more A front [] turn = refl
-front_more A front (t ∷ turns) turn = front_more A (front_after A t.unforeseen front t.command) turns turn
+own_edits_more : (A : Type 0) (own : OwnEdits) (turns : List Turn) (turn : Turn) → own_edits_after_all A own (turns ++ turn ∷ []) ≡ own_edits_after A turn.unforeseen (own_edits_after_all A own turns) turn.command
+unfolding own_edits_after_all
+own_edits_more A own [] turn = refl
+own_edits_more A own (t ∷ turns) turn = own_edits_more A (own_edits_after A t.unforeseen own t.command) turns turn
 
-replies_more : (A : Type 0) (front : Front) (turns : List Turn) (turn : Turn)
-    → replies_to_all A front (turns ++ turn ∷ []) ≡ replies_to_all A front turns ++ reply_text (reply_to A turn.unforeseen (front_after_all A front turns) turn.command)
-unfolding replies_to_all front_after_all
-replies_more A front [] turn = append-nil (reply_text (reply_to A turn.unforeseen front turn.command))
-replies_more A front (t ∷ turns) turn =
-    let first : List ℕ = reply_text (reply_to A t.unforeseen front t.command) in
-    let next : Front = front_after A t.unforeseen front t.command in
+replies_more : (A : Type 0) (own : OwnEdits) (turns : List Turn) (turn : Turn)
+    → replies_to_all A own (turns ++ turn ∷ []) ≡ replies_to_all A own turns ++ reply_text (reply_to A turn.unforeseen (own_edits_after_all A own turns) turn.command)
+unfolding replies_to_all own_edits_after_all
+replies_more A own [] turn = append-nil (reply_text (reply_to A turn.unforeseen own turn.command))
+replies_more A own (t ∷ turns) turn =
+    let first : List ℕ = reply_text (reply_to A t.unforeseen own t.command) in
+    let next : OwnEdits = own_edits_after A t.unforeseen own t.command in
     ap (λ (r : List ℕ). first ++ r) (replies_more A next turns turn)
-    ∙ sym (append_assoc first (replies_to_all A next turns) (reply_text (reply_to A turn.unforeseen (front_after_all A next turns) turn.command)))
+    ∙ sym (append_assoc first (replies_to_all A next turns) (reply_text (reply_to A turn.unforeseen (own_edits_after_all A next turns) turn.command)))
 
 pub reads_none : (bytes : List ℕ) → Reads bytes [] bytes
 unfolding AreSaid
 reads_none bytes = record { text = refl; said = tt }
 
 -- nothing is read at first
-pub begun : (A : Type 0) (front : Front) → (front_after_all A front [] ≡ front) × (replies_to_all A front [] ≡ [])
-unfolding front_after_all replies_to_all
-begun A front = (refl, refl)
-
-turn_of : List ℕ → Command → Unforeseen → Turn
-turn_of said command unforeseen = record { said = said; command = command; unforeseen = unforeseen }
+pub begun : (A : Type 0) (own : OwnEdits) → (own_edits_after_all A own [] ≡ own) × (replies_to_all A own [] ≡ [])
+unfolding own_edits_after_all replies_to_all
+begun A own = (refl, refl)
 
 pub count_more : (turns : List Turn) (turn : Turn) → length (turns ++ turn ∷ []) ≡ length turns + 1
 count_more turns turn = length-append turns (turn ∷ [])
@@ -69,17 +66,17 @@ reads_more bytes rest first after turns turn reads same is none says = record {
   said = said_more turns turn reads.said (subst (λ (l : List ℕ). Says l turn.command) (sym same) says) (subst (λ (l : List ℕ). NoByte 10 l) (sym same) none);
 }
 
-pub front_answered : (A : Type 0) (start old new : Front) (turns : List Turn) (turn : Turn) (reply : Reply) → front_after_all A start turns ≡ old → new ≡ front_after A turn.unforeseen old turn.command
-    → front_after_all A start (turns ++ turn ∷ []) ≡ new
-front_answered A start old new turns turn reply at is = front_more A start turns turn ∙ ap (λ (f : Front). front_after A turn.unforeseen f turn.command) at ∙ sym is
+pub own_edits_answered : (A : Type 0) (start old new : OwnEdits) (turns : List Turn) (turn : Turn) (reply : Reply) → own_edits_after_all A start turns ≡ old → new ≡ own_edits_after A turn.unforeseen old turn.command
+    → own_edits_after_all A start (turns ++ turn ∷ []) ≡ new
+own_edits_answered A start old new turns turn reply at is = own_edits_more A start turns turn ∙ ap (λ (f : OwnEdits). own_edits_after A turn.unforeseen f turn.command) at ∙ sym is
 
-pub replies_answered : (A : Type 0) (start old : Front) (turns : List Turn) (turn : Turn) (reply : Reply) (before words after : List ℕ) → front_after_all A start turns ≡ old
+pub replies_answered : (A : Type 0) (start old : OwnEdits) (turns : List Turn) (turn : Turn) (reply : Reply) (before words after : List ℕ) → own_edits_after_all A start turns ≡ old
     → reply ≡ reply_to A turn.unforeseen old turn.command → before ≡ replies_to_all A start turns → words ≡ reply_text reply → after ≡ before ++ words
     → after ≡ replies_to_all A start (turns ++ turn ∷ [])
 replies_answered A start old turns turn reply before words after at is text line put =
     put
     ∙ ap (λ (l : List ℕ). l ++ words) text
-    ∙ ap (λ (l : List ℕ). replies_to_all A start turns ++ l) (line ∙ ap reply_text (is ∙ ap (λ (f : Front). reply_to A turn.unforeseen f turn.command) (sym at)))
+    ∙ ap (λ (l : List ℕ). replies_to_all A start turns ++ l) (line ∙ ap reply_text (is ∙ ap (λ (f : OwnEdits). reply_to A turn.unforeseen f turn.command) (sym at)))
     ∙ sym (replies_more A start turns turn)
 
 -- ---- a line that isn't understood
@@ -102,14 +99,14 @@ reads_all bytes (b ∷ rest) turns none reads = absurd (omega arith)
 
 -- no line is answered
 pub nothing_answered : (A : Type 0) (bytes : List ℕ) (old : Option (List ℕ)) → RunsScript A bytes old old (Err Memory)
-nothing_answered A bytes old = inl ([], ([], bytes, reads_none bytes, sym (begun A start_front).1, tt), Appends-nil old)
+nothing_answered A bytes old = inl ([], ([], bytes, reads_none bytes, sym (begun A own_edits_at_start).1, tt), Appends-nil old)
 
 -- no line is answered yet
-pub unanswered : (A : Type 0) (bytes text : List ℕ) → text ≡ [] → Answers A start_front bytes text (Err Memory)
-unanswered A bytes text is = ([], bytes, reads_none bytes, is ∙ sym (begun A start_front).1, tt)
+pub unanswered : (A : Type 0) (bytes text : List ℕ) → text ≡ [] → Answers A own_edits_at_start bytes text (Err Memory)
+unanswered A bytes text is = ([], bytes, reads_none bytes, is ∙ sym (begun A own_edits_at_start).1, tt)
 
-pub unplaced : (A : Type 0) (bytes text : List ℕ) → text ≡ [] → Answers A start_front bytes text (Err NoPlace)
-unplaced A bytes text is = ([], bytes, reads_none bytes, is ∙ sym (begun A start_front).1, refl)
+pub unplaced : (A : Type 0) (bytes text : List ℕ) → text ≡ [] → Answers A own_edits_at_start bytes text (Err NoPlace)
+unplaced A bytes text is = ([], bytes, reads_none bytes, is ∙ sym (begun A own_edits_at_start).1, refl)
 
 -- a fault of the desk's stops the script, where the seat has seen just its own edits
 pub desk_stop : {A : Type 0} (seat : SeatContent A) (fault : RunFault) (turns : List Turn) (rest : List ℕ) → 0 < length rest → IsDeskFault seat fault → length seat.front ≤ seat.made → IsStop rest turns fault

@@ -23,28 +23,28 @@ use Rattle.tas_talk.specs.Requests.{IsHeard}
 use Rattle.tas_talk.specs.Held.{HoldsLine}
 use Rattle.tas_talk.specs.Answers.{unknown_text}
 use Rattle.tas_tool.specs.declared.talking.Progress.{Progress}
-use Rattle.tas_tool.specs.Turns.{Front, front_of, BeginsWithOwn}
-use Rattle.tas_tool.specs.Scripts.{start_front}
-use Rattle.tas_tool.specs.MovieScripts.{movie_front}
+use Rattle.tas_tool.specs.Turns.{OwnEdits, own_edits_of, BeginsWithOwn}
+use Rattle.tas_tool.specs.Scripts.{own_edits_at_start}
+use Rattle.tas_tool.specs.MovieScripts.{own_edits_of_movie}
 use Rattle.tas_tool.specs.TwoEdits.{HoldsMovie, IsMakingFault}
-use Rattle.tas_tool.specs.Talk.{Stand, fresh_stand, Exchange, IsExchange, AreExchanges, IsCutOff, IsTalk, lines_of, answers_of, last_answer, most_counted}
-use Rattle.tas_tool.specs.Talking.{stand_of, CutsOff, HasAnswered, Breaks, StopsAfter, IsToldTo, IsTalkFault, IsLineTurn, IsPartTurn}
-use Rattle.tas_tool.proofs.MovieScriptLemmas.{holds_front}
+use Rattle.tas_tool.specs.Talk.{TalkState, fresh_talk_state, Exchange, IsExchange, AreExchanges, IsCutOff, IsTalk, lines_of, answers_of, last_answer, most_counted}
+use Rattle.tas_tool.specs.Talking.{talk_state_of, CutsOff, HasAnswered, Breaks, StopsAfter, IsToldTo, IsTalkFault, IsLineTurn, IsPartTurn}
+use Rattle.tas_tool.proofs.MovieScriptLemmas.{holds_own_edits}
 
 -- ---- lists of exchanges
 
-exchanges_more : (A : Type 0) (a b c : Stand) (xs ys : List Exchange) → AreExchanges A a xs b → AreExchanges A b ys c → AreExchanges A a (xs ++ ys) c
+exchanges_more : (A : Type 0) (a b c : TalkState) (xs ys : List Exchange) → AreExchanges A a xs b → AreExchanges A b ys c → AreExchanges A a (xs ++ ys) c
 unfolding AreExchanges
-exchanges_more A a b c [] ys p q = subst (λ (f : Stand). AreExchanges A f ys c) p q
+exchanges_more A a b c [] ys p q = subst (λ (f : TalkState). AreExchanges A f ys c) p q
 exchanges_more A a b c (x ∷ xs) ys p q = (p.0, exchanges_more A x.next b c xs ys p.1 q)
 
-pub no_exchanges : (A : Type 0) (stand : Stand) → AreExchanges A stand [] stand
+pub no_exchanges : (A : Type 0) (state : TalkState) → AreExchanges A state [] state
 unfolding AreExchanges
-no_exchanges A stand = refl
+no_exchanges A state = refl
 
-one_exchange : (A : Type 0) (stand : Stand) (x : Exchange) (next : Stand) → IsExchange A stand x → next ≡ x.next → AreExchanges A stand (x ∷ []) next
+one_exchange : (A : Type 0) (state : TalkState) (x : Exchange) (next : TalkState) → IsExchange A state x → next ≡ x.next → AreExchanges A state (x ∷ []) next
 unfolding AreExchanges
-one_exchange A stand x next is same = (is, same)
+one_exchange A state x next is same = (is, same)
 
 lines_more : (xs ys : List Exchange) → lines_of (xs ++ ys) ≡ lines_of xs ++ lines_of ys
 lines_more xs ys = flat_map-append (λ (x : Exchange). line x.said) xs ys
@@ -69,19 +69,16 @@ front_taken old new bytes n out =
     let same : n - 0 ≡ n = omega arith in
     subst (λ (k : ℕ). Appends old new (take k bytes)) same out
 
-pub handed_nothing : (old : Option (List ℕ)) → Appends old old []
-handed_nothing old = Appends-nil old
-
 -- a line that was heard as something and answered
-exchange_of : List ℕ → Option Request → List ℕ → Stand → Exchange
+exchange_of : List ℕ → Option Request → List ℕ → TalkState → Exchange
 exchange_of said heard answer next = record { said = said; heard = heard; answer = answer; next = next }
 
-one_answered : {A : Type 0} (before now : SeatContent A) (x : Exchange) (told : ℕ) (next : Progress) (old new : Option (List ℕ)) → IsExchange A (stand_of before) x → stand_of now ≡ x.next → Appends old new x.answer
+one_answered : {A : Type 0} (before now : SeatContent A) (x : Exchange) (told : ℕ) (next : Progress) (old new : Option (List ℕ)) → IsExchange A (talk_state_of before) x → talk_state_of now ≡ x.next → Appends old new x.answer
     → next.written ≡ min (told + length x.answer) most_counted → next.made ≡ now.made → BeginsWithOwn now → HasAnswered before now (x ∷ []) told next old new
 one_answered {A} before now x told next old new is same out count made own =
     let alone : answers_of (x ∷ []) ≡ x.answer = append-nil x.answer in
     record {
-      all = one_exchange A (stand_of before) x (stand_of now) is same;
+      all = one_exchange A (talk_state_of before) x (talk_state_of now) is same;
       out = subst (Appends old new) (sym alone) out;
       count = omega (arith, count, ap (λ (l : List ℕ). length l) alone);
       made = made;
@@ -93,7 +90,7 @@ pub unknown_line : {A : Type 0} (seat : SeatContent A) (said answer : List ℕ) 
     → answer ≡ unknown_text → Appends old new answer → next.written ≡ min (told + length answer) most_counted → IsLineTurn seat seat said told old new (Ok (Some next))
 unfolding exchange_of
 unknown_line seat said answer told next old new own made none heard is out count =
-    let x : Exchange = exchange_of said None answer (stand_of seat) in
+    let x : Exchange = exchange_of said None answer (talk_state_of seat) in
     (x, refl, one_answered seat seat x told next old new (record { whole = none; heard = heard; answered = (is, refl) }) refl out count made own)
 
 -- a line that was answered
@@ -101,7 +98,7 @@ pub known_line : {A : Type 0} (before now : SeatContent A) (said answer sent : L
     → IsToldTo before now request answer made → next.made ≡ made → sent ≡ answer → Appends old new sent → next.written ≡ min (told + length sent) most_counted → IsLineTurn before now said told old new (Ok (Some next))
 unfolding exchange_of
 known_line before now said answer sent request made told next old new none heard is same whole out count =
-    let x : Exchange = exchange_of said (Some request) answer (stand_of now) in (
+    let x : Exchange = exchange_of said (Some request) answer (talk_state_of now) in (
       x,
       refl,
       one_answered before now x told next old new (record { whole = none; heard = heard; answered = is.answer }) refl (subst (λ (l : List ℕ). Appends old new l) whole out)
@@ -109,24 +106,24 @@ known_line before now said answer sent request made told next old new none heard
     )
 
 -- a write of an answer failed
-cut_line : {A : Type 0} (stand : Stand) (now : SeatContent A) (x : Exchange) (told : ℕ) (old new : Option (List ℕ)) (fault : RunFault) → IsExchange A stand x → CutsOff told x.answer old new fault
-    → (more : List ℕ) → Breaks stand (line x.said ++ more) now told old new fault
-cut_line {A} stand now x told old new fault is cut more =
-    let answer : Breaks stand (line x.said ++ more) now told old new (Write (min (told + cut.0) most_counted)) =
+cut_line : {A : Type 0} (state : TalkState) (now : SeatContent A) (x : Exchange) (told : ℕ) (old new : Option (List ℕ)) (fault : RunFault) → IsExchange A state x → CutsOff told x.answer old new fault
+    → (more : List ℕ) → Breaks state (line x.said ++ more) now told old new fault
+cut_line {A} state now x told old new fault is cut more =
+    let answer : Breaks state (line x.said ++ more) now told old new (Write (min (told + cut.0) most_counted)) =
     (x.answer, (x, more, is, refl, refl), (cut.0, cut.1, cut.2, refl)) in
-    subst (Breaks stand (line x.said ++ more) now told old new) (sym cut.3) answer
+    subst (Breaks state (line x.said ++ more) now told old new) (sym cut.3) answer
 
 pub unknown_cut : {A : Type 0} (seat : SeatContent A) (said answer : List ℕ) (told : ℕ) (old new : Option (List ℕ)) (fault : RunFault) → NoByte 10 said → IsHeard said None → answer ≡ unknown_text → CutsOff told answer old new fault
     → IsLineTurn seat seat said told old new (Err fault)
 unfolding exchange_of
 unknown_cut seat said answer told old new fault none heard is cut =
-    cut_line (stand_of seat) seat (exchange_of said None answer (stand_of seat)) told old new fault (record { whole = none; heard = heard; answered = (is, refl) }) cut
+    cut_line (talk_state_of seat) seat (exchange_of said None answer (talk_state_of seat)) told old new fault (record { whole = none; heard = heard; answered = (is, refl) }) cut
 
 pub known_cut : {A : Type 0} (before now : SeatContent A) (said answer sent : List ℕ) (request : Request) (made told : ℕ) (old new : Option (List ℕ)) (fault : RunFault) → NoByte 10 said → IsHeard said (Some request)
     → IsToldTo before now request answer made → sent ≡ answer → CutsOff told sent old new fault → IsLineTurn before now said told old new (Err fault)
 unfolding exchange_of
 known_cut before now said answer sent request made told old new fault none heard is whole cut =
-    cut_line (stand_of before) now (exchange_of said (Some request) answer (stand_of now)) told old new fault (record { whole = none; heard = heard; answered = is.answer })
+    cut_line (talk_state_of before) now (exchange_of said (Some request) answer (talk_state_of now)) told old new fault (record { whole = none; heard = heard; answered = is.answer })
     (subst (λ (l : List ℕ). CutsOff told l old new fault) whole cut)
 
 -- a request wasn't answered
@@ -148,12 +145,12 @@ line_fault before now said told old NoPlace is = absurd is
 -- ---- lines of a part of the input
 
 pub nothing_answered : {A : Type 0} (seat : SeatContent A) (progress : Progress) (old : Option (List ℕ)) → BeginsWithOwn seat → progress.made ≡ seat.made → HasAnswered seat seat [] progress.written progress old old
-nothing_answered {A} seat progress old own made = record { all = no_exchanges A (stand_of seat); out = Appends-nil old; count = omega arith; made = made; own = own }
+nothing_answered {A} seat progress old own made = record { all = no_exchanges A (talk_state_of seat); out = Appends-nil old; count = omega arith; made = made; own = own }
 
 pub answered_more : {A : Type 0} (a b c : SeatContent A) (xs ys : List Exchange) (told : ℕ) (mid next : Progress) (old middle new : Option (List ℕ)) → HasAnswered a b xs told mid old middle → HasAnswered b c ys mid.written next middle new
     → HasAnswered a c (xs ++ ys) told next old new
 answered_more {A} a b c xs ys told mid next old middle new p q = record {
-  all = exchanges_more A (stand_of a) (stand_of b) (stand_of c) xs ys p.all q.all;
+  all = exchanges_more A (talk_state_of a) (talk_state_of b) (talk_state_of c) xs ys p.all q.all;
   out = subst (Appends old new) (sym (answers_more xs ys)) (Appends-trans old middle new (answers_of xs) (answers_of ys) p.out q.out);
   count = omega (arith, p.count, q.count, count_answers xs ys);
   made = q.made;
@@ -180,10 +177,10 @@ joined_text xs ys rest left is =
     ap (λ (l : List ℕ). lines_of xs ++ l) is ∙ sym (append_assoc (lines_of xs) (lines_of ys) left) ∙ ap (λ (l : List ℕ). l ++ left) (sym (lines_more xs ys))
 
 pub stops_here : {A : Type 0} (a b now : SeatContent A) (xs : List Exchange) (told : ℕ) (mid : Progress) (read rest : List ℕ) (old middle new : Option (List ℕ)) (fault : RunFault) → HasAnswered a b xs told mid old middle
-    → read ≡ lines_of xs ++ rest → Breaks (stand_of b) rest now mid.written middle new fault → StopsAfter (stand_of a) read now told old new fault
+    → read ≡ lines_of xs ++ rest → Breaks (talk_state_of b) rest now mid.written middle new fault → StopsAfter (talk_state_of a) read now told old new fault
 stops_here a b now xs told mid read rest old middle new fault p is breaks = record {
   exchanges = xs;
-  stand = stand_of b;
+  state = talk_state_of b;
   rest = rest;
   middle = middle;
   counted = mid.written;
@@ -195,14 +192,14 @@ stops_here a b now xs told mid read rest old middle new fault p is breaks = reco
 }
 
 pub stops_later : {A : Type 0} (a b now : SeatContent A) (xs : List Exchange) (told : ℕ) (mid : Progress) (read rest : List ℕ) (old middle new : Option (List ℕ)) (fault : RunFault) → HasAnswered a b xs told mid old middle
-    → read ≡ lines_of xs ++ rest → StopsAfter (stand_of b) rest now mid.written middle new fault → StopsAfter (stand_of a) read now told old new fault
+    → read ≡ lines_of xs ++ rest → StopsAfter (talk_state_of b) rest now mid.written middle new fault → StopsAfter (talk_state_of a) read now told old new fault
 stops_later {A} a b now xs told mid read rest old middle new fault p is s = record {
   exchanges = xs ++ s.exchanges;
-  stand = s.stand;
+  state = s.state;
   rest = s.rest;
   middle = s.middle;
   counted = s.counted;
-  all = exchanges_more A (stand_of a) (stand_of b) s.stand xs s.exchanges p.all s.all;
+  all = exchanges_more A (talk_state_of a) (talk_state_of b) s.state xs s.exchanges p.all s.all;
   text = is ∙ joined_text xs s.exchanges rest s.rest s.text;
   out = subst (Appends old s.middle) (sym (answers_more xs s.exchanges)) (Appends-trans old middle s.middle (answers_of xs) (answers_of s.exchanges) p.out s.out);
   count = omega (arith, p.count, s.count, count_answers xs s.exchanges);
@@ -220,7 +217,7 @@ pub line_quits : {A : Type 0} (before now later : SeatContent A) (xs : List Exch
     → IsPartTurn before later read told held long old new (Ok None)
 line_quits before now later xs told mid read part first after held long old middle new p is none turn = (
   xs,
-  stand_of now,
+  talk_state_of now,
   line (part ++ first) ++ after,
   p.all,
   text_here read part first after xs is,
@@ -296,23 +293,23 @@ answers_out first now progress xs ys output output' output'' p out =
 
 pub quits : {A : Type 0} (first now later : SeatContent A) (progress : Progress) (held held' : List ℕ) (long long' : Bool) (input input' input'' output output' output'' : Option (List ℕ)) (xs : List Exchange) (part more : List ℕ)
     → IsUnderway first now progress held long input input' output output' xs part → Consumes input' input'' more → IsPartTurn now later (part ++ more) progress.written held' long' output' output'' (Ok None)
-    → IsTalk A (stand_of first) input input'' output output'' (Ok tt)
+    → IsTalk A (talk_state_of first) input input'' output output'' (Ok tt)
 quits {A} first now later progress held held' long long' input input' input'' output output' output'' xs part more way read turn =
-    let (ys, stand, rest, all, is, quit, out) = turn in
+    let (ys, state, rest, all, is, quit, out) = turn in
     record {
       exchanges = xs ++ ys;
-      stand = stand;
+      state = state;
       rest = rest;
-      answered = exchanges_more A (stand_of first) (stand_of now) stand xs ys way.answered.all all;
+      answered = exchanges_more A (talk_state_of first) (talk_state_of now) state xs ys way.answered.all all;
       left = left_more input input' input'' xs ys part more rest way.left read is;
       ends = inl (quit, answers_out first now progress xs ys output output' output'' way.answered out);
     }
 
 pub unread : {A : Type 0} (first now : SeatContent A) (progress : Progress) (held : List ℕ) (long : Bool) (input input' input'' output output' : Option (List ℕ)) (xs : List Exchange) (part : List ℕ)
-    → IsUnderway first now progress held long input input' output output' xs part → Keeps input' input'' → IsTalk A (stand_of first) input input'' output output' (Err ReadFailed)
+    → IsUnderway first now progress held long input input' output output' xs part → Keeps input' input'' → IsTalk A (talk_state_of first) input input'' output output' (Err ReadFailed)
 unread {A} first now progress held long input input' input'' output output' xs part way kept = record {
   exchanges = xs;
-  stand = stand_of now;
+  state = talk_state_of now;
   rest = part;
   answered = way.answered.all;
   left = Consumes-kept input input' input'' (lines_of xs ++ part) way.left kept;
@@ -326,10 +323,10 @@ read_out input input' input'' xs part more p q none =
 
 pub ends_well : {A : Type 0} (first now : SeatContent A) (progress : Progress) (held : List ℕ) (long : Bool) (input input' input'' output output' output'' : Option (List ℕ)) (xs : List Exchange) (part more : List ℕ)
     → IsUnderway first now progress held long input input' output output' xs part → Consumes input' input'' more → more ≡ [] → IsAtEnd input'' → Appends output' output'' (last_answer part)
-    → IsTalk A (stand_of first) input input'' output output'' (Ok tt)
+    → IsTalk A (talk_state_of first) input input'' output output'' (Ok tt)
 ends_well {A} first now progress held long input input' input'' output output' output'' xs part more way read none end out = record {
   exchanges = xs;
-  stand = stand_of now;
+  state = talk_state_of now;
   rest = part;
   answered = way.answered.all;
   left = read_out input input' input'' xs part more way.left read none;
@@ -350,14 +347,14 @@ cut_off told answer counted output output' output'' written count out cut =
 
 pub ends_cut : {A : Type 0} (first now : SeatContent A) (progress : Progress) (held : List ℕ) (long : Bool) (input input' input'' output output' output'' : Option (List ℕ)) (xs : List Exchange) (part more : List ℕ) (fault : RunFault)
     → IsUnderway first now progress held long input input' output output' xs part → Consumes input' input'' more → more ≡ [] → IsAtEnd input'' → CutsOff progress.written (last_answer part) output' output'' fault
-    → IsTalk A (stand_of first) input input'' output output'' (Err (run_fault fault))
+    → IsTalk A (talk_state_of first) input input'' output output'' (Err (run_fault fault))
 ends_cut {A} first now progress held long input input' input'' output output' output'' xs part more fault way read none end cut =
     let same : fault ≡ Write (min (progress.written + cut.0) most_counted) = cut.3 in
     let cut' : CutsOff progress.written (last_answer part) output' output'' (Write (min (progress.written + cut.0) most_counted)) = (cut.0, cut.1, cut.2, refl) in
-    let told : IsTalk A (stand_of first) input input'' output output'' (Err (run_fault (Write (min (progress.written + cut.0) most_counted)))) =
+    let told : IsTalk A (talk_state_of first) input input'' output output'' (Err (run_fault (Write (min (progress.written + cut.0) most_counted)))) =
     record {
       exchanges = xs;
-      stand = stand_of now;
+      state = talk_state_of now;
       rest = part;
       answered = way.answered.all;
       left = read_out input input' input'' xs part more way.left read none;
@@ -367,10 +364,10 @@ ends_cut {A} first now progress held long input input' input'' output output' ou
         cut_off (answers_of xs) (last_answer part) progress.written output output' output'' (min (progress.written + cut.0) most_counted) way.answered.count way.answered.out cut',
       );
     } in
-    subst (λ (f : RunFault). IsTalk A (stand_of first) input input'' output output'' (Err (run_fault f))) (sym same) told
+    subst (λ (f : RunFault). IsTalk A (talk_state_of first) input input'' output output'' (Err (run_fault f))) (sym same) told
 
 -- a part of the input that isn't answered to its end
-stopped : {A : Type 0} (start : Stand) (read : List ℕ) (now : SeatContent A) (input input' output output' : Option (List ℕ)) (fault : RunFault) → Consumes input input' read → StopsAfter start read now 0 output output' fault
+stopped : {A : Type 0} (start : TalkState) (read : List ℕ) (now : SeatContent A) (input input' output output' : Option (List ℕ)) (fault : RunFault) → Consumes input input' read → StopsAfter start read now 0 output output' fault
     → length now.front ≤ now.made → IsTalk A start input input' output output' (Err (run_fault fault))
 stopped {A} start read now input input' output output' fault left s own = go fault s.breaks
   where
@@ -380,17 +377,17 @@ stopped {A} start read now input input' output output' fault left s own = go fau
     left_all : Consumes input input' (lines_of s.exchanges ++ s.rest)
     left_all = subst (Consumes input input') s.text left
 
-    go : (f : RunFault) → Breaks s.stand s.rest now s.counted s.middle output' f → IsTalk A start input input' output output' (Err (run_fault f))
+    go : (f : RunFault) → Breaks s.state s.rest now s.counted s.middle output' f → IsTalk A start input input' output output' (Err (run_fault f))
     go (Write written) b = record {
       exchanges = s.exchanges;
-      stand = s.stand;
+      state = s.state;
       rest = s.rest;
       answered = s.all;
       left = left_all;
       ends = (b.0, inl b.1, cut_off (answers_of s.exchanges) b.0 s.counted output s.middle output' written s.count s.out b.2);
     }
-    go NoEntry b = record { exchanges = s.exchanges; stand = s.stand; rest = s.rest; answered = s.all; left = left_all; ends = (b.0, out_all b.1) }
-    go Memory b = record { exchanges = s.exchanges; stand = s.stand; rest = s.rest; answered = s.all; left = left_all; ends = out_all b }
+    go NoEntry b = record { exchanges = s.exchanges; state = s.state; rest = s.rest; answered = s.all; left = left_all; ends = (b.0, out_all b.1) }
+    go Memory b = record { exchanges = s.exchanges; state = s.state; rest = s.rest; answered = s.all; left = left_all; ends = out_all b }
     go Foreign b = absurd (omega (arith, b, own))
     go (Size n) b = absurd b
     go (Text error) b = absurd b
@@ -404,21 +401,21 @@ stopped {A} start read now input input' output output' fault left s own = go fau
 
 pub breaks_off : {A : Type 0} (first now later : SeatContent A) (progress : Progress) (held held' : List ℕ) (long long' : Bool) (input input' input'' output output' output'' : Option (List ℕ)) (xs : List Exchange) (part more : List ℕ) (fault : RunFault)
     → IsUnderway first now progress held long input input' output output' xs part → Consumes input' input'' more → IsPartTurn now later (part ++ more) progress.written held' long' output' output'' (Err fault)
-    → length later.front ≤ later.made → IsTalk A (stand_of first) input input'' output output'' (Err (run_fault fault))
+    → length later.front ≤ later.made → IsTalk A (talk_state_of first) input input'' output output'' (Err (run_fault fault))
 breaks_off {A} first now later progress held held' long long' input input' input'' output output' output'' xs part more fault way read turn own =
-    stopped (stand_of first) (lines_of xs ++ (part ++ more)) later input input'' output output'' fault (read_on input input' input'' xs part more way.left read)
+    stopped (talk_state_of first) (lines_of xs ++ (part ++ more)) later input input'' output output'' fault (read_on input input' input'' xs part more way.left read)
     (stops_later first now later xs 0 progress (lines_of xs ++ (part ++ more)) (part ++ more) output output' output'' fault way.answered refl turn) own
 
 -- ---- before the first line
 
-pub no_memory_yet : (A : Type 0) (start : Stand) (input output : Option (List ℕ)) → IsTalk A start input input output output (Err OutOfRoom)
-no_memory_yet A start input output = record { exchanges = []; stand = start; rest = []; answered = no_exchanges A start; left = Consumes-nil input; ends = Appends-nil output }
+pub no_memory_yet : (A : Type 0) (start : TalkState) (input output : Option (List ℕ)) → IsTalk A start input input output output (Err OutOfRoom)
+no_memory_yet A start input output = record { exchanges = []; state = start; rest = []; answered = no_exchanges A start; left = Consumes-nil input; ends = Appends-nil output }
 
-pub no_place_yet : (A : Type 0) (start : Stand) (input output : Option (List ℕ)) → IsTalk A start input input output output (Err WithoutPlace)
-no_place_yet A start input output = record { exchanges = []; stand = start; rest = []; answered = no_exchanges A start; left = Consumes-nil input; ends = (refl, refl, Appends-nil output) }
+pub no_place_yet : (A : Type 0) (start : TalkState) (input output : Option (List ℕ)) → IsTalk A start input input output output (Err WithoutPlace)
+no_place_yet A start input output = record { exchanges = []; state = start; rest = []; answered = no_exchanges A start; left = Consumes-nil input; ends = (refl, refl, Appends-nil output) }
 
 -- the movie wasn't made
-pub unmade_talk : {A : Type 0} (start : Stand) (seat : SeatContent A) (fault : RunFault) (input output : Option (List ℕ)) → IsMakingFault seat fault → length seat.front ≤ seat.made → IsTalk A start input input output output (Err (run_fault fault))
+pub unmade_talk : {A : Type 0} (start : TalkState) (seat : SeatContent A) (fault : RunFault) (input output : Option (List ℕ)) → IsMakingFault seat fault → length seat.front ≤ seat.made → IsTalk A start input input output output (Err (run_fault fault))
 unmade_talk {A} start seat Memory input output is own = no_memory_yet A start input output
 unmade_talk start seat Foreign input output is own = absurd (omega (arith, is, own))
 unmade_talk start seat NoEntry input output is own = absurd is
@@ -441,27 +438,27 @@ first_own {A} seat made front = record {
   own = ap (λ (l : List (Entry A)). entries_of seat.number (take seat.made l)) front ∙ ap (λ (m : ℕ). entries_of {A = A} seat.number (take m [])) made ∙ sym made;
 }
 
-first_front : {A : Type 0} (seat : SeatContent A) → seat.made ≡ 0 → seat.front ≡ [] → front_of seat ≡ start_front
-first_front {A} seat made front =
-    ap (λ (l : List (Entry A)). let f : Front = record { movie = movie_of (take seat.made l); made = seat.made } in f) front
-    ∙ ap (λ (m : ℕ). let f : Front = record { movie = movie_of {A = A} (take m []); made = m } in f) made
-    ∙ ap (λ (x : MovieContent). let f : Front = record { movie = x; made = 0 } in f) (movie_of-none A)
+first_own_edits : {A : Type 0} (seat : SeatContent A) → seat.made ≡ 0 → seat.front ≡ [] → own_edits_of seat ≡ own_edits_at_start
+first_own_edits {A} seat made front =
+    ap (λ (l : List (Entry A)). let f : OwnEdits = record { movie = movie_of (take seat.made l); made = seat.made } in f) front
+    ∙ ap (λ (m : ℕ). let f : OwnEdits = record { movie = movie_of {A = A} (take m []); made = m } in f) made
+    ∙ ap (λ (x : MovieContent). let f : OwnEdits = record { movie = x; made = 0 } in f) (movie_of-none A)
 
--- a stand that nothing is kept at
-fresh_at : {A : Type 0} (seat : SeatContent A) (front : Front) → front_of seat ≡ front → seat.zone.movie ≡ blank_movie → seat.zone.states ≡ [] → stand_of seat ≡ fresh_stand front
-fresh_at seat front at movie none =
-    ap (λ (f : Front). let x : Stand = record { front = f; kept_for = seat.zone.movie; states = seat.zone.states } in x) at
-    ∙ ap (λ (m : MovieContent). let x : Stand = record { front = front; kept_for = m; states = seat.zone.states } in x) movie
-    ∙ ap (λ (l : List Savestate). let x : Stand = record { front = front; kept_for = blank_movie; states = l } in x) none
+-- a state in which nothing is kept
+fresh_at : {A : Type 0} (seat : SeatContent A) (own : OwnEdits) → own_edits_of seat ≡ own → seat.zone.movie ≡ blank_movie → seat.zone.states ≡ [] → talk_state_of seat ≡ fresh_talk_state own
+fresh_at seat own at movie none =
+    ap (λ (f : OwnEdits). let x : TalkState = record { own = f; kept_for = seat.zone.movie; states = seat.zone.states } in x) at
+    ∙ ap (λ (m : MovieContent). let x : TalkState = record { own = own; kept_for = m; states = seat.zone.states } in x) movie
+    ∙ ap (λ (l : List Savestate). let x : TalkState = record { own = own; kept_for = blank_movie; states = l } in x) none
 
-pub first_stand : {A : Type 0} (seat : SeatContent A) → seat.made ≡ 0 → seat.front ≡ [] → seat.zone.movie ≡ blank_movie → seat.zone.states ≡ [] → stand_of seat ≡ fresh_stand start_front
-first_stand seat made front movie none = fresh_at seat start_front (first_front seat made front) movie none
+pub first_talk_state : {A : Type 0} (seat : SeatContent A) → seat.made ≡ 0 → seat.front ≡ [] → seat.zone.movie ≡ blank_movie → seat.zone.states ≡ [] → talk_state_of seat ≡ fresh_talk_state own_edits_at_start
+first_talk_state seat made front movie none = fresh_at seat own_edits_at_start (first_own_edits seat made front) movie none
 
-pub made_stand : {A : Type 0} (before now : SeatContent A) (movie : MovieContent) → HoldsMovie now movie → now.zone ≡ before.zone → before.zone.movie ≡ blank_movie → before.zone.states ≡ [] → stand_of now ≡ fresh_stand (movie_front movie)
-made_stand {A} before now movie holds zone blank none =
-    fresh_at now (movie_front movie) (holds_front now movie holds) (ap (λ (z : ZoneContent A). z.movie) zone ∙ blank) (ap (λ (z : ZoneContent A). z.states) zone ∙ none)
+pub made_talk_state : {A : Type 0} (before now : SeatContent A) (movie : MovieContent) → HoldsMovie now movie → now.zone ≡ before.zone → before.zone.movie ≡ blank_movie → before.zone.states ≡ [] → talk_state_of now ≡ fresh_talk_state (own_edits_of_movie movie)
+made_talk_state {A} before now movie holds zone blank none =
+    fresh_at now (own_edits_of_movie movie) (holds_own_edits now movie holds) (ap (λ (z : ZoneContent A). z.movie) zone ∙ blank) (ap (λ (z : ZoneContent A). z.states) zone ∙ none)
 
 -- the same conversation, its start named otherwise
-pub talk_as : (A : Type 0) (start other : Stand) (input input' output output' : Option (List ℕ)) (result : Result (Unit {0}) ToolFault) → start ≡ other → IsTalk A start input input' output output' result
+pub talk_as : (A : Type 0) (start other : TalkState) (input input' output output' : Option (List ℕ)) (result : Result (Unit {0}) ToolFault) → start ≡ other → IsTalk A start input input' output output' result
     → IsTalk A other input input' output output' result
-talk_as A start other input input' output output' result same talk = subst (λ (f : Stand). IsTalk A f input input' output output' result) same talk
+talk_as A start other input input' output output' result same talk = subst (λ (f : TalkState). IsTalk A f input input' output output' result) same talk

@@ -14,8 +14,8 @@ use Rattle.tas_engines.specs.Faults.{unread_fault, run_fault}
 use Rattle.tas_engines.specs.Input.{IsReadWhole, StopsReading, StopsReadingTwo}
 use Rattle.tas_engines.specs.Movies.{IsMovieOf, IsMovieFault}
 use Rattle.tas_engines.specs.Tracing.{IsImageFault}
-use Rattle.tas_tool.specs.MovieScripts.{movie_front}
-use Rattle.tas_tool.specs.Talk.{Stand, fresh_stand, IsUntouched, cart_stand, IsCartTalk, IsMovieTalk, IsTalk}
+use Rattle.tas_tool.specs.MovieScripts.{own_edits_of_movie}
+use Rattle.tas_tool.specs.Talk.{TalkState, fresh_talk_state, IsUntouched, cart_talk_state, IsCartTalk, IsMovieTalk, IsTalk}
 
 untouched : (input output : Option (List ℕ)) → IsUntouched input input output output
 untouched input output = record { unread = refl; unwritten = Keeps-refl output }
@@ -36,10 +36,10 @@ cart_missized A cart cart' input output read image error n m whole same right is
     subst (λ (k : ℕ). IsCartTalk A cart cart' input input output output (Err (OffSize k))) (sym number)
     (cart_unmade A cart cart' input output read image (Size n) (OffSize n) whole same (told.0, ap is_cart_size told.0 ∙ told.1) refl)
 
-pub cart_talked : (A : Type 0) (cart cart' input input' output output' : Option (List ℕ)) (read image : List ℕ) (start : Stand) (result : Result (Unit {0}) ToolFault) → IsReadWhole cart cart' read → image ≡ read → is_cart_size (length image) ≡ true
-    → start ≡ cart_stand image → IsTalk A start input input' output output' result → IsCartTalk A cart cart' input input' output output' result
+pub cart_talked : (A : Type 0) (cart cart' input input' output output' : Option (List ℕ)) (read image : List ℕ) (start : TalkState) (result : Result (Unit {0}) ToolFault) → IsReadWhole cart cart' read → image ≡ read → is_cart_size (length image) ≡ true
+    → start ≡ cart_talk_state image → IsTalk A start input input' output output' result → IsCartTalk A cart cart' input input' output output' result
 cart_talked A cart cart' input input' output output' read image start result whole same long is talk =
-    inr (image, subst (IsReadWhole cart cart') (sym same) whole, inr (long, subst (λ (f : Stand). IsTalk A f input input' output output' result) is talk))
+    inr (image, subst (IsReadWhole cart cart') (sym same) whole, inr (long, subst (λ (f : TalkState). IsTalk A f input input' output output' result) is talk))
 
 -- ---- over a movie
 
@@ -53,6 +53,6 @@ movie_unmade A cart cart' movie movie' input output read image read' said fault 
     inr (image, said, subst (IsReadWhole cart cart') (sym same) whole, subst (IsReadWhole movie movie') (sym same') whole', inl (fault, ap Err is, why, untouched input output))
 
 pub movie_talked : (A : Type 0) (cart cart' movie movie' input input' output output' : Option (List ℕ)) (read image read' said : List ℕ) (content : MovieContent) (result : Result (Unit {0}) ToolFault) → IsReadWhole cart cart' read → image ≡ read
-    → IsReadWhole movie movie' read' → said ≡ read' → IsMovieOf image said content → IsTalk A (fresh_stand (movie_front content)) input input' output output' result → IsMovieTalk A cart cart' movie movie' input input' output output' result
+    → IsReadWhole movie movie' read' → said ≡ read' → IsMovieOf image said content → IsTalk A (fresh_talk_state (own_edits_of_movie content)) input input' output output' result → IsMovieTalk A cart cart' movie movie' input input' output output' result
 movie_talked A cart cart' movie movie' input input' output output' read image read' said content result whole same whole' same' is talk =
     inr (image, said, subst (IsReadWhole cart cart') (sym same) whole, subst (IsReadWhole movie movie') (sym same') whole', inr (content, is, talk))

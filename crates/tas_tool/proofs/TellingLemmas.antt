@@ -1,5 +1,5 @@
 -- Answers to the lines of a conversation that a script doesn't have.
-use Rattle.std.proofs.Common.{◌≡◌, ℕ, zero, suc, ◌+◌, ◌%◌, List, [], ◌∷◌, ◌++◌, length, Bool, true, false, Option, Some, None, Result, Ok, Err, inl, inr, refl, sym, ap, subst, ◌∙◌, arith}
+use Rattle.std.proofs.Common.{◌≡◌, ℕ, ◌+◌, ◌%◌, List, [], ◌∷◌, ◌++◌, length, Bool, true, false, Option, Some, None, Result, Ok, Err, inl, inr, refl, sym, ap, subst, ◌∙◌, arith}
 use Rattle.std.specs.Prelude.{if◌then◌else◌, filter, is_some}
 use Rattle.std.specs.List.{range_with_len}
 use Rattle.std.proofs.lemmas.List.Elements.{filter-append}
@@ -15,6 +15,7 @@ use Rattle.tas_green.specs.Grid.{stride}
 use Rattle.tas_green.specs.Green.{IsLawful}
 use Rattle.tas_green.specs.Zone.{state_at}
 use Rattle.tas_desk.specs.Answers.{answer_shot}
+use Rattle.tas_desk.proofs.DrawingLemmas.{range_joined}
 use Rattle.tas_desk.specs.History.{movie_of}
 use Rattle.tas_desk.specs.declared.replies.ShotError.{ShotError}
 use Rattle.tas_desk.specs.declared.replies.ShotError.TheVariants.{NoEntry, NoFrame as NoShotFrame, Memory as NoShotMemory, Halted as ShotHalted}
@@ -31,11 +32,11 @@ use Rattle.tas_script.specs.Replies.{reply_text}
 use Rattle.tas_talk.specs.declared.request.Request.TheVariants.{Do, Picture, Movie, States}
 use Rattle.tas_talk.specs.Answers.{picture_text, movie_text, states_text}
 use Rattle.tas_tool.specs.declared.answering.Answered.{Answered}
-use Rattle.tas_tool.specs.Turns.{Unforeseen, Front, front_of, BeginsWithOwn, IsDeskFault, shot_reply, IsTurn}
+use Rattle.tas_tool.specs.Turns.{Unforeseen, OwnEdits, own_edits_of, BeginsWithOwn, IsDeskFault, shot_reply, IsTurn}
 use Rattle.tas_tool.specs.Checking.{IsAnswer}
-use Rattle.tas_tool.specs.Talk.{Stand, Rests, Plays, PlaysUnless, GainsUnless, PictureLeaves, kept_frames, picture_of_front}
-use Rattle.tas_tool.specs.Talking.{stand_of, TellsError, IsCommandZone, IsTalkFault, IsBrought, IsToldTo}
-use Rattle.tas_tool.proofs.TurnLemmas.{front_stays, longer, own_stays, own_movie, seen_self}
+use Rattle.tas_tool.specs.Talk.{TalkState, Rests, Plays, PlaysUnless, GainsUnless, PictureLeaves, kept_frames, picture_of_own}
+use Rattle.tas_tool.specs.Talking.{talk_state_of, TellsError, IsCommandZone, IsTalkFault, IsBrought, IsToldTo}
+use Rattle.tas_tool.proofs.TurnLemmas.{own_edits_stay, longer, own_stays, own_movie, seen_self}
 use Rattle.tas_tool.proofs.GreenLemmas.{ErrorLeaves, error_leaves, rests, plays_at, gains_at, command_leaves}
 
 -- ---- faults
@@ -65,7 +66,7 @@ pub told_command : (A : Type 0) (before mid now : SeatContent A) (command : Comm
 told_command A before mid now command answered bytes made told zone more same at is made_is = record {
   answer = (
     answered.reply,
-    subst (λ (f : Front). IsTurn A (front_of before) command answered.reply f) (sym (front_stays mid now told.own more)) told.turn_is,
+    subst (λ (f : OwnEdits). IsTurn A (own_edits_of before) command answered.reply f) (sym (own_edits_stay mid now told.own more)) told.turn_is,
     is,
     command_leaves before mid now command answered.reply told.own more same (at ∙ told.made) zone,
   );
@@ -80,12 +81,12 @@ told_look before now made own m seen = (m ∙ sym seen.made, own_stays before no
 
 -- what was shown is what the definition shows of the seat's own movie
 shown_own : {A : Type 0} (before now : SeatContent A) (made at k : ℕ) (o : Option (Result (List ℕ) Halt)) → BeginsWithOwn before → made ≡ before.made → HasSeen before now → answer_shot (movie_of now.front) k ≡ o
-    → at ≡ length now.front → at ≡ made → o ≡ answer_shot (front_of before).movie k
+    → at ≡ length now.front → at ≡ made → o ≡ answer_shot (own_edits_of before).movie k
 shown_own before now made at k o own m seen shows here same = sym shows ∙ ap (λ (x : MovieContent). answer_shot x k) (own_movie before now own seen (sym here ∙ same ∙ m))
 
 -- what the shot left
 played_own : {A : Type 0} (before now : SeatContent A) (made at k ran : ℕ) → BeginsWithOwn before → made ≡ before.made → HasSeen before now → at ≡ length now.front → at ≡ made → IsPlayed before.zone now.zone now.front k ran
-    → Plays (stand_of before) (stand_of now) k ran
+    → Plays (talk_state_of before) (talk_state_of now) k ran
 played_own before now made at k ran own m seen here same played = plays_at before now now k ran (own_stays before now own seen) (seen_self now) refl (sym here ∙ same ∙ m ∙ sym seen.made) played
 
 pub told_picture : (A : Type 0) (before now : SeatContent A) (made at k ran : ℕ) (picture bytes : List ℕ) → BeginsWithOwn before → made ≡ before.made → HasSeen before now → answer_shot (movie_of now.front) k ≡ Some (Ok picture)
@@ -95,9 +96,9 @@ told_picture A before now made at k ran picture bytes own m seen shows here same
     record {
       answer = (
         false,
-        is ∙ ap (λ (n : ℕ). picture_text n k (ppm_bytes picture)) m ∙ ap (picture_of_front false (front_of before) k) shown,
-        front_stays before now own seen,
-        subst (PictureLeaves false (stand_of before) (stand_of now) k) shown (ran, played_own before now made at k ran own m seen here same played),
+        is ∙ ap (λ (n : ℕ). picture_text n k (ppm_bytes picture)) m ∙ ap (picture_of_own false (own_edits_of before) k) shown,
+        own_edits_stay before now own seen,
+        subst (PictureLeaves false (talk_state_of before) (talk_state_of now) k) shown (ran, played_own before now made at k ran own m seen here same played),
       );
       made_is = (told_look before now made own m seen).0;
       own = (told_look before now made own m seen).1;
@@ -110,9 +111,9 @@ told_no_picture A before now made at k ran picture bytes own m seen shows here s
     record {
       answer = (
         true,
-        is ∙ ap (picture_of_front true (front_of before) k) shown,
-        front_stays before now own seen,
-        subst (PictureLeaves true (stand_of before) (stand_of now) k) shown (inr (ran, played_own before now made at k ran own m seen here same played)),
+        is ∙ ap (picture_of_own true (own_edits_of before) k) shown,
+        own_edits_stay before now own seen,
+        subst (PictureLeaves true (talk_state_of before) (talk_state_of now) k) shown (inr (ran, played_own before now made at k ran own m seen here same played)),
       );
       made_is = (told_look before now made own m seen).0;
       own = (told_look before now made own m seen).1;
@@ -121,14 +122,14 @@ told_no_picture A before now made at k ran picture bytes own m seen shows here s
 -- ---- a shot without a picture
 
 -- a refusal of memory leaves what an error does
-unless_memory : (old new : Stand) (k : ℕ) (error : ShotError) → ErrorLeaves old new k error → PlaysUnless true old new k
+unless_memory : (old new : TalkState) (k : ℕ) (error : ShotError) → ErrorLeaves old new k error → PlaysUnless true old new k
 unless_memory old new k NoEntry leaves = absurd leaves
 unless_memory old new k (NoShotFrame at len) leaves = inl leaves
 unless_memory old new k NoShotMemory leaves = inl leaves
 unless_memory old new k (ShotHalted at halt) leaves = inr leaves
 
 -- an error that tells of no frame leaves the greenzone as it was
-no_frame_leaves : (old new : Stand) (made k at len : ℕ) (error : ShotError) (reply : Reply) → reply ≡ NoFrame at len → TellsError made error reply → ErrorLeaves old new k error → Rests old new
+no_frame_leaves : (old new : TalkState) (made k at len : ℕ) (error : ShotError) (reply : Reply) → reply ≡ NoFrame at len → TellsError made error reply → ErrorLeaves old new k error → Rests old new
 no_frame_leaves old new made k at len NoEntry reply is tells leaves = absurd leaves
 no_frame_leaves old new made k at len (NoShotFrame at' len') reply is tells leaves = leaves
 no_frame_leaves old new made k at len NoShotMemory reply is tells leaves = leaves
@@ -143,43 +144,43 @@ undrawn made k at frame ran lit NoShotMemory reply is tells = let no : OutOfMemo
 undrawn made k at frame ran lit (ShotHalted at' (Undocumented address opcode)) reply is tells = let no : Halted at' address opcode ≡ Drawn at frame ran lit = sym tells.1 ∙ is in absurd (cc no)
 
 -- one that is told as a halt left what was played
-halt_leaves : (old new : Stand) (made k at address opcode : ℕ) (error : ShotError) (reply : Reply) → reply ≡ Halted at address opcode → TellsError made error reply → ErrorLeaves old new k error → (ran : ℕ) × Plays old new k ran
+halt_leaves : (old new : TalkState) (made k at address opcode : ℕ) (error : ShotError) (reply : Reply) → reply ≡ Halted at address opcode → TellsError made error reply → ErrorLeaves old new k error → (ran : ℕ) × Plays old new k ran
 halt_leaves old new made k at address opcode NoEntry reply is tells leaves = absurd leaves
 halt_leaves old new made k at address opcode (NoShotFrame at' len) reply is tells leaves = let no : NoFrame at' len ≡ Halted at address opcode = sym tells ∙ is in absurd (cc no)
 halt_leaves old new made k at address opcode NoShotMemory reply is tells leaves = let no : OutOfMemory ≡ Halted at address opcode = sym tells ∙ is in absurd (cc no)
 halt_leaves old new made k at address opcode (ShotHalted at' halt) reply is tells leaves = leaves
 
 -- a reply to `shot K` that shows no picture answers `picture K`, too
-undrawn_reply : (u : Unforeseen) (front : Front) (old new : Stand) (made k : ℕ) (error : ShotError) (reply : Reply) (o : Option (Result (List ℕ) Halt)) → reply ≡ shot_reply u front k o → TellsError made error reply → ErrorLeaves old new k error
-    → (no_memory : Bool) × (reply_text reply ≡ picture_of_front no_memory front k o) × PictureLeaves no_memory old new k o
-undrawn_reply u front old new made k error reply None is tells leaves =
-    (false, ap reply_text is, no_frame_leaves old new made k front.made (length front.movie.inputs) error reply is tells leaves)
-undrawn_reply u front old new made k error reply (Some (Ok picture)) is tells leaves = go u.refused is
+undrawn_reply : (u : Unforeseen) (own : OwnEdits) (old new : TalkState) (made k : ℕ) (error : ShotError) (reply : Reply) (o : Option (Result (List ℕ) Halt)) → reply ≡ shot_reply u own k o → TellsError made error reply → ErrorLeaves old new k error
+    → (no_memory : Bool) × (reply_text reply ≡ picture_of_own no_memory own k o) × PictureLeaves no_memory old new k o
+undrawn_reply u own old new made k error reply None is tells leaves =
+    (false, ap reply_text is, no_frame_leaves old new made k own.made (length own.movie.inputs) error reply is tells leaves)
+undrawn_reply u own old new made k error reply (Some (Ok picture)) is tells leaves = go u.refused is
   where
-    go : (b : Bool) → reply ≡ (if b then OutOfMemory else Drawn front.made k u.ran (lit_count picture))
-        → (no_memory : Bool) × (reply_text reply ≡ picture_of_front no_memory front k (Some (Ok picture))) × PlaysUnless no_memory old new k
+    go : (b : Bool) → reply ≡ (if b then OutOfMemory else Drawn own.made k u.ran (lit_count picture))
+        → (no_memory : Bool) × (reply_text reply ≡ picture_of_own no_memory own k (Some (Ok picture))) × PlaysUnless no_memory old new k
     go true e = (true, ap reply_text e, unless_memory old new k error leaves)
-    go false e = absurd (undrawn made k front.made k u.ran (lit_count picture) error reply e tells)
-undrawn_reply u front old new made k error reply (Some (Err (Undocumented address opcode))) is tells leaves = go u.refused is
+    go false e = absurd (undrawn made k own.made k u.ran (lit_count picture) error reply e tells)
+undrawn_reply u own old new made k error reply (Some (Err (Undocumented address opcode))) is tells leaves = go u.refused is
   where
-    go : (b : Bool) → reply ≡ (if b then OutOfMemory else Halted front.made address opcode)
-        → (no_memory : Bool) × (reply_text reply ≡ picture_of_front no_memory front k (Some (Err (Undocumented address opcode)))) × PlaysUnless no_memory old new k
+    go : (b : Bool) → reply ≡ (if b then OutOfMemory else Halted own.made address opcode)
+        → (no_memory : Bool) × (reply_text reply ≡ picture_of_own no_memory own k (Some (Err (Undocumented address opcode)))) × PlaysUnless no_memory old new k
     go true e = (true, ap reply_text e, unless_memory old new k error leaves)
-    go false e = (false, ap reply_text e, halt_leaves old new made k front.made address opcode error reply e tells leaves)
+    go false e = (false, ap reply_text e, halt_leaves old new made k own.made address opcode error reply e tells leaves)
 
 pub told_undrawn : (A : Type 0) (before mid now : SeatContent A) (made k : ℕ) (error : ShotError) (reply : Reply) (bytes : List ℕ) → BeginsWithOwn before → made ≡ before.made → HasSeen before mid → HasSeen mid now → now.zone ≡ mid.zone
-    → IsZoneShot {B = A} before mid k (Err error) → IsShotAt {B = A} mid.front k (Err error) → IsTurn A (front_of mid) (Shot k) reply (front_of now) → TellsError made error reply → bytes ≡ reply_text reply
+    → IsZoneShot {B = A} before mid k (Err error) → IsShotAt {B = A} mid.front k (Err error) → IsTurn A (own_edits_of mid) (Shot k) reply (own_edits_of now) → TellsError made error reply → bytes ≡ reply_text reply
     → IsToldTo before now (Picture k) bytes made
 told_undrawn A before mid now made k error reply bytes own m seen more same zone shown turn tells is =
-    let here : front_of mid ≡ front_of before = front_stays before mid own seen in
+    let here : own_edits_of mid ≡ own_edits_of before = own_edits_stay before mid own seen in
     let leaves = error_leaves before mid now made k error reply own m seen more same zone shown tells in
-    let found = undrawn_reply turn.0 (front_of mid) (stand_of before) (stand_of now) made k error reply (answer_shot (front_of mid).movie k) turn.1 tells leaves in
+    let found = undrawn_reply turn.0 (own_edits_of mid) (talk_state_of before) (talk_state_of now) made k error reply (answer_shot (own_edits_of mid).movie k) turn.1 tells leaves in
     record {
       answer = (
         found.0,
-        is ∙ found.1 ∙ ap (λ (f : Front). picture_of_front found.0 f k (answer_shot f.movie k)) here,
+        is ∙ found.1 ∙ ap (λ (f : OwnEdits). picture_of_own found.0 f k (answer_shot f.movie k)) here,
         turn.2 ∙ here,
-        subst (λ (f : Front). PictureLeaves found.0 (stand_of before) (stand_of now) k (answer_shot f.movie k)) here found.2,
+        subst (λ (f : OwnEdits). PictureLeaves found.0 (talk_state_of before) (talk_state_of now) k (answer_shot f.movie k)) here found.2,
       );
       made_is = m ∙ sym seen.made ∙ sym more.made;
       own = own_stays mid now (own_stays before mid own seen) more;
@@ -188,22 +189,22 @@ told_undrawn A before mid now made k error reply bytes own m seen more same zone
 -- ---- the greenzone at the seat's own edits
 
 pub brought : {A : Type 0} (before mid now : SeatContent A) (made len gained : ℕ) → BeginsWithOwn before → made ≡ before.made → HasSeen before mid → IsShared before.zone mid.zone mid.front gained → HasSeen mid now → now.zone ≡ mid.zone
-    → length now.front ≡ made → len ≡ length (front_of mid).movie.inputs → IsBrought before now len
+    → length now.front ≡ made → len ≡ length (own_edits_of mid).movie.inputs → IsBrought before now len
 brought {A} before mid now made len gained own m seen is more zone at long =
     let mine = own_stays before mid own seen in
     let here : length mid.front ≡ mid.made = omega (arith, mine.seen, seen.made, longer mid now more, at, m) in
     record {
-      len_is = long ∙ ap (λ (f : Front). length f.movie.inputs) (front_stays before mid own seen);
+      len_is = long ∙ ap (λ (f : OwnEdits). length f.movie.inputs) (own_edits_stay before mid own seen);
       movie = ap (λ (z : ZoneContent A). z.movie) zone ∙ is.made.movie ∙ own_movie before mid own seen (here ∙ seen.made);
       lawful = subst (λ (z : ZoneContent A). IsLawful z.movie z.states) (sym zone) is.made.lawful;
       gains = gains_at before mid now gained mine more zone here is;
     }
 
 -- where memory was refused, the greenzone was brought, or it is as it was
-pub unbrought : {A : Type 0} (before now : SeatContent A) → now.zone ≡ before.zone → GainsUnless true (stand_of before) (stand_of now)
+pub unbrought : {A : Type 0} (before now : SeatContent A) → now.zone ≡ before.zone → GainsUnless true (talk_state_of before) (talk_state_of now)
 unbrought before now same = inl (rests before now same)
 
-pub brought_still : {A : Type 0} (before now : SeatContent A) (len : ℕ) → IsBrought before now len → GainsUnless true (stand_of before) (stand_of now)
+pub brought_still : {A : Type 0} (before now : SeatContent A) (len : ℕ) → IsBrought before now len → GainsUnless true (talk_state_of before) (talk_state_of now)
 brought_still before now len has = inr has.gains
 
 -- ---- movies
@@ -214,17 +215,17 @@ told_movie before now made len bytes own m seen has is = record {
   answer = (
     false,
     is ∙ ap (λ (n : ℕ). movie_text n (text2 now.zone.movie)) m ∙ ap (λ (x : MovieContent). movie_text before.made (text2 x)) has.movie,
-    front_stays before now own seen,
+    own_edits_stay before now own seen,
     has.gains,
   );
   made_is = m ∙ sym seen.made;
   own = own_stays before now own seen;
 }
 
-pub told_no_movie : {A : Type 0} (before now : SeatContent A) (made : ℕ) (bytes : List ℕ) → BeginsWithOwn before → made ≡ before.made → HasSeen before now → GainsUnless true (stand_of before) (stand_of now) → bytes ≡ reply_text OutOfMemory
+pub told_no_movie : {A : Type 0} (before now : SeatContent A) (made : ℕ) (bytes : List ℕ) → BeginsWithOwn before → made ≡ before.made → HasSeen before now → GainsUnless true (talk_state_of before) (talk_state_of now) → bytes ≡ reply_text OutOfMemory
     → IsToldTo before now Movie bytes made
 told_no_movie before now made bytes own m seen leaves is =
-    record { answer = (true, is, front_stays before now own seen, leaves); made_is = m ∙ sym seen.made; own = own_stays before now own seen }
+    record { answer = (true, is, own_edits_stay before now own seen, leaves); made_is = m ∙ sym seen.made; own = own_stays before now own seen }
 
 -- ---- states
 
@@ -236,13 +237,6 @@ off_grid movie zone frame step lawful is off = go (state_at frame zone) refl
     go None e = refl
     go (Some s) e = absurd (off (ap (λ (n : ℕ). frame % n) is ∙ (lawful.each frame s e).on_grid))
 
-range_push : (a n : ℕ) → range_with_len a (n + 1) ≡ range_with_len a n ++ (a + n) ∷ []
-range_push a zero = let here : a ≡ a + 0 = omega arith in ap (λ (k : ℕ). k ∷ []) here
-range_push a (suc n) =
-    let more : suc n + 1 ≡ suc (n + 1) = omega arith in
-    let behind : (a + 1) + n ≡ a + suc n = omega arith in
-    ap (range_with_len a) more ∙ ap (λ (xs : List ℕ). a ∷ xs) (range_push (a + 1) n ∙ ap (λ (k : ℕ). range_with_len (a + 1) n ++ k ∷ []) behind)
-
 pub frames_more : (zone : List Savestate) (n : ℕ) (now next : List ℕ) → now ≡ kept_frames n zone → next ≡ now ++ (if is_some (state_at (n + 1) zone) then (n + 1) ∷ [] else []) → next ≡ kept_frames (n + 1) zone
 frames_more zone n now next so_far is =
     let test : ℕ → Bool = λ (f : ℕ). is_some (state_at f zone) in
@@ -251,7 +245,7 @@ frames_more zone n now next so_far is =
     ∙ ap (λ (l : List ℕ). l ++ filter test ((n + 1) ∷ [])) so_far
     ∙ ap (λ (k : ℕ). kept_frames n zone ++ filter test (k ∷ [])) (sym same)
     ∙ sym (filter-append test (range_with_len 1 n) ((1 + n) ∷ []))
-    ∙ ap (filter test) (sym (range_push 1 n))
+    ∙ ap (filter test) (sym (range_joined 1 n 1))
 
 pub told_states : {A : Type 0} (before now : SeatContent A) (made len : ℕ) (frames bytes : List ℕ) → BeginsWithOwn before → made ≡ before.made → HasSeen before now → IsBrought before now len → frames ≡ kept_frames len now.zone.states
     → bytes ≡ states_text made frames → IsToldTo before now States bytes made
@@ -259,14 +253,14 @@ told_states before now made len frames bytes own m seen has kept is = record {
   answer = (
     false,
     is ∙ ap (λ (n : ℕ). states_text n frames) m ∙ ap (states_text before.made) (kept ∙ ap (λ (n : ℕ). kept_frames n now.zone.states) has.len_is),
-    front_stays before now own seen,
+    own_edits_stay before now own seen,
     has.gains,
   );
   made_is = m ∙ sym seen.made;
   own = own_stays before now own seen;
 }
 
-pub told_no_states : {A : Type 0} (before now : SeatContent A) (made : ℕ) (bytes : List ℕ) → BeginsWithOwn before → made ≡ before.made → HasSeen before now → GainsUnless true (stand_of before) (stand_of now) → bytes ≡ reply_text OutOfMemory
+pub told_no_states : {A : Type 0} (before now : SeatContent A) (made : ℕ) (bytes : List ℕ) → BeginsWithOwn before → made ≡ before.made → HasSeen before now → GainsUnless true (talk_state_of before) (talk_state_of now) → bytes ≡ reply_text OutOfMemory
     → IsToldTo before now States bytes made
 told_no_states before now made bytes own m seen leaves is =
-    record { answer = (true, is, front_stays before now own seen, leaves); made_is = m ∙ sym seen.made; own = own_stays before now own seen }
+    record { answer = (true, is, own_edits_stay before now own seen, leaves); made_is = m ∙ sym seen.made; own = own_stays before now own seen }

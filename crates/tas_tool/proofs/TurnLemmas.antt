@@ -16,7 +16,7 @@ use Rattle.tas_desk.specs.declared.entry.Entry.{Entry}
 use Rattle.tas_desk.specs.declared.replies.Receipt.{Receipt}
 use Rattle.tas_desk.specs.declared.replies.EditError.{EditError}
 use Rattle.tas_desk.specs.declared.replies.EditError.TheVariants.{Serial, Full as AllMade, Place as OutOfPlace, Long as OverLong, Memory as NoRoom}
-use Rattle.tas_desk.specs.History.{movie_of, entries_of}
+use Rattle.tas_desk.specs.History.{most_edits, movie_of, entries_of}
 use Rattle.tas_desk.specs.Session.{refusal_at, error_at, IsEditError}
 use Rattle.tas_desk.specs.Seats.{SeatContent, seat_of, entry_of, HasSeen, IsEdited}
 use Rattle.tas_desk.proofs.HistoryLemmas.{movie_of-push}
@@ -30,8 +30,8 @@ use Rattle.tas_script.specs.declared.reply.Reply.{Reply}
 use Rattle.tas_script.specs.declared.reply.Reply.TheVariants.{Edited, Misplaced, TooLong, Full, OutOfMemory}
 use Rattle.tas_tool.specs.declared.answering.Answered.{Answered}
 use Rattle.tas_tool.specs.Edits.{load_edit, insert_edit, replace_edit, delete_edit}
-use Rattle.tas_tool.specs.Turns.{Unforeseen, Front, front_of, BeginsWithOwn, HasForeign, IsDeskFault, refused_reply, refusal_reply, edit_reply, edited_front, IsEditTurn, IsTurn}
-use Rattle.tas_tool.specs.Checking.{checked_reply, insert_refusal, looked, IsAnswer, IsEditAnswer}
+use Rattle.tas_tool.specs.Turns.{Unforeseen, OwnEdits, own_edits_of, BeginsWithOwn, HasForeign, IsDeskFault, refused_reply, refusal_reply, edit_reply, own_edits_unless, IsEditTurn, IsTurn}
+use Rattle.tas_tool.specs.Checking.{checked_end, insert_refusal, looked, IsAnswer, IsEditAnswer}
 
 -- ---- what a seat has seen
 
@@ -42,10 +42,10 @@ stays {A} before now own seen =
     ∙ ap (λ (l : List (Entry A)). take before.made l) (sym seen.begins.1)
     ∙ take-append-le before.made before.front seen.begins.0 own.seen
 
-pub front_stays : {A : Type 0} (before now : SeatContent A) → BeginsWithOwn before → HasSeen before now → front_of now ≡ front_of before
-front_stays {A} before now own seen =
-    ap (λ (l : List (Entry A)). let f : Front = record { movie = movie_of l; made = now.made } in f) (stays before now own seen)
-    ∙ ap (λ (n : ℕ). let f : Front = record { movie = movie_of (take before.made before.front); made = n } in f) seen.made
+pub own_edits_stay : {A : Type 0} (before now : SeatContent A) → BeginsWithOwn before → HasSeen before now → own_edits_of now ≡ own_edits_of before
+own_edits_stay {A} before now own seen =
+    ap (λ (l : List (Entry A)). let f : OwnEdits = record { movie = movie_of l; made = now.made } in f) (stays before now own seen)
+    ∙ ap (λ (n : ℕ). let f : OwnEdits = record { movie = movie_of (take before.made before.front); made = n } in f) seen.made
 
 pub longer : {A : Type 0} (before now : SeatContent A) → HasSeen before now → length before.front ≤ length now.front
 longer before now seen = omega (arith, sym (ap length seen.begins.1) ∙ length-append before.front seen.begins.0)
@@ -61,7 +61,7 @@ pub own_front : {A : Type 0} (before now : SeatContent A) → BeginsWithOwn befo
 own_front before now own seen at =
     sym (take_all now.made now.front (omega (arith, at, seen.made))) ∙ stays before now own seen
 
-pub own_movie : {A : Type 0} (before now : SeatContent A) → BeginsWithOwn before → HasSeen before now → length now.front ≡ before.made → movie_of now.front ≡ (front_of before).movie
+pub own_movie : {A : Type 0} (before now : SeatContent A) → BeginsWithOwn before → HasSeen before now → length now.front ≡ before.made → movie_of now.front ≡ (own_edits_of before).movie
 own_movie {A} before now own seen at = ap (λ (l : List (Entry A)). movie_of l) (own_front before now own seen at)
 
 pub seen_self : {A : Type 0} (seat : SeatContent A) → HasSeen seat seat
@@ -90,16 +90,34 @@ foreign before now made at own seen m is other = has_foreign now (own_stays befo
 
 -- ---- checked replies
 
-pub checked_ends : (made at : ℕ) (reply : Reply) (r : Result Reply RunFault) (P : Reply → Type 0) (Q : RunFault → Type 0) → r ≡ checked_reply made at reply → (at ≡ made → P reply) → ((at ≡ made → ⊥) → Q Foreign)
-    → MatchResult r P Q
-checked_ends made at reply r P Q is same_at other_at = go (at == made) refl
+-- what was compared is as it was where it stands at just these edits, and `Foreign` where it doesn't
+pub checked_cases : {X : Type 0} (made at : ℕ) (end r : Result X RunFault) (P : Result X RunFault → Type 0) → r ≡ checked_end made at end → (at ≡ made → P end) → ((at ≡ made → ⊥) → P (Err Foreign)) → P r
+checked_cases {X} made at end r P is same_at other_at = go (at == made) refl
   where
-    Goal : Result Reply RunFault → Type 0
-    Goal x = MatchResult x P Q
+    go : (b : Bool) → at == made ≡ b → P r
+    go true e = let e' : r ≡ end = is ∙ rw e refl in subst P (sym e') (same_at (eqb-true at made e))
+    go false e = let e' : r ≡ Err Foreign = is ∙ rw e refl in subst P (sym e') (other_at (λ (same : at ≡ made). let t : true ≡ false = sym (eq-eqb at made same) ∙ e in absurd (cc t)))
 
-    go : (b : Bool) → at == made ≡ b → MatchResult r P Q
-    go true e = let e' : r ≡ Ok reply = is ∙ rw e refl in subst Goal (sym e') (same_at (eqb-true at made e))
-    go false e = let e' : r ≡ Err Foreign = is ∙ rw e refl in subst Goal (sym e') (other_at (λ (same : at ≡ made). let t : true ≡ false = sym (eq-eqb at made same) ∙ e in absurd (cc t)))
+pub checked_ends : {X : Type 0} (made at : ℕ) (reply : X) (r : Result X RunFault) (P : X → Type 0) (Q : RunFault → Type 0) → r ≡ checked_end made at (Ok reply) → (at ≡ made → P reply) → ((at ≡ made → ⊥) → Q Foreign)
+    → MatchResult r P Q
+checked_ends {X} made at reply r P Q is same_at other_at = checked_cases made at (Ok reply) r (λ (x : Result X RunFault). MatchResult x P Q) is same_at other_at
+
+-- the movie's length is told where it stands at just the seat's own edits
+pub length_ends : {A : Type 0} (before now : SeatContent A) (made at len : ℕ) (r : Result ℕ RunFault) → BeginsWithOwn before → made ≡ before.made → HasSeen before now → at ≡ length now.front → len ≡ length (movie_of now.front).inputs
+    → r ≡ checked_end made at (Ok len) → MatchResult r (λ n. (length now.front ≡ made) × (n ≡ length (own_edits_of before).movie.inputs)) (IsDeskFault now)
+length_ends before now made at len r own m seen here long is =
+    checked_ends made at len r (λ n. (length now.front ≡ made) × (n ≡ length (own_edits_of before).movie.inputs)) (IsDeskFault now) is
+    (λ (same : at ≡ made). (sym here ∙ same, long ∙ ap (λ (x : MovieContent). length x.inputs) (own_movie before now own seen (sym here ∙ same ∙ m))))
+    (λ (other : at ≡ made → ⊥). foreign before now made at own seen m here other)
+
+-- what stands at just the seat's own edits, and what doesn't
+pub checked_at : {X : Type 0} (made at : ℕ) (reply told : X) → Ok told ≡ checked_end made at (Ok reply) → at ≡ made
+checked_at made at reply told is = checked_ends made at reply (Ok told) (λ x. at ≡ made) (λ fault. Unit {0}) is (λ same. same) (λ other. tt)
+
+pub unchecked : {X A : Type 0} (before now : SeatContent A) (made at : ℕ) (reply : X) (fault : RunFault) → BeginsWithOwn before → made ≡ before.made → HasSeen before now → at ≡ length now.front → Err fault ≡ checked_end made at (Ok reply)
+    → IsDeskFault now fault
+unchecked before now made at reply fault own m seen here is =
+    checked_ends made at reply (Err fault) (λ x. Unit {0}) (IsDeskFault now) is (λ same. tt) (λ other. foreign before now made at own seen m here other)
 
 -- ---- refusals of a desk
 
@@ -143,7 +161,7 @@ not_serial false n at k (Some (LongRefusal len)) e = absurd (cc e)
 
 -- why the desk refuses an edit at a front that is just the seat's own edits
 own_refusal : {A : Type 0} (seat : SeatContent A) (edit : Edit A) → BeginsWithOwn seat → length seat.front ≡ seat.made
-    → refusal_at seat.front seat.number seat.made edit ≡ unserial (length seat.front == 1000000) (length seat.front) (refusal (movie_of seat.front) edit)
+    → refusal_at seat.front seat.number seat.made edit ≡ unserial (length seat.front == most_edits) (length seat.front) (refusal (movie_of seat.front) edit)
 own_refusal {A} seat edit own at =
     let whole : seat.front ≡ take seat.made seat.front = own_front seat seat own (seen_self seat) at in
     let counted : entries_of seat.number seat.front ≡ seat.made = ap (λ (l : List (Entry A)). entries_of seat.number l) whole ∙ own.own in
@@ -151,35 +169,35 @@ own_refusal {A} seat edit own at =
 
 -- the reply that the definition gives to an edit that is refused there
 own_told : {A : Type 0} (seat : SeatContent A) (edit : Edit A) (found : Option EditError) → BeginsWithOwn seat → length seat.front ≡ seat.made → refusal_at seat.front seat.number seat.made edit ≡ found
-    → refused_reply (front_of seat).made (refusal (front_of seat).movie edit) ≡ told_of found
+    → refused_reply (own_edits_of seat).made (refusal (own_edits_of seat).movie edit) ≡ told_of found
 own_told seat edit found own at is =
     ap (λ (m : MovieContent). refused_reply seat.made (refusal m edit)) (sym (own_movie seat seat own (seen_self seat) at))
     ∙ ap (λ (n : ℕ). refused_reply n (refusal (movie_of seat.front) edit)) (sym at)
-    ∙ same_refusal (length seat.front == 1000000) (length seat.front) (refusal (movie_of seat.front) edit)
+    ∙ same_refusal (length seat.front == most_edits) (length seat.front) (refusal (movie_of seat.front) edit)
     ∙ ap told_of (sym (own_refusal seat edit own at) ∙ is)
 
 -- ---- turns of edits
 
-turn_refused : {A : Type 0} (front : Front) (edit : Edit A) (reply : Reply) → refused_reply front.made (refusal front.movie edit) ≡ Some reply → IsEditTurn front edit reply front
-turn_refused front edit reply is = (
+turn_refused : {A : Type 0} (own : OwnEdits) (edit : Edit A) (reply : Reply) → refused_reply own.made (refusal own.movie edit) ≡ Some reply → IsEditTurn own edit reply own
+turn_refused own edit reply is = (
   false,
-  sym (ap (λ (o : Option Reply). edit_reply o false front.made (length (edited front.movie edit).inputs)) is),
-  sym (ap (λ (o : Option Reply). edited_front o false front edit) is),
+  sym (ap (λ (o : Option Reply). edit_reply o false own.made (length (edited own.movie edit).inputs)) is),
+  sym (ap (λ (o : Option Reply). own_edits_unless o false own edit) is),
 )
 
-turn_without_memory : {A : Type 0} (front : Front) (edit : Edit A) → refused_reply front.made (refusal front.movie edit) ≡ None → IsEditTurn front edit OutOfMemory front
-turn_without_memory front edit is = (
+turn_without_memory : {A : Type 0} (own : OwnEdits) (edit : Edit A) → refused_reply own.made (refusal own.movie edit) ≡ None → IsEditTurn own edit OutOfMemory own
+turn_without_memory own edit is = (
   true,
-  sym (ap (λ (o : Option Reply). edit_reply o true front.made (length (edited front.movie edit).inputs)) is),
-  sym (ap (λ (o : Option Reply). edited_front o true front edit) is),
+  sym (ap (λ (o : Option Reply). edit_reply o true own.made (length (edited own.movie edit).inputs)) is),
+  sym (ap (λ (o : Option Reply). own_edits_unless o true own edit) is),
 )
 
-turn_made : {A : Type 0} (front : Front) (edit : Edit A) → refused_reply front.made (refusal front.movie edit) ≡ None
-    → IsEditTurn front edit (Edited (front.made + 1) (length (edited front.movie edit).inputs)) (record { movie = edited front.movie edit; made = front.made + 1 })
-turn_made front edit is = (
+turn_made : {A : Type 0} (own : OwnEdits) (edit : Edit A) → refused_reply own.made (refusal own.movie edit) ≡ None
+    → IsEditTurn own edit (Edited (own.made + 1) (length (edited own.movie edit).inputs)) (record { movie = edited own.movie edit; made = own.made + 1 })
+turn_made own edit is = (
   false,
-  sym (ap (λ (o : Option Reply). edit_reply o false front.made (length (edited front.movie edit).inputs)) is),
-  sym (ap (λ (o : Option Reply). edited_front o false front edit) is),
+  sym (ap (λ (o : Option Reply). edit_reply o false own.made (length (edited own.movie edit).inputs)) is),
+  sym (ap (λ (o : Option Reply). own_edits_unless o false own edit) is),
 )
 
 -- a name of an error
@@ -189,13 +207,13 @@ error_is seat edit error said is found = subst (λ (x : EditError). IsEditError 
 
 -- an error that names its place
 pub refused_at : {A : Type 0} (seat : SeatContent A) (made at : ℕ) (error : EditError) (reply : Reply) (r : Result Reply RunFault) (edit : Edit A) → BeginsWithOwn seat → made ≡ seat.made
-    → told_of (Some error) ≡ Some reply → ((n : ℕ) → place_of error n ≡ at) → r ≡ checked_reply made at reply → refusal_at seat.front seat.number seat.made edit ≡ Some error
-    → MatchResult r (λ reply'. IsEditTurn (front_of seat) edit reply' (front_of seat)) (IsDeskFault seat)
+    → told_of (Some error) ≡ Some reply → ((n : ℕ) → place_of error n ≡ at) → r ≡ checked_end made at (Ok reply) → refusal_at seat.front seat.number seat.made edit ≡ Some error
+    → MatchResult r (λ reply'. IsEditTurn (own_edits_of seat) edit reply' (own_edits_of seat)) (IsDeskFault seat)
 refused_at seat made at error reply r edit own m told place is found =
     let here : at ≡ length seat.front = sym (place (length seat.front))
-    ∙ place_is (entries_of seat.number seat.front == seat.made) (length seat.front == 1000000) (length seat.front) (entries_of seat.number seat.front) (refusal (movie_of seat.front) edit) error found in
-    checked_ends made at reply r (λ reply'. IsEditTurn (front_of seat) edit reply' (front_of seat)) (IsDeskFault seat) is
-    (λ (same : at ≡ made). turn_refused (front_of seat) edit reply (own_told seat edit (Some error) own (sym here ∙ same ∙ m) found ∙ told))
+    ∙ place_is (entries_of seat.number seat.front == seat.made) (length seat.front == most_edits) (length seat.front) (entries_of seat.number seat.front) (refusal (movie_of seat.front) edit) error found in
+    checked_ends made at reply r (λ reply'. IsEditTurn (own_edits_of seat) edit reply' (own_edits_of seat)) (IsDeskFault seat) is
+    (λ (same : at ≡ made). turn_refused (own_edits_of seat) edit reply (own_told seat edit (Some error) own (sym here ∙ same ∙ m) found ∙ told))
     (λ (other : at ≡ made → ⊥). foreign seat seat made at own (seen_self seat) m here other)
 
 -- another number of the seat's entries than it made
@@ -203,7 +221,7 @@ pub refused_serial : {A : Type 0} (seat : SeatContent A) (at counted : ℕ) (edi
 refused_serial seat at counted edit own found =
     has_foreign seat own
     (λ (e : length seat.front ≡ seat.made).
-    not_serial (length seat.front == 1000000) (length seat.front) at counted (refusal (movie_of seat.front) edit) (sym (own_refusal seat edit own e) ∙ found))
+    not_serial (length seat.front == most_edits) (length seat.front) at counted (refusal (movie_of seat.front) edit) (sym (own_refusal seat edit own e) ∙ found))
 
 -- a front that is followed by one as long as the seat's own edits
 pub first_front : {A : Type 0} (before now : SeatContent A) → BeginsWithOwn before → HasSeen before now → length now.front ≡ before.made → length before.front ≡ before.made
@@ -211,10 +229,10 @@ first_front before now own seen at = omega (arith, own.seen, longer before now s
 
 -- want of memory
 pub refused_memory : {A : Type 0} (before now : SeatContent A) (edit : Edit A) → BeginsWithOwn before → HasSeen before now → length now.front ≡ before.made → refusal_at before.front before.number before.made edit ≡ None
-    → IsEditTurn (front_of before) edit OutOfMemory (front_of now)
+    → IsEditTurn (own_edits_of before) edit OutOfMemory (own_edits_of now)
 refused_memory before now edit own seen at found =
-    subst (λ (f : Front). IsEditTurn (front_of before) edit OutOfMemory f) (sym (front_stays before now own seen))
-    (turn_without_memory (front_of before) edit (own_told before edit None own (first_front before now own seen at) found))
+    subst (λ (f : OwnEdits). IsEditTurn (own_edits_of before) edit OutOfMemory f) (sym (own_edits_stay before now own seen))
+    (turn_without_memory (own_edits_of before) edit (own_told before edit None own (first_front before now own seen at) found))
 
 -- ---- an edit on the desk
 
@@ -231,6 +249,13 @@ entries_push {A} history entry k is =
     let one : ◌≡◌ {A = ℕ} (if entry.seat == k then 1 else 0) 1 = rw (eq-eqb entry.seat k is) refl in
     omega (arith, e, one)
 
+pub refused_seen : {A : Type 0} (before now : SeatContent A) (edit : Edit A) (error : EditError) → IsEdited before now edit (Err error) → HasSeen before now
+refused_seen {A} before now edit error e = subst (λ (s : SeatContent A). HasSeen before s) (sym e.seat) (seen_history before e.at e.begins)
+
+pub edited_number : {A : Type 0} (before now : SeatContent A) (edit : Edit A) (answer : Result Receipt EditError) → IsEdited before now edit answer → now.number ≡ before.number
+edited_number {A} before now edit (Ok receipt) e = ap (λ (s : SeatContent A). s.number) e.seat
+edited_number {A} before now edit (Err error) e = ap (λ (s : SeatContent A). s.number) e.seat
+
 pub edit_made : {A : Type 0} (before now : SeatContent A) (edit : Edit A) (receipt : Receipt) (made : ℕ) → BeginsWithOwn before → made ≡ before.made → IsEdited before now edit (Ok receipt) → receipt.at ≡ made + 1
     → IsEditAnswer before now edit (Ok (record { reply = Edited receipt.at receipt.len; made = receipt.at }))
 edit_made {A} before now edit receipt made own m e at =
@@ -239,18 +264,18 @@ edit_made {A} before now edit receipt made own m e at =
     let counted : receipt.at ≡ length e.at + 1 = ap (λ (r : Receipt). r.at) e.receipt in
     let here : length e.at ≡ before.made = omega (arith, at, m, counted) in
     let own' : BeginsWithOwn mid = own_stays before mid own seen in
-    let free : refused_reply before.made (refusal (front_of before).movie edit) ≡ None =
-    ap (λ (f : Front). refused_reply f.made (refusal f.movie edit)) (sym (front_stays before mid own seen)) ∙ own_told mid edit None own' here e.refusal in
-    let movie : movie_of e.at ≡ (front_of before).movie = own_movie before mid own seen here in
+    let free : refused_reply before.made (refusal (own_edits_of before).movie edit) ≡ None =
+    ap (λ (f : OwnEdits). refused_reply f.made (refusal f.movie edit)) (sym (own_edits_stay before mid own seen)) ∙ own_told mid edit None own' here e.refusal in
+    let movie : movie_of e.at ≡ (own_edits_of before).movie = own_movie before mid own seen here in
     let pushed : List (Entry A) = e.at ++ entry_of before.number before.made edit ∷ [] in
     let whole : take (before.made + 1) pushed ≡ pushed = take_all (before.made + 1) pushed (omega (arith, here, length-append e.at (entry_of before.number before.made edit ∷ []))) in
-    let next : front_of now ≡ record { movie = edited (front_of before).movie edit; made = before.made + 1 } =
-    ap (λ (s : SeatContent A). front_of s) e.seat
-    ∙ ap (λ (l : List (Entry A)). let f : Front = record { movie = movie_of l; made = before.made + 1 } in f) whole
-    ∙ ap (λ (x : MovieContent). let f : Front = record { movie = x; made = before.made + 1 } in f) (movie_of-push e.at (entry_of before.number before.made edit) ∙ ap (λ (x : MovieContent). edited x edit) movie) in
-    let reply : Edited receipt.at receipt.len ≡ Edited (before.made + 1) (length (edited (front_of before).movie edit).inputs) =
+    let next : own_edits_of now ≡ record { movie = edited (own_edits_of before).movie edit; made = before.made + 1 } =
+    ap (λ (s : SeatContent A). own_edits_of s) e.seat
+    ∙ ap (λ (l : List (Entry A)). let f : OwnEdits = record { movie = movie_of l; made = before.made + 1 } in f) whole
+    ∙ ap (λ (x : MovieContent). let f : OwnEdits = record { movie = x; made = before.made + 1 } in f) (movie_of-push e.at (entry_of before.number before.made edit) ∙ ap (λ (x : MovieContent). edited x edit) movie) in
+    let reply : Edited receipt.at receipt.len ≡ Edited (before.made + 1) (length (edited (own_edits_of before).movie edit).inputs) =
     ap (λ (n : ℕ). Edited n receipt.len) (at ∙ ap (λ (n : ℕ). n + 1) m) ∙ ap (Edited (before.made + 1)) (ap (λ (r : Receipt). r.len) e.receipt ∙ ap (λ (x : MovieContent). length (edited x edit).inputs) movie) in
-    let turn = turn_made (front_of before) edit free in
+    let turn = turn_made (own_edits_of before) edit free in
     record {
       turn_is = (turn.0, reply ∙ turn.1, next ∙ turn.2);
       made = at ∙ ap (λ (n : ℕ). n + 1) m ∙ sym (ap (λ (s : SeatContent A). s.made) e.seat);
@@ -270,20 +295,35 @@ edit_foreign {A} before now edit receipt made own m e other =
     let more = longer before (at_history before e.at) (seen_history before e.at e.begins) in
     more_than now.made (length now.front) (omega (arith, so_many, long, more, own.seen)) (λ (same : length now.front ≡ now.made). other (omega (arith, counted, long, so_many, same, m)))
 
+-- an edit that was made, where its place was compared
+pub edit_ends : {A : Type 0} (before now : SeatContent A) (edit : Edit A) (receipt : Receipt) (made at : ℕ) (r : Result Answered RunFault) → BeginsWithOwn before → made ≡ before.made → IsEdited before now edit (Ok receipt) → at + 1 ≡ receipt.at
+    → r ≡ checked_end made at (Ok (record { reply = Edited receipt.at receipt.len; made = receipt.at })) → IsEditAnswer before now edit r
+edit_ends before now edit receipt made at r own m e behind is = go r ends
+  where
+    go : (x : Result Answered RunFault) → MatchResult x (λ answered. IsEditAnswer before now edit (Ok answered)) (IsDeskFault now) → IsEditAnswer before now edit x
+    go (Ok answered) told = told
+    go (Err fault) told = told
+
+    ends : MatchResult r (λ answered. IsEditAnswer before now edit (Ok answered)) (IsDeskFault now)
+    ends =
+        checked_ends made at (record { reply = Edited receipt.at receipt.len; made = receipt.at }) r (λ answered. IsEditAnswer before now edit (Ok answered)) (IsDeskFault now) is
+        (λ (same : at ≡ made). edit_made before now edit receipt made own m e (sym behind ∙ ap (λ (n : ℕ). n + 1) same))
+        (λ (other : at ≡ made → ⊥). edit_foreign before now edit receipt made own m e (λ (same : receipt.at ≡ made + 1). other (omega (arith, behind, same))))
+
 -- an edit that was refused, with what was told then
 pub edit_refused : {A : Type 0} (before mid now : SeatContent A) (edit : Edit A) (error : EditError) (made : ℕ) (r : Result Reply RunFault) (answer : Result Answered RunFault) → BeginsWithOwn before → made ≡ before.made
     → IsEdited before mid edit (Err error) → HasSeen mid now
-    → ((edit' : Edit A) → IsEditError (refusal_at mid.front mid.number mid.made edit') error → MatchResult r (λ reply. IsEditTurn (front_of mid) edit' reply (front_of now)) (IsDeskFault now))
+    → ((edit' : Edit A) → IsEditError (refusal_at mid.front mid.number mid.made edit') error → MatchResult r (λ reply. IsEditTurn (own_edits_of mid) edit' reply (own_edits_of now)) (IsDeskFault now))
     → answer ≡ looked r made → IsEditAnswer before now edit answer
 edit_refused {A} before mid now edit error made r answer own m e more told is =
-    let seen : HasSeen before mid = subst (λ (s : SeatContent A). HasSeen before s) (sym e.seat) (seen_history before e.at e.begins) in
+    let seen : HasSeen before mid = refused_seen before mid edit error e in
     let found : IsEditError (refusal_at mid.front mid.number mid.made edit) error =
     subst (λ (s : SeatContent A). IsEditError (refusal_at s.front s.number s.made edit) error) (sym e.seat) e.refusal in
     subst (λ (x : Result Answered RunFault). IsEditAnswer before now edit x) (sym is) (go r (told edit found) seen)
   where
-    go : (x : Result Reply RunFault) → MatchResult x (λ reply. IsEditTurn (front_of mid) edit reply (front_of now)) (IsDeskFault now) → HasSeen before mid → IsEditAnswer before now edit (looked x made)
+    go : (x : Result Reply RunFault) → MatchResult x (λ reply. IsEditTurn (own_edits_of mid) edit reply (own_edits_of now)) (IsDeskFault now) → HasSeen before mid → IsEditAnswer before now edit (looked x made)
     go (Ok reply) turn seen = record {
-      turn_is = subst (λ (f : Front). IsEditTurn f edit reply (front_of now)) (front_stays before mid own seen) turn;
+      turn_is = subst (λ (f : OwnEdits). IsEditTurn f edit reply (own_edits_of now)) (own_edits_stay before mid own seen) turn;
       made = m ∙ sym seen.made ∙ sym more.made;
       own = own_stays mid now (own_stays before mid own seen) more;
     }
@@ -293,21 +333,18 @@ edit_refused {A} before mid now edit error made r answer own m e more told is =
 
 -- a turn of an edit is the turn of its line
 line_turn : {A : Type 0} (before now : SeatContent A) (command : Command) (edit : Edit A) (r : Result Answered RunFault)
-    → ((reply : Reply) (next : Front) → IsEditTurn (front_of before) edit reply next → IsTurn A (front_of before) command reply next) → IsEditAnswer before now edit r → IsAnswer A before now command r
-line_turn before now command edit (Ok answered) says told = record { turn_is = says answered.reply (front_of now) told.turn_is; made = told.made; own = told.own }
+    → ((reply : Reply) (next : OwnEdits) → IsEditTurn (own_edits_of before) edit reply next → IsTurn A (own_edits_of before) command reply next) → IsEditAnswer before now edit r → IsAnswer A before now command r
+line_turn before now command edit (Ok answered) says told = record { turn_is = says answered.reply (own_edits_of now) told.turn_is; made = told.made; own = told.own }
 line_turn before now command edit (Err fault) says told = told
 
 -- the answer of a seat that has only looked before
-pub after_look : {A : Type 0} (before mid now : SeatContent A) (command : Command) (r : Result Answered RunFault) → BeginsWithOwn before → HasSeen before mid → IsAnswer A mid now command r → IsAnswer A before now command r
-after_look {A} before mid now command (Ok answered) own seen told = record {
-  turn_is = subst (λ (f : Front). IsTurn A f command answered.reply (front_of now)) (front_stays before mid own seen) told.turn_is;
+pub after_look : (A : Type 0) (before mid now : SeatContent A) (command : Command) (r : Result Answered RunFault) → BeginsWithOwn before → HasSeen before mid → IsAnswer A mid now command r → IsAnswer A before now command r
+after_look A before mid now command (Ok answered) own seen told = record {
+  turn_is = subst (λ (f : OwnEdits). IsTurn A f command answered.reply (own_edits_of now)) (own_edits_stay before mid own seen) told.turn_is;
   made = told.made;
   own = told.own;
 }
-after_look before mid now command (Err fault) own seen told = told
-
-pub after_looks : (A : Type 0) (before mid now : SeatContent A) (command : Command) (r : Result Answered RunFault) → BeginsWithOwn before → HasSeen before mid → IsAnswer A mid now command r → IsAnswer A before now command r
-after_looks A before mid now command r own seen told = after_look before mid now command r own seen told
+after_look A before mid now command (Err fault) own seen told = told
 
 abbrev pub inserted : (A : Type 0) → ℕ → List Input → Edit A
 inserted A at inputs = InsertEdit at inputs
@@ -340,27 +377,27 @@ delete_answer A before now at count r told = line_turn before now (Delete at cou
 abbrev answered_of : Reply → ℕ → Result Answered RunFault
 answered_of reply made = Ok (record { reply = reply; made = made })
 
-looked_answer : {A : Type 0} (before now : SeatContent A) (edit : Edit A) (reply : Reply) (made : ℕ) → BeginsWithOwn before → made ≡ before.made → HasSeen before now → IsEditTurn (front_of before) edit reply (front_of before)
+looked_answer : {A : Type 0} (before now : SeatContent A) (edit : Edit A) (reply : Reply) (made : ℕ) → BeginsWithOwn before → made ≡ before.made → HasSeen before now → IsEditTurn (own_edits_of before) edit reply (own_edits_of before)
     → IsEditAnswer before now edit (Ok (record { reply = reply; made = made }))
 looked_answer before now edit reply made own m seen turn = record {
-  turn_is = subst (λ (f : Front). IsEditTurn (front_of before) edit reply f) (sym (front_stays before now own seen)) turn;
+  turn_is = subst (λ (f : OwnEdits). IsEditTurn (own_edits_of before) edit reply f) (sym (own_edits_stay before now own seen)) turn;
   made = m ∙ sym seen.made;
   own = own_stays before now own seen;
 }
 
 -- what refuses the edit is known
 early : {A : Type 0} (before now : SeatContent A) (edit : Edit A) (made : ℕ) (refused : Option EditRefusal) (reply : Reply) → BeginsWithOwn before → made ≡ before.made → HasSeen before now
-    → refusal (front_of before).movie edit ≡ refused → refused_reply made refused ≡ Some reply → IsEditAnswer before now edit (Ok (record { reply = reply; made = made }))
+    → refusal (own_edits_of before).movie edit ≡ refused → refused_reply made refused ≡ Some reply → IsEditAnswer before now edit (Ok (record { reply = reply; made = made }))
 early before now edit made refused reply own m seen is told =
     looked_answer before now edit reply made own m seen
-    (turn_refused (front_of before) edit reply (ap (λ (n : ℕ). refused_reply n (refusal (front_of before).movie edit)) (sym m) ∙ ap (refused_reply made) is ∙ told))
+    (turn_refused (own_edits_of before) edit reply (ap (λ (n : ℕ). refused_reply n (refusal (own_edits_of before).movie edit)) (sym m) ∙ ap (refused_reply made) is ∙ told))
 
 -- nothing refuses the edit, but memory was
-late : {A : Type 0} (before now : SeatContent A) (edit : Edit A) (made : ℕ) (refused : Option EditRefusal) → BeginsWithOwn before → made ≡ before.made → HasSeen before now → refusal (front_of before).movie edit ≡ refused
+late : {A : Type 0} (before now : SeatContent A) (edit : Edit A) (made : ℕ) (refused : Option EditRefusal) → BeginsWithOwn before → made ≡ before.made → HasSeen before now → refusal (own_edits_of before).movie edit ≡ refused
     → refused_reply made refused ≡ None → IsEditAnswer before now edit (Ok (record { reply = OutOfMemory; made = made }))
 late before now edit made refused own m seen is told =
     looked_answer before now edit OutOfMemory made own m seen
-    (turn_without_memory (front_of before) edit (ap (λ (n : ℕ). refused_reply n (refusal (front_of before).movie edit)) (sym m) ∙ ap (refused_reply made) is ∙ told))
+    (turn_without_memory (own_edits_of before) edit (ap (λ (n : ℕ). refused_reply n (refusal (own_edits_of before).movie edit)) (sym m) ∙ ap (refused_reply made) is ∙ told))
 
 insert_refused_as : (A : Type 0) (movie : MovieContent) (at count len : ℕ) (input : Input) → len ≡ length movie.inputs → refusal movie (insert_edit A at count input) ≡ insert_refusal len at count
 insert_refused_as A movie at count len input is =
@@ -379,26 +416,26 @@ pub load_late : (A : Type 0) (before now : SeatContent A) (image : Image) (made 
     → IsAnswer A before now (Load image) (Ok (record { reply = OutOfMemory; made = made }))
 load_late A before now image made own m seen told = load_answer A before now image (image_bytes image) (answered_of OutOfMemory made) refl (late before now (load_edit A (image_bytes image)) made None own m seen refl told)
 
-pub insert_early : (A : Type 0) (before now : SeatContent A) (at count len made : ℕ) (input : Input) (reply : Reply) → BeginsWithOwn before → made ≡ before.made → HasSeen before now → len ≡ length (front_of before).movie.inputs
+pub insert_early : (A : Type 0) (before now : SeatContent A) (at count len made : ℕ) (input : Input) (reply : Reply) → BeginsWithOwn before → made ≡ before.made → HasSeen before now → len ≡ length (own_edits_of before).movie.inputs
     → refused_reply made (insert_refusal len at count) ≡ Some reply → IsAnswer A before now (Insert at count input) (Ok (record { reply = reply; made = made }))
 insert_early A before now at count len made input reply own m seen long told =
     insert_answer A before now at count input (replicate count input) (answered_of reply made) refl
-    (early before now (insert_edit A at count input) made (insert_refusal len at count) reply own m seen (insert_refused_as A (front_of before).movie at count len input long) told)
+    (early before now (insert_edit A at count input) made (insert_refusal len at count) reply own m seen (insert_refused_as A (own_edits_of before).movie at count len input long) told)
 
-pub insert_late : (A : Type 0) (before now : SeatContent A) (at count len made : ℕ) (input : Input) → BeginsWithOwn before → made ≡ before.made → HasSeen before now → len ≡ length (front_of before).movie.inputs
+pub insert_late : (A : Type 0) (before now : SeatContent A) (at count len made : ℕ) (input : Input) → BeginsWithOwn before → made ≡ before.made → HasSeen before now → len ≡ length (own_edits_of before).movie.inputs
     → refused_reply made (insert_refusal len at count) ≡ None → IsAnswer A before now (Insert at count input) (Ok (record { reply = OutOfMemory; made = made }))
 insert_late A before now at count len made input own m seen long told =
     insert_answer A before now at count input (replicate count input) (answered_of OutOfMemory made) refl
-    (late before now (insert_edit A at count input) made (insert_refusal len at count) own m seen (insert_refused_as A (front_of before).movie at count len input long) told)
+    (late before now (insert_edit A at count input) made (insert_refusal len at count) own m seen (insert_refused_as A (own_edits_of before).movie at count len input long) told)
 
-pub replace_early : (A : Type 0) (before now : SeatContent A) (at count len made : ℕ) (input : Input) (reply : Reply) → BeginsWithOwn before → made ≡ before.made → HasSeen before now → len ≡ length (front_of before).movie.inputs
+pub replace_early : (A : Type 0) (before now : SeatContent A) (at count len made : ℕ) (input : Input) (reply : Reply) → BeginsWithOwn before → made ≡ before.made → HasSeen before now → len ≡ length (own_edits_of before).movie.inputs
     → refused_reply made (place_refusal len at (at + count)) ≡ Some reply → IsAnswer A before now (Replace at count input) (Ok (record { reply = reply; made = made }))
 replace_early A before now at count len made input reply own m seen long told =
     replace_answer A before now at count input (replicate count input) (answered_of reply made) refl
-    (early before now (replace_edit A at count input) made (place_refusal len at (at + count)) reply own m seen (replace_refused_as A (front_of before).movie at count len input long) told)
+    (early before now (replace_edit A at count input) made (place_refusal len at (at + count)) reply own m seen (replace_refused_as A (own_edits_of before).movie at count len input long) told)
 
-pub replace_late : (A : Type 0) (before now : SeatContent A) (at count len made : ℕ) (input : Input) → BeginsWithOwn before → made ≡ before.made → HasSeen before now → len ≡ length (front_of before).movie.inputs
+pub replace_late : (A : Type 0) (before now : SeatContent A) (at count len made : ℕ) (input : Input) → BeginsWithOwn before → made ≡ before.made → HasSeen before now → len ≡ length (own_edits_of before).movie.inputs
     → refused_reply made (place_refusal len at (at + count)) ≡ None → IsAnswer A before now (Replace at count input) (Ok (record { reply = OutOfMemory; made = made }))
 replace_late A before now at count len made input own m seen long told =
     replace_answer A before now at count input (replicate count input) (answered_of OutOfMemory made) refl
-    (late before now (replace_edit A at count input) made (place_refusal len at (at + count)) own m seen (replace_refused_as A (front_of before).movie at count len input long) told)
+    (late before now (replace_edit A at count input) made (place_refusal len at (at + count)) own m seen (replace_refused_as A (own_edits_of before).movie at count len input long) told)

@@ -10,11 +10,11 @@ use Rattle.tas_engines.specs.declared.fault.RunFault.TheVariants.{Foreign}
 use Rattle.tas_script.specs.declared.command.Command.{Command}
 use Rattle.tas_script.specs.declared.reply.Reply.{Reply}
 use Rattle.tas_tool.specs.declared.answering.Answered.{Answered}
-use Rattle.tas_tool.specs.Turns.{front_of, BeginsWithOwn, IsDeskFault, IsEditTurn, IsTurn}
+use Rattle.tas_tool.specs.Turns.{own_edits_of, BeginsWithOwn, IsDeskFault, IsEditTurn, IsTurn}
 
--- a reply that stands at so many edits, where these are just the script's own
-abbrev pub checked_reply : ℕ → ℕ → Reply → Result Reply RunFault
-checked_reply made at reply = if at == made then Ok reply else Err Foreign
+-- an answer, or another end, that stands at so many edits, where these are just the seat's own
+abbrev pub checked_end : {X : Type 0} → ℕ → ℕ → Result X RunFault → Result X RunFault
+checked_end made at end = if at == made then end else Err Foreign
 
 -- why so many inputs can't be put in
 abbrev pub insert_refusal : ℕ → ℕ → ℕ → Option EditRefusal
@@ -33,10 +33,10 @@ pub record IsTold {A : Type 0} (now : SeatContent A) (answered : Answered) (turn
 
 -- the answer to an edit
 abbrev pub IsEditAnswer : {A : Type 0} → SeatContent A → SeatContent A → Edit A → Result Answered RunFault → Type 0
-IsEditAnswer before now edit (Ok answered) = IsTold now answered (IsEditTurn (front_of before) edit answered.reply (front_of now))
+IsEditAnswer before now edit (Ok answered) = IsTold now answered (IsEditTurn (own_edits_of before) edit answered.reply (own_edits_of now))
 IsEditAnswer before now edit (Err fault) = IsDeskFault now fault
 
 -- the answer to a command
 abbrev pub IsAnswer : (A : Type 0) → SeatContent A → SeatContent A → Command → Result Answered RunFault → Type 0
-IsAnswer A before now command (Ok answered) = IsTold now answered (IsTurn A (front_of before) command answered.reply (front_of now))
+IsAnswer A before now command (Ok answered) = IsTold now answered (IsTurn A (own_edits_of before) command answered.reply (own_edits_of now))
 IsAnswer A before now command (Err fault) = IsDeskFault now fault

@@ -7,12 +7,12 @@ use Rattle.tas_engines.specs.declared.fault.RunFault.TheVariants.{NoPlace, Memor
 use Rattle.tas_engines.specs.declared.fault.ToolFault.{ToolFault}
 use Rattle.tas_engines.specs.Movies.{IsMovieOf, IsMovieFault}
 use Rattle.tas_engines.specs.ThreeInputs.{EndsAfterThree}
-use Rattle.tas_tool.specs.Turns.{Front}
+use Rattle.tas_tool.specs.Turns.{OwnEdits}
 use Rattle.tas_tool.specs.Scripts.{Answers, EndsWithReplies}
 
 -- a movie is made by two edits: its cartridge is loaded, then its inputs are put in
-abbrev pub movie_front : MovieContent → Front
-movie_front movie = record { movie = movie; made = 2 }
+abbrev pub own_edits_of_movie : MovieContent → OwnEdits
+own_edits_of_movie movie = record { movie = movie; made = 2 }
 
 -- why a desk wasn't given its movie: there was no place on it, or memory was refused
 abbrev pub IsUnmade : RunFault → Type 0
@@ -21,10 +21,10 @@ IsUnmade Memory = Unit {0}
 IsUnmade _ = ⊥
 
 -- the replies to a script that starts from a movie, and how it ends: the movie isn't made, and there are none; or they are
--- those from its front on
+-- those from its two edits on
 abbrev pub AnswersOver : Type 0 → MovieContent → List ℕ → List ℕ → Result (Unit {0}) RunFault → Type 0
-AnswersOver A movie bytes text (Ok u) = Answers A (movie_front movie) bytes text (Ok u)
-AnswersOver A movie bytes text (Err fault) = ((text ≡ []) × IsUnmade fault) ⊎ Answers A (movie_front movie) bytes text (Err fault)
+AnswersOver A movie bytes text (Ok u) = Answers A (own_edits_of_movie movie) bytes text (Ok u)
+AnswersOver A movie bytes text (Err fault) = ((text ≡ []) × IsUnmade fault) ⊎ Answers A (own_edits_of_movie movie) bytes text (Err fault)
 
 -- how a script ends that was read with a cartridge and a movie's text: there is no such movie, and nothing is written; or it
 -- is answered from the movie on

@@ -12,7 +12,7 @@ use Rattle.tas_engines.specs.Output.{StopsWriting, EndsAfter}
 use Rattle.tas_script.specs.declared.command.Command.{Command}
 use Rattle.tas_script.specs.Commands.{Says, NoByte}
 use Rattle.tas_script.specs.Replies.{reply_text}
-use Rattle.tas_tool.specs.Turns.{Unforeseen, Front, reply_to, front_after}
+use Rattle.tas_tool.specs.Turns.{Unforeseen, OwnEdits, reply_to, own_edits_after}
 
 -- a line, the command that it is, and what no session of cartridge and inputs alone can tell of its reply
 pub record Turn : Type 0 where
@@ -29,15 +29,15 @@ AreSaid [] = Unit {0}
 AreSaid (turn ∷ turns) = (Says turn.said turn.command × NoByte 10 turn.said) × AreSaid turns
 
 -- what is made after some lines
-unfoldable pub front_after_all : Type 0 → Front → List Turn → Front
-front_after_all A front [] = front
-front_after_all A front (turn ∷ turns) = front_after_all A (front_after A turn.unforeseen front turn.command) turns
+unfoldable pub own_edits_after_all : Type 0 → OwnEdits → List Turn → OwnEdits
+own_edits_after_all A own [] = own
+own_edits_after_all A own (turn ∷ turns) = own_edits_after_all A (own_edits_after A turn.unforeseen own turn.command) turns
 
 -- the replies to some lines, each at what the lines before it made
-unfoldable pub replies_to_all : Type 0 → Front → List Turn → List ℕ
-replies_to_all A front [] = []
-replies_to_all A front (turn ∷ turns) =
-    reply_text (reply_to A turn.unforeseen front turn.command) ++ replies_to_all A (front_after A turn.unforeseen front turn.command) turns
+unfoldable pub replies_to_all : Type 0 → OwnEdits → List Turn → List ℕ
+replies_to_all A own [] = []
+replies_to_all A own (turn ∷ turns) =
+    reply_text (reply_to A turn.unforeseen own turn.command) ++ replies_to_all A (own_edits_after A turn.unforeseen own turn.command) turns
 
 -- the first line isn't understood, or no newline ends it
 abbrev pub IsUnclear : List ℕ → Type 0
@@ -57,14 +57,14 @@ IsStop rest turns Memory = Unit {0}
 IsStop rest turns NoEntry = 0 < length rest
 IsStop rest turns _ = ⊥
 
--- the replies to a script from a front on, and how it ends: all lines are answered, or the first ones up to a fault
-abbrev pub Answers : Type 0 → Front → List ℕ → List ℕ → Result (Unit {0}) RunFault → Type 0
+-- the replies to a script that goes on from these own edits, and how it ends: all lines are answered, or the first ones up to a fault
+abbrev pub Answers : Type 0 → OwnEdits → List ℕ → List ℕ → Result (Unit {0}) RunFault → Type 0
 Answers A start bytes text (Ok _) = (turns : List Turn) × Reads bytes turns [] × (text ≡ replies_to_all A start turns)
 Answers A start bytes text (Err fault) = (turns : List Turn) × (rest : List ℕ) × Reads bytes turns rest × (text ≡ replies_to_all A start turns) × IsStop rest turns fault
 
 -- nothing is made yet
-abbrev pub start_front : Front
-start_front = record { movie = blank_movie; made = 0 }
+abbrev pub own_edits_at_start : OwnEdits
+own_edits_at_start = record { movie = blank_movie; made = 0 }
 
 -- the replies to a script stand written, and the script ended so
 abbrev pub WritesReplies : (List ℕ → Result (Unit {0}) RunFault → Type 0) → Option (List ℕ) → Option (List ℕ) → Result (Unit {0}) RunFault → Type 0
@@ -84,7 +84,7 @@ EndsWithReplies answers old new (Err fault) = WritesReplies answers old new (Err
 
 -- how a script that was read ends
 abbrev pub RunsScript : Type 0 → List ℕ → Option (List ℕ) → Option (List ℕ) → Result (Unit {0}) RunFault → Type 0
-RunsScript A bytes old new end = EndsWithReplies (Answers A start_front bytes) old new end
+RunsScript A bytes old new end = EndsWithReplies (Answers A own_edits_at_start bytes) old new end
 
 -- `tas script`, from what the reader has and the writer holds before to what they have and hold afterwards
 abbrev pub IsScriptRun : Type 0 → (input input' output output' : Option (List ℕ)) → Result (Unit {0}) ToolFault → Type 0

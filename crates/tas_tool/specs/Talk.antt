@@ -31,36 +31,36 @@ use Rattle.tas_talk.specs.declared.request.Request.{Request}
 use Rattle.tas_talk.specs.declared.request.Request.TheVariants.{Do, Picture, Movie, States, Quit}
 use Rattle.tas_talk.specs.Requests.{IsHeard}
 use Rattle.tas_talk.specs.Answers.{unknown_text, picture_text, movie_text, states_text}
-use Rattle.tas_tool.specs.Turns.{Front, halted_reply, IsTurn}
-use Rattle.tas_tool.specs.Scripts.{start_front}
-use Rattle.tas_tool.specs.MovieScripts.{movie_front}
+use Rattle.tas_tool.specs.Turns.{OwnEdits, halted_reply, IsTurn}
+use Rattle.tas_tool.specs.Scripts.{own_edits_at_start}
+use Rattle.tas_tool.specs.MovieScripts.{own_edits_of_movie}
 
 -- ---- what is made and kept
 
 -- what a conversation's own edits made so far, and its greenzone: the movie that it was made for last, and the states that are kept
-pub record Stand : Type 0 where
-  pub front : Front
+pub record TalkState : Type 0 where
+  pub own : OwnEdits
   pub kept_for : MovieContent
   pub states : List Savestate
 
 -- the greenzone is as it was
-pub record Rests (old new : Stand) : Type 0 where
+pub record Rests (old new : TalkState) : Type 0 where
   pub kept_for : new.kept_for ≡ old.kept_for
   pub states : new.states ≡ old.states
 
 -- the greenzone is made for the movie, and each of its states is the movie's machine after so many frames
-pub record IsGreen (stand : Stand) : Type 0 where
-  pub kept_for : stand.kept_for ≡ stand.front.movie
-  pub lawful : IsLawful stand.kept_for stand.states
+pub record IsGreen (state : TalkState) : Type 0 where
+  pub kept_for : state.kept_for ≡ state.own.movie
+  pub lawful : IsLawful state.kept_for state.states
 
 -- frame k was played: the greenzone was cut for the movie, `ran` frames were played from the nearest state that was left, and the
 -- states on the way that stand on the grid are kept, too
-pub record Plays (old new : Stand) (k ran : ℕ) : Type 0 where
+pub record Plays (old new : TalkState) (k ran : ℕ) : Type 0 where
   pub green : IsGreen new
   pub shot : IsShotFrom old.kept_for new.kept_for k old.states new.states 0 ran
 
 -- the greenzone was cut for the movie, and then gained so many other states of it
-pub record Gains (old new : Stand) : Type 0 where
+pub record Gains (old new : TalkState) : Type 0 where
   pub green : IsGreen new
   pub other : List Savestate
   pub others : IsLawful new.kept_for other
@@ -68,34 +68,34 @@ pub record Gains (old new : Stand) : Type 0 where
   pub gain : Shares old.kept_for new.kept_for old.states other new.states gained
 
 -- frame k was played; where memory was refused, the greenzone may be as it was
-abbrev pub PlaysUnless : Bool → Stand → Stand → ℕ → Type 0
+abbrev pub PlaysUnless : Bool → TalkState → TalkState → ℕ → Type 0
 PlaysUnless true old new k = Rests old new ⊎ ((ran : ℕ) × Plays old new k ran)
 PlaysUnless false old new k = (ran : ℕ) × Plays old new k ran
 
 -- the greenzone was brought; where memory was refused, it may be as it was
-abbrev pub GainsUnless : Bool → Stand → Stand → Type 0
+abbrev pub GainsUnless : Bool → TalkState → TalkState → Type 0
 GainsUnless true old new = Rests old new ⊎ Gains old new
 GainsUnless false old new = Gains old new
 
 -- what `shot K` leaves of the greenzone, by its reply, which tells how many frames were played
-abbrev pub ShotLeaves : Stand → Stand → ℕ → Reply → Type 0
+abbrev pub ShotLeaves : TalkState → TalkState → ℕ → Reply → Type 0
 ShotLeaves old new k (Drawn made frame ran lit) = Plays old new k ran
 ShotLeaves old new k (Halted made at opcode) = (ran : ℕ) × Plays old new k ran
 ShotLeaves old new k _ = Rests old new
 
 -- what `work K` leaves of it
-abbrev pub WorkLeaves : Stand → Stand → Reply → Type 0
+abbrev pub WorkLeaves : TalkState → TalkState → Reply → Type 0
 WorkLeaves old new (Worked jobs kept stale) = Gains old new
 WorkLeaves old new _ = Rests old new
 
--- what a script's line leaves of it: an edit only makes that it is cut later
-abbrev pub CommandLeaves : Stand → Stand → Command → Reply → Type 0
+-- what a script's line leaves of it: an edit leaves it; the next shot cuts it
+abbrev pub CommandLeaves : TalkState → TalkState → Command → Reply → Type 0
 CommandLeaves old new (Shot k) reply = ShotLeaves old new k reply
 CommandLeaves old new (Work k) reply = WorkLeaves old new reply
 CommandLeaves old new _ reply = Rests old new
 
 -- what `picture K` leaves of it, where the definition answers this
-abbrev pub PictureLeaves : Bool → Stand → Stand → ℕ → Option (Result (List ℕ) Halt) → Type 0
+abbrev pub PictureLeaves : Bool → TalkState → TalkState → ℕ → Option (Result (List ℕ) Halt) → Type 0
 PictureLeaves no_memory old new k None = Rests old new
 PictureLeaves no_memory old new k (Some shown) = PlaysUnless no_memory old new k
 
@@ -106,36 +106,36 @@ shown_answer made k (Ok picture) = picture_text made k (ppm_bytes picture)
 shown_answer made k (Err halt) = reply_text (halted_reply made halt)
 
 -- the answer to `picture K`: the frame's pixmap; else what `shot K` is told
-abbrev pub picture_of_front : Bool → Front → ℕ → Option (Result (List ℕ) Halt) → List ℕ
-picture_of_front no_memory front k None = reply_text (NoFrame front.made (length front.movie.inputs))
-picture_of_front no_memory front k (Some shown) = if no_memory then reply_text OutOfMemory else shown_answer front.made k shown
+abbrev pub picture_of_own : Bool → OwnEdits → ℕ → Option (Result (List ℕ) Halt) → List ℕ
+picture_of_own no_memory own k None = reply_text (NoFrame own.made (length own.movie.inputs))
+picture_of_own no_memory own k (Some shown) = if no_memory then reply_text OutOfMemory else shown_answer own.made k shown
 
 -- the answer to `movie`
-abbrev pub text_of_front : Bool → Front → List ℕ
-text_of_front no_memory front = if no_memory then reply_text OutOfMemory else movie_text front.made (text2 front.movie)
+abbrev pub text_of_own : Bool → OwnEdits → List ℕ
+text_of_own no_memory own = if no_memory then reply_text OutOfMemory else movie_text own.made (text2 own.movie)
 
 -- the frames of a movie so long, from 1 to its end, at which a state is kept
 abbrev pub kept_frames : ℕ → List Savestate → List ℕ
 kept_frames len kept = filter (λ f. is_some (state_at f kept)) (range_with_len 1 len)
 
 -- the answer to `states`
-abbrev pub states_of_front : Bool → Front → List Savestate → List ℕ
-states_of_front no_memory front kept = if no_memory then reply_text OutOfMemory else states_text front.made (kept_frames (length front.movie.inputs) kept)
+abbrev pub states_of_own : Bool → OwnEdits → List Savestate → List ℕ
+states_of_own no_memory own kept = if no_memory then reply_text OutOfMemory else states_text own.made (kept_frames (length own.movie.inputs) kept)
 
 -- the answer to a request at what was made and kept so far, and what is made and kept then. `quit` is answered nothing: it ends the
 -- conversation
-abbrev pub IsAnswerTo : Type 0 → Stand → Request → List ℕ → Stand → Type 0
-IsAnswerTo A stand (Do command) answer next = (reply : Reply) × IsTurn A stand.front command reply next.front × (answer ≡ reply_text reply) × CommandLeaves stand next command reply
-IsAnswerTo A stand (Picture k) answer next =
-    (no_memory : Bool) × (answer ≡ picture_of_front no_memory stand.front k (answer_shot stand.front.movie k)) × (next.front ≡ stand.front) × PictureLeaves no_memory stand next k (answer_shot stand.front.movie k)
-IsAnswerTo A stand Movie answer next = (no_memory : Bool) × (answer ≡ text_of_front no_memory stand.front) × (next.front ≡ stand.front) × GainsUnless no_memory stand next
-IsAnswerTo A stand States answer next = (no_memory : Bool) × (answer ≡ states_of_front no_memory stand.front next.states) × (next.front ≡ stand.front) × GainsUnless no_memory stand next
-IsAnswerTo A stand Quit answer next = ⊥
+abbrev pub IsAnswerTo : Type 0 → TalkState → Request → List ℕ → TalkState → Type 0
+IsAnswerTo A state (Do command) answer next = (reply : Reply) × IsTurn A state.own command reply next.own × (answer ≡ reply_text reply) × CommandLeaves state next command reply
+IsAnswerTo A state (Picture k) answer next =
+    (no_memory : Bool) × (answer ≡ picture_of_own no_memory state.own k (answer_shot state.own.movie k)) × (next.own ≡ state.own) × PictureLeaves no_memory state next k (answer_shot state.own.movie k)
+IsAnswerTo A state Movie answer next = (no_memory : Bool) × (answer ≡ text_of_own no_memory state.own) × (next.own ≡ state.own) × GainsUnless no_memory state next
+IsAnswerTo A state States answer next = (no_memory : Bool) × (answer ≡ states_of_own no_memory state.own next.states) × (next.own ≡ state.own) × GainsUnless no_memory state next
+IsAnswerTo A state Quit answer next = ⊥
 
 -- a line that isn't understood is answered `unknown`, and changes nothing
-abbrev pub IsLineAnswer : Type 0 → Stand → Option Request → List ℕ → Stand → Type 0
-IsLineAnswer A stand (Some request) answer next = IsAnswerTo A stand request answer next
-IsLineAnswer A stand None answer next = (answer ≡ unknown_text) × (next ≡ stand)
+abbrev pub IsLineAnswer : Type 0 → TalkState → Option Request → List ℕ → TalkState → Type 0
+IsLineAnswer A state (Some request) answer next = IsAnswerTo A state request answer next
+IsLineAnswer A state None answer next = (answer ≡ unknown_text) × (next ≡ state)
 
 -- ---- lines, one after the other
 
@@ -144,18 +144,18 @@ pub record Exchange : Type 0 where
   pub said : List ℕ
   pub heard : Option Request
   pub answer : List ℕ
-  pub next : Stand
+  pub next : TalkState
 
 -- a line is answered at what was made and kept so far
-pub record IsExchange (A : Type 0) (stand : Stand) (exchange : Exchange) : Type 0 where
+pub record IsExchange (A : Type 0) (state : TalkState) (exchange : Exchange) : Type 0 where
   pub whole : NoByte 10 exchange.said
   pub heard : IsHeard exchange.said exchange.heard
-  pub answered : IsLineAnswer A stand exchange.heard exchange.answer exchange.next
+  pub answered : IsLineAnswer A state exchange.heard exchange.answer exchange.next
 
--- each line is answered at what the lines before it made and left; the last stand is what all of them did
-unfoldable pub AreExchanges : Type 0 → Stand → List Exchange → Stand → Type 0
-AreExchanges A stand [] last = last ≡ stand
-AreExchanges A stand (exchange ∷ exchanges) last = IsExchange A stand exchange × AreExchanges A exchange.next exchanges last
+-- each line is answered at what the lines before it made and left; the last state is what all of them did
+unfoldable pub AreExchanges : Type 0 → TalkState → List Exchange → TalkState → Type 0
+AreExchanges A state [] last = last ≡ state
+AreExchanges A state (exchange ∷ exchanges) last = IsExchange A state exchange × AreExchanges A exchange.next exchanges last
 
 -- what was said, and what was answered
 abbrev pub lines_of : List Exchange → List ℕ
@@ -180,12 +180,12 @@ last_answer [] = []
 last_answer (byte ∷ bytes) = unknown_text
 
 -- the answer to the first line of the rest
-abbrev pub IsFirstAnswer : Type 0 → Stand → List ℕ → List ℕ → Type 0
-IsFirstAnswer A stand rest answer = (exchange : Exchange) × (more : List ℕ) × IsExchange A stand exchange × (rest ≡ line exchange.said ++ more) × (answer ≡ exchange.answer)
+abbrev pub IsFirstAnswer : Type 0 → TalkState → List ℕ → List ℕ → Type 0
+IsFirstAnswer A state rest answer = (exchange : Exchange) × (more : List ℕ) × IsExchange A state exchange × (rest ≡ line exchange.said ++ more) × (answer ≡ exchange.answer)
 
 -- the answer that comes next: to the first line of the rest, or, where no more bytes come, to what stands behind the last newline
-abbrev pub IsNextAnswer : Type 0 → Stand → List ℕ → Option (List ℕ) → List ℕ → Type 0
-IsNextAnswer A stand rest input answer = IsFirstAnswer A stand rest answer ⊎ (NoByte 10 rest × IsAtEnd input × (answer ≡ last_answer rest))
+abbrev pub IsNextAnswer : Type 0 → TalkState → List ℕ → Option (List ℕ) → List ℕ → Type 0
+IsNextAnswer A state rest input answer = IsFirstAnswer A state rest answer ⊎ (NoByte 10 rest × IsAtEnd input × (answer ≡ last_answer rest))
 
 -- how many bytes a count tells at most
 abbrev pub most_counted : ℕ
@@ -201,35 +201,35 @@ pub record IsCutOff (told answer : List ℕ) (old new : Option (List ℕ)) (writ
 -- how a conversation ends in front of this rest, with these answers out before: by `quit`; at the end of the input, after the answer to what
 -- stands behind the last newline; where a read failed, with no whole line unanswered; where a write failed; where memory or
 -- a reader's entry was refused; or before the first line, where the desk had no place
-abbrev pub TalkEnds : Type 0 → Stand → (rest told : List ℕ) → (input output output' : Option (List ℕ)) → Result (Unit {0}) ToolFault → Type 0
-TalkEnds A stand rest told input output output' (Ok _) = (IsQuit rest × Appends output output' told) ⊎ (NoByte 10 rest × IsAtEnd input × Appends output output' (told ++ last_answer rest))
-TalkEnds A stand rest told input output output' (Err Read) = NoByte 10 rest × Appends output output' told
-TalkEnds A stand rest told input output output' (Err (Write written)) = (answer : List ℕ) × IsNextAnswer A stand rest input answer × IsCutOff told answer output output' written
-TalkEnds A stand rest told input output output' (Err Memory) = Appends output output' told
-TalkEnds A stand rest told input output output' (Err NoEntry) = (0 < length rest) × Appends output output' told
-TalkEnds A stand rest told input output output' (Err NoPlace) = (rest ≡ []) × (told ≡ []) × Appends output output' told
-TalkEnds A stand rest told input output output' (Err _) = ⊥
+abbrev pub TalkEnds : Type 0 → TalkState → (rest told : List ℕ) → (input output output' : Option (List ℕ)) → Result (Unit {0}) ToolFault → Type 0
+TalkEnds A state rest told input output output' (Ok _) = (IsQuit rest × Appends output output' told) ⊎ (NoByte 10 rest × IsAtEnd input × Appends output output' (told ++ last_answer rest))
+TalkEnds A state rest told input output output' (Err Read) = NoByte 10 rest × Appends output output' told
+TalkEnds A state rest told input output output' (Err (Write written)) = (answer : List ℕ) × IsNextAnswer A state rest input answer × IsCutOff told answer output output' written
+TalkEnds A state rest told input output output' (Err Memory) = Appends output output' told
+TalkEnds A state rest told input output output' (Err NoEntry) = (0 < length rest) × Appends output output' told
+TalkEnds A state rest told input output output' (Err NoPlace) = (rest ≡ []) × (told ≡ []) × Appends output output' told
+TalkEnds A state rest told input output output' (Err _) = ⊥
 
--- a conversation from a stand on, from what the reader has and the writer holds before to what they have and hold afterwards:
+-- a conversation from such a state on, from what the reader has and the writer holds before to what they have and hold afterwards:
 -- what left the reader is the lines that were answered, and the rest in front of which it ended
-pub record IsTalk (A : Type 0) (start : Stand) (input input' output output' : Option (List ℕ)) (result : Result (Unit {0}) ToolFault) : Type 0 where
+pub record IsTalk (A : Type 0) (start : TalkState) (input input' output output' : Option (List ℕ)) (result : Result (Unit {0}) ToolFault) : Type 0 where
   pub exchanges : List Exchange
-  pub stand : Stand
+  pub state : TalkState
   pub rest : List ℕ
-  pub answered : AreExchanges A start exchanges stand
+  pub answered : AreExchanges A start exchanges state
   pub left : Consumes input input' (lines_of exchanges ++ rest)
-  pub ends : TalkEnds A stand rest (answers_of exchanges) input' output output' result
+  pub ends : TalkEnds A state rest (answers_of exchanges) input' output output' result
 
 -- ---- conversations over a cartridge or a movie
 
 -- nothing is kept yet
-abbrev pub fresh_stand : Front → Stand
-fresh_stand front = record { front = front; kept_for = blank_movie; states = [] }
+abbrev pub fresh_talk_state : OwnEdits → TalkState
+fresh_talk_state own = record { own = own; kept_for = blank_movie; states = [] }
 
 -- what a conversation starts from: a movie that two edits make, or nothing made yet
-abbrev pub stand_from : Option MovieContent → Stand
-stand_from None = fresh_stand start_front
-stand_from (Some movie) = fresh_stand (movie_front movie)
+abbrev pub talk_state_from : Option MovieContent → TalkState
+talk_state_from None = fresh_talk_state own_edits_at_start
+talk_state_from (Some movie) = fresh_talk_state (own_edits_of_movie movie)
 
 -- nothing was read of the input, and nothing written
 pub record IsUntouched (input input' output output' : Option (List ℕ)) : Type 0 where
@@ -237,8 +237,8 @@ pub record IsUntouched (input input' output output' : Option (List ℕ)) : Type 
   pub unwritten : Keeps output output'
 
 -- the cartridge is loaded, and no inputs are put in
-abbrev pub cart_stand : List ℕ → Stand
-cart_stand image = fresh_stand (movie_front (record { cart = image; inputs = [] }))
+abbrev pub cart_talk_state : List ℕ → TalkState
+cart_talk_state image = fresh_talk_state (own_edits_of_movie (record { cart = image; inputs = [] }))
 
 -- `tas talk CART`: reading the cartridge stopped, or its size is wrong, and the conversation didn't begin; or it goes on from
 -- the cartridge
@@ -247,7 +247,7 @@ IsCartTalk A cart cart' input input' output output' result =
     ((fault : ReadFault) × (result ≡ Err (unread_fault fault)) × StopsReading cart cart' fault × IsUntouched input input' output output')
     ⊎ ((image : List ℕ) × IsReadWhole cart cart' image
     × (((fault : RunFault) × (result ≡ Err (run_fault fault)) × IsImageFault image fault × IsUntouched input input' output output')
-    ⊎ ((is_cart_size (length image) ≡ true) × IsTalk A (cart_stand image) input input' output output' result)))
+    ⊎ ((is_cart_size (length image) ≡ true) × IsTalk A (cart_talk_state image) input input' output output' result)))
 
 -- `tas talk CART MOVIE`: reading the two stopped, or they make no movie, and the conversation didn't begin; or it goes on from
 -- the movie
@@ -256,4 +256,4 @@ IsMovieTalk A cart cart' movie movie' input input' output output' result =
     ((fault : ReadFault) × (result ≡ Err (unread_fault fault)) × StopsReadingTwo cart cart' movie movie' fault × IsUntouched input input' output output')
     ⊎ ((image : List ℕ) × (said : List ℕ) × IsReadWhole cart cart' image × IsReadWhole movie movie' said
     × (((fault : RunFault) × (result ≡ Err (run_fault fault)) × IsMovieFault image said fault × IsUntouched input input' output output')
-    ⊎ ((content : MovieContent) × IsMovieOf image said content × IsTalk A (fresh_stand (movie_front content)) input input' output output' result)))
+    ⊎ ((content : MovieContent) × IsMovieOf image said content × IsTalk A (fresh_talk_state (own_edits_of_movie content)) input input' output output' result)))

@@ -19,12 +19,12 @@ use Rattle.tas_talk.specs.declared.request.Request.TheVariants.{Quit}
 use Rattle.tas_talk.specs.Requests.{IsHeard}
 use Rattle.tas_talk.specs.Held.{HoldsLine}
 use Rattle.tas_tool.specs.declared.talking.Progress.{Progress}
-use Rattle.tas_tool.specs.Turns.{front_of, halted_reply, BeginsWithOwn, HasForeign}
-use Rattle.tas_tool.specs.Talk.{Stand, Gains, ShotLeaves, Exchange, AreExchanges, IsAnswerTo, IsFirstAnswer, IsQuit, lines_of, answers_of, most_counted}
+use Rattle.tas_tool.specs.Turns.{own_edits_of, halted_reply, BeginsWithOwn, HasForeign}
+use Rattle.tas_tool.specs.Talk.{TalkState, Gains, ShotLeaves, Exchange, AreExchanges, IsAnswerTo, IsFirstAnswer, IsQuit, lines_of, answers_of, most_counted}
 
 -- what a seat's own edits made, and its greenzone
-abbrev pub stand_of : {A : Type 0} → SeatContent A → Stand
-stand_of seat = record { front = front_of seat; kept_for = seat.zone.movie; states = seat.zone.states }
+abbrev pub talk_state_of : {A : Type 0} → SeatContent A → TalkState
+talk_state_of seat = record { own = own_edits_of seat; kept_for = seat.zone.movie; states = seat.zone.states }
 
 -- what a shot without a picture is told as, at so many edits
 abbrev pub TellsError : ℕ → ShotError → Reply → Type 0
@@ -40,7 +40,7 @@ IsWorkedZone before now _ = now.zone ≡ before.zone
 
 -- what a script's line leaves of it
 abbrev pub IsCommandZone : {A : Type 0} → SeatContent A → SeatContent A → Command → Reply → Type 0
-IsCommandZone before now (Shot k) reply = ShotLeaves (stand_of before) (stand_of now) k reply
+IsCommandZone before now (Shot k) reply = ShotLeaves (talk_state_of before) (talk_state_of now) k reply
 IsCommandZone before now (Work k) reply = IsWorkedZone before now reply
 IsCommandZone before now _ reply = now.zone ≡ before.zone
 
@@ -53,14 +53,14 @@ IsTalkFault seat _ = ⊥
 
 -- the seat's greenzone was brought for the movie of its own edits, whose length is told
 pub record IsBrought {A : Type 0} (before now : SeatContent A) (len : ℕ) : Type 0 where
-  pub len_is : len ≡ length (front_of before).movie.inputs
-  pub movie : now.zone.movie ≡ (front_of before).movie
+  pub len_is : len ≡ length (own_edits_of before).movie.inputs
+  pub movie : now.zone.movie ≡ (own_edits_of before).movie
   pub lawful : IsLawful now.zone.movie now.zone.states
-  pub gains : Gains (stand_of before) (stand_of now)
+  pub gains : Gains (talk_state_of before) (talk_state_of now)
 
 -- a request is answered at just the seat's own edits, which are its first ones still
 pub record IsToldTo {A : Type 0} (before now : SeatContent A) (request : Request) (bytes : List ℕ) (made : ℕ) : Type 0 where
-  pub answer : IsAnswerTo A (stand_of before) request bytes (stand_of now)
+  pub answer : IsAnswerTo A (talk_state_of before) request bytes (talk_state_of now)
   pub made_is : made ≡ now.made
   pub own : BeginsWithOwn now
 
@@ -70,7 +70,7 @@ CutsOff before answer old new fault = (sent : ℕ) × (sent < length answer) × 
 
 -- lines were answered from one front of the seat's to another, the answers went out and are counted behind so many bytes
 pub record HasAnswered {A : Type 0} (before now : SeatContent A) (exchanges : List Exchange) (told : ℕ) (next : Progress) (old new : Option (List ℕ)) : Type 0 where
-  pub all : AreExchanges A (stand_of before) exchanges (stand_of now)
+  pub all : AreExchanges A (talk_state_of before) exchanges (talk_state_of now)
   pub out : Appends old new (answers_of exchanges)
   pub count : min next.written most_counted ≡ min (told + length (answers_of exchanges)) most_counted
   pub made : next.made ≡ now.made
@@ -81,36 +81,36 @@ abbrev pub StandsAt : {A : Type 0} → SeatContent A → Progress → Type 0
 StandsAt seat progress = BeginsWithOwn seat × (progress.made ≡ seat.made)
 
 -- why the rest isn't answered
-abbrev pub Breaks : {A : Type 0} → Stand → List ℕ → SeatContent A → ℕ → Option (List ℕ) → Option (List ℕ) → RunFault → Type 0
-Breaks {A} stand rest now told old new (Write written) = (answer : List ℕ) × IsFirstAnswer A stand rest answer × CutsOff told answer old new (Write written)
-Breaks stand rest now told old new NoEntry = (0 < length rest) × Appends old new []
-Breaks stand rest now told old new Memory = Appends old new []
-Breaks stand rest now told old new Foreign = HasForeign now
-Breaks stand rest now told old new _ = ⊥
+abbrev pub Breaks : {A : Type 0} → TalkState → List ℕ → SeatContent A → ℕ → Option (List ℕ) → Option (List ℕ) → RunFault → Type 0
+Breaks {A} state rest now told old new (Write written) = (answer : List ℕ) × IsFirstAnswer A state rest answer × CutsOff told answer old new (Write written)
+Breaks state rest now told old new NoEntry = (0 < length rest) × Appends old new []
+Breaks state rest now told old new Memory = Appends old new []
+Breaks state rest now told old new Foreign = HasForeign now
+Breaks state rest now told old new _ = ⊥
 
 -- what was read was answered up to a rest that isn't
-pub record StopsAfter {A : Type 0} (start : Stand) (read : List ℕ) (now : SeatContent A) (told : ℕ) (old new : Option (List ℕ)) (fault : RunFault) : Type 0 where
+pub record StopsAfter {A : Type 0} (start : TalkState) (read : List ℕ) (now : SeatContent A) (told : ℕ) (old new : Option (List ℕ)) (fault : RunFault) : Type 0 where
   pub exchanges : List Exchange
-  pub stand : Stand
+  pub state : TalkState
   pub rest : List ℕ
   pub middle : Option (List ℕ)
   pub counted : ℕ
-  pub all : AreExchanges A start exchanges stand
+  pub all : AreExchanges A start exchanges state
   pub text : read ≡ lines_of exchanges ++ rest
   pub out : Appends old middle (answers_of exchanges)
   pub count : min counted most_counted ≡ min (told + length (answers_of exchanges)) most_counted
-  pub breaks : Breaks stand rest now counted middle new fault
+  pub breaks : Breaks state rest now counted middle new fault
 
 -- a line is answered, asks for the end, or isn't answered
 abbrev pub IsLineTurn : {A : Type 0} → SeatContent A → SeatContent A → List ℕ → ℕ → Option (List ℕ) → Option (List ℕ) → Result (Option Progress) RunFault → Type 0
 IsLineTurn before now said told old new (Ok (Some next)) = (exchange : Exchange) × (exchange.said ≡ said) × HasAnswered before now (exchange ∷ []) told next old new
 IsLineTurn before now said told old new (Ok None) = IsHeard said (Some Quit) × Appends old new []
-IsLineTurn before now said told old new (Err fault) = (more : List ℕ) → Breaks (stand_of before) (line said ++ more) now told old new fault
+IsLineTurn before now said told old new (Err fault) = (more : List ℕ) → Breaks (talk_state_of before) (line said ++ more) now told old new fault
 
 -- a part of the input is answered up to a part of a line, which is held; or up to a line that asks for the end; or not
 abbrev pub IsPartTurn : {A : Type 0} → SeatContent A → SeatContent A → List ℕ → ℕ → List ℕ → Bool → Option (List ℕ) → Option (List ℕ) → Result (Option Progress) RunFault → Type 0
 IsPartTurn before now read told held long old new (Ok (Some next)) =
     (exchanges : List Exchange) × (part : List ℕ) × (read ≡ lines_of exchanges ++ part) × NoByte 10 part × HoldsLine part held long × HasAnswered before now exchanges told next old new
 IsPartTurn {A} before now read told held long old new (Ok None) =
-    (exchanges : List Exchange) × (stand : Stand) × (rest : List ℕ) × AreExchanges A (stand_of before) exchanges stand × (read ≡ lines_of exchanges ++ rest) × IsQuit rest × Appends old new (answers_of exchanges)
-IsPartTurn before now read told held long old new (Err fault) = StopsAfter (stand_of before) read now told old new fault
+    (exchanges : List Exchange) × (state : TalkState) × (rest : List ℕ) × AreExchanges A (talk_state_of before) exchanges state × (read ≡ lines_of exchanges ++ rest) × IsQuit rest × Appends old new (answers_of exchanges)
+IsPartTurn before now read told held long old new (Err fault) = StopsAfter (talk_state_of before) read now told old new fault

@@ -1,5 +1,5 @@
 -- A desk's seat that makes a movie by its first two edits (own). Private functions cite this file.
-use Rattle.std.specs.Prelude.{◌≡◌, ℕ, ◌==◌, ◌≤◌, length, take, if◌then◌else◌, Result, Ok, Err}
+use Rattle.std.specs.Prelude.{◌≡◌, ◌≤◌, length, take, Result, Ok, Err}
 use Rattle.tas_movie.specs.Content.{MovieContent}
 use Rattle.tas_desk.specs.History.{movie_of, entries_of}
 use Rattle.tas_desk.specs.Seats.{SeatContent}
@@ -20,10 +20,6 @@ pub record HoldsMovie {A : Type 0} (seat : SeatContent A) (movie : MovieContent)
 abbrev pub edit_fault : EditError → RunFault
 edit_fault NoRoom = Memory
 edit_fault _ = Foreign
-
--- an end that stands at so many edits
-abbrev pub own_end : ℕ → Result (Unit {0}) RunFault → Result (Unit {0}) RunFault
-own_end at end = if at == 2 then end else Err Foreign
 
 -- why the two edits weren't made: want of memory, or the seat has seen more edits than its own
 abbrev pub IsMakingFault : {A : Type 0} → SeatContent A → RunFault → Type 0

@@ -6,10 +6,10 @@ ghost use Rattle.tas_movie.specs.Edit.{place_refusal};
 ghost use Rattle.tas_desk.specs.Session.{refusal_at, IsEditError};
 ghost use Rattle.tas_desk.specs.Seats.{HasSeen};
 ghost use Rattle.tas_desk.specs.Shots.{IsShotAt};
-ghost use Rattle.tas_tool.specs.Turns.{front_of, refused_reply, halted_reply, BeginsWithOwn, IsDeskFault, IsEditTurn, IsTurn};
-ghost use Rattle.tas_tool.specs.Checking.{checked_reply, insert_refusal, looked, IsAnswer, IsEditAnswer};
+ghost use Rattle.tas_tool.specs.Turns.{own_edits_of, refused_reply, halted_reply, BeginsWithOwn, IsDeskFault, IsEditTurn, IsTurn};
+ghost use Rattle.tas_tool.specs.Checking.{checked_end, insert_refusal, looked, IsAnswer, IsEditAnswer};
 ghost use Rattle.tas_tool.specs.Talk.{ShotLeaves};
-ghost use Rattle.tas_tool.specs.Talking.{stand_of, IsCommandZone, IsWorkedZone, TellsError};
+ghost use Rattle.tas_tool.specs.Talking.{talk_state_of, IsCommandZone, IsWorkedZone, TellsError};
 ghost use Rattle.tas_script.specs.declared.command.Command.TheVariants.{Load as LoadLine, Insert as InsertLine, Replace as ReplaceLine, InputAt as InputLine, Shot as ShotLine, Work as WorkLine};
 
 use std::alloc::Allocator;
@@ -30,12 +30,12 @@ pub struct Answered {
     pub made: u64,
 }
 
-/// A reply, where it stands at just the script's own edits.
-fn checked(made: u64, at: u64, reply: Reply) -> Result<Reply, RunFault>
-    ensures { result ≡ checked_reply made at reply }
+/// An answer, or another end, where it stands at just the seat's own edits.
+pub fn checked<T: Copy>(made: u64, at: u64, end: Result<T, RunFault>) -> Result<T, RunFault>
+    ensures { result ≡ checked_end made at end }
 {
     if at == made {
-        Ok(reply)
+        end
     } else {
         Err(RunFault::Foreign)
     }
@@ -52,16 +52,11 @@ pub fn own_len<N: Name, W: CloseOnDrop, A: Allocator>(
     ensures seen { HasSeen seat.old seat.new }
     ensures zone { seat.new.zone ≡ seat.old.zone }
     ensures reply { MatchResult result
-        (λ len. (length seat.new.front ≡ made) × (len ≡ length (front_of seat.old).movie.inputs)) (IsDeskFault seat.new) }
+        (λ len. (length seat.new.front ≡ made) × (len ≡ length (own_edits_of seat.old).movie.inputs)) (IsDeskFault seat.new) }
 {
-    let (at, len) = match desk.len(seat) {
-        Ok(found) => found,
-        Err(_) => return Err(RunFault::NoEntry),
-    };
-    if at == made {
-        Ok(len)
-    } else {
-        Err(RunFault::Foreign)
+    match desk.len(seat) {
+        Ok((at, len)) => checked(made, at, Ok(len)),
+        Err(_) => Err(RunFault::NoEntry),
     }
 }
 
@@ -80,13 +75,17 @@ fn refused_edit<N: Name, W: CloseOnDrop, A: Allocator>(
     ensures seen { HasSeen seat.old seat.new }
     ensures zone { seat.new.zone ≡ seat.old.zone }
     ensures reply { (edit : EditContent A) → IsEditError (refusal_at seat.old.front seat.old.number seat.old.made edit) error
-        → MatchResult result (λ reply. IsEditTurn (front_of seat.old) edit reply (front_of seat.new)) (IsDeskFault seat.new) }
+        → MatchResult result (λ reply. IsEditTurn (own_edits_of seat.old) edit reply (own_edits_of seat.new)) (IsDeskFault seat.new) }
 {
     match error {
         EditError::Serial { .. } => Err(RunFault::Foreign),
-        EditError::Full { at } => checked(made, at, Reply::Full { at }),
-        EditError::Place { at, place: _, len } => checked(made, at, Reply::Misplaced { at, len }),
-        EditError::Long { at, len } => checked(made, at, Reply::TooLong { at, len }),
+        EditError::Full { at } => checked(made, at, Ok(Reply::Full { at })),
+        EditError::Place { at, place: _, len } => checked(
+            made,
+            at,
+            Ok(Reply::Misplaced { at, len }),
+        ),
+        EditError::Long { at, len } => checked(made, at, Ok(Reply::TooLong { at, len })),
         EditError::Memory => {
             own_len(desk, seat, made)?;
             Ok(Reply::OutOfMemory)
@@ -110,17 +109,15 @@ pub fn make_edit<N: Name, W: CloseOnDrop, A: Allocator + Copy, R: Wait>(
 {
     let error = match desk.edit(rt, seat, edit) {
         Ok(receipt) => {
-            if receipt.at - 1 != made {
-                return Err(RunFault::Foreign);
-            }
             let reply = Reply::Edited {
                 at: receipt.at,
                 len: receipt.len,
             };
-            return Ok(Answered {
+            let answered = Answered {
                 reply,
                 made: receipt.at,
-            });
+            };
+            return checked(made, receipt.at - 1, Ok(answered));
         }
         Err(error) => error,
     };
@@ -266,15 +263,16 @@ fn show_input<N: Name, W: CloseOnDrop, A: Allocator>(
     requires made { made ≡ seat.old.made }
     ensures seen { HasSeen seat.old seat.new }
     ensures zone { seat.new.zone ≡ seat.old.zone }
-    ensures reply { MatchResult result (λ reply. IsTurn A (front_of seat.old) (InputLine frame) reply (front_of seat.new)) (IsDeskFault seat.new) }
+    ensures reply { MatchResult result (λ reply. IsTurn A (own_edits_of seat.old) (InputLine frame) reply (own_edits_of seat.new)) (IsDeskFault seat.new) }
 {
     match desk.input(seat, frame) {
-        Ok((at, input)) => checked(made, at, Reply::Pressed { at, input }),
+        Ok((at, input)) => checked(made, at, Ok(Reply::Pressed { at, input })),
         Err(InputError::NoEntry) => Err(RunFault::NoEntry),
-        Err(InputError::NoFrame { at, len }) => checked(made, at, Reply::NoFrame { at, len }),
+        Err(InputError::NoFrame { at, len }) => checked(made, at, Ok(Reply::NoFrame { at, len })),
     }
 }
 
+/// The reply that tells a halt, at so many edits.
 fn halted_reply(at: u64, halt: Halt) -> Reply
     ensures { result ≡ halted_reply at halt }
 {
@@ -304,12 +302,12 @@ pub fn unshown<N: Name, W: CloseOnDrop, A: Allocator>(
     ensures seen { HasSeen seat.old seat.new }
     ensures zone { seat.new.zone ≡ seat.old.zone }
     ensures tells { IfOk result (TellsError made error) }
-    ensures reply { MatchResult result (λ reply. IsTurn A (front_of seat.old) (ShotLine frame) reply (front_of seat.new)) (IsDeskFault seat.new) }
+    ensures reply { MatchResult result (λ reply. IsTurn A (own_edits_of seat.old) (ShotLine frame) reply (own_edits_of seat.new)) (IsDeskFault seat.new) }
 {
     match error {
         ShotError::NoEntry => Err(RunFault::NoEntry),
-        ShotError::NoFrame { at, len } => checked(made, at, Reply::NoFrame { at, len }),
-        ShotError::Halted { at, halt } => checked(made, at, halted_reply(at, halt)),
+        ShotError::NoFrame { at, len } => checked(made, at, Ok(Reply::NoFrame { at, len })),
+        ShotError::Halted { at, halt } => checked(made, at, Ok(halted_reply(at, halt))),
         ShotError::Memory => {
             own_len(desk, seat, made)?;
             Ok(Reply::OutOfMemory)
@@ -328,8 +326,8 @@ fn draw<N: Name, W: CloseOnDrop, A: Allocator + Copy>(
     requires own { BeginsWithOwn seat.old }
     requires made { made ≡ seat.old.made }
     ensures seen { HasSeen seat.old seat.new }
-    ensures zone { IfOk result (ShotLeaves (stand_of seat.old) (stand_of seat.new) frame) }
-    ensures reply { MatchResult result (λ reply. IsTurn A (front_of seat.old) (ShotLine frame) reply (front_of seat.new)) (IsDeskFault seat.new) }
+    ensures zone { IfOk result (ShotLeaves (talk_state_of seat.old) (talk_state_of seat.new) frame) }
+    ensures reply { MatchResult result (λ reply. IsTurn A (own_edits_of seat.old) (ShotLine frame) reply (own_edits_of seat.new)) (IsDeskFault seat.new) }
 {
     let shot = match desk.shot(alloc, seat, frame) {
         Ok(shot) => shot,
@@ -342,7 +340,7 @@ fn draw<N: Name, W: CloseOnDrop, A: Allocator + Copy>(
         ran: shot.ran,
         lit,
     };
-    checked(made, shot.at, reply)
+    checked(made, shot.at, Ok(reply))
 }
 
 /// A gate that stands open.
@@ -363,7 +361,7 @@ fn work<N: Name, W: CloseOnDrop, A: Allocator + Copy, R: Wait>(
     requires own { BeginsWithOwn seat.old }
     ensures seen { HasSeen seat.old seat.new }
     ensures zone { IsWorkedZone seat.old seat.new result }
-    ensures reply { IsTurn A (front_of seat.old) (WorkLine frame) result (front_of seat.new) }
+    ensures reply { IsTurn A (own_edits_of seat.old) (WorkLine frame) result (own_edits_of seat.new) }
 {
     let Ok(worked) = desk.work(rt, alloc, seat, &[frame], &OpenGate) else {
         return Reply::OutOfMemory;

@@ -7,8 +7,8 @@ ghost use Rattle.tas_engines.specs.Output.{Ends};
 ghost use Rattle.tas_tool.specs.Pixmaps.{IsPixmapsAnswer, IsExportAnswer};
 ghost use Rattle.tas_tool.specs.TwoEdits.{StandsAtOwn};
 
-use crate::answering::OpenGate;
-use crate::making::{at_own, put_movie};
+use crate::answering::{OpenGate, checked};
+use crate::making::{MOVIE_EDITS, put_movie};
 use crate::opening::open_alone;
 use std::alloc::Allocator;
 use std::io::{Read, Write};
@@ -55,10 +55,18 @@ fn export_made<
     put_movie(rt, alloc, desk, seat, movie)?;
     let Frames { from, to, workers } = frames;
     match desk.export(rt, alloc, seat, from, to, workers, &OpenGate, output) {
-        Ok(exported) => at_own(exported.at, Ok(())),
-        Err(ExportError::Range { at, len }) => at_own(at, Err(RunFault::Range { from, to, len })),
+        Ok(exported) => checked(MOVIE_EDITS, exported.at, Ok(())),
+        Err(ExportError::Range { at, len }) => checked(
+            MOVIE_EDITS,
+            at,
+            Err(RunFault::Range { from, to, len }),
+        ),
         Err(ExportError::Memory) => Err(RunFault::Memory),
-        Err(ExportError::Halted { at, frame: _, halt }) => at_own(at, Err(halt_fault(halt))),
+        Err(ExportError::Halted { at, frame: _, halt }) => checked(
+            MOVIE_EDITS,
+            at,
+            Err(halt_fault(halt)),
+        ),
         Err(ExportError::Write { written, error: _ }) => Err(RunFault::Write { written }),
     }
 }

@@ -2,14 +2,18 @@
 
 ghost use Rattle.std.specs.Prelude.{◌≡◌, ◌≤◌, [], length, OnOk, IfOk, IfErr};
 ghost use Rattle.tas_movie.specs.Content.{most_inputs};
-ghost use Rattle.tas_tool.specs.TwoEdits.{edit_fault, own_end, HoldsMovie, IsMakingFault};
+ghost use Rattle.tas_tool.specs.TwoEdits.{edit_fault, HoldsMovie, IsMakingFault};
 
+use crate::answering::checked;
 use std::alloc::{AllocError, Allocator};
 use std::sync::Wait;
 use tas_desk::{CloseOnDrop, Desk, EditError, Name, Seat};
 use tas_engines::RunFault;
 use tas_movie::{Edit, Inputs, Movie};
 use vcs_machine::Cart;
+
+/// How many edits [`put_movie`] makes.
+pub const MOVIE_EDITS: u64 = 2;
 
 /// What a refused edit is told as: only want of memory can refuse one, where the desk has no other edits.
 fn edit_fault(error: EditError) -> RunFault
@@ -19,13 +23,6 @@ fn edit_fault(error: EditError) -> RunFault
         EditError::Memory => RunFault::Memory,
         _ => RunFault::Foreign,
     }
-}
-
-/// An answer that stands at the two edits of [`put_movie`].
-pub fn at_own(at: u64, end: Result<(), RunFault>) -> Result<(), RunFault>
-    ensures { result ≡ own_end at end }
-{
-    if at == 2 { end } else { Err(RunFault::Foreign) }
 }
 
 /// Copies of a movie's cartridge and inputs.
@@ -65,7 +62,7 @@ pub fn put_movie<N: Name, W: CloseOnDrop, A: Allocator + Copy, R: Wait>(
         Err(error) => return Err(edit_fault(error)),
     }
     match desk.edit(rt, seat, Edit::Insert { at: 0, inputs }) {
-        Ok(receipt) => at_own(receipt.at, Ok(())),
+        Ok(receipt) => checked(MOVIE_EDITS, receipt.at, Ok(())),
         Err(error) => Err(edit_fault(error)),
     }
 }

@@ -4,7 +4,7 @@ ghost use Rattle.std.specs.Prelude.{◌≡◌, ◌≤◌, [], length};
 ghost use Rattle.tas_desk.specs.Seats.{name_of};
 ghost use Rattle.tas_tool.specs.MovieScripts.{AnswersOver, RunsOver, IsMovieScriptRun};
 
-use crate::making::put_movie;
+use crate::making::{MOVIE_EDITS, put_movie};
 use crate::opening::open_alone;
 use crate::scripting::answer_lines;
 use std::alloc::Allocator;
@@ -31,7 +31,7 @@ fn answer_made<N: Name, W: CloseOnDrop, A: Allocator + Copy, R: Wait>(
     ensures answers { length seat.new.front ≤ seat.new.made → AnswersOver A movie.now bytes.now text.new.items result }
 {
     put_movie(rt, alloc, desk, seat, movie)?;
-    answer_lines(rt, alloc, desk, seat, 2, bytes, text)
+    answer_lines(rt, alloc, desk, seat, MOVIE_EDITS, bytes, text)
 }
 
 /// Does what the lines ask for on a desk of one seat that has the movie, puts the replies into the empty text, and closes the

@@ -2,8 +2,8 @@
 
 ghost use Rattle.std.specs.Prelude.{◌≡◌, ◌≤◌, [], length};
 ghost use Rattle.tas_desk.specs.Seats.{name_of};
-ghost use Rattle.tas_tool.specs.Turns.{front_of, BeginsWithOwn};
-ghost use Rattle.tas_tool.specs.Scripts.{start_front, Answers, RunsScript, IsScriptRun};
+ghost use Rattle.tas_tool.specs.Turns.{own_edits_of, BeginsWithOwn};
+ghost use Rattle.tas_tool.specs.Scripts.{own_edits_at_start, Answers, RunsScript, IsScriptRun};
 
 use crate::answering::answer_command;
 use crate::opening::open_alone;
@@ -30,7 +30,7 @@ pub fn answer_lines<N: Name, W: CloseOnDrop, A: Allocator + Copy, R: Wait>(
     requires made { before ≡ seat.old.made }
     requires empty { text.old.items ≡ [] }
     ensures number { seat.new.number ≡ seat.old.number }
-    ensures answers { length seat.new.front ≤ seat.new.made → Answers A (front_of seat.old) bytes.now text.new.items result }
+    ensures answers { length seat.new.front ≤ seat.new.made → Answers A (own_edits_of seat.old) bytes.now text.new.items result }
 {
     let mut rest = bytes;
     let mut number = 1;
@@ -68,7 +68,7 @@ fn answer_script<N: Name, A: Allocator + Copy, R: Wait>(
     requires name { unopened ≡ name_of N.registry N.name N.parts }
     requires one { unopened.seats ≡ 1 }
     requires empty { text.old.items ≡ [] }
-    ensures { Answers A start_front bytes.now text.new.items result }
+    ensures { Answers A own_edits_at_start bytes.now text.new.items result }
 {
     let (desk, mut seats) = open_alone::<N, A, R>(rt, alloc, unopened)?;
     let seat = &mut seats.as_mut_slice()[0];

@@ -3,9 +3,9 @@
 ghost use Rattle.std.specs.Prelude.{◌≡◌, ◌≤◌, [], length, None};
 ghost use Rattle.tas_desk.specs.History.{blank_movie};
 ghost use Rattle.tas_desk.specs.Seats.{name_of};
-ghost use Rattle.tas_tool.specs.Talk.{stand_from, IsCartTalk, IsMovieTalk, IsTalk};
+ghost use Rattle.tas_tool.specs.Talk.{talk_state_from, IsCartTalk, IsMovieTalk, IsTalk};
 
-use crate::making::put_movie;
+use crate::making::{MOVIE_EDITS, put_movie};
 use crate::opening::open_alone;
 use crate::talking::converse;
 use std::alloc::Allocator;
@@ -30,14 +30,14 @@ fn talk_made<N: Name, C: CloseOnDrop, A: Allocator + Copy, T: Wait, R: Read, W: 
     requires first { (seat.old.number ≡ 0) × (seat.old.made ≡ 0) × (seat.old.front ≡ []) }
     requires zone { (seat.old.zone.movie ≡ blank_movie) × (seat.old.zone.states ≡ []) }
     ensures number { seat.new.number ≡ 0 }
-    ensures talk { length seat.new.front ≤ seat.new.made → IsTalk A (stand_from movie) (R.remaining input.old) (R.remaining input.new)
+    ensures talk { length seat.new.front ≤ seat.new.made → IsTalk A (talk_state_from movie) (R.remaining input.old) (R.remaining input.new)
         (W.contents output.old) (W.contents output.new) result }
 {
     let Some(movie) = movie else {
         return converse(rt, alloc, desk, seat, 0, input, output);
     };
     put_movie(rt, alloc, desk, seat, &movie)?;
-    converse(rt, alloc, desk, seat, 2, input, output)
+    converse(rt, alloc, desk, seat, MOVIE_EDITS, input, output)
 }
 
 /// Answers lines on a desk of one seat, from a movie on where there is one, and closes the desk. That nobody else made an edit is
@@ -52,7 +52,7 @@ fn talk_on<N: Name, A: Allocator + Copy, T: Wait, R: Read, W: Write>(
 ) -> Result<(), ToolFault>
     requires name { unopened ≡ name_of N.registry N.name N.parts }
     requires one { unopened.seats ≡ 1 }
-    ensures { IsTalk A (stand_from movie) (R.remaining input.old) (R.remaining input.new) (W.contents output.old) (W.contents output.new) result }
+    ensures { IsTalk A (talk_state_from movie) (R.remaining input.old) (R.remaining input.new) (W.contents output.old) (W.contents output.new) result }
 {
     let (desk, mut seats) = open_alone::<N, A, T>(rt, alloc, unopened)?;
     let seat = &mut seats.as_mut_slice()[0];
@@ -69,7 +69,7 @@ fn talk_from<A: Allocator + Copy, T: Wait, R: Read, W: Write>(
     input: &mut R,
     output: &mut W,
 ) -> Result<(), ToolFault>
-    ensures { IsTalk A (stand_from movie) (R.remaining input.old) (R.remaining input.new) (W.contents output.old) (W.contents output.new) result }
+    ensures { IsTalk A (talk_state_from movie) (R.remaining input.old) (R.remaining input.new) (W.contents output.old) (W.contents output.new) result }
 {
     let Ok(unopened) = Unopened::new(alloc, 1) else {
         return Err(ToolFault::Memory);
@@ -91,7 +91,7 @@ pub fn talk_run<A: Allocator + Copy, T: Wait, R: Read, W: Write>(
     input: &mut R,
     output: &mut W,
 ) -> Result<(), ToolFault>
-    ensures { IsTalk A (stand_from None) (R.remaining input.old) (R.remaining input.new) (W.contents output.old) (W.contents output.new) result }
+    ensures { IsTalk A (talk_state_from None) (R.remaining input.old) (R.remaining input.new) (W.contents output.old) (W.contents output.new) result }
 {
     talk_from(rt, alloc, None, input, output)
 }

@@ -7,7 +7,7 @@ ghost use Rattle.tas_talk.specs.Answers.{unknown_text};
 ghost use Rattle.tas_talk.specs.Held.{HoldsLine};
 ghost use Rattle.tas_tool.specs.Turns.{BeginsWithOwn};
 ghost use Rattle.tas_tool.specs.Talk.{last_answer, most_counted, IsTalk};
-ghost use Rattle.tas_tool.specs.Talking.{stand_of, CutsOff, IsLineTurn, IsPartTurn, StandsAt};
+ghost use Rattle.tas_tool.specs.Talking.{talk_state_of, CutsOff, IsLineTurn, IsPartTurn, StandsAt};
 
 use crate::telling::answer_request;
 use counted_write::write_counted;
@@ -17,7 +17,7 @@ use std::sync::Wait;
 use tas_desk::{CloseOnDrop, Desk, Name, Seat};
 use tas_engines::{RunFault, ToolFault};
 use tas_script::split_once;
-use tas_talk::{Line, Request};
+use tas_talk::Line;
 
 /// How many bytes one read asks for.
 const CHUNK: usize = 4096;
@@ -45,7 +45,8 @@ fn hand_out<W: Write>(output: &mut W, bytes: &[u8], before: usize) -> Result<usi
             });
         }
     }
-    // A writer that can't pass on what it holds fails at the next write.
+    // A flush that fails isn't told: a writer that can't pass on what it holds may fail at its next write, and behind the
+    // last answer there is none.
     let _ = output.flush();
     Ok(before.saturating_add(bytes.len()))
 }
@@ -83,9 +84,8 @@ fn answer_line<N: Name, C: CloseOnDrop, A: Allocator + Copy, R: Wait, W: Write>(
             written,
         }));
     };
-    let told = match request {
-        Request::Quit => return Ok(None),
-        _ => answer_request(rt, alloc, desk, seat, progress.made, request)?,
+    let Some(told) = answer_request(rt, alloc, desk, seat, progress.made, request)? else {
+        return Ok(None);
     };
     let written = hand_out(output, told.bytes.as_slice(), progress.written)?;
     Ok(Some(Progress {
@@ -116,19 +116,19 @@ fn answer_part<N: Name, C: CloseOnDrop, A: Allocator + Copy, R: Wait, W: Write>(
     let mut rest = part;
     let mut reached = progress;
     while let Some((front, after)) = split_once(rest, b'\n') {
-        if let Err(_) = line.add(front) {
+        let Ok(()) = line.add(front) else {
             return Err(RunFault::Memory);
-        }
-        let Some(next) = answer_line(rt, alloc, desk, seat, reached, &*line, output)? else {
+        };
+        let Some(next) = answer_line(rt, alloc, desk, seat, reached, line, output)? else {
             return Ok(None);
         };
         reached = next;
         line.clear();
         rest = after;
     }
-    if let Err(_) = line.add(rest) {
+    let Ok(()) = line.add(rest) else {
         return Err(RunFault::Memory);
-    }
+    };
     Ok(Some(reached))
 }
 
@@ -163,7 +163,7 @@ pub fn converse<N: Name, C: CloseOnDrop, A: Allocator + Copy, T: Wait, R: Read, 
     requires own { BeginsWithOwn seat.old }
     requires made { made ≡ seat.old.made }
     ensures number { seat.new.number ≡ seat.old.number }
-    ensures talk { length seat.new.front ≤ seat.new.made → IsTalk A (stand_of seat.old) (R.remaining input.old) (R.remaining input.new)
+    ensures talk { length seat.new.front ≤ seat.new.made → IsTalk A (talk_state_of seat.old) (R.remaining input.old) (R.remaining input.new)
         (W.contents output.old) (W.contents output.new) result }
 {
     let Ok(mut line) = Line::new(alloc) else {

@@ -1,6 +1,6 @@
 //! Answering a request on a desk whose one seat is the conversation's.
 
-ghost use Rattle.std.specs.Prelude.{◌≡◌, ◌++◌, ◌∷◌, [], length, is_some, if◌then◌else◌, IfOk, OnOk, MatchOption, MatchResult};
+ghost use Rattle.std.specs.Prelude.{◌≡◌, ◌<◌, ◌++◌, ◌∷◌, [], length, is_some, if◌then◌else◌, IfOk, OnOk, MatchOption, MatchResult};
 ghost use Rattle.tas_green.specs.Green.{IsLawful};
 ghost use Rattle.tas_green.specs.Grid.{stride};
 ghost use Rattle.tas_green.specs.Zone.{state_at};
@@ -12,7 +12,7 @@ ghost use Rattle.tas_tool.specs.Turns.{BeginsWithOwn, IsDeskFault};
 ghost use Rattle.tas_tool.specs.Talk.{kept_frames};
 ghost use Rattle.tas_tool.specs.Talking.{IsBrought, IsTalkFault, IsToldTo};
 
-use crate::answering::{answer_command, own_len, unshown};
+use crate::answering::{answer_command, checked, own_len, unshown};
 use std::alloc::{AllocError, Allocator};
 use std::sync::Wait;
 use tas_desk::{CloseOnDrop, Desk, Name, Seat};
@@ -79,9 +79,7 @@ fn tell_picture<N: Name, W: CloseOnDrop, A: Allocator + Copy>(
             return told_reply(alloc, reply, made);
         }
     };
-    if shot.at != made {
-        return Err(RunFault::Foreign);
-    }
+    checked(made, shot.at, Ok(()))?;
     match picture_answer(alloc, made, frame, &shot.picture) {
         Ok(bytes) => Ok(Told { bytes, made }),
         Err(_) => told_reply(alloc, Reply::OutOfMemory, made),
@@ -101,9 +99,9 @@ fn bring_zone<N: Name, W: CloseOnDrop, A: Allocator + Copy, R: Wait>(
     ensures seen { HasSeen seat.old seat.new }
     ensures zone { MatchResult result (λ found. MatchOption found (seat.new.zone ≡ seat.old.zone) (IsBrought seat.old seat.new)) (IsDeskFault seat.new) }
 {
-    if let Err(_) = desk.share(rt, seat) {
+    let Ok(_) = desk.share(rt, seat) else {
         return Ok(None);
-    }
+    };
     let len = own_len(desk, seat, made)?;
     Ok(Some(len))
 }
@@ -134,9 +132,10 @@ fn tell_movie<N: Name, W: CloseOnDrop, A: Allocator + Copy, R: Wait>(
 fn is_kept<N: Name, A: Allocator>(seat: &Seat<N, A>, step: usize, frame: usize) -> bool
     requires lawful { IsLawful seat.now.zone.movie seat.now.zone.states }
     requires step { step ≡ stride (length seat.now.zone.movie.inputs) }
+    requires positive { 0 < step }
     ensures { result ≡ is_some (state_at frame seat.now.zone.states) }
 {
-    if step != 0 && frame % step != 0 {
+    if frame % step != 0 {
         return false;
     }
     seat.holds(frame)
@@ -151,6 +150,7 @@ fn push_kept<N: Name, A: Allocator, B: Allocator>(
 ) -> Result<(), AllocError>
     requires lawful { IsLawful seat.now.zone.movie seat.now.zone.states }
     requires step { step ≡ stride (length seat.now.zone.movie.inputs) }
+    requires positive { 0 < step }
     ensures { OnOk result (frames.new.items ≡ frames.old.items ++ (if is_some (state_at frame seat.now.zone.states) then frame ∷ [] else [])) }
 {
     if !is_kept(seat, step, frame) {
@@ -203,8 +203,8 @@ fn tell_states<N: Name, W: CloseOnDrop, A: Allocator + Copy, R: Wait>(
     }
 }
 
-/// Does what a request asks for, as the seat that has made so many edits, all of the conversation, and answers it. Where memory
-/// is refused for a picture, a text or a list of frames, the answer is `out of memory`.
+/// Does what a request asks for, as the seat that has made so many edits, all of the conversation, and answers it; `quit` alone is
+/// answered nothing. Where memory is refused for a picture, a text or a list of frames, the answer is `out of memory`.
 ///
 /// Faults: `Foreign` where the seat's front isn't just the conversation's own edits; `NoEntry`; `Memory` where it is refused for
 /// a reply.
@@ -215,18 +215,17 @@ pub fn answer_request<N: Name, W: CloseOnDrop, A: Allocator + Copy, R: Wait>(
     seat: &mut Seat<N, A>,
     made: u64,
     request: Request,
-) -> Result<Told<A>, RunFault>
+) -> Result<Option<Told<A>>, RunFault>
     requires own { BeginsWithOwn seat.old }
     requires made { made ≡ seat.old.made }
-    requires stays { request ≡ QuitLine → ⊥ }
     ensures number { seat.new.number ≡ seat.old.number }
-    ensures answer { MatchResult result (λ told. IsToldTo seat.old seat.new request told.bytes.items told.made) (IsTalkFault seat.new) }
+    ensures answer { MatchResult result (λ found. MatchOption found (request ≡ QuitLine) (λ told. IsToldTo seat.old seat.new request told.bytes.items told.made)) (IsTalkFault seat.new) }
 {
     match request {
-        Request::Do(command) => tell_command(rt, alloc, desk, seat, made, command),
-        Request::Picture { frame } => tell_picture(alloc, desk, seat, made, frame),
-        Request::Movie => tell_movie(rt, alloc, desk, seat, made),
-        Request::States => tell_states(rt, alloc, desk, seat, made),
-        Request::Quit => unreachable!(),
+        Request::Do(command) => Ok(Some(tell_command(rt, alloc, desk, seat, made, command)?)),
+        Request::Picture { frame } => Ok(Some(tell_picture(alloc, desk, seat, made, frame)?)),
+        Request::Movie => Ok(Some(tell_movie(rt, alloc, desk, seat, made)?)),
+        Request::States => Ok(Some(tell_states(rt, alloc, desk, seat, made)?)),
+        Request::Quit => Ok(None),
     }
 }

@@ -1,9 +1,10 @@
 use Rattle.std.proofs.Common.{Ok}
 use Rattle.tas_script.specs.declared.reply.Reply.TheVariants.{Measured}
 use Rattle.tas_tool.proofs.TurnLemmas.{delete_answer}
-use Rattle.tas_tool.proofs.LookLemmas.{answer_is, length_answer, looked_as}
-use Rattle.tas_script.specs.declared.command.Command.TheVariants.{Load, Insert, Replace, Delete, Length, InputAt, Shot}
+use Rattle.tas_tool.proofs.LookLemmas.{answer_is, length_answer, looked_as, look_answer}
+use Rattle.tas_script.specs.declared.command.Command.TheVariants.{Load, Insert, Replace, Delete, Length, InputAt, Shot, Work}
 use Rattle.tas_tool.proofs.GreenLemmas.{zone_as, zone_same, zone_looked, zone_worked}
+use Rattle.tas_tool.specs.Checking.{looked}
 use Rattle.tas_tool.proofs.answering.answer_command.Goals as goal
 
 pub returns-in-Delete-clause-answer : goal.returns-in-Delete-clause-answer
@@ -51,3 +52,8 @@ returns-in-Shot-clause-zone g c =
 
 pub returns-in-Work-clause-zone : goal.returns-in-Work-clause-zone
 returns-in-Work-clause-zone g c = zone_worked c.args.seat.now c.work-reply.new.seat c.args.command c.in-Work.frame c.args.made c.work-reply.result c.in-Work.is c.work-reply.ensures.zone
+
+pub returns-in-Work-clause-answer : goal.returns-in-Work-clause-answer
+returns-in-Work-clause-answer g c =
+    answer_is g.row.A.Denot c.args.seat.now c.work-reply.new.seat c.args.command (Work c.in-Work.frame) (looked (Ok c.work-reply.result) c.args.made) c.in-Work.is
+    (look_answer g.row.A.Denot c.args.seat.now c.work-reply.new.seat (Work c.in-Work.frame) (Ok c.work-reply.result) c.args.made c.requires.own c.requires.made c.work-reply.ensures.seen c.work-reply.ensures.reply)

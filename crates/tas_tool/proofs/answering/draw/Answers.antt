@@ -1,4 +1,8 @@
-use Rattle.tas_tool.proofs.TurnLemmas.{seen_more}
+use Rattle.std.proofs.Common.{subst}
+use Rattle.std.specs.Prelude.{MatchResult}
+use Rattle.tas_script.specs.declared.command.Command.TheVariants.{Shot}
+use Rattle.tas_tool.specs.Turns.{OwnEdits, own_edits_of, IsDeskFault, IsTurn}
+use Rattle.tas_tool.proofs.TurnLemmas.{seen_more, own_edits_stay, own_stays}
 use Rattle.tas_tool.proofs.LookLemmas.{shot_turn}
 use Rattle.tas_tool.proofs.GreenLemmas.{unshown_leaves, drawn_leaves}
 use Rattle.tas_tool.proofs.answering.draw.Goals as goal
@@ -20,3 +24,11 @@ returns-clause-zone g c =
 
 pub returns-in-Err-clause-seen : goal.returns-in-Err-clause-seen
 returns-in-Err-clause-seen g c = seen_more c.args.seat.now c.shot.new.seat c.unshown.new.seat c.shot.ensures.seat c.unshown.ensures.seen
+
+pub returns-in-Err-clause-reply : goal.returns-in-Err-clause-reply
+returns-in-Err-clause-reply g c =
+    subst (λ (f : OwnEdits). MatchResult c.unshown.result (λ reply. IsTurn g.row.A.Denot f (Shot c.args.frame) reply (own_edits_of c.unshown.new.seat)) (IsDeskFault c.unshown.new.seat))
+    (own_edits_stay c.args.seat.now c.shot.new.seat c.requires.own c.shot.ensures.seat) c.unshown.ensures.reply
+
+pub unshown-requires-clause-own : goal.unshown-requires-clause-own
+unshown-requires-clause-own g c = own_stays c.args.seat.now c.shot.new.seat c.requires.own c.shot.ensures.seat

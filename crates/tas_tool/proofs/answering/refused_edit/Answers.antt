@@ -1,6 +1,6 @@
 use Rattle.std.proofs.Common.{◌∙◌, refl}
 use Rattle.tas_desk.specs.declared.replies.EditError.TheVariants.{Full as AllMade, Place as OutOfPlace, Long as OverLong}
-use Rattle.tas_tool.proofs.TurnLemmas.{error_is, refused_at, refused_serial, refused_memory}
+use Rattle.tas_tool.proofs.TurnLemmas.{error_is, refused_at, refused_serial, refused_memory, seen_self}
 use Rattle.tas_tool.proofs.answering.refused_edit.Goals as goal
 
 pub returns-in-Serial-clause-reply : goal.returns-in-Serial-clause-reply
@@ -21,3 +21,15 @@ returns-in-Long-clause-reply g c = λ edit found.
 pub returns-in_ok-own_len-in-Memory-clause-reply : goal.returns-in_ok-own_len-in-Memory-clause-reply
 returns-in_ok-own_len-in-Memory-clause-reply g c = λ edit found.
     refused_memory c.args.seat.now c.own_len.new.seat edit c.requires.own c.own_len.ensures.seen (c.in_ok-own_len-in-Memory.ensures.reply.0 ∙ c.requires.made) (error_is c.args.seat.now edit _ _ c.in-Memory.is found)
+
+pub returns-in-Serial-clause-seen : goal.returns-in-Serial-clause-seen
+returns-in-Serial-clause-seen g c = seen_self c.args.seat.now
+
+pub returns-in-Full-clause-seen : goal.returns-in-Full-clause-seen
+returns-in-Full-clause-seen g c = seen_self c.args.seat.now
+
+pub returns-in-Place-clause-seen : goal.returns-in-Place-clause-seen
+returns-in-Place-clause-seen g c = seen_self c.args.seat.now
+
+pub returns-in-Long-clause-seen : goal.returns-in-Long-clause-seen
+returns-in-Long-clause-seen g c = seen_self c.args.seat.now

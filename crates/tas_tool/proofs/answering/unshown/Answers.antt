@@ -1,3 +1,4 @@
+use Rattle.tas_tool.proofs.TurnLemmas.{seen_self}
 use Rattle.std.proofs.Common.{◌∙◌, refl}
 use Rattle.tas_desk.specs.declared.replies.ShotError.TheVariants.{NoFrame as NoShotFrame, Halted as ShotHalted}
 use Rattle.tas_script.specs.declared.reply.Reply.TheVariants.{NoFrame}
@@ -30,3 +31,12 @@ pub returns-in-Halted-clause-tells : goal.returns-in-Halted-clause-tells
 returns-in-Halted-clause-tells g c =
     error_as c.args.made c.args.error (ShotHalted c.in-Halted.at c.in-Halted.halt) _ c.in-Halted.is
     (checked_fact c.args.made c.in-Halted.at c.halted_reply.result _ (TellsError c.args.made (ShotHalted c.in-Halted.at c.in-Halted.halt)) c.checked-in-Halted.ensures (λ same. (same, c.halted_reply.ensures)))
+
+pub returns-in-NoEntry-clause-seen : goal.returns-in-NoEntry-clause-seen
+returns-in-NoEntry-clause-seen g c = seen_self c.args.seat.now
+
+pub returns-in-NoFrame-clause-seen : goal.returns-in-NoFrame-clause-seen
+returns-in-NoFrame-clause-seen g c = seen_self c.args.seat.now
+
+pub returns-in-Halted-clause-seen : goal.returns-in-Halted-clause-seen
+returns-in-Halted-clause-seen g c = seen_self c.args.seat.now

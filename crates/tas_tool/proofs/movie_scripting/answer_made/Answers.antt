@@ -1,6 +1,6 @@
 use Rattle.std.proofs.Common.{sym}
 use Rattle.std.proofs.lemmas.Result.{err_from_is_err_and}
-use Rattle.tas_tool.proofs.MovieScriptLemmas.{holds_own, holds_front, unmade, answered_over}
+use Rattle.tas_tool.proofs.MovieScriptLemmas.{holds_own, holds_own_edits, unmade, answered_over}
 use Rattle.tas_tool.proofs.movie_scripting.answer_made.Goals as goal
 
 pub answer_lines-requires-clause-own : goal.answer_lines-requires-clause-own
@@ -17,4 +17,4 @@ returns-in_err-put_movie-clause-answers g c = λ own.
 
 pub returns-clause-answers : goal.returns-clause-answers
 returns-clause-answers g c = λ own.
-    answered_over g.row.A.Denot c.args.movie.now _ c.args.bytes.now c.answer_lines.new.text.items c.answer_lines.result (holds_front _ _ c.in_ok-put_movie.ensures.holds) (c.answer_lines.ensures.answers own)
+    answered_over g.row.A.Denot c.args.movie.now _ c.args.bytes.now c.answer_lines.new.text.items c.answer_lines.result (holds_own_edits _ _ c.in_ok-put_movie.ensures.holds) (c.answer_lines.ensures.answers own)

@@ -1,4 +1,4 @@
-use Rattle.std.proofs.Common.{◌≡◌, ◌∙◌, length, refl, sym, ap, inl}
+use Rattle.std.proofs.Common.{◌≡◌, ◌∙◌, length, refl, sym, ap, inl, arith}
 use Rattle.std.proofs.lemmas.Result.{err_from_is_err_and}
 use Rattle.std.specs.Prelude.{slice_get}
 use Rattle.tas_tool.specs.MovieScripts.{IsUnmade}
@@ -28,3 +28,8 @@ returns g c =
     let one : length c.as_mut_slice.result.now ≡ 1 = ap (λ l. length l) lent.value ∙ c.in_ok-desk.ensures.alone in
     let alone = written_back c.as_mut_slice.result.now _ _ c.answer_made-end.new.seat c.in_ok-desk.seats.len one (sym lent.len ∙ one) refl in
     c.answer_made-end.ensures.answers (sees_own _ _ c.answer_made-end.new.seat alone c.close.ensures.seats c.close.ensures.count)
+
+pub bounds-as_mut_slice-0 : goal.bounds-as_mut_slice-0
+bounds-as_mut_slice-0 g c =
+    let one : length c.as_mut_slice.result.now ≡ 1 = ap (λ l. length l) c.as_mut_slice.ensures.value ∙ c.in_ok-desk.ensures.alone in
+    omega (arith, one)

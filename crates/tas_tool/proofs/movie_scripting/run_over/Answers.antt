@@ -1,4 +1,5 @@
-use Rattle.std.proofs.Common.{inr}
+use Rattle.std.proofs.KnownBytes.{Keeps-refl}
+use Rattle.std.proofs.Common.{inr, inl}
 use Rattle.std.proofs.lemmas.Result.{err_from_is_err_and}
 use Rattle.tas_tool.specs.MovieScripts.{AnswersOver}
 use Rattle.tas_tool.proofs.ScriptLemmas.{broken_off}
@@ -23,3 +24,8 @@ pub returns : goal.returns
 returns g c =
     written_over g.row.A.Denot c.args.image.now c.args.said.now c.args.bytes.now c.in_ok-movie.movie c.answer_over-end.new.text.items c.as_slice.result.now _ _ c.answer_over-end.result c.in_ok-movie.ensures c.answer_over-end.ensures c.as_slice.ensures.value
     c.in_ok-write_all.ensures.ok
+
+pub returns-in_err-movie : goal.returns-in_err-movie
+returns-in_err-movie g c =
+    let p = err_from_is_err_and c.from_residual.result c.from_residual.ensures.1 in
+    rw (p.1, p.2) (inl (c.in_err-movie.ensures, Keeps-refl _))

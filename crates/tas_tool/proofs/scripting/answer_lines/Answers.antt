@@ -1,14 +1,14 @@
 use Rattle.std.proofs.Common.{◌≡◌, ◌++◌, ◌∷◌, [], refl, sym, ◌∙◌, arith, rules}
 use Rattle.std.proofs.lemmas.Result.{err_from_is_err_and}
-use Rattle.tas_tool.specs.Turns.{Front, front_of}
+use Rattle.tas_tool.specs.Turns.{OwnEdits, own_edits_of}
 use Rattle.tas_tool.specs.Scripts.{Turn}
-use Rattle.tas_tool.proofs.ScriptLemmas.{reads_none, begun, reads_more, front_answered, replies_answered, count_more, unclear_unsplit, unclear_line, split_length, reads_all, desk_stop}
+use Rattle.tas_tool.proofs.ScriptLemmas.{reads_none, begun, reads_more, own_edits_answered, replies_answered, count_more, unclear_unsplit, unclear_line, split_length, reads_all, desk_stop}
 use Rattle.tas_tool.proofs.scripting.answer_lines.Goals as goal
 
 pub loop-rest-init : goal.loop-rest-init
 loop-rest-init g c =
-    let b = begun g.row.A.Denot (front_of c.args.seat.now) in
-    ([], record { reads = reads_none c.args.bytes.now; seat = refl; own = c.requires.own; made = c.requires.made; front = b.0; number = refl; room = omega arith; replies = c.requires.empty ∙ sym b.1 })
+    let b = begun g.row.A.Denot (own_edits_of c.args.seat.now) in
+    ([], record { reads = reads_none c.args.bytes.now; seat = refl; own = c.requires.own; made = c.requires.made; edits = b.0; number = refl; room = omega arith; replies = c.requires.empty ∙ sym b.1 })
 
 pub returns-in_default-clause-number : goal.returns-in_default-clause-number
 returns-in_default-clause-number g c =
@@ -71,7 +71,7 @@ loop-rest-preserved g c =
     let (turns, i) = c.loop-rest.invariant in
     let told = c.in_ok-answered.ensures.answer in
     let t = told.turn_is in
-    let start : Front = front_of c.args.seat.now in
+    let start : OwnEdits = own_edits_of c.args.seat.now in
     let turn : Turn = record { said = c.in-Some.line.now; command = c.in-Some-parse_line.command; unforeseen = t.0 } in
     let shorter = split_length c.loop-rest.rest.now c.in-Some.line.now c.in-Some.after.now c.in-Some.ensures.some.0 in
     let put : c.extend_from_slice.new.self.items ≡ c.loop-rest.text.items ++ c.in-Ok.words.items = search rules in (
@@ -81,10 +81,10 @@ loop-rest-preserved g c =
         seat = c.in_ok-answered.ensures.number ∙ i.seat;
         own = told.own;
         made = told.made;
-        front = front_answered _ start _ _ turns turn c.in_ok-answered.answered.reply i.front t.2;
+        edits = own_edits_answered _ start _ _ turns turn c.in_ok-answered.answered.reply i.edits t.2;
         number = omega (arith, i.number, count_more turns turn);
         room = omega (arith, i.room, shorter);
-        replies = replies_answered _ start _ turns turn c.in_ok-answered.answered.reply _ c.in-Ok.words.items _ i.front t.1 i.replies c.in-Ok.ensures put;
+        replies = replies_answered _ start _ turns turn c.in_ok-answered.answered.reply _ c.in-Ok.words.items _ i.edits t.1 i.replies c.in-Ok.ensures put;
       },
     )
 

@@ -1,6 +1,6 @@
 use Rattle.std.proofs.Common.{◌≡◌, ◌≤◌, ◌+◌, List, length}
-use Rattle.tas_tool.specs.Turns.{front_of, BeginsWithOwn}
-use Rattle.tas_tool.specs.Scripts.{Turn, Reads, front_after_all, replies_to_all}
+use Rattle.tas_tool.specs.Turns.{own_edits_of, BeginsWithOwn}
+use Rattle.tas_tool.specs.Scripts.{Turn, Reads, own_edits_after_all, replies_to_all}
 use Rattle.tas_tool.proofs.scripting.answer_lines.Given as goal
 
 abbrev pub invariant-loop-rest : goal.invariant-loop-rest
@@ -9,10 +9,10 @@ invariant-loop-rest g l = (turns : List Turn) × record {
   seat : l.seat.number ≡ l.fn.seat.number;
   own : BeginsWithOwn l.seat;
   made : l.made ≡ l.seat.made;
-  front : front_after_all g.row.A.Denot (front_of l.fn.seat) turns ≡ front_of l.seat;
+  edits : own_edits_after_all g.row.A.Denot (own_edits_of l.fn.seat) turns ≡ own_edits_of l.seat;
   number : l.number ≡ length turns + 1;
   room : l.number + length l.rest ≤ length l.bytes + 1;
-  replies : l.text.items ≡ replies_to_all g.row.A.Denot (front_of l.fn.seat) turns;
+  replies : l.text.items ≡ replies_to_all g.row.A.Denot (own_edits_of l.fn.seat) turns;
 }
 
 abbrev pub decreases-loop-rest : goal.decreases-loop-rest

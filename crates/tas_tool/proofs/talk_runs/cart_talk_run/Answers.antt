@@ -2,8 +2,8 @@ use Rattle.std.proofs.Common.{refl, ap, rules}
 use Rattle.std.proofs.lemmas.Result.{err_from_is_err_and}
 use Rattle.tas_engines.specs.declared.fault.RunFault.TheVariants.{Memory}
 use Rattle.tas_engines.specs.declared.fault.ToolFault.TheVariants.{Memory as OutOfRoom}
-use Rattle.tas_tool.specs.MovieScripts.{movie_front}
-use Rattle.tas_tool.specs.Talk.{fresh_stand}
+use Rattle.tas_tool.specs.MovieScripts.{own_edits_of_movie}
+use Rattle.tas_tool.specs.Talk.{fresh_talk_state}
 use Rattle.tas_tool.proofs.TalkRunLemmas.{cart_unread, cart_missized, cart_unmade, cart_talked}
 use Rattle.tas_tool.proofs.talk_runs.cart_talk_run.Goals as goal
 
@@ -20,7 +20,7 @@ returns-in-Err-Memory g c = cart_unmade g.row.A.Denot _ _ _ _ _ c.as_slice.resul
 
 pub returns-in-Ok-new : goal.returns-in-Ok-new
 returns-in-Ok-new g c =
-    cart_talked g.row.A.Denot _ _ _ _ _ _ _ c.as_slice.result.now _ _ c.in_ok-image.ensures.whole c.as_slice.ensures.value (search rules) (ap (λ m. fresh_stand (movie_front m)) (search rules)) c.talk_from.ensures
+    cart_talked g.row.A.Denot _ _ _ _ _ _ _ c.as_slice.result.now _ _ c.in_ok-image.ensures.whole c.as_slice.ensures.value (search rules) (ap (λ m. fresh_talk_state (own_edits_of_movie m)) (search rules)) c.talk_from.ensures
 
 pub returns : goal.returns
 returns g c = cart_unmade g.row.A.Denot _ _ _ _ _ c.as_slice.result.now Memory OutOfRoom c.in_ok-image.ensures.whole c.as_slice.ensures.value tt refl

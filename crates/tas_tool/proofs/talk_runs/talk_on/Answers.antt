@@ -1,8 +1,8 @@
-use Rattle.std.proofs.Common.{◌≡◌, ◌∙◌, ℕ, List, Option, length, refl, sym, ap, Err}
+use Rattle.std.proofs.Common.{◌≡◌, ◌∙◌, ℕ, List, Option, length, refl, sym, ap, Err, arith}
 use Rattle.std.proofs.lemmas.Result.{err_from_is_err_and}
 use Rattle.std.specs.Prelude.{slice_get}
 use Rattle.tas_engines.specs.Faults.{run_fault}
-use Rattle.tas_tool.specs.Talk.{stand_from, IsTalk}
+use Rattle.tas_tool.specs.Talk.{talk_state_from, IsTalk}
 use Rattle.tas_tool.proofs.OneSeatLemmas.{either_fault, first_of, fresh_first, fresh_zone, whole_alone, sees_own, written_back}
 use Rattle.tas_tool.proofs.TalkLemmas.{no_memory_yet, no_place_yet}
 use Rattle.tas_tool.proofs.talk_runs.talk_on.Goals as goal
@@ -22,8 +22,8 @@ close-requires g c =
 pub returns-in_err-desk : goal.returns-in_err-desk
 returns-in_err-desk g c =
     let p = err_from_is_err_and c.from_residual.result c.from_residual.ensures.1 in
-    let talk = either_fault (λ fault. (input output : Option (List ℕ)) → IsTalk g.row.A.Denot (stand_from c.args.movie) input input output output (Err (run_fault fault))) _ c.in_err-desk.ensures.fault
-    (no_memory_yet g.row.A.Denot (stand_from c.args.movie)) (no_place_yet g.row.A.Denot (stand_from c.args.movie)) in
+    let talk = either_fault (λ fault. (input output : Option (List ℕ)) → IsTalk g.row.A.Denot (talk_state_from c.args.movie) input input output output (Err (run_fault fault))) _ c.in_err-desk.ensures.fault
+    (no_memory_yet g.row.A.Denot (talk_state_from c.args.movie)) (no_place_yet g.row.A.Denot (talk_state_from c.args.movie)) in
     rw (p.1, p.2) (talk _ _)
 
 pub returns : goal.returns
@@ -32,3 +32,8 @@ returns g c =
     let one : length c.as_mut_slice.result.now ≡ 1 = ap (λ l. length l) lent.value ∙ c.in_ok-desk.ensures.alone in
     let alone = written_back c.as_mut_slice.result.now _ _ c.talk_made-end.new.seat c.in_ok-desk.seats.len one (sym lent.len ∙ one) refl in
     c.talk_made-end.ensures.talk (sees_own _ _ c.talk_made-end.new.seat alone c.close.ensures.seats c.close.ensures.count)
+
+pub bounds-as_mut_slice-0 : goal.bounds-as_mut_slice-0
+bounds-as_mut_slice-0 g c =
+    let one : length c.as_mut_slice.result.now ≡ 1 = ap (λ l. length l) c.as_mut_slice.ensures.value ∙ c.in_ok-desk.ensures.alone in
+    omega (arith, one)

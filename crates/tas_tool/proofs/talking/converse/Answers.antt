@@ -1,11 +1,11 @@
 use Rattle.std.proofs.Common.{ℕ, [], take, refl, ap, arith, rules, ◌∙◌}
 use Rattle.std.proofs.lemmas.Result.{err_from_is_err_and}
-use Rattle.tas_tool.specs.Talking.{stand_of}
+use Rattle.tas_tool.specs.Talking.{talk_state_of}
 use Rattle.tas_tool.proofs.TalkLemmas.{no_memory_yet, begins, goes_on, quits, unread, ends_well, ends_cut, breaks_off}
 use Rattle.tas_tool.proofs.talking.converse.Goals as goal
 
 pub returns-in_default-clause-talk : goal.returns-in_default-clause-talk
-returns-in_default-clause-talk g c = λ own. no_memory_yet g.row.A.Denot (stand_of c.args.seat.now) _ _
+returns-in_default-clause-talk g c = λ own. no_memory_yet g.row.A.Denot (talk_state_of c.args.seat.now) _ _
 
 pub loop-init : goal.loop-init
 loop-init g c = record {
@@ -58,3 +58,24 @@ returns-in_err-next-clause-talk g c = λ own.
     rw (p.1, p.2)
     (breaks_off c.args.seat.now c.loop.seat c.answer_part.new.seat c.loop.progress c.loop.line.bytes.items c.answer_part.new.line.bytes.items c.loop.line.long c.answer_part.new.line.long _ _ _ _ _ _ xs part
     (take c.in-Ok-read.count c.read.new.buf) c.in_err-next.field-0.0 way c.in-Ok-read.ensures.bytes.0 (c.in_err-next.ensures.turn part way.holds way.none) own)
+
+pub answer_part-requires-clause-own : goal.answer_part-requires-clause-own
+answer_part-requires-clause-own g c = c.loop.invariant.stands.0
+
+pub answer_part-requires-clause-made : goal.answer_part-requires-clause-made
+answer_part-requires-clause-made g c = c.loop.invariant.stands.1
+
+pub returns-in-Err-clause-number : goal.returns-in-Err-clause-number
+returns-in-Err-clause-number g c = c.loop.invariant.number
+
+pub returns-then-count-eq0-clause-number : goal.returns-then-count-eq0-clause-number
+returns-then-count-eq0-clause-number g c = c.loop.invariant.number
+
+pub returns-in_err-answer_last-clause-number : goal.returns-in_err-answer_last-clause-number
+returns-in_err-answer_last-clause-number g c = c.loop.invariant.number
+
+pub returns-in-None-2-clause-number : goal.returns-in-None-2-clause-number
+returns-in-None-2-clause-number g c = c.answer_part.ensures.number ∙ c.loop.invariant.number
+
+pub returns-in_err-next-clause-number : goal.returns-in_err-next-clause-number
+returns-in_err-next-clause-number g c = c.answer_part.ensures.number ∙ c.loop.invariant.number

@@ -17,5 +17,5 @@ returns-in_err-len-clause-seen g c = seen_more c.args.seat.now c.share.new.seat 
 
 pub returns-clause-zone : goal.returns-clause-zone
 returns-clause-zone g c =
-    brought c.args.seat.now c.share.new.seat c.own_len.new.seat c.args.made c.in_ok-len.len _ c.requires.own c.requires.made c.share.ensures.seat c.in_default.ensures.zone c.own_len.ensures.seen c.own_len.ensures.zone
+    brought c.args.seat.now c.share.new.seat c.own_len.new.seat c.args.made c.in_ok-len.len _ c.requires.own c.requires.made c.share.ensures.seat c.in-Ok.ensures.zone c.own_len.ensures.seen c.own_len.ensures.zone
     c.in_ok-len.ensures.reply.0 c.in_ok-len.ensures.reply.1

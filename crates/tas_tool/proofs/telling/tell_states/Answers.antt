@@ -34,3 +34,7 @@ returns-clause-answer g c =
     (λ told is. told_no_states c.args.seat.now c.bring_zone.new.seat told.made told.bytes.items c.requires.own (is.1 ∙ c.requires.made) c.bring_zone.ensures.seen
     (brought_still c.args.seat.now c.bring_zone.new.seat _ (rw c.in-Some.is at c.in_ok-len.ensures.zone)) is.0)
     (λ fault is. memory_fault c.bring_zone.new.seat fault is)
+
+pub frames_kept-requires-clause-lawful : goal.frames_kept-requires-clause-lawful
+frames_kept-requires-clause-lawful g c =
+    let has = rw c.in-Some.is at c.in_ok-len.ensures.zone in has.lawful
