@@ -1,25 +1,21 @@
 -- What clap says of the command line.
 use Rattle.std.proofs.Common.{◌+◌, ◌<◌, get_or, length, take, ◌≡◌, List, [], ◌∷◌, ◌++◌, Bool, true, false, Option, Some, None, codes, map, refl, sym, subst, ap, ap₂, ◌∙◌, option_map}
-use Rattle.std.specs.Prelude.{Box, IfSome, drop, find}
+use Rattle.std.specs.Prelude.{IfSome, drop, find}
 use Rattle.std.proofs.lemmas.List.{map-append, take_more}
 use Rattle.std.proofs.lemmas.Slice.Eq.{bytes_eq-Decides}
 use Rattle.std.specs.Str.{bytes_eq}
 use Rattle.std.specs.Borrow.{Bor}
-use Rattle.std.specs.Box.{box_value}
 use Rattle.clap.specs.Built.{AddsArg, AddsSubcommand}
-use Rattle.clap.specs.Matches.{subcommand_name_of}
-use Rattle.clap.specs.Simple.{App, Shape, HasMatchesOf, app_of, app_of_fields, new_app, with_rule, with_subcommand, label_of, on_top, rows_at, entered, built, names_of, is_simple, subcommand_of, subcommand_rows, subcommand_rows_of}
+use Rattle.clap.specs.Simple.{App, Shape, HasMatchesOf, app_of, app_of_fields, new_app, with_rule, with_subcommand, label_of, on_top, rows_at, entered, built, names_of, is_simple, subcommand_of, subcommand_rows_of}
 use Rattle.clap.specs.Walk.{Row, Rule, Text, answers_to, rows_of, rule_of, stop_after}
 use Rattle.clap.specs.declared.builder.arg.Arg.{Arg}
 use Rattle.clap.specs.declared.builder.command.Command.{Command}
 use Rattle.clap.specs.declared.builder.command.Command.TheViews.{out-Command}
 use Rattle.clap.specs.declared.parser.matches.ArgMatches.{ArgMatches}
-use Rattle.clap.specs.declared.parser.matches.ArgMatches.TheViews.{out-ArgMatches, out-SubCommand}
-use Rattle.clap.specs.declared.parser.matches.SubCommand.{SubCommand}
 use Rattle.clap.proofs.OnLiterals.{clap_on_literals}
 use Rattle.clap.proofs.SimpleLemmas.{label_first}
 use Rattle.tas_program.specs.CommandLine.{command_names, labels, own_flags, named_command, rule_of_word, shape_with, HasRules, IsAsked, command_line, empty_line}
-use Rattle.tas_program.specs.Task.{HasWordsOf, IsNumber, command_name}
+use Rattle.tas_program.specs.Task.{HasWordsOf, IsNumberWord, command_name}
 use Rattle.tas_program.specs.declared.command_line.Word.{Word}
 use Rattle.tas_program.specs.declared.task.Task.{Task}
 use Rattle.std.specs.Prelude.{Result, Ok, ℕ}
@@ -29,14 +25,6 @@ use Rattle.clap.specs.declared.parser.matches.Found.{Found}
 use Rattle.clap.proofs.WalkLemmas.{one_text-rows}
 
 -- ---- the commands
-
--- a command with a text and a help
-pub described : (name : Text) (new told helped : Command) (about after : Option (Bor Text)) → app_of new ≡ new_app name → (out-Command new).has_globals ≡ false → out-Command told ≡ record (out-Command new) { about = about }
-    → out-Command helped ≡ record (out-Command told) { after_help = after } → HasRules name [] helped
-described name new told helped about after app local e e' = record {
-  local = ap (λ f. f.has_globals) e' ∙ ap (λ f. f.has_globals) e ∙ local;
-  app = ap app_of_fields e' ∙ ap app_of_fields e ∙ app;
-}
 
 -- a command with one word more
 pub with_word : (name : Text) (rules : List Rule) (old new : Command) (arg : Arg) (rule : Rule) → HasRules name rules old → arg.global ≡ false → rule_of arg ≡ rule → AddsArg old arg new → HasRules name (rules ++ rule ∷ []) new
@@ -104,18 +92,8 @@ is_simple_line : is_simple command_line ≡ true
 unfolding clap_on_literals
 is_simple_line = refl
 
-has_flags : (built command_line).top.rules ≡ own_flags
-has_flags = refl
-
 has_names : names_of (built command_line) ≡ labels command_names
 has_names = refl
-
-name_in_rows : {Z : Type 0} (o : Option (Box SubCommand Z)) → option_map (λ b. (out-SubCommand (box_value b)).name.now) o ≡ option_map (λ (p : Text × List Row). p.0) (subcommand_rows o)
-name_in_rows None = refl
-name_in_rows (Some s) = refl
-
-met_name : (m : ArgMatches) → subcommand_name_of m ≡ option_map (λ (p : Text × List Row). p.0) (subcommand_rows_of m)
-met_name m = name_in_rows (out-ArgMatches m).subcommand
 
 -- the command that a parse met, with its words, is the one that the words reach
 pub met_asked : (line : Command) (words : List Text) (m : ArgMatches) (task : Task) → app_of line ≡ command_line → HasMatchesOf (app_of line) words m → HasWordsOf (subcommand_rows_of m) task → IsAsked words task
@@ -137,10 +115,10 @@ asked_named words task asked =
 
 -- a number that was read
 pub number_read : {E : Type 0} (G : List ℕ → Result ℕ E → Type 0) (f : Found) (name : Text) (r : Option ℕ) (n : ℕ) → (one_text f name ≡ None → r ≡ None) → ((t : Text) → one_text f name ≡ Some t → ReadsOne G t r)
-    → ((t : Text) (v : ℕ) → G t (Ok v) → v ≡ digits_value 10 (without_leading_plus t)) → r ≡ Some n → IsNumber (rows_of f) name n
+    → ((t : Text) (v : ℕ) → G t (Ok v) → v ≡ digits_value 10 (without_leading_plus t)) → r ≡ Some n → IsNumberWord (rows_of f) name n
 number_read G f name r n none some value is = go (one_text f name) refl
   where
-    go : (o : Option Text) → one_text f name ≡ o → IsNumber (rows_of f) name n
+    go : (o : Option Text) → one_text f name ≡ o → IsNumberWord (rows_of f) name n
     go None e =
         let bad : Some n ≡ None = sym is ∙ none e in
         cc

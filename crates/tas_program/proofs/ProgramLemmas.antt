@@ -1,10 +1,6 @@
 -- How requests end.
 use Rattle.std.proofs.Common.{◌≡◌, ℕ, List, Option, Result, Ok, Err, inr, subst}
-use Rattle.std.specs.Prelude.{OnOk, OnErr}
-use Rattle.std.specs.Io.KnownBytes.{Appends}
-use Rattle.tas_engines.specs.declared.fault.RunFault.{RunFault}
 use Rattle.tas_engines.specs.declared.fault.ToolFault.{ToolFault}
-use Rattle.tas_engines.specs.Output.{StopsWriting}
 use Rattle.std.specs.Prelude.{String}
 use Rattle.std.specs.Global.{Global}
 use Rattle.std.specs.declared.vec.IntoIter.{IntoIter}
@@ -13,15 +9,11 @@ use Rattle.clap.specs.Walk.{Text}
 use Rattle.tas_program.specs.declared.request.Request.{Request}
 use Rattle.tas_program.specs.declared.request.Request.TheVariants.{Do, Show, Refuse, NoMemory}
 use Rattle.tas_program.specs.declared.task.Task.{Task}
-use Rattle.tas_program.specs.Program.{AreGiven, IsAskedBy, IsNoTask, IsRequest, Streams, end_status, EndsOver, EndsOverTwo, DoesTask, TaskEnds, TextEnds}
+use Rattle.tas_program.specs.Program.{AreGiven, IsAskedBy, IsNoTask, IsRequest, Streams, end_status, EndsOver, EndsOverTwo, DoesTask, TaskEnds}
 
-pub task_ends : (A : Type 0) (files : List ℕ → Option (List ℕ)) (task : Task) (old new : Streams) (end : Result (Unit {0}) ToolFault) → DoesTask A files task old new end → TaskEnds A files task old new (end_status end)
-task_ends A files task old new (Ok u) does = does
-task_ends A files task old new (Err fault) does = (fault, does)
-
-pub text_ends : (text : List ℕ) (old new : Option (List ℕ)) (end : Result (Unit {0}) ToolFault) → OnOk end (Appends old new text) → OnErr end ((fault : RunFault) × StopsWriting old new text fault) → TextEnds text old new (end_status end)
-text_ends text old new (Ok u) all stops = all
-text_ends text old new (Err fault) all stops = stops
+pub task_ends : (A : Type 0) (files : List ℕ → Option (List ℕ)) (chosen : Task) (old new : Streams) (end : Result (Unit {0}) ToolFault) → DoesTask A files chosen old new end → TaskEnds A files chosen old new (end_status end)
+task_ends A files chosen old new (Ok u) does = does
+task_ends A files chosen old new (Err fault) does = (fault, does)
 
 -- an engine ran over a file that was opened
 pub over_one : (runs : (file left : Option (List ℕ)) → Type 0) (one file left : Option (List ℕ)) (old new : Streams) (end : Result (Unit {0}) ToolFault) → file ≡ one → runs file left → EndsOver one runs old new end

@@ -8,6 +8,7 @@ use Rattle.clap.specs.declared.builder.action.ArgAction.TheVariants.{Set}
 use Rattle.clap.specs.declared.builder.command.Command.{Command}
 use Rattle.clap.specs.declared.builder.command.Command.TheViews.{out-Command}
 use Rattle.clap.specs.declared.builder.value_parser.ValueParser.{ValueParser}
+use Rattle.tas_script.specs.Commands.{most_number}
 use Rattle.tas_program.specs.declared.command_line.Subcommand.{Subcommand}
 use Rattle.tas_program.specs.declared.command_line.Word.{Word}
 use Rattle.tas_program.specs.declared.command_line.WordKind.{WordKind}
@@ -32,7 +33,7 @@ own_flags = filled_from 1 (help_rule ∷ version_rule ∷ [])
 abbrev pub named_command : List Text → Option Text
 named_command words = option_map (λ p. p.0) (stop_after own_flags (labels command_names) (drop 1 words))
 
--- ---- the commands. Private functions cite what follows
+-- ---- the commands. Public contracts cite `IsAsked`, at the end, and so `command_line`; private functions cite the rest
 
 -- a required word
 abbrev pub word_rule : Text → Option ValueParser → Rule
@@ -109,12 +110,12 @@ command_line = record {
       shape_with (codes "trace") (number_rule (codes "N") 0 1000000 ∷ [])
       ∷ shape_with (codes "check") (word_rule (codes "CART") None ∷ [])
       ∷ shape_with (codes "migrate") (word_rule (codes "CART") None ∷ [])
-      ∷ shape_with (codes "shot") (word_rule (codes "CART") None ∷ number_rule (codes "K") 0 9999999 ∷ [])
+      ∷ shape_with (codes "shot") (word_rule (codes "CART") None ∷ number_rule (codes "K") 0 most_number ∷ [])
       ∷ shape_with (codes "edit") (word_rule (codes "CART") None ∷ word_rule (codes "SCRIPT") None ∷ [])
       ∷ shape_with (codes "diff") (word_rule (codes "CART") None ∷ word_rule (codes "OLD") None ∷ [])
       ∷ shape_with (codes "script") (flag_rule (codes "CART") (codes "cart") ∷ flag_rule (codes "MOVIE") (codes "movie") ∷ [])
       ∷ shape_with (codes "talk") (may_word_rule (codes "CART") ∷ may_word_rule (codes "MOVIE") ∷ [])
-      ∷ shape_with (codes "export") (word_rule (codes "CART") None ∷ number_rule (codes "FROM") 0 9999999 ∷ number_rule (codes "TO") 0 9999999 ∷ number_rule (codes "WORKERS") 1 16 ∷ [])
+      ∷ shape_with (codes "export") (word_rule (codes "CART") None ∷ number_rule (codes "FROM") 0 most_number ∷ number_rule (codes "TO") 0 most_number ∷ number_rule (codes "WORKERS") 1 16 ∷ [])
       ∷ [];
 }
 

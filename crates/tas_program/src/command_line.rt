@@ -4,7 +4,7 @@ ghost use Rattle.std.specs.Prelude.{◌≡◌, IfOk, None, false, map};
 ghost use Rattle.clap.specs.Words.{app_of, rule_of};
 ghost use Rattle.tas_program.specs.CommandLine.{command_line, empty_line, flag_rule, may_word_rule, number_rule, rule_of_word, with_commands, word_rule, HasRules, IsCommandLine};
 
-use crate::{MAX_FRAME, MAX_INSTRUCTIONS, MAX_WORKERS};
+use crate::{MAX_FRAME_NUMBER, MAX_INSTRUCTIONS, MAX_WORKERS};
 use clap::{Arg, ArgAction, Command, value_parser};
 use std::alloc::{AllocError, Global};
 
@@ -38,15 +38,16 @@ struct Word {
     kind: WordKind,
 }
 
-/// A command, what it does, and its words.
+/// A command, what it does in a line and in a text, and its words.
 #[derive(Clone, Copy)]
 struct Subcommand {
     name: &'static str,
     about: &'static str,
+    help: &'static str,
     words: &'static [Word],
 }
 
-static TRACE_HELP: &str = "\
+const TRACE_HELP: &str = "\
 Standard input is the cartridge: its image of 4096 or 2048 bytes, as an assembler writes it.
 Standard output has one line for each instruction from power-on, with nothing pressed:
 its address, its opcode, the registers A X Y S P after it, and its CPU cycles.
@@ -55,7 +56,7 @@ A byte that is no documented opcode ends the trace with a line such as 'F006 02 
 Example:
   examples/cart counter | tas trace 3";
 
-static CHECK_HELP: &str = "\
+const CHECK_HELP: &str = "\
 Standard input is the movie text: a line 'a26movie 2', a line 'cart ' with the SHA-256 of the
 cartridge, and a line for each run of equal frames: 'R.... ..... .....' is one frame, and
 'R.... ..... ..... x60' sixty. An older text, 'a26movie 1' with a line for each frame, is read too.
@@ -66,15 +67,15 @@ Example:
   examples/cart joystick > joystick.bin
   tas check joystick.bin < examples/joystick.movie";
 
-static MIGRATE_HELP: &str = "\
+const MIGRATE_HELP: &str = "\
 Standard input is a movie text, as for 'tas check'.
-Standard output is the text of the same movie as it is written today: 'a26movie 2', and a line for
-each run of equal frames.
+Standard output is the same movie as a text of runs: 'a26movie 2', and a line for each run of equal
+frames.
 
 Example:
   tas migrate joystick.bin < old.movie > new.movie";
 
-static SHOT_HELP: &str = "\
+const SHOT_HELP: &str = "\
 Standard input is the movie text, as for 'tas check'.
 Standard output is the picture of frame K, 160 by 210 pixels as a binary portable pixmap (P6),
 replayed from power-on.
@@ -83,7 +84,7 @@ Example:
   examples/cart joystick > joystick.bin
   tas shot joystick.bin 60 < examples/joystick.movie > frame60.ppm";
 
-static EDIT_HELP: &str = "\
+const EDIT_HELP: &str = "\
 Standard input is the movie text, as for 'tas check'. The script's file has changes, a line each:
   insert AT COUNT FRAME      insert COUNT frames such as 'R.... ..... .....'
   replace AT COUNT FRAME     replace COUNT frames
@@ -95,7 +96,7 @@ and nothing written.
 Example:
   tas edit joystick.bin examples/mend.script < examples/joystick.movie > mended.movie";
 
-static DIFF_HELP: &str = "\
+const DIFF_HELP: &str = "\
 Standard input is a movie text, as for 'tas check', and OLD is the file with the text of an older one.
 Standard output is a script for 'tas edit' that makes the new movie of the old one: nothing where they
 are equal.
@@ -103,7 +104,7 @@ are equal.
 Example:
   tas diff joystick.bin examples/joystick.movie < mended.movie";
 
-static SCRIPT_HELP: &str = "\
+const SCRIPT_HELP: &str = "\
 Standard input is the script: edits of a movie and looks at it, a line each:
   load OFF=HEX ..            take a cartridge of 4096 zeros with these bytes
   load2 OFF=HEX ..           take one of 2048 zeros
@@ -120,7 +121,7 @@ Examples:
   tas script < examples/edits.script
   echo shot 60 | tas script --cart joystick.bin --movie examples/joystick.movie";
 
-static TALK_HELP: &str = "\
+const TALK_HELP: &str = "\
 Standard input is lines, as of 'tas script', and standard output has the answer to each before the
 next one is read, so that another program can hold the conversation. It has these lines, too:
   picture K                  a line 'picture AT K BYTES', and the pixmap of frame K: so many bytes
@@ -133,7 +134,7 @@ With CART it begins with this cartridge, with MOVIE with this movie's frames too
 Example:
   printf 'len\\npicture 60\\nquit\\n' | tas talk joystick.bin examples/joystick.movie";
 
-static EXPORT_HELP: &str = "\
+const EXPORT_HELP: &str = "\
 Standard input is the movie text, as for 'tas check'.
 Standard output is the pictures of the frames FROM to TO - 1, each as for 'tas shot', one after the
 other; they are at most 1024. The movie is replayed from power-on by WORKERS threads, which share the
@@ -144,25 +145,9 @@ Example:
   tas export joystick.bin 0 120 4 < examples/joystick.movie |
     ffmpeg -f image2pipe -framerate 60 -c:v ppm -i - film.mp4";
 
-static TAS_HELP: &str = "\
+const TAS_HELP: &str = "\
 Each command but 'talk' reads standard input whole before it writes anything to standard output.
 Status: 0 done, 1 a fault (one line on standard error), 2 words that aren't understood.";
-
-/// The help of a command.
-fn help_of(name: &str) -> &'static str {
-    match name {
-        "trace" => TRACE_HELP,
-        "check" => CHECK_HELP,
-        "migrate" => MIGRATE_HELP,
-        "shot" => SHOT_HELP,
-        "edit" => EDIT_HELP,
-        "diff" => DIFF_HELP,
-        "script" => SCRIPT_HELP,
-        "talk" => TALK_HELP,
-        "export" => EXPORT_HELP,
-        _ => "",
-    }
-}
 
 const CARTRIDGE: Word = Word {
     name: "CART",
@@ -175,6 +160,7 @@ static SUBCOMMANDS: [Subcommand; 9] = [
     Subcommand {
         name: "trace",
         about: "Writes the first instructions of a cartridge, a line for each",
+        help: TRACE_HELP,
         words: &[Word {
             name: "N",
             help: "How many instructions, 0 to 1000000",
@@ -187,16 +173,19 @@ static SUBCOMMANDS: [Subcommand; 9] = [
     Subcommand {
         name: "check",
         about: "Checks a movie text and tells its length",
+        help: CHECK_HELP,
         words: &[CARTRIDGE],
     },
     Subcommand {
         name: "migrate",
-        about: "Writes a movie text, older ones too, as it is written today",
+        about: "Writes a movie text, older ones too, as a text of runs ('a26movie 2')",
+        help: MIGRATE_HELP,
         words: &[CARTRIDGE],
     },
     Subcommand {
         name: "shot",
         about: "Writes the picture of one frame of a movie",
+        help: SHOT_HELP,
         words: &[
             CARTRIDGE,
             Word {
@@ -204,7 +193,7 @@ static SUBCOMMANDS: [Subcommand; 9] = [
                 help: "The frame, counted from 0",
                 kind: WordKind::Number {
                     least: 0,
-                    most: MAX_FRAME,
+                    most: MAX_FRAME_NUMBER,
                 },
             },
         ],
@@ -212,6 +201,7 @@ static SUBCOMMANDS: [Subcommand; 9] = [
     Subcommand {
         name: "edit",
         about: "Makes the changes of a script on a movie and writes its text",
+        help: EDIT_HELP,
         words: &[
             CARTRIDGE,
             Word {
@@ -224,6 +214,7 @@ static SUBCOMMANDS: [Subcommand; 9] = [
     Subcommand {
         name: "diff",
         about: "Writes the script that makes one movie of another",
+        help: DIFF_HELP,
         words: &[
             CARTRIDGE,
             Word {
@@ -236,6 +227,7 @@ static SUBCOMMANDS: [Subcommand; 9] = [
     Subcommand {
         name: "script",
         about: "Edits a movie by a script and writes the replies",
+        help: SCRIPT_HELP,
         words: &[
             Word {
                 name: "CART",
@@ -258,6 +250,7 @@ static SUBCOMMANDS: [Subcommand; 9] = [
     Subcommand {
         name: "talk",
         about: "Answers lines, each before the next one is read",
+        help: TALK_HELP,
         words: &[
             Word {
                 name: "CART",
@@ -274,6 +267,7 @@ static SUBCOMMANDS: [Subcommand; 9] = [
     Subcommand {
         name: "export",
         about: "Writes the pictures of some frames of a movie, one after the other",
+        help: EXPORT_HELP,
         words: &[
             CARTRIDGE,
             Word {
@@ -281,7 +275,7 @@ static SUBCOMMANDS: [Subcommand; 9] = [
                 help: "The first frame, counted from 0",
                 kind: WordKind::Number {
                     least: 0,
-                    most: MAX_FRAME,
+                    most: MAX_FRAME_NUMBER,
                 },
             },
             Word {
@@ -289,7 +283,7 @@ static SUBCOMMANDS: [Subcommand; 9] = [
                 help: "The frame behind the last one",
                 kind: WordKind::Number {
                     least: 0,
-                    most: MAX_FRAME,
+                    most: MAX_FRAME_NUMBER,
                 },
             },
             Word {
@@ -374,7 +368,7 @@ fn command_of<'a>(alloc: Global, subcommand: Subcommand) -> Result<Command<'a>, 
 {
     let mut command = Command::new(alloc, subcommand.name)
         .about(subcommand.about)
-        .after_help(help_of(subcommand.name));
+        .after_help(subcommand.help);
     for word in subcommand.words {
         command = command.arg(arg_of(alloc, *word)?)?;
     }

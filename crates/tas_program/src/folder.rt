@@ -6,7 +6,7 @@ use std::fs::File;
 use std::io::Read;
 use std::{fs, io};
 
-/// Opens files for reading, by their names.
+/// Opens files for reading, by their names (own).
 pub trait Folder {
     /// An opened file.
     type File: Read + Drop;

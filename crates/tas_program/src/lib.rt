@@ -17,5 +17,5 @@ pub use folder::Folder;
 pub use request::{Request, read_request};
 pub use running::{carry_out, run_program, run_task};
 pub use status::Status;
-pub use task::{MAX_FRAME, MAX_INSTRUCTIONS, MAX_WORKERS, Task};
+pub use task::{MAX_FRAME_NUMBER, MAX_INSTRUCTIONS, MAX_WORKERS, Task};
 pub use words::read_words;

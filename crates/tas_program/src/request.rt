@@ -10,7 +10,7 @@ use std::alloc::Global;
 use std::env::Args;
 use std::io;
 
-/// What the words on the command line ask for.
+/// What the words on the command line ask for (own).
 #[derive(Debug, Drop)]
 pub enum Request<'a> {
     /// A command.

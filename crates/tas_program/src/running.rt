@@ -4,6 +4,7 @@ ghost use Rattle.std.specs.Prelude.{◌≡◌, IfOk, IfErr, OnOk, OnErr};
 ghost use Rattle.std.specs.Io.KnownBytes.{Appends};
 ghost use Rattle.tas_engines.specs.declared.fault.RunFault.{RunFault};
 ghost use Rattle.tas_engines.specs.Output.{StopsWriting};
+ghost use Rattle.tas_program.specs.declared.task.Task.TheVariants.{Shot, Edit, Diff, MovieScript, MovieTalk, Export};
 ghost use Rattle.tas_program.specs.Program.{DoesTask, CarriesOut, ProgramEnds, end_status};
 ghost use Rattle.std.specs.Global.{Global};
 
@@ -13,6 +14,7 @@ use std::alloc::Global;
 use std::env::Args;
 use std::io;
 use std::io::{Read, Write};
+use std::ops::Range;
 use std::sync::Wait;
 use std::thread::Threads;
 use tas_engines::write_all;
@@ -26,10 +28,7 @@ fn open_file<F: Folder>(folder: &F, name: &str) -> Result<F::File, ToolFault>
     ensures file { IfOk result (λ file. F.File.remaining file ≡ F.bytes_of folder.now name.now) }
     ensures fault { IfErr result (λ fault. fault ≡ ToolFault.Read) }
 {
-    match folder.open(name) {
-        Ok(file) => Ok(file),
-        Err(_) => Err(ToolFault::Read),
-    }
+    folder.open(name).map_err(|_| ToolFault::Read)
 }
 
 /// Opens two files of these names.
@@ -42,7 +41,123 @@ fn open_two<F: Folder>(folder: &F, one: &str, two: &str) -> Result<(F::File, F::
     Ok((first, second))
 }
 
-/// Does a task by its engine: the files that it names are opened first, a failure being `Read`, then
+/// Draws a frame of the input's movie.
+fn shot_file<F: Folder, R: Read, W: Write>(
+    alloc: Global,
+    cart: &str,
+    frame: u32,
+    folder: &F,
+    input: &mut R,
+    output: &mut W,
+) -> Result<(), ToolFault>
+    ensures { DoesTask Global (F.bytes_of folder.now) (Shot cart.entry frame)
+        (record { input = R.remaining input.old; output = W.contents output.old })
+        (record { input = R.remaining input.new; output = W.contents output.new }) result }
+{
+    let mut file = open_file(folder, cart)?;
+    shot_run(alloc, frame as usize, &mut file, input, output)
+}
+
+/// Makes the changes of a script on the input's movie.
+fn edit_files<F: Folder, R: Read, W: Write>(
+    alloc: Global,
+    cart: &str,
+    script: &str,
+    folder: &F,
+    input: &mut R,
+    output: &mut W,
+) -> Result<(), ToolFault>
+    ensures { DoesTask Global (F.bytes_of folder.now) (Edit cart.entry script.entry)
+        (record { input = R.remaining input.old; output = W.contents output.old })
+        (record { input = R.remaining input.new; output = W.contents output.new }) result }
+{
+    let (mut file, mut other) = open_two(folder, cart, script)?;
+    edit_run(alloc, &mut file, &mut other, input, output)
+}
+
+/// Compares the input's movie with an older one.
+fn diff_files<F: Folder, R: Read, W: Write>(
+    alloc: Global,
+    cart: &str,
+    old: &str,
+    folder: &F,
+    input: &mut R,
+    output: &mut W,
+) -> Result<(), ToolFault>
+    ensures { DoesTask Global (F.bytes_of folder.now) (Diff cart.entry old.entry)
+        (record { input = R.remaining input.old; output = W.contents output.old })
+        (record { input = R.remaining input.new; output = W.contents output.new }) result }
+{
+    let (mut file, mut other) = open_two(folder, cart, old)?;
+    diff_run(alloc, &mut file, &mut other, input, output)
+}
+
+/// Runs the input's script from a movie on.
+fn script_files<T: Wait + Threads + Sync, F: Folder, R: Read, W: Write>(
+    rt: &T,
+    alloc: Global,
+    cart: &str,
+    movie: &str,
+    folder: &F,
+    input: &mut R,
+    output: &mut W,
+) -> Result<(), ToolFault>
+    ensures { DoesTask Global (F.bytes_of folder.now) (MovieScript cart.entry movie.entry)
+        (record { input = R.remaining input.old; output = W.contents output.old })
+        (record { input = R.remaining input.new; output = W.contents output.new }) result }
+{
+    let (mut file, mut other) = open_two(folder, cart, movie)?;
+    movie_script_run(rt, alloc, &mut file, &mut other, input, output)
+}
+
+/// Answers the input's lines from a movie on.
+fn talk_files<T: Wait + Threads + Sync, F: Folder, R: Read, W: Write>(
+    rt: &T,
+    alloc: Global,
+    cart: &str,
+    movie: &str,
+    folder: &F,
+    input: &mut R,
+    output: &mut W,
+) -> Result<(), ToolFault>
+    ensures { DoesTask Global (F.bytes_of folder.now) (MovieTalk cart.entry movie.entry)
+        (record { input = R.remaining input.old; output = W.contents output.old })
+        (record { input = R.remaining input.new; output = W.contents output.new }) result }
+{
+    let (mut file, mut other) = open_two(folder, cart, movie)?;
+    movie_talk_run(rt, alloc, &mut file, &mut other, input, output)
+}
+
+/// Writes the pictures of some frames of the input's movie.
+fn export_file<T: Wait + Threads + Sync, F: Folder, R: Read, W: Write>(
+    rt: &T,
+    alloc: Global,
+    cart: &str,
+    frames: Range<u32>,
+    workers: u32,
+    folder: &F,
+    input: &mut R,
+    output: &mut W,
+) -> Result<(), ToolFault>
+    ensures { DoesTask Global (F.bytes_of folder.now) (Export cart.entry frames.start frames.end workers)
+        (record { input = R.remaining input.old; output = W.contents output.old })
+        (record { input = R.remaining input.new; output = W.contents output.new }) result }
+{
+    let mut file = open_file(folder, cart)?;
+    let (from, to) = (frames.start as usize, frames.end as usize);
+    export_run(
+        rt,
+        alloc,
+        from,
+        to,
+        workers as usize,
+        &mut file,
+        input,
+        output,
+    )
+}
+
+/// Does a task by its engine (own): the files that it names are opened first, a failure being `Read`, then
 /// the engine reads them and the input, and writes its answer to the output.
 pub fn run_task<T: Wait + Threads + Sync, F: Folder, R: Read, W: Write>(
     rt: &T,
@@ -60,41 +175,26 @@ pub fn run_task<T: Wait + Threads + Sync, F: Folder, R: Read, W: Write>(
         Task::Trace { instructions } => trace_run(alloc, instructions, input, output),
         Task::Check { cart } => check_run(alloc, &mut open_file(folder, cart)?, input, output),
         Task::Migrate { cart } => migrate_run(alloc, &mut open_file(folder, cart)?, input, output),
-        Task::Shot { cart, frame } => {
-            let mut file = open_file(folder, cart)?;
-            shot_run(alloc, frame as usize, &mut file, input, output)
-        }
-        Task::Edit { cart, script } => {
-            let (mut file, mut other) = open_two(folder, cart, script)?;
-            edit_run(alloc, &mut file, &mut other, input, output)
-        }
-        Task::Diff { cart, old } => {
-            let (mut file, mut other) = open_two(folder, cart, old)?;
-            diff_run(alloc, &mut file, &mut other, input, output)
-        }
+        Task::Shot { cart, frame } => shot_file(alloc, cart, frame, folder, input, output),
+        Task::Edit { cart, script } => edit_files(alloc, cart, script, folder, input, output),
+        Task::Diff { cart, old } => diff_files(alloc, cart, old, folder, input, output),
         Task::Script => script_run(rt, alloc, input, output),
         Task::MovieScript { cart, movie } => {
-            let (mut file, mut other) = open_two(folder, cart, movie)?;
-            movie_script_run(rt, alloc, &mut file, &mut other, input, output)
+            script_files(rt, alloc, cart, movie, folder, input, output)
         }
         Task::Talk => talk_run(rt, alloc, input, output),
         Task::CartTalk { cart } => {
             cart_talk_run(rt, alloc, &mut open_file(folder, cart)?, input, output)
         }
-        Task::MovieTalk { cart, movie } => {
-            let (mut file, mut other) = open_two(folder, cart, movie)?;
-            movie_talk_run(rt, alloc, &mut file, &mut other, input, output)
-        }
+        Task::MovieTalk { cart, movie } => talk_files(
+            rt, alloc, cart, movie, folder, input, output,
+        ),
         Task::Export {
             cart,
             from,
             to,
             workers,
-        } => {
-            let mut file = open_file(folder, cart)?;
-            let (from, to, workers) = (from as usize, to as usize, workers as usize);
-            export_run(rt, alloc, from, to, workers, &mut file, input, output)
-        }
+        } => export_file(rt, alloc, cart, from..to, workers, folder, input, output),
     }
 }
 
@@ -117,13 +217,10 @@ fn show<W: Write>(output: &mut W, text: &str) -> Result<(), ToolFault>
     ensures ok { OnOk result (Appends (W.contents output.old) (W.contents output.new) text.now) }
     ensures fault { OnErr result ((fault : RunFault) × StopsWriting (W.contents output.old) (W.contents output.new) text.now fault) }
 {
-    match write_all(output, text.as_bytes()) {
-        Ok(()) => Ok(()),
-        Err(fault) => Err(ToolFault::from(fault)),
-    }
+    Ok(write_all(output, text.as_bytes())?)
 }
 
-/// Carries a request out, and answers the program's status: 0 where it was done, 1 after a fault, whose
+/// Carries a request out, and answers the program's status (own): 0 where it was done, 1 after a fault, whose
 /// line is written to `errors`, and 2 where the words weren't understood, whose text goes there too.
 pub fn carry_out<T: Wait + Threads + Sync, F: Folder, R: Read, W: Write, E: Write>(
     rt: &T,
@@ -149,7 +246,7 @@ pub fn carry_out<T: Wait + Threads + Sync, F: Folder, R: Read, W: Write, E: Writ
     }
 }
 
-/// The whole program: reads the words, the first of which is its name, and does what they ask for.
+/// The whole program (own): reads the words, the first of which is its name, and does what they ask for.
 pub fn run_program<T: Wait + Threads + Sync, F: Folder, R: Read, W: Write, E: Write>(
     rt: &T,
     alloc: Global,

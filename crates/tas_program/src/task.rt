@@ -6,12 +6,12 @@ use tas_script::MAX_NUMBER;
 pub const MAX_INSTRUCTIONS: u32 = 1_000_000;
 
 /// The greatest number of a frame, which is that of a script's numbers (own).
-pub const MAX_FRAME: u32 = MAX_NUMBER as u32;
+pub const MAX_FRAME_NUMBER: u32 = MAX_NUMBER as u32;
 
 /// The most workers of one export (own).
 pub const MAX_WORKERS: u32 = tas_tool::MAX_WORKERS as u32;
 
-/// A command with its words.
+/// A command with its words (own).
 #[derive(Clone, Copy, Debug, PartialEq, Eq)]
 pub enum Task<'a> {
     /// Trace the first instructions of the cartridge on standard input.

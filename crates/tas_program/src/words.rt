@@ -2,11 +2,11 @@
 
 ghost use Rattle.std.specs.Prelude.{◌≡◌, ◌≤◌, IfOk, IfSome, Some, codes, map, option_map, string_bytes};
 ghost use Rattle.clap.specs.Words.{first_of, found_of, rows_of, subcommand_rows_of};
-ghost use Rattle.tas_program.specs.Task.{HasWords, HasWordsOf, IsInRange, IsNumber, command_name};
+ghost use Rattle.tas_program.specs.Task.{HasWordsOf, IsInRange, IsNumberWord, IsTaskOf, command_name};
 ghost use Rattle.tas_program.specs.CommandLine.{named_command, IsAsked, IsCommandLine};
 
 use crate::command_line::command_line;
-use crate::{MAX_FRAME, MAX_INSTRUCTIONS, MAX_WORKERS, Task};
+use crate::{MAX_FRAME_NUMBER, MAX_INSTRUCTIONS, MAX_WORKERS, Task};
 use clap::error::ErrorKind;
 use clap::{ArgMatches, Command, Error};
 use std::alloc::Global;
@@ -15,9 +15,10 @@ use std::alloc::Global;
 fn number_of(matches: &ArgMatches<'_>, name: &str, least: u32, most: u32) -> Option<u32>
     ensures least { IfSome result (λ n. least ≤ n) }
     ensures most { IfSome result (λ n. n ≤ most) }
-    ensures number { IfSome result (IsNumber (rows_of (found_of matches.now)) name.now) }
+    ensures number { IfSome result (IsNumberWord (rows_of (found_of matches.now)) name.now) }
 {
     let n = matches.get_one::<u32>(name)?;
+    // clap refuses other numbers before; no clause of `get_one` says so.
     if least <= n && n <= most {
         Some(n)
     } else {
@@ -34,9 +35,7 @@ fn word_of<'a>(matches: &ArgMatches<'a>, name: &str) -> Option<&'a str>
 
 /// What the words of `tas trace` ask for.
 fn trace_task<'a>(matches: &ArgMatches<'a>) -> Option<Task<'a>>
-    ensures range { IfSome result IsInRange }
-    ensures named { IfSome result (λ task. command_name task ≡ codes "trace") }
-    ensures words { IfSome result (HasWords (rows_of (found_of matches.now))) }
+    ensures { IfSome result (IsTaskOf (codes "trace") (rows_of (found_of matches.now))) }
 {
     Some(Task::Trace {
         instructions: number_of(matches, "N", 0, MAX_INSTRUCTIONS)?,
@@ -45,9 +44,7 @@ fn trace_task<'a>(matches: &ArgMatches<'a>) -> Option<Task<'a>>
 
 /// What the words of `tas check` ask for.
 fn check_task<'a>(matches: &ArgMatches<'a>) -> Option<Task<'a>>
-    ensures range { IfSome result IsInRange }
-    ensures named { IfSome result (λ task. command_name task ≡ codes "check") }
-    ensures words { IfSome result (HasWords (rows_of (found_of matches.now))) }
+    ensures { IfSome result (IsTaskOf (codes "check") (rows_of (found_of matches.now))) }
 {
     Some(Task::Check {
         cart: word_of(matches, "CART")?,
@@ -56,9 +53,7 @@ fn check_task<'a>(matches: &ArgMatches<'a>) -> Option<Task<'a>>
 
 /// What the words of `tas migrate` ask for.
 fn migrate_task<'a>(matches: &ArgMatches<'a>) -> Option<Task<'a>>
-    ensures range { IfSome result IsInRange }
-    ensures named { IfSome result (λ task. command_name task ≡ codes "migrate") }
-    ensures words { IfSome result (HasWords (rows_of (found_of matches.now))) }
+    ensures { IfSome result (IsTaskOf (codes "migrate") (rows_of (found_of matches.now))) }
 {
     Some(Task::Migrate {
         cart: word_of(matches, "CART")?,
@@ -67,21 +62,17 @@ fn migrate_task<'a>(matches: &ArgMatches<'a>) -> Option<Task<'a>>
 
 /// What the words of `tas shot` ask for.
 fn shot_task<'a>(matches: &ArgMatches<'a>) -> Option<Task<'a>>
-    ensures range { IfSome result IsInRange }
-    ensures named { IfSome result (λ task. command_name task ≡ codes "shot") }
-    ensures words { IfSome result (HasWords (rows_of (found_of matches.now))) }
+    ensures { IfSome result (IsTaskOf (codes "shot") (rows_of (found_of matches.now))) }
 {
     Some(Task::Shot {
         cart: word_of(matches, "CART")?,
-        frame: number_of(matches, "K", 0, MAX_FRAME)?,
+        frame: number_of(matches, "K", 0, MAX_FRAME_NUMBER)?,
     })
 }
 
 /// What the words of `tas edit` ask for.
 fn edit_task<'a>(matches: &ArgMatches<'a>) -> Option<Task<'a>>
-    ensures range { IfSome result IsInRange }
-    ensures named { IfSome result (λ task. command_name task ≡ codes "edit") }
-    ensures words { IfSome result (HasWords (rows_of (found_of matches.now))) }
+    ensures { IfSome result (IsTaskOf (codes "edit") (rows_of (found_of matches.now))) }
 {
     Some(Task::Edit {
         cart: word_of(matches, "CART")?,
@@ -91,9 +82,7 @@ fn edit_task<'a>(matches: &ArgMatches<'a>) -> Option<Task<'a>>
 
 /// What the words of `tas diff` ask for.
 fn diff_task<'a>(matches: &ArgMatches<'a>) -> Option<Task<'a>>
-    ensures range { IfSome result IsInRange }
-    ensures named { IfSome result (λ task. command_name task ≡ codes "diff") }
-    ensures words { IfSome result (HasWords (rows_of (found_of matches.now))) }
+    ensures { IfSome result (IsTaskOf (codes "diff") (rows_of (found_of matches.now))) }
 {
     Some(Task::Diff {
         cart: word_of(matches, "CART")?,
@@ -103,9 +92,7 @@ fn diff_task<'a>(matches: &ArgMatches<'a>) -> Option<Task<'a>>
 
 /// What the words of `tas script` ask for; `None` where they name one file.
 fn script_task<'a>(matches: &ArgMatches<'a>) -> Option<Task<'a>>
-    ensures range { IfSome result IsInRange }
-    ensures named { IfSome result (λ task. command_name task ≡ codes "script") }
-    ensures words { IfSome result (HasWords (rows_of (found_of matches.now))) }
+    ensures { IfSome result (IsTaskOf (codes "script") (rows_of (found_of matches.now))) }
 {
     match (word_of(matches, "CART"), word_of(matches, "MOVIE")) {
         (None, None) => Some(Task::Script),
@@ -116,9 +103,7 @@ fn script_task<'a>(matches: &ArgMatches<'a>) -> Option<Task<'a>>
 
 /// What the words of `tas talk` ask for; `None` where they name a movie alone.
 fn talk_task<'a>(matches: &ArgMatches<'a>) -> Option<Task<'a>>
-    ensures range { IfSome result IsInRange }
-    ensures named { IfSome result (λ task. command_name task ≡ codes "talk") }
-    ensures words { IfSome result (HasWords (rows_of (found_of matches.now))) }
+    ensures { IfSome result (IsTaskOf (codes "talk") (rows_of (found_of matches.now))) }
 {
     match (word_of(matches, "CART"), word_of(matches, "MOVIE")) {
         (None, None) => Some(Task::Talk),
@@ -130,23 +115,19 @@ fn talk_task<'a>(matches: &ArgMatches<'a>) -> Option<Task<'a>>
 
 /// What the words of `tas export` ask for.
 fn export_task<'a>(matches: &ArgMatches<'a>) -> Option<Task<'a>>
-    ensures range { IfSome result IsInRange }
-    ensures named { IfSome result (λ task. command_name task ≡ codes "export") }
-    ensures words { IfSome result (HasWords (rows_of (found_of matches.now))) }
+    ensures { IfSome result (IsTaskOf (codes "export") (rows_of (found_of matches.now))) }
 {
     Some(Task::Export {
         cart: word_of(matches, "CART")?,
-        from: number_of(matches, "FROM", 0, MAX_FRAME)?,
-        to: number_of(matches, "TO", 0, MAX_FRAME)?,
+        from: number_of(matches, "FROM", 0, MAX_FRAME_NUMBER)?,
+        to: number_of(matches, "TO", 0, MAX_FRAME_NUMBER)?,
         workers: number_of(matches, "WORKERS", 1, MAX_WORKERS)?,
     })
 }
 
 /// What the command of this name asks for with its words; `None` where it is no command of this program.
 fn command_task<'a>(name: &str, words: &ArgMatches<'a>) -> Option<Task<'a>>
-    ensures range { IfSome result IsInRange }
-    ensures named { IfSome result (λ task. name.now ≡ command_name task) }
-    ensures words { IfSome result (HasWords (rows_of (found_of words.now))) }
+    ensures { IfSome result (IsTaskOf name.now (rows_of (found_of words.now))) }
 {
     match name {
         "trace" => trace_task(words),
@@ -180,6 +161,7 @@ fn task_by<'a>(line: &mut Command<'a>, words: &'a [String]) -> Result<Task<'a>, 
     let matches = line.try_get_matches_from_mut(words)?;
     match task_of(&matches) {
         Some(task) => Ok(task),
+        // Not expected: clap has met these words' command and its rules. No clause says so.
         None => Err(line.error(ErrorKind::InvalidSubcommand, "no such command")?),
     }
 }

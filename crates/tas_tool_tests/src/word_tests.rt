@@ -196,7 +196,7 @@ static HELPS: [(&[&str], &[u8]); 11] = [
     ),
     (
         &["migrate", "--help"],
-        b"Writes a movie text, older ones too, as it is written today\n\nUsage: tas migrate <CART>\n",
+        b"Writes a movie text, older ones too, as a text of runs ('a26movie 2')\n\nUsage: tas migrate <CART>\n",
     ),
     (
         &["shot", "--help"],
