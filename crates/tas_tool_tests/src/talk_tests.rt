@@ -88,6 +88,19 @@ fn pictures_are_told_whole(rt: HostRuntime) {
     );
 }
 
+/// The blank cartridge halts in its first frame: it goes on at the address 0000, which tells the collisions of missile 0. Without one it
+/// reads 00, which is `BRK`, whose pushes go down through RAM into the picture's registers. In the 68th missile 0 meets player 1, and so the next
+/// opcode is 80.
+#[test]
+fn blank_cartridge_halts_in_its_first_frame(rt: HostRuntime) {
+    check_said(
+        &rt,
+        rt.alloc(),
+        b"insert 0 1 ..... ..... .....\nshot 0\n",
+        b"edit 1 len 1\nhalted 1 0000 80\n",
+    );
+}
+
 /// The greenzone after shots, an edit, and the edit that takes it back: states behind the edited place are gone where they are told.
 #[test]
 fn states_are_those_of_the_movie(rt: HostRuntime) {
