@@ -8,8 +8,8 @@ use std::process::Abort;
 use std::sync::Wait;
 use std::thread::Threads;
 use tas_tool::{
-    ToolFault, check_run, diff_run, edit_run, export_run, migrate_run, movie_script_run,
-    movie_talk_run, script_run, shot_run, talk_run, trace_run,
+    ToolFault, cart_talk_run, check_run, diff_run, edit_run, export_run, migrate_run,
+    movie_script_run, movie_talk_run, script_run, shot_run, talk_run, trace_run,
 };
 
 /// An engine of the program.
@@ -28,6 +28,7 @@ pub enum Engine {
     /// By so many workers.
     Export(usize),
     Talk,
+    CartTalk,
     MovieTalk,
 }
 
@@ -45,12 +46,17 @@ pub static ENGINES: [Engine; 10] = [
     Engine::Export(2),
 ];
 
+/// Those that answer the lines of their last input one by one.
+pub static CONVERSATIONS: [Engine; 3] = [Engine::Talk, Engine::CartTalk, Engine::MovieTalk];
+
 impl Engine {
     /// The input that it reads at this place, counted from 0; an empty one behind its last.
     pub fn input<'a>(self, bytes: &'a Bytes, place: usize) -> &'a [u8] {
         match (self, place) {
             (Engine::Script, 0) | (Engine::MovieScript, 2) => bytes.script.as_slice(),
-            (Engine::Talk, 0) | (Engine::MovieTalk, 2) => bytes.talk.as_slice(),
+            (Engine::Talk, 0) | (Engine::CartTalk, 1) | (Engine::MovieTalk, 2) => {
+                bytes.talk.as_slice()
+            }
             (_, 0) => bytes.cart.as_slice(),
             (Engine::Trace | Engine::Script | Engine::Talk, _) => bytes.none.as_slice(),
             (Engine::Edit, 1) => bytes.changes.as_slice(),
@@ -65,7 +71,8 @@ impl Engine {
     pub fn count(self) -> usize {
         match self {
             Engine::Trace | Engine::Script | Engine::Talk => 1,
-            Engine::Check | Engine::Migrate | Engine::Shot | Engine::Export(_) => 2,
+            Engine::Check | Engine::Migrate | Engine::Shot | Engine::Export(_) | Engine::CartTalk =>
+                2,
             Engine::Edit
             | Engine::Diff
             | Engine::DiffReplaced
@@ -118,6 +125,7 @@ pub fn run<T: Wait + Threads + Sync, A: Allocator + Copy + Send + Sync, R: Read,
         Engine::MovieScript => movie_script_run(rt, alloc, first, second, third, output),
         Engine::Export(workers) => export_run(rt, alloc, 1, 3, workers, first, second, output),
         Engine::Talk => talk_run(rt, alloc, first, output),
+        Engine::CartTalk => cart_talk_run(rt, alloc, first, second, output),
         Engine::MovieTalk => movie_talk_run(rt, alloc, first, second, third, output),
     }
 }

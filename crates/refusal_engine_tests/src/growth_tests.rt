@@ -31,20 +31,49 @@ enum Run {
 /// Whether nothing was written, or, by an engine that answers lines, its answers to the first of them.
 fn is_start(engine: Engine, output: &[u8], whole: &[u8]) -> bool {
     let answers_lines = match engine {
-        Engine::Script | Engine::MovieScript | Engine::Talk | Engine::MovieTalk => true,
+        Engine::Script
+        | Engine::MovieScript
+        | Engine::Talk
+        | Engine::CartTalk
+        | Engine::MovieTalk => true,
         _ => false,
     };
     output.is_empty() || answers_lines && whole.starts_with(output)
 }
 
-/// Whether a reply among these says that memory was refused.
-fn tells_refusal(text: &[u8]) -> bool {
+/// The replies before the first one that says that memory was refused.
+fn before_refusal(text: &[u8]) -> Option<&[u8]> {
     for at in 0..text.len() {
         if text[at..].starts_with(b"out of memory\n") {
-            return true;
+            return Some(&text[..at]);
         }
     }
-    false
+    None
+}
+
+fn count_lines(text: &[u8]) -> usize {
+    let mut lines = 0usize;
+    for byte in text {
+        if *byte == b'\n' {
+            lines = lines.saturating_add(1);
+        }
+    }
+    lines
+}
+
+/// Whether a reply says that memory was refused, where those before it are as ever and, in a script, as many as ever are
+/// told.
+fn tells_refusal(engine: Engine, text: &[u8], whole: &[u8]) -> bool {
+    let is_script = match engine {
+        Engine::Script | Engine::MovieScript => true,
+        _ => false,
+    };
+    match before_refusal(text) {
+        Some(before) => {
+            whole.starts_with(before) && (!is_script || count_lines(text) == count_lines(whole))
+        }
+        None => false,
+    }
 }
 
 /// What a run shows, of which a growth was refused or none was.
@@ -57,7 +86,7 @@ fn run_of(
 ) -> Run {
     match end {
         Ok(()) if !has_refused && text == whole => Run::Done,
-        Ok(()) if has_refused && tells_refusal(text) => Run::Replied,
+        Ok(()) if has_refused && tells_refusal(engine, text, whole) => Run::Replied,
         Err(ToolFault::Memory) if has_refused && is_start(engine, text, whole) => Run::Refused,
         _ => Run::Wrong,
     }
@@ -114,7 +143,7 @@ fn check_engine<T: Wait + Threads + Sync + Abort>(
 }
 
 /// Each engine, how many of its growths end it, and how many an answer tells.
-static GROWTHS: [(Engine, u64, u64); 14] = [
+static GROWTHS: [(Engine, u64, u64); 15] = [
     (Engine::Trace, 2, 0),
     (Engine::Check, 7, 0),
     (Engine::Migrate, 6, 0),
@@ -125,6 +154,7 @@ static GROWTHS: [(Engine, u64, u64); 14] = [
     (Engine::Script, 40, 16),
     (Engine::MovieScript, 52, 14),
     (Engine::Talk, 35, 28),
+    (Engine::CartTalk, 44, 26),
     (Engine::MovieTalk, 47, 26),
     (Engine::Export(1), 32, 0),
     (Engine::Export(2), 34, 0),

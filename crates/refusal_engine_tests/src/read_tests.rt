@@ -1,7 +1,7 @@
 //! Reads that fail, give one byte, or end early.
 
 use crate::checks::{check_same, check_that};
-use crate::engines::{ENGINES, Engine, run, whole_of};
+use crate::engines::{CONVERSATIONS, ENGINES, Engine, run, whole_of};
 use crate::inputs::{Bytes, make_inputs};
 use std::alloc::Global;
 use std::process::Abort;
@@ -59,15 +59,31 @@ fn failing(input: usize, read: usize) -> [usize; 3] {
     }
 }
 
+/// What an engine has written at a failed read: nothing, or, by a conversation whose lines all came with an earlier read, the
+/// answers to them.
+fn written_before(engine: Engine, input: usize, read: usize, whole: &[u8]) -> &[u8] {
+    let lines = match engine {
+        Engine::Talk => Some(0),
+        Engine::CartTalk => Some(1),
+        Engine::MovieTalk => Some(2),
+        _ => None,
+    };
+    if lines == Some(input) && read > 1 {
+        whole
+    } else {
+        &[]
+    }
+}
+
 /// A failed read is the last one of all inputs; nothing is written after it.
-fn is_stopped(done: &Done, input: usize, read: usize) -> bool {
+fn is_stopped(done: &Done, input: usize, read: usize, written: &[u8]) -> bool {
     let reads = done.reads;
     let is_last = match input {
         0 => reads == [read, 0, 0],
         1 => reads[1] == read && reads[2] == 0,
         _ => reads[2] == read,
     };
-    done.end == Err(ToolFault::Read) && is_last && done.written.is_empty()
+    done.end == Err(ToolFault::Read) && is_last && done.written.as_slice() == written
 }
 
 /// How often each input is read where no read fails: so many for its bytes, and one that gives none.
@@ -104,7 +120,8 @@ fn failed_reads<T: Wait + Threads + Sync + Abort>(
             check_whole(rt, engine, bytes, &done, whole);
             break;
         }
-        let is_stopped = is_stopped(&done, input, read);
+        let written = written_before(engine, input, read, whole);
+        let is_stopped = is_stopped(&done, input, read, written);
         check_that(rt, ("read", engine, input, read), is_stopped);
         failed = read;
     }
@@ -134,6 +151,9 @@ fn each_read_failing(rt: HostRuntime) {
     for engine in ENGINES {
         check_reads(&rt, alloc, engine, &bytes);
     }
+    for engine in CONVERSATIONS {
+        check_reads(&rt, alloc, engine, &bytes);
+    }
 }
 
 /// An engine writes the same where each read gives one byte.
@@ -154,6 +174,9 @@ fn one_byte_at_each_read(rt: HostRuntime) {
     let alloc = rt.alloc();
     let bytes = make_inputs(&rt, alloc);
     for engine in ENGINES {
+        check_bytewise(&rt, alloc, engine, &bytes);
+    }
+    for engine in CONVERSATIONS {
         check_bytewise(&rt, alloc, engine, &bytes);
     }
 }

@@ -1,7 +1,7 @@
 //! Writes that fail, take a few bytes, or take none.
 
 use crate::checks::{check_same, check_that};
-use crate::engines::{Engine, run_whole, whole_of};
+use crate::engines::{CONVERSATIONS, Engine, run_whole, whole_of};
 use crate::inputs::{Bytes, make_inputs};
 use std::alloc::Global;
 use std::process::Abort;
@@ -91,5 +91,16 @@ fn each_write_of_an_export(rt: HostRuntime) {
     let bytes = make_inputs(&rt, rt.alloc());
     for failure in [Failure::Error, Failure::Nothing] {
         fail_each(&rt, rt.alloc(), &bytes, Engine::Export(2), (1000, failure));
+    }
+}
+
+/// One of a conversation's answers, a picture, takes three writes.
+#[test]
+fn each_write_of_a_conversation(rt: HostRuntime) {
+    let bytes = make_inputs(&rt, rt.alloc());
+    for engine in CONVERSATIONS {
+        for failure in [Failure::Error, Failure::Nothing] {
+            fail_each(&rt, rt.alloc(), &bytes, engine, (50_000, failure));
+        }
     }
 }
