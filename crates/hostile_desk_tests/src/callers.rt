@@ -2,8 +2,8 @@
 
 use crate::changes::{Change, edit_of};
 use crate::pictures::{Sum, sum_of};
-use crate::score::{Pause, Runs, Score};
-use crate::steps::{Deed, EXPORTER, Step, step_of};
+use crate::step_order::{Pause, Runs, StepOrder};
+use crate::steps::{Action, EXPORTER, Step, step_of};
 use std::alloc::{AllocError, Global};
 use std::sync::Wait;
 use std::thread::Threads;
@@ -22,7 +22,7 @@ pub struct Reply {
 
 /// A seat with its replies. After want of memory it does nothing more.
 #[derive(Drop)]
-pub struct Player<N: Name> {
+pub struct Caller<N: Name> {
     pub seat: Seat<N>,
     pub replies: Vec<Reply>,
     pub has_memory: bool,
@@ -31,7 +31,7 @@ pub struct Player<N: Name> {
 /// A schedule that is played.
 #[derive(Clone, Copy)]
 pub struct Played<'a> {
-    pub score: &'a Score,
+    pub order: &'a StepOrder,
     pub steps: &'a [Step],
 }
 
@@ -74,26 +74,29 @@ fn shot<N: Name, W: CloseOnDrop>(
     }
 }
 
-/// The reply to a deed that is done in one step.
+/// The reply to a action that is done in one step.
 fn told<N: Name, W: CloseOnDrop, R: Wait>(
     rt: &R,
     alloc: Global,
     desk: &Desk<N, W>,
     seat: &mut Seat<N>,
-    deed: Deed,
+    action: Action,
 ) -> Result<String, AllocError> {
-    match deed {
-        Deed::Edit(change) => edit(rt, alloc, desk, seat, change),
-        Deed::Shot(k) => shot(alloc, desk, seat, k),
-        Deed::Len => match desk.len(seat) {
+    match action {
+        Action::Edit(change) => edit(rt, alloc, desk, seat, change),
+        Action::Shot(k) => shot(alloc, desk, seat, k),
+        Action::Len => match desk.len(seat) {
             Ok((at, len)) => format!(in alloc; "len {at} {len}"),
             Err(_) => String::from_str(alloc, "no entry"),
         },
-        Deed::Share => {
+        Action::Share => {
             let gained = desk.share(rt, seat)?;
             format!(in alloc; "share {gained}")
         }
-        Deed::Start(_) | Deed::Offer | Deed::Pass(_) => String::from_str(alloc, "no such deed"),
+        Action::Start(_) | Action::Offer | Action::Pass(_) => String::from_str(
+            alloc,
+            "no such action",
+        ),
     }
 }
 
@@ -161,10 +164,10 @@ fn export<N: Name, W: CloseOnDrop, R: Threads + Wait + Sync>(
     }
 }
 
-impl<N: Name> Player<N> {
-    /// A player that was told nothing yet.
-    pub fn new(alloc: Global, seat: Seat<N>) -> Player<N> {
-        Player {
+impl<N: Name> Caller<N> {
+    /// A caller that was told nothing yet.
+    pub fn new(alloc: Global, seat: Seat<N>) -> Caller<N> {
+        Caller {
             seat,
             replies: Vec::new(alloc),
             has_memory: true,
@@ -192,20 +195,20 @@ impl<N: Name> Player<N> {
         near: usize,
     ) {
         let seat = self.seat.number();
-        let offer = step_of(played.steps, seat, Deed::Offer).unwrap_or(0);
+        let offer = step_of(played.steps, seat, Action::Offer).unwrap_or(0);
         let gate = Pause {
-            score: played.score,
+            order: played.order,
             start,
             offer,
         };
-        played.score.wait_for(start);
+        played.order.wait_for(start);
         let text = if seat == 1 {
             job(rt, alloc, desk, &mut self.seat, &gate, near)
         } else {
             work(rt, alloc, desk, &mut self.seat, &gate, near)
         };
         self.note(offer, text);
-        played.score.done(offer);
+        played.order.done(offer);
     }
 
     /// Takes a step.
@@ -216,16 +219,16 @@ impl<N: Name> Player<N> {
         desk: &Desk<N, W>,
         played: Played<'_>,
         number: usize,
-        deed: Deed,
+        action: Action,
     ) {
-        match deed {
-            Deed::Start(near) => self.start(rt, alloc, desk, played, number, near),
-            Deed::Offer | Deed::Pass(_) => {}
+        match action {
+            Action::Start(near) => self.start(rt, alloc, desk, played, number, near),
+            Action::Offer | Action::Pass(_) => {}
             _ => {
-                played.score.wait_for(number);
-                let text = told(rt, alloc, desk, &mut self.seat, deed);
+                played.order.wait_for(number);
+                let text = told(rt, alloc, desk, &mut self.seat, action);
                 self.note(number, text);
-                played.score.done(number);
+                played.order.done(number);
             }
         }
     }
@@ -238,10 +241,10 @@ impl<N: Name> Player<N> {
         desk: &Desk<N, W>,
         played: Played<'_>,
     ) {
-        let pass = |run: usize| step_of(played.steps, EXPORTER, Deed::Pass(run));
+        let pass = |run: usize| step_of(played.steps, EXPORTER, Action::Pass(run));
         if let (Some(first), Some(second), Some(third)) = (pass(0), pass(1), pass(2)) {
             let gate = Runs {
-                score: played.score,
+                order: played.order,
                 passes: [first, second, third],
             };
             let text = export(rt, alloc, desk, &mut self.seat, &gate);

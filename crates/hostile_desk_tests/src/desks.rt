@@ -3,9 +3,9 @@
 ghost use Rattle.std.specs.Prelude.{◌≡◌};
 ghost use Rattle.tas_desk.specs.Seats.{name_of};
 
+use crate::callers::Reply;
 use crate::checks::{check_that, expect_ok, expect_some};
 use crate::handover_tests::{give_batch, take_batch};
-use crate::players::Reply;
 use crate::schedule_tests::play_steps;
 use crate::steps::Step;
 use std::alloc::Global;

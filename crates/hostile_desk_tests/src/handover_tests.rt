@@ -51,8 +51,8 @@ pub fn give_batch<N: Name, W: CloseOnDrop, R: Wait + Abort>(
         front: 100,
         kept: 1,
     };
-    check_same(rt, "desk", desk.offer(rt, seat, batch).ok(), Some(offered));
-    check_same(rt, "desk, 2", desk.share(rt, seat).ok(), Some(1));
+    check_same(rt, "offer", desk.offer(rt, seat, batch).ok(), Some(offered));
+    check_same(rt, "share", desk.share(rt, seat).ok(), Some(1));
 }
 
 #[test]
@@ -65,7 +65,7 @@ fn a_batch_goes_from_one_desk_to_another(rt: HostRuntime) {
     check_same(&rt, "closed.movie", closed.movie.len(), 100);
 }
 
-/// The last frame of the longest movie, which halts in its fourth frame, is asked for at a new session: the states of each
+/// The last frame of a movie of 65,536 frames, which halts in its fourth one, is asked for at a new session: the states of each
 /// 128th frame are kept, all of them halted.
 fn shoot_last<R: Wait + Abort>(rt: &R, alloc: Global, session: &mut Session) {
     for (made, change) in [Change::Load(HALTING), Change::Fill(65_536)]
@@ -92,7 +92,7 @@ fn shoot_last<R: Wait + Abort>(rt: &R, alloc: Global, session: &mut Session) {
         Some(halted),
     );
     check_same(rt, "meter", meter.count(), 65_536);
-    check_same(rt, "session, 2", session.green().count(), 512);
+    check_same(rt, "kept states", session.green().count(), 512);
 }
 
 #[test]

@@ -2,6 +2,8 @@
 #![tactic(auto)]
 
 #[cfg(test)]
+mod callers;
+#[cfg(test)]
 mod changes;
 #[cfg(test)]
 mod checks;
@@ -14,10 +16,8 @@ mod model;
 #[cfg(test)]
 mod pictures;
 #[cfg(test)]
-mod players;
-#[cfg(test)]
 mod schedule_tests;
 #[cfg(test)]
-mod score;
+mod step_order;
 #[cfg(test)]
 mod steps;

@@ -1,10 +1,10 @@
 //! What a schedule's replies should be: a desk as lists and places, whose frames are all played from power-on.
 
+use crate::callers::RANGE;
 use crate::changes::{Change, right};
 use crate::checks::expect_ok;
-use crate::pictures::images;
-use crate::players::RANGE;
-use crate::steps::{Deed, Step};
+use crate::pictures::pixmaps;
+use crate::steps::{Action, Step};
 use std::alloc::Global;
 use std::process::Abort;
 use vcs_cpu::Halt;
@@ -12,7 +12,7 @@ use vcs_machine::Input;
 
 /// A program and inputs.
 #[derive(Drop)]
-pub struct Film {
+pub struct PlainMovie {
     pub program: &'static [u8],
     pub inputs: Vec<Input>,
 }
@@ -75,10 +75,10 @@ fn common(some: &[Input], others: &[Input]) -> usize {
     differing.unwrap_or(some.len().min(others.len()))
 }
 
-/// A film with the states of it that are kept: a seat's zone, or a job with the state that it starts from.
+/// A movie with the states of it that are kept: a seat's zone, or a job with the state that it starts from.
 #[derive(Drop)]
 struct Zone {
-    film: Film,
+    movie: PlainMovie,
     kept: Kept,
     start: usize,
 }
@@ -86,7 +86,7 @@ struct Zone {
 /// A desk.
 #[derive(Drop)]
 pub struct Model {
-    pub film: Film,
+    pub movie: PlainMovie,
     edits: u64,
     kept: Kept,
     zones: Vec<Zone>,
@@ -98,19 +98,19 @@ impl Model {
         let blank: &'static [u8] = b"";
         let mut zones = Vec::new(alloc);
         for _ in 0..8u32 {
-            let film = Film {
+            let movie = PlainMovie {
                 program: blank,
                 inputs: Vec::new(alloc),
             };
             let zone = Zone {
-                film,
+                movie,
                 kept: [false; 3],
                 start: 0,
             };
             expect_ok(rt, zones.push(zone));
         }
         Model {
-            film: Film {
+            movie: PlainMovie {
                 program: blank,
                 inputs: Vec::new(alloc),
             },
@@ -131,24 +131,24 @@ impl Model {
     ) {
         let mut inputs = Vec::new(alloc);
         let (input, count) = copies;
-        for (_, before) in (0..at).zip(self.film.inputs.iter()) {
+        for (_, before) in (0..at).zip(self.movie.inputs.iter()) {
             expect_ok(rt, inputs.push(*before));
         }
         for _ in 0..count {
             expect_ok(rt, inputs.push(input));
         }
-        for behind in self.film.inputs.iter().skip(at.saturating_add(taken)) {
+        for behind in self.movie.inputs.iter().skip(at.saturating_add(taken)) {
             expect_ok(rt, inputs.push(*behind));
         }
         self.kept = up_to(up_to(self.kept, at), inputs.len());
-        self.film.inputs = inputs;
+        self.movie.inputs = inputs;
     }
 
     /// The reply to an edit.
     pub fn edit<R: Abort>(&mut self, rt: &R, alloc: Global, change: Change) -> String {
         match change {
             Change::Load(program) => {
-                self.film.program = program;
+                self.movie.program = program;
                 self.kept = [false; 3];
             }
             Change::Fill(count) => self.change(rt, alloc, 0, 0, (Input::none(), count)),
@@ -157,41 +157,41 @@ impl Model {
             Change::Delete(at, count) => self.change(rt, alloc, at, count, (right(), 0)),
         }
         self.edits = self.edits.saturating_add(1);
-        let (at, len) = (self.edits, self.film.inputs.len());
+        let (at, len) = (self.edits, self.movie.inputs.len());
         expect_ok(rt, format!(in alloc; "edit {at} len {len}"))
     }
 
-    /// The film's first inputs, up to so many.
-    fn front<R: Abort>(&self, rt: &R, alloc: Global, most: usize) -> Film {
+    /// The movie's first inputs, up to so many.
+    fn front<R: Abort>(&self, rt: &R, alloc: Global, most: usize) -> PlainMovie {
         let mut inputs = Vec::new(alloc);
-        for (_, input) in (0..most).zip(self.film.inputs.iter()) {
+        for (_, input) in (0..most).zip(self.movie.inputs.iter()) {
             expect_ok(rt, inputs.push(*input));
         }
-        Film {
-            program: self.film.program,
+        PlainMovie {
+            program: self.movie.program,
             inputs,
         }
     }
 
     /// The seat takes a job.
     fn start<R: Abort>(&mut self, rt: &R, alloc: Global, seat: usize, near: usize) {
-        let film = self.front(rt, alloc, near);
-        let start = nearest(self.kept, film.inputs.len());
+        let movie = self.front(rt, alloc, near);
+        let start = nearest(self.kept, movie.inputs.len());
         if let Some(zone) = self.zones.get_mut(seat) {
             *zone = Zone {
-                film,
+                movie,
                 kept: [false; 3],
                 start,
             };
         }
     }
 
-    /// The common beginning of a seat's film and the desk's, its last state, and whether the cartridges differ.
+    /// The common beginning of a seat's movie and the desk's, its last state, and whether the cartridges differ.
     fn met(&self, seat: usize) -> (usize, usize, bool) {
         match self.zones.get(seat) {
             Some(zone) => {
-                let front = common(&zone.film.inputs, &self.film.inputs);
-                (front, zone.start, zone.film.program != self.film.program)
+                let front = common(&zone.movie.inputs, &self.movie.inputs);
+                (front, zone.start, zone.movie.program != self.movie.program)
             }
             None => (0, 0, false),
         }
@@ -219,7 +219,7 @@ impl Model {
         expect_ok(rt, text)
     }
 
-    /// What a seat's zone keeps of the present film.
+    /// What a seat's zone keeps of the present movie.
     fn cut(&self, seat: usize) -> Kept {
         let (front, _, is_stale) = self.met(seat);
         match self.zones.get(seat) {
@@ -228,12 +228,12 @@ impl Model {
         }
     }
 
-    /// The seat's zone is of the present film now, and keeps these states.
+    /// The seat's zone is of the present movie now, and keeps these states.
     fn keep<R: Abort>(&mut self, rt: &R, alloc: Global, seat: usize, kept: Kept) {
-        let film = self.front(rt, alloc, self.film.inputs.len());
+        let movie = self.front(rt, alloc, self.movie.inputs.len());
         if let Some(zone) = self.zones.get_mut(seat) {
             *zone = Zone {
-                film,
+                movie,
                 kept,
                 start: 0,
             };
@@ -247,9 +247,9 @@ impl Model {
         let from = nearest(kept, k);
         self.keep(rt, alloc, seat, with_run(kept, from, next).0);
         let at = self.edits;
-        let text = match images(rt, alloc, self.film.program, &self.film.inputs, (k, next)) {
-            Ok(image) => {
-                let (ran, sum) = (next.saturating_sub(from), image.sum);
+        let text = match pixmaps(rt, alloc, self.movie.program, &self.movie.inputs, (k, next)) {
+            Ok(pixmap) => {
+                let (ran, sum) = (next.saturating_sub(from), pixmap.sum);
                 format!(in alloc; "shot {at} {k} ran {ran} sum {sum}")
             }
             Err(Halt::Undocumented { at: address, .. }) => {
@@ -269,9 +269,9 @@ impl Model {
     /// The reply to an export by a seat whose zone is empty: each of the three runs has two frames and plays all before them.
     fn export<R: Abort>(&self, rt: &R, alloc: Global) -> String {
         let (at, played) = (self.edits, 3 * RANGE.0 + 12);
-        let text = match images(rt, alloc, self.film.program, &self.film.inputs, RANGE) {
-            Ok(image) => {
-                let (bytes, sum) = (image.bytes, image.sum);
+        let text = match pixmaps(rt, alloc, self.movie.program, &self.movie.inputs, RANGE) {
+            Ok(pixmap) => {
+                let (bytes, sum) = (pixmap.bytes, pixmap.sum);
                 format!(in alloc; "export {at} played {played} bytes {bytes} sum {sum}")
             }
             Err(_) => String::from_str(alloc, "not exported"),
@@ -282,21 +282,21 @@ impl Model {
     /// The reply in a step; nothing where a job is taken, or where a further run of an export passes its gate.
     fn reply<R: Abort>(&mut self, rt: &R, alloc: Global, number: usize, step: Step) -> String {
         let seat = step.seat as usize;
-        match step.deed {
-            Deed::Start(near) => {
+        match step.action {
+            Action::Start(near) => {
                 self.start(rt, alloc, seat, near);
                 String::new(alloc)
             }
-            Deed::Offer => self.offer(rt, alloc, seat),
-            Deed::Pass(_) if number == 0 => self.export(rt, alloc),
-            Deed::Pass(_) => String::new(alloc),
-            Deed::Edit(change) => self.edit(rt, alloc, change),
-            Deed::Len => {
-                let (at, len) = (self.edits, self.film.inputs.len());
+            Action::Offer => self.offer(rt, alloc, seat),
+            Action::Pass(_) if number == 0 => self.export(rt, alloc),
+            Action::Pass(_) => String::new(alloc),
+            Action::Edit(change) => self.edit(rt, alloc, change),
+            Action::Len => {
+                let (at, len) = (self.edits, self.movie.inputs.len());
                 expect_ok(rt, format!(in alloc; "len {at} {len}"))
             }
-            Deed::Shot(k) => self.shot(rt, alloc, seat, k),
-            Deed::Share => self.share(rt, alloc, seat),
+            Action::Shot(k) => self.shot(rt, alloc, seat, k),
+            Action::Share => self.share(rt, alloc, seat),
         }
     }
 

@@ -41,7 +41,7 @@ impl Write for Sum {
     }
 }
 
-/// The sum over a picture's image.
+/// The sum over a picture's pixmap.
 pub fn sum_of(picture: &Picture) -> u64 {
     let mut out = Sum::new();
     let _ = ppm(picture, &mut out);
@@ -49,8 +49,8 @@ pub fn sum_of(picture: &Picture) -> u64 {
 }
 
 /// The frames of a range of a program's movie, all played from power-on, those before the range without a picture: the sum over
-/// the images of those in the range, one after the other, or the first halt in the range or before it.
-pub fn images<R: Abort>(
+/// the pixmaps of those in the range, one after the other, or the first halt in the range or before it.
+pub fn pixmaps<R: Abort>(
     rt: &R,
     alloc: Global,
     program: &[u8],
@@ -59,11 +59,11 @@ pub fn images<R: Abort>(
 ) -> Result<Sum, Halt> {
     let cart = expect_ok(rt, cart(alloc, program));
     let mut picture = expect_ok(rt, Picture::blank(alloc));
-    images_on(&cart, &mut picture, inputs, range)
+    pixmaps_on(&cart, &mut picture, inputs, range)
 }
 
 /// The same for a cartridge, with a picture to draw on.
-fn images_on(
+fn pixmaps_on(
     cart: &Cart,
     picture: &mut Picture,
     inputs: &[Input],

@@ -1,13 +1,13 @@
 //! Schedules of eight seats whose jobs and exports wait in gates, with edits and loads in between. What each step tells is
 //! compared with a plain model, and the history that the desk leaves is played again.
 
+use crate::callers::{Caller, Played, Reply, edit};
 use crate::changes::{Change, FOLDING, cart};
 use crate::checks::{check_same, check_that, expect_ok, expect_some};
 use crate::desks::{Left, Task, Told, play};
-use crate::model::{Film, Model};
-use crate::players::{Played, Player, Reply, edit};
-use crate::score::Score;
-use crate::steps::{Deed, EXPORTER, ORDERS, Step, export_steps, job_steps};
+use crate::model::{Model, PlainMovie};
+use crate::step_order::StepOrder;
+use crate::steps::{Action, EXPORTER, ORDERS, Step, export_steps, job_steps};
 use std::alloc::Global;
 use std::process::Abort;
 use std::sync::Wait;
@@ -22,7 +22,7 @@ const BEFORE: [Change; 2] = [Change::Load(FOLDING), Change::Fill(200)];
 /// Seats that share a thread.
 #[derive(Drop)]
 struct Group<N: Name> {
-    players: Vec<Player<N>>,
+    callers: Vec<Caller<N>>,
 }
 
 /// Each seat that takes jobs or exports is alone, and all others are together.
@@ -31,22 +31,22 @@ fn groups_of<N: Name, R: Abort>(rt: &R, alloc: Global, seats: Vec<Seat<N>>) -> V
     let mut others = Vec::new(alloc);
     for seat in seats {
         let number = seat.number();
-        let player = Player::new(alloc, seat);
+        let caller = Caller::new(alloc, seat);
         if number <= EXPORTER {
-            expect_ok(rt, groups.push(alone(rt, alloc, player)));
+            expect_ok(rt, groups.push(alone(rt, alloc, caller)));
         } else {
-            expect_ok(rt, others.push(player));
+            expect_ok(rt, others.push(caller));
         }
     }
-    expect_ok(rt, groups.push(Group { players: others }));
+    expect_ok(rt, groups.push(Group { callers: others }));
     groups
 }
 
 /// A seat that is alone on its thread.
-fn alone<N: Name, R: Abort>(rt: &R, alloc: Global, player: Player<N>) -> Group<N> {
-    let mut players = Vec::new(alloc);
-    expect_ok(rt, players.push(player));
-    Group { players }
+fn alone<N: Name, R: Abort>(rt: &R, alloc: Global, caller: Caller<N>) -> Group<N> {
+    let mut callers = Vec::new(alloc);
+    expect_ok(rt, callers.push(caller));
+    Group { callers }
 }
 
 /// The steps of one thread, in order.
@@ -58,15 +58,15 @@ fn play_group<N: Name, W: CloseOnDrop, R: Threads + Wait + Sync>(
     played: Played<'_>,
 ) {
     for (number, step) in played.steps.iter().enumerate() {
-        for player in group.players.iter_mut() {
-            if player.seat.number() == step.seat {
-                player.take(rt, alloc, desk, played, number, step.deed);
+        for caller in group.callers.iter_mut() {
+            if caller.seat.number() == step.seat {
+                caller.take(rt, alloc, desk, played, number, step.action);
             }
         }
     }
-    for player in group.players.iter_mut() {
-        if player.seat.number() == EXPORTER {
-            player.export(rt, alloc, desk, played);
+    for caller in group.callers.iter_mut() {
+        if caller.seat.number() == EXPORTER {
+            caller.export(rt, alloc, desk, played);
         }
     }
 }
@@ -76,12 +76,12 @@ fn leave<N: Name, R: Abort>(rt: &R, alloc: Global, groups: Vec<Group<N>>) -> Lef
     let mut seats = Vec::new(alloc);
     let mut all = Vec::new(alloc);
     for group in groups {
-        for player in group.players {
-            let Player {
+        for caller in group.callers {
+            let Caller {
                 seat,
                 replies,
                 has_memory,
-            } = player;
+            } = caller;
             check_that(rt, "want of memory", has_memory);
             expect_ok(rt, seats.push(seat));
             append(rt, &mut all, replies);
@@ -124,9 +124,9 @@ pub fn play_steps<N: Name + Send + Sync, R: Threads + Wait + Abort + Sync>(
     let mut seats = seats;
     make_movie(rt, alloc, desk, expect_some(rt, seats.first_mut()));
     let mut groups = groups_of(rt, alloc, seats);
-    let score = Score::new();
+    let order = StepOrder::new();
     let played = Played {
-        score: &score,
+        order: &order,
         steps,
     };
     thread::for_each_mut(
@@ -140,7 +140,7 @@ pub fn play_steps<N: Name + Send + Sync, R: Threads + Wait + Abort + Sync>(
     check_that(
         rt,
         "a step that doesn't come",
-        score.was_played(steps.len()),
+        order.was_played(steps.len()),
     );
     leave(rt, alloc, groups)
 }
@@ -165,7 +165,7 @@ fn are_in_order(journal: &[Entry], steps: &[Step]) -> bool {
     let mut made = [0u64; 8];
     let mut place = BEFORE.len();
     for step in steps {
-        if let (Deed::Edit(_), Some(serial)) = (step.deed, made.get_mut(step.seat as usize)) {
+        if let (Action::Edit(_), Some(serial)) = (step.action, made.get_mut(step.seat as usize)) {
             match journal.get(place) {
                 Some(entry) if entry.seat == step.seat && entry.serial == *serial => {}
                 _ => return false,
@@ -196,15 +196,15 @@ fn check_closed<R: Abort>(
     name: (usize, usize),
     closed: &Closed,
     steps: &[Step],
-    film: &Film,
+    wanted: &PlainMovie,
 ) {
     let journal = closed.journal.as_slice();
     let movie = replayed(rt, alloc, journal);
     check_that(rt, ("schedule", name), is_same(&movie, &closed.movie));
     check_that(rt, ("schedule", name), are_in_order(journal, steps));
-    let right = expect_ok(rt, cart(alloc, film.program));
+    let right = expect_ok(rt, cart(alloc, wanted.program));
     check_that(rt, ("schedule", name), *closed.movie.cart() == right);
-    let has_inputs = closed.movie.inputs() == film.inputs.as_slice();
+    let has_inputs = closed.movie.inputs() == wanted.inputs.as_slice();
     check_that(rt, ("schedule", name), has_inputs);
 }
 
@@ -222,7 +222,7 @@ fn judge<R: Threads + Wait + Abort + Sync>(
     let wanted = model.replies(rt, alloc, steps);
     let (closed, told) = play(rt, alloc, Task::Steps(steps));
     check_replies(rt, name, told.replies.as_slice(), wanted.as_slice());
-    check_closed(rt, alloc, name, &closed, steps, &model.film);
+    check_closed(rt, alloc, name, &closed, steps, &model.movie);
 }
 
 /// Jobs that are taken in these orders, each offered in every order.

@@ -8,15 +8,15 @@ pub const MOST_TURNS: u64 = 1_000_000_000;
 
 /// The steps are taken in the order of their numbers, each by whoever waits for it.
 #[derive(Drop)]
-pub struct Score {
+pub struct StepOrder {
     next: AtomicU64,
     has_given_up: AtomicU64,
 }
 
-impl Score {
+impl StepOrder {
     /// No step is taken yet.
-    pub fn new() -> Score {
-        Score {
+    pub fn new() -> StepOrder {
+        StepOrder {
             next: AtomicU64::new(0),
             has_given_up: AtomicU64::new(0),
         }
@@ -52,30 +52,30 @@ impl Score {
 /// The gate of a work with one target: the job is taken in one step, and its batch offered in a later one.
 #[derive(Drop)]
 pub struct Pause<'a> {
-    pub score: &'a Score,
+    pub order: &'a StepOrder,
     pub start: usize,
     pub offer: usize,
 }
 
 impl Gate for Pause<'_> {
     fn pass(&self, _piece: usize) {
-        self.score.done(self.start);
-        self.score.wait_for(self.offer);
+        self.order.done(self.start);
+        self.order.wait_for(self.offer);
     }
 }
 
 /// The gate of an export by three workers, each of which passes in a step of its own.
 #[derive(Drop)]
 pub struct Runs<'a> {
-    pub score: &'a Score,
+    pub order: &'a StepOrder,
     pub passes: [usize; 3],
 }
 
 impl Gate for Runs<'_> {
     fn pass(&self, piece: usize) {
         if let Some(step) = self.passes.get(piece) {
-            self.score.wait_for(*step);
-            self.score.done(*step);
+            self.order.wait_for(*step);
+            self.order.done(*step);
         }
     }
 }

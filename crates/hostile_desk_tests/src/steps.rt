@@ -7,7 +7,7 @@ use std::process::Abort;
 
 /// What a seat does in a step.
 #[derive(Clone, Copy, Debug, PartialEq, Eq)]
-pub enum Deed {
+pub enum Action {
     /// It takes a job for so many frames, which then waits in its gate.
     Start(usize),
     /// The job is run, and its batch offered.
@@ -28,7 +28,7 @@ pub enum Deed {
 #[derive(Clone, Copy, Debug, PartialEq, Eq)]
 pub struct Step {
     pub seat: u32,
-    pub deed: Deed,
+    pub action: Action,
 }
 
 /// The seat that exports. Those before it take jobs.
@@ -61,27 +61,27 @@ const CHANGES: [Change; 6] = [
 const LOOKS: [Step; 6] = [
     Step {
         seat: 6,
-        deed: Deed::Shot(190),
+        action: Action::Shot(190),
     },
     Step {
         seat: 7,
-        deed: Deed::Share,
+        action: Action::Share,
     },
     Step {
         seat: 6,
-        deed: Deed::Len,
+        action: Action::Len,
     },
     Step {
         seat: 7,
-        deed: Deed::Shot(99),
+        action: Action::Shot(99),
     },
     Step {
         seat: 5,
-        deed: Deed::Share,
+        action: Action::Share,
     },
     Step {
         seat: 6,
-        deed: Deed::Shot(130),
+        action: Action::Shot(130),
     },
 ];
 
@@ -91,7 +91,7 @@ fn push_between<R: Abort>(rt: &R, steps: &mut Vec<Step>, number: usize, shift: u
     let seat = if number % 2 == 0 { 4 } else { 5 };
     let edit = Step {
         seat,
-        deed: Deed::Edit(change),
+        action: Action::Edit(change),
     };
     expect_ok(rt, steps.push(edit));
     expect_ok(rt, steps.push(LOOKS[number % 6]));
@@ -107,19 +107,19 @@ pub fn job_steps<R: Abort>(
     shift: usize,
 ) -> Vec<Step> {
     let mut steps = Vec::new(alloc);
-    for (number, hand) in starts.iter().enumerate() {
-        let target = TARGETS[(*hand % 3) as usize];
+    for (number, seat) in starts.iter().enumerate() {
+        let target = TARGETS[(*seat % 3) as usize];
         let start = Step {
-            seat: *hand,
-            deed: Deed::Start(target),
+            seat: *seat,
+            action: Action::Start(target),
         };
         expect_ok(rt, steps.push(start));
         push_between(rt, &mut steps, number, shift);
     }
-    for (number, hand) in offers.iter().enumerate() {
+    for (number, seat) in offers.iter().enumerate() {
         let offer = Step {
-            seat: *hand,
-            deed: Deed::Offer,
+            seat: *seat,
+            action: Action::Offer,
         };
         expect_ok(rt, steps.push(offer));
         push_between(rt, &mut steps, number.wrapping_add(3), shift);
@@ -133,7 +133,7 @@ pub fn export_steps<R: Abort>(rt: &R, alloc: Global, order: [u32; 3], shift: usi
     for (number, run) in order.iter().enumerate() {
         let pass = Step {
             seat: EXPORTER,
-            deed: Deed::Pass(*run as usize),
+            action: Action::Pass(*run as usize),
         };
         expect_ok(rt, steps.push(pass));
         push_between(rt, &mut steps, number, shift);
@@ -142,6 +142,6 @@ pub fn export_steps<R: Abort>(rt: &R, alloc: Global, order: [u32; 3], shift: usi
 }
 
 /// The number of the first step in which this seat does this.
-pub fn step_of(steps: &[Step], seat: u32, deed: Deed) -> Option<usize> {
-    steps.iter().position(|step| *step == Step { seat, deed })
+pub fn step_of(steps: &[Step], seat: u32, action: Action) -> Option<usize> {
+    steps.iter().position(|step| *step == Step { seat, action })
 }

@@ -11,16 +11,16 @@ use tas_green::Batch;
 use tas_movie::Edit;
 use vcs_tia::Picture;
 
-/// How many edits the history has before the players begin.
+/// How many edits the history has before the callers begin.
 pub const FIRST_AT: u64 = 3;
 
-/// How many inputs the movie has then. Each edit of a player puts in one more at place 64.
+/// How many inputs the movie has then. Each edit of a caller puts in one more at place 64.
 pub const FIRST_LEN: usize = 72;
 
 /// The frame that is shot.
 pub const FRAME: usize = 71;
 
-/// A call of a player.
+/// A call of a caller.
 #[derive(Clone, Copy, Debug, PartialEq, Eq)]
 pub enum Turn {
     /// An edit.
@@ -35,7 +35,7 @@ pub enum Turn {
     Offer,
 }
 
-/// The turns of each player.
+/// The turns of each caller.
 pub const TURNS: [[Turn; 6]; 3] = [
     [
         Turn::Edit,
@@ -65,7 +65,7 @@ pub const TURNS: [[Turn; 6]; 3] = [
 
 /// A seat with the edits that it will make, each of them twice, and what became of its calls.
 #[derive(Drop)]
-pub struct Player<'a, N: Name> {
+pub struct Caller<'a, N: Name> {
     pub seat: Seat<N, &'a Heap>,
     pub edits: Vec<Edit<&'a Heap>>,
     /// The length of the longest history that it was told of.
@@ -76,7 +76,7 @@ pub struct Player<'a, N: Name> {
     pub wrong: Option<Turn>,
 }
 
-impl<'a, N: Name> Player<'a, N> {
+impl<'a, N: Name> Caller<'a, N> {
     /// Whether a reply may stand at a history of this length: no shorter one than was seen before. It is seen then.
     fn sees(&mut self, at: u64) -> bool {
         let is_extended = self.seen <= at;
@@ -285,7 +285,7 @@ impl<'a, N: Name> Player<'a, N> {
     }
 }
 
-/// How many edits of players a history of this length has.
+/// How many edits of callers a history of this length has.
 pub fn edits_in(at: u64) -> usize {
     at.saturating_sub(FIRST_AT) as usize
 }

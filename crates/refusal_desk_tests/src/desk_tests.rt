@@ -311,6 +311,9 @@ pub fn take_call<'a, N: Name, R: Wait + Abort>(
     }
 }
 
+/// A shot has the growths of its picture and of its zone's list of states; the first one copies a movie before, which has two, and
+/// so does a share. A job has those of its cartridge, its inputs and its list of states, an offer that of the desk's list, and
+/// work on two targets those of two jobs and of the list.
 #[test]
 fn what_a_desk_does(rt: HostRuntime) {
     let calls = [

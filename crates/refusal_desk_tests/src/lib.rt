@@ -2,6 +2,8 @@
 #![tactic(auto)]
 
 #[cfg(test)]
+mod callers;
+#[cfg(test)]
 mod checks;
 #[cfg(test)]
 mod desk_tests;
@@ -11,8 +13,6 @@ mod desks;
 mod edits;
 #[cfg(test)]
 mod export_tests;
-#[cfg(test)]
-mod players;
 #[cfg(test)]
 mod runs;
 #[cfg(test)]

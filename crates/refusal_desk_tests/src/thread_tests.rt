@@ -4,10 +4,10 @@
 ghost use Rattle.std.specs.Prelude.{◌≡◌, ◌≤◌};
 ghost use Rattle.tas_desk.specs.Seats.{name_of};
 
+use crate::callers::{Caller, FIRST_AT, FIRST_LEN, FRAME, TURNS, sum_of};
 use crate::checks::{check_same, check_that, expect_ok, expect_some};
 use crate::desks::{close, make_edits, open};
 use crate::edits::{Change, edit_of};
-use crate::players::{FIRST_AT, FIRST_LEN, FRAME, Player, TURNS, sum_of};
 use crate::runs::{Heap, MOST, NEVER, Run};
 use refusals::Refusing;
 use std::alloc::Global;
@@ -20,13 +20,13 @@ use tas_movie::{Edit, Movie, apply, check};
 use vcs_machine::{Meter, State, play};
 use vcs_tia::Picture;
 
-/// How many edits all players make.
+/// How many edits all callers make.
 const EDITS: usize = 6;
 
-/// What a player puts in.
+/// What a caller puts in.
 const INSERTED: Change = Change::InsertUp(64);
 
-/// What makes the movie before the players begin.
+/// What makes the movie before the callers begin.
 const FIRST: [Change; 3] = [
     Change::LoadFolding,
     Change::Insert(0, 64),
@@ -45,7 +45,7 @@ fn drawn_sum<R: Abort>(rt: &R, alloc: Global, movie: &Movie) -> u64 {
     sum_of(&picture)
 }
 
-/// The sums over the frame's picture after no edit of a player, after one, and so on.
+/// The sums over the frame's picture after no edit of a caller, after one, and so on.
 fn drawn_sums<R: Abort>(rt: &R, alloc: Global) -> Vec<u64> {
     let mut movie = expect_ok(rt, Movie::blank(alloc));
     let mut sums = Vec::new(alloc);
@@ -61,7 +61,7 @@ fn drawn_sums<R: Abort>(rt: &R, alloc: Global) -> Vec<u64> {
     sums
 }
 
-/// The edits of a player: two, each of them twice.
+/// The edits of a caller: two, each of them twice.
 fn edits<'a, R: Abort>(rt: &R, alloc: Global, heap: &'a Heap) -> Vec<Edit<&'a Heap>> {
     let mut edits = Vec::new(alloc);
     for _copy in 0..4 {
@@ -71,50 +71,50 @@ fn edits<'a, R: Abort>(rt: &R, alloc: Global, heap: &'a Heap) -> Vec<Edit<&'a He
     edits
 }
 
-/// A player at each seat, with its edits.
-fn players<'a, N: Name, R: Abort>(
+/// A caller at each seat, with its edits.
+fn callers<'a, N: Name, R: Abort>(
     rt: &R,
     alloc: Global,
     heap: &'a Heap,
     seats: Vec<Seat<N, &'a Heap>, &'a Heap>,
-) -> Vec<Player<'a, N>> {
-    let mut players = Vec::new(alloc);
+) -> Vec<Caller<'a, N>> {
+    let mut callers = Vec::new(alloc);
     for seat in seats {
-        let player = Player {
+        let caller = Caller {
             seat,
             edits: edits(rt, alloc, heap),
             seen: FIRST_AT,
             refused: 0,
             wrong: None,
         };
-        expect_ok(rt, players.push(player));
+        expect_ok(rt, callers.push(caller));
     }
-    players
+    callers
 }
 
-/// The players' seats.
+/// The callers' seats.
 fn seats_of<'a, N: Name, R: Abort>(
     rt: &R,
     heap: &'a Heap,
-    players: Vec<Player<'a, N>>,
+    callers: Vec<Caller<'a, N>>,
 ) -> Vec<Seat<N, &'a Heap>, &'a Heap> {
     let mut seats = Vec::new(heap);
-    for player in players {
-        let Player { seat, .. } = player;
+    for caller in callers {
+        let Caller { seat, .. } = caller;
         expect_ok(rt, seats.push(seat));
     }
     seats
 }
 
-/// The players take their turns, each on a thread of its own.
+/// The callers take their turns, each on a thread of its own.
 fn take_turns<'a, N: Name + Send + Sync, R: Threads + Wait + Sync>(
     rt: &R,
     heap: &'a Heap,
     desk: &Desk<N, &R, &'a Heap>,
-    players: &mut [Player<'a, N>],
+    callers: &mut [Caller<'a, N>],
     sums: &[u64],
 ) {
-    let Some((one, others)) = players.split_first_mut() else {
+    let Some((one, others)) = callers.split_first_mut() else {
         return;
     };
     join_mut(
@@ -130,9 +130,9 @@ fn take_last_turns<'a, N: Name + Send + Sync, R: Threads + Wait + Sync>(
     heap: &'a Heap,
     desk: &Desk<N, &R, &'a Heap>,
     sums: &[u64],
-    players: &mut [Player<'a, N>],
+    callers: &mut [Caller<'a, N>],
 ) {
-    let Some((two, others)) = players.split_first_mut() else {
+    let Some((two, others)) = callers.split_first_mut() else {
         return;
     };
     let Some(three) = others.first_mut() else {
@@ -150,19 +150,19 @@ fn take_last_turns<'a, N: Name + Send + Sync, R: Threads + Wait + Sync>(
 fn were_right<'a, N: Name, R: Wait>(
     heap: &'a Heap,
     desk: &Desk<N, &R, &'a Heap>,
-    players: &mut [Player<'a, N>],
+    callers: &mut [Caller<'a, N>],
     sums: &[u64],
 ) -> Run {
     let has_refused = heap.has_refused();
     heap.refuse(NEVER);
     let mut refused = 0u64;
-    for player in players {
-        refused = refused.saturating_add(player.refused);
-        let is_right = player.wrong.is_none() && player.edits.is_empty();
-        if !is_right || !player.looks(desk) || !player.shot(heap, desk, sums) {
+    for caller in callers {
+        refused = refused.saturating_add(caller.refused);
+        let is_right = caller.wrong.is_none() && caller.edits.is_empty();
+        if !is_right || !caller.looks(desk) || !caller.shot(heap, desk, sums) {
             return Run::Wrong;
         }
-        if player.seen != FIRST_AT + EDITS as u64 {
+        if caller.seen != FIRST_AT + EDITS as u64 {
             return Run::Wrong;
         }
     }
@@ -185,7 +185,7 @@ fn is_complete(closed: &Closed<&Heap>) -> bool {
     made == [5, 2, 2] && closed.movie.len() == FIRST_LEN + EDITS
 }
 
-/// Whether an edit is one of a player.
+/// Whether an edit is one of a caller.
 fn is_inserted(edit: &Edit<&Heap>) -> bool {
     match edit {
         Edit::Insert { at, inputs } => *at == 64 && inputs.as_slice().len() == 1,
@@ -193,23 +193,23 @@ fn is_inserted(edit: &Edit<&Heap>) -> bool {
     }
 }
 
-/// The players take their turns with one growth refused.
+/// The callers take their turns with one growth refused.
 fn play_turns<'a, N: Name + Send + Sync, R: Threads + Wait + Sync>(
     rt: &R,
     heap: &'a Heap,
     desk: &Desk<N, &R, &'a Heap>,
-    players: &mut [Player<'a, N>],
+    callers: &mut [Caller<'a, N>],
     sums: &[u64],
     number: u64,
 ) -> Run
     requires { 1 ≤ number }
 {
     heap.refuse(number);
-    take_turns(rt, heap, desk, players, sums);
-    were_right(heap, desk, players, sums)
+    take_turns(rt, heap, desk, callers, sums);
+    were_right(heap, desk, callers, sums)
 }
 
-/// A desk of three seats, whose players take their turns with one growth refused.
+/// A desk of three seats, whose callers take their turns with one growth refused.
 fn run_at<'a, N: Name + Send + Sync, R: Threads + Wait + Abort + Sync>(
     rt: &R,
     alloc: Global,
@@ -223,9 +223,9 @@ fn run_at<'a, N: Name + Send + Sync, R: Threads + Wait + Abort + Sync>(
 {
     let (desk, mut seats) = open::<N, R>(rt, heap, unopened);
     make_edits(rt, heap, &desk, expect_some(rt, seats.first_mut()), &FIRST);
-    let mut players = players(rt, alloc, heap, seats);
-    let run = play_turns(rt, heap, &desk, players.as_mut_slice(), sums, number);
-    let closed = close(rt, desk, seats_of(rt, heap, players));
+    let mut callers = callers(rt, alloc, heap, seats);
+    let run = play_turns(rt, heap, &desk, callers.as_mut_slice(), sums, number);
+    let closed = close(rt, desk, seats_of(rt, heap, callers));
     if is_complete(&closed) {
         run
     } else {
@@ -233,8 +233,8 @@ fn run_at<'a, N: Name + Send + Sync, R: Threads + Wait + Abort + Sync>(
     }
 }
 
-/// A run of three players with one growth refused.
-fn run_players<R: Threads + Wait + Abort + Sync>(
+/// A run of three callers with one growth refused.
+fn run_callers<R: Threads + Wait + Abort + Sync>(
     rt: &R,
     alloc: Global,
     sums: &[u64],
@@ -261,11 +261,11 @@ fn check_pictures<R: Abort>(rt: &R, sums: &[u64]) {
     }
 }
 
-/// Refuses each growth of the players' turns.
+/// Refuses each growth of the callers' turns.
 fn refuse_each<R: Threads + Wait + Abort + Sync>(rt: &R, alloc: Global, sums: &[u64]) {
     let mut refused = 0;
     for number in 1..MOST {
-        let run = run_players(rt, alloc, sums, number);
+        let run = run_callers(rt, alloc, sums, number);
         if run == Run::Done {
             break;
         }

@@ -26,7 +26,8 @@ enum Seeking {
     TakeJob,
 }
 
-/// Each such call, and how many growths it has.
+/// Each such call, and how many growths it has: a zone's list of states has one, a job those of its cartridge, its inputs and its
+/// list of states.
 static SEEKINGS: [(Seeking, u64); 7] = [
     (Seeking::Shot, 1),
     (Seeking::ShotFrom, 1),

@@ -28,7 +28,8 @@ enum Making {
     PrintText,
 }
 
-/// Each such call, and how many growths it has.
+/// Each such call, and how many growths it has: a picture, a cartridge and a list of inputs have one each, a movie those of its
+/// cartridge and its inputs. A text is read into a movie, and printed into one list.
 static MAKINGS: [(Making, u64); 11] = [
     (Making::BlankPicture, 1),
     (Making::CartFromBytes, 1),

@@ -54,7 +54,7 @@ impl Dice {
     }
 }
 
-/// What a player mostly does.
+/// What a caller mostly does.
 #[derive(Clone, Copy, PartialEq, Eq)]
 pub enum Habit {
     /// Everything.
@@ -65,7 +65,7 @@ pub enum Habit {
     Shots,
 }
 
-/// What ended a player's calls: an answer that no call should give.
+/// What ended a caller's calls: an answer that no call should give.
 #[derive(Clone, Copy, Debug, PartialEq, Eq)]
 pub enum Fault {
     NoEntry,
@@ -85,7 +85,7 @@ impl From<AllocError> for Fault {
 
 /// A seat with its notes.
 #[derive(Drop)]
-pub struct Player<N: Name> {
+pub struct Caller<N: Name> {
     pub seat: Seat<N>,
     pub habit: Habit,
     pub dice: Dice,
@@ -94,11 +94,11 @@ pub struct Player<N: Name> {
     pub fault: Option<Fault>,
 }
 
-impl<N: Name> Player<N> {
-    /// A player that was told nothing yet.
-    pub fn new(alloc: Global, seat: Seat<N>, habit: Habit) -> Player<N> {
+impl<N: Name> Caller<N> {
+    /// A caller that was told nothing yet.
+    pub fn new(alloc: Global, seat: Seat<N>, habit: Habit) -> Caller<N> {
         let number = seat.number();
-        Player {
+        Caller {
             seat,
             habit,
             dice: Dice::new(u64::from(number) + 1),
@@ -221,7 +221,7 @@ impl<N: Name> Player<N> {
         Ok(())
     }
 
-    /// Asks for the images of some frames, by two workers.
+    /// Asks for the pixmaps of some frames, by two workers.
     pub fn export<W: CloseOnDrop, R: Threads + Wait + Sync>(
         &mut self,
         rt: &R,
@@ -288,14 +288,18 @@ impl<N: Name> Player<N> {
     }
 }
 
-/// Two players meet.
+/// Two callers meet. Each writes down how many edits the front has that both have then.
 pub fn meet<N: Name, W: CloseOnDrop, R: Wait>(
     rt: &R,
     desk: &Desk<N, W>,
-    one: &mut Player<N>,
-    other: &mut Player<N>,
+    one: &mut Caller<N>,
+    other: &mut Caller<N>,
 ) {
     let at = desk.meet(rt, &mut one.seat, &mut other.seat);
-    one.fault = one.note(at, Told::Met).err();
-    other.fault = other.note(at, Told::Met).err();
+    if one.fault.is_none() {
+        one.fault = one.note(at, Told::Met).err();
+    }
+    if other.fault.is_none() {
+        other.fault = other.note(at, Told::Met).err();
+    }
 }

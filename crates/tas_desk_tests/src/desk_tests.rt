@@ -236,8 +236,7 @@ static HALTED: [Call; 9] = [
     Call::Share(1, 1),
 ];
 
-/// The state after 64 frames is halted, and is kept: a second shot of frame 80 starts there, as its share with a worker's
-/// zone shows.
+/// The state after 64 frames is halted and is kept, as the share of nothing from a worker's zone shows.
 #[test]
 fn halted_states_are_kept_by_a_desk(rt: HostRuntime) {
     play(&rt, rt.alloc(), 2, Task::Calls(&HALTED));

@@ -4,13 +4,13 @@ ghost use Rattle.std.specs.Prelude.{◌≡◌, ◌≤◌};
 ghost use Rattle.tas_desk.specs.Seats.{name_of};
 
 use crate::batch_tests::offer_three_batches;
+use crate::callers::Habit;
 use crate::calls::{Call, take_calls};
 use crate::changes::Change;
 use crate::checks::{check_that, expect_ok, expect_some};
 use crate::export_tests::{
     export_by_each, export_longest, export_through_gates, export_to_the_ends, export_until_halted,
 };
-use crate::players::Habit;
 use crate::replays::Notes;
 use crate::thread_tests::{edit_in_the_gate, insert_at_once, take_turns_at_once};
 use std::alloc::Global;

@@ -6,7 +6,7 @@ use crate::changes::{Change, FOLDING, HALT, HALTING, PLAYFIELD, WAITING, edit_of
 use crate::checks::{check_same, check_that, expect_ok};
 use crate::desks::{Task, play};
 use crate::gates::{Counting, Open, Ordered};
-use crate::replays::images;
+use crate::replays::pixmaps;
 use crate::sums::{Compared, Sum};
 use std::alloc::Global;
 use std::io;
@@ -83,7 +83,7 @@ fn fill<N: Name, R: Threads + Wait + Abort + Sync>(
 }
 
 /// What an export of frames of such a movie writes: how many bytes, and the sum over them. No frame of them is halted.
-fn wanted_images<R: Abort>(
+fn wanted_pixmaps<R: Abort>(
     rt: &R,
     alloc: Global,
     program: &'static [u8],
@@ -97,7 +97,7 @@ fn wanted_images<R: Abort>(
             apply(&mut movie, &edit);
         }
     }
-    expect_ok(rt, expect_ok(rt, images(alloc, &movie, range.0, range.1)))
+    expect_ok(rt, expect_ok(rt, pixmaps(alloc, &movie, range.0, range.1)))
 }
 
 /// So many frames, from frame 2 on, by each number of workers.
@@ -110,7 +110,7 @@ pub fn export_by_each<N: Name, R: Threads + Wait + Abort + Sync>(
 ) {
     fill(rt, alloc, desk, seat, FOLDING, 20);
     let range = (2, frames.saturating_add(2));
-    let (bytes, sum) = wanted_images(rt, alloc, FOLDING, 20, range);
+    let (bytes, sum) = wanted_pixmaps(rt, alloc, FOLDING, 20, range);
     check_same(rt, "bytes", bytes, frames.saturating_mul(100_815));
     for workers in 1..17usize {
         let (told, written, found) = export(
@@ -145,16 +145,21 @@ pub fn export_through_gates<N: Name, R: Threads + Wait + Abort + Sync>(
 ) {
     fill(rt, alloc, desk, seat, PLAYFIELD, 2);
     let alone = export(rt, alloc, desk, seat, (0, 2), 1, &Open, usize::MAX);
-    check_same(rt, "alone.0", (alone.0, alone.1), (Ok((3, 2)), 201_630));
+    check_same(
+        rt,
+        "by one worker",
+        (alone.0, alone.1),
+        (Ok((3, 2)), 201_630),
+    );
     let ordered = Ordered::new();
     let both = export(rt, alloc, desk, seat, (0, 2), 2, &ordered, usize::MAX);
     check_that(rt, "one thread plays both runs", ordered.entered.was_seen());
-    check_same(rt, "both", both, (Ok((3, 3)), alone.1, alone.2));
+    check_same(rt, "by two workers", both, (Ok((3, 3)), alone.1, alone.2));
     let counting = Counting::new();
     let many = export(rt, alloc, desk, seat, (0, 2), 16, &counting, usize::MAX);
-    check_same(rt, "many.1", (many.1, many.2), (alone.1, alone.2));
+    check_same(rt, "by 16 workers", (many.1, many.2), (alone.1, alone.2));
     // The numbers 0 to 15, each once.
-    check_same(rt, "counting", counting.passed(), (16, 1240));
+    check_same(rt, "gates passed", counting.passed(), (16, 1240));
 }
 
 #[test]
@@ -194,7 +199,31 @@ pub fn export_until_halted<N: Name, R: Threads + Wait + Abort + Sync>(
         );
     }
     let told = export(rt, alloc, desk, seat, (0, 3), 2, &Open, usize::MAX);
-    check_same(rt, "told.0", (told.0, told.1), (Ok((3, 4)), 302_445));
+    check_same(
+        rt,
+        "frames before the halt",
+        (told.0, told.1),
+        (Ok((3, 4)), 302_445),
+    );
+    export_of_five(rt, alloc, desk, seat);
+}
+
+/// The first five of such a movie's eight frames are left, of which the fourth halts: the last four by two workers.
+fn export_of_five<N: Name, R: Threads + Wait + Abort + Sync>(
+    rt: &R,
+    alloc: Global,
+    desk: &Desk<N, &R>,
+    seat: &mut Seat<N>,
+) {
+    let edit = expect_ok(rt, edit_of(alloc, Change::Delete(5, 3)));
+    check_that(rt, "five are left", desk.edit(rt, seat, edit).is_ok());
+    let told = export(rt, alloc, desk, seat, (1, 5), 2, &Open, usize::MAX);
+    let halted = Refused::Halted {
+        at: 4,
+        frame: 3,
+        halt: HALT,
+    };
+    check_same(rt, "four of five", (told.0, told.1), (Err(halted), 0));
 }
 
 #[test]

@@ -4,6 +4,8 @@
 #[cfg(test)]
 mod batch_tests;
 #[cfg(test)]
+mod callers;
+#[cfg(test)]
 mod calls;
 #[cfg(test)]
 mod changes;
@@ -19,8 +21,6 @@ mod export_tests;
 mod gates;
 #[cfg(test)]
 mod job_tests;
-#[cfg(test)]
-mod players;
 #[cfg(test)]
 mod replays;
 #[cfg(test)]

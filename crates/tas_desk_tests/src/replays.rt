@@ -4,7 +4,6 @@ use crate::changes::{Change, cart, edit_of, fire, right};
 use crate::sums::{Sum, sum_of};
 use std::alloc::{AllocError, Global};
 use tas_desk::{Entry, MAX_EXPORT};
-use tas_green::common_front;
 use tas_movie::{Edit, EditRefusal, Movie, apply, check};
 use vcs_cpu::Halt;
 use vcs_machine::{Input, Meter, State, play};
@@ -39,7 +38,7 @@ pub enum Told {
     Taken(Vec<Input>, usize),
     /// A batch's cartridge isn't the movie's: the batch's bytes.
     OtherCartridge(Vec<u8>),
-    /// The sum over the images of some frames.
+    /// The sum over the pixmaps of some frames.
     Exported(usize, usize, (usize, u64)),
     /// The first halted one of some frames.
     ExportHalted(usize, usize, (usize, Halt)),
@@ -67,9 +66,9 @@ pub fn drawn(alloc: Global, movie: &Movie, k: usize) -> Result<Result<Picture, H
     }
 }
 
-/// The images of the frames from `from` to the one before `to`, each played from power-on, one after the other: the sum over
+/// The pixmaps of the frames from `from` to the one before `to`, each played from power-on, one after the other: the sum over
 /// their bytes, or the first halted frame with its halt.
-pub fn images(
+pub fn pixmaps(
     alloc: Global,
     movie: &Movie,
     from: usize,
@@ -85,6 +84,18 @@ pub fn images(
         }
     }
     Ok(Ok(out.told()))
+}
+
+/// With how many equal inputs two lists begin.
+fn equal_inputs(some: &[Input], others: &[Input]) -> usize {
+    let mut count = 0usize;
+    for (one, other) in some.iter().zip(others) {
+        if *one != *other {
+            break;
+        }
+        count = count.saturating_add(1);
+    }
+    count
 }
 
 /// Whether all inputs are this one, so many.
@@ -144,10 +155,10 @@ fn is_in_range(movie: &Movie, from: usize, to: usize) -> bool {
 fn is_export(alloc: Global, movie: &Movie, told: &Told) -> Result<bool, AllocError> {
     Ok(match told {
         Told::Exported(from, to, sum) => {
-            is_in_range(movie, *from, *to) && images(alloc, movie, *from, *to)? == Ok(*sum)
+            is_in_range(movie, *from, *to) && pixmaps(alloc, movie, *from, *to)? == Ok(*sum)
         }
         Told::ExportHalted(from, to, halted) => {
-            is_in_range(movie, *from, *to) && images(alloc, movie, *from, *to)? == Err(*halted)
+            is_in_range(movie, *from, *to) && pixmaps(alloc, movie, *from, *to)? == Err(*halted)
         }
         Told::OutOfRange(from, to, len) => {
             *len == movie.len() && !is_in_range(movie, *from, *to)
@@ -190,8 +201,9 @@ pub fn is_right(
         Told::Len(len) => *len == movie.len(),
         Told::Input(k, input) => movie.inputs().get(*k) == Some(input),
         Told::NoFrame(k, len) => *len == movie.len() && *k >= *len,
-        Told::Taken(inputs, count) => common_front(inputs.as_slice(), movie.inputs()) == *count,
+        Told::Taken(inputs, count) => equal_inputs(inputs.as_slice(), movie.inputs()) == *count,
         Told::OtherCartridge(bytes) => bytes.as_slice() != movie.cart().bytes(),
+        // A meeting tells a front alone: one of the history, and no shorter than either caller's front before it.
         Told::Met => true,
         Told::Drawn(..) | Told::Halted(..) => is_shot(alloc, movie, told)?,
         Told::Exported(..) | Told::ExportHalted(..) | Told::OutOfRange(..) => {

@@ -1,10 +1,10 @@
 //! Seats on threads of their own. What they were told is compared with the history that the desk leaves.
 
+use crate::callers::{Caller, Fault, Habit, meet};
 use crate::changes::{Change, FOLDING, HALTING, PLAYFIELD, edit_of};
 use crate::checks::{check_same, check_that, expect_ok, expect_some};
 use crate::desks::{Left, Task, play};
 use crate::gates::Door;
-use crate::players::{Fault, Habit, Player, meet};
 use crate::replays::{Notes, replayed};
 use std::alloc::Global;
 use std::process::Abort;
@@ -39,13 +39,13 @@ fn inserts<N: Name, W: CloseOnDrop, R: Wait>(
     rt: &R,
     alloc: Global,
     desk: &Desk<N, W>,
-    player: &mut Player<N>,
+    caller: &mut Caller<N>,
     count: usize,
 ) -> Result<(), Fault> {
     for _k in 0..count {
-        player.edit(rt, alloc, desk, Change::InsertRight(0))?;
-        player.len(desk)?;
-        player.input(desk, 0)?;
+        caller.edit(rt, alloc, desk, Change::InsertRight(0))?;
+        caller.len(desk)?;
+        caller.input(desk, 0)?;
     }
     Ok(())
 }
@@ -58,45 +58,45 @@ pub fn insert_at_once<N: Name + Send + Sync, R: Threads + Wait + Abort + Sync>(
     seats: Vec<Seat<N>>,
     count: usize,
 ) -> Left<N> {
-    let mut players = players(rt, alloc, seats, &[Habit::All]);
+    let mut callers = callers(rt, alloc, seats, &[Habit::All]);
     thread::for_each_mut(
         rt,
-        players.as_mut_slice(),
+        callers.as_mut_slice(),
         8,
-        &|_, player| {
-            player.fault = inserts(rt, alloc, desk, player, count).err();
+        &|_, caller| {
+            caller.fault = inserts(rt, alloc, desk, caller, count).err();
         },
     );
-    leave(rt, alloc, players)
+    leave(rt, alloc, callers)
 }
 
-/// Players at all seats; their habits in turn.
-fn players<N: Name, R: Abort>(
+/// Callers at all seats; their habits in turn.
+fn callers<N: Name, R: Abort>(
     rt: &R,
     alloc: Global,
     seats: Vec<Seat<N>>,
     habits: &[Habit],
-) -> Vec<Player<N>> {
-    let mut players = Vec::new(alloc);
+) -> Vec<Caller<N>> {
+    let mut callers = Vec::new(alloc);
     let mut habits = habits.iter().cycle();
     for seat in seats {
         let habit = habits.next().copied().unwrap_or(Habit::All);
-        expect_ok(rt, players.push(Player::new(alloc, seat, habit)));
+        expect_ok(rt, callers.push(Caller::new(alloc, seat, habit)));
     }
-    players
+    callers
 }
 
-/// The players' seats, and what they were told. No player had a fault.
-fn leave<N: Name, R: Abort>(rt: &R, alloc: Global, players: Vec<Player<N>>) -> Left<N> {
+/// The callers' seats, and what they were told. No caller had a fault.
+fn leave<N: Name, R: Abort>(rt: &R, alloc: Global, callers: Vec<Caller<N>>) -> Left<N> {
     let mut seats = Vec::new(alloc);
     let mut all = Vec::new(alloc);
-    for player in players {
-        let Player {
+    for caller in callers {
+        let Caller {
             seat,
             notes,
             fault,
             ..
-        } = player;
+        } = caller;
         let number = seat.number();
         check_same(rt, ("seat", number), fault, None);
         expect_ok(rt, seats.push(seat));
@@ -128,12 +128,12 @@ fn judge_inserts<R: Abort>(rt: &R, alloc: Global, closed: &Closed, all: &[Notes]
     }
 }
 
-/// Two players that take turns and meet.
+/// Two callers that take turns and meet.
 fn pairs<N: Name, W: CloseOnDrop, R: Threads + Wait + Sync>(
     rt: &R,
     alloc: Global,
     desk: &Desk<N, W>,
-    pair: &mut [Player<N>],
+    pair: &mut [Caller<N>],
     rounds: usize,
 ) {
     if pair.len() != 2 {
@@ -151,16 +151,16 @@ fn pairs<N: Name, W: CloseOnDrop, R: Threads + Wait + Sync>(
     }
 }
 
-/// A player makes a movie, unless it has a fault.
+/// A caller makes a movie, unless it has a fault.
 fn make_movie<N: Name, W: CloseOnDrop, R: Wait>(
     rt: &R,
     alloc: Global,
     desk: &Desk<N, W>,
-    player: &mut Player<N>,
+    caller: &mut Caller<N>,
 ) {
-    player.fault = player.edit(rt, alloc, desk, Change::Load(FOLDING)).err();
-    if player.fault.is_none() {
-        player.fault = player.edit(rt, alloc, desk, Change::Insert(0, 12)).err();
+    caller.fault = caller.edit(rt, alloc, desk, Change::Load(FOLDING)).err();
+    if caller.fault.is_none() {
+        caller.fault = caller.edit(rt, alloc, desk, Change::Insert(0, 12)).err();
     }
 }
 
@@ -173,25 +173,25 @@ pub fn take_turns_at_once<N: Name + Send + Sync, R: Threads + Wait + Abort + Syn
     habits: &[Habit],
     turns: usize,
 ) -> Left<N> {
-    let mut players = players(rt, alloc, seats, habits);
-    make_movie(rt, alloc, desk, expect_some(rt, players.first_mut()));
+    let mut callers = callers(rt, alloc, seats, habits);
+    make_movie(rt, alloc, desk, expect_some(rt, callers.first_mut()));
     thread::for_each_mut(
         rt,
-        players.as_mut_slice(),
+        callers.as_mut_slice(),
         8,
-        &|_, player| {
-            player.turns(rt, alloc, desk, turns);
+        &|_, caller| {
+            caller.turns(rt, alloc, desk, turns);
         },
     );
     thread::for_each_chunk_mut(
         rt,
-        players.as_mut_slice(),
+        callers.as_mut_slice(),
         2,
         &|_, pair| {
             pairs(rt, alloc, desk, pair, 4);
         },
     );
-    leave(rt, alloc, players)
+    leave(rt, alloc, callers)
 }
 
 /// All that eight seats were told is right, and there is so much of each at least.

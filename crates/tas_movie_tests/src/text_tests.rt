@@ -52,6 +52,11 @@ fn texts_are_read_and_printed_again(rt: HostRuntime) {
     check_text(&rt, alloc, &blank, (BLANK_LINE, NONE), 99, 1);
     let small = expect_ok(&rt, Cart::from_bytes(alloc, &[0; 2048]));
     check_text(&rt, alloc, &small, (SMALL_LINE, NONE), 99, 1);
+}
+
+/// Laws have no result: this shows only that their calls return.
+#[test]
+fn the_laws_of_texts_return(_rt: HostRuntime) {
     limits_are_exact();
     one_movie_per_text();
     texts_have_no_fault();

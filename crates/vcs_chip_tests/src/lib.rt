@@ -1,4 +1,4 @@
-//! What the three chips do when they run: the manual's tables, worked rows, and the TIA against a slow one.
+//! What the three chips do when they run: the manual's tables, worked examples, and the TIA against a slow one.
 #![tactic(auto)]
 
 #[cfg(test)]
