@@ -71,11 +71,8 @@ impl Engine {
     pub fn count(self) -> usize {
         match self {
             Engine::Trace | Engine::Script | Engine::Talk => 1,
-            Engine::Check
-            | Engine::Migrate
-            | Engine::Shot
-            | Engine::Export(_)
-            | Engine::CartTalk => 2,
+            Engine::Check | Engine::Migrate | Engine::Shot | Engine::Export(_) | Engine::CartTalk =>
+                2,
             Engine::Edit
             | Engine::Diff
             | Engine::DiffReplaced
