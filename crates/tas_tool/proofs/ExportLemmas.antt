@@ -13,8 +13,7 @@ use Rattle.tas_desk.specs.declared.export.ExportError.TheVariants.{Range as OffR
 use Rattle.tas_desk.specs.History.{movie_of, entries_of}
 use Rattle.tas_desk.specs.Seats.{SeatContent, HasSeen}
 use Rattle.tas_desk.specs.Zones.{ZoneContent}
-use Rattle.tas_desk.specs.Exporting.{BrokeOff}
-use Rattle.tas_desk.specs.Exports.{IsInRange, IsExport}
+use Rattle.tas_desk.specs.Exports.{IsInRange, BrokeOff, IsExport}
 use Rattle.tas_desk.specs.Frames.{AllDrawn, pixmaps_of}
 use Rattle.tas_engines.specs.declared.fault.RunFault.{RunFault}
 use Rattle.tas_engines.specs.declared.fault.RunFault.TheVariants.{Write, Size, Text, NoFrame, Range, Halted, Script, EditPlace, EditLong, NoPlace, NoEntry, Foreign, Memory}
