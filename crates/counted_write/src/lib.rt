@@ -1,8 +1,9 @@
 //! Writing bytes, and how many of them went out.
 #![tactic(auto)]
 
-ghost use Rattle.std.specs.Prelude.{◌≡◌, ◌+◌, ◌-◌, ◌≤◌, ◌<◌, ◌^◌, length, take, IfOk, IfErr, OnOk};
+ghost use Rattle.std.specs.Prelude.{◌≡◌, ◌+◌, ◌-◌, ◌≤◌, ◌<◌, ◌^◌, length, IfOk, IfErr, OnOk};
 ghost use Rattle.std.specs.Io.KnownBytes.{Appends};
+ghost use Rattle.counted_write.specs.CutOff.{IsCutOff};
 
 use std::io::{Error, ErrorKind, Write};
 
@@ -23,9 +24,8 @@ pub fn write_counted<W: Write>(bytes: &[u8], before: usize, to: &mut W) -> Resul
     requires { before + length bytes.now < 2 ^ 64 }
     ensures count { IfOk result (λ n. n ≡ before + length bytes.now) }
     ensures all { OnOk result (Appends (W.contents to.old) (W.contents to.new) bytes.now) }
-    ensures some { IfErr result (λ f. Appends (W.contents to.old) (W.contents to.new) (take (f.written - before) bytes.now)) }
+    ensures cut { IfErr result (λ f. IsCutOff (W.contents to.old) (W.contents to.new) bytes.now (f.written - before)) }
     ensures from { IfErr result (λ f. before ≤ f.written) }
-    ensures short { IfErr result (λ f. f.written < before + length bytes.now) }
 {
     let mut sent = 0;
     while sent < bytes.len() {

@@ -1,0 +1,8 @@
+-- How a write is cut off (own).
+use Rattle.std.specs.Prelude.{ℕ, ◌<◌, List, length, take, Option}
+use Rattle.std.specs.Io.KnownBytes.{Appends}
+
+-- of these bytes only the first ones went out, and so many
+pub record IsCutOff (old new : Option (List ℕ)) (bytes : List ℕ) (written : ℕ) : Type 0 where
+  pub missing : written < length bytes
+  pub front : Appends old new (take written bytes)
