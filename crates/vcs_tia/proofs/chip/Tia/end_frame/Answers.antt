@@ -1,0 +1,5 @@
+use Rattle.std.proofs.Common.{rules}
+use Rattle.vcs_tia.proofs.chip.Tia.end_frame.Goals as goal
+
+pub returns : goal.returns
+returns c = search rules
