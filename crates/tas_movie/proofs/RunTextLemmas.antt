@@ -316,9 +316,6 @@ long_count bytes n is le some = let e : length bytes ≡ length (32 ∷ 120 ∷ 
 pub resized : (old : List Input) (all k n : ℕ) (i : Input) → length old ≤ all → k ≡ n → take all old ++ replicate k i ≡ old ++ replicate n i
 resized old all k n i le e = ap (λ (l : List Input). l ++ replicate k i) (take_all all old le) ∙ ap (λ (m : ℕ). old ++ replicate m i) e
 
-pub shorter : (rest l after : List ℕ) → rest ≡ line l ++ after → 1 + length after ≤ length rest
-shorter rest l after is = let e : length rest ≡ length (line l ++ after) = ap length is in omega (arith, e, length-append (line l) after, length-append l (10 ∷ []))
-
 pub first_is : (xs : List Input) (d : Input) → (length xs ≡ 0 → ⊥) → slice_get xs 0 ≡ Some (get_or xs 0 d)
 first_is [] d some = absurd (some refl)
 first_is (x ∷ xs) d some = refl

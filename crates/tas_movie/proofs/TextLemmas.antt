@@ -4,7 +4,7 @@ use Rattle.std.specs.Prelude.{codes}
 use Rattle.std.specs.List.{flat_map}
 use Rattle.std.specs.Str.{bytes_eq}
 use Rattle.std.proofs.lemmas.Bool.{ne_eqb, eq-eqb, eqb-false, le-leb, lt-leb, and_parts, not-true}
-use Rattle.std.proofs.lemmas.List.{append_cancel_left, take_more, take_all, drop_more, take-append-drop, flat_map_more}
+use Rattle.std.proofs.lemmas.List.{append_cancel_left, append-nil, length-append, take_more, take_all, drop_more, take-append-drop, flat_map_more}
 use Rattle.std.proofs.lemmas.Slice.Eq.{bytes_eq-Decides}
 use Rattle.sha2.specs.Sha256.{sha256}
 use Rattle.hex.specs.Hex.{encode_with, encode_lower, lower_digits}
@@ -58,6 +58,15 @@ pub split_at_newline : (bytes : List ℕ) (at : ℕ) (tail : List ℕ) → at < 
 split_at_newline bytes at tail lt is h tail-is =
     let parts : bytes ≡ take at bytes ++ 10 ∷ tail = sym (take-append-drop at bytes) ∙ ap (λ (r : List ℕ). take at bytes ++ r) (drop_more bytes at 0 lt ∙ rw (is, tail-is) refl) in
     ap split_lines parts ∙ split_lines-line (take at bytes) tail h
+
+-- what follows a line is shorter
+pub shorter : (rest l after : List ℕ) → rest ≡ line l ++ after → length after < length rest
+shorter rest l after is = let e : length rest ≡ length (line l ++ after) = ap length is in omega (arith, e, length-append (line l) after, length-append l (10 ∷ []))
+
+-- where no byte is left, all was read
+pub all_read : (bytes made rest : List ℕ) → bytes ≡ made ++ rest → length rest ≡ 0 → bytes ≡ made
+all_read bytes made [] is none = is ∙ append-nil made
+all_read bytes made (b ∷ rest) is none = absurd (omega arith)
 
 -- ---- frames, one after the other
 

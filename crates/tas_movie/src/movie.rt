@@ -34,16 +34,20 @@ impl<A: Allocator + Copy> Movie<A> {
     pub fn blank(alloc: A) -> Result<Movie<A>, AllocError>
         ensures { IfOk result (λ movie. movie ≡ blank_movie) }
     {
-        let cart = Cart::blank(alloc)?;
-        let list = Vec::with_capacity(alloc, MAX_FRAMES)?;
-        Ok(Movie { cart, list })
+        Movie::with_cart(alloc, Cart::blank(alloc)?)
     }
 
     /// A copy of this cartridge, with no inputs. `AllocError` where memory is refused.
     pub fn new<B: Allocator>(alloc: A, cart: &Cart<B>) -> Result<Movie<A>, AllocError>
         ensures { IfOk result (λ movie. movie ≡ record { cart = cart.now; inputs = [] }) }
     {
-        let cart = cart.copy(alloc)?;
+        Movie::with_cart(alloc, cart.copy(alloc)?)
+    }
+
+    /// This cartridge, with no inputs and room for all.
+    fn with_cart(alloc: A, cart: Cart<A>) -> Result<Movie<A>, AllocError>
+        ensures { IfOk result (λ movie. movie ≡ record { cart = cart; inputs = [] }) }
+    {
         let list = Vec::with_capacity(alloc, MAX_FRAMES)?;
         Ok(Movie { cart, list })
     }

@@ -1,7 +1,13 @@
-use Rattle.std.proofs.Common.{ap, ◌∙◌, arith}
+use Rattle.std.proofs.Common.{◌≡◌, ℕ, List, ap, sym, subst, ◌∙◌, arith}
 use Rattle.tas_movie.specs.Content.{MovieContent}
+use Rattle.tas_movie.specs.Text.{IsText}
 use Rattle.tas_movie.proofs.TwoTexts.{read_only, read_no_error}
 use Rattle.tas_movie.proofs.reading.read_text.Goals as goal
+
+pub returns-in-Ok-read_lines-clause-found : goal.returns-in-Ok-read_lines-clause-found
+returns-in-Ok-read_lines-clause-found g c =
+    let same : c.movie.inside.cart ≡ c.args.cart.now = ap (λ (r : MovieContent). r.cart) (c.movie.view_is ∙ c.in-Ok.ensures) in
+    (same, subst (λ (cart : List ℕ). IsText c.args.bytes.now (record { cart = cart; inputs = c.read_lines.new.list.items })) (sym same) c.in-Ok-read_lines.ensures.movie)
 
 pub returns-in-Ok-read_lines-clause-all : goal.returns-in-Ok-read_lines-clause-all
 returns-in-Ok-read_lines-clause-all g c = λ movie same le e.

@@ -3,7 +3,8 @@ use Rattle.std.specs.Prelude.{slice_get}
 use Rattle.std.proofs.lemmas.Bool.{eqb-false, eqb-true}
 use Rattle.tas_movie.specs.Runs.{run_inputs}
 use Rattle.tas_movie.specs.Fault.{is_repeated, run_fault, runs_fault, fault_by}
-use Rattle.tas_movie.proofs.RunTextLemmas.{runs_go_on, runs_stop, runs_unended, runs_end, runs_read, none_read, resized, shorter}
+use Rattle.tas_movie.proofs.RunTextLemmas.{runs_go_on, runs_stop, runs_unended, runs_end, runs_read, none_read, resized}
+use Rattle.tas_movie.proofs.TextLemmas.{shorter, all_read}
 use Rattle.tas_movie.proofs.run_reading.read_runs.Goals as goal
 
 pub loop-rest-init : goal.loop-rest-init
@@ -18,9 +19,21 @@ loop-rest-init g c =
       number = omega arith;
     }
 
+pub returns-in_default-clause-bound : goal.returns-in_default-clause-bound
+returns-in_default-clause-bound g c = c.loop-rest.invariant.bound
+
+pub returns-in_default-clause-capacity : goal.returns-in_default-clause-capacity
+returns-in_default-clause-capacity g c = c.loop-rest.invariant.capacity
+
 pub returns-in_default-clause-fault : goal.returns-in_default-clause-fault
 returns-in_default-clause-fault g c =
     rw c.error_at.ensures (sym c.loop-rest.invariant.same_fault ∙ runs_unended c.loop-rest.number _ c.loop-rest.rest.now c.in_default.ensures.none (eqb-false _ _ (sym c.loop-rest-test.ensures)))
+
+pub returns-in-Err-clause-bound : goal.returns-in-Err-clause-bound
+returns-in-Err-clause-bound g c = c.loop-rest.invariant.bound
+
+pub returns-in-Err-clause-capacity : goal.returns-in-Err-clause-capacity
+returns-in-Err-clause-capacity g c = c.loop-rest.invariant.capacity
 
 pub returns-in-Err-clause-fault : goal.returns-in-Err-clause-fault
 returns-in-Err-clause-fault g c =
@@ -57,6 +70,12 @@ loop-rest-preserved g c =
       capacity = omega (arith, c.resize.ensures.capacity);
       number = omega (arith, fewer, counted);
     }
+
+pub loop-rest-smaller : goal.loop-rest-smaller
+loop-rest-smaller g c = shorter c.loop-rest.rest.now c.in-Some.line.now c.in-Some.after.now c.in-Some.ensures.bytes
+
+pub returns-clause-runs : goal.returns-clause-runs
+returns-clause-runs g c = all_read c.args.bytes.now _ c.loop-rest.rest.now c.loop-rest.invariant.runs (eqb-true _ _ (sym c.loop-rest-test.ensures))
 
 pub returns-clause-fault : goal.returns-clause-fault
 returns-clause-fault g c = sym c.loop-rest.invariant.same_fault ∙ runs_end c.loop-rest.number _ c.loop-rest.rest.now (eqb-true _ _ (sym c.loop-rest-test.ensures))

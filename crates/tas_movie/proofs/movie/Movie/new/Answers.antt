@@ -1,0 +1,5 @@
+use Rattle.std.proofs.Common.{rules}
+use Rattle.tas_movie.proofs.movie.Movie.new.Goals as goal
+
+pub returns : goal.returns
+returns g c = search rules
