@@ -3,3 +3,4 @@ pub mod RunLemmas
 pub mod RunTextLemmas
 pub mod TwoTexts
 pub mod DecimalLemmas
+pub mod EditLemmas

@@ -1,4 +1,4 @@
-use Rattle.std.proofs.Common.{◌∙◌, arith, rules}
+use Rattle.std.proofs.Common.{arith, rules}
 use Rattle.tas_movie.proofs.movie.Movie.with_cart.Goals as goal
 
 pub invariant_of-result : goal.invariant_of-result
