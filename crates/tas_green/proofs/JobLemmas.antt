@@ -1,12 +1,17 @@
--- What a job takes with it.
-use Rattle.std.proofs.Common.{◌≡◌, ℕ, ◌+◌, ◌/◌, ◌<◌, ◌≤◌, List, [], length, take, refl, sym, ap, ◌∙◌, arith}
+-- What a job takes with it, and the states that it makes.
+use Rattle.std.proofs.Common.{◌≡◌, ℕ, ◌+◌, ◌/◌, ◌%◌, ◌<◌, ◌≤◌, eqb, true, List, [], length, take, Option, Some, refl, sym, ap, ◌∙◌, arith}
+use Rattle.std.specs.Prelude.{nat_le}
+use Rattle.std.proofs.lemmas.Bool.{leb-true, and_parts}
 use Rattle.std.proofs.lemmas.List.{take-take, length-take-le}
 use Rattle.vcs_machine.specs.declared.input.Input.{Input}
+use Rattle.vcs_machine.specs.declared.state.State.{State}
 use Rattle.vcs_machine.specs.Machine.{after}
 use Rattle.tas_movie.specs.Content.{MovieContent}
 use Rattle.tas_green.specs.declared.savestate.Savestate.{Savestate}
 use Rattle.tas_green.specs.Run.{state_after}
-use Rattle.tas_green.specs.Batch.{IsReady}
+use Rattle.tas_green.specs.Zone.{state_at, IsRising, first_of, where_true, is_on_grid, is_passed}
+use Rattle.tas_green.specs.Batch.{AreStatesOf, IsReady}
+use Rattle.tas_green.proofs.GreenLemmas.{where_some, some_is}
 
 -- the cartridge, the first inputs and one of the states among them can be run
 pub taken_ready : (movie : MovieContent) (cart : List ℕ) (inputs : List Input) (step : ℕ) (start : Savestate) (states : List Savestate) (room end : ℕ)
@@ -21,3 +26,22 @@ taken_ready movie cart inputs step start states room end is-cart is-inputs withi
       none = none;
       fits = rw long fits;
     }
+
+-- the states that were passed are those of the inputs
+pub ran_right : (cart : List ℕ) (inputs : List Input) (step from : ℕ) (old now : List Savestate) → old ≡ [] → IsRising 0 now
+    → ((f : ℕ) → state_at f now ≡ first_of (state_at f old) (where_true (is_passed step from (length inputs) f) (Some (after cart (take f inputs))))) → AreStatesOf cart inputs now
+ran_right cart inputs step from old now none rising is = record {
+  rising = rising;
+  within = λ f s e. leb-true f (length inputs) (parts f s e).0;
+  each = λ f s e. sym (some_is (after cart (take f inputs)) s (kept f s e).1);
+}
+  where
+    kept : (f : ℕ) (s : State) → state_at f now ≡ Some s → (is_passed step from (length inputs) f ≡ true) × ((let o : Option State = Some (after cart (take f inputs)) in o) ≡ Some s)
+    kept f s e =
+        let passed : Option State = where_true (is_passed step from (length inputs) f) (Some (after cart (take f inputs))) in
+        where_some (is_passed step from (length inputs) f) (Some (after cart (take f inputs))) s (sym (is f ∙ ap (λ (l : List Savestate). first_of (state_at f l) passed) none) ∙ e)
+
+    parts : (f : ℕ) (s : State) → state_at f now ≡ Some s → (nat_le f (length inputs) ≡ true) × (eqb (f % step) 0 ≡ true)
+    parts f s e =
+        let wanted = and_parts (nat_le (from + 1) f) (is_on_grid step (length inputs) f) (kept f s e).0 in
+        and_parts (nat_le f (length inputs)) (eqb (f % step) 0) wanted.1
