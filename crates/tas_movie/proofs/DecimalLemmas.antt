@@ -19,6 +19,9 @@ was_err (Err y) e = (y, refl)
 pub not_same : (a b : List ℕ) (r : Bool) → r ≡ bytes_eq a b → r ≡ false → a ≡ b → ⊥
 not_same a b r is off same = let on : bytes_eq a b ≡ true = (bytes_eq-Decides a b).1 same in cc
 
+pub same_text : (a b : List ℕ) (r : Bool) → r ≡ bytes_eq a b → r ≡ true → a ≡ b
+same_text a b r is on = (bytes_eq-Decides a b).0 (sym is ∙ on)
+
 ok_same : {E : Type 0} (a b : ℕ) → (let r : Result ℕ E = Ok a in r) ≡ Ok b → a ≡ b
 ok_same a b e = cc
 

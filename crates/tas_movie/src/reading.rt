@@ -2,7 +2,6 @@
 
 ghost use Rattle.std.specs.Prelude.{◌≡◌, ◌++◌, ◌∷◌, [], ℕ, List, Option, ◌≤◌, length, MatchResult, OnOk, OnSome, IfOk, IfNone, IfSome, None, Some, true, false, vec_len, vec_capacity};
 ghost use Rattle.std.specs.List.{flat_map};
-ghost use Rattle.std.specs.Str.{bytes_eq};
 ghost use Rattle.vcs_machine.specs.declared.input.Input.{Input};
 ghost use Rattle.tas_movie.specs.declared.error.TextError.{TextError as FirstFault};
 ghost use Rattle.tas_movie.specs.Content.{MovieContent, most_inputs};
@@ -117,14 +116,6 @@ fn read_frames<A: Allocator>(list: &mut Vec<Input, A>, bytes: &[u8]) -> Result<(
     Ok(())
 }
 
-/// Whether the line names the cartridge by its digest.
-fn is_digest<A: Allocator>(line: &[u8], cart: &Cart<A>) -> bool
-    ensures { result ≡ bytes_eq line.now (digest_text cart.now) }
-{
-    let text = print_digest(cart);
-    line == text.as_slice()
-}
-
 /// What follows the line that names the cartridge by its digest.
 fn after_digest<'a, B: Allocator>(bytes: &'a [u8], cart: &Cart<B>) -> Result<&'a [u8], TextError>
     ensures whole { IfOk result (λ rest. bytes.entry.now ≡ line (digest_text cart.now) ++ rest.now) }
@@ -136,7 +127,7 @@ fn after_digest<'a, B: Allocator>(bytes: &'a [u8], cart: &Cart<B>) -> Result<&'a
     let Some((second, rest)) = split_line(bytes) else {
         return Err(error_at(2, TextErrorKind::End));
     };
-    if !is_digest(second, cart) {
+    if second != print_digest(cart).as_slice() {
         return Err(error_at(2, TextErrorKind::Digest));
     }
     Ok(rest)

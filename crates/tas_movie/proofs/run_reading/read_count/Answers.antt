@@ -1,4 +1,4 @@
-use Rattle.std.proofs.Common.{sym, ◌∙◌, arith}
+use Rattle.std.proofs.Common.{sym, ◌∙◌, arith, rules}
 use Rattle.std.proofs.lemmas.Bool.{eqb-false, eqb-true}
 use Rattle.tas_movie.proofs.RunTextLemmas.{count_is, no_count, same_count, digits_are, long_count}
 use Rattle.tas_movie.proofs.run_reading.read_count.Goals as goal
@@ -26,3 +26,6 @@ returns-then-count-gt-MAX_FRAMES-clause-none c = λ n le few is.
     let p = count_is c.args.bytes.now n is le (eqb-false _ _ (sym c.is_empty.ensures ∙ c.if-is_empty.false)) in
     let same = same_count c.args.bytes.now c.split_at.result.1.now c.in_ok-count.count n c.split_at.ensures.back c.in_ok-count.ensures.some (omega arith) (omega arith) p.1 in
     omega (arith, same)
+
+pub returns-clause-some : goal.returns-clause-some
+returns-clause-some c = (search rules, omega arith, omega arith)
