@@ -62,7 +62,6 @@ pub fn print_frame(input: Input) -> [u8; FRAME_TEXT_SIZE]
 }
 
 /// The line that names a cartridge by its digest, without its newline.
-#[tactic(auto, unfolding(crate::specs::Text::digest_text))]
 pub fn print_digest<A: Allocator>(cart: &Cart<A>) -> [u8; DIGEST_LINE_SIZE]
     ensures { result ≡ digest_text cart.now }
 {

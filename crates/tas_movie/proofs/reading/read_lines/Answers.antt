@@ -3,7 +3,7 @@ use Rattle.std.proofs.Math.Nat.{le_refl}
 use Rattle.std.specs.Prelude.{vec_capacity}
 use Rattle.tas_movie.specs.Text.{head_text1, head_text2}
 use Rattle.tas_movie.specs.Fault.{frames_fault, runs_fault}
-use Rattle.tas_movie.proofs.TwoTexts.{head_tells, first_goes_on, second_goes_on, head_wrong, same_fault, first_read, second_read, empty_fits}
+use Rattle.tas_movie.proofs.TwoTexts.{head_tells, first_goes_on, second_goes_on, same_fault, first_read, second_read, empty_fits}
 use Rattle.tas_movie.proofs.reading.read_lines.Goals as goal
 
 pub read_frames-requires : goal.read_frames-requires
