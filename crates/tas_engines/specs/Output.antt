@@ -1,6 +1,7 @@
 -- What an engine writes, and how it ends (own).
-use Rattle.std.specs.Prelude.{◌≡◌, ℕ, ◌<◌, List, length, take, Option, Result, Ok, Err, ◌⊎◌}
+use Rattle.std.specs.Prelude.{◌≡◌, ℕ, List, Option, Result, Ok, Err, ◌⊎◌}
 use Rattle.std.specs.Io.KnownBytes.{Appends, Keeps}
+use Rattle.counted_write.specs.CutOff.{IsCutOff}
 use Rattle.tas_engines.specs.declared.fault.ReadFault.{ReadFault}
 use Rattle.tas_engines.specs.declared.fault.RunFault.{RunFault}
 use Rattle.tas_engines.specs.declared.fault.RunFault.TheVariants.{Write}
@@ -11,8 +12,7 @@ use Rattle.tas_engines.specs.Faults.{unread_fault, told}
 pub record StopsWriting (old new : Option (List ℕ)) (bytes : List ℕ) (fault : RunFault) : Type 0 where
   pub written : ℕ
   pub is_write : fault ≡ Write written
-  pub rest_is_missing : written < length bytes
-  pub front : Appends old new (take written bytes)
+  pub cut : IsCutOff old new bytes written
 
 -- a write of an answer failed
 pub record BreaksOff (answers : Result (List ℕ) RunFault → Type 0) (old new : Option (List ℕ)) (fault : RunFault) : Type 0 where
