@@ -9,10 +9,7 @@ ghost use Rattle.tas_talk.specs.Answers.{picture_text, movie_text, states_text, 
 use itoa::Buffer;
 use std::alloc::{AllocError, Allocator};
 use tas_movie::{Movie, print_text};
-use vcs_tia::{Picture, ppm};
-
-/// How many bytes the pixmap of a picture has: a header of 15 bytes and three for each of 160 by 210 pixels.
-const PIXMAP_SIZE: usize = 100_815;
+use vcs_tia::{PIXMAP_SIZE, Picture, ppm};
 
 /// The pixmap of a picture. There is room for it, so no more memory is asked for; no clause of a writer says so.
 fn pixmap<A: Allocator, B: Allocator>(
