@@ -6,7 +6,7 @@ ghost use Rattle.tas_edit.specs.Changes.{edit_of, Makes};
 
 use crate::Change;
 use std::alloc::{AllocError, Allocator};
-use tas_movie::{Edit, EditRefusal, Inputs, MAX_FRAMES, Movie, apply};
+use tas_movie::{Edit, EditRefusal, Inputs, Movie, apply, check_insertion, check_place};
 
 /// Why a change wasn't made; the movie is as before (own).
 #[derive(Clone, Copy, Debug, PartialEq, Eq)]
@@ -23,21 +23,9 @@ fn check_change<A: Allocator>(movie: &Movie<A>, change: Change) -> Result<(), Ed
 {
     let len = movie.len();
     match change {
-        Change::Insert { at, count, .. } => {
-            if at > len {
-                Err(EditRefusal::Place { at, len })
-            } else if count > MAX_FRAMES - len {
-                Err(EditRefusal::Long { len })
-            } else {
-                Ok(())
-            }
-        }
+        Change::Insert { at, count, .. } => check_insertion(len, at, count),
         Change::Replace { at, count, .. } | Change::Delete { at, count } => {
-            if at > len || count > len - at {
-                Err(EditRefusal::Place { at, len })
-            } else {
-                Ok(())
-            }
+            check_place(len, at, count)
         }
     }
 }
@@ -70,11 +58,7 @@ pub fn make_change<A: Allocator, B: Allocator>(
     ensures { Makes B movie.old change result movie.new }
 {
     check_change(movie, change).map_err(ChangeError::Refused)?;
-    match edit_of(alloc, change) {
-        Ok(edit) => {
-            apply(movie, &edit);
-            Ok(())
-        }
-        Err(_) => Err(ChangeError::Memory),
-    }
+    let edit = edit_of(alloc, change).map_err(|_| ChangeError::Memory)?;
+    apply(movie, &edit);
+    Ok(())
 }
