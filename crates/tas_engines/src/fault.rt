@@ -4,6 +4,7 @@ ghost use Rattle.std.specs.Prelude.{◌≡◌};
 ghost use Rattle.tas_engines.specs.declared.fault.RunFault.TheVariants.{Write as WriteFailed, Memory as Refused};
 ghost use Rattle.tas_engines.specs.Faults.{unread_fault, run_fault, cart_fault, text_fault};
 
+use crate::fault_lines::{halted_line, no_frame_line, range_line};
 use counted_write::WriteFault;
 use std::alloc::AllocError;
 use tas_movie::{ReadError, TextError};
@@ -11,7 +12,7 @@ use thiserror::Error;
 use vcs_machine::CartError;
 
 /// Why an input wasn't read whole (own). Reading ends with it; no read follows (no clause says so; a test does).
-#[derive(Clone, Copy, Debug, PartialEq, Eq)]
+#[derive(Clone, Copy)]
 pub enum ReadFault {
     /// The input has more than [`INPUT_LIMIT`](crate::INPUT_LIMIT) bytes.
     TooLong,
@@ -22,7 +23,7 @@ pub enum ReadFault {
 }
 
 /// Why an engine that has read its inputs ended without its answer (own).
-#[derive(Clone, Copy, Debug, PartialEq, Eq)]
+#[derive(Clone, Copy)]
 pub enum RunFault {
     /// A write failed, or took no byte.
     Write {
@@ -107,7 +108,7 @@ pub enum ToolFault {
     #[error("fault: {0}")]
     Text(TextError),
     /// The movie has no such frame. Nothing was written.
-    #[error("fault: no frame {frame} of {len}")]
+    #[error(fmt = no_frame_line)]
     NoFrame {
         /// The frame that was asked for, counted from 0.
         frame: usize,
@@ -116,7 +117,7 @@ pub enum ToolFault {
     },
     /// The movie hasn't the frames that were asked for, or they are too many for one export. Nothing was
     /// written.
-    #[error("fault: range {from} to {to} of {len}")]
+    #[error(fmt = range_line)]
     Range {
         /// The first frame, counted from 0.
         from: usize,
@@ -127,7 +128,7 @@ pub enum ToolFault {
     },
     /// The machine is halted in the frame that was asked for, or in one of them; this is the least one's
     /// halt. Nothing was written.
-    #[error("fault: halted at {at:04X} by {opcode:02X}")]
+    #[error(fmt = halted_line)]
     Halted {
         /// The address of the undocumented byte.
         at: u16,

@@ -8,6 +8,7 @@
 
 mod checking;
 mod fault;
+mod fault_lines;
 mod migrating;
 mod movies;
 mod reading;

@@ -1,6 +1,6 @@
 //! `tas shot`.
 
-ghost use Rattle.std.specs.Prelude.{◌≡◌, ◌⊎◌, IfOk, IfErr};
+ghost use Rattle.std.specs.Prelude.{◌≡◌, ◌⊎◌, Ok, Err, IfOk, IfErr};
 ghost use Rattle.vcs_tia.specs.Image.{ppm_bytes};
 ghost use Rattle.tas_engines.specs.declared.fault.RunFault.TheVariants.{Memory};
 ghost use Rattle.tas_engines.specs.Output.{Ends};
@@ -46,6 +46,20 @@ fn draw_frame<A: Allocator + Copy>(
     }
 }
 
+/// The picture of frame `k` of the movie whose cartridge and text these are, or why there is none.
+fn picture_of<A: Allocator + Copy>(
+    alloc: A,
+    k: usize,
+    image: &[u8],
+    bytes: &[u8],
+) -> Result<Picture<A>, RunFault>
+    ensures drawn { IfOk result (λ picture. IsShotAnswer k image.now bytes.now (Ok (ppm_bytes picture))) }
+    ensures fault { IfErr result (λ fault. IsShotAnswer k image.now bytes.now (Err fault)) }
+{
+    let movie = movie_of(alloc, image, bytes)?;
+    draw_frame(alloc, &movie, k)
+}
+
 /// Writes the picture of frame `k` of the movie whose cartridge and text these are.
 fn shoot_movie<A: Allocator + Copy, W: Write>(
     alloc: A,
@@ -56,8 +70,7 @@ fn shoot_movie<A: Allocator + Copy, W: Write>(
 ) -> Result<(), RunFault>
     ensures { Ends (IsShotAnswer k image.now bytes.now) (W.contents output.old) (W.contents output.new) result }
 {
-    let movie = movie_of(alloc, image, bytes)?;
-    let picture = draw_frame(alloc, &movie, k)?;
+    let picture = picture_of(alloc, k, image, bytes)?;
     Ok(ppm(&picture, output)?)
 }
 
