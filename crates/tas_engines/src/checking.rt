@@ -1,8 +1,8 @@
 //! `tas check`.
 
-ghost use Rattle.std.specs.Prelude.{◌≡◌, IfOk, string_bytes};
+ghost use Rattle.std.specs.Prelude.{◌≡◌, Ok, IfOk, IfErr, string_bytes};
 ghost use Rattle.tas_engines.specs.Output.{Ends};
-ghost use Rattle.tas_engines.specs.Movies.{IsCheckAnswer, IsMovieRun, length_line};
+ghost use Rattle.tas_engines.specs.Movies.{IsCheckAnswer, IsMovieFault, IsMovieRun, length_line};
 
 use crate::{RunFault, ToolFault, movie_of, read_two, write_all};
 use std::alloc::{AllocError, Allocator};
@@ -15,6 +15,19 @@ fn length_line<A: Allocator>(alloc: A, frames: usize) -> Result<String<A>, Alloc
     format!(in alloc; "ok {frames} frames\n")
 }
 
+/// The length in frames of the movie whose cartridge and text these are, or why there is none.
+fn movie_length<A: Allocator + Copy>(
+    alloc: A,
+    image: &[u8],
+    bytes: &[u8],
+) -> Result<usize, RunFault>
+    ensures length { IfOk result (λ frames. IsCheckAnswer image.now bytes.now (Ok (length_line frames))) }
+    ensures fault { IfErr result (IsMovieFault image.now bytes.now) }
+{
+    let movie = movie_of(alloc, image, bytes)?;
+    Ok(movie.len())
+}
+
 /// Writes the length of the movie whose cartridge and text these are.
 fn check_movie<A: Allocator + Copy, W: Write>(
     alloc: A,
@@ -24,8 +37,8 @@ fn check_movie<A: Allocator + Copy, W: Write>(
 ) -> Result<(), RunFault>
     ensures { Ends (IsCheckAnswer image.now bytes.now) (W.contents output.old) (W.contents output.new) result }
 {
-    let movie = movie_of(alloc, image, bytes)?;
-    let line = length_line(alloc, movie.len())?;
+    let frames = movie_length(alloc, image, bytes)?;
+    let line = length_line(alloc, frames)?;
     write_all(output, line.as_bytes())
 }
 

@@ -1,12 +1,26 @@
 //! `tas migrate`.
 
+ghost use Rattle.std.specs.Prelude.{Ok, IfOk, IfErr};
 ghost use Rattle.tas_engines.specs.Output.{Ends};
-ghost use Rattle.tas_engines.specs.Movies.{IsMigrateAnswer, IsMovieRun};
+ghost use Rattle.tas_engines.specs.Movies.{IsMigrateAnswer, IsMovieFault, IsMovieRun};
 
 use crate::{RunFault, ToolFault, movie_of, read_two, write_all};
 use std::alloc::Allocator;
 use std::io::{Read, Write};
 use tas_movie::print_text;
+
+/// The text of runs of the movie whose cartridge and text these are, or why there is none.
+fn migrated_text<A: Allocator + Copy>(
+    alloc: A,
+    image: &[u8],
+    bytes: &[u8],
+) -> Result<Vec<u8, A>, RunFault>
+    ensures text { IfOk result (λ text. IsMigrateAnswer image.now bytes.now (Ok text.items)) }
+    ensures fault { IfErr result (IsMovieFault image.now bytes.now) }
+{
+    let movie = movie_of(alloc, image, bytes)?;
+    Ok(print_text(alloc, &movie)?)
+}
 
 /// Writes the text of the movie whose cartridge this is and of which the bytes are a text.
 fn migrate_movie<A: Allocator + Copy, W: Write>(
@@ -17,8 +31,7 @@ fn migrate_movie<A: Allocator + Copy, W: Write>(
 ) -> Result<(), RunFault>
     ensures { Ends (IsMigrateAnswer image.now bytes.now) (W.contents output.old) (W.contents output.new) result }
 {
-    let movie = movie_of(alloc, image, bytes)?;
-    let text = print_text(alloc, &movie)?;
+    let text = migrated_text(alloc, image, bytes)?;
     write_all(output, text.as_slice())
 }
 
