@@ -13,7 +13,7 @@ use tas_script::{Command, one_command_per_line, parse_line};
 use vcs_machine::Input;
 
 /// A change of a movie's inputs, as one line of a script says it (own).
-#[derive(Clone, Copy, Debug, PartialEq, Eq)]
+#[derive(Clone, Copy)]
 pub enum Change {
     /// `insert AT COUNT FRAME`: copies of one input are put in.
     Insert {

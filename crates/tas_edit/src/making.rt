@@ -9,7 +9,7 @@ use std::alloc::{AllocError, Allocator};
 use tas_movie::{Edit, EditRefusal, Inputs, Movie, apply, check_insertion, check_place};
 
 /// Why a change wasn't made; the movie is as before (own).
-#[derive(Clone, Copy, Debug, PartialEq, Eq)]
+#[derive(Clone, Copy)]
 pub enum ChangeError {
     /// It isn't allowed on this movie.
     Refused(EditRefusal),

@@ -1,6 +1,6 @@
 //! `tas edit` and `tas diff`.
 
-ghost use Rattle.std.specs.Prelude.{◌≡◌, List, IfOk};
+ghost use Rattle.std.specs.Prelude.{◌≡◌, List, Ok, Err, IfOk, IfErr};
 ghost use Rattle.std.specs.List.{flat_map};
 ghost use Rattle.tas_engines.specs.Output.{Ends};
 ghost use Rattle.tas_edit.specs.declared.change.Change.{Change};
@@ -26,6 +26,21 @@ fn script_fault(fault: ScriptFault) -> RunFault
     }
 }
 
+/// The text of the movie that a script makes of the one whose cartridge and text these are, or why there is none.
+fn edited_text<A: Allocator + Copy>(
+    alloc: A,
+    image: &[u8],
+    script: &[u8],
+    bytes: &[u8],
+) -> Result<Vec<u8, A>, RunFault>
+    ensures text { IfOk result (λ text. IsEditAnswer A image.now script.now bytes.now (Ok text.items)) }
+    ensures fault { IfErr result (λ fault. IsEditAnswer A image.now script.now bytes.now (Err fault)) }
+{
+    let mut movie = movie_of(alloc, image, bytes)?;
+    edit_movie(alloc, &mut movie, script).map_err(script_fault)?;
+    Ok(print_text(alloc, &movie)?)
+}
+
 /// Writes the text of the movie that a script makes of the one whose cartridge and text these are.
 fn write_edited<A: Allocator + Copy, W: Write>(
     alloc: A,
@@ -36,9 +51,7 @@ fn write_edited<A: Allocator + Copy, W: Write>(
 ) -> Result<(), RunFault>
     ensures { Ends (IsEditAnswer A image.now script.now bytes.now) (W.contents output.old) (W.contents output.new) result }
 {
-    let mut movie = movie_of(alloc, image, bytes)?;
-    edit_movie(alloc, &mut movie, script).map_err(script_fault)?;
-    let text = print_text(alloc, &movie)?;
+    let text = edited_text(alloc, image, script, bytes)?;
     write_all(output, text.as_slice())
 }
 
@@ -55,6 +68,21 @@ fn script_between<A: Allocator + Copy>(
     print_changes(alloc, changes.as_slice())
 }
 
+/// The script that makes one movie of another, both with this cartridge, or why there is none.
+fn difference_text<A: Allocator + Copy>(
+    alloc: A,
+    image: &[u8],
+    before: &[u8],
+    after: &[u8],
+) -> Result<Vec<u8, A>, RunFault>
+    ensures text { IfOk result (λ text. IsDiffAnswer A image.now before.now after.now (Ok text.items)) }
+    ensures fault { IfErr result (λ fault. IsDiffAnswer A image.now before.now after.now (Err fault)) }
+{
+    let old = movie_of(alloc, image, before)?;
+    let new = movie_of(alloc, image, after)?;
+    Ok(script_between(alloc, &old, &new)?)
+}
+
 /// Writes the script that makes one movie of another, both with this cartridge.
 fn write_difference<A: Allocator + Copy, W: Write>(
     alloc: A,
@@ -65,10 +93,8 @@ fn write_difference<A: Allocator + Copy, W: Write>(
 ) -> Result<(), RunFault>
     ensures { Ends (IsDiffAnswer A image.now before.now after.now) (W.contents output.old) (W.contents output.new) result }
 {
-    let old = movie_of(alloc, image, before)?;
-    let new = movie_of(alloc, image, after)?;
-    let script = script_between(alloc, &old, &new)?;
-    write_all(output, script.as_slice())
+    let text = difference_text(alloc, image, before, after)?;
+    write_all(output, text.as_slice())
 }
 
 /// Reads a cartridge, a script of changes and a movie text, and writes the text of the movie that the
