@@ -4,7 +4,7 @@ use vcs_machine::Input;
 
 /// What is answered to a line of a script (own). `at` is the number of edits that were made before the reply, an
 /// accepted edit of this line included.
-#[derive(Clone, Copy, Debug, PartialEq, Eq)]
+#[derive(Clone, Copy, Debug)]
 pub enum Reply {
     /// `edit AT len N`: the edit was made.
     Edited {
