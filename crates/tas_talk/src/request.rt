@@ -3,7 +3,7 @@
 use tas_script::Command;
 
 /// What a line of a conversation asks for (own).
-#[derive(Clone, Copy, Debug, PartialEq, Eq)]
+#[derive(Clone, Copy)]
 pub enum Request {
     /// A line of a script.
     Do(Command),
