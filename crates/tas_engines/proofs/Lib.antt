@@ -1,2 +1,3 @@
 pub mod ReadLengths
 pub mod EngineEnds
+pub mod Shots
