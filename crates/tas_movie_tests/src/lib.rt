@@ -1,4 +1,5 @@
-//! What movies and greenzones do when they run: edits, texts and their faults, shots, jobs and merges.
+//! What movies and greenzones do when they run: edits, texts and their faults, texts that were made to break their readers, shots, jobs and
+//! merges.
 #![tactic(auto)]
 
 #[cfg(test)]
@@ -9,6 +10,10 @@ mod green_tests;
 mod movie_tests;
 #[cfg(test)]
 mod movies;
+#[cfg(test)]
+mod plain_reader;
+#[cfg(test)]
+mod spoilt_text_tests;
 #[cfg(test)]
 mod text_tests;
 #[cfg(test)]

@@ -1,7 +1,8 @@
 //! Code in the registers of the TIA and of the RIOT, stacks that start at each place, and frames of two instructions.
 
+use crate::carts::{cart_with, check_lines, program};
 use crate::checks::{check_same, check_that, expect_ok};
-use crate::images::{cart_with, check_lines, frames_of, program};
+use crate::played::frames_of;
 use std::alloc::Global;
 use std::process::Abort;
 use vcs_cpu::Halt;

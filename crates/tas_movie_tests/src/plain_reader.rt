@@ -81,7 +81,8 @@ fn fault(line: usize, kind: TextErrorKind) -> Result<usize, TextError> {
     Err(TextError { line, kind })
 }
 
-/// How many frames a text of few lines has, or its first line at fault. The second line is the cartridge's.
+/// How many frames a text of few lines has, or its first line at fault. The second line, with its newline, is the
+/// cartridge's.
 pub fn read_plainly(text: &[u8], second: &[u8]) -> Result<usize, TextError> {
     let mut rest = text;
     let mut has_runs = false;
@@ -94,6 +95,7 @@ pub fn read_plainly(text: &[u8], second: &[u8]) -> Result<usize, TextError> {
             }
             return fault(number, TextErrorKind::End);
         };
+        let is_second = rest.starts_with(second);
         let (line, others) = rest.split_at(end);
         rest = &others[1..];
         if number == 1 {
@@ -104,7 +106,7 @@ pub fn read_plainly(text: &[u8], second: &[u8]) -> Result<usize, TextError> {
             continue;
         }
         if number == 2 {
-            if line != second {
+            if !is_second {
                 return fault(number, TextErrorKind::Digest);
             }
             continue;

@@ -1,7 +1,8 @@
 //! Images whose code runs where none should stand, and images of one byte.
 
+use crate::carts::{cart_with, check_lines, program, traced};
 use crate::checks::{check_same, check_that, expect_ok};
-use crate::images::{cart_with, check_lines, frames_of, program, traced};
+use crate::played::frames_of;
 use std::alloc::Global;
 use std::process::Abort;
 use vcs_machine::Cart;

@@ -1,0 +1,55 @@
+//! Cartridges of the tests, and the lines of their traces.
+
+use crate::checks::{check_same, check_that, expect_ok};
+use std::alloc::Global;
+use std::fmt::Debug;
+use std::process::Abort;
+use vcs_machine::{Cart, trace};
+
+/// Bytes from an offset of a cartridge on.
+pub type Part<'a> = (usize, &'a [u8]);
+
+/// A cartridge of 4,096 zeros with these bytes.
+pub fn cart_with<R: Abort>(rt: &R, alloc: Global, parts: &[Part<'_>]) -> Cart {
+    cart_of_size(rt, alloc, 4096, parts)
+}
+
+/// A cartridge of so many zeros with these bytes.
+pub fn cart_of_size<R: Abort>(rt: &R, alloc: Global, size: usize, parts: &[Part<'_>]) -> Cart {
+    let mut image = expect_ok(rt, vec![in alloc; 0u8; size]);
+    set_parts(&mut image, parts);
+    expect_ok(rt, Cart::from_bytes(alloc, &image))
+}
+
+/// Sets these bytes of an image.
+fn set_parts(image: &mut [u8], parts: &[Part<'_>]) {
+    for (offset, bytes) in parts {
+        for (at, byte) in image.iter_mut().skip(*offset).zip(*bytes) {
+            *at = *byte;
+        }
+    }
+}
+
+/// A cartridge whose program stands at F000 and starts there.
+pub fn program<R: Abort>(rt: &R, alloc: Global, bytes: &[u8]) -> Cart {
+    cart_with(rt, alloc, &[(0, bytes), (0xffc, &[0x00, 0xf0])])
+}
+
+/// The lines of a cartridge's first instructions.
+pub fn traced<R: Abort>(rt: &R, alloc: Global, cart: &Cart, count: u32) -> Vec<u8> {
+    let mut text = Vec::new(alloc);
+    check_that(rt, "a trace", trace(cart, count, &mut text).is_ok());
+    text
+}
+
+/// Compares the lines of a cartridge's first instructions with these.
+pub fn check_lines<R: Abort, C: Copy + Debug>(
+    rt: &R,
+    alloc: Global,
+    case: C,
+    cart: &Cart,
+    (count, lines): (u32, &[u8]),
+) {
+    let text = traced(rt, alloc, cart, count);
+    check_same(rt, case, text.as_slice(), lines);
+}
