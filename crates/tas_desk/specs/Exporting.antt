@@ -1,5 +1,6 @@
 -- Parts of an export: the copy of the movie, how its frames fail to be written, and the reply (own).
 use Rattle.std.specs.Prelude.{◌≡◌, ℕ, ◌-◌, ◌≤◌, List, length, Option, Result, Ok, Err}
+use Rattle.counted_write.specs.CutOff.{IsCutOff}
 use Rattle.tas_movie.specs.Content.{MovieContent, most_inputs}
 use Rattle.tas_desk.specs.declared.export.Exported.{Exported}
 use Rattle.tas_desk.specs.declared.export.ExportError.{ExportError}
@@ -8,13 +9,13 @@ use Rattle.tas_desk.specs.declared.exporting.ExportFault.{ExportFault}
 use Rattle.tas_desk.specs.declared.exporting.ExportFault.TheVariants.{Memory as MemoryFault, Halted as HaltedFault, Write as WriteFault}
 use Rattle.tas_desk.specs.declared.runs.Plan.{Plan}
 use Rattle.tas_desk.specs.Frames.{AllDrawn, IsLeastHalted, pixmaps_of}
-use Rattle.tas_desk.specs.Exports.{IsInRange, BrokeOff}
+use Rattle.tas_desk.specs.Exports.{IsInRange}
 
 -- after want of memory and after a halt nothing is written; where something is, no frame is halted
 abbrev pub IsExportFault : MovieContent → Plan → Option (List ℕ) → Option (List ℕ) → ExportFault → Type 0
 IsExportFault movie plan old new MemoryFault = new ≡ old
 IsExportFault movie plan old new (HaltedFault halted) = IsLeastHalted movie plan.from plan.to halted × (new ≡ old)
-IsExportFault movie plan old new (WriteFault written error) = AllDrawn movie plan.from plan.to × BrokeOff old new (pixmaps_of movie plan.from (plan.to - plan.from)) written
+IsExportFault movie plan old new (WriteFault written error) = AllDrawn movie plan.from plan.to × IsCutOff old new (pixmaps_of movie plan.from (plan.to - plan.from)) written
 
 -- a copy of a movie that so many edits made, where it has these frames
 abbrev pub FoundRange : MovieContent → ℕ → ℕ → ℕ → Result (ℕ × MovieContent) ExportError → Type 0

@@ -1,6 +1,7 @@
 -- Replies to exports (own).
-use Rattle.std.specs.Prelude.{◌≡◌, ℕ, ◌+◌, ◌-◌, ◌<◌, ◌≤◌, List, length, take, Option, Result, Ok, Err}
+use Rattle.std.specs.Prelude.{◌≡◌, ℕ, ◌+◌, ◌-◌, ◌≤◌, List, length, Option, Result, Ok, Err}
 use Rattle.std.specs.Io.KnownBytes.{Appends}
+use Rattle.counted_write.specs.CutOff.{IsCutOff}
 use Rattle.tas_movie.specs.Content.{MovieContent}
 use Rattle.tas_green.specs.declared.savestate.Savestate.{Savestate}
 use Rattle.tas_green.specs.Green.{IsMoved}
@@ -32,15 +33,10 @@ pub record IsExported {A : Type 0} (zone : ZoneContent A) (movie : MovieContent)
   pub moved : IsMoved zone.movie movie zone.states left
   pub cost : played ≡ costs left plan 0 plan.workers
 
--- a write failed: only the first bytes went out, and some are missing
-pub record BrokeOff (old new : Option (List ℕ)) (bytes : List ℕ) (written : ℕ) : Type 0 where
-  pub front : Appends old new (take written bytes)
-  pub missing : written < length bytes
-
 -- how an export of a movie that so many edits made ends, by a seat with this zone
 abbrev pub IsExport : {A : Type 0} → ZoneContent A → MovieContent → ℕ → Plan → Option (List ℕ) → Option (List ℕ) → Result Exported ExportError → Type 0
 IsExport zone movie edits plan old new (Ok exported) = (exported.at ≡ edits) × IsExported zone movie plan old new exported.played
 IsExport zone movie edits plan old new (Err (Range at len)) = (at ≡ edits) × (len ≡ length movie.inputs) × (IsInRange (length movie.inputs) plan.from plan.to → ⊥) × (new ≡ old)
 IsExport zone movie edits plan old new (Err Memory) = IsInRange (length movie.inputs) plan.from plan.to × (new ≡ old)
 IsExport zone movie edits plan old new (Err (Halted at frame halt)) = (at ≡ edits) × IsInRange (length movie.inputs) plan.from plan.to × IsLeastHalted movie plan.from plan.to (record { frame = frame; halt = halt }) × (new ≡ old)
-IsExport zone movie edits plan old new (Err (Write written error)) = IsInRange (length movie.inputs) plan.from plan.to × AllDrawn movie plan.from plan.to × BrokeOff old new (pixmaps_of movie plan.from (plan.to - plan.from)) written
+IsExport zone movie edits plan old new (Err (Write written error)) = IsInRange (length movie.inputs) plan.from plan.to × AllDrawn movie plan.from plan.to × IsCutOff old new (pixmaps_of movie plan.from (plan.to - plan.from)) written

@@ -1,8 +1,9 @@
 //! Pixmaps of runs, written one after the other.
 
-ghost use Rattle.std.specs.Prelude.{◌<◌, ◌^◌, length, take, IfErr, OnOk};
+ghost use Rattle.std.specs.Prelude.{◌<◌, ◌^◌, length, IfErr, OnOk};
 ghost use Rattle.std.specs.List.{concat};
 ghost use Rattle.std.specs.Io.KnownBytes.{Appends};
+ghost use Rattle.counted_write.specs.CutOff.{IsCutOff};
 ghost use Rattle.tas_desk.specs.Runs.{pixmaps_in};
 
 use crate::runs::Run;
@@ -14,9 +15,7 @@ use std::io::Write;
 pub fn write_pixmaps<A: Allocator, W: Write>(runs: &[Run<A>], to: &mut W) -> Result<(), WriteFault>
     requires { length (concat (pixmaps_in runs.now)) < 2 ^ 64 }
     ensures ok { OnOk result (Appends (W.contents to.old) (W.contents to.new) (concat (pixmaps_in runs.now))) }
-    ensures fault { IfErr result (λ f. Appends (W.contents to.old) (W.contents to.new)
-        (take f.written (concat (pixmaps_in runs.now)))) }
-    ensures short { IfErr result (λ f. f.written < length (concat (pixmaps_in runs.now))) }
+    ensures cut { IfErr result (λ f. IsCutOff (W.contents to.old) (W.contents to.new) (concat (pixmaps_in runs.now)) f.written) }
 {
     let mut written = 0;
     for run in runs {

@@ -1,5 +1,6 @@
-use Rattle.std.proofs.Common.{◌≡◌, ◌-◌, ◌<◌, ◌∙◌, ap, subst, refl, ℕ, List, length, take, Some, arith, rules}
+use Rattle.std.proofs.Common.{◌≡◌, ◌-◌, ◌∙◌, ap, subst, refl, ℕ, List, length, Some, arith, rules}
 use Rattle.std.specs.Io.KnownBytes.{Appends}
+use Rattle.counted_write.specs.CutOff.{IsCutOff}
 use Rattle.tas_desk.specs.declared.pixmaps.Stop.TheVariants.{Halted}
 use Rattle.tas_desk.specs.Runs.{pixmaps_in}
 use Rattle.tas_desk.proofs.RunLemmas.{runs_shown}
@@ -38,8 +39,5 @@ returns-clause-fault g c =
     let size : length c.play_runs-end.new.runs ≡ c.in-Ok.runs.len = c.play_runs-end.auto.runs ∙ c.as_mut_slice.ensures.len in
     let drawn = runs_drawn c.args.movie.now c.args.plan c.args.zone.now c.play_runs-end.new.runs _ c.as_slice.result.now c.in-Ok.runs.len c.play_runs-end.result c.requires.plan c.play_runs-end.ensures c.in-None.is c.as_slice.ensures.value size in (
       drawn.all,
-      record {
-        front = subst (Appends _ _) (ap (take c.in-Err.fault.written) drawn.are) c.in-Err.ensures.fault;
-        missing = subst (λ (bytes : List ℕ). c.in-Err.fault.written < length bytes) drawn.are c.in-Err.ensures.short;
-      },
+      subst (λ (bytes : List ℕ). IsCutOff (g.W.Write.contents c.args.to.now) (g.W.Write.contents c.write_pixmaps.new.to) bytes c.in-Err.fault.written) drawn.are c.in-Err.ensures.cut,
     )

@@ -18,8 +18,8 @@ write_counted-requires g c =
     let same = ap (λ (bs : List ℕ). length bs) c.bytes.ensures in
     omega arith
 
-pub returns-in_err-written-clause-fault : goal.returns-in_err-written-clause-fault
-returns-in_err-written-clause-fault g c =
+pub returns-in_err-written-clause-cut : goal.returns-in_err-written-clause-cut
+returns-in_err-written-clause-cut g c =
     let p = err_from_is_err_and c.from_residual.result c.from_residual.ensures.1 in
     let runs = c.args.runs.now in
     let xs = pixmaps_in runs in
@@ -28,24 +28,14 @@ returns-in_err-written-clause-fault g c =
     let at = pixmaps_at runs i c.run-item.result c.loop-run-test.true c.run-item.is in
     let before = c.loop-run.written in
     let w = c.in_err-written.field-0.0.written in
+    let long = pieces_long xs i c.run-item.result.pixmaps before lt at c.loop-run.invariant.size in
     let same = ap (λ (bs : List ℕ). length bs) c.bytes.ensures in
-    let short = c.in_err-written.ensures.short in
+    let from = c.in_err-written.ensures.from in
+    let short = c.in_err-written.ensures.cut.missing in
     let most : c.in_err-written.field-0.0.written ≤ c.loop-run.written + length c.run-item.result.pixmaps = omega arith in
     let front = ap (λ (bs : List ℕ). concat (take i xs) ++ take (w - before) bs) c.bytes.ensures
-    ∙ pieces_front xs i c.run-item.result.pixmaps before w lt at c.loop-run.invariant.size c.in_err-written.ensures.from most in
-    rw (p.1, p.2) (subst (Appends _ _) front (Appends-trans _ _ _ _ _ c.loop-run.invariant.out c.in_err-written.ensures.some))
-
-pub returns-in_err-written-clause-short : goal.returns-in_err-written-clause-short
-returns-in_err-written-clause-short g c =
-    let p = err_from_is_err_and c.from_residual.result c.from_residual.ensures.1 in
-    let runs = c.args.runs.now in
-    let i = c.loop-run.run-index in
-    let lt = pixmaps_below runs i c.loop-run-test.true in
-    let at = pixmaps_at runs i c.run-item.result c.loop-run-test.true c.run-item.is in
-    let long = pieces_long (pixmaps_in runs) i c.run-item.result.pixmaps c.loop-run.written lt at c.loop-run.invariant.size in
-    let same = ap (λ (bs : List ℕ). length bs) c.bytes.ensures in
-    let short = c.in_err-written.ensures.short in
-    rw (p.1, p.2) (omega arith)
+    ∙ pieces_front xs i c.run-item.result.pixmaps before w lt at c.loop-run.invariant.size from most in
+    rw (p.1, p.2) (record { missing = omega arith; front = subst (Appends _ _) front (Appends-trans _ _ _ _ _ c.loop-run.invariant.out c.in_err-written.ensures.cut.front) })
 
 pub loop-run-preserved : goal.loop-run-preserved
 loop-run-preserved g c =
