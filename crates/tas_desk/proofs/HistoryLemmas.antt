@@ -1,6 +1,6 @@
 -- Histories that grow by an entry.
 use Rattle.std.proofs.Common.{◌≡◌, ℕ, ◌+◌, ◌<◌, List, [], ◌∷◌, ◌++◌, length, take, refl, ap, sym, ◌∙◌, subst, arith, length-append}
-use Rattle.tas_movie.specs.Content.{MovieContent}
+use Rattle.tas_movie.specs.Content.{MovieContent, blank_movie}
 use Rattle.std.specs.Prelude.{◌==◌, if◌then◌else◌}
 use Rattle.std.proofs.lemmas.List.Sums.{sum_by-append}
 use Rattle.tas_movie.specs.Edit.{edited, edited_place, IsAllowed}
@@ -8,7 +8,7 @@ use Rattle.tas_desk.proofs.EditLemmas.{edited_before, edited_cart}
 use Rattle.tas_green.specs.declared.savestate.Savestate.{Savestate}
 use Rattle.tas_green.specs.Green.{IsLawful, AgreeUpTo}
 use Rattle.tas_desk.specs.declared.entry.Entry.{Entry}
-use Rattle.tas_desk.specs.History.{blank_movie, movie_from, movie_of, entries_of, IsLegal, IsLegalEntry}
+use Rattle.tas_desk.specs.History.{movie_from, movie_of, entries_of, IsLegal, IsLegalEntry}
 use Rattle.tas_desk.specs.Session.{IsSound, IsNextEntry}
 
 movie_from-push : {A : Type 0} (movie : MovieContent) (history : List (Entry A)) (entry : Entry A) → movie_from movie (history ++ entry ∷ []) ≡ edited (movie_from movie history) entry.edit

@@ -5,11 +5,11 @@ use mathlib.Core.List.{IsPrefix}
 use lib.ListN.{get_elem?}
 use Rattle.crossbeam_utils.specs.Register.{Admits, TurnsAt, Forks, Merges}
 use Rattle.atomic_table.proofs.Lists.{at_set, at_snoc}
-use Rattle.tas_movie.specs.Content.{MovieContent}
+use Rattle.tas_movie.specs.Content.{MovieContent, blank_movie}
 use Rattle.tas_desk.specs.declared.entry.Entry.{Entry}
 use Rattle.tas_desk.specs.declared.reader_view.ReaderView.{ReaderView}
 use Rattle.tas_desk.specs.Version.{VersionContent}
-use Rattle.tas_desk.specs.History.{blank_movie, movie_of, IsLegal}
+use Rattle.tas_desk.specs.History.{movie_of, IsLegal}
 use Rattle.tas_desk.specs.Published.{PublishedContent, published_of, IsSoundPublished, HasSeenPrefix, Holds, Sees, view_of, blank_view, ChangeContent, after, GoesOn, Follows, IsCurrent}
 use Rattle.tas_desk.proofs.PrefixLemmas.{prefix_trans, prefix_self}
 use Rattle.tas_desk.proofs.HistoryLemmas.{legal_none, movie_of-none}

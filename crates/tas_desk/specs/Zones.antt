@@ -1,7 +1,7 @@
 -- The greenzone of a seat (own).
 use Rattle.std.specs.Prelude.{◌≡◌, ℕ, ◌+◌, ◌≤◌, List, [], length, Option, Some, None}
 use Rattle.logbook.specs.Pages.{Book}
-use Rattle.tas_movie.specs.Content.{MovieContent}
+use Rattle.tas_movie.specs.Content.{MovieContent, blank_movie}
 use Rattle.tas_green.specs.declared.savestate.Savestate.{Savestate}
 use Rattle.tas_green.specs.Zone.{state_at, first_of}
 use Rattle.tas_green.specs.Green.{IsLawful, IsMoved, IsShotFrom, HoldsGrid}
@@ -9,7 +9,7 @@ use Rattle.tas_green.specs.Grid.{stride}
 use Rattle.tas_desk.specs.declared.movie_copy.MovieCopy.{MovieCopy}
 use Rattle.tas_desk.specs.declared.entry.Entry.{Entry}
 use Rattle.tas_desk.specs.Version.{VersionContent, version_of}
-use Rattle.tas_desk.specs.History.{blank_movie, movie_of}
+use Rattle.tas_desk.specs.History.{movie_of}
 
 -- the history that it was made for, with its movie, and the states that are kept
 pub record ZoneContent (A : Type 0) : Type 0 where

@@ -11,13 +11,10 @@ use std::marker::Model;
 use tas_movie::Movie;
 use vcs_cpu::Halt;
 use vcs_machine::{Meter, State, play};
-use vcs_tia::{Picture, ppm};
-
-/// How many bytes the pixmap of a picture has: a header of 15 bytes and three for each of 160 by 210 pixels.
-const PIXMAP_SIZE: usize = 100_815;
+use vcs_tia::{PIXMAP_SIZE, Picture, ppm};
 
 /// A frame in which the machine is halted.
-#[derive(Clone, Copy, Debug, PartialEq, Eq)]
+#[derive(Clone, Copy)]
 pub struct HaltedFrame {
     /// The frame, counted from 0.
     pub frame: usize,
@@ -26,7 +23,7 @@ pub struct HaltedFrame {
 }
 
 /// Why frames weren't drawn to the last one.
-#[derive(Clone, Copy, Debug, PartialEq, Eq)]
+#[derive(Clone, Copy)]
 pub enum Stop {
     /// A frame is halted.
     Halted(HaltedFrame),

@@ -3,9 +3,9 @@
 ghost use Rattle.std.specs.Prelude.{◌≡◌, ◌<◌, ◌^◌, List, [], ◌∷◌, ◌++◌, drop, fold, IfOk, OnOk, OnErr, MatchResult};
 ghost use Rattle.left_right.specs.Sides.{view};
 ghost use mathlib.Core.List.{IsPrefix};
+ghost use Rattle.tas_movie.specs.Content.{blank_movie};
 ghost use Rattle.tas_movie.specs.Edit.{edited};
 ghost use Rattle.tas_desk.specs.declared.entry.Entry.{Entry};
-ghost use Rattle.tas_desk.specs.History.{blank_movie};
 ghost use Rattle.tas_desk.specs.Session.{IsNextEntry};
 ghost use Rattle.tas_desk.specs.Version.{version_of};
 ghost use Rattle.tas_desk.specs.Published.{published_of, blank_view, after, GoesOn, Follows, view_of, KnowsRegistry};

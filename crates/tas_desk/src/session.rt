@@ -2,6 +2,7 @@
 
 ghost use Rattle.std.specs.Prelude.{◌≡◌, ◌≢◌, ◌↔◌, ◌⊎◌, ℕ, ◌+◌, ◌<◌, ◌≤◌, ◌^◌, [], length, take, min, Some, None, IfOk, IfErr, OnOk, OnErr, MatchResult};
 ghost use mathlib.Core.List.{IsPrefix};
+ghost use Rattle.tas_movie.specs.Content.{blank_movie};
 ghost use Rattle.tas_movie.specs.Edit.{edited};
 ghost use Rattle.tas_green.specs.Run.{state_after};
 ghost use Rattle.tas_green.specs.Zone.{state_at, nearest, first_of, where_true, is_on_grid, is_passed};
@@ -10,7 +11,7 @@ ghost use Rattle.tas_green.specs.Front.{IsCommonFront};
 ghost use Rattle.tas_green.specs.Green.{IsLawful, HoldsGrid};
 ghost use Rattle.tas_desk.specs.declared.replies.OfferError.TheVariants.{Cartridge, Memory};
 ghost use Rattle.tas_desk.specs.declared.replies.OpenError.TheVariants.{Memory as OutOfMemory};
-ghost use Rattle.tas_desk.specs.History.{most_edits, IsLegal, blank_movie, movie_of};
+ghost use Rattle.tas_desk.specs.History.{most_edits, IsLegal, movie_of};
 ghost use Rattle.tas_desk.specs.Session.{IsNextEntry, edit_refusal, IsEditError, after_entry};
 ghost use Rattle.tas_desk.specs.Version.{version_of};
 ghost use Rattle.tas_desk.specs.Published.{view_of, KnowsRegistry};

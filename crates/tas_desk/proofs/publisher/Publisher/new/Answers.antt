@@ -1,5 +1,5 @@
 use Rattle.std.proofs.Common.{◌∙◌, ap}
-use Rattle.tas_desk.specs.History.{blank_movie}
+use Rattle.tas_movie.specs.Content.{blank_movie}
 use Rattle.tas_desk.specs.Published.{published_of}
 use Rattle.tas_desk.proofs.PublishedRule.{opened_as}
 use Rattle.tas_desk.proofs.publisher.Publisher.new.Goals as goal
