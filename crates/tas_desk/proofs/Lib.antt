@@ -9,6 +9,7 @@ pub mod PublishedRule
 pub mod RegistryLemmas
 pub mod RunLemmas
 pub mod SeatLemmas
+pub mod ShotLemmas
 pub mod ThreadLemmas
 pub mod WriteLemmas
 pub mod ZoneLemmas

@@ -11,13 +11,15 @@ ghost use Rattle.tas_desk.specs.Zones.{IsShort};
 ghost use Rattle.tas_desk.specs.Seats.{seat_of, HasSeen, KeepsZone, IsInput, IsZoneShot};
 
 use crate::movie_reader::MovieReader;
+use crate::replies::shown;
 use crate::seat_zone::SeatZone;
 use crate::{InputError, Name, NoEntry, Shot, ShotError};
 use std::alloc::{Allocator, Global};
 use std::marker::Model;
 use std::sync::ledger::Share;
 use tas_movie::Movie;
-use vcs_machine::Input;
+use vcs_machine::{Input, Meter};
+use vcs_tia::Picture;
 
 /// A seat of a desk (own). Contracts see its number, how many edits it made, what it has seen of the history, and its greenzone.
 #[derive(Drop)]
@@ -123,18 +125,13 @@ impl<N: Name, A: Allocator + Copy> Seat<N, A> {
             Ok(found) => found,
             Err(error) => return Err(error),
         };
-        let (ran, shown) = match self.zone.draw(alloc, copied, k) {
-            Ok(drawn) => drawn,
-            Err(_) => return Err(ShotError::Memory),
+        let Ok(mut picture) = Picture::blank(alloc) else {
+            return Err(ShotError::Memory);
         };
-        match shown {
-            Ok(picture) => Ok(Shot {
-                at,
-                frame: k,
-                ran,
-                picture,
-            }),
-            Err(halt) => Err(ShotError::Halted { at, halt }),
-        }
+        let mut meter = Meter::new();
+        let Ok(end) = self.zone.shot(copied, k, &mut picture, &mut meter) else {
+            return Err(ShotError::Memory);
+        };
+        shown(at, k, meter.count(), picture, end)
     }
 }

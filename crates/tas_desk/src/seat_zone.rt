@@ -1,12 +1,10 @@
 //! The greenzone of a seat, with the movie that it was made for.
 
 ghost use Rattle.std.specs.Prelude.{◌≡◌, ◌+◌, ◌<◌, ◌≤◌, ◌^◌, [], length, is_some, Some, IfOk, OnOk, OnErr};
-ghost use Rattle.tas_movie.specs.Content.{most_inputs};
 ghost use Rattle.tas_green.specs.Grid.{most_states};
 ghost use Rattle.tas_green.specs.Run.{state_after, picture_of, answer_of};
 ghost use Rattle.tas_green.specs.Green.{IsLawful, IsMoved, IsShotFrom};
 ghost use Rattle.tas_green.specs.Zone.{state_at};
-ghost use Rattle.tas_desk.specs.Answers.{answer_shot};
 ghost use Rattle.tas_desk.specs.History.{movie_of};
 ghost use Rattle.tas_desk.specs.Zones.{Shares, version_after, blank_zone};
 
@@ -140,33 +138,6 @@ impl<A: Allocator + Copy> SeatZone<A> {
                     Err(error) => Err(error),
                 }
             }
-        }
-    }
-
-    /// As `shot`, over a new picture and a new meter. It answers how many frames were played, and what frame `k` shows.
-    pub fn draw<B: Allocator>(
-        &mut self,
-        alloc: B,
-        copied: Option<MovieCopy<A>>,
-        k: usize,
-    ) -> Result<(u64, Result<Picture<B>, Halt>), AllocError>
-        requires within { k < length (movie_of (version_after self.old.made_for copied).history).inputs }
-        requires few { k < most_inputs }
-        ensures shows { IfOk result (λ drawn. answer_shot self.new.movie k ≡ Some drawn.1) }
-        ensures made_for { OnOk result (self.new.made_for ≡ version_after self.old.made_for copied) }
-        ensures movie { OnOk result (self.new.movie ≡ movie_of self.new.made_for.history) }
-        ensures kept { IfOk result (λ drawn. IsShotFrom self.old.movie self.new.movie k self.old.states self.new.states 0 drawn.0) }
-        ensures lawful { OnOk result (IsLawful self.new.movie self.new.states) }
-        ensures memory { OnErr result (self.new ≡ self.old) }
-    {
-        let Ok(mut picture) = Picture::blank(alloc) else {
-            return Err(AllocError);
-        };
-        let mut meter = Meter::new();
-        match self.shot(copied, k, &mut picture, &mut meter) {
-            Ok(Ok(())) => Ok((meter.count(), Ok(picture))),
-            Ok(Err(halt)) => Ok((meter.count(), Err(halt))),
-            Err(error) => Err(error),
         }
     }
 

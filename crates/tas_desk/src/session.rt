@@ -20,6 +20,7 @@ ghost use Rattle.tas_desk.specs.Shots.{IsShot, IsShotError, MatchPlayed};
 use crate::counts::EntryCounts;
 use crate::movie_reader::MovieReader;
 use crate::publisher::{Closed, Publisher};
+use crate::replies::shown;
 use crate::version::Version;
 use crate::{EditError, Entry, OfferError, Offered, OpenError, Receipt, Shot, ShotError};
 use std::alloc::{AllocError, Allocator, Global};
@@ -219,19 +220,13 @@ impl<A: Allocator + Copy> Session<A> {
             return Err(ShotError::Memory);
         };
         let ran = (k + 1 - self.green.nearest(k)) as u64;
-        match self
+        let played = self
             .green
-            .shot(self.publisher.movie(), k, &mut picture, meter)
-        {
-            Ok(Ok(())) => Ok(Shot {
-                at,
-                frame: k,
-                ran,
-                picture,
-            }),
-            Ok(Err(halt)) => Err(ShotError::Halted { at, halt }),
-            Err(_) => Err(ShotError::Memory),
-        }
+            .shot(self.publisher.movie(), k, &mut picture, meter);
+        let Ok(end) = played else {
+            return Err(ShotError::Memory);
+        };
+        shown(at, k, ran, picture, end)
     }
 
     /// A job for the movie's first `near` frames, or for all where there are fewer, from the nearest kept state among them.

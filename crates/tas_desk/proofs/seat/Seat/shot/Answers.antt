@@ -1,33 +1,47 @@
-use Rattle.std.proofs.Common.{ap}
+use Rattle.std.proofs.Common.{ap, sym, subst, subst₂, refl}
+use Rattle.tas_green.specs.Green.{IsShotFrom}
 use Rattle.tas_desk.specs.Version.{VersionContent}
 use Rattle.tas_desk.specs.Seats.{SeatContent}
-use Rattle.tas_desk.specs.Zones.{ZoneContent}
-use Rattle.tas_desk.proofs.ZoneLemmas.{seated_on, marked, played, zone_ok, zone_halted, short_ok, short_err}
-use Rattle.tas_desk.proofs.seat.Seat.shot.Goals.{in-Ok-shown, in-Err-shown}
+use Rattle.tas_desk.specs.Zones.{ZoneContent, IsPlayed, IsShort}
+use Rattle.tas_desk.proofs.CutLemmas.{short_shot}
+use Rattle.tas_desk.proofs.ZoneLemmas.{seated_on, marked, made_for}
+use Rattle.tas_desk.proofs.ShotLemmas.{shot_at, so_many, zone_shot}
 use Rattle.tas_desk.proofs.seat.Seat.shot.Goals as goal
-
-pub invariant_of-self-in-Err-draw : goal.invariant_of-self-in-Err-draw
-invariant_of-self-in-Err-draw g c = seated_on _ _ _ _ _ _ _ _ _ c.self.invariant c.in-Ok.ensures.0 (ap (λ (z : ZoneContent _). z.made_for.registry) c.in-Err-draw.ensures.memory)
-
-pub invariant_of-self-2 : goal.invariant_of-self-2
-invariant_of-self-2 g c =
-    let e = c.in-Ok-draw.ensures in
-    let new = marked c.version.result.now c.self.inside.zone.made_for c.draw.new.self.made_for c.in-Ok.found.1 c.copy-found.new.self.seen c.version.ensures c.in-Ok.ensures.3 e.made_for in
-    seated_on _ _ _ _ _ _ _ c.self.inside.zone c.draw.new.self c.self.invariant c.in-Ok.ensures.0 (ap (λ (m : VersionContent _). m.registry) new)
 
 pub returns-clause-zone : goal.returns-clause-zone
 returns-clause-zone g c =
-    let e = c.in-Ok-draw.ensures in
-    let new = marked c.version.result.now c.self.inside.zone.made_for c.draw.new.self.made_for c.in-Ok.found.1 c.copy-found.new.self.seen c.version.ensures c.in-Ok.ensures.3 e.made_for in
-    let p = played c.self.inside.zone c.draw.new.self c.copy-found.new.self.seen c.args.k c.in-Ok-draw.drawn.0 new e.movie e.lawful e.kept in
-    let same = ap (λ (s : SeatContent _). s.zone) c.self.view_is in elim c.match-shown.branch [
-      | in-Ok-shown w ↦ zone_ok _ _ _ c.self.inside.zone _ _ same p w.result-is
-      | in-Err-shown w ↦ zone_halted _ _ _ c.self.inside.zone _ _ _ c.in-Ok-draw.drawn.0 same p w.result-is
-    ]
+    let e = c.in-Ok-shot.ensures in
+    let zone = c.self.inside.zone in
+    let new = marked c.version.result.now zone.made_for c.shot.new.self.made_for c.in-Ok.found.1 c.copy-found.new.self.seen c.version.ensures c.in-Ok.ensures.3 e.made_for in
+    let kept = subst₂ (λ meter rose. IsShotFrom zone.movie c.shot.new.self.movie c.args.k zone.states c.shot.new.self.states meter rose) c.new-meter.ensures (sym c.count.ensures) e.kept in
+    let made = made_for zone c.shot.new.self c.copy-found.new.self.seen new e.movie e.lawful in
+    zone_shot c.args.self.now _ _ _ c.count.result _ c.in-Ok-shot.end _ c.shown.ensures.shot c.shown.ensures.halted
+    (subst (λ (z : ZoneContent _). IsPlayed z c.shot.new.self c.copy-found.new.self.seen c.args.k c.count.result) (ap (λ (s : SeatContent _). s.zone) c.self.view_is) (record { made = made; shot = kept }))
+
+pub returns-clause-reply : goal.returns-clause-reply
+returns-clause-reply g c =
+    let e = c.in-Ok-shot.ensures in
+    let zone = c.self.inside.zone in
+    let new = marked c.version.result.now zone.made_for c.shot.new.self.made_for c.in-Ok.found.1 c.copy-found.new.self.seen c.version.ensures c.in-Ok.ensures.3 e.made_for in
+    let made = made_for zone c.shot.new.self c.copy-found.new.self.seen new e.movie e.lawful in
+    shot_at c.copy-found.new.self.seen c.shot.new.self.movie _ _ c.count.result _ c.in-Ok-shot.end _ made.movie c.in-Ok.ensures.1 c.in-Ok.ensures.2 e.answer e.picture c.shown.ensures.shot c.shown.ensures.halted
 
 pub returns-clause-short : goal.returns-clause-short
 returns-clause-short g c =
-    let same = ap (λ (s : SeatContent _). s.zone) c.self.view_is in elim c.match-shown.branch [
-      | in-Ok-shown w ↦ short_ok _ _ c.self.inside.zone _ _ _ same c.in-Ok-draw.ensures.kept w.result-is
-      | in-Err-shown w ↦ short_err _ _ _ _ _ w.result-is
-    ]
+    let zone = c.self.inside.zone in
+    let kept = subst₂ (λ meter rose. IsShotFrom zone.movie c.shot.new.self.movie c.args.k zone.states c.shot.new.self.states meter rose) c.new-meter.ensures (sym c.count.ensures) c.in-Ok-shot.ensures.kept in
+    so_many _ _ c.count.result _ c.in-Ok-shot.end _ (IsShort c.args.self.now.zone c.shot.new.self c.args.k) c.shown.ensures.shot c.shown.ensures.halted
+    (subst (λ (z : ZoneContent _). IsShort z c.shot.new.self c.args.k c.count.result) (ap (λ (s : SeatContent _). s.zone) c.self.view_is) (short_shot zone c.shot.new.self c.args.k c.count.result kept))
+
+pub invariant_of-self-in_default : goal.invariant_of-self-in_default
+invariant_of-self-in_default g c = seated_on _ _ _ _ _ _ _ c.self.inside.zone c.self.inside.zone c.self.invariant c.in-Ok.ensures.0 refl
+
+pub invariant_of-self-in_default-shot : goal.invariant_of-self-in_default-shot
+invariant_of-self-in_default-shot g c =
+    seated_on _ _ _ _ _ _ _ c.self.inside.zone c.shot.new.self c.self.invariant c.in-Ok.ensures.0 (ap (λ (z : ZoneContent _). z.made_for.registry) c.in_default-shot.ensures.memory.0)
+
+pub invariant_of-self-2 : goal.invariant_of-self-2
+invariant_of-self-2 g c =
+    let zone = c.self.inside.zone in
+    let new = marked c.version.result.now zone.made_for c.shot.new.self.made_for c.in-Ok.found.1 c.copy-found.new.self.seen c.version.ensures c.in-Ok.ensures.3 c.in-Ok-shot.ensures.made_for in
+    seated_on _ _ _ _ _ _ _ zone c.shot.new.self c.self.invariant c.in-Ok.ensures.0 (ap (λ (m : VersionContent _). m.registry) new)
