@@ -1,5 +1,5 @@
 -- Runs of frames, one after the other.
-use Rattle.std.proofs.Common.{◌≡◌, ℕ, zero, suc, ◌+◌, ◌-◌, ◌*◌, ◌/◌, ◌<◌, ◌≤◌, Bool, cond, List, [], ◌∷◌, ◌++◌, length, get_or, take, map, sum, Option, Some, None, refl, sym, ap, subst, ◌∙◌, inl, inr, arith, zero-add, take_all}
+use Rattle.std.proofs.Common.{◌≡◌, ℕ, zero, suc, ◌+◌, ◌-◌, ◌*◌, ◌/◌, ◌<◌, ◌≤◌, Bool, cond, List, [], ◌∷◌, ◌++◌, length, get_or, take, map, sum, Option, Some, None, refl, sym, ap, subst, ◌∙◌, inl, inr, arith, zero-add}
 use Rattle.std.specs.List.{All, range_with_len, concat}
 use Rattle.std.proofs.lemmas.Bool.{cases_lt, lt-ltb, le-ltb}
 use Rattle.std.proofs.lemmas.List.Elements.{All-append}
