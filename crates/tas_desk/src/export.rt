@@ -104,14 +104,10 @@ impl<N: Name, W: CloseOnDrop, A: Allocator + Copy> Desk<N, W, A> {
         ensures reply { IsExport seat.old.zone (movie_of seat.new.front) (length seat.new.front) (record { from = from; to = to; workers = workers }) (O.contents out.old) (O.contents out.new) result }
     {
         let found = self.locked.lock(rt).copy(rt, alloc, seat, from, to);
-        match found {
-            Ok((at, movie)) => {
-                let plan = Plan { from, to, workers };
-                let end = export_movie(rt, alloc, &movie, &seat.zone, plan, gate, out);
-                end_at(at, end)
-            }
-            Err(error) => Err(error),
-        }
+        let (at, movie) = found?;
+        let plan = Plan { from, to, workers };
+        let end = export_movie(rt, alloc, &movie, &seat.zone, plan, gate, out);
+        end_at(at, end)
     }
 }
 

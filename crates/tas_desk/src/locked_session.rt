@@ -159,10 +159,7 @@ impl<N: Name, W: CloseOnDrop, A: Allocator + Copy> LockedSession<N, W, A> {
         ensures seat { MatchResult result (λ _. seat.new ≡ seat_of seat.old.number (seat.old.made + 1) self.new seat.old.zone) (λ _. seat.new ≡ seat_of seat.old.number seat.old.made self.new seat.old.zone) }
     {
         self.session.show_to(rt, &mut seat.reader);
-        let receipt = match self.session.edit(rt, seat.number, seat.made, edit) {
-            Ok(receipt) => receipt,
-            Err(error) => return Err(error),
-        };
+        let receipt = self.session.edit(rt, seat.number, seat.made, edit)?;
         self.session.show_to(rt, &mut seat.reader);
         self.book.add(&mut seat.share, 1);
         seat.made += 1;

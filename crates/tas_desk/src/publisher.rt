@@ -298,10 +298,8 @@ impl<A: Allocator> Publisher<A> {
         ensures same { self.new ≡ self.old }
         ensures seen { IfOk result (λ reader. reader ≡ view_of (version_of self.old.registry self.old.journal)) }
     {
-        match self.ruled_reader(rt) {
-            Ok(reader) => Ok(MovieReader::new(reader)),
-            Err(error) => Err(error),
-        }
+        let reader = self.ruled_reader(rt)?;
+        Ok(MovieReader::new(reader))
     }
 
     /// Lets a reader see the history, which begins with all that it had seen.

@@ -118,13 +118,9 @@ impl<N: Name, A: Allocator + Copy> Seat<N, A> {
         ensures zone { IsZoneShot self.old self.new k result }
         ensures short { IfOk result (λ shot. IsShort self.old.zone self.new.zone k shot.ran) }
     {
-        let found = self
+        let (at, copied) = self
             .reader
-            .copy(self.zone.allocator(), self.zone.version(), k);
-        let (at, copied) = match found {
-            Ok(found) => found,
-            Err(error) => return Err(error),
-        };
+            .copy(self.zone.allocator(), self.zone.version(), k)?;
         let Ok(mut picture) = Picture::blank(alloc) else {
             return Err(ShotError::Memory);
         };

@@ -127,16 +127,11 @@ impl<A: Allocator + Copy> SeatZone<A> {
                 .shot_from(&old.movie, &old.movie, k, picture, meter),
             Some(copied) => {
                 let new = &copied;
-                match self
+                let answer = self
                     .green
-                    .shot_from(&old.movie, &new.movie, k, picture, meter)
-                {
-                    Ok(answer) => {
-                        self.made_for = copied;
-                        Ok(answer)
-                    }
-                    Err(error) => Err(error),
-                }
+                    .shot_from(&old.movie, &new.movie, k, picture, meter)?;
+                self.made_for = copied;
+                Ok(answer)
             }
         }
     }

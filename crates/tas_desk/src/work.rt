@@ -86,8 +86,8 @@ impl<N: Name, W: CloseOnDrop, A: Allocator + Copy> Desk<N, W, A> {
             kept: 0,
             stale: 0,
         };
-        for i in 0..targets.len() {
-            match self.work_one(rt, alloc, seat, i, targets[i], gate) {
+        for near in targets {
+            match self.work_one(rt, alloc, seat, done.jobs, *near, gate) {
                 Ok(gained) => done = done.and(gained),
                 Err(_) => return Err(WorkError::Memory { done }),
             }
@@ -109,10 +109,7 @@ impl<N: Name, W: CloseOnDrop, A: Allocator + Copy> Desk<N, W, A> {
         ensures seat { KeepsZone seat.old seat.new }
         ensures few { IfOk result (λ gained. IfSome gained (λ kept. kept ≤ most_states)) }
     {
-        let job = match self.job(rt, alloc, seat, near) {
-            Ok(job) => job,
-            Err(error) => return Err(error),
-        };
+        let job = self.job(rt, alloc, seat, near)?;
         gate.pass(number);
         match self.offer(rt, seat, job.run()) {
             Ok(offered) => Ok(Some(offered.kept)),

@@ -1,12 +1,15 @@
 use Rattle.std.proofs.Common.{ap, rules}
+use Rattle.std.proofs.lemmas.Result.{err_from_is_err_and}
 use Rattle.tas_desk.specs.Seats.{SeatContent}
 use Rattle.tas_desk.proofs.EntryLemmas.{refused_as, refusal_answered, receipt_answered}
 use Rattle.tas_desk.proofs.locked_session.LockedSession.edit.Goals as goal
 
-pub returns-in-Err-clause-refusal : goal.returns-in-Err-clause-refusal
-returns-in-Err-clause-refusal g c =
-    refused_as c.self.inside.session _ _ _ _ _ c.args.edit c.in-Err.error c.in-Err.ensures.refusal c.show_to.ensures.history c.self.view_is
-    (ap (λ (s : SeatContent _). s.number) c.seat.view_is) (ap (λ (s : SeatContent _). s.made) c.seat.view_is)
+pub returns-in_err-receipt-clause-refusal : goal.returns-in_err-receipt-clause-refusal
+returns-in_err-receipt-clause-refusal g c =
+    let p = err_from_is_err_and c.from_residual.result c.from_residual.ensures.1 in
+    rw (p.1, p.2)
+    (refused_as c.self.inside.session _ _ _ _ _ c.args.edit c.in_err-receipt.field-0.0 c.in_err-receipt.ensures.refusal c.show_to.ensures.history c.self.view_is
+    (ap (λ (s : SeatContent _). s.number) c.seat.view_is) (ap (λ (s : SeatContent _). s.made) c.seat.view_is))
 
 pub returns-clause-journal : goal.returns-clause-journal
 returns-clause-journal g c = search rules
@@ -14,11 +17,13 @@ returns-clause-journal g c = search rules
 pub returns-clause-seat : goal.returns-clause-seat
 returns-clause-seat g c = search rules
 
-pub returns-in-Err-clause-answered : goal.returns-in-Err-clause-answered
-returns-in-Err-clause-answered g c =
-    refusal_answered _ _ _ c.args.edit c.in-Err.error
-    (refused_as c.self.inside.session _ _ _ _ _ c.args.edit c.in-Err.error c.in-Err.ensures.refusal c.show_to.ensures.history c.self.view_is
-    (ap (λ (s : SeatContent _). s.number) c.seat.view_is) (ap (λ (s : SeatContent _). s.made) c.seat.view_is))
+pub returns-in_err-receipt-clause-answered : goal.returns-in_err-receipt-clause-answered
+returns-in_err-receipt-clause-answered g c =
+    let p = err_from_is_err_and c.from_residual.result c.from_residual.ensures.1 in
+    rw (p.1, p.2)
+    (refusal_answered _ _ _ c.args.edit c.in_err-receipt.field-0.0
+    (refused_as c.self.inside.session _ _ _ _ _ c.args.edit c.in_err-receipt.field-0.0 c.in_err-receipt.ensures.refusal c.show_to.ensures.history c.self.view_is
+    (ap (λ (s : SeatContent _). s.number) c.seat.view_is) (ap (λ (s : SeatContent _). s.made) c.seat.view_is)))
 
 pub returns-clause-answered : goal.returns-clause-answered
-returns-clause-answered g c = receipt_answered c.self.inside.session _ _ _ c.args.edit _ c.in-Ok.ensures.refusal c.in-Ok.ensures.receipt c.show_to.ensures.history c.self.view_is
+returns-clause-answered g c = receipt_answered c.self.inside.session _ _ _ c.args.edit _ c.in_ok-receipt.ensures.refusal c.in_ok-receipt.ensures.receipt c.show_to.ensures.history c.self.view_is

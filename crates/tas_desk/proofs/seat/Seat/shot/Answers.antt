@@ -12,19 +12,19 @@ pub returns-clause-zone : goal.returns-clause-zone
 returns-clause-zone g c =
     let e = c.in-Ok-shot.ensures in
     let zone = c.self.inside.zone in
-    let new = marked c.version.result.now zone.made_for c.shot.new.self.made_for c.in-Ok.found.1 c.copy-found.new.self.seen c.version.ensures c.in-Ok.ensures.3 e.made_for in
+    let new = marked c.version.result.now zone.made_for c.shot.new.self.made_for c.in_ok-at.copied c.copy.new.self.seen c.version.ensures c.in_ok-at.ensures.3 e.made_for in
     let kept = subst₂ (λ meter rose. IsShotFrom zone.movie c.shot.new.self.movie c.args.k zone.states c.shot.new.self.states meter rose) c.new-meter.ensures (sym c.count.ensures) e.kept in
-    let made = made_for zone c.shot.new.self c.copy-found.new.self.seen new e.movie e.lawful in
+    let made = made_for zone c.shot.new.self c.copy.new.self.seen new e.movie e.lawful in
     zone_shot c.args.self.now _ _ _ c.count.result _ c.in-Ok-shot.end _ c.shown.ensures.shot c.shown.ensures.halted
-    (subst (λ (z : ZoneContent _). IsPlayed z c.shot.new.self c.copy-found.new.self.seen c.args.k c.count.result) (ap (λ (s : SeatContent _). s.zone) c.self.view_is) (record { made = made; shot = kept }))
+    (subst (λ (z : ZoneContent _). IsPlayed z c.shot.new.self c.copy.new.self.seen c.args.k c.count.result) (ap (λ (s : SeatContent _). s.zone) c.self.view_is) (record { made = made; shot = kept }))
 
 pub returns-clause-reply : goal.returns-clause-reply
 returns-clause-reply g c =
     let e = c.in-Ok-shot.ensures in
     let zone = c.self.inside.zone in
-    let new = marked c.version.result.now zone.made_for c.shot.new.self.made_for c.in-Ok.found.1 c.copy-found.new.self.seen c.version.ensures c.in-Ok.ensures.3 e.made_for in
-    let made = made_for zone c.shot.new.self c.copy-found.new.self.seen new e.movie e.lawful in
-    shot_at c.copy-found.new.self.seen c.shot.new.self.movie _ _ c.count.result _ c.in-Ok-shot.end _ made.movie c.in-Ok.ensures.1 c.in-Ok.ensures.2 e.answer e.picture c.shown.ensures.shot c.shown.ensures.halted
+    let new = marked c.version.result.now zone.made_for c.shot.new.self.made_for c.in_ok-at.copied c.copy.new.self.seen c.version.ensures c.in_ok-at.ensures.3 e.made_for in
+    let made = made_for zone c.shot.new.self c.copy.new.self.seen new e.movie e.lawful in
+    shot_at c.copy.new.self.seen c.shot.new.self.movie _ _ c.count.result _ c.in-Ok-shot.end _ made.movie c.in_ok-at.ensures.1 c.in_ok-at.ensures.2 e.answer e.picture c.shown.ensures.shot c.shown.ensures.halted
 
 pub returns-clause-short : goal.returns-clause-short
 returns-clause-short g c =
@@ -34,14 +34,14 @@ returns-clause-short g c =
     (subst (λ (z : ZoneContent _). IsShort z c.shot.new.self c.args.k c.count.result) (ap (λ (s : SeatContent _). s.zone) c.self.view_is) (short_shot zone c.shot.new.self c.args.k c.count.result kept))
 
 pub invariant_of-self-in_default : goal.invariant_of-self-in_default
-invariant_of-self-in_default g c = seated_on _ _ _ _ _ _ _ c.self.inside.zone c.self.inside.zone c.self.invariant c.in-Ok.ensures.0 refl
+invariant_of-self-in_default g c = seated_on _ _ _ _ _ _ _ c.self.inside.zone c.self.inside.zone c.self.invariant c.in_ok-at.ensures.0 refl
 
 pub invariant_of-self-in_default-shot : goal.invariant_of-self-in_default-shot
 invariant_of-self-in_default-shot g c =
-    seated_on _ _ _ _ _ _ _ c.self.inside.zone c.shot.new.self c.self.invariant c.in-Ok.ensures.0 (ap (λ (z : ZoneContent _). z.made_for.registry) c.in_default-shot.ensures.memory.0)
+    seated_on _ _ _ _ _ _ _ c.self.inside.zone c.shot.new.self c.self.invariant c.in_ok-at.ensures.0 (ap (λ (z : ZoneContent _). z.made_for.registry) c.in_default-shot.ensures.memory.0)
 
 pub invariant_of-self-2 : goal.invariant_of-self-2
 invariant_of-self-2 g c =
     let zone = c.self.inside.zone in
-    let new = marked c.version.result.now zone.made_for c.shot.new.self.made_for c.in-Ok.found.1 c.copy-found.new.self.seen c.version.ensures c.in-Ok.ensures.3 c.in-Ok-shot.ensures.made_for in
-    seated_on _ _ _ _ _ _ _ zone c.shot.new.self c.self.invariant c.in-Ok.ensures.0 (ap (λ (m : VersionContent _). m.registry) new)
+    let new = marked c.version.result.now zone.made_for c.shot.new.self.made_for c.in_ok-at.copied c.copy.new.self.seen c.version.ensures c.in_ok-at.ensures.3 c.in-Ok-shot.ensures.made_for in
+    seated_on _ _ _ _ _ _ _ zone c.shot.new.self c.self.invariant c.in_ok-at.ensures.0 (ap (λ (m : VersionContent _). m.registry) new)

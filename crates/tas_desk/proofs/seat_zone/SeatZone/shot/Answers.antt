@@ -10,6 +10,6 @@ invariant_of-self g c = lawful_still _ c.self.inside.green c.shot_from.new.self 
 pub shot_from-requires-in-Some-clause-lawful : goal.shot_from-requires-in-Some-clause-lawful
 shot_from-requires-in-Some-clause-lawful g c = c.self.invariant
 
-pub returns-in-Ok-clause-kept : goal.returns-in-Ok-clause-kept
-returns-in-Ok-clause-kept g c =
-    subst (λ (z : ZoneContent _). IsShotFrom z.movie c.in-Some.copied.movie c.args.k z.states c.shot_from-in-Some.new.self c.args.meter.now c.shot_from-in-Some.new.meter) c.self.view_is c.in-Ok.ensures.kept
+pub returns-in_ok-answer-in-Some-clause-kept : goal.returns-in_ok-answer-in-Some-clause-kept
+returns-in_ok-answer-in-Some-clause-kept g c =
+    subst (λ (z : ZoneContent _). IsShotFrom z.movie c.in-Some.copied.movie c.args.k z.states c.shot_from-in-Some.new.self c.args.meter.now c.shot_from-in-Some.new.meter) c.self.view_is c.in_ok-answer-in-Some.ensures.kept
