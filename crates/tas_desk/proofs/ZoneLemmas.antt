@@ -1,6 +1,6 @@
 -- What a call leaves of a seat's zone.
 use Rattle.std.specs.Prelude.{OnOk, OnErr}
-use Rattle.std.proofs.Common.{◌≡◌, ℕ, List, ap, sym, ◌∙◌, subst, arith, Option, Result, Ok, Err}
+use Rattle.std.proofs.Common.{◌≡◌, ℕ, List, refl, ap, sym, ◌∙◌, subst, arith, Option, Result, Ok, Err}
 use Rattle.logbook.specs.Pages.{Book}
 use Rattle.tas_movie.specs.Content.{MovieContent}
 use Rattle.tas_green.specs.declared.savestate.Savestate.{Savestate}
@@ -11,7 +11,7 @@ use Rattle.tas_desk.specs.declared.reader_view.ReaderView.{ReaderView}
 use Rattle.tas_desk.specs.Version.{VersionContent, version_of}
 use Rattle.tas_desk.specs.History.{movie_of}
 use Rattle.tas_desk.specs.Published.{HasSeenMore}
-use Rattle.tas_desk.specs.Seats.{IsSeated}
+use Rattle.tas_desk.specs.Seats.{SeatContent, seat_of, IsSeated, HasSeen}
 use Rattle.tas_desk.specs.Zones.{ZoneContent, version_after, IsMadeFor}
 use Rattle.tas_desk.proofs.SeatLemmas.{entries_of-prefix}
 
@@ -36,3 +36,8 @@ lawful_still movie zone now same (Err e) ok err is was = subst (IsLawful movie) 
 pub made_for : {A : Type 0} (z y : ZoneContent A) (list : List (Entry A)) → y.made_for ≡ version_of z.made_for.registry list → y.movie ≡ movie_of y.made_for.history → IsLawful y.movie y.states → IsMadeFor y list
 made_for {A} z y list marked movie lawful =
     let same = ap (λ (m : VersionContent A). m.history) marked in record { list = same; movie = movie ∙ ap (λ (h : List (Entry A)). movie_of h) same; lawful = lawful }
+
+-- a seat whose reader has seen more, and which made no edit
+pub seen_more : {A : Type 0} (v w : ReaderView A) (number made : ℕ) (before : SeatContent A) (z y : ZoneContent A) → seat_of number made v.seen z ≡ before → HasSeenMore v w → HasSeen before (seat_of number made w.seen y)
+seen_more {A} v w number made before z y view more =
+    subst (λ (s : SeatContent A). HasSeen s (seat_of number made w.seen y)) view (record { number = refl; made = refl; begins = more.begins })

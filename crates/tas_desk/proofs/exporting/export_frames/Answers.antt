@@ -28,6 +28,9 @@ returns-in-Ok-write_pixmaps-clause-ok g c =
     let drawn = runs_drawn c.args.movie.now c.args.plan c.args.zone.now c.play_runs-end.new.runs _ c.as_slice.result.now c.in-Ok.runs.len c.play_runs-end.result c.requires.plan c.play_runs-end.ensures c.in-None.is c.as_slice.ensures.value size in
     subst (Appends _ _) drawn.are c.in-Ok-write_pixmaps.ensures.ok
 
+pub returns-in-Ok-write_pixmaps-clause-played : goal.returns-in-Ok-write_pixmaps-clause-played
+returns-in-Ok-write_pixmaps-clause-played g c = c.play_runs-end.ensures.played c.in-None.is
+
 pub returns-in-Ok-write_pixmaps-clause-drawn : goal.returns-in-Ok-write_pixmaps-clause-drawn
 returns-in-Ok-write_pixmaps-clause-drawn g c =
     let size : length c.play_runs-end.new.runs ≡ c.in-Ok.runs.len = c.play_runs-end.auto.runs ∙ c.as_mut_slice.ensures.len in

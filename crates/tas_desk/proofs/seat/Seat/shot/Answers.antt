@@ -4,7 +4,7 @@ use Rattle.tas_desk.specs.Version.{VersionContent}
 use Rattle.tas_desk.specs.Seats.{SeatContent}
 use Rattle.tas_desk.specs.Zones.{ZoneContent, IsPlayed, IsShort}
 use Rattle.tas_desk.proofs.CutLemmas.{short_shot}
-use Rattle.tas_desk.proofs.ZoneLemmas.{seated_on, marked, made_for}
+use Rattle.tas_desk.proofs.ZoneLemmas.{seated_on, marked, made_for, seen_more}
 use Rattle.tas_desk.proofs.ShotLemmas.{shot_at, so_many, zone_shot}
 use Rattle.tas_desk.proofs.seat.Seat.shot.Goals as goal
 
@@ -45,3 +45,9 @@ invariant_of-self-2 g c =
     let zone = c.self.inside.zone in
     let new = marked c.version.result.now zone.made_for c.shot.new.self.made_for c.in_ok-at.copied c.copy.new.self.seen c.version.ensures c.in_ok-at.ensures.3 c.in-Ok-shot.ensures.made_for in
     seated_on _ _ _ _ _ _ _ zone c.shot.new.self c.self.invariant c.in_ok-at.ensures.0 (ap (λ (m : VersionContent _). m.registry) new)
+
+pub returns-clause-seat : goal.returns-clause-seat
+returns-clause-seat g c = seen_more c.self.inside.reader c.copy.new.self _ _ _ c.self.inside.zone c.shot.new.self c.self.view_is c.in_ok-at.ensures.0
+
+pub returns-in_default-shot-clause-seat : goal.returns-in_default-shot-clause-seat
+returns-in_default-shot-clause-seat g c = seen_more c.self.inside.reader c.copy.new.self _ _ _ c.self.inside.zone c.shot.new.self c.self.view_is c.in_ok-at.ensures.0
