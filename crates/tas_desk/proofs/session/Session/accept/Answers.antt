@@ -1,4 +1,4 @@
-use Rattle.std.proofs.Common.{◌∙◌, ap, length}
+use Rattle.std.proofs.Common.{◌∙◌, ap, length, rules}
 use Rattle.tas_desk.specs.Published.{PublisherContent}
 use Rattle.tas_desk.specs.Session.{SessionContent}
 use Rattle.tas_desk.proofs.HistoryLemmas.{sound_edited, counted_after, same_next}
@@ -15,3 +15,6 @@ invariant_of-self-2 g c =
       sound_edited was.journal _ was.movie _ _ _ c.args.next _ _ c.self.invariant.0 next pushed movie c.place-place.ensures len c.cut.ensures.lawful,
       λ seat. counted_after was.journal _ c.args.next seat _ _ _ (c.self.invariant.1 seat) (c.in_ok-reserve.ensures.same seat) (c.add.ensures seat) pushed,
     )
+
+pub returns-clause-done : goal.returns-clause-done
+returns-clause-done g c = search rules
