@@ -1,17 +1,18 @@
 -- Turns of a script on a desk whose one seat is the script's.
 use Rattle.std.proofs.Common.{◌≡◌, ℕ, ◌+◌, ◌<◌, ◌≤◌, List, [], ◌∷◌, ◌++◌, length, take, Bool, true, false, Option, Some, None, Result, Ok, Err, inl, inr, refl, sym, ap, subst, ◌∙◌, arith, length-append, append_assoc, append-nil}
-use Rattle.std.specs.Prelude.{◌==◌, if◌then◌else◌, replicate, MatchResult, nat_lt}
+use Rattle.std.specs.Prelude.{◌==◌, if◌then◌else◌, replicate, MatchResult}
+use Rattle.std.specs.Result.{result_err}
 use Rattle.std.proofs.lemmas.List.{take-append-le, take_all, length-replicate}
 use Rattle.std.proofs.lemmas.Bool.{eqb-true, eq-eqb, cases_lt}
 use Rattle.std.proofs.lemmas.List.Sums.{sum_by-append}
 use mathlib.Core.List.{IsPrefix}
 use Rattle.vcs_machine.specs.declared.input.Input.{Input}
-use Rattle.tas_movie.specs.Content.{MovieContent, most_inputs}
+use Rattle.tas_movie.specs.Content.{MovieContent}
 use Rattle.tas_movie.specs.declared.edit.Edit.{Edit}
 use Rattle.tas_movie.specs.declared.edit.Edit.TheVariants.{Insert as InsertEdit, Replace as ReplaceEdit}
 use Rattle.tas_movie.specs.declared.edit.EditRefusal.{EditRefusal}
 use Rattle.tas_movie.specs.declared.edit.EditRefusal.TheVariants.{Place as PlaceRefusal, Long as LongRefusal}
-use Rattle.tas_movie.specs.Edit.{refusal, edited, place_refusal}
+use Rattle.tas_movie.specs.Edit.{refusal, insert_refusal, place_refusal, check_answer, edited}
 use Rattle.tas_desk.specs.declared.entry.Entry.{Entry}
 use Rattle.tas_desk.specs.declared.replies.Receipt.{Receipt}
 use Rattle.tas_desk.specs.declared.replies.EditError.{EditError}
@@ -31,7 +32,7 @@ use Rattle.tas_script.specs.declared.reply.Reply.TheVariants.{Edited, Misplaced,
 use Rattle.tas_tool.specs.declared.answering.Answered.{Answered}
 use Rattle.tas_tool.specs.Edits.{load_edit, insert_edit, replace_edit, delete_edit}
 use Rattle.tas_tool.specs.Turns.{Unforeseen, OwnEdits, own_edits_of, BeginsWithOwn, HasForeign, IsDeskFault, refused_reply, refusal_reply, edit_reply, own_edits_unless, IsEditTurn, IsTurn}
-use Rattle.tas_tool.specs.Checking.{checked_end, insert_refusal, looked, IsAnswer, IsEditAnswer}
+use Rattle.tas_tool.specs.Checking.{checked_end, looked, IsAnswer, IsEditAnswer}
 
 -- ---- what a seat has seen
 
@@ -399,9 +400,14 @@ late before now edit made refused own m seen is told =
     looked_answer before now edit OutOfMemory made own m seen
     (turn_without_memory (own_edits_of before) edit (ap (λ (n : ℕ). refused_reply n (refusal (own_edits_of before).movie edit)) (sym m) ∙ ap (refused_reply made) is ∙ told))
 
+-- what a check of the place refuses
+pub refused_by : (checked : Result (Unit {0}) EditRefusal) (found refused : Option EditRefusal) → found ≡ result_err checked → checked ≡ check_answer refused → found ≡ refused
+refused_by checked found None is answer = is ∙ ap result_err answer
+refused_by checked found (Some refused) is answer = is ∙ ap result_err answer
+
 insert_refused_as : (A : Type 0) (movie : MovieContent) (at count len : ℕ) (input : Input) → len ≡ length movie.inputs → refusal movie (insert_edit A at count input) ≡ insert_refusal len at count
 insert_refused_as A movie at count len input is =
-    ap (λ (n : ℕ). if nat_lt (length movie.inputs) at then Some (PlaceRefusal at (length movie.inputs)) else if nat_lt most_inputs (length movie.inputs + n) then Some (LongRefusal (length movie.inputs)) else None) (length-replicate count input)
+    ap (λ (n : ℕ). insert_refusal (length movie.inputs) at n) (length-replicate count input)
     ∙ ap (λ (n : ℕ). insert_refusal n at count) (sym is)
 
 replace_refused_as : (A : Type 0) (movie : MovieContent) (at count len : ℕ) (input : Input) → len ≡ length movie.inputs → refusal movie (replace_edit A at count input) ≡ place_refusal len at (at + count)

@@ -1,9 +1,6 @@
 -- What a desk's replies are told as. Private functions cite this file.
-use Rattle.std.specs.Prelude.{◌≡◌, ℕ, ◌+◌, ◌==◌, nat_lt, if◌then◌else◌, Option, Some, None, Result, Ok, Err}
-use Rattle.tas_movie.specs.Content.{most_inputs}
+use Rattle.std.specs.Prelude.{◌≡◌, ℕ, ◌==◌, if◌then◌else◌, Result, Ok, Err}
 use Rattle.tas_movie.specs.declared.edit.Edit.{Edit}
-use Rattle.tas_movie.specs.declared.edit.EditRefusal.{EditRefusal}
-use Rattle.tas_movie.specs.declared.edit.EditRefusal.TheVariants.{Place, Long}
 use Rattle.tas_desk.specs.Seats.{SeatContent}
 use Rattle.tas_engines.specs.declared.fault.RunFault.{RunFault}
 use Rattle.tas_engines.specs.declared.fault.RunFault.TheVariants.{Foreign}
@@ -15,10 +12,6 @@ use Rattle.tas_tool.specs.Turns.{own_edits_of, BeginsWithOwn, IsDeskFault, IsEdi
 -- an answer, or another end, that stands at so many edits, where these are just the seat's own
 abbrev pub checked_end : {X : Type 0} → ℕ → ℕ → Result X RunFault → Result X RunFault
 checked_end made at end = if at == made then end else Err Foreign
-
--- why so many inputs can't be put in
-abbrev pub insert_refusal : ℕ → ℕ → ℕ → Option EditRefusal
-insert_refusal len at count = if nat_lt len at then Some (Place at len) else if nat_lt most_inputs (len + count) then Some (Long len) else None
 
 -- the answer of a command that makes no edit
 abbrev pub looked : Result Reply RunFault → ℕ → Result Answered RunFault

@@ -2,12 +2,11 @@
 
 ghost use Rattle.std.specs.Prelude.{◌≡◌, ◌+◌, Err, IfOk, MatchResult, length};
 ghost use Rattle.tas_movie.specs.declared.edit.Edit.{Edit as EditContent};
-ghost use Rattle.tas_movie.specs.Edit.{place_refusal};
 ghost use Rattle.tas_desk.specs.Session.{refusal_at, IsEditError};
 ghost use Rattle.tas_desk.specs.Seats.{HasSeen};
 ghost use Rattle.tas_desk.specs.Shots.{IsShotAt};
 ghost use Rattle.tas_tool.specs.Turns.{own_edits_of, refused_reply, halted_reply, BeginsWithOwn, IsDeskFault, IsEditTurn, IsTurn};
-ghost use Rattle.tas_tool.specs.Checking.{checked_end, insert_refusal, looked, IsAnswer, IsEditAnswer};
+ghost use Rattle.tas_tool.specs.Checking.{checked_end, looked, IsAnswer, IsEditAnswer};
 ghost use Rattle.tas_tool.specs.Talk.{ShotLeaves};
 ghost use Rattle.tas_tool.specs.Talking.{talk_state_of, IsCommandZone, IsWorkedZone, TellsError};
 ghost use Rattle.tas_script.specs.declared.command.Command.TheVariants.{Load as LoadLine, Insert as InsertLine, Replace as ReplaceLine, InputAt as InputLine, Shot as ShotLine, Work as WorkLine};
@@ -16,7 +15,7 @@ use std::alloc::Allocator;
 use std::sync::Wait;
 use tas_desk::{CloseOnDrop, Desk, EditError, Gate, InputError, MAX_EDITS, Name, Seat, ShotError};
 use tas_engines::RunFault;
-use tas_movie::{Edit, EditRefusal, Inputs, MAX_FRAMES};
+use tas_movie::{Edit, EditRefusal, Inputs, check_insertion, check_place};
 use tas_script::{Command, Image, Reply};
 use vcs_cpu::Halt;
 use vcs_machine::{Cart, Input};
@@ -139,29 +138,6 @@ fn refused_reply(made: u64, refusal: Option<EditRefusal>) -> Option<Reply>
     }
 }
 
-/// Why `count` inputs can't be put in at the place `at` of `len`.
-fn insert_refusal(len: usize, at: usize, count: usize) -> Option<EditRefusal>
-    ensures { result ≡ insert_refusal len at count }
-{
-    if at > len {
-        return Some(EditRefusal::Place { at, len });
-    }
-    if len.saturating_add(count) > MAX_FRAMES {
-        return Some(EditRefusal::Long { len });
-    }
-    None
-}
-
-/// Why the `count` inputs from the place `at` on, of `len`, can't be replaced.
-fn replace_refusal(len: usize, at: usize, count: usize) -> Option<EditRefusal>
-    ensures { result ≡ place_refusal len at (at + count) }
-{
-    if at > len || count > len - at {
-        return Some(EditRefusal::Place { at, len });
-    }
-    None
-}
-
 /// A `load` or `load2` line. Memory is asked for once nothing else refuses the edit.
 fn load<N: Name, W: CloseOnDrop, A: Allocator + Copy, R: Wait>(
     rt: &R,
@@ -208,7 +184,7 @@ fn insert<N: Name, W: CloseOnDrop, A: Allocator + Copy, R: Wait>(
     ensures answer { IsAnswer A seat.old seat.new (InsertLine at count input) result }
 {
     let len = own_len(desk, seat, made)?;
-    if let Some(reply) = refused_reply(made, insert_refusal(len, at, count)) {
+    if let Some(reply) = refused_reply(made, check_insertion(len, at, count).err()) {
         return Ok(Answered { reply, made });
     }
     match Inputs::repeated(alloc, input, count) {
@@ -238,7 +214,7 @@ fn replace<N: Name, W: CloseOnDrop, A: Allocator + Copy, R: Wait>(
     ensures answer { IsAnswer A seat.old seat.new (ReplaceLine at count input) result }
 {
     let len = own_len(desk, seat, made)?;
-    if let Some(reply) = refused_reply(made, replace_refusal(len, at, count)) {
+    if let Some(reply) = refused_reply(made, check_place(len, at, count).err()) {
         return Ok(Answered { reply, made });
     }
     match Inputs::repeated(alloc, input, count) {

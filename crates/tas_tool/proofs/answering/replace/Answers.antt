@@ -1,13 +1,13 @@
 use Rattle.std.proofs.Common.{ap, sym, ◌∙◌}
 use Rattle.tas_tool.specs.Turns.{refused_reply}
 use Rattle.tas_script.specs.declared.command.Command.TheVariants.{Replace as ReplaceLine}
-use Rattle.tas_tool.proofs.TurnLemmas.{own_stays, after_look, replace_early, replace_late, replace_answer}
+use Rattle.tas_tool.proofs.TurnLemmas.{own_stays, after_look, refused_by, replace_early, replace_late, replace_answer}
 use Rattle.tas_tool.proofs.answering.replace.Goals as goal
 
 pub returns-in-Some-clause-answer : goal.returns-in-Some-clause-answer
 returns-in-Some-clause-answer g c =
     replace_early g.row.A.Denot c.args.seat.now c.own_len.new.seat c.args.at c.args.count c.in_ok-len.len c.args.made c.args.input c.in-Some.reply c.requires.own c.requires.made c.in_ok-len.ensures.seen c.in_ok-len.ensures.reply.1
-    (ap (refused_reply c.args.made) (sym c.replace_refusal.ensures) ∙ sym c.refused_reply.ensures ∙ c.in-Some.is)
+    (ap (refused_reply c.args.made) (sym (refused_by c.check_place.result c.err.result _ c.err.ensures.value c.check_place.ensures)) ∙ sym c.refused_reply.ensures ∙ c.in-Some.is)
 
 pub returns-in-Ok-clause-answer : goal.returns-in-Ok-clause-answer
 returns-in-Ok-clause-answer g c =
@@ -17,7 +17,7 @@ returns-in-Ok-clause-answer g c =
 pub returns-in-Err-clause-answer : goal.returns-in-Err-clause-answer
 returns-in-Err-clause-answer g c =
     replace_late g.row.A.Denot c.args.seat.now c.own_len.new.seat c.args.at c.args.count c.in_ok-len.len c.args.made c.args.input c.requires.own c.requires.made c.in_ok-len.ensures.seen c.in_ok-len.ensures.reply.1
-    (ap (refused_reply c.args.made) (sym c.replace_refusal.ensures) ∙ sym c.refused_reply.ensures ∙ c.in_default.is)
+    (ap (refused_reply c.args.made) (sym (refused_by c.check_place.result c.err.result _ c.err.ensures.value c.check_place.ensures)) ∙ sym c.refused_reply.ensures ∙ c.in_default.is)
 
 pub make_edit-requires-clause-own : goal.make_edit-requires-clause-own
 make_edit-requires-clause-own g c = own_stays c.args.seat.now c.own_len.new.seat c.requires.own c.in_ok-len.ensures.seen
