@@ -1,6 +1,7 @@
 //! `tas export`.
 
 ghost use Rattle.std.specs.Prelude.{◌≡◌, ◌≤◌, [], length};
+ghost use Rattle.tas_desk.specs.Runs.{most_workers};
 ghost use Rattle.tas_desk.specs.Seats.{name_of};
 ghost use Rattle.tas_engines.specs.Movies.{IsMovieRun};
 ghost use Rattle.tas_engines.specs.Output.{Ends};
@@ -15,12 +16,9 @@ use std::io::{Read, Write};
 use std::marker::Brand;
 use std::sync::Wait;
 use std::thread::Threads;
-use tas_desk::{CloseOnDrop, Desk, ExportError, Name, Seat, Unopened};
+use tas_desk::{CloseOnDrop, Desk, ExportError, MAX_WORKERS, Name, Seat, Unopened};
 use tas_engines::{RunFault, ToolFault, halt_fault, movie_of, read_two};
 use tas_movie::Movie;
-
-/// The most workers of one export (own).
-pub const MAX_WORKERS: usize = 16;
 
 /// Which frames are written, from `from` to the one before `to`, and by how many workers.
 #[derive(Clone, Copy)]
@@ -47,7 +45,7 @@ fn export_made<
     output: &mut W,
 ) -> Result<(), RunFault>
     requires first { (seat.old.number ≡ 0) × (seat.old.made ≡ 0) × (seat.old.front ≡ []) }
-    requires workers { (1 ≤ frames.workers) × (frames.workers ≤ 16) }
+    requires workers { (1 ≤ frames.workers) × (frames.workers ≤ most_workers) }
     ensures number { seat.new.number ≡ 0 }
     ensures own { StandsAtOwn seat.new result }
     ensures ends { length seat.new.front ≤ seat.new.made → Ends (IsPixmapsAnswer movie.now frames.from frames.to) (W.contents output.old) (W.contents output.new) result }
@@ -83,7 +81,7 @@ fn export_from_desk<N: Name, A: Allocator + Copy + Send + Sync, R: Wait + Thread
 ) -> Result<(), RunFault>
     requires name { unopened ≡ name_of N.registry N.name N.parts }
     requires one { unopened.seats ≡ 1 }
-    requires workers { (1 ≤ frames.workers) × (frames.workers ≤ 16) }
+    requires workers { (1 ≤ frames.workers) × (frames.workers ≤ most_workers) }
     ensures { Ends (IsPixmapsAnswer movie.now frames.from frames.to) (W.contents output.old) (W.contents output.new) result }
 {
     let (desk, mut seats) = open_alone::<N, A, R>(rt, alloc, unopened)?;
@@ -102,7 +100,7 @@ fn export_movie<A: Allocator + Copy + Send + Sync, R: Wait + Threads + Sync, W: 
     bytes: &[u8],
     output: &mut W,
 ) -> Result<(), RunFault>
-    requires workers { (1 ≤ frames.workers) × (frames.workers ≤ 16) }
+    requires workers { (1 ≤ frames.workers) × (frames.workers ≤ most_workers) }
     ensures { Ends (IsExportAnswer frames.from frames.to image.now bytes.now) (W.contents output.old) (W.contents output.new) result }
 {
     let movie = movie_of(alloc, image, bytes)?;
@@ -114,7 +112,7 @@ fn export_movie<A: Allocator + Copy + Send + Sync, R: Wait + Threads + Sync, W: 
 
 /// Reads a cartridge and a movie text, and writes the pictures of the movie's frames from `from` to the one
 /// before `to`, counted from 0, as binary portable pixmaps, one after the other. They are played by
-/// `workers` workers, each on a thread of its own: by one where the number is 0, and by 16 where it is
+/// `workers` workers, each on a thread of its own: by one where the number is 0, and by [`MAX_WORKERS`] where it is
 /// more. What is written doesn't depend on it.
 ///
 /// Faults, in order: those of [`read_two`], those of [`movie_of`], then `Range` where the movie hasn't

@@ -15,10 +15,11 @@ mod talk_runs;
 mod talking;
 mod telling;
 
-pub use exporting::{MAX_WORKERS, export_run};
+pub use exporting::export_run;
 pub use movie_scripting::movie_script_run;
 pub use scripting::script_run;
 pub use talk_runs::{cart_talk_run, movie_talk_run, talk_run};
+pub use tas_desk::MAX_WORKERS;
 pub use tas_edit::{diff_run, edit_run};
 pub use tas_engines::{
     INPUT_LIMIT, ReadFault, RunFault, ToolFault, check_run, migrate_run, shot_run, trace_run,
