@@ -2,8 +2,7 @@
 use Rattle.std.proofs.Common.{◌≡◌, ℕ, zero, suc, ◌+◌, ◌<◌, ◌≤◌, List, [], ◌∷◌, ◌++◌, length, take, set, Bool, true, false, cond, Some, ◌⊎◌, inl, inr, refl, sym, ap, subst, ◌∙◌, arith, length-append}
 use Rattle.std.specs.Prelude.{All, count_by, ◌==◌, slice_get, slice_index_or}
 use Rattle.logbook.specs.Pages.{Book}
-use Rattle.tas_movie.specs.Content.{MovieContent}
-use Rattle.tas_desk.specs.History.{blank_movie}
+use Rattle.tas_movie.specs.Content.{MovieContent, blank_movie}
 use Rattle.tas_desk.specs.declared.entry.Entry.{Entry}
 use Rattle.tas_desk.specs.Seats.{SeatContent, seat_of, IsSettled, IsWhole}
 use Rattle.tas_desk.specs.Zones.{ZoneContent, blank_zone}

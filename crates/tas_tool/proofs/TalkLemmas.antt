@@ -5,10 +5,10 @@ use Rattle.std.specs.Io.KnownBytes.{Appends, Consumes, Keeps, IsAtEnd}
 use Rattle.std.proofs.KnownBytes.{Appends-nil, Appends-trans, Consumes-nil, Consumes-trans, Consumes-kept}
 use Rattle.std.proofs.lemmas.Grind.{flat_map-append}
 use Rattle.tas_movie.specs.Text.{line}
-use Rattle.tas_movie.specs.Content.{MovieContent}
+use Rattle.tas_movie.specs.Content.{MovieContent, blank_movie}
 use Rattle.tas_green.specs.declared.savestate.Savestate.{Savestate}
 use Rattle.tas_desk.specs.declared.entry.Entry.{Entry}
-use Rattle.tas_desk.specs.History.{blank_movie, movie_of, entries_of}
+use Rattle.tas_desk.specs.History.{movie_of, entries_of}
 use Rattle.tas_desk.specs.Seats.{SeatContent}
 use Rattle.tas_desk.specs.Zones.{ZoneContent}
 use Rattle.tas_desk.proofs.HistoryLemmas.{movie_of-none}

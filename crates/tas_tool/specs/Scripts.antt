@@ -2,8 +2,8 @@
 use Rattle.std.specs.Prelude.{◌≡◌, ℕ, ◌+◌, ◌<◌, List, [], ◌∷◌, ◌++◌, length, Option, Result, Ok, Err, ◌⊎◌}
 use Rattle.std.specs.List.{flat_map}
 use Rattle.std.specs.Io.KnownBytes.{Appends}
+use Rattle.tas_movie.specs.Content.{blank_movie}
 use Rattle.tas_movie.specs.Text.{line}
-use Rattle.tas_desk.specs.History.{blank_movie}
 use Rattle.tas_engines.specs.declared.fault.RunFault.{RunFault}
 use Rattle.tas_engines.specs.declared.fault.RunFault.TheVariants.{Script, NoPlace, NoEntry, Memory}
 use Rattle.tas_engines.specs.declared.fault.ToolFault.{ToolFault}

@@ -1,8 +1,8 @@
 //! `tas talk`.
 
 ghost use Rattle.std.specs.Prelude.{◌≡◌, ◌≤◌, [], length, None};
-ghost use Rattle.tas_desk.specs.History.{blank_movie};
 ghost use Rattle.tas_desk.specs.Seats.{name_of};
+ghost use Rattle.tas_movie.specs.Content.{blank_movie};
 ghost use Rattle.tas_tool.specs.Talk.{talk_state_from, IsCartTalk, IsMovieTalk, IsTalk};
 
 use crate::making::{MOVIE_EDITS, put_movie};
