@@ -9,6 +9,7 @@ use Rattle.clap.specs.declared.builder.command.Command.{Command}
 use Rattle.clap.specs.declared.builder.command.Command.TheViews.{out-Command}
 use Rattle.clap.specs.declared.builder.value_parser.ValueParser.{ValueParser}
 use Rattle.tas_script.specs.Commands.{most_number}
+use Rattle.tas_tool.specs.Pixmaps.{most_workers}
 use Rattle.tas_program.specs.declared.command_line.Subcommand.{Subcommand}
 use Rattle.tas_program.specs.declared.command_line.Word.{Word}
 use Rattle.tas_program.specs.declared.command_line.WordKind.{WordKind}
@@ -115,7 +116,7 @@ command_line = record {
       ∷ shape_with (codes "diff") (word_rule (codes "CART") None ∷ word_rule (codes "OLD") None ∷ [])
       ∷ shape_with (codes "script") (flag_rule (codes "CART") (codes "cart") ∷ flag_rule (codes "MOVIE") (codes "movie") ∷ [])
       ∷ shape_with (codes "talk") (may_word_rule (codes "CART") ∷ may_word_rule (codes "MOVIE") ∷ [])
-      ∷ shape_with (codes "export") (word_rule (codes "CART") None ∷ number_rule (codes "FROM") 0 most_number ∷ number_rule (codes "TO") 0 most_number ∷ number_rule (codes "WORKERS") 1 16 ∷ [])
+      ∷ shape_with (codes "export") (word_rule (codes "CART") None ∷ number_rule (codes "FROM") 0 most_number ∷ number_rule (codes "TO") 0 most_number ∷ number_rule (codes "WORKERS") 1 most_workers ∷ [])
       ∷ [];
 }
 

@@ -3,6 +3,7 @@ use Rattle.std.specs.Prelude.{◌≡◌, ℕ, ◌≤◌, List, Option, Some, Non
 use Rattle.std.specs.Str.Parse.{digits_value, without_leading_plus}
 use Rattle.clap.specs.Walk.{Row, Text, first_of, one_of}
 use Rattle.tas_script.specs.Commands.{IsNumber}
+use Rattle.tas_tool.specs.Pixmaps.{most_workers}
 use Rattle.tas_program.specs.declared.task.Task.{Task}
 use Rattle.tas_program.specs.declared.task.Task.TheVariants.{Trace, Check, Migrate, Shot, Edit, Diff, Script, MovieScript, Talk, CartTalk, MovieTalk, Export}
 
@@ -34,7 +35,7 @@ IsInRange (MovieScript cart movie) = Unit {0}
 IsInRange Talk = Unit {0}
 IsInRange (CartTalk cart) = Unit {0}
 IsInRange (MovieTalk cart movie) = Unit {0}
-IsInRange (Export cart from to workers) = IsNumber from × IsNumber to × (1 ≤ workers) × (workers ≤ 16)
+IsInRange (Export cart from to workers) = IsNumber from × IsNumber to × (1 ≤ workers) × (workers ≤ most_workers)
 
 -- the word of this name is this text
 abbrev pub IsWord : List Row → Text → Text → Type 0

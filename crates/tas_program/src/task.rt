@@ -81,7 +81,7 @@ pub enum Task<'a> {
         from: u32,
         /// The frame behind the last one, up to 9,999,999.
         to: u32,
-        /// How many workers play them, 1 to 16.
+        /// How many workers play them, 1 to [`MAX_WORKERS`].
         workers: u32,
     },
 }
