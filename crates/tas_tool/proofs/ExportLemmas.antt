@@ -3,6 +3,7 @@ use Rattle.std.proofs.Common.{◌≡◌, ℕ, ◌-◌, ◌≤◌, List, length, 
 use Rattle.std.proofs.lemmas.List.{take-append-le, take_all}
 use Rattle.std.proofs.KnownBytes.{Keeps-refl}
 use Rattle.std.specs.Io.KnownBytes.{Keeps}
+use Rattle.counted_write.specs.CutOff.{IsCutOff}
 use Rattle.vcs_cpu.specs.declared.halt.Halt.{Halt}
 use Rattle.vcs_cpu.specs.declared.halt.Halt.TheVariants.{Undocumented}
 use Rattle.tas_movie.specs.Content.{MovieContent}
@@ -13,7 +14,7 @@ use Rattle.tas_desk.specs.declared.export.ExportError.TheVariants.{Range as OffR
 use Rattle.tas_desk.specs.History.{movie_of, entries_of}
 use Rattle.tas_desk.specs.Seats.{SeatContent, HasSeen}
 use Rattle.tas_desk.specs.Zones.{ZoneContent}
-use Rattle.tas_desk.specs.Exports.{IsInRange, BrokeOff, IsExport}
+use Rattle.tas_desk.specs.Exports.{IsInRange, IsExport}
 use Rattle.tas_desk.specs.Frames.{AllDrawn, pixmaps_of}
 use Rattle.tas_engines.specs.declared.fault.RunFault.{RunFault}
 use Rattle.tas_engines.specs.declared.fault.RunFault.TheVariants.{Write, Size, Text, NoFrame, Range, Halted, Script, EditPlace, EditLong, NoPlace, NoEntry, Foreign, Memory}
@@ -90,12 +91,12 @@ pub memory_ends : {A : Type 0} (zone : ZoneContent A) (movie : MovieContent) (ed
 memory_ends zone movie edits plan old new is = inl (tt, kept old new is.1)
 
 pub write_ends : (movie : MovieContent) (plan : Plan) (old new : Option (List ℕ)) (written : ℕ) → IsInRange (length movie.inputs) plan.from plan.to → AllDrawn movie plan.from plan.to
-    → BrokeOff old new (pixmaps_of movie plan.from (plan.to - plan.from)) written → Ends (IsPixmapsAnswer movie plan.from plan.to) old new (Err (Write written))
-write_ends movie plan old new written range drawn broke =
+    → IsCutOff old new (pixmaps_of movie plan.from (plan.to - plan.from)) written → Ends (IsPixmapsAnswer movie plan.from plan.to) old new (Err (Write written))
+write_ends movie plan old new written range drawn cut =
     inr (record {
       bytes = pixmaps_of movie plan.from (plan.to - plan.from);
       answer = record { range = range; drawn = drawn; pixmaps = refl };
-      stops = record { written = written; is_write = refl; rest_is_missing = broke.missing; front = broke.front };
+      stops = record { written = written; is_write = refl; cut = cut };
     })
 
 -- the movie isn't made

@@ -4,6 +4,8 @@ use Rattle.std.specs.Prelude.{min}
 use Rattle.std.specs.Io.KnownBytes.{Appends, Consumes, Keeps, IsAtEnd}
 use Rattle.std.proofs.KnownBytes.{Appends-nil, Appends-trans, Consumes-nil, Consumes-trans, Consumes-kept}
 use Rattle.std.proofs.lemmas.Grind.{flat_map-append}
+use lib.Seq.{take-append-add}
+use Rattle.counted_write.specs.CutOff.{IsCutOff}
 use Rattle.tas_movie.specs.Text.{line}
 use Rattle.tas_movie.specs.Content.{MovieContent, blank_movie}
 use Rattle.tas_green.specs.declared.savestate.Savestate.{Savestate}
@@ -27,7 +29,7 @@ use Rattle.tas_tool.specs.Turns.{OwnEdits, own_edits_of, BeginsWithOwn}
 use Rattle.tas_tool.specs.Scripts.{own_edits_at_start}
 use Rattle.tas_tool.specs.MovieScripts.{own_edits_of_movie}
 use Rattle.tas_tool.specs.TwoEdits.{HoldsMovie, IsMakingFault}
-use Rattle.tas_tool.specs.Talk.{TalkState, fresh_talk_state, Exchange, IsExchange, AreExchanges, IsCutOff, IsTalk, lines_of, answers_of, last_answer, most_counted}
+use Rattle.tas_tool.specs.Talk.{TalkState, fresh_talk_state, Exchange, IsExchange, AreExchanges, IsAnswerCutOff, IsTalk, lines_of, answers_of, last_answer, most_counted}
 use Rattle.tas_tool.specs.Talking.{talk_state_of, CutsOff, HasAnswered, Breaks, StopsAfter, IsToldTo, IsTalkFault, IsLineTurn, IsPartTurn}
 use Rattle.tas_tool.proofs.MovieScriptLemmas.{holds_own_edits}
 
@@ -64,10 +66,10 @@ no_newline (x ∷ xs) ys h k = (h.0, no_newline xs ys h.1 k)
 -- ---- one line
 
 -- a fault that counts from nothing
-pub front_taken : (old new : Option (List ℕ)) (bytes : List ℕ) (n : ℕ) → Appends old new (take (n - 0) bytes) → Appends old new (take n bytes)
-front_taken old new bytes n out =
+pub counted_from_nothing : (old new : Option (List ℕ)) (bytes : List ℕ) (n : ℕ) → IsCutOff old new bytes (n - 0) → IsCutOff old new bytes n
+counted_from_nothing old new bytes n cut =
     let same : n - 0 ≡ n = omega arith in
-    subst (λ (k : ℕ). Appends old new (take k bytes)) same out
+    subst (λ (k : ℕ). IsCutOff old new bytes k) same cut
 
 -- a line that was heard as something and answered
 exchange_of : List ℕ → Option Request → List ℕ → TalkState → Exchange
@@ -110,8 +112,8 @@ cut_line : {A : Type 0} (state : TalkState) (now : SeatContent A) (x : Exchange)
     → (more : List ℕ) → Breaks state (line x.said ++ more) now told old new fault
 cut_line {A} state now x told old new fault is cut more =
     let answer : Breaks state (line x.said ++ more) now told old new (Write (min (told + cut.0) most_counted)) =
-    (x.answer, (x, more, is, refl, refl), (cut.0, cut.1, cut.2, refl)) in
-    subst (Breaks state (line x.said ++ more) now told old new) (sym cut.3) answer
+    (x.answer, (x, more, is, refl, refl), (cut.0, cut.1, refl)) in
+    subst (Breaks state (line x.said ++ more) now told old new) (sym cut.2) answer
 
 pub unknown_cut : {A : Type 0} (seat : SeatContent A) (said answer : List ℕ) (told : ℕ) (old new : Option (List ℕ)) (fault : RunFault) → NoByte 10 said → IsHeard said None → answer ≡ unknown_text → CutsOff told answer old new fault
     → IsLineTurn seat seat said told old new (Err fault)
@@ -335,13 +337,16 @@ ends_well {A} first now progress held long input input' input'' output output' o
 
 -- a write behind some answers that was cut off
 cut_off : (told answer : List ℕ) (counted : ℕ) (output output' output'' : Option (List ℕ)) (written : ℕ) → min counted most_counted ≡ min (0 + length told) most_counted → Appends output output' told
-    → CutsOff counted answer output' output'' (Write written) → IsCutOff told answer output output'' written
+    → CutsOff counted answer output' output'' (Write written) → IsAnswerCutOff told answer output output'' written
 cut_off told answer counted output output' output'' written count out cut =
-    let same : written ≡ min (counted + cut.0) most_counted = cc cut.3 in
+    let same : written ≡ min (counted + cut.0) most_counted = cc cut.2 in
     record {
-      sent = cut.0;
-      rest_is_missing = cut.1;
-      front = Appends-trans output output' output'' told (take cut.0 answer) out cut.2;
+      sent = length told + cut.0;
+      cut = record {
+        missing = omega (arith, cut.1.missing, length-append told answer);
+        front = subst (Appends output output'') (sym (take-append-add told answer cut.0)) (Appends-trans output output' output'' told (take cut.0 answer) out cut.1.front);
+      };
+      before = omega arith;
       count = omega (arith, same, count);
     }
 
@@ -349,8 +354,8 @@ pub ends_cut : {A : Type 0} (first now : SeatContent A) (progress : Progress) (h
     → IsUnderway first now progress held long input input' output output' xs part → Consumes input' input'' more → more ≡ [] → IsAtEnd input'' → CutsOff progress.written (last_answer part) output' output'' fault
     → IsTalk A (talk_state_of first) input input'' output output'' (Err (run_fault fault))
 ends_cut {A} first now progress held long input input' input'' output output' output'' xs part more fault way read none end cut =
-    let same : fault ≡ Write (min (progress.written + cut.0) most_counted) = cut.3 in
-    let cut' : CutsOff progress.written (last_answer part) output' output'' (Write (min (progress.written + cut.0) most_counted)) = (cut.0, cut.1, cut.2, refl) in
+    let same : fault ≡ Write (min (progress.written + cut.0) most_counted) = cut.2 in
+    let cut' : CutsOff progress.written (last_answer part) output' output'' (Write (min (progress.written + cut.0) most_counted)) = (cut.0, cut.1, refl) in
     let told : IsTalk A (talk_state_of first) input input'' output output'' (Err (run_fault (Write (min (progress.written + cut.0) most_counted)))) =
     record {
       exchanges = xs;

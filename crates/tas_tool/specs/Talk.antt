@@ -1,7 +1,8 @@
 -- Conversations: each line is answered at what the lines before it made (own).
-use Rattle.std.specs.Prelude.{◌≡◌, ℕ, ◌+◌, ◌<◌, min, List, [], ◌∷◌, ◌++◌, length, take, filter, is_some, Bool, true, false, if◌then◌else◌, Option, Some, None, Result, Ok, Err, ◌⊎◌}
+use Rattle.std.specs.Prelude.{◌≡◌, ℕ, ◌+◌, ◌<◌, ◌≤◌, min, List, [], ◌∷◌, ◌++◌, length, filter, is_some, Bool, true, false, if◌then◌else◌, Option, Some, None, Result, Ok, Err, ◌⊎◌}
 use Rattle.std.specs.List.{flat_map, range_with_len}
 use Rattle.std.specs.Io.KnownBytes.{Appends, Consumes, IsAtEnd, Keeps}
+use Rattle.counted_write.specs.CutOff.{IsCutOff}
 use Rattle.vcs_cpu.specs.declared.halt.Halt.{Halt}
 use Rattle.vcs_tia.specs.Image.{ppm_bytes}
 use Rattle.vcs_machine.specs.Cart.{is_cart_size}
@@ -190,12 +191,12 @@ IsNextAnswer A state rest input answer = IsFirstAnswer A state rest answer ⊎ (
 abbrev pub most_counted : ℕ
 most_counted = 18446744073709551615
 
--- a write of an answer failed: the answers before it went out and its first bytes, and the fault tells how many these are
-pub record IsCutOff (told answer : List ℕ) (old new : Option (List ℕ)) (written : ℕ) : Type 0 where
+-- a write of an answer failed: it was cut off with the answers before it, but these went out whole; the fault tells how many bytes went out
+pub record IsAnswerCutOff (told answer : List ℕ) (old new : Option (List ℕ)) (written : ℕ) : Type 0 where
   pub sent : ℕ
-  pub rest_is_missing : sent < length answer
-  pub front : Appends old new (told ++ take sent answer)
-  pub count : written ≡ min (length told + sent) most_counted
+  pub cut : IsCutOff old new (told ++ answer) sent
+  pub before : length told ≤ sent
+  pub count : written ≡ min sent most_counted
 
 -- how a conversation ends in front of this rest, with these answers out before: by `quit`; at the end of the input, after the answer to what
 -- stands behind the last newline; where a read failed, with no whole line unanswered; where a write failed; where memory or
@@ -203,7 +204,7 @@ pub record IsCutOff (told answer : List ℕ) (old new : Option (List ℕ)) (writ
 abbrev pub TalkEnds : Type 0 → TalkState → (rest told : List ℕ) → (input output output' : Option (List ℕ)) → Result (Unit {0}) ToolFault → Type 0
 TalkEnds A state rest told input output output' (Ok _) = (IsQuit rest × Appends output output' told) ⊎ (NoByte 10 rest × IsAtEnd input × Appends output output' (told ++ last_answer rest))
 TalkEnds A state rest told input output output' (Err Read) = NoByte 10 rest × Appends output output' told
-TalkEnds A state rest told input output output' (Err (Write written)) = (answer : List ℕ) × IsNextAnswer A state rest input answer × IsCutOff told answer output output' written
+TalkEnds A state rest told input output output' (Err (Write written)) = (answer : List ℕ) × IsNextAnswer A state rest input answer × IsAnswerCutOff told answer output output' written
 TalkEnds A state rest told input output output' (Err Memory) = Appends output output' told
 TalkEnds A state rest told input output output' (Err NoEntry) = (0 < length rest) × Appends output output' told
 TalkEnds A state rest told input output output' (Err NoPlace) = (rest ≡ []) × (told ≡ []) × Appends output output' told

@@ -1,6 +1,7 @@
 -- A conversation on its way. Private functions cite this file.
-use Rattle.std.specs.Prelude.{◌≡◌, ℕ, ◌+◌, ◌<◌, min, List, [], ◌∷◌, ◌++◌, length, take, Bool, Option, Some, None, Result, Ok, Err}
+use Rattle.std.specs.Prelude.{◌≡◌, ℕ, ◌+◌, ◌<◌, min, List, [], ◌∷◌, ◌++◌, length, Bool, Option, Some, None, Result, Ok, Err}
 use Rattle.std.specs.Io.KnownBytes.{Appends}
+use Rattle.counted_write.specs.CutOff.{IsCutOff}
 use Rattle.tas_movie.specs.Text.{line}
 use Rattle.tas_green.specs.Green.{IsLawful}
 use Rattle.tas_desk.specs.declared.replies.ShotError.{ShotError}
@@ -66,7 +67,7 @@ pub record IsToldTo {A : Type 0} (before now : SeatContent A) (request : Request
 
 -- a write of an answer failed, behind so many bytes: its first bytes went out
 abbrev pub CutsOff : ℕ → List ℕ → Option (List ℕ) → Option (List ℕ) → RunFault → Type 0
-CutsOff before answer old new fault = (sent : ℕ) × (sent < length answer) × Appends old new (take sent answer) × (fault ≡ Write (min (before + sent) most_counted))
+CutsOff before answer old new fault = (sent : ℕ) × IsCutOff old new answer sent × (fault ≡ Write (min (before + sent) most_counted))
 
 -- lines were answered from one front of the seat's to another, the answers went out and are counted behind so many bytes
 pub record HasAnswered {A : Type 0} (before now : SeatContent A) (exchanges : List Exchange) (told : ℕ) (next : Progress) (old new : Option (List ℕ)) : Type 0 where
