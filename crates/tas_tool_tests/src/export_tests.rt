@@ -2,7 +2,7 @@
 
 use crate::answers::{Answer, check_answer, check_pictures};
 use crate::checks::{check_same, check_that};
-use crate::movies::{HALTING, PLAYFIELD, Program, RIGHT, image_of, text_of};
+use crate::movies::{HALTING, PICTURE, PLAYFIELD, Program, RIGHT, image_of, text_of};
 use std::alloc::Global;
 use std::io::Read;
 use std::process::Abort;
@@ -11,9 +11,6 @@ use std::thread::Threads;
 use tas_movie::{TextError, TextErrorKind};
 use tas_tool::{INPUT_LIMIT, ToolFault, export_run, shot_run};
 use test_streams::{Failure, Filler, Giver, Room, Taker};
-
-/// How many bytes a picture has.
-const PICTURE: usize = 100_815;
 
 /// `000=AD80026580858085094C00F0 FFC=00F0`: folds what the joysticks show into the background's colour, so
 /// that a picture depends on all inputs up to it.

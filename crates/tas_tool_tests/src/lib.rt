@@ -1,4 +1,5 @@
-//! What scripts, conversations, exports and the whole program do when they run, over readers, writers, words and files of the tests' own.
+//! What scripts, conversations, exports and the whole program do when they run, over readers, writers, words and files of the tests' own;
+//! at the program's limits, too, and with scripts that were made to break their reader.
 #![tactic(auto)]
 
 #[cfg(test)]
@@ -8,17 +9,27 @@ mod checks;
 #[cfg(test)]
 mod export_tests;
 #[cfg(test)]
+mod limit_tests;
+#[cfg(test)]
 mod long_script_tests;
 #[cfg(test)]
 mod movie_script_tests;
 #[cfg(test)]
 mod movies;
 #[cfg(test)]
+mod plain_editor;
+#[cfg(test)]
+mod plain_script;
+#[cfg(test)]
 mod program_tests;
 #[cfg(test)]
 mod programs;
 #[cfg(test)]
 mod script_tests;
+#[cfg(test)]
+mod spoilt_script_tests;
+#[cfg(test)]
+mod tails;
 #[cfg(test)]
 mod talk_file_tests;
 #[cfg(test)]

@@ -97,6 +97,9 @@ pub fn text_of<R: Abort>(
     text
 }
 
+/// How many bytes the pixmap of a picture has.
+pub const PICTURE: usize = 100_815;
+
 /// The picture of the playfield: pixels 0 to 3 and 80 to 83 of each row have the colour 1E, all others 00.
 pub fn playfield_picture<R: Abort>(rt: &R, alloc: Global) -> Vec<u8> {
     let mut bytes = joined(rt, alloc, &[b"P6\n160 210\n255\n"]);

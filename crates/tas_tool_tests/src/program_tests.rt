@@ -2,13 +2,14 @@
 
 use crate::checks::check_same;
 use crate::movies::{PLAYFIELD, image_of, joined, playfield_picture};
-use crate::programs::{ONE_FRAME, TwoFiles, check_ran, run, run_words, words_of};
+use crate::programs::{
+    ONE_FRAME, TwoFiles, check_ran, only_game, run, run_into, run_words, words_of,
+};
 use std::alloc::Global;
 use std::io::{Error, ErrorKind};
 use std::process::Abort;
 use std::sync::Wait;
 use std::thread::Threads;
-use tas_program::run_program;
 
 /// LDA #42, STA 80, JMP F000.
 static STORES: &[u8] = b"\xa9\x42\x85\x80\x4c\x00\xf0";
@@ -26,11 +27,6 @@ const SCRIPT: &[u8] =
 
 const REPLIES: &[u8] =
     b"edit 1 len 0\nedit 2 len 2\nshot 2 1 ran 2 lit 1680\nedit 3 len 2\ninput 3 R.... ..... .....\nno frame 3 len 2\n";
-
-/// The folder where `game.bin` is this cartridge, and `other` is empty.
-fn only_game(game: &[u8]) -> TwoFiles<'_> {
-    TwoFiles { game, other: b"" }
-}
 
 /// Fails where a command over this cartridge and input doesn't end well, or writes another answer.
 fn check_done<R: Threads + Wait + Abort + Sync>(
@@ -209,21 +205,10 @@ fn no_memory_for_the_words_is_a_fault(rt: HostRuntime) {
 fn help_that_cannot_be_written_is_a_fault(rt: HostRuntime) {
     let alloc = rt.alloc();
     let words = words_of(&rt, alloc, &["--version"]).into_iter();
-    let folder = only_game(b"");
-    let mut input: &[u8] = b"";
     let mut room = [0u8; 20];
     let mut output = room.as_mut_slice();
-    let mut errors = Vec::new(alloc);
-    let status = run_program(
-        &rt,
-        alloc,
-        Ok(words),
-        &folder,
-        &mut input,
-        &mut output,
-        &mut errors,
-    );
-    check_same(&rt, "status", status.code(), 1);
+    let (errors, code) = run_into(&rt, alloc, Ok(words), only_game(b""), b"", &mut output);
+    check_same(&rt, "status", code, 1);
     check_same(
         &rt,
         "errors",

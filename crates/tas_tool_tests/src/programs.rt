@@ -8,7 +8,7 @@ use crate::checks::{check_same, check_that, expect_ok};
 use std::alloc::Global;
 use std::env::Args;
 use std::io;
-use std::io::{Error, ErrorKind};
+use std::io::{Error, ErrorKind, Write};
 use std::process::Abort;
 use std::sync::Wait;
 use std::thread::Threads;
@@ -37,6 +37,11 @@ impl<'a> Folder for TwoFiles<'a> {
     }
 }
 
+/// The folder where `game.bin` is this cartridge, and `other` is empty.
+pub fn only_game(game: &[u8]) -> TwoFiles<'_> {
+    TwoFiles { game, other: b"" }
+}
+
 /// What the program wrote, and its status.
 #[derive(Drop)]
 pub struct Ran {
@@ -60,6 +65,21 @@ fn push_word<R: Abort>(rt: &R, alloc: Global, words: &mut Vec<String>, word: &st
     expect_ok(rt, words.push(word));
 }
 
+/// Runs the program with these words over this folder and input, into this writer: what it tells of faults, and its status.
+pub fn run_into<T: Threads + Wait + Sync, W: Write>(
+    rt: &T,
+    alloc: Global,
+    words: io::Result<Args>,
+    folder: TwoFiles<'_>,
+    input: &[u8],
+    output: &mut W,
+) -> (Vec<u8>, u8) {
+    let mut input = input;
+    let mut errors = Vec::new(alloc);
+    let status = run_program(rt, alloc, words, &folder, &mut input, output, &mut errors);
+    (errors, status.code())
+}
+
 /// Runs the program with these words over this folder and input.
 pub fn run_words<T: Threads + Wait + Sync>(
     rt: &T,
@@ -68,22 +88,12 @@ pub fn run_words<T: Threads + Wait + Sync>(
     folder: TwoFiles<'_>,
     input: &[u8],
 ) -> Ran {
-    let mut input = input;
     let mut output = Vec::new(alloc);
-    let mut errors = Vec::new(alloc);
-    let status = run_program(
-        rt,
-        alloc,
-        words,
-        &folder,
-        &mut input,
-        &mut output,
-        &mut errors,
-    );
+    let (errors, code) = run_into(rt, alloc, words, folder, input, &mut output);
     Ran {
         output,
         errors,
-        code: status.code(),
+        code,
     }
 }
 

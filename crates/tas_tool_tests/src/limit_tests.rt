@@ -1,7 +1,9 @@
 //! Each limit of the program at its last value that is taken and its first one that is refused.
 
 use crate::checks::{check_same, check_that, expect_ok};
-use crate::programs::{Files, Ran, run};
+use crate::movies::{PICTURE, image_of};
+use crate::programs::{TwoFiles, only_game};
+use crate::tails::{Counted, run_counted};
 use std::alloc::Global;
 use std::process::Abort;
 use std::sync::Wait;
@@ -24,21 +26,6 @@ const FRAME: &[u8] = b"..... ..... .....\n";
 /// The most bytes of one input.
 const MOST_BYTES: usize = 16_777_216;
 
-/// How many bytes a picture has.
-const PICTURE: usize = 100_815;
-
-/// The image of the cartridge with a program at F000.
-fn cart<R: Abort>(rt: &R, alloc: Global, program: &[u8]) -> Vec<u8> {
-    let mut image = expect_ok(rt, vec![in alloc; 0u8; 4096]);
-    for (cell, byte) in image.iter_mut().zip(program) {
-        *cell = *byte;
-    }
-    if let Some(cell) = image.get_mut(0xffd) {
-        *cell = 0xf0;
-    }
-    image
-}
-
 /// Some bytes and then so many copies of others.
 fn repeated<R: Abort>(rt: &R, alloc: Global, front: &[u8], copy: &[u8], count: usize) -> Vec<u8> {
     let room = copy.len().saturating_mul(count).saturating_add(front.len());
@@ -60,11 +47,6 @@ fn runs<R: Abort>(rt: &R, alloc: Global, lines: &[u8]) -> Vec<u8> {
     repeated(rt, alloc, HEAD, lines, 1)
 }
 
-/// The folder where `game.bin` is this cartridge, and `other` is empty.
-fn only_game(game: &[u8]) -> Files<'_> {
-    Files { game, other: b"" }
-}
-
 /// How the program ends.
 #[derive(Clone, Copy)]
 enum End {
@@ -77,19 +59,19 @@ enum End {
 }
 
 /// Fails where a run of the program with these words ended in another way.
-fn check_ran<R: Abort>(rt: &R, words: &[&str], ran: &Ran, end: End) {
+fn check_ran<R: Abort>(rt: &R, words: &[&str], ran: &Counted, end: End) {
     match end {
         End::Writes(bytes, last) => {
-            check_same(rt, words, (ran.code, ran.bytes), (0, bytes));
-            check_that(rt, words, ran.last.ends_with(last));
+            check_same(rt, words, (ran.code, ran.output.bytes), (0, bytes));
+            check_that(rt, words, ran.output.last.ends_with(last));
             check_that(rt, words, ran.errors.is_empty());
         }
         End::Faults(line) => {
-            check_same(rt, words, (ran.code, ran.bytes), (1, 0));
+            check_same(rt, words, (ran.code, ran.output.bytes), (1, 0));
             check_same(rt, words, ran.errors.as_slice(), line);
         }
         End::Misuse => {
-            check_same(rt, words, (ran.code, ran.bytes), (2, 0));
+            check_same(rt, words, (ran.code, ran.output.bytes), (2, 0));
             check_that(rt, words, ran.errors.starts_with(b"error: "));
         }
     }
@@ -100,11 +82,11 @@ fn check_end<R: Threads + Wait + Abort + Sync>(
     rt: &R,
     alloc: Global,
     words: &[&str],
-    files: Files<'_>,
+    files: TwoFiles<'_>,
     input: &[u8],
     end: End,
 ) {
-    let ran = run(rt, alloc, words, files, input);
+    let ran = run_counted(rt, alloc, words, files, input);
     check_ran(rt, words, &ran, end);
 }
 
@@ -112,7 +94,7 @@ fn check_end<R: Threads + Wait + Abort + Sync>(
 fn check_ends<R: Threads + Wait + Abort + Sync>(
     rt: &R,
     alloc: Global,
-    files: Files<'_>,
+    files: TwoFiles<'_>,
     input: &[u8],
     cases: &[(&[&str], End)],
 ) {
@@ -147,7 +129,7 @@ static NUMBERS: [(&[&str], End); 11] = [
 #[test]
 fn numbers_of_the_words(rt: HostRuntime) {
     let alloc = rt.alloc();
-    let (game, text) = (cart(&rt, alloc, BRIEF), older_movie(&rt, alloc, 2));
+    let (game, text) = (image_of(&rt, alloc, BRIEF), older_movie(&rt, alloc, 2));
     check_ends(
         &rt,
         alloc,
@@ -168,7 +150,7 @@ static INSTRUCTIONS: [(&[&str], End); 3] = [
 fn instructions_of_a_trace(rt: HostRuntime) {
     let alloc = rt.alloc();
     // An undocumented opcode at its first instruction ends each trace.
-    let halting = cart(&rt, alloc, b"\x02");
+    let halting = image_of(&rt, alloc, b"\x02");
     check_ends(
         &rt,
         alloc,
@@ -182,7 +164,7 @@ fn instructions_of_a_trace(rt: HostRuntime) {
 #[test]
 fn lines_of_a_trace(rt: HostRuntime) {
     let alloc = rt.alloc();
-    let game = cart(&rt, alloc, BRIEF);
+    let game = image_of(&rt, alloc, BRIEF);
     let files = only_game(b"");
     let all = End::Writes(25_000_000, b"4C 00 00 00 FD 36 3\n");
     check_end(
@@ -224,7 +206,7 @@ static OLDER_LONGER: [(&[&str], End); 3] = [
 #[test]
 fn frames_of_an_older_movie(rt: HostRuntime) {
     let alloc = rt.alloc();
-    let (game, longest) = (cart(&rt, alloc, BRIEF), older_movie(&rt, alloc, 65_536));
+    let (game, longest) = (image_of(&rt, alloc, BRIEF), older_movie(&rt, alloc, 65_536));
     let longer = older_movie(&rt, alloc, 65_537);
     let files = only_game(game.as_slice());
     check_ends(
@@ -268,7 +250,7 @@ static PARTED: [(&[&str], End); 2] = [
 #[test]
 fn frames_of_a_movie(rt: HostRuntime) {
     let alloc = rt.alloc();
-    let game = cart(&rt, alloc, BRIEF);
+    let game = image_of(&rt, alloc, BRIEF);
     let files = only_game(game.as_slice());
     let longest = runs(&rt, alloc, b"..... ..... ..... x262144\n");
     let parted = runs(
@@ -302,7 +284,7 @@ static PAST_RUNS: [(&[u8], End); 5] = [
 #[test]
 fn runs_past_their_limits(rt: HostRuntime) {
     let alloc = rt.alloc();
-    let game = cart(&rt, alloc, BRIEF);
+    let game = image_of(&rt, alloc, BRIEF);
     let files = only_game(game.as_slice());
     for (lines, end) in PAST_RUNS.iter() {
         let text = runs(&rt, alloc, lines);
@@ -333,9 +315,9 @@ static CHANGES: [(&[u8], End); 2] = [
 #[test]
 fn frames_of_an_edit(rt: HostRuntime) {
     let alloc = rt.alloc();
-    let (game, text) = (cart(&rt, alloc, BRIEF), older_movie(&rt, alloc, 3));
+    let (game, text) = (image_of(&rt, alloc, BRIEF), older_movie(&rt, alloc, 3));
     for (other, end) in CHANGES.iter() {
-        let files = Files {
+        let files = TwoFiles {
             game: game.as_slice(),
             other,
         };
@@ -378,7 +360,7 @@ static EXPORTS: [(&[&str], End); 2] = [
 fn frames_of_one_export(rt: HostRuntime) {
     let alloc = rt.alloc();
     let (game, text) = (
-        cart(&rt, alloc, BRIEF),
+        image_of(&rt, alloc, BRIEF),
         runs(&rt, alloc, b"..... ..... ..... x1025\n"),
     );
     check_ends(
@@ -417,7 +399,7 @@ fn edits_of_a_script(rt: HostRuntime) {
 #[test]
 fn bytes_of_one_input(rt: HostRuntime) {
     let alloc = rt.alloc();
-    let game = cart(&rt, alloc, BRIEF);
+    let game = image_of(&rt, alloc, BRIEF);
     let zeros = expect_ok(&rt, vec![in alloc; 0u8; MOST_BYTES]);
     let more = expect_ok(&rt, vec![in alloc; 0u8; MOST_BYTES + 1]);
     let size = End::Faults(b"fault: cartridge has 16777216 bytes\n");
