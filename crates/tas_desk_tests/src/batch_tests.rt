@@ -1,11 +1,12 @@
-//! Batches of jobs, offered to a desk.
+//! Batches of jobs, offered to their desk or to another one.
 
-use crate::changes::{Change, HALTING, PLAYFIELD, edit_of};
-use crate::checks::{check_same, check_that, expect_ok};
-use crate::desks::{Task, play};
+use crate::changes::{Change, HALTING, PLAYFIELD};
+use crate::checks::{check_same, expect_ok, expect_some};
+use crate::desks::{Lending, Task, lend, make_edits, play};
 use std::alloc::Global;
 use std::process::Abort;
 use std::sync::Wait;
+use std::thread::Threads;
 use tas_desk::{CloseOnDrop, Desk, Name, OfferError, Offered, Seat};
 use tas_green::Batch;
 
@@ -30,17 +31,8 @@ fn offer<N: Name, W: CloseOnDrop, R: Wait>(
     }
 }
 
-/// Makes an edit of the seat, which is accepted.
-fn change<N: Name, W: CloseOnDrop, R: Wait + Abort>(
-    rt: &R,
-    alloc: Global,
-    desk: &Desk<N, W>,
-    seat: &mut Seat<N>,
-    change: Change,
-) {
-    let edit = expect_ok(rt, edit_of(alloc, change));
-    check_that(rt, change, desk.edit(rt, seat, edit).is_ok());
-}
+/// The edits that make 200 frames.
+const FILLED: [Change; 2] = [Change::Load(PLAYFIELD), Change::Insert(0, 200)];
 
 /// A batch of all of 200 frames.
 fn batch<N: Name, W: CloseOnDrop, R: Wait + Abort>(
@@ -61,35 +53,75 @@ fn offer_behind<N: Name, W: CloseOnDrop, R: Wait + Abort>(
     edit: Change,
     batch: Batch,
 ) -> (Answered, usize) {
-    change(rt, alloc, desk, seat, edit);
+    make_edits(rt, alloc, desk, seat, &[edit]);
     let answered = offer(rt, desk, seat, batch);
     (answered, expect_ok(rt, desk.share(rt, seat)))
 }
 
 /// Three batches of 200 frames: two are offered once input 100 is another one, the third behind another cartridge.
-pub fn offer_three_batches<N: Name, W: CloseOnDrop, R: Wait + Abort>(
+pub fn offer_three_batches<N: Name + Send + Sync, R: Threads + Wait + Abort + Sync>(
     rt: &R,
     alloc: Global,
-    desk: &Desk<N, W>,
-    seat: &mut Seat<N>,
+    desk: &Desk<N, &R>,
+    seats: &mut [Seat<N>],
 ) {
-    change(rt, alloc, desk, seat, Change::Load(PLAYFIELD));
-    change(rt, alloc, desk, seat, Change::Insert(0, 200));
+    let seat = expect_some(rt, seats.first_mut());
+    make_edits(rt, alloc, desk, seat, &FILLED);
     let first = batch(rt, alloc, desk, seat);
     let second = batch(rt, alloc, desk, seat);
     let third = batch(rt, alloc, desk, seat);
     let (at, front) = (3, 100);
     let gained = Answered::Taken(Offered { at, front, kept: 1 });
     let told = offer_behind(rt, alloc, desk, seat, Change::ReplaceRight(100), first);
-    check_that(rt, told, told == (gained, 1));
+    check_same(rt, "first", told, (gained, 1));
     let nothing = Answered::Taken(Offered { at, front, kept: 0 });
-    check_same(rt, "offer", offer(rt, desk, seat, second), nothing);
+    check_same(rt, "second", offer(rt, desk, seat, second), nothing);
     let told = offer_behind(rt, alloc, desk, seat, Change::Load(HALTING), third);
-    check_that(rt, told, told == (Answered::OtherCartridge(4), 0));
+    check_same(rt, "third", told, (Answered::OtherCartridge(4), 0));
 }
 
 #[test]
 fn three_batches_are_offered_to_a_desk(rt: HostRuntime) {
-    let (closed, _) = play(&rt, rt.alloc(), 1, Task::ThreeBatches);
+    let closed = lend(&rt, rt.alloc(), 1, Lending::ThreeBatches);
     check_same(&rt, "closed.journal", closed.journal.len(), 4);
+}
+
+/// The batch of a job for all of 200 frames.
+pub fn take_batch<N: Name, W: CloseOnDrop, R: Wait + Abort>(
+    rt: &R,
+    alloc: Global,
+    desk: &Desk<N, W>,
+    seat: &mut Seat<N>,
+) -> Batch {
+    make_edits(rt, alloc, desk, seat, &FILLED);
+    batch(rt, alloc, desk, seat)
+}
+
+/// A batch is offered to a movie of 100 frames of the same cartridge.
+pub fn give_batch<N: Name, W: CloseOnDrop, R: Wait + Abort>(
+    rt: &R,
+    alloc: Global,
+    desk: &Desk<N, W>,
+    seat: &mut Seat<N>,
+    batch: Batch,
+) {
+    let edits = [Change::Load(PLAYFIELD), Change::Insert(0, 100)];
+    make_edits(rt, alloc, desk, seat, &edits);
+    let taken = Answered::Taken(Offered {
+        at: 2,
+        front: 100,
+        kept: 1,
+    });
+    check_same(rt, "offer", offer(rt, desk, seat, batch), taken);
+    check_same(rt, "share", desk.share(rt, seat).ok(), Some(1));
+}
+
+#[test]
+fn a_batch_goes_from_one_desk_to_another(rt: HostRuntime) {
+    let (_, told) = play(&rt, rt.alloc(), 8, Task::TakeBatch);
+    let batch = expect_some(&rt, told.batch);
+    let held = [batch.holds(64), batch.holds(128), batch.holds(192)];
+    check_same(&rt, "batch", held, [true, true, true]);
+    let (closed, _) = play(&rt, rt.alloc(), 8, Task::GiveBatch(batch));
+    check_same(&rt, "closed.movie", closed.movie.len(), 100);
 }

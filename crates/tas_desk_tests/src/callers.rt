@@ -44,7 +44,7 @@ impl Dice {
             0 => Change::Load(HALTING),
             1 => Change::Load(PLAYFIELD),
             2 | 3 => Change::Load(FOLDING),
-            4 | 5 | 6 => Change::InsertRight(place),
+            4 | 5 | 6 => Change::InsertRight(place, 1),
             7 | 8 => Change::Insert(place, self.roll(4)),
             9 | 10 => Change::ReplaceRight(place),
             11 | 12 => Change::Replace(place, self.roll(3)),

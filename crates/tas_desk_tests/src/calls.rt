@@ -1,15 +1,18 @@
 //! Calls of a desk in short, taken one after the other on one thread.
 
+ghost use Rattle.std.specs.Prelude.{◌≤◌};
+
 use crate::changes::{Change, edit_of};
 use crate::checks::{check_that, expect_ok};
+use crate::desks::{Lending, lend};
 use crate::gates::Open;
 use std::alloc::Global;
 use std::process::Abort;
 use std::sync::Wait;
 use std::thread::Threads;
 use tas_desk::{
-    CloseOnDrop, Desk, EditError, ExportError, InputError, Name, NoEntry, Receipt, Seat, ShotError,
-    Worked,
+    CloseOnDrop, Closed, Desk, EditError, ExportError, InputError, MAX_WORKERS, Name, NoEntry,
+    Receipt, Seat, ShotError, Worked,
 };
 use vcs_machine::Input;
 
@@ -78,7 +81,7 @@ fn export<N: Name, W: CloseOnDrop, R: Threads + Wait + Sync>(
     range: (usize, usize),
     workers: usize,
 ) -> Option<(u64, Result<u64, usize>, usize)> {
-    if workers < 1 || workers > 16 {
+    if workers < 1 || workers > MAX_WORKERS {
         return None;
     }
     let (from, to) = range;
@@ -189,10 +192,10 @@ fn is_taken<N: Name, W: CloseOnDrop, R: Threads + Wait + Abort + Sync>(
 }
 
 /// Takes calls in order, on one thread.
-pub fn take_calls<N: Name, W: CloseOnDrop, R: Threads + Wait + Abort + Sync>(
+pub fn take_calls<N: Name + Send + Sync, R: Threads + Wait + Abort + Sync>(
     rt: &R,
     alloc: Global,
-    desk: &Desk<N, W>,
+    desk: &Desk<N, &R>,
     seats: &mut [Seat<N>],
     calls: &[Call],
 ) {
@@ -200,4 +203,16 @@ pub fn take_calls<N: Name, W: CloseOnDrop, R: Threads + Wait + Abort + Sync>(
         let is_right = is_taken(rt, alloc, desk, seats, *call);
         check_that(rt, ("call", number), is_right);
     }
+}
+
+/// Takes calls in order at a desk of so many seats, and answers what it leaves.
+pub fn play_calls<R: Threads + Wait + Abort + Sync>(
+    rt: &R,
+    alloc: Global,
+    seats: u32,
+    calls: &[Call],
+) -> Closed
+    requires { (1 ≤ seats) × (seats ≤ 8) }
+{
+    lend(rt, alloc, seats, Lending::Calls(calls))
 }

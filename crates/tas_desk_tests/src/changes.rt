@@ -7,6 +7,7 @@ use vcs_machine::{Cart, Input};
 
 /// `000=A910850DA91E85084C08F0 FFC=00F0`: a playfield of 1,680 lit pixels in each frame.
 pub const PLAYFIELD: &[u8] = b"\xA9\x10\x85\x0D\xA9\x1E\x85\x08\x4C\x08\xF0";
+
 /// `000=A203A9028500A9008500CAD0F502 FFC=00F0`: three frames, then the undocumented opcode 02 at F00D.
 pub const HALTING: &[u8] = b"\xA2\x03\xA9\x02\x85\x00\xA9\x00\x85\x00\xCA\xD0\xF5\x02";
 
@@ -16,6 +17,12 @@ pub const FOLDING: &[u8] = b"\xAD\x80\x02\x65\x80\x85\x80\x85\x09\x4C\x00\xF0";
 
 /// `000=AD80026580858085098502 00B=4C00F0 FFC=00F0`: the same once a line, and waits for the next one.
 pub const WAITING: &[u8] = b"\xAD\x80\x02\x65\x80\x85\x80\x85\x09\x85\x02\x4C\x00\xF0";
+
+/// `000=A5802A4D800269F585808509A2248502CAD0FBA9028500A90085004C00F0 FFC=00F0`: folds what the joysticks show into one byte and
+/// colours the frame by it, then waits for 36 lines and ends the frame by vertical sync. So a picture depends on all inputs up to
+/// it, and is soon played: of its rows the first two are drawn.
+pub const BRIEF_FOLDING: &[u8] =
+    b"\xA5\x80\x2A\x4D\x80\x02\x69\xF5\x85\x80\x85\x09\xA2\x24\x85\x02\xCA\xD0\xFB\xA9\x02\x85\x00\xA9\x00\x85\x00\x4C\x00\xF0";
 
 /// The halt of the second program.
 pub const HALT: Halt = Halt::Undocumented {
@@ -30,8 +37,8 @@ pub enum Change {
     Load(&'static [u8]),
     /// So many inputs with nothing pressed, at a place.
     Insert(usize, usize),
-    /// One input with the left stick pushed right, at a place.
-    InsertRight(usize),
+    /// So many inputs with the left stick pushed right, at a place.
+    InsertRight(usize, usize),
     /// One input with the left fire pressed, at a place.
     InsertFire(usize),
     /// So many inputs with nothing pressed over those at a place.
@@ -45,10 +52,8 @@ pub enum Change {
 /// The cartridge with a program at F000.
 pub fn cart(alloc: Global, program: &[u8]) -> Result<Cart, AllocError> {
     let mut image = [0u8; 4096];
-    for (at, byte) in program.iter().enumerate() {
-        if at < 4096 {
-            image[at] = *byte;
-        }
+    for (cell, byte) in image.iter_mut().zip(program) {
+        *cell = *byte;
     }
     image[4093] = 0xF0;
     Cart::from_bytes(alloc, &image).map_err(|_| AllocError)
@@ -69,7 +74,7 @@ pub fn fire() -> Input {
 }
 
 /// So many equal inputs.
-pub fn copies(alloc: Global, input: Input, count: usize) -> Result<Inputs, AllocError> {
+fn copies(alloc: Global, input: Input, count: usize) -> Result<Inputs, AllocError> {
     Ok(Inputs::from_vec(vec![in alloc; input; count]?))
 }
 
@@ -81,9 +86,9 @@ pub fn edit_of(alloc: Global, change: Change) -> Result<Edit, AllocError> {
             at,
             inputs: copies(alloc, Input::none(), count)?,
         },
-        Change::InsertRight(at) => Edit::Insert {
+        Change::InsertRight(at, count) => Edit::Insert {
             at,
-            inputs: copies(alloc, right(), 1)?,
+            inputs: copies(alloc, right(), count)?,
         },
         Change::InsertFire(at) => Edit::Insert {
             at,

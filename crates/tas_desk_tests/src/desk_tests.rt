@@ -1,9 +1,8 @@
 //! Desks by hand, on one thread: each call with its answer.
 
-use crate::calls::Call;
+use crate::calls::{Call, play_calls};
 use crate::changes::{Change, HALT, HALTING, PLAYFIELD, fire};
 use crate::checks::check_same;
-use crate::desks::{Task, play};
 use crate::sessions::history;
 use tas_desk::{EditError, InputError, ShotError, Worked};
 use vcs_machine::Input;
@@ -34,7 +33,7 @@ static FRESH: [Call; 8] = [
 
 #[test]
 fn a_fresh_desk_has_no_frames(rt: HostRuntime) {
-    let (closed, _) = play(&rt, rt.alloc(), 2, Task::Calls(&FRESH));
+    let closed = play_calls(&rt, rt.alloc(), 2, &FRESH);
     check_same(
         &rt,
         "journal, movie",
@@ -57,7 +56,7 @@ fn a_seat_sees_the_other_s_edit(rt: HostRuntime) {
         Call::NotDrawn(1, 2, ShotError::NoFrame { at: 2, len: 2 }),
         Call::Meet(2),
     ];
-    let (closed, _) = play(&rt, rt.alloc(), 2, Task::Calls(&calls));
+    let closed = play_calls(&rt, rt.alloc(), 2, &calls);
     check_same(&rt, "closed.journal", closed.journal.len(), 2);
 }
 
@@ -91,7 +90,7 @@ static REFUSALS: [Call; 7] = [
 #[test]
 fn refusals_of_a_desk_come_in_order(rt: HostRuntime) {
     let alloc = rt.alloc();
-    let (closed, _) = play(&rt, alloc, 2, Task::Calls(&REFUSALS));
+    let closed = play_calls(&rt, alloc, 2, &REFUSALS);
     let text = "0 0 insert 0 262144\n1 0 replace 262144 0\n1 1 delete 1 262143\n0 1 delete 0 0\n";
     let told = history(&rt, alloc, closed.journal.as_slice());
     check_same(&rt, "history", told.as_str(), text);
@@ -135,7 +134,7 @@ static SHARED: [Call; 17] = [
 
 #[test]
 fn work_is_shared_with_other_seats(rt: HostRuntime) {
-    play(&rt, rt.alloc(), 4, Task::Calls(&SHARED));
+    play_calls(&rt, rt.alloc(), 4, &SHARED);
 }
 
 static TARGETS: [Call; 7] = [
@@ -175,7 +174,7 @@ static TARGETS: [Call; 7] = [
 /// Targets are worked in order, each from the states that the ones before it left.
 #[test]
 fn each_target_is_worked(rt: HostRuntime) {
-    play(&rt, rt.alloc(), 2, Task::Calls(&TARGETS));
+    play_calls(&rt, rt.alloc(), 2, &TARGETS);
 }
 
 static CAME_BACK: [Call; 12] = [
@@ -196,14 +195,14 @@ static CAME_BACK: [Call; 12] = [
 /// A seat's zone is cut where it next shoots, so it keeps what an edit and its taking back leave equal.
 #[test]
 fn a_zone_of_a_movie_that_came_back(rt: HostRuntime) {
-    play(&rt, rt.alloc(), 1, Task::Calls(&CAME_BACK));
+    play_calls(&rt, rt.alloc(), 1, &CAME_BACK);
 }
 
 static LENGTHENED: [Call; 9] = [
     LOADED,
     Call::Made(0, Change::Insert(0, 32831), 2, 32831),
     Call::Drawn(0, 199, 2, 200, 1680),
-    Call::Made(0, Change::InsertRight(32831), 3, 32832),
+    Call::Made(0, Change::InsertRight(32831, 1), 3, 32832),
     Call::Drawn(0, 150, 3, 23, 1680),
     Call::Drawn(0, 100, 3, 101, 1680),
     Call::Made(0, Change::Delete(32831, 1), 4, 32831),
@@ -213,7 +212,7 @@ static LENGTHENED: [Call; 9] = [
 
 #[test]
 fn a_seat_s_grid_follows_the_length(rt: HostRuntime) {
-    play(&rt, rt.alloc(), 1, Task::Calls(&LENGTHENED));
+    play_calls(&rt, rt.alloc(), 1, &LENGTHENED);
 }
 
 static HALTED: [Call; 9] = [
@@ -239,5 +238,5 @@ static HALTED: [Call; 9] = [
 /// The state after 64 frames is halted and is kept, as the share of nothing from a worker's zone shows.
 #[test]
 fn halted_states_are_kept_by_a_desk(rt: HostRuntime) {
-    play(&rt, rt.alloc(), 2, Task::Calls(&HALTED));
+    play_calls(&rt, rt.alloc(), 2, &HALTED);
 }

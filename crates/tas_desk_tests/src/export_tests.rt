@@ -1,10 +1,11 @@
 //! Exports: the same bytes for every number of workers, and what is left out of them.
 
 ghost use Rattle.std.specs.Prelude.{◌≤◌};
+ghost use Rattle.tas_desk.specs.Runs.{most_workers};
 
 use crate::changes::{Change, FOLDING, HALT, HALTING, PLAYFIELD, WAITING, edit_of};
-use crate::checks::{check_same, check_that, expect_ok};
-use crate::desks::{Task, play};
+use crate::checks::{check_same, check_that, expect_ok, expect_some};
+use crate::desks::{Lending, lend, make_edits};
 use crate::gates::{Counting, Open, Ordered};
 use crate::replays::pixmaps;
 use crate::sums::{Compared, Sum};
@@ -40,7 +41,7 @@ fn export<N: Name, W: CloseOnDrop, G: Gate + Sync, R: Threads + Wait + Sync>(
     gate: &G,
     room: usize,
 ) -> Told
-    requires { (1 ≤ workers) × (workers ≤ 16) }
+    requires { (1 ≤ workers) × (workers ≤ most_workers) }
 {
     let (from, to) = range;
     let mut out = Sum::new(room);
@@ -67,21 +68,6 @@ fn making(program: &'static [u8], count: usize) -> [Change; 3] {
     ]
 }
 
-/// The seat makes a movie of a program and so many inputs.
-fn fill<N: Name, R: Threads + Wait + Abort + Sync>(
-    rt: &R,
-    alloc: Global,
-    desk: &Desk<N, &R>,
-    seat: &mut Seat<N>,
-    program: &'static [u8],
-    count: usize,
-) {
-    for change in making(program, count) {
-        let edit = expect_ok(rt, edit_of(alloc, change));
-        check_that(rt, change, desk.edit(rt, seat, edit).is_ok());
-    }
-}
-
 /// What an export of frames of such a movie writes: how many bytes, and the sum over them. No frame of them is halted.
 fn wanted_pixmaps<R: Abort>(
     rt: &R,
@@ -101,14 +87,15 @@ fn wanted_pixmaps<R: Abort>(
 }
 
 /// So many frames, from frame 2 on, by each number of workers.
-pub fn export_by_each<N: Name, R: Threads + Wait + Abort + Sync>(
+pub fn export_by_each<N: Name + Send + Sync, R: Threads + Wait + Abort + Sync>(
     rt: &R,
     alloc: Global,
     desk: &Desk<N, &R>,
-    seat: &mut Seat<N>,
+    seats: &mut [Seat<N>],
     frames: usize,
 ) {
-    fill(rt, alloc, desk, seat, FOLDING, 20);
+    let seat = expect_some(rt, seats.first_mut());
+    make_edits(rt, alloc, desk, seat, &making(FOLDING, 20));
     let range = (2, frames.saturating_add(2));
     let (bytes, sum) = wanted_pixmaps(rt, alloc, FOLDING, 20, range);
     check_same(rt, "bytes", bytes, frames.saturating_mul(100_815));
@@ -131,19 +118,20 @@ pub fn export_by_each<N: Name, R: Threads + Wait + Abort + Sync>(
 #[test]
 fn every_number_of_workers_writes_the_same(rt: HostRuntime) {
     for frames in [0, 1, 15, 16, 17] {
-        let (closed, _) = play(&rt, rt.alloc(), 1, Task::ExportByEach(frames));
+        let closed = lend(&rt, rt.alloc(), 1, Lending::ExportByEach(frames));
         check_same(&rt, "closed.journal", closed.journal.len(), 3);
     }
 }
 
 /// Two workers of whom the first waits until the second has come, and gates that are passed by workers without frames too.
-pub fn export_through_gates<N: Name, R: Threads + Wait + Abort + Sync>(
+pub fn export_through_gates<N: Name + Send + Sync, R: Threads + Wait + Abort + Sync>(
     rt: &R,
     alloc: Global,
     desk: &Desk<N, &R>,
-    seat: &mut Seat<N>,
+    seats: &mut [Seat<N>],
 ) {
-    fill(rt, alloc, desk, seat, PLAYFIELD, 2);
+    let seat = expect_some(rt, seats.first_mut());
+    make_edits(rt, alloc, desk, seat, &making(PLAYFIELD, 2));
     let alone = export(rt, alloc, desk, seat, (0, 2), 1, &Open, usize::MAX);
     check_same(
         rt,
@@ -164,27 +152,30 @@ pub fn export_through_gates<N: Name, R: Threads + Wait + Abort + Sync>(
 
 #[test]
 fn workers_run_at_once(rt: HostRuntime) {
-    play(&rt, rt.alloc(), 1, Task::ExportThroughGates);
+    lend(&rt, rt.alloc(), 1, Lending::ExportThroughGates);
 }
 
-/// A halt in the last run; in two runs; in each of five; and frames before it.
-pub fn export_until_halted<N: Name, R: Threads + Wait + Abort + Sync>(
+/// Frames, workers, and the frame that is told as halted: in the last run; in two runs; in each of five.
+static HALTS: [((usize, usize), usize, usize); 6] = [
+    ((1, 5), 2, 3),
+    ((1, 5), 1, 3),
+    ((3, 5), 2, 3),
+    ((0, 8), 8, 3),
+    ((5, 8), 3, 5),
+    ((4, 5), 16, 4),
+];
+
+/// Exports with a halt in their frames, and of the frames before it.
+pub fn export_until_halted<N: Name + Send + Sync, R: Threads + Wait + Abort + Sync>(
     rt: &R,
     alloc: Global,
     desk: &Desk<N, &R>,
-    seat: &mut Seat<N>,
+    seats: &mut [Seat<N>],
 ) {
-    fill(rt, alloc, desk, seat, HALTING, 8);
-    let cases = [
-        ((1, 5), 2, 3),
-        ((1, 5), 1, 3),
-        ((3, 5), 2, 3),
-        ((0, 8), 8, 3),
-        ((5, 8), 3, 5),
-        ((4, 5), 16, 4),
-    ];
+    let seat = expect_some(rt, seats.first_mut());
+    make_edits(rt, alloc, desk, seat, &making(HALTING, 8));
     let (_, nothing) = Sum::new(0).told();
-    for (range, workers, frame) in cases {
+    for (range, workers, frame) in HALTS {
         let told = export(rt, alloc, desk, seat, range, workers, &Open, usize::MAX);
         let halted = Refused::Halted {
             at: 3,
@@ -215,8 +206,7 @@ fn export_of_five<N: Name, R: Threads + Wait + Abort + Sync>(
     desk: &Desk<N, &R>,
     seat: &mut Seat<N>,
 ) {
-    let edit = expect_ok(rt, edit_of(alloc, Change::Delete(5, 3)));
-    check_that(rt, "five are left", desk.edit(rt, seat, edit).is_ok());
+    make_edits(rt, alloc, desk, seat, &[Change::Delete(5, 3)]);
     let told = export(rt, alloc, desk, seat, (1, 5), 2, &Open, usize::MAX);
     let halted = Refused::Halted {
         at: 4,
@@ -228,17 +218,16 @@ fn export_of_five<N: Name, R: Threads + Wait + Abort + Sync>(
 
 #[test]
 fn the_least_halted_frame_is_told(rt: HostRuntime) {
-    play(&rt, rt.alloc(), 1, Task::ExportUntilHalted);
+    lend(&rt, rt.alloc(), 1, Lending::ExportUntilHalted);
 }
 
-/// Writers that fail at some byte, and ranges at their ends.
-pub fn export_to_the_ends<N: Name, R: Threads + Wait + Abort + Sync>(
+/// The first two frames into writers that fail at some byte.
+fn export_to_full_writers<N: Name, R: Threads + Wait + Sync + Abort>(
     rt: &R,
     alloc: Global,
     desk: &Desk<N, &R>,
     seat: &mut Seat<N>,
 ) {
-    fill(rt, alloc, desk, seat, PLAYFIELD, 1030);
     for room in [0, 1, 15, 150_000, 201_629] {
         let told = export(rt, alloc, desk, seat, (0, 2), 2, &Open, room);
         let broken = Refused::Write {
@@ -247,16 +236,27 @@ pub fn export_to_the_ends<N: Name, R: Threads + Wait + Abort + Sync>(
         };
         check_same(rt, ("after", room), (told.0, told.1), (Err(broken), room));
     }
-    let ranges = [
-        (1, 0),
-        (0, 1025),
-        (6, 1031),
-        (1031, 1031),
-        (0, usize::MAX),
-        (usize::MAX, usize::MAX),
-        (usize::MAX, 0),
-    ];
-    for range in ranges {
+}
+
+/// Ranges that a movie of 1,030 frames hasn't, or that are too long.
+static OTHER_RANGES: [(usize, usize); 7] = [
+    (1, 0),
+    (0, 1025),
+    (6, 1031),
+    (1031, 1031),
+    (0, usize::MAX),
+    (usize::MAX, usize::MAX),
+    (usize::MAX, 0),
+];
+
+/// These ranges, and those of no frames at both ends of the movie.
+fn export_at_the_ends<N: Name, R: Threads + Wait + Sync + Abort>(
+    rt: &R,
+    alloc: Global,
+    desk: &Desk<N, &R>,
+    seat: &mut Seat<N>,
+) {
+    for range in OTHER_RANGES {
         let told = export(rt, alloc, desk, seat, range, 2, &Open, usize::MAX);
         let out = Refused::Range { at: 3, len: 1030 };
         check_same(rt, range, (told.0, told.1), (Err(out), 0));
@@ -267,14 +267,27 @@ pub fn export_to_the_ends<N: Name, R: Threads + Wait + Abort + Sync>(
     }
 }
 
+/// Writers that fail at some byte, and ranges at their ends.
+pub fn export_to_the_ends<N: Name + Send + Sync, R: Threads + Wait + Abort + Sync>(
+    rt: &R,
+    alloc: Global,
+    desk: &Desk<N, &R>,
+    seats: &mut [Seat<N>],
+) {
+    let seat = expect_some(rt, seats.first_mut());
+    make_edits(rt, alloc, desk, seat, &making(PLAYFIELD, 1030));
+    export_to_full_writers(rt, alloc, desk, seat);
+    export_at_the_ends(rt, alloc, desk, seat);
+}
+
 #[test]
 fn writers_fail_and_ranges_end(rt: HostRuntime) {
-    play(&rt, rt.alloc(), 1, Task::ExportToTheEnds);
+    lend(&rt, rt.alloc(), 1, Lending::ExportToTheEnds);
 }
 
 /// How many of 1,024 frames so many runs play that start from the kept states of every 64th frame.
 fn played_from_the_grid(workers: usize) -> u64
-    requires { (1 ≤ workers) × (workers ≤ 16) }
+    requires { (1 ≤ workers) × (workers ≤ most_workers) }
 {
     let mut played = 0u64;
     for run in 0..workers {
@@ -288,14 +301,15 @@ fn played_from_the_grid(workers: usize) -> u64
 
 /// As many frames as one export may have: from no kept states by one worker, and then by every fourth number of workers
 /// from a full zone, where each run starts at a kept state.
-pub fn export_longest<N: Name, R: Threads + Wait + Abort + Sync>(
+pub fn export_longest<N: Name + Send + Sync, R: Threads + Wait + Abort + Sync>(
     rt: &R,
     alloc: Global,
     desk: &Desk<N, &R>,
-    seat: &mut Seat<N>,
+    seats: &mut [Seat<N>],
     first: usize,
 ) {
-    fill(rt, alloc, desk, seat, WAITING, 1024);
+    let seat = expect_some(rt, seats.first_mut());
+    make_edits(rt, alloc, desk, seat, &making(WAITING, 1024));
     let mut bytes = expect_ok(rt, Vec::with_capacity(alloc, 103_234_560));
     let alone = told(desk.export(rt, alloc, seat, 0, 1024, 1, &Open, &mut bytes));
     check_same(rt, "alone", alone, Some((3, 1024)));
@@ -336,7 +350,7 @@ fn export_from_the_grid<N: Name, R: Threads + Wait + Abort + Sync>(
     workers: usize,
     bytes: &[u8],
 )
-    requires { (1 ≤ workers) × (workers ≤ 16) }
+    requires { (1 ≤ workers) × (workers ≤ most_workers) }
 {
     let mut out = Compared::new(bytes);
     let told = told(desk.export(rt, alloc, seat, 0, 1024, workers, &Open, &mut out));
@@ -347,20 +361,20 @@ fn export_from_the_grid<N: Name, R: Threads + Wait + Abort + Sync>(
 
 #[test]
 fn the_longest_export_by_1_5_9_and_13_workers(rt: HostRuntime) {
-    play(&rt, rt.alloc(), 1, Task::ExportLongest(0));
+    lend(&rt, rt.alloc(), 1, Lending::ExportLongest(0));
 }
 
 #[test]
 fn the_longest_export_by_2_6_10_and_14_workers(rt: HostRuntime) {
-    play(&rt, rt.alloc(), 1, Task::ExportLongest(1));
+    lend(&rt, rt.alloc(), 1, Lending::ExportLongest(1));
 }
 
 #[test]
 fn the_longest_export_by_3_7_11_and_15_workers(rt: HostRuntime) {
-    play(&rt, rt.alloc(), 1, Task::ExportLongest(2));
+    lend(&rt, rt.alloc(), 1, Lending::ExportLongest(2));
 }
 
 #[test]
 fn the_longest_export_by_4_8_12_and_16_workers(rt: HostRuntime) {
-    play(&rt, rt.alloc(), 1, Task::ExportLongest(3));
+    lend(&rt, rt.alloc(), 1, Lending::ExportLongest(3));
 }

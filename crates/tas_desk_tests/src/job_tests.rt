@@ -144,8 +144,8 @@ impl Lent for OfferedAfter {
 fn batches_count_as_far_as_the_inputs_agree(rt: HostRuntime) {
     let other = Answered::OtherCartridge { at: 3 };
     let cases = [
-        (Change::InsertRight(64), taken(3, 64, 1), taken(3, 64, 0)),
-        (Change::InsertRight(63), taken(3, 63, 0), taken(3, 63, 0)),
+        (Change::InsertRight(64, 1), taken(3, 64, 1), taken(3, 64, 0)),
+        (Change::InsertRight(63, 1), taken(3, 63, 0), taken(3, 63, 0)),
         (Change::Delete(10, 50), taken(3, 150, 2), taken(3, 150, 0)),
         (Change::Insert(10, 50), taken(3, 200, 3), taken(3, 200, 0)),
         (Change::Load(HALTING), other, other),

@@ -1,4 +1,5 @@
-//! What sessions and desks do when they are run: worked examples, threads, and whole histories played again.
+//! What sessions and desks do when they are run: worked examples, threads, whole histories played again, and schedules that are laid down
+//! step by step.
 #![tactic(auto)]
 
 #[cfg(test)]
@@ -22,11 +23,23 @@ mod gates;
 #[cfg(test)]
 mod job_tests;
 #[cfg(test)]
+mod model;
+#[cfg(test)]
+mod pictures;
+#[cfg(test)]
 mod replays;
+#[cfg(test)]
+mod schedule_callers;
+#[cfg(test)]
+mod schedule_tests;
 #[cfg(test)]
 mod session_tests;
 #[cfg(test)]
 mod sessions;
+#[cfg(test)]
+mod step_order;
+#[cfg(test)]
+mod steps;
 #[cfg(test)]
 mod sums;
 #[cfg(test)]

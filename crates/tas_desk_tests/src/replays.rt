@@ -112,8 +112,8 @@ pub fn is_change(alloc: Global, edit: &Edit, change: Change) -> Result<bool, All
         (Edit::Insert { at, inputs }, Change::Insert(place, count)) => {
             *at == place && are_copies(inputs.as_slice(), Input::none(), count)
         }
-        (Edit::Insert { at, inputs }, Change::InsertRight(place)) => {
-            *at == place && are_copies(inputs.as_slice(), right(), 1)
+        (Edit::Insert { at, inputs }, Change::InsertRight(place, count)) => {
+            *at == place && are_copies(inputs.as_slice(), right(), count)
         }
         (Edit::Insert { at, inputs }, Change::InsertFire(place)) => {
             *at == place && are_copies(inputs.as_slice(), fire(), 1)

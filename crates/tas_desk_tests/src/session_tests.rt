@@ -2,7 +2,7 @@
 
 use crate::changes::{Change, HALT, HALTING, PLAYFIELD, cart, edit_of, right};
 use crate::checks::{check_same, check_that, expect_ok};
-use crate::sessions::{Lent, Turn, history, kept, lend, open_movie, play_turns};
+use crate::sessions::{Lent, Turn, history, lend, open_movie, play_turns, take_turns};
 use std::alloc::Global;
 use std::fmt::Display;
 use std::process::Abort;
@@ -77,7 +77,7 @@ static EACH_KIND: [Turn; 7] = [
     Turn::Made(Change::ReplaceRight(6), 4, 7),
     Turn::Made(Change::Delete(1, 4), 5, 3),
     Turn::Made(Change::Load(HALTING), 6, 3),
-    Turn::Made(Change::InsertRight(0), 7, 4),
+    Turn::Made(Change::InsertRight(0, 1), 7, 4),
 ];
 
 #[test]
@@ -276,7 +276,7 @@ static INSERTED: [Turn; 11] = [
     Turn::Made(Change::Insert(0, 200), 2, 200),
     Turn::Drawn(199, 2, 200, 1680),
     Turn::Drawn(150, 2, 23, 1680),
-    Turn::Made(Change::InsertRight(127), 3, 201),
+    Turn::Made(Change::InsertRight(127, 1), 3, 201),
     Turn::Kept("1: 64"),
     Turn::Drawn(200, 3, 137, 1680),
     Turn::Kept("3: 64 128 192"),
@@ -309,7 +309,7 @@ static LENGTHENED: [Turn; 12] = [
     Turn::Made(Change::Insert(0, 32831), 2, 32831),
     Turn::Drawn(199, 2, 200, 1680),
     Turn::Kept("3: 64 128 192"),
-    Turn::Made(Change::InsertRight(32831), 3, 32832),
+    Turn::Made(Change::InsertRight(32831, 1), 3, 32832),
     Turn::Kept("1: 128"),
     Turn::Drawn(150, 3, 23, 1680),
     Turn::Drawn(100, 3, 101, 1680),
@@ -387,6 +387,26 @@ impl Lent for OneMeter {
 #[test]
 fn one_meter_counts_several_shots(rt: HostRuntime) {
     lend(&rt, rt.alloc(), &OneMeter);
+}
+
+/// The last frame of a movie of 65,536 frames, which halts in its fourth one, is asked for: the states of each 128th frame are
+/// kept, all of them halted.
+struct MostStates;
+
+impl Lent for MostStates {
+    fn run<R: Wait + Abort>(&self, rt: &R, alloc: Global, session: &mut Session) {
+        open_movie(rt, alloc, session, HALTING, 65_536);
+        let halted = ShotError::Halted { at: 2, halt: HALT };
+        let turns = [Turn::NotDrawn(65_535, halted, 65_536)];
+        take_turns(rt, alloc, session, &turns);
+        check_same(rt, "kept states", session.green().count(), 512);
+    }
+}
+
+#[test]
+fn a_session_keeps_at_most_512_states(rt: HostRuntime) {
+    let closed = lend(&rt, rt.alloc(), &MostStates);
+    check_same(&rt, "closed.journal", closed.journal.len(), 2);
 }
 
 /// An error's words.

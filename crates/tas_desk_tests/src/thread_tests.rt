@@ -3,7 +3,7 @@
 use crate::callers::{Caller, Fault, Habit, meet};
 use crate::changes::{Change, FOLDING, HALTING, PLAYFIELD, edit_of};
 use crate::checks::{check_same, check_that, expect_ok, expect_some};
-use crate::desks::{Left, Task, play};
+use crate::desks::{Lending, Task, Told, lend, make_edits, play};
 use crate::gates::Door;
 use crate::replays::{Notes, replayed};
 use std::alloc::Global;
@@ -35,7 +35,7 @@ fn entries_of<R: Abort>(rt: &R, journal: &[Entry], seat: u32) -> u64 {
 }
 
 /// Each seat puts in so many inputs at place 0 and looks at the length and at input 0 after each.
-fn inserts<N: Name, W: CloseOnDrop, R: Wait>(
+fn insert_and_look<N: Name, W: CloseOnDrop, R: Wait>(
     rt: &R,
     alloc: Global,
     desk: &Desk<N, W>,
@@ -43,28 +43,28 @@ fn inserts<N: Name, W: CloseOnDrop, R: Wait>(
     count: usize,
 ) -> Result<(), Fault> {
     for _k in 0..count {
-        caller.edit(rt, alloc, desk, Change::InsertRight(0))?;
+        caller.edit(rt, alloc, desk, Change::InsertRight(0, 1))?;
         caller.len(desk)?;
         caller.input(desk, 0)?;
     }
     Ok(())
 }
 
-/// Each seat, on a thread of its own, inserts so often.
+/// Each seat, on a thread of its own, inserts so often: what they were told.
 pub fn insert_at_once<N: Name + Send + Sync, R: Threads + Wait + Abort + Sync>(
     rt: &R,
     alloc: Global,
     desk: &Desk<N, &R>,
     seats: Vec<Seat<N>>,
     count: usize,
-) -> Left<N> {
+) -> (Vec<Seat<N>>, Told) {
     let mut callers = callers(rt, alloc, seats, &[Habit::All]);
     thread::for_each_mut(
         rt,
         callers.as_mut_slice(),
         8,
         &|_, caller| {
-            caller.fault = inserts(rt, alloc, desk, caller, count).err();
+            caller.fault = insert_and_look(rt, alloc, desk, caller, count).err();
         },
     );
     leave(rt, alloc, callers)
@@ -87,7 +87,11 @@ fn callers<N: Name, R: Abort>(
 }
 
 /// The callers' seats, and what they were told. No caller had a fault.
-fn leave<N: Name, R: Abort>(rt: &R, alloc: Global, callers: Vec<Caller<N>>) -> Left<N> {
+fn leave<N: Name, R: Abort>(
+    rt: &R,
+    alloc: Global,
+    callers: Vec<Caller<N>>,
+) -> (Vec<Seat<N>>, Told) {
     let mut seats = Vec::new(alloc);
     let mut all = Vec::new(alloc);
     for caller in callers {
@@ -102,13 +106,18 @@ fn leave<N: Name, R: Abort>(rt: &R, alloc: Global, callers: Vec<Caller<N>>) -> L
         expect_ok(rt, seats.push(seat));
         expect_ok(rt, all.push(notes));
     }
-    (seats, all)
+    let told = Told {
+        notes: all,
+        replies: Vec::new(alloc),
+        batch: None,
+    };
+    (seats, told)
 }
 
 #[test]
 fn two_seats_on_two_threads(rt: HostRuntime) {
-    let (closed, all) = play(&rt, rt.alloc(), 2, Task::Inserts(100));
-    judge_inserts(&rt, rt.alloc(), &closed, all.as_slice());
+    let (closed, told) = play(&rt, rt.alloc(), 2, Task::Inserts(100));
+    judge_inserts(&rt, rt.alloc(), &closed, told.notes.as_slice());
 }
 
 /// Two seats made 100 edits each, and all that they were told is right.
@@ -165,6 +174,7 @@ fn make_movie<N: Name, W: CloseOnDrop, R: Wait>(
 }
 
 /// Each seat, on a thread of its own, takes so many turns at random; then pairs of them do, and meet. Seat 0 makes a movie first.
+/// It comes to what they were told.
 pub fn take_turns_at_once<N: Name + Send + Sync, R: Threads + Wait + Abort + Sync>(
     rt: &R,
     alloc: Global,
@@ -172,7 +182,7 @@ pub fn take_turns_at_once<N: Name + Send + Sync, R: Threads + Wait + Abort + Syn
     seats: Vec<Seat<N>>,
     habits: &[Habit],
     turns: usize,
-) -> Left<N> {
+) -> (Vec<Seat<N>>, Told) {
     let mut callers = callers(rt, alloc, seats, habits);
     make_movie(rt, alloc, desk, expect_some(rt, callers.first_mut()));
     thread::for_each_mut(
@@ -207,18 +217,20 @@ fn judge_all<R: Abort>(rt: &R, alloc: Global, closed: &Closed, all: &[Notes], le
 
 #[test]
 fn eight_seats_on_eight_threads(rt: HostRuntime) {
-    let (closed, all) = play(&rt, rt.alloc(), 8, Task::Turns(&[Habit::All], 30));
-    judge_all(&rt, rt.alloc(), &closed, all.as_slice(), 30);
+    let turns = Task::Turns(&[Habit::All], 30);
+    let (closed, told) = play(&rt, rt.alloc(), 8, turns);
+    judge_all(&rt, rt.alloc(), &closed, told.notes.as_slice(), 30);
 }
 
 #[test]
 fn shots_while_others_edit(rt: HostRuntime) {
-    let task = Task::Turns(&[Habit::Shots, Habit::Edits], 15);
-    let (closed, all) = play(&rt, rt.alloc(), 8, task);
-    judge_all(&rt, rt.alloc(), &closed, all.as_slice(), 20);
+    let turns = Task::Turns(&[Habit::Shots, Habit::Edits], 15);
+    let (closed, told) = play(&rt, rt.alloc(), 8, turns);
+    judge_all(&rt, rt.alloc(), &closed, told.notes.as_slice(), 20);
 }
 
-/// A work of one seat, whose job waits in its gate until another seat, on another thread, has made an edit.
+/// Work of one seat, whose job waits in its gate until another seat, on another thread, has made an edit; and what the work
+/// answers.
 pub fn edit_in_the_gate<N: Name + Send + Sync, R: Threads + Wait + Abort + Sync>(
     rt: &R,
     alloc: Global,
@@ -229,7 +241,8 @@ pub fn edit_in_the_gate<N: Name + Send + Sync, R: Threads + Wait + Abort + Sync>
 ) {
     let (worker, others) = expect_some(rt, seats.split_first_mut());
     let editor = expect_some(rt, others.first_mut());
-    fill(rt, alloc, desk, worker);
+    let filled = [Change::Load(PLAYFIELD), Change::Insert(0, 200)];
+    make_edits(rt, alloc, desk, worker, &filled);
     let edit = expect_ok(rt, edit_of(alloc, change));
     let door = Door::new();
     let gate = &door;
@@ -249,33 +262,23 @@ pub fn edit_in_the_gate<N: Name + Send + Sync, R: Threads + Wait + Abort + Sync>
     check_same(rt, change, worked, Ok(wanted));
 }
 
-/// 200 frames of a program, by two edits.
-fn fill<N: Name, W: CloseOnDrop, R: Wait + Abort>(
-    rt: &R,
-    alloc: Global,
-    desk: &Desk<N, W>,
-    seat: &mut Seat<N>,
-) {
-    for change in [Change::Load(PLAYFIELD), Change::Insert(0, 200)] {
-        let edit = expect_ok(rt, edit_of(alloc, change));
-        check_that(rt, change, desk.edit(rt, seat, edit).is_ok());
-    }
-}
+/// Edits, how many states are kept behind them, and how many jobs are stale.
+static IN_THE_GATE: [(Change, usize, usize); 3] = [
+    (Change::Insert(200, 1), 3, 0),
+    (Change::ReplaceRight(100), 1, 0),
+    (Change::Load(HALTING), 0, 1),
+];
 
 #[test]
 fn jobs_run_outside_the_lock(rt: HostRuntime) {
-    let cases = [
-        (Change::Insert(200, 1), 3, 0),
-        (Change::ReplaceRight(100), 1, 0),
-        (Change::Load(HALTING), 0, 1),
-    ];
-    for (change, kept, stale) in cases {
+    for (change, kept, stale) in IN_THE_GATE {
         let worked = Worked {
             jobs: 1,
             kept,
             stale,
         };
-        let (closed, _) = play(&rt, rt.alloc(), 2, Task::EditInTheGate(change, worked));
+        let lending = Lending::EditInTheGate(change, worked);
+        let closed = lend(&rt, rt.alloc(), 2, lending);
         check_same(&rt, "closed.journal", closed.journal.len(), 3);
     }
 }

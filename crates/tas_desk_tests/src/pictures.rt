@@ -1,52 +1,13 @@
-//! Pictures by a plain replay from power-on, and sums over them.
+//! Pictures by a plain replay from power-on, and the sum over them.
 
 use crate::changes::cart;
 use crate::checks::expect_ok;
+use crate::sums::Sum;
 use std::alloc::Global;
-use std::io;
-use std::io::Write;
 use std::process::Abort;
 use vcs_cpu::Halt;
 use vcs_machine::{Cart, Input, Meter, State, play, play_unseen};
 use vcs_tia::{Picture, ppm};
-
-/// A writer that keeps how many bytes came, and a sum over them.
-#[derive(Drop)]
-pub struct Sum {
-    pub bytes: usize,
-    pub sum: u64,
-}
-
-impl Sum {
-    /// A writer that was given nothing.
-    pub fn new() -> Sum {
-        Sum {
-            bytes: 0,
-            sum: 0xCBF2_9CE4_8422_2325,
-        }
-    }
-}
-
-impl Write for Sum {
-    fn write(&mut self, buf: &[u8]) -> io::Result<usize> {
-        for byte in buf {
-            self.sum = (self.sum ^ u64::from(*byte)).wrapping_mul(0x100_0000_01B3);
-        }
-        self.bytes = self.bytes.saturating_add(buf.len());
-        Ok(buf.len())
-    }
-
-    fn flush(&mut self) -> io::Result<()> {
-        Ok(())
-    }
-}
-
-/// The sum over a picture's pixmap.
-pub fn sum_of(picture: &Picture) -> u64 {
-    let mut out = Sum::new();
-    let _ = ppm(picture, &mut out);
-    out.sum
-}
 
 /// The frames of a range of a program's movie, all played from power-on, those before the range without a picture: the sum over
 /// the pixmaps of those in the range, one after the other, or the first halt in the range or before it.
@@ -56,7 +17,7 @@ pub fn pixmaps<R: Abort>(
     program: &[u8],
     inputs: &[Input],
     range: (usize, usize),
-) -> Result<Sum, Halt> {
+) -> Result<(usize, u64), Halt> {
     let cart = expect_ok(rt, cart(alloc, program));
     let mut picture = expect_ok(rt, Picture::blank(alloc));
     pixmaps_on(&cart, &mut picture, inputs, range)
@@ -68,9 +29,9 @@ fn pixmaps_on(
     picture: &mut Picture,
     inputs: &[Input],
     range: (usize, usize),
-) -> Result<Sum, Halt> {
+) -> Result<(usize, u64), Halt> {
     let mut state = State::power_on(cart);
-    let mut out = Sum::new();
+    let mut out = Sum::new(usize::MAX);
     for (frame, input) in inputs.iter().enumerate().take(range.1) {
         let mut meter = Meter::new();
         let is_shown = range.0 <= frame;
@@ -86,5 +47,5 @@ fn pixmaps_on(
             let _ = ppm(picture, &mut out);
         }
     }
-    Ok(out)
+    Ok(out.told())
 }

@@ -1,10 +1,8 @@
 //! A row of steps that several threads take in one order, and gates that follow it.
 
+use crate::gates::MOST_TURNS;
 use std::sync::atomic::{AtomicU64, Ordering};
 use tas_desk::Gate;
-
-/// How often one looks at most whether a step is due.
-pub const MOST_TURNS: u64 = 1_000_000_000;
 
 /// The steps are taken in the order of their numbers, each by whoever waits for it.
 #[derive(Drop)]

@@ -1,11 +1,11 @@
 //! Schedules of eight seats whose jobs and exports wait in gates, with edits and loads in between. What each step tells is
 //! compared with a plain model, and the history that the desk leaves is played again.
 
-use crate::callers::{Caller, Played, Reply, edit};
-use crate::changes::{Change, FOLDING, cart};
+use crate::changes::{BRIEF_FOLDING, Change, cart};
 use crate::checks::{check_same, check_that, expect_ok, expect_some};
-use crate::desks::{Left, Task, Told, play};
+use crate::desks::{Task, Told, make_edits, play};
 use crate::model::{Model, PlainMovie};
+use crate::schedule_callers::{Caller, Played, Reply};
 use crate::step_order::StepOrder;
 use crate::steps::{Action, EXPORTER, ORDERS, Step, export_steps, job_steps};
 use std::alloc::Global;
@@ -17,7 +17,7 @@ use tas_desk::{CloseOnDrop, Closed, Desk, Entry, Name, Seat};
 use tas_movie::{Movie, apply, check};
 
 /// The edits before a schedule, by seat 0.
-const BEFORE: [Change; 2] = [Change::Load(FOLDING), Change::Fill(200)];
+const BEFORE: [Change; 2] = [Change::Load(BRIEF_FOLDING), Change::Insert(0, 200)];
 
 /// Seats that share a thread.
 #[derive(Drop)]
@@ -72,7 +72,7 @@ fn play_group<N: Name, W: CloseOnDrop, R: Threads + Wait + Sync>(
 }
 
 /// The seats, and all that they were told.
-fn leave<N: Name, R: Abort>(rt: &R, alloc: Global, groups: Vec<Group<N>>) -> Left<N> {
+fn leave<N: Name, R: Abort>(rt: &R, alloc: Global, groups: Vec<Group<N>>) -> (Vec<Seat<N>>, Told) {
     let mut seats = Vec::new(alloc);
     let mut all = Vec::new(alloc);
     for group in groups {
@@ -88,6 +88,7 @@ fn leave<N: Name, R: Abort>(rt: &R, alloc: Global, groups: Vec<Group<N>>) -> Lef
         }
     }
     let told = Told {
+        notes: Vec::new(alloc),
         replies: all,
         batch: None,
     };
@@ -101,28 +102,17 @@ fn append<R: Abort>(rt: &R, all: &mut Vec<Reply>, replies: Vec<Reply>) {
     }
 }
 
-/// Seat 0 makes the edits before a schedule.
-fn make_movie<N: Name, W: CloseOnDrop, R: Wait + Abort>(
-    rt: &R,
-    alloc: Global,
-    desk: &Desk<N, W>,
-    seat: &mut Seat<N>,
-) {
-    for change in BEFORE {
-        expect_ok(rt, edit(rt, alloc, desk, seat, change));
-    }
-}
-
-/// All seats take their steps of a schedule, over 200 frames that seat 0 makes.
+/// All seats take their steps of a schedule, over 200 frames that seat 0 makes: what they were told.
 pub fn play_steps<N: Name + Send + Sync, R: Threads + Wait + Abort + Sync>(
     rt: &R,
     alloc: Global,
     desk: &Desk<N, &R>,
     seats: Vec<Seat<N>>,
     steps: &[Step],
-) -> Left<N> {
+) -> (Vec<Seat<N>>, Told) {
     let mut seats = seats;
-    make_movie(rt, alloc, desk, expect_some(rt, seats.first_mut()));
+    let first = expect_some(rt, seats.first_mut());
+    make_edits(rt, alloc, desk, first, &BEFORE);
     let mut groups = groups_of(rt, alloc, seats);
     let order = StepOrder::new();
     let played = Played {
@@ -137,11 +127,8 @@ pub fn play_steps<N: Name + Send + Sync, R: Threads + Wait + Abort + Sync>(
             play_group(rt, alloc, desk, group, played);
         },
     );
-    check_that(
-        rt,
-        "a step that doesn't come",
-        order.was_played(steps.len()),
-    );
+    let was_played = order.was_played(steps.len());
+    check_that(rt, "a step that doesn't come", was_played);
     leave(rt, alloc, groups)
 }
 
@@ -220,7 +207,7 @@ fn judge<R: Threads + Wait + Abort + Sync>(
         model.edit(rt, alloc, change);
     }
     let wanted = model.replies(rt, alloc, steps);
-    let (closed, told) = play(rt, alloc, Task::Steps(steps));
+    let (closed, told) = play(rt, alloc, 8, Task::Steps(steps));
     check_replies(rt, name, told.replies.as_slice(), wanted.as_slice());
     check_closed(rt, alloc, name, &closed, steps, &model.movie);
 }

@@ -1,9 +1,9 @@
 //! Seats that take their steps of a schedule, and write down what they are told.
 
 use crate::changes::{Change, edit_of};
-use crate::pictures::{Sum, sum_of};
 use crate::step_order::{Pause, Runs, StepOrder};
 use crate::steps::{Action, EXPORTER, Step, step_of};
+use crate::sums::{Sum, sum_of};
 use std::alloc::{AllocError, Global};
 use std::sync::Wait;
 use std::thread::Threads;
@@ -36,7 +36,7 @@ pub struct Played<'a> {
 }
 
 /// The reply to an edit.
-pub fn edit<N: Name, W: CloseOnDrop, R: Wait>(
+fn edit<N: Name, W: CloseOnDrop, R: Wait>(
     rt: &R,
     alloc: Global,
     desk: &Desk<N, W>,
@@ -74,7 +74,7 @@ fn shot<N: Name, W: CloseOnDrop>(
     }
 }
 
-/// The reply to a action that is done in one step.
+/// The reply to an action that is done in one step.
 fn told<N: Name, W: CloseOnDrop, R: Wait>(
     rt: &R,
     alloc: Global,
@@ -151,10 +151,10 @@ fn export<N: Name, W: CloseOnDrop, R: Threads + Wait + Sync>(
     seat: &mut Seat<N>,
     gate: &Runs<'_>,
 ) -> Result<String, AllocError> {
-    let mut out = Sum::new();
+    let mut out = Sum::new(usize::MAX);
     match desk.export(rt, alloc, seat, RANGE.0, RANGE.1, 3, gate, &mut out) {
         Ok(told) => {
-            let (bytes, sum) = (out.bytes, out.sum);
+            let (bytes, sum) = out.told();
             format!(in alloc;
                 "export {} played {} bytes {bytes} sum {sum}",
                 told.at, told.played

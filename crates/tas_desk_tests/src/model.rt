@@ -1,9 +1,9 @@
 //! What a schedule's replies should be: a desk as lists and places, whose frames are all played from power-on.
 
-use crate::callers::RANGE;
-use crate::changes::{Change, right};
+use crate::changes::{Change, fire, right};
 use crate::checks::expect_ok;
 use crate::pictures::pixmaps;
+use crate::schedule_callers::RANGE;
 use crate::steps::{Action, Step};
 use std::alloc::Global;
 use std::process::Abort;
@@ -151,9 +151,13 @@ impl Model {
                 self.movie.program = program;
                 self.kept = [false; 3];
             }
-            Change::Fill(count) => self.change(rt, alloc, 0, 0, (Input::none(), count)),
-            Change::Insert(at, count) => self.change(rt, alloc, at, 0, (right(), count)),
-            Change::Press(at) => self.change(rt, alloc, at, 1, (right(), 1)),
+            Change::Insert(at, count) => self.change(rt, alloc, at, 0, (Input::none(), count)),
+            Change::InsertRight(at, count) => self.change(rt, alloc, at, 0, (right(), count)),
+            Change::InsertFire(at) => self.change(rt, alloc, at, 0, (fire(), 1)),
+            Change::Replace(at, count) => {
+                self.change(rt, alloc, at, count, (Input::none(), count));
+            }
+            Change::ReplaceRight(at) => self.change(rt, alloc, at, 1, (right(), 1)),
             Change::Delete(at, count) => self.change(rt, alloc, at, count, (right(), 0)),
         }
         self.edits = self.edits.saturating_add(1);
@@ -248,8 +252,8 @@ impl Model {
         self.keep(rt, alloc, seat, with_run(kept, from, next).0);
         let at = self.edits;
         let text = match pixmaps(rt, alloc, self.movie.program, &self.movie.inputs, (k, next)) {
-            Ok(pixmap) => {
-                let (ran, sum) = (next.saturating_sub(from), pixmap.sum);
+            Ok((_, sum)) => {
+                let ran = next.saturating_sub(from);
                 format!(in alloc; "shot {at} {k} ran {ran} sum {sum}")
             }
             Err(Halt::Undocumented { at: address, .. }) => {
@@ -270,8 +274,7 @@ impl Model {
     fn export<R: Abort>(&self, rt: &R, alloc: Global) -> String {
         let (at, played) = (self.edits, 3 * RANGE.0 + 12);
         let text = match pixmaps(rt, alloc, self.movie.program, &self.movie.inputs, RANGE) {
-            Ok(pixmap) => {
-                let (bytes, sum) = (pixmap.bytes, pixmap.sum);
+            Ok((bytes, sum)) => {
                 format!(in alloc; "export {at} played {played} bytes {bytes} sum {sum}")
             }
             Err(_) => String::from_str(alloc, "not exported"),

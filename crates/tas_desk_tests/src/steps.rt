@@ -1,6 +1,6 @@
 //! Schedules: who does what in which step.
 
-use crate::changes::{Change, FOLDING, HALTING};
+use crate::changes::{BRIEF_FOLDING, Change, HALTING};
 use crate::checks::expect_ok;
 use std::alloc::Global;
 use std::process::Abort;
@@ -47,14 +47,14 @@ pub const ORDERS: [[u32; 3]; 6] = [
     [2, 1, 0],
 ];
 
-/// Edits and loads of a movie of 200 frames of `FOLDING`.
+/// Edits and loads of a movie of 200 frames of `BRIEF_FOLDING`.
 const CHANGES: [Change; 6] = [
-    Change::Press(100),
-    Change::Insert(150, 3),
+    Change::ReplaceRight(100),
+    Change::InsertRight(150, 3),
     Change::Load(HALTING),
-    Change::Load(FOLDING),
+    Change::Load(BRIEF_FOLDING),
     Change::Delete(10, 5),
-    Change::Press(70),
+    Change::ReplaceRight(70),
 ];
 
 /// What other seats do between the steps of jobs and exports: an edit, and then one of these.
