@@ -13,13 +13,17 @@ pub const PLAYFIELD: &[u8] = b"\xA9\x10\x85\x0D\xA9\x1E\x85\x08\x4C\x08\xF0";
 /// are black.
 pub const BRIEF: &[u8] = b"\xA9\x02\x85\x00\xA9\x00\x85\x00\x4C\x00\xF0";
 
+/// `000=AD8002C9FFF00D658085808509A2508502 011=CAD0FBA9028500A90085004C00F0 FFC=00F0`: adds what the joysticks show to a byte,
+/// colours the background by it for 80 lines, and ends the frame by vertical sync; while the joysticks are at rest, it ends it at
+/// once. So a picture depends on all inputs up to it, and the frames are soon played.
+pub const FOLDING: &[u8] =
+    b"\xAD\x80\x02\xC9\xFF\xF0\x0D\x65\x80\x85\x80\x85\x09\xA2\x50\x85\x02\xCA\xD0\xFB\xA9\x02\x85\x00\xA9\x00\x85\x00\x4C\x00\xF0";
+
 /// The cartridge with a program at F000, byte by byte.
 pub fn image(program: &[u8]) -> [u8; 4096] {
     let mut image = [0u8; 4096];
-    for (at, byte) in program.iter().enumerate() {
-        if at < 4096 {
-            image[at] = *byte;
-        }
+    for (cell, byte) in image.iter_mut().zip(program) {
+        *cell = *byte;
     }
     image[4093] = 0xF0;
     image
@@ -32,21 +36,24 @@ pub fn right() -> Input {
     input
 }
 
-/// Changes the movie, where the edit fits it.
-fn make<R: Abort>(rt: &R, movie: &mut Movie, edit: &Edit) {
+/// Changes the movie by an edit, which fits it.
+pub fn make<R: Abort>(rt: &R, movie: &mut Movie, edit: &Edit) {
     expect_ok(rt, check(movie, edit));
     apply(movie, edit);
 }
 
-/// A movie of so many frames with nothing pressed.
-pub fn movie_of<R: Abort>(rt: &R, alloc: Global, program: &[u8], count: usize) -> Movie {
+/// A movie of so many frames of one input.
+pub fn movie_of<R: Abort>(
+    rt: &R,
+    alloc: Global,
+    program: &[u8],
+    input: Input,
+    count: usize,
+) -> Movie {
     let cart = expect_ok(rt, Cart::from_bytes(alloc, &image(program)));
     let mut movie = expect_ok(rt, Movie::new(alloc, &cart));
-    let insert = Edit::Insert {
-        at: 0,
-        inputs: expect_ok(rt, Inputs::repeated(alloc, Input::none(), count)),
-    };
-    make(rt, &mut movie, &insert);
+    let inputs = expect_ok(rt, Inputs::repeated(alloc, input, count));
+    make(rt, &mut movie, &Edit::Insert { at: 0, inputs });
     movie
 }
 

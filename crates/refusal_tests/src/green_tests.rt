@@ -11,7 +11,7 @@ use std::alloc::{Allocator, Global};
 use std::process::Abort;
 use tas_green::{Batch, Green, Job, MergeError, Merged};
 use tas_movie::Movie;
-use vcs_machine::Meter;
+use vcs_machine::{Input, Meter};
 use vcs_tia::Picture;
 
 /// A call on a greenzone.
@@ -74,7 +74,7 @@ fn zone_of<R: Abort, A: Allocator>(
 
 /// A picture of the playfield.
 fn playfield<R: Abort>(rt: &R, alloc: Global) -> Picture {
-    let movie = movie_of(rt, alloc, PLAYFIELD, 1);
+    let movie = movie_of(rt, alloc, PLAYFIELD, Input::none(), 1);
     check_that(rt, "a frame to be drawn", movie.len() == 1);
     let mut green = Green::new(alloc);
     let mut picture = expect_ok(rt, Picture::blank(alloc));
@@ -396,7 +396,7 @@ fn check_seekings<R: Abort>(rt: &R, alloc: Global, movie: &Movie, other: &Movie)
 #[test]
 fn what_a_greenzone_does(rt: HostRuntime) {
     let alloc = rt.alloc();
-    let movie = movie_of(&rt, alloc, BRIEF, 400);
+    let movie = movie_of(&rt, alloc, BRIEF, Input::none(), 400);
     let other = replaced(&rt, alloc, &movie, 100);
     check_seekings(&rt, alloc, &movie, &other);
 }

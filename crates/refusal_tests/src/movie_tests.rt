@@ -9,7 +9,7 @@ use refusals::Refusing;
 use std::alloc::Global;
 use std::process::Abort;
 use tas_movie::{Edit, Inputs, Movie, ReadError, TextError, TextErrorKind, print_text, read_text};
-use vcs_machine::{Cart, CartError};
+use vcs_machine::{Cart, CartError, Input};
 use vcs_tia::Picture;
 
 /// A call that makes something of a movie and its text.
@@ -179,7 +179,7 @@ fn growths_of<R: Abort>(rt: &R, alloc: Global, made: &Made, making: Making) -> u
 }
 
 fn make_all<R: Abort>(rt: &R, alloc: Global) -> Made {
-    let movie = movie_of(rt, alloc, PLAYFIELD, 3);
+    let movie = movie_of(rt, alloc, PLAYFIELD, Input::none(), 3);
     let text = expect_ok(rt, print_text(alloc, &movie));
     let inputs = expect_ok(rt, Inputs::repeated(alloc, right(), 3));
     Made {

@@ -3,7 +3,7 @@
 use refusals::Refusing;
 use std::alloc::Global;
 
-/// The allocator that a call gets.
+/// The allocator that a call, a session or a desk gets.
 pub type Heap = Refusing<Global>;
 
 /// No call here grows so often.
@@ -37,7 +37,7 @@ impl Answer {
 /// How a run ended.
 #[derive(Clone, Copy, Debug, PartialEq, Eq)]
 pub enum Run {
-    /// A growth was refused, the call said so and changed nothing, and the same call was right then.
+    /// A growth was refused, the call said so, all was as before it, and the same call was right then.
     Refused,
     /// The call grew less often, and was right.
     Done,

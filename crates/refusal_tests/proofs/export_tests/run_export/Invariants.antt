@@ -1,4 +1,4 @@
-use Rattle.refusal_desk_tests.proofs.export_tests.run_export.Given as goal
+use Rattle.refusal_tests.proofs.export_tests.run_export.Given as goal
 
 abbrev pub ghosts-export_at-N-Ledger : goal.ghosts-export_at-N-Ledger
 ghosts-export_at-N-Ledger g a = record { name = a.unopened.ledger; parts = a.unopened.seats }

@@ -1,25 +1,13 @@
 //! Edits and movies, and what they read as.
 
 use crate::checks::expect_ok;
+use crate::fixtures::{BRIEF, FOLDING, PLAYFIELD, image, make, right};
 use std::alloc::{AllocError, Allocator, Global};
 use std::process::Abort;
 use std::str;
 use tas_desk::Entry;
 use tas_movie::{Edit, Inputs, Movie, print_text};
 use vcs_machine::{Cart, Input};
-
-/// `000=A9028500A90085004C00F0 FFC=00F0`: ends frame after frame by vertical sync, so that they are soon played. Their pictures
-/// are black.
-const BRIEF: &[u8] = b"\xA9\x02\x85\x00\xA9\x00\x85\x00\x4C\x00\xF0";
-
-/// `000=A910850DA91E85084C08F0 FFC=00F0`: a playfield of 1,680 lit pixels in each frame.
-const PLAYFIELD: &[u8] = b"\xA9\x10\x85\x0D\xA9\x1E\x85\x08\x4C\x08\xF0";
-
-/// `000=AD8002C9FFF00D658085808509A2508502 011=CAD0FBA9028500A90085004C00F0 FFC=00F0`: adds what the joysticks show to a byte,
-/// colours the background by it for 80 lines, and ends the frame by vertical sync; while the joysticks are at rest, it ends it at
-/// once. So a picture depends on all inputs up to it, and the frames are soon played.
-const FOLDING: &[u8] =
-    b"\xAD\x80\x02\xC9\xFF\xF0\x0D\x65\x80\x85\x80\x85\x09\xA2\x50\x85\x02\xCA\xD0\xFB\xA9\x02\x85\x00\xA9\x00\x85\x00\x4C\x00\xF0";
 
 /// An edit in short.
 #[derive(Clone, Copy, Debug, PartialEq, Eq)]
@@ -55,16 +43,12 @@ impl Change {
     }
 }
 
-/// The cartridge with a program at F000.
-fn cart_of<A: Allocator>(alloc: A, program: &[u8]) -> Result<Cart<A>, AllocError> {
-    let mut image = [0u8; 4096];
-    for (at, byte) in program.iter().enumerate() {
-        if at < 4096 {
-            image[at] = *byte;
-        }
+/// The edit that loads a program's cartridge.
+fn load_of<A: Allocator>(alloc: A, program: &[u8]) -> Result<Edit<A>, AllocError> {
+    match Cart::from_bytes(alloc, &image(program)) {
+        Ok(cart) => Ok(Edit::Load(cart)),
+        Err(_) => Err(AllocError),
     }
-    image[4093] = 0xF0;
-    Cart::from_bytes(alloc, &image).map_err(|_| AllocError)
 }
 
 fn copies<A: Allocator>(alloc: A, input: Input, count: usize) -> Result<Inputs<A>, AllocError> {
@@ -73,21 +57,19 @@ fn copies<A: Allocator>(alloc: A, input: Input, count: usize) -> Result<Inputs<A
 
 /// The edit.
 pub fn edit_of<A: Allocator>(alloc: A, change: Change) -> Result<Edit<A>, AllocError> {
-    let mut right = Input::none();
-    right.left.right = true;
     let mut up = Input::none();
     up.left.up = true;
     Ok(match change {
-        Change::Load => Edit::Load(cart_of(alloc, BRIEF)?),
-        Change::LoadPlayfield => Edit::Load(cart_of(alloc, PLAYFIELD)?),
-        Change::LoadFolding => Edit::Load(cart_of(alloc, FOLDING)?),
+        Change::Load => load_of(alloc, BRIEF)?,
+        Change::LoadPlayfield => load_of(alloc, PLAYFIELD)?,
+        Change::LoadFolding => load_of(alloc, FOLDING)?,
         Change::Insert(at, count) => Edit::Insert {
             at,
             inputs: copies(alloc, Input::none(), count)?,
         },
         Change::InsertRight(at, count) => Edit::Insert {
             at,
-            inputs: copies(alloc, right, count)?,
+            inputs: copies(alloc, right(), count)?,
         },
         Change::InsertUp(at) => Edit::Insert {
             at,
@@ -95,10 +77,32 @@ pub fn edit_of<A: Allocator>(alloc: A, change: Change) -> Result<Edit<A>, AllocE
         },
         Change::ReplaceRight(at) => Edit::Replace {
             at,
-            inputs: copies(alloc, right, 1)?,
+            inputs: copies(alloc, right(), 1)?,
         },
         Change::Delete(at, count) => Edit::Delete { at, count },
     })
+}
+
+/// Four edits, which make 400 brief frames.
+pub const BRIEF_OF_400: [Change; 4] = [
+    Change::Load,
+    Change::Insert(0, 200),
+    Change::Insert(200, 200),
+    Change::Delete(0, 0),
+];
+
+/// Three edits, which make 72 frames that add up inputs, the last eight of them with the left stick pushed right.
+pub const FOLDING_OF_72: [Change; 3] = [
+    Change::LoadFolding,
+    Change::Insert(0, 64),
+    Change::InsertRight(64, 8),
+];
+
+/// Makes these edits of a movie.
+pub fn make_all<R: Abort>(rt: &R, alloc: Global, movie: &mut Movie, changes: &[Change]) {
+    for change in changes {
+        make(rt, movie, &expect_ok(rt, edit_of(alloc, *change)));
+    }
 }
 
 fn entry_line<A: Allocator>(alloc: Global, entry: &Entry<A>) -> Result<String, AllocError> {

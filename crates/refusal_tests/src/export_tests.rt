@@ -2,11 +2,12 @@
 //! export is right.
 
 ghost use Rattle.std.specs.Prelude.{◌≡◌, ◌≤◌};
+ghost use Rattle.tas_desk.specs.Runs.{most_workers};
 ghost use Rattle.tas_desk.specs.Seats.{name_of};
 
 use crate::checks::{check_same, check_that, expect_ok};
 use crate::desks::{close, keep_up_to, make_edits, open, two_seats, with_history};
-use crate::edits::{Change, edit_of};
+use crate::edits::{Change, FOLDING_OF_72, make_all};
 use crate::runs::{Heap, MOST, NEVER, Run};
 use refusals::Refusing;
 use std::alloc::Global;
@@ -16,21 +17,14 @@ use std::sync::Wait;
 use std::sync::atomic::{AtomicU64, Ordering};
 use std::thread::Threads;
 use tas_desk::{Desk, ExportError, Exported, Gate, Name, Seat, Shot, Unopened};
-use tas_movie::{Movie, apply, check};
+use tas_movie::Movie;
 use vcs_machine::{Meter, State, play};
 use vcs_tia::{Picture, ppm};
 
 /// The frames that are exported, from the first one to the one before the second, behind the first place of the grid.
 const FRAMES: (usize, usize) = (66, 70);
 
-/// What seat 0 does first.
-const FIRST: [Change; 3] = [
-    Change::LoadFolding,
-    Change::Insert(0, 64),
-    Change::InsertRight(64, 8),
-];
-
-/// What seat 1 does behind that, so that seat 0's zone is of an older movie.
+/// What seat 1 does behind the edits of seat 0, so that seat 0's zone is of an older movie.
 const BEHIND: [Change; 1] = [Change::InsertUp(10)];
 
 /// The zone of the seat that exports. It keeps the state after 64 frames.
@@ -55,17 +49,6 @@ struct Wanted {
     pixmaps: Vec<u8>,
 }
 
-/// The movie of some edits.
-fn movie_of<R: Abort>(rt: &R, alloc: Global, changes: &[Change]) -> Movie {
-    let mut movie = expect_ok(rt, Movie::blank(alloc));
-    for change in changes {
-        let edit = expect_ok(rt, edit_of(alloc, *change));
-        check_that(rt, *change, check(&movie, &edit).is_ok());
-        apply(&mut movie, &edit);
-    }
-    movie
-}
-
 /// The pixmaps of the frames, played from power-on.
 fn pixmaps_of<R: Abort>(rt: &R, alloc: Global, movie: &Movie) -> Vec<u8> {
     let mut pixmaps = Vec::new(alloc);
@@ -84,26 +67,19 @@ fn pixmaps_of<R: Abort>(rt: &R, alloc: Global, movie: &Movie) -> Vec<u8> {
 
 /// What is wanted where an export plays so many frames.
 fn wanted_of<R: Abort>(rt: &R, alloc: Global, zone: Zone, played: u64) -> Wanted {
-    match zone {
-        Zone::Present => Wanted {
-            at: 3,
-            len: 72,
-            played,
-            ran: 6,
-            pixmaps: pixmaps_of(rt, alloc, &movie_of(rt, alloc, &FIRST)),
-        },
-        Zone::Older => {
-            let [load, insert, push] = FIRST;
-            let [behind] = BEHIND;
-            let movie = movie_of(rt, alloc, &[load, insert, push, behind]);
-            Wanted {
-                at: 4,
-                len: 73,
-                played,
-                ran: 70,
-                pixmaps: pixmaps_of(rt, alloc, &movie),
-            }
-        }
+    let mut movie = expect_ok(rt, Movie::blank(alloc));
+    make_all(rt, alloc, &mut movie, &FOLDING_OF_72);
+    let (mut at, mut ran) = (3, 6);
+    if zone == Zone::Older {
+        make_all(rt, alloc, &mut movie, &BEHIND);
+        (at, ran) = (4, 70);
+    }
+    Wanted {
+        at,
+        len: movie.len(),
+        played,
+        ran,
+        pixmaps: pixmaps_of(rt, alloc, &movie),
     }
 }
 
@@ -129,7 +105,7 @@ fn export<'a, N: Name, R: Threads + Wait + Sync>(
     workers: usize,
     wanted: &Wanted,
 ) -> Option<bool>
-    requires { (1 ≤ workers) × (workers ≤ 16) }
+    requires { (1 ≤ workers) × (workers ≤ most_workers) }
 {
     let (from, to) = FRAMES;
     let gate = Counting {
@@ -210,7 +186,7 @@ fn try_export<'a, N: Name, R: Threads + Wait + Abort + Sync>(
     wanted: &Wanted,
     number: u64,
 ) -> Run
-    requires workers { (1 ≤ workers) × (workers ≤ 16) }
+    requires workers { (1 ≤ workers) × (workers ≤ most_workers) }
     requires number { 1 ≤ number }
 {
     heap.refuse(number);
@@ -249,11 +225,11 @@ fn make_and_export<'a, N: Name, R: Threads + Wait + Abort + Sync>(
     wanted: &Wanted,
     number: u64,
 ) -> Run
-    requires workers { (1 ≤ workers) × (workers ≤ 16) }
+    requires workers { (1 ≤ workers) × (workers ≤ most_workers) }
     requires number { 1 ≤ number }
 {
     let (one, other) = two_seats(rt, seats);
-    make_edits(rt, heap, desk, one, &FIRST);
+    make_edits(rt, heap, desk, one, &FOLDING_OF_72);
     keep_up_to(rt, heap, desk, one, 64);
     if zone == Zone::Older {
         make_edits(rt, heap, desk, other, &BEHIND);
@@ -273,7 +249,7 @@ fn export_at<'a, N: Name, R: Threads + Wait + Abort + Sync>(
     number: u64,
 ) -> Run
     requires name { unopened ≡ name_of N.registry N.name N.parts }
-    requires workers { (1 ≤ workers) × (workers ≤ 16) }
+    requires workers { (1 ≤ workers) × (workers ≤ most_workers) }
     requires number { 1 ≤ number }
 {
     let (desk, mut seats) = open::<N, R>(rt, heap, unopened);
@@ -292,7 +268,7 @@ fn run_export<R: Threads + Wait + Abort + Sync>(
     wanted: &Wanted,
     number: u64,
 ) -> Run
-    requires workers { (1 ≤ workers) × (workers ≤ 16) }
+    requires workers { (1 ≤ workers) × (workers ≤ most_workers) }
     requires number { 1 ≤ number }
 {
     let heap = Refusing::new(alloc, NEVER);
@@ -309,7 +285,7 @@ fn refuse_each<R: Threads + Wait + Abort + Sync>(
     played: u64,
     growths: u64,
 )
-    requires { (1 ≤ workers) × (workers ≤ 16) }
+    requires { (1 ≤ workers) × (workers ≤ most_workers) }
 {
     let wanted = wanted_of(rt, alloc, zone, played);
     let mut refused = 0;

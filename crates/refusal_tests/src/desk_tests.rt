@@ -311,35 +311,39 @@ pub fn take_call<'a, N: Name, R: Wait + Abort>(
     }
 }
 
-/// A shot has the growths of its picture and of its zone's list of states; the first one copies a movie before, which has two, and
-/// so does a share. A job has those of its cartridge, its inputs and its list of states, an offer that of the desk's list, and
-/// work on two targets those of two jobs and of the list.
+/// Each call, and how many growths it has. An edit has those of its second copy and of the journal, as in a session. A shot has those of
+/// its picture and of its zone's list of states; the first one copies a movie before, which has two, and so does a share. A job has
+/// those of its cartridge, its inputs and its list of states, an offer that of the desk's list, and work on two targets those of two
+/// jobs and of the list.
+static CALLS: [(Call, u64); 10] = [
+    (Call::Edit(Change::Load), 2),
+    (Call::Edit(Change::Insert(400, 3)), 2),
+    (Call::Edit(Change::ReplaceRight(399)), 2),
+    (Call::Edit(Change::Delete(100, 7)), 1),
+    (Call::FirstShot, 4),
+    (Call::Shot, 2),
+    (Call::Share, 3),
+    (Call::Job, 3),
+    (Call::Offer, 1),
+    (Call::Work, 7),
+];
+
+/// How many growths the call has, each of which is refused in turn.
+fn growths_of<R: Wait + Abort>(rt: &R, alloc: Global, call: Call) -> u64 {
+    for number in 1..MOST {
+        let run = run_call(rt, alloc, call, number);
+        if run == Run::Done {
+            return number - 1;
+        }
+        check_same(rt, ("growth", call, number), run, Run::Refused);
+    }
+    MOST
+}
+
 #[test]
 fn what_a_desk_does(rt: HostRuntime) {
-    let calls = [
-        (Call::Edit(Change::Load), 2),
-        (Call::Edit(Change::Insert(400, 3)), 2),
-        (Call::Edit(Change::ReplaceRight(399)), 2),
-        (Call::Edit(Change::Delete(100, 7)), 1),
-        (Call::FirstShot, 4),
-        (Call::Shot, 2),
-        (Call::Share, 3),
-        (Call::Job, 3),
-        (Call::Offer, 1),
-        (Call::Work, 7),
-    ];
-    let alloc = rt.alloc();
-    for (call, growths) in calls {
-        let mut refused = 0;
-        for number in 1..MOST {
-            let run = run_call(&rt, alloc, call, number);
-            if run == Run::Done {
-                break;
-            }
-            check_same(&rt, ("growth", call, number), run, Run::Refused);
-            refused = number;
-        }
-        check_same(&rt, call, refused, growths);
+    for (call, growths) in CALLS {
+        check_same(&rt, call, growths_of(&rt, rt.alloc(), call), growths);
     }
 }
 
@@ -350,6 +354,7 @@ fn a_second_job_that_is_refused(rt: HostRuntime) {
     check_same(&rt, "run", run, Run::Refused);
 }
 
+/// The zones of both seats have a blank movie, with two growths, and the list of the seats has one.
 #[test]
 fn the_opening_of_a_desk(rt: HostRuntime) {
     let alloc = rt.alloc();
@@ -365,6 +370,7 @@ fn the_opening_of_a_desk(rt: HostRuntime) {
     check_same(&rt, "refused", refused, 5);
 }
 
+/// Those of a new session: more places for readers are more room, and no more growths.
 #[test]
 fn a_desk_to_be_opened(rt: HostRuntime) {
     let alloc = rt.alloc();

@@ -7,7 +7,7 @@ ghost use Rattle.tas_desk.specs.Seats.{name_of};
 use crate::callers::{Caller, FIRST_AT, FIRST_LEN, FRAME, TURNS, sum_of};
 use crate::checks::{check_same, check_that, expect_ok, expect_some};
 use crate::desks::{close, make_edits, open};
-use crate::edits::{Change, edit_of};
+use crate::edits::{Change, FOLDING_OF_72, edit_of, make_all};
 use crate::runs::{Heap, MOST, NEVER, Run};
 use refusals::Refusing;
 use std::alloc::Global;
@@ -16,7 +16,7 @@ use std::process::Abort;
 use std::sync::Wait;
 use std::thread::{Threads, join_mut};
 use tas_desk::{Closed, Desk, Name, Seat, Unopened};
-use tas_movie::{Edit, Movie, apply, check};
+use tas_movie::{Edit, Movie};
 use vcs_machine::{Meter, State, play};
 use vcs_tia::Picture;
 
@@ -25,13 +25,6 @@ const EDITS: usize = 6;
 
 /// What a caller puts in.
 const INSERTED: Change = Change::InsertUp(64);
-
-/// What makes the movie before the callers begin.
-const FIRST: [Change; 3] = [
-    Change::LoadFolding,
-    Change::Insert(0, 64),
-    Change::InsertRight(64, 8),
-];
 
 /// The movie's frame, played from power-on: the sum over its picture.
 fn drawn_sum<R: Abort>(rt: &R, alloc: Global, movie: &Movie) -> u64 {
@@ -48,15 +41,12 @@ fn drawn_sum<R: Abort>(rt: &R, alloc: Global, movie: &Movie) -> u64 {
 /// The sums over the frame's picture after no edit of a caller, after one, and so on.
 fn drawn_sums<R: Abort>(rt: &R, alloc: Global) -> Vec<u64> {
     let mut movie = expect_ok(rt, Movie::blank(alloc));
+    make_all(rt, alloc, &mut movie, &FOLDING_OF_72);
     let mut sums = Vec::new(alloc);
-    for number in 0..FIRST.len() + EDITS {
-        let change = FIRST.get(number).copied().unwrap_or(INSERTED);
-        let edit = expect_ok(rt, edit_of(alloc, change));
-        check_that(rt, change, check(&movie, &edit).is_ok());
-        apply(&mut movie, &edit);
-        if number + 1 >= FIRST.len() {
-            expect_ok(rt, sums.push(drawn_sum(rt, alloc, &movie)));
-        }
+    expect_ok(rt, sums.push(drawn_sum(rt, alloc, &movie)));
+    for _edit in 0..EDITS {
+        make_all(rt, alloc, &mut movie, &[INSERTED]);
+        expect_ok(rt, sums.push(drawn_sum(rt, alloc, &movie)));
     }
     sums
 }
@@ -178,7 +168,7 @@ fn is_complete(closed: &Closed<&Heap>) -> bool {
             return false;
         }
         made[seat] = made[seat].saturating_add(1);
-        if number >= FIRST.len() && !is_inserted(&entry.edit) {
+        if number >= FOLDING_OF_72.len() && !is_inserted(&entry.edit) {
             return false;
         }
     }
@@ -222,7 +212,13 @@ fn run_at<'a, N: Name + Send + Sync, R: Threads + Wait + Abort + Sync>(
     requires number { 1 ≤ number }
 {
     let (desk, mut seats) = open::<N, R>(rt, heap, unopened);
-    make_edits(rt, heap, &desk, expect_some(rt, seats.first_mut()), &FIRST);
+    make_edits(
+        rt,
+        heap,
+        &desk,
+        expect_some(rt, seats.first_mut()),
+        &FOLDING_OF_72,
+    );
     let mut callers = callers(rt, alloc, heap, seats);
     let run = play_turns(rt, heap, &desk, callers.as_mut_slice(), sums, number);
     let closed = close(rt, desk, seats_of(rt, heap, callers));

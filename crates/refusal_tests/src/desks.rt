@@ -5,7 +5,7 @@ ghost use Rattle.tas_desk.specs.Seats.{name_of};
 
 use crate::checks::{check_same, check_that, expect_ok, expect_some};
 use crate::desk_tests::{Call, take_call};
-use crate::edits::{Change, edit_of, history};
+use crate::edits::{BRIEF_OF_400, Change, edit_of, history};
 use crate::runs::{Heap, NEVER, Run};
 use refusals::Refusing;
 use std::alloc::Global;
@@ -21,14 +21,6 @@ pub struct OpenGate;
 impl Gate for OpenGate {
     fn pass(&self, _piece: usize) {}
 }
-
-/// Four edits of a seat, which make 400 brief frames.
-const BEFORE: [Change; 4] = [
-    Change::Load,
-    Change::Insert(0, 200),
-    Change::Insert(200, 200),
-    Change::Delete(0, 0),
-];
 
 /// Two edits, which make 200 frames of the playfield.
 const PLAYFIELD_OF_200: [Change; 2] = [Change::LoadPlayfield, Change::Insert(0, 200)];
@@ -122,7 +114,7 @@ fn take_at<'a, N: Name, R: Wait + Abort>(
     if call == Call::TwoJobs {
         make_edits(rt, heap, desk, one, &PLAYFIELD_OF_200);
     } else {
-        make_edits(rt, heap, desk, one, &BEFORE);
+        make_edits(rt, heap, desk, one, &BRIEF_OF_400);
         keep_up_to(rt, heap, desk, one, 128);
     }
     take_call(rt, alloc, heap, desk, (one, other), call, number)

@@ -1,14 +1,11 @@
 //! What the engines read.
 
 use crate::checks::expect_ok;
+use crate::fixtures::{BRIEF, image, movie_of, right};
 use std::alloc::Global;
 use std::process::Abort;
-use tas_movie::{Edit, Inputs, Movie, apply, check, print_text};
-use vcs_machine::{Cart, Input};
-
-/// `000=A9028500A90085004C00F0 FFC=00F0`: ends frame after frame by vertical sync, so that they are soon played. Their pictures
-/// are black.
-const BRIEF: &[u8] = b"\xA9\x02\x85\x00\xA9\x00\x85\x00\x4C\x00\xF0";
+use tas_movie::print_text;
+use vcs_machine::Input;
 
 /// The bytes of a cartridge, of the texts of three movies of it, of changes of the first, of a script of edits and looks, and
 /// of a conversation that has these lines and others; and none.
@@ -37,31 +34,12 @@ const SCRIPT: &[u8] =
 const TALK: &[u8] =
     b"load 000=A9028500A90085004C00F0 FFC=00F0\ninsert 0 3 R.... ..... .....\nreplace 1 1 .L... ..... .....\nlen\ninput 1\nshot 2\ndelete 0 1\nwork 1\nlen\npicture 1\nmovie\nstates\nwhat\n";
 
-fn cart<R: Abort>(rt: &R, alloc: Global) -> Cart {
-    let mut image = [0u8; 4096];
-    for (at, byte) in BRIEF.iter().enumerate() {
-        if at < 4096 {
-            image[at] = *byte;
-        }
-    }
-    image[4093] = 0xF0;
-    expect_ok(rt, Cart::from_bytes(alloc, &image))
-}
-
-/// A movie with so many frames of one input.
-fn movie_of<R: Abort>(rt: &R, alloc: Global, cart: &Cart, input: Input, count: usize) -> Movie {
-    let mut movie = expect_ok(rt, Movie::new(alloc, cart));
-    let inputs = expect_ok(rt, Inputs::repeated(alloc, input, count));
-    let insert = Edit::Insert { at: 0, inputs };
-    expect_ok(rt, check(&movie, &insert));
-    apply(&mut movie, &insert);
-    movie
-}
-
 /// The text of a movie with so many frames of one input.
-fn text_of<R: Abort>(rt: &R, alloc: Global, cart: &Cart, input: Input, count: usize) -> Vec<u8> {
-    let movie = movie_of(rt, alloc, cart, input, count);
-    expect_ok(rt, print_text(alloc, &movie))
+fn text_of<R: Abort>(rt: &R, alloc: Global, input: Input, count: usize) -> Vec<u8> {
+    expect_ok(
+        rt,
+        print_text(alloc, &movie_of(rt, alloc, BRIEF, input, count)),
+    )
 }
 
 fn copy_of<R: Abort>(rt: &R, alloc: Global, bytes: &[u8]) -> Vec<u8> {
@@ -70,14 +48,11 @@ fn copy_of<R: Abort>(rt: &R, alloc: Global, bytes: &[u8]) -> Vec<u8> {
 
 /// All inputs.
 pub fn make_inputs<R: Abort>(rt: &R, alloc: Global) -> Bytes {
-    let cart = cart(rt, alloc);
-    let mut right = Input::none();
-    right.left.right = true;
     Bytes {
-        old: text_of(rt, alloc, &cart, Input::none(), 3),
-        new: text_of(rt, alloc, &cart, right, 2),
-        replaced: text_of(rt, alloc, &cart, right, 3),
-        cart: copy_of(rt, alloc, cart.bytes()),
+        old: text_of(rt, alloc, Input::none(), 3),
+        new: text_of(rt, alloc, right(), 2),
+        replaced: text_of(rt, alloc, right(), 3),
+        cart: copy_of(rt, alloc, &image(BRIEF)),
         changes: copy_of(rt, alloc, CHANGES),
         script: copy_of(rt, alloc, SCRIPT),
         talk: copy_of(rt, alloc, TALK),

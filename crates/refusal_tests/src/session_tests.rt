@@ -3,7 +3,7 @@
 ghost use Rattle.std.specs.Prelude.{◌≤◌};
 
 use crate::checks::{check_same, check_that, expect_ok};
-use crate::edits::{Change, edit_of, history, movie_text};
+use crate::edits::{BRIEF_OF_400, Change, edit_of, history, movie_text};
 use crate::runs::{Heap, MOST, NEVER, Run};
 use refusals::Refusing;
 use std::alloc::{AllocError, Allocator, Global};
@@ -61,22 +61,14 @@ fn shows<A: Allocator, R: Abort>(
     shown(rt, alloc, session).as_str() == before
 }
 
-/// Four edits of seat 0, which make 400 brief frames.
-const BEFORE: [Change; 4] = [
-    Change::Load,
-    Change::Insert(0, 200),
-    Change::Insert(200, 200),
-    Change::Delete(0, 0),
-];
-
-/// Makes the four edits, and keeps the states after 64 and 128 frames.
+/// Seat 0 makes four edits, and keeps the states after 64 and 128 frames.
 fn set_up<'a, R: Wait + Abort>(
     rt: &R,
     alloc: Global,
     heap: &'a Heap,
     session: &mut Session<&'a Heap>,
 ) {
-    for change in BEFORE {
+    for change in BRIEF_OF_400 {
         let made = session.at();
         let edit = expect_ok(rt, edit_of(heap, change));
         expect_ok(rt, session.edit(rt, 0, made, edit));
@@ -272,30 +264,37 @@ fn run_turn<R: Wait + Abort>(rt: &R, alloc: Global, turn: Turn, number: u64) -> 
     run
 }
 
+/// Each turn, and how many growths it has. The first edit has those of its seat's count, of the second copy of its inputs, of the journal
+/// and of the writer's list of edits. The fifth has those of the second copy, of a cartridge or of inputs, which a deletion doesn't
+/// have, and of the journal, whose first room was for four. A shot has those of its picture and of the list of states, a job those of
+/// its cartridge, its inputs and its list of states, and an offer that of the list of states.
+static TURNS: [(Turn, u64); 8] = [
+    (Turn::First, 4),
+    (Turn::Edit(Change::Load), 2),
+    (Turn::Edit(Change::Insert(400, 3)), 2),
+    (Turn::Edit(Change::ReplaceRight(399)), 2),
+    (Turn::Edit(Change::Delete(100, 7)), 1),
+    (Turn::Shot, 2),
+    (Turn::Job, 3),
+    (Turn::Offer, 1),
+];
+
+/// How many growths the turn has, each of which is refused in turn.
+fn growths_of<R: Wait + Abort>(rt: &R, alloc: Global, turn: Turn) -> u64 {
+    for number in 1..MOST {
+        let run = run_turn(rt, alloc, turn, number);
+        if run == Run::Done {
+            return number - 1;
+        }
+        check_same(rt, ("growth", turn, number), run, Run::Refused);
+    }
+    MOST
+}
+
 #[test]
 fn what_a_session_does(rt: HostRuntime) {
-    let turns = [
-        (Turn::First, 4),
-        (Turn::Edit(Change::Load), 2),
-        (Turn::Edit(Change::Insert(400, 3)), 2),
-        (Turn::Edit(Change::ReplaceRight(399)), 2),
-        (Turn::Edit(Change::Delete(100, 7)), 1),
-        (Turn::Shot, 2),
-        (Turn::Job, 3),
-        (Turn::Offer, 1),
-    ];
-    let alloc = rt.alloc();
-    for (turn, growths) in turns {
-        let mut refused = 0;
-        for number in 1..MOST {
-            let run = run_turn(&rt, alloc, turn, number);
-            if run == Run::Done {
-                break;
-            }
-            check_same(&rt, ("growth", turn, number), run, Run::Refused);
-            refused = number;
-        }
-        check_same(&rt, turn, refused, growths);
+    for (turn, growths) in TURNS {
+        check_same(&rt, turn, growths_of(&rt, rt.alloc(), turn), growths);
     }
 }
 
@@ -324,6 +323,8 @@ fn run_new<R: Wait>(rt: &R, alloc: Global, number: u64) -> Run
     Run::ended(true, first == None && is_new(rt, &heap) == Some(true))
 }
 
+/// Two blank movies have two growths each. The writer that shows them has eight: a box for each, what each reader was last seen to do,
+/// and the table by which readers tell that they read: its words and its places, each first in a list, and the share of it.
 #[test]
 fn a_new_session(rt: HostRuntime) {
     let alloc = rt.alloc();

@@ -143,6 +143,27 @@ fn check_engine<T: Wait + Threads + Sync + Abort>(
 }
 
 /// Each engine, how many of its growths end it, and how many an answer tells.
+///
+/// An input that isn't empty has one for its bytes, here, a cartridge one, and a movie that is read two: a copy of the cartridge, and its
+/// inputs. A line is written piece by piece: its room is 8 bytes at first, and at least doubles. So:
+///
+/// - `Trace`: an input and a cartridge. `Check`, `Migrate`, `Shot`: two inputs, a cartridge and a movie, and two of a line, a text
+///   or a picture.
+/// - `Edit`: three inputs, a cartridge and a movie, the inputs of two changes, and a text.
+/// - `Diff`: three inputs, a cartridge and a movie twice, the list of changes, 2 and 3 of their lines and 2 of the script. A replacement
+///   alone: 3 and 1.
+/// - `Script`: 15 of a desk (12 until it is opened, 2 of its seat's zone, 1 of the list of seats), an input, 19 of the lines of the replies
+///   (2, 2, 2, 1, 3, 3, 2, 3, 1) and 5 of their list. Told: 5 of `load` (the cartridge, and four of the first edit), 2 of `insert` and of
+///   `replace` each (the inputs twice), 3 of `shot` (the movie's copy and a picture), 4 of `work` (the cartridge and inputs of a job that
+///   keeps no state, and the movie's copy to share).
+/// - `MovieScript`: two inputs, a cartridge, a movie and the 15; 7 of the two edits that make it (copies of cartridge and inputs, four
+///   of the first edit, a second copy); then an input, the 19 and the 5. Told: `load` 2, and `replace` 3, since the journal grows at the
+///   fifth edit.
+/// - `Talk`: the 15, a line's room and the 19. Told: those 16, 6 of `picture` (the picture, the pixmap, 3 of its line and 1 of both
+///   together), 4 of `movie` (its text, 2 and 1) and 2 of `states`. `MovieTalk` begins as `MovieScript`, `CartTalk` with an input, a
+///   cartridge, a new movie of it, the 15 and the two edits without inputs to copy, 5.
+/// - `Export`: the first 27 of `MovieScript`; the movie's copy, the list of runs, and for each run a picture, and room for its pixmaps where
+///   it has frames.
 static GROWTHS: [(Engine, u64, u64); 15] = [
     (Engine::Trace, 2, 0),
     (Engine::Check, 7, 0),
