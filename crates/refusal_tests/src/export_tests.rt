@@ -69,14 +69,14 @@ fn pixmaps_of<R: Abort>(rt: &R, alloc: Global, movie: &Movie) -> Vec<u8> {
 fn wanted_of<R: Abort>(rt: &R, alloc: Global, zone: Zone, played: u64) -> Wanted {
     let mut movie = expect_ok(rt, Movie::blank(alloc));
     make_all(rt, alloc, &mut movie, &FOLDING_OF_72);
-    let (mut at, mut ran) = (3, 6);
+    let (mut at, mut len, mut ran) = (3, 72, 6);
     if zone == Zone::Older {
         make_all(rt, alloc, &mut movie, &BEHIND);
-        (at, ran) = (4, 70);
+        (at, len, ran) = (4, 73, 70);
     }
     Wanted {
         at,
-        len: movie.len(),
+        len,
         played,
         ran,
         pixmaps: pixmaps_of(rt, alloc, &movie),
