@@ -21,7 +21,7 @@ use vcs_cpu::Halt;
 use vcs_machine::{Cart, Input};
 
 /// The answer to a command.
-#[derive(Clone, Copy, Debug, PartialEq, Eq)]
+#[derive(Clone, Copy)]
 pub struct Answered {
     /// What is told.
     pub reply: Reply,
