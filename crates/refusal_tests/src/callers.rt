@@ -21,7 +21,7 @@ pub const FIRST_LEN: usize = 72;
 pub const FRAME: usize = 71;
 
 /// A call of a caller.
-#[derive(Clone, Copy, Debug, PartialEq, Eq)]
+#[derive(Clone, Copy)]
 pub enum Turn {
     /// An edit.
     Edit,
@@ -36,7 +36,7 @@ pub enum Turn {
 }
 
 /// The turns of each caller.
-pub const TURNS: [[Turn; 6]; 3] = [
+pub static TURNS: [[Turn; 6]; 3] = [
     [
         Turn::Edit,
         Turn::Work,
@@ -66,14 +66,18 @@ pub const TURNS: [[Turn; 6]; 3] = [
 /// A seat with the edits that it will make, each of them twice, and what became of its calls.
 #[derive(Drop)]
 pub struct Caller<'a, N: Name> {
+    /// Its calls, in order.
+    pub turns: &'static [Turn; 6],
     pub seat: Seat<N, &'a Heap>,
     pub edits: Vec<Edit<&'a Heap>>,
+    /// The batch that a refused offer handed back.
+    pub held: Option<Batch<&'a Heap>>,
     /// The length of the longest history that it was told of.
     pub seen: u64,
     /// How many calls were refused memory.
     pub refused: u64,
-    /// The first turn with an answer that isn't right.
-    pub wrong: Option<Turn>,
+    /// Whether each answer was right.
+    pub is_right: bool,
 }
 
 impl<'a, N: Name> Caller<'a, N> {
@@ -84,46 +88,17 @@ impl<'a, N: Name> Caller<'a, N> {
         is_extended
     }
 
-    /// A call was refused memory.
-    fn count_refusal(&mut self) {
-        self.refused = self.refused.saturating_add(1);
-    }
-
-    /// An edit. The receipt of a refused one, given again, is the next one of the seat.
-    fn edit<R: Wait>(&mut self, rt: &R, desk: &Desk<N, &R, &'a Heap>) -> bool {
-        match (self.edits.pop(), self.edits.pop()) {
-            (Some(edit), Some(again)) => self.edit_or_again(rt, desk, edit, again),
-            _ => false,
-        }
-    }
-
-    /// An edit, and where it is refused the same edit again.
-    fn edit_or_again<R: Wait>(
-        &mut self,
-        rt: &R,
-        desk: &Desk<N, &R, &'a Heap>,
-        edit: Edit<&'a Heap>,
-        again: Edit<&'a Heap>,
-    ) -> bool {
+    /// An edit: whether it is made, behind the history that was seen before it; nothing where memory is refused. The receipt of a
+    /// refused one, given again, is the next one of the seat.
+    fn edit<R: Wait>(&mut self, rt: &R, desk: &Desk<N, &R, &'a Heap>) -> Option<bool> {
+        let Some(edit) = self.edits.pop() else {
+            return Some(false);
+        };
         let before = self.seen;
-        let answer = desk.edit(rt, &mut self.seat, edit);
-        if answer == Err(EditError::Memory) {
-            self.count_refusal();
-            let is_as_before = self.looks(desk);
-            let made = desk.edit(rt, &mut self.seat, again);
-            is_as_before && self.sees_made(before, made)
-        } else {
-            self.sees_made(before, answer)
-        }
-    }
-
-    /// Whether an edit is made, behind the history that was seen before it.
-    fn sees_made(&mut self, before: u64, answer: Result<Receipt, EditError>) -> bool {
-        match answer {
-            Ok(receipt) => {
-                before < receipt.at && self.sees(receipt.at) && is_len(receipt.at, receipt.len)
-            }
-            Err(_) => false,
+        match desk.edit(rt, &mut self.seat, edit) {
+            Ok(Receipt { at, len }) => Some(before < at && self.sees(at) && is_len(at, len)),
+            Err(EditError::Memory) => None,
+            Err(_) => Some(false),
         }
     }
 
@@ -135,24 +110,8 @@ impl<'a, N: Name> Caller<'a, N> {
         }
     }
 
-    /// A shot. A refused one leaves the seat's zone.
+    /// A shot: whether it is right; nothing where memory is refused.
     pub fn shot<R: Wait>(
-        &mut self,
-        heap: &'a Heap,
-        desk: &Desk<N, &R, &'a Heap>,
-        sums: &[u64],
-    ) -> bool {
-        let kept = self.seat.kept();
-        if let Some(is_right) = self.sees_drawn(heap, desk, sums) {
-            return is_right;
-        }
-        self.count_refusal();
-        let is_as_before = self.seat.kept() == kept;
-        is_as_before && self.sees_drawn(heap, desk, sums) == Some(true)
-    }
-
-    /// Whether a shot is right; nothing where it is refused memory.
-    fn sees_drawn<R: Wait>(
         &mut self,
         heap: &'a Heap,
         desk: &Desk<N, &R, &'a Heap>,
@@ -165,92 +124,84 @@ impl<'a, N: Name> Caller<'a, N> {
         }
     }
 
-    /// Work. After a refusal what was done for the targets before it is told.
-    fn work<R: Wait>(&mut self, rt: &R, heap: &'a Heap, desk: &Desk<N, &R, &'a Heap>) -> bool {
-        let mut answer = desk.work(rt, heap, &mut self.seat, &[32, 64], &OpenGate);
-        if let Err(WorkError::Memory { done }) = answer {
-            self.count_refusal();
-            if done.jobs > 1 || done.kept != 0 || done.stale != 0 {
-                return false;
-            }
-            answer = desk.work(rt, heap, &mut self.seat, &[32, 64], &OpenGate);
-        }
-        match answer {
-            Ok(Worked { jobs, kept, stale }) => jobs == 2 && kept <= 1 && stale == 0,
-            Err(_) => false,
+    /// Work: whether it is right, or what was done for the targets before a refusal is told; nothing where memory is refused.
+    fn work<R: Wait>(
+        &mut self,
+        rt: &R,
+        heap: &'a Heap,
+        desk: &Desk<N, &R, &'a Heap>,
+    ) -> Option<bool> {
+        match desk.work(rt, heap, &mut self.seat, &[32, 64], &OpenGate) {
+            Ok(Worked { jobs, kept, stale }) => Some(jobs == 2 && kept <= 1 && stale == 0),
+            Err(WorkError::Memory { done }) if is_begun(done) => None,
+            Err(_) => Some(false),
         }
     }
 
-    /// A share. A refused one leaves the seat's zone.
-    fn share<R: Wait>(&mut self, rt: &R, desk: &Desk<N, &R, &'a Heap>) -> bool {
+    /// A share: whether the seat's zone gains what is told; nothing where memory is refused.
+    fn share<R: Wait>(&mut self, rt: &R, desk: &Desk<N, &R, &'a Heap>) -> Option<bool> {
         let kept = self.seat.kept();
-        let mut gained = desk.share(rt, &mut self.seat).ok();
-        if gained.is_none() {
-            self.count_refusal();
-            if self.seat.kept() != kept {
-                return false;
-            }
-            gained = desk.share(rt, &mut self.seat).ok();
+        match desk.share(rt, &mut self.seat) {
+            Ok(gained) => Some(gained == self.seat.kept().saturating_sub(kept)),
+            Err(_) => None,
         }
-        gained == Some(self.seat.kept().saturating_sub(kept))
     }
 
-    /// What a job for 64 frames made.
+    /// The batch that is held, or what a job for 64 frames makes; nothing where memory is refused.
     fn batch<R: Wait>(
         &mut self,
         rt: &R,
         heap: &'a Heap,
         desk: &Desk<N, &R, &'a Heap>,
     ) -> Option<Batch<&'a Heap>> {
-        if let Ok(job) = desk.job(rt, heap, &mut self.seat, 64) {
-            return Some(job.run());
+        if self.held.is_some() {
+            return self.held.take();
         }
-        self.count_refusal();
         match desk.job(rt, heap, &mut self.seat, 64) {
             Ok(job) => Some(job.run()),
             Err(_) => None,
         }
     }
 
-    /// An offer. A refused one hands back the batch, which is taken then.
-    fn offer<R: Wait>(&mut self, rt: &R, heap: &'a Heap, desk: &Desk<N, &R, &'a Heap>) -> bool {
-        match self.batch(rt, heap, desk) {
-            Some(batch) => self.offer_batch(rt, desk, batch),
-            None => false,
-        }
-    }
-
-    /// An offer of this batch.
-    fn offer_batch<R: Wait>(
+    /// An offer of this batch: whether it is taken; nothing where memory is refused, and then the batch is held.
+    fn offer<R: Wait>(
         &mut self,
         rt: &R,
         desk: &Desk<N, &R, &'a Heap>,
         batch: Batch<&'a Heap>,
-    ) -> bool {
+    ) -> Option<bool> {
         match desk.offer(rt, &mut self.seat, batch) {
-            Ok(offered) => self.sees(offered.at) && is_taken(offered),
+            Ok(offered) => Some(self.sees(offered.at) && is_taken(offered)),
             Err(OfferError::Memory(batch)) => {
-                self.count_refusal();
-                self.offer_again(rt, desk, batch)
+                self.held = Some(batch);
+                None
             }
-            Err(OfferError::Cartridge { .. }) => false,
+            Err(OfferError::Cartridge { .. }) => Some(false),
         }
     }
 
-    /// Whether the batch that was handed back is taken now.
-    fn offer_again<R: Wait>(
+    /// A turn: whether its answer is right; nothing where memory is refused.
+    fn try_turn<R: Wait>(
         &mut self,
         rt: &R,
+        heap: &'a Heap,
         desk: &Desk<N, &R, &'a Heap>,
-        batch: Batch<&'a Heap>,
-    ) -> bool {
-        match desk.offer(rt, &mut self.seat, batch) {
-            Ok(offered) => self.sees(offered.at) && is_taken(offered),
-            Err(_) => false,
+        sums: &[u64],
+        turn: Turn,
+    ) -> Option<bool> {
+        match turn {
+            Turn::Edit => self.edit(rt, desk),
+            Turn::Shot => self.shot(heap, desk, sums),
+            Turn::Work => self.work(rt, heap, desk),
+            Turn::Share => self.share(rt, desk),
+            Turn::Offer => match self.batch(rt, heap, desk) {
+                Some(batch) => self.offer(rt, desk, batch),
+                None => None,
+            },
         }
     }
 
-    /// A turn: whether each answer was right.
+    /// A turn, and where it is refused memory the same again: whether each answer was right. A refused one leaves movie and zone.
     fn take<R: Wait>(
         &mut self,
         rt: &R,
@@ -259,30 +210,38 @@ impl<'a, N: Name> Caller<'a, N> {
         sums: &[u64],
         turn: Turn,
     ) -> bool {
-        match turn {
-            Turn::Edit => self.edit(rt, desk),
-            Turn::Shot => self.shot(heap, desk, sums),
-            Turn::Work => self.work(rt, heap, desk),
-            Turn::Share => self.share(rt, desk),
-            Turn::Offer => self.offer(rt, heap, desk),
+        let kept = self.seat.kept();
+        let mut answer = self.try_turn(rt, heap, desk, sums, turn);
+        if answer.is_none() {
+            self.refused = self.refused.saturating_add(1);
+            if self.seat.kept() != kept || !self.looks(desk) {
+                return false;
+            }
+            answer = self.try_turn(rt, heap, desk, sums, turn);
+        } else if matches!(turn, Turn::Edit) {
+            drop(self.edits.pop());
         }
+        answer == Some(true)
     }
 
-    /// Turns in order, up to the first one with an answer that isn't right.
+    /// Its turns in order, up to the first one with an answer that isn't right.
     pub fn take_all<R: Wait>(
         &mut self,
         rt: &R,
         heap: &'a Heap,
         desk: &Desk<N, &R, &'a Heap>,
         sums: &[u64],
-        turns: &[Turn],
     ) {
+        let turns = self.turns;
         for turn in turns {
-            if self.wrong.is_none() && !self.take(rt, heap, desk, sums, *turn) {
-                self.wrong = Some(*turn);
-            }
+            self.is_right = self.is_right && self.take(rt, heap, desk, sums, *turn);
         }
     }
+}
+
+/// Whether one of two targets was worked at most, with no state kept.
+fn is_begun(done: Worked) -> bool {
+    done.jobs <= 1 && done.kept == 0 && done.stale == 0
 }
 
 /// How many edits of callers a history of this length has.

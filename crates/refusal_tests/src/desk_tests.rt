@@ -2,22 +2,25 @@
 
 ghost use Rattle.std.specs.Prelude.{◌≤◌};
 
-use crate::checks::{check_same, expect_ok};
-use crate::desks::{OpenGate, run_call, run_open, run_unopened};
+use crate::checks::{check_same, expect_ok, expect_some};
+use crate::desks::{OpenGate, batch_of, run_call};
 use crate::edits::{Change, edit_of};
-use crate::runs::{Heap, MOST, Run};
+use crate::runs::{Heap, MOST, NEVER, Run};
 use std::alloc::{AllocError, Global};
 use std::process::Abort;
 use std::sync::Wait;
 use tas_desk::{
     Desk, EditError, Name, OfferError, Offered, Receipt, Seat, ShotError, WorkError, Worked,
 };
-use tas_green::{Batch, Job};
-use tas_movie::Edit;
+use tas_green::Batch;
 
 /// A call at a desk.
-#[derive(Clone, Copy, Debug, PartialEq, Eq)]
+#[derive(Clone, Copy)]
 pub enum Call {
+    /// A desk with two seats is made, and not opened yet.
+    Make,
+    /// It is opened.
+    Open,
     /// Seat 1 makes an edit, its first.
     Edit(Change),
     /// Seat 1, whose zone is that of the blank movie, shoots frame 383.
@@ -36,146 +39,85 @@ pub enum Call {
     TwoJobs,
 }
 
-/// A shot, its picture told by how many pixels are lit.
-fn shoot<'a, N: Name, R: Wait>(
-    heap: &'a Heap,
-    desk: &Desk<N, &R, &'a Heap>,
-    seat: &mut Seat<N, &'a Heap>,
-    k: usize,
-) -> Result<(u64, u64, usize), ShotError> {
-    match desk.shot(heap, seat, k) {
-        Ok(shot) => Ok((shot.at, shot.ran, shot.picture.lit())),
-        Err(error) => Err(error),
-    }
-}
-
-fn try_edit<'a, N: Name, R: Wait + Abort>(
+/// An edit: whether it is the fifth, and the movie has this length then.
+fn make_edit<'a, N: Name, R: Wait + Abort>(
     rt: &R,
     heap: &'a Heap,
     desk: &Desk<N, &R, &'a Heap>,
     seat: &mut Seat<N, &'a Heap>,
     change: Change,
     number: u64,
-) -> Run
+) -> Result<bool, AllocError>
     requires { 1 ≤ number }
 {
     let edit = expect_ok(rt, edit_of(heap, change));
-    let again = expect_ok(rt, edit_of(heap, change));
-    heap.refuse(number);
-    let answer = desk.edit(rt, seat, edit);
     let len = change.len_after(400);
-    if heap.has_refused() {
-        let is_unmade = is_unmade(desk, seat, answer);
-        let is_made = is_made_again(rt, desk, seat, again, len);
-        Run::ended(true, is_unmade && is_made)
-    } else {
-        Run::ended(false, is_made(desk, seat, answer, len))
+    heap.refuse(number);
+    match desk.edit(rt, seat, edit) {
+        Ok(receipt) => Ok(receipt == Receipt { at: 5, len } && desk.len(seat) == Ok((5, len))),
+        Err(EditError::Memory) => Err(AllocError),
+        Err(_) => Ok(false),
     }
 }
 
-/// Whether an edit is made, the fifth, and the movie has this length then.
-fn is_made<'a, N: Name, R: Wait>(
-    desk: &Desk<N, &R, &'a Heap>,
-    seat: &mut Seat<N, &'a Heap>,
-    answer: Result<Receipt, EditError>,
-    len: usize,
-) -> bool {
-    answer == Ok(Receipt { at: 5, len }) && desk.len(seat) == Ok((5, len))
-}
-
-/// Whether an edit was refused memory, and history and movie are as before it.
-fn is_unmade<'a, N: Name, R: Wait>(
-    desk: &Desk<N, &R, &'a Heap>,
-    seat: &mut Seat<N, &'a Heap>,
-    answer: Result<Receipt, EditError>,
-) -> bool {
-    answer == Err(EditError::Memory) && desk.len(seat) == Ok((4, 400))
-}
-
-/// Whether the refused edit is made now.
-fn is_made_again<'a, N: Name, R: Wait>(
-    rt: &R,
-    desk: &Desk<N, &R, &'a Heap>,
-    seat: &mut Seat<N, &'a Heap>,
-    again: Edit<&'a Heap>,
-    len: usize,
-) -> bool {
-    let answer = desk.edit(rt, seat, again);
-    is_made(desk, seat, answer, len)
-}
-
-fn try_shot<'a, N: Name, R: Wait>(
+/// A shot: whether it is of a black frame, played so many, and the seat's zone keeps six states then.
+fn shoot<'a, N: Name, R: Wait>(
     heap: &'a Heap,
     desk: &Desk<N, &R, &'a Heap>,
     seat: &mut Seat<N, &'a Heap>,
     ran: u64,
     number: u64,
-) -> Run
+) -> Result<bool, AllocError>
     requires { 1 ≤ number }
 {
-    let kept = seat.kept();
     heap.refuse(number);
-    let mut answer = shoot(heap, desk, seat, 383);
-    let has_refused = heap.has_refused();
-    if has_refused {
-        if answer != Err(ShotError::Memory) || seat.kept() != kept {
-            return Run::Wrong;
+    match desk.shot(heap, seat, 383) {
+        Ok(shot) => {
+            let is_told = shot.at == 4 && shot.ran == ran;
+            Ok(is_told && shot.picture.lit() == 0 && seat.kept() == 6)
         }
-        answer = shoot(heap, desk, seat, 383);
+        Err(ShotError::Memory) => Err(AllocError),
+        Err(_) => Ok(false),
     }
-    Run::ended(has_refused, answer == Ok((4, ran, 0)) && seat.kept() == 6)
 }
 
-fn try_share<'a, N: Name, R: Wait>(
+/// A share: whether the seat's zone gains the desk's two states.
+fn share<'a, N: Name, R: Wait>(
     rt: &R,
     heap: &'a Heap,
     desk: &Desk<N, &R, &'a Heap>,
     seat: &mut Seat<N, &'a Heap>,
     number: u64,
-) -> Run
+) -> Result<bool, AllocError>
     requires { 1 ≤ number }
 {
     heap.refuse(number);
-    let mut gained = desk.share(rt, seat).ok();
-    let has_refused = heap.has_refused();
-    if has_refused {
-        if gained.is_some() || seat.kept() != 0 {
-            return Run::Wrong;
-        }
-        gained = desk.share(rt, seat).ok();
+    match desk.share(rt, seat) {
+        Ok(gained) => Ok(gained == 2 && seat.kept() == 2),
+        Err(error) => Err(error),
     }
-    Run::ended(has_refused, gained == Some(2) && seat.kept() == 2)
 }
 
-fn try_job<'a, N: Name, R: Wait>(
+/// A job: whether it makes what one for all frames does.
+fn work_all<'a, N: Name, R: Wait>(
     rt: &R,
     heap: &'a Heap,
     desk: &Desk<N, &R, &'a Heap>,
     seat: &mut Seat<N, &'a Heap>,
     number: u64,
-) -> Run
+) -> Result<bool, AllocError>
     requires { 1 ≤ number }
 {
     heap.refuse(number);
-    let job = desk.job(rt, heap, seat, 400);
-    let has_refused = heap.has_refused();
-    let first = is_whole(job);
-    if !has_refused {
-        return Run::ended(false, first == Some(true));
+    match desk.job(rt, heap, seat, 400) {
+        Ok(job) => Ok(is_of_all(&job.run())),
+        Err(error) => Err(error),
     }
-    let again = is_whole(desk.job(rt, heap, seat, 400));
-    Run::ended(true, first.is_none() && again == Some(true))
 }
 
-/// Whether a job makes what one for all frames does; nothing where it was refused memory.
-fn is_whole(job: Result<Job<&Heap>, AllocError>) -> Option<bool> {
-    match job {
-        Ok(job) => {
-            let batch = job.run();
-            Some(batch.inputs().len() == 400 && batch.holds(384) && !batch.holds(128))
-        }
-        Err(_) => None,
-    }
+/// Whether a batch is of all frames, and has the states that a zone with two of them lacks.
+fn is_of_all(batch: &Batch<&Heap>) -> bool {
+    batch.inputs().len() == 400 && batch.holds(384) && !batch.holds(128)
 }
 
 /// What an offer of all frames gains.
@@ -185,52 +127,109 @@ const ALL: Offered = Offered {
     kept: 4,
 };
 
-fn try_offer<'a, N: Name, R: Wait + Abort>(
+/// An offer of the batch that is held: whether it gains what it should. At want of memory the batch that was handed back is held.
+fn offer<'a, N: Name, R: Wait + Abort>(
+    rt: &R,
+    heap: &'a Heap,
+    desk: &Desk<N, &R, &'a Heap>,
+    seat: &mut Seat<N, &'a Heap>,
+    held: &mut Option<Batch>,
+    number: u64,
+) -> Result<bool, AllocError>
+    requires { 1 ≤ number }
+{
+    let batch = expect_some(rt, held.take());
+    heap.refuse(number);
+    match desk.offer(rt, seat, batch) {
+        Ok(offered) => Ok(offered == ALL),
+        Err(OfferError::Memory(batch)) => {
+            *held = Some(batch);
+            Err(AllocError)
+        }
+        Err(OfferError::Cartridge { .. }) => Ok(false),
+    }
+}
+
+/// Whether the job that made a batch started at the second of the states that are kept.
+fn starts_at_the_second(batch: &Batch) -> bool {
+    !batch.holds(128) && batch.holds(192)
+}
+
+/// Whether history and movie are as before the call, and so are the zones: the seat's keeps so many states, and the desk's two, so that
+/// a job starts at the second of them.
+fn is_as_before<'a, N: Name, R: Wait + Abort>(
+    rt: &R,
+    alloc: Global,
+    desk: &Desk<N, &R, &'a Heap>,
+    seat: &mut Seat<N, &'a Heap>,
+    kept: usize,
+) -> bool {
+    let starts_at_the_second = starts_at_the_second(&batch_of(rt, alloc, desk, seat, 400));
+    starts_at_the_second && seat.kept() == kept && desk.len(seat) == Ok((4, 400))
+}
+
+/// The call with this growth refused: whether it is right, where memory isn't refused.
+fn take<'a, N: Name, R: Wait + Abort>(
+    rt: &R,
+    heap: &'a Heap,
+    desk: &Desk<N, &R, &'a Heap>,
+    seat: &mut Seat<N, &'a Heap>,
+    held: &mut Option<Batch>,
+    call: Call,
+    number: u64,
+) -> Result<bool, AllocError>
+    requires { 1 ≤ number }
+{
+    match call {
+        Call::Edit(change) => make_edit(rt, heap, desk, seat, change, number),
+        Call::FirstShot => shoot(heap, desk, seat, 384, number),
+        Call::Shot => shoot(heap, desk, seat, 256, number),
+        Call::Share => share(rt, heap, desk, seat, number),
+        Call::Job => work_all(rt, heap, desk, seat, number),
+        Call::Offer => offer(rt, heap, desk, seat, held, number),
+        _ => Ok(false),
+    }
+}
+
+/// A call that leaves all as it was where memory is refused: it with one growth refused, and the same call after it.
+fn take_twice<'a, N: Name, R: Wait + Abort>(
     rt: &R,
     alloc: Global,
     heap: &'a Heap,
     desk: &Desk<N, &R, &'a Heap>,
     seat: &mut Seat<N, &'a Heap>,
+    held: &mut Option<Batch>,
+    call: Call,
     number: u64,
 ) -> Run
     requires { 1 ≤ number }
 {
-    let batch = expect_ok(rt, desk.job(rt, alloc, seat, 400)).run();
-    heap.refuse(number);
-    match desk.offer(rt, seat, batch) {
-        Ok(offered) => Run::ended(false, !heap.has_refused() && offered == ALL),
-        Err(OfferError::Memory(batch)) => {
-            let keeps_two = heap.has_refused() && starts_at_the_second(rt, alloc, desk, seat);
-            let is_taken = is_taken(rt, desk, seat, batch, ALL);
-            Run::ended(true, keeps_two && is_taken)
+    let kept = seat.kept();
+    let mut answer = take(rt, heap, desk, seat, held, call, number);
+    let has_refused = heap.has_refused();
+    if has_refused {
+        if answer.is_ok() || !is_as_before(rt, alloc, desk, seat, kept) {
+            return Run::Wrong;
         }
-        Err(OfferError::Cartridge { .. }) => Run::Wrong,
+        answer = take(rt, heap, desk, seat, held, call, NEVER);
     }
+    Run::ended(has_refused, matches!(answer, Ok(true)))
 }
 
-/// Whether the desk still keeps two states, so that a job starts at the second of them.
-fn starts_at_the_second<'a, N: Name, R: Wait + Abort>(
+/// So is a call taken where a batch of all frames is held.
+fn take_held<'a, N: Name, R: Wait + Abort>(
     rt: &R,
     alloc: Global,
+    heap: &'a Heap,
     desk: &Desk<N, &R, &'a Heap>,
     seat: &mut Seat<N, &'a Heap>,
-) -> bool {
-    let next = expect_ok(rt, desk.job(rt, alloc, seat, 400)).run();
-    !next.holds(128) && next.holds(192)
-}
-
-/// Whether a batch is taken so.
-fn is_taken<'a, N: Name, R: Wait>(
-    rt: &R,
-    desk: &Desk<N, &R, &'a Heap>,
-    seat: &mut Seat<N, &'a Heap>,
-    batch: Batch,
-    taken: Offered,
-) -> bool {
-    match desk.offer(rt, seat, batch) {
-        Ok(offered) => offered == taken,
-        Err(_) => false,
-    }
+    call: Call,
+    number: u64,
+) -> Run
+    requires { 1 ≤ number }
+{
+    let mut held = Some(batch_of(rt, alloc, desk, seat, 400));
+    take_twice(rt, alloc, heap, desk, seat, &mut held, call, number)
 }
 
 /// So many jobs, none of them stale, and so many states.
@@ -300,14 +299,10 @@ pub fn take_call<'a, N: Name, R: Wait + Abort>(
 {
     let (one, other) = seats;
     match call {
-        Call::Edit(change) => try_edit(rt, heap, desk, other, change, number),
-        Call::FirstShot => try_shot(heap, desk, other, 384, number),
-        Call::Shot => try_shot(heap, desk, one, 256, number),
-        Call::Share => try_share(rt, heap, desk, other, number),
-        Call::Job => try_job(rt, heap, desk, other, number),
-        Call::Offer => try_offer(rt, alloc, heap, desk, other, number),
         Call::Work => try_work(rt, heap, desk, other, number),
         Call::TwoJobs => try_two_jobs(rt, heap, desk, other, number),
+        Call::Shot => take_held(rt, alloc, heap, desk, one, call, number),
+        _ => take_held(rt, alloc, heap, desk, other, call, number),
     }
 }
 
@@ -315,35 +310,49 @@ pub fn take_call<'a, N: Name, R: Wait + Abort>(
 /// its picture and of its zone's list of states; the first one copies a movie before, which has two, and so does a share. A job has
 /// those of its cartridge, its inputs and its list of states, an offer that of the desk's list, and work on two targets those of two
 /// jobs and of the list.
-static CALLS: [(Call, u64); 10] = [
-    (Call::Edit(Change::Load), 2),
-    (Call::Edit(Change::Insert(400, 3)), 2),
-    (Call::Edit(Change::ReplaceRight(399)), 2),
-    (Call::Edit(Change::Delete(100, 7)), 1),
-    (Call::FirstShot, 4),
-    (Call::Shot, 2),
-    (Call::Share, 3),
-    (Call::Job, 3),
-    (Call::Offer, 1),
-    (Call::Work, 7),
+static CALLS: [(Call, &str, u64); 10] = [
+    (Call::Edit(Change::Load), "Edit(Load)", 2),
+    (
+        Call::Edit(Change::Insert(400, 3)),
+        "Edit(Insert(400, 3))",
+        2,
+    ),
+    (
+        Call::Edit(Change::ReplaceRight(399, 1)),
+        "Edit(ReplaceRight(399, 1))",
+        2,
+    ),
+    (
+        Call::Edit(Change::Delete(100, 7)),
+        "Edit(Delete(100, 7))",
+        1,
+    ),
+    (Call::FirstShot, "FirstShot", 4),
+    (Call::Shot, "Shot", 2),
+    (Call::Share, "Share", 3),
+    (Call::Job, "Job", 3),
+    (Call::Offer, "Offer", 1),
+    (Call::Work, "Work", 7),
 ];
 
-/// How many growths the call has, each of which is refused in turn.
-fn growths_of<R: Wait + Abort>(rt: &R, alloc: Global, call: Call) -> u64 {
+/// How many growths the call of this name has, each of which is refused in turn.
+fn growths_of<R: Wait + Abort>(rt: &R, alloc: Global, call: Call, name: &str) -> u64 {
     for number in 1..MOST {
         let run = run_call(rt, alloc, call, number);
         if run == Run::Done {
             return number - 1;
         }
-        check_same(rt, ("growth", call, number), run, Run::Refused);
+        check_same(rt, ("growth", name, number), run, Run::Refused);
     }
     MOST
 }
 
 #[test]
 fn what_a_desk_does(rt: HostRuntime) {
-    for (call, growths) in CALLS {
-        check_same(&rt, call, growths_of(&rt, rt.alloc(), call), growths);
+    for row in CALLS.iter() {
+        let (call, name, growths) = *row;
+        let found = growths_of(&rt, rt.alloc(), call, name);
+        check_same(&rt, name, found, growths);
     }
 }
 
@@ -357,31 +366,13 @@ fn a_second_job_that_is_refused(rt: HostRuntime) {
 /// The zones of both seats have a blank movie, with two growths, and the list of the seats has one.
 #[test]
 fn the_opening_of_a_desk(rt: HostRuntime) {
-    let alloc = rt.alloc();
-    let mut refused = 0;
-    for number in 1..MOST {
-        let run = run_open(&rt, alloc, number);
-        if run == Run::Done {
-            break;
-        }
-        check_same(&rt, ("growth", number), run, Run::Refused);
-        refused = number;
-    }
+    let refused = growths_of(&rt, rt.alloc(), Call::Open, "Open");
     check_same(&rt, "refused", refused, 5);
 }
 
 /// Those of a new session: more places for readers are more room, and no more growths.
 #[test]
 fn a_desk_to_be_opened(rt: HostRuntime) {
-    let alloc = rt.alloc();
-    let mut refused = 0;
-    for number in 1..MOST {
-        let run = run_unopened(&rt, alloc, number);
-        if run == Run::Done {
-            break;
-        }
-        check_same(&rt, ("growth", number), run, Run::Refused);
-        refused = number;
-    }
+    let refused = growths_of(&rt, rt.alloc(), Call::Make, "Make");
     check_same(&rt, "refused", refused, 12);
 }

@@ -13,6 +13,7 @@ use std::marker::Brand;
 use std::process::Abort;
 use std::sync::Wait;
 use tas_desk::{Closed, Desk, Gate, Name, OpenError, Seat, Unopened};
+use tas_green::Batch;
 
 /// A gate that nobody waits at.
 #[derive(Drop)]
@@ -72,6 +73,17 @@ pub fn keep_up_to<'a, N: Name, R: Wait + Abort>(
     expect_ok(rt, desk.share(rt, seat));
 }
 
+/// What a job for the first frames makes, in memory that isn't refused.
+pub fn batch_of<'a, N: Name, R: Wait + Abort>(
+    rt: &R,
+    alloc: Global,
+    desk: &Desk<N, &R, &'a Heap>,
+    seat: &mut Seat<N, &'a Heap>,
+    near: usize,
+) -> Batch {
+    expect_ok(rt, desk.job(rt, alloc, seat, near)).run()
+}
+
 /// The first two seats.
 pub fn two_seats<'s, 'a, N: Name, R: Abort>(
     rt: &R,
@@ -111,11 +123,12 @@ fn take_at<'a, N: Name, R: Wait + Abort>(
 {
     check_same(rt, "seats", seats.len(), 2);
     let (one, other) = two_seats(rt, seats);
-    if call == Call::TwoJobs {
-        make_edits(rt, heap, desk, one, &PLAYFIELD_OF_200);
-    } else {
-        make_edits(rt, heap, desk, one, &BRIEF_OF_400);
-        keep_up_to(rt, heap, desk, one, 128);
+    match call {
+        Call::TwoJobs => make_edits(rt, heap, desk, one, &PLAYFIELD_OF_200),
+        _ => {
+            make_edits(rt, heap, desk, one, &BRIEF_OF_400);
+            keep_up_to(rt, heap, desk, one, 128);
+        }
     }
     take_call(rt, alloc, heap, desk, (one, other), call, number)
 }
@@ -147,7 +160,7 @@ fn history_after(call: Call) -> &'static str {
         Call::Edit(Change::Insert(..)) => {
             "0 0 load\n0 1 insert 0 200\n0 2 insert 200 200\n0 3 delete 0 0\n1 0 insert 400 3\n"
         }
-        Call::Edit(Change::ReplaceRight(_)) => {
+        Call::Edit(Change::ReplaceRight(..)) => {
             "0 0 load\n0 1 insert 0 200\n0 2 insert 200 200\n0 3 delete 0 0\n1 0 replace 399 1\n"
         }
         Call::Edit(Change::Delete(..)) => {
@@ -158,8 +171,8 @@ fn history_after(call: Call) -> &'static str {
     }
 }
 
-/// A call at a desk with one growth refused, and the same call after it.
-pub fn run_call<R: Wait + Abort>(rt: &R, alloc: Global, call: Call, number: u64) -> Run
+/// A call at an opened desk with one growth refused, and the same call after it.
+fn run_opened<R: Wait + Abort>(rt: &R, alloc: Global, call: Call, number: u64) -> Run
     requires { 1 ≤ number }
 {
     let heap = Refusing::new(alloc, NEVER);
@@ -167,7 +180,7 @@ pub fn run_call<R: Wait + Abort>(rt: &R, alloc: Global, call: Call, number: u64)
     run_at::<Brand, R>(rt, alloc, &heap, unopened, call, number)
 }
 
-/// The opening of a desk with one growth refused.
+/// The opening of a desk with one growth refused. What was to be opened is given up then.
 fn open_at<'a, N: Name, R: Wait>(
     rt: &R,
     heap: &'a Heap,
@@ -177,47 +190,51 @@ fn open_at<'a, N: Name, R: Wait>(
     requires name { unopened ≡ name_of N.registry N.name N.parts }
     requires number { 1 ≤ number }
 {
+    let was_refused = heap.has_refused();
     heap.refuse(number);
     match Desk::<N, &R, &'a Heap>::open(rt, heap, unopened) {
-        Ok((_desk, seats)) => Run::ended(heap.has_refused(), seats.len() == 2),
-        Err(OpenError::Memory) => Run::ended(heap.has_refused(), true),
+        Ok((_desk, seats)) => Run::ended(heap.has_refused(), !was_refused && seats.len() == 2),
+        Err(OpenError::Memory) => Run::ended(heap.has_refused(), !was_refused),
         Err(OpenError::NoPlace) => Run::Wrong,
     }
 }
 
-/// The opening of a desk with two seats, with one growth refused. What was to be opened is given up then.
-pub fn run_open<R: Wait + Abort>(rt: &R, alloc: Global, number: u64) -> Run
+/// The making of a desk with two seats, of which no growth was refused, and its opening with one growth refused; nothing where memory is
+/// refused to the making.
+fn make_and_open<R: Wait>(rt: &R, heap: &Heap, number: u64) -> Option<Run>
     requires { 1 ≤ number }
 {
-    let heap = Refusing::new(alloc, NEVER);
-    let unopened = expect_ok(rt, Unopened::new(&heap, 2));
-    open_at::<Brand, R>(rt, &heap, unopened, number)
-}
-
-/// Whether what was to be opened is, and then opens; nothing where memory is refused to its making.
-fn is_unopened<R: Wait>(rt: &R, heap: &Heap) -> Option<bool> {
     match Unopened::new(heap, 2) {
-        Ok(unopened) => {
-            let has_refused = heap.has_refused();
-            let run = open_at::<Brand, R>(rt, heap, unopened, NEVER);
-            Some(!has_refused && run == Run::Done)
-        }
+        Ok(unopened) => Some(open_at::<Brand, R>(rt, heap, unopened, number)),
         Err(OpenError::Memory) => None,
-        Err(OpenError::NoPlace) => Some(false),
+        Err(OpenError::NoPlace) => Some(Run::Wrong),
     }
 }
 
-/// The making of a desk that isn't opened yet, with one growth refused, and another one after it.
-pub fn run_unopened<R: Wait>(rt: &R, alloc: Global, number: u64) -> Run
+/// The making of a desk that isn't opened yet, with one growth refused, and another one after it, which then opens.
+fn run_making<R: Wait>(rt: &R, alloc: Global, number: u64) -> Run
     requires { 1 ≤ number }
 {
     let heap = Refusing::new(alloc, number);
-    match is_unopened(rt, &heap) {
-        Some(is_right) => Run::ended(false, is_right),
-        None => {
-            let has_refused = heap.has_refused();
-            heap.refuse(NEVER);
-            Run::ended(true, has_refused && is_unopened(rt, &heap) == Some(true))
+    if let Some(run) = make_and_open(rt, &heap, NEVER) {
+        return run;
+    }
+    let has_refused = heap.has_refused();
+    heap.refuse(NEVER);
+    let again = make_and_open(rt, &heap, NEVER);
+    Run::ended(true, has_refused && again == Some(Run::Done))
+}
+
+/// A call at a desk with one growth refused, and the same call after it.
+pub fn run_call<R: Wait + Abort>(rt: &R, alloc: Global, call: Call, number: u64) -> Run
+    requires { 1 ≤ number }
+{
+    match call {
+        Call::Make => run_making(rt, alloc, number),
+        Call::Open => {
+            let heap = Refusing::new(alloc, NEVER);
+            expect_some(rt, make_and_open(rt, &heap, number))
         }
+        _ => run_opened(rt, alloc, call, number),
     }
 }

@@ -10,7 +10,7 @@ use tas_movie::{Edit, Inputs, Movie, print_text};
 use vcs_machine::{Cart, Input};
 
 /// An edit in short.
-#[derive(Clone, Copy, Debug, PartialEq, Eq)]
+#[derive(Clone, Copy)]
 pub enum Change {
     /// The cartridge of brief frames.
     Load,
@@ -24,8 +24,8 @@ pub enum Change {
     InsertRight(usize, usize),
     /// One input with the left stick pushed up, at a place.
     InsertUp(usize),
-    /// One input with the left stick pushed right over that at a place.
-    ReplaceRight(usize),
+    /// So many inputs with the left stick pushed right over those from a place on.
+    ReplaceRight(usize, usize),
     /// So many inputs taken out at a place.
     Delete(usize, usize),
 }
@@ -34,7 +34,7 @@ impl Change {
     /// The length of a movie after it.
     pub fn len_after(self, len: usize) -> usize {
         match self {
-            Change::Load | Change::LoadPlayfield | Change::LoadFolding | Change::ReplaceRight(_) =>
+            Change::Load | Change::LoadPlayfield | Change::LoadFolding | Change::ReplaceRight(..) =>
                 len,
             Change::Insert(_, count) | Change::InsertRight(_, count) => len.saturating_add(count),
             Change::InsertUp(_) => len.saturating_add(1),
@@ -51,36 +51,51 @@ fn load_of<A: Allocator>(alloc: A, program: &[u8]) -> Result<Edit<A>, AllocError
     }
 }
 
-fn copies<A: Allocator>(alloc: A, input: Input, count: usize) -> Result<Inputs<A>, AllocError> {
-    Ok(Inputs::from_vec(vec![in alloc; input; count]?))
+/// The edit that puts in so many of an input.
+fn insert_of<A: Allocator>(
+    alloc: A,
+    at: usize,
+    input: Input,
+    count: usize,
+) -> Result<Edit<A>, AllocError> {
+    match Inputs::repeated(alloc, input, count) {
+        Ok(inputs) => Ok(Edit::Insert { at, inputs }),
+        Err(error) => Err(error),
+    }
+}
+
+/// The edit that writes so many of an input over others.
+fn replace_of<A: Allocator>(
+    alloc: A,
+    at: usize,
+    input: Input,
+    count: usize,
+) -> Result<Edit<A>, AllocError> {
+    match Inputs::repeated(alloc, input, count) {
+        Ok(inputs) => Ok(Edit::Replace { at, inputs }),
+        Err(error) => Err(error),
+    }
+}
+
+/// The left stick pushed up.
+fn up() -> Input {
+    let mut input = Input::none();
+    input.left.up = true;
+    input
 }
 
 /// The edit.
 pub fn edit_of<A: Allocator>(alloc: A, change: Change) -> Result<Edit<A>, AllocError> {
-    let mut up = Input::none();
-    up.left.up = true;
-    Ok(match change {
-        Change::Load => load_of(alloc, BRIEF)?,
-        Change::LoadPlayfield => load_of(alloc, PLAYFIELD)?,
-        Change::LoadFolding => load_of(alloc, FOLDING)?,
-        Change::Insert(at, count) => Edit::Insert {
-            at,
-            inputs: copies(alloc, Input::none(), count)?,
-        },
-        Change::InsertRight(at, count) => Edit::Insert {
-            at,
-            inputs: copies(alloc, right(), count)?,
-        },
-        Change::InsertUp(at) => Edit::Insert {
-            at,
-            inputs: copies(alloc, up, 1)?,
-        },
-        Change::ReplaceRight(at) => Edit::Replace {
-            at,
-            inputs: copies(alloc, right(), 1)?,
-        },
-        Change::Delete(at, count) => Edit::Delete { at, count },
-    })
+    match change {
+        Change::Load => load_of(alloc, BRIEF),
+        Change::LoadPlayfield => load_of(alloc, PLAYFIELD),
+        Change::LoadFolding => load_of(alloc, FOLDING),
+        Change::Insert(at, count) => insert_of(alloc, at, Input::none(), count),
+        Change::InsertRight(at, count) => insert_of(alloc, at, right(), count),
+        Change::InsertUp(at) => insert_of(alloc, at, up(), 1),
+        Change::ReplaceRight(at, count) => replace_of(alloc, at, right(), count),
+        Change::Delete(at, count) => Ok(Edit::Delete { at, count }),
+    }
 }
 
 /// Four edits, which make 400 brief frames.
@@ -105,19 +120,21 @@ pub fn make_all<R: Abort>(rt: &R, alloc: Global, movie: &mut Movie, changes: &[C
     }
 }
 
+/// An edit's name, its place and how many inputs it has or takes out; nothing for another cartridge.
+fn change_of<A: Allocator>(edit: &Edit<A>) -> Option<(&'static str, usize, usize)> {
+    match edit {
+        Edit::Load(_) => None,
+        Edit::Insert { at, inputs } => Some(("insert", *at, inputs.as_slice().len())),
+        Edit::Replace { at, inputs } => Some(("replace", *at, inputs.as_slice().len())),
+        Edit::Delete { at, count } => Some(("delete", *at, *count)),
+    }
+}
+
 fn entry_line<A: Allocator>(alloc: Global, entry: &Entry<A>) -> Result<String, AllocError> {
     let (seat, serial) = (entry.seat, entry.serial);
-    match &entry.edit {
-        Edit::Load(_) => format!(in alloc; "{seat} {serial} load\n"),
-        Edit::Insert { at, inputs } => {
-            let count = inputs.as_slice().len();
-            format!(in alloc; "{seat} {serial} insert {at} {count}\n")
-        }
-        Edit::Replace { at, inputs } => {
-            let count = inputs.as_slice().len();
-            format!(in alloc; "{seat} {serial} replace {at} {count}\n")
-        }
-        Edit::Delete { at, count } => format!(in alloc; "{seat} {serial} delete {at} {count}\n"),
+    match change_of(&entry.edit) {
+        Some((name, at, count)) => format!(in alloc; "{seat} {serial} {name} {at} {count}\n"),
+        None => format!(in alloc; "{seat} {serial} load\n"),
     }
 }
 

@@ -6,7 +6,7 @@ ghost use Rattle.tas_desk.specs.Runs.{most_workers};
 ghost use Rattle.tas_desk.specs.Seats.{name_of};
 
 use crate::checks::{check_same, check_that, expect_ok};
-use crate::desks::{close, keep_up_to, make_edits, open, two_seats, with_history};
+use crate::desks::{batch_of, close, keep_up_to, make_edits, open, two_seats, with_history};
 use crate::edits::{Change, FOLDING_OF_72, make_all};
 use crate::runs::{Heap, MOST, NEVER, Run};
 use refusals::Refusing;
@@ -145,8 +145,7 @@ fn is_as_before<'a, N: Name, R: Wait + Abort>(
     zone: Zone,
     wanted: &Wanted,
 ) -> bool {
-    let batch = expect_ok(rt, desk.job(rt, alloc, seat, wanted.len)).run();
-    let holds_first = batch.holds(64);
+    let holds_first = batch_of(rt, alloc, desk, seat, wanted.len).holds(64);
     let is_seen = desk.len(seat) == Ok((wanted.at, wanted.len));
     is_seen && seat.kept() == 1 && holds_first == (zone == Zone::Older)
 }

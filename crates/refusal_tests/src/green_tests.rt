@@ -1,13 +1,13 @@
 //! Greenzones: after each refusal zone, meter and picture are as they were, and the same call is right.
 
-ghost use Rattle.std.specs.Prelude.{◌≤◌, length};
+ghost use Rattle.std.specs.Prelude.{◌≡◌, ◌≤◌, OnErr, length};
 ghost use Rattle.tas_green.specs.Green.{IsLawful};
 
 use crate::checks::{check_same, check_that, expect_ok};
 use crate::fixtures::{BRIEF, PLAYFIELD, movie_of, replaced};
-use crate::runs::{Answer, Heap, MOST, NEVER, Run};
+use crate::runs::{Heap, MOST, NEVER, Run};
 use refusals::Refusing;
-use std::alloc::{Allocator, Global};
+use std::alloc::{AllocError, Allocator, Global};
 use std::process::Abort;
 use tas_green::{Batch, Green, Job, MergeError, Merged};
 use tas_movie::Movie;
@@ -15,7 +15,7 @@ use vcs_machine::{Input, Meter};
 use vcs_tia::Picture;
 
 /// A call on a greenzone.
-#[derive(Clone, Copy, Debug, PartialEq, Eq)]
+#[derive(Clone, Copy)]
 enum Seeking {
     Shot,
     ShotFrom,
@@ -26,17 +26,31 @@ enum Seeking {
     TakeJob,
 }
 
-/// Each such call, and how many growths it has: a zone's list of states has one, a job those of its cartridge, its inputs and its
-/// list of states.
-static SEEKINGS: [(Seeking, u64); 7] = [
-    (Seeking::Shot, 1),
-    (Seeking::ShotFrom, 1),
-    (Seeking::Merge, 1),
-    (Seeking::Gain, 1),
-    (Seeking::GainFrom, 1),
-    (Seeking::Moved, 1),
-    (Seeking::TakeJob, 3),
+/// Each such call, its name, and how many growths it has: a zone's list of states has one, a job those of its cartridge, its inputs
+/// and its list of states.
+static SEEKINGS: [(Seeking, &str, u64); 7] = [
+    (Seeking::Shot, "Shot", 1),
+    (Seeking::ShotFrom, "ShotFrom", 1),
+    (Seeking::Merge, "Merge", 1),
+    (Seeking::Gain, "Gain", 1),
+    (Seeking::GainFrom, "GainFrom", 1),
+    (Seeking::Moved, "Moved", 1),
+    (Seeking::TakeJob, "TakeJob", 3),
 ];
+
+/// What the calls are given, and don't change.
+#[derive(Drop)]
+struct Given {
+    movie: Movie,
+    /// A movie whose inputs differ at frame 100.
+    other: Movie,
+    /// The movie's states after 64 frames and so on up to 384.
+    full: Green,
+    /// Those of the other movie.
+    full_of_other: Green,
+    /// The movie's, to be merged.
+    batch: Batch,
+}
 
 /// Whether just the states after 64 and 128 frames are kept, as before each call.
 fn is_as_before<A: Allocator>(green: &Green<A>) -> bool {
@@ -84,6 +98,27 @@ fn playfield<R: Abort>(rt: &R, alloc: Global) -> Picture {
     picture
 }
 
+/// The states of all of the grid's places up to 384 frames.
+fn batch_of<R: Abort>(rt: &R, alloc: Global, movie: &Movie) -> Batch {
+    expect_ok(rt, Job::take(alloc, movie, &Green::new(alloc), 384)).run()
+}
+
+/// What the calls are given.
+fn make_given<R: Abort>(rt: &R, alloc: Global) -> Given
+    ensures movie { IsLawful result.movie result.full }
+    ensures other { IsLawful result.other result.full_of_other }
+{
+    let movie = movie_of(rt, alloc, BRIEF, Input::none(), 400);
+    let other = replaced(rt, alloc, &movie, 100);
+    Given {
+        full: zone_of(rt, alloc, alloc, &movie, 383),
+        full_of_other: zone_of(rt, alloc, alloc, &other, 383),
+        batch: batch_of(rt, alloc, &movie),
+        movie,
+        other,
+    }
+}
+
 /// Whether nothing was drawn over the playfield, and no frame played.
 fn is_untouched(picture: &Picture, meter: &Meter) -> bool {
     picture.lit() == 1680 && meter.count() == 0
@@ -94,208 +129,11 @@ fn shows(picture: &Picture, meter: &Meter, ran: u64) -> bool {
     picture.lit() == 0 && meter.count() == ran
 }
 
-/// A shot with one growth refused, and the same shot after it.
-fn shot_twice(heap: &Heap, green: &mut Green<&Heap>, movie: &Movie, picture: &mut Picture) -> Run
-    requires lawful { IsLawful movie.now green.old }
-    requires long { 384 ≤ length movie.now.inputs }
-{
-    let mut meter = Meter::new();
-    let mut answer = green.shot(movie, 383, picture, &mut meter);
-    let has_refused = heap.has_refused();
-    if has_refused {
-        if answer.is_ok() || !is_as_before(green) || !is_untouched(picture, &meter) {
-            return Run::Wrong;
-        }
-        answer = green.shot(movie, 383, picture, &mut meter);
-    }
-    let is_drawn = matches!(answer, Ok(Ok(())));
-    let is_right = is_drawn && is_full(green) && shows(picture, &meter, 256);
-    Run::ended(has_refused, is_right)
-}
-
-fn run_shot<R: Abort>(rt: &R, alloc: Global, movie: &Movie, number: u64) -> Run
-    requires number { 1 ≤ number }
-    requires long { 384 ≤ length movie.now.inputs }
-{
-    let heap = Refusing::new(alloc, NEVER);
-    let mut green = zone_of(rt, alloc, &heap, movie, 127);
-    let mut picture = playfield(rt, alloc);
-    heap.refuse(number);
-    shot_twice(&heap, &mut green, movie, &mut picture)
-}
-
-/// A shot of another movie, whose inputs differ at frame 100: a refused one leaves the state after 128 frames uncut.
-fn shot_from_twice(
-    heap: &Heap,
-    green: &mut Green<&Heap>,
-    made_for: &Movie,
-    movie: &Movie,
-    picture: &mut Picture,
-) -> Run
-    requires lawful { IsLawful made_for.now green.old }
-    requires long { 384 ≤ length movie.now.inputs }
-{
-    let mut meter = Meter::new();
-    let mut answer = green.shot_from(made_for, movie, 383, picture, &mut meter);
-    let has_refused = heap.has_refused();
-    if has_refused {
-        if answer.is_ok() || !is_as_before(green) || !is_untouched(picture, &meter) {
-            return Run::Wrong;
-        }
-        answer = green.shot_from(made_for, movie, 383, picture, &mut meter);
-    }
-    let is_drawn = matches!(answer, Ok(Ok(())));
-    let is_right = is_drawn && is_full(green) && shows(picture, &meter, 320);
-    Run::ended(has_refused, is_right)
-}
-
-fn run_shot_from<R: Abort>(
-    rt: &R,
-    alloc: Global,
-    made_for: &Movie,
-    movie: &Movie,
-    number: u64,
-) -> Run
-    requires number { 1 ≤ number }
-    requires long { 384 ≤ length movie.now.inputs }
-{
-    let heap = Refusing::new(alloc, NEVER);
-    let mut green = zone_of(rt, alloc, &heap, made_for, 127);
-    let mut picture = playfield(rt, alloc);
-    heap.refuse(number);
-    shot_from_twice(&heap, &mut green, made_for, movie, &mut picture)
-}
-
-/// A merge with one growth refused, and the same merge after it.
-fn merge_twice(heap: &Heap, green: &mut Green<&Heap>, movie: &Movie, batch: &Batch) -> Run
-    requires { IsLawful movie.now green.old }
-{
-    let mut answer = green.merge(movie, batch);
-    let has_refused = heap.has_refused();
-    if has_refused {
-        if answer != Err(MergeError::Memory) || !is_as_before(green) || !batch.holds(384) {
-            return Run::Wrong;
-        }
-        answer = green.merge(movie, batch);
-    }
-    let merged = Merged {
-        front: 384,
-        kept: 4,
-    };
-    Run::ended(has_refused, answer == Ok(merged) && is_full(green))
-}
-
-/// The states of all of the grid's places up to 384 frames.
-fn batch_of<R: Abort>(rt: &R, alloc: Global, movie: &Movie) -> Batch {
-    expect_ok(rt, Job::take(alloc, movie, &Green::new(alloc), 384)).run()
-}
-
-fn run_merge<R: Abort>(rt: &R, alloc: Global, movie: &Movie, number: u64) -> Run
-    requires { 1 ≤ number }
-{
-    let heap = Refusing::new(alloc, NEVER);
-    let batch = batch_of(rt, alloc, movie);
-    let mut green = zone_of(rt, alloc, &heap, movie, 127);
-    heap.refuse(number);
-    merge_twice(&heap, &mut green, movie, &batch)
-}
-
-/// A gain with one growth refused, and the same gain after it.
-fn gain_twice(heap: &Heap, green: &mut Green<&Heap>, movie: &Movie, other: &Green) -> Run
-    requires lawful { IsLawful movie.now green.old }
-    requires other { IsLawful movie.now other.now }
-{
-    let mut gained = green.gain(movie, other).ok();
-    let has_refused = heap.has_refused();
-    if has_refused {
-        if gained.is_some() || !is_as_before(green) || !is_full(other) {
-            return Run::Wrong;
-        }
-        gained = green.gain(movie, other).ok();
-    }
-    Run::ended(has_refused, gained == Some(4) && is_full(green))
-}
-
-fn run_gain<R: Abort>(rt: &R, alloc: Global, movie: &Movie, number: u64) -> Run
-    requires { 1 ≤ number }
-{
-    let heap = Refusing::new(alloc, NEVER);
-    let mut green = zone_of(rt, alloc, &heap, movie, 127);
-    let other = zone_of(rt, alloc, alloc, movie, 383);
-    heap.refuse(number);
-    gain_twice(&heap, &mut green, movie, &other)
-}
-
-/// A gain for another movie, whose inputs differ at frame 100: a refused one leaves the state after 128 frames uncut.
-fn gain_from_twice(
-    heap: &Heap,
-    green: &mut Green<&Heap>,
-    made_for: &Movie,
-    movie: &Movie,
-    other: &Green,
-) -> Run
-    requires lawful { IsLawful made_for.now green.old }
-    requires other { IsLawful movie.now other.now }
-{
-    let mut gained = green.gain_from(made_for, movie, other).ok();
-    let has_refused = heap.has_refused();
-    if has_refused {
-        if gained.is_some() || !is_as_before(green) || !is_full(other) {
-            return Run::Wrong;
-        }
-        gained = green.gain_from(made_for, movie, other).ok();
-    }
-    Run::ended(has_refused, gained == Some(5) && is_full(green))
-}
-
-fn run_gain_from<R: Abort>(
-    rt: &R,
-    alloc: Global,
-    made_for: &Movie,
-    movie: &Movie,
-    number: u64,
-) -> Run
-    requires { 1 ≤ number }
-{
-    let heap = Refusing::new(alloc, NEVER);
-    let mut green = zone_of(rt, alloc, &heap, made_for, 127);
-    let other = zone_of(rt, alloc, alloc, movie, 383);
-    heap.refuse(number);
-    gain_from_twice(&heap, &mut green, made_for, movie, &other)
-}
-
-/// Whether the copy for another movie, whose inputs differ at frame 100, keeps just the state after 64 frames.
-fn moved(heap: &Heap, green: &Green, made_for: &Movie, movie: &Movie) -> Answer
-    requires { IsLawful made_for.now green.now }
-{
-    match green.moved(heap, made_for, movie) {
-        Ok(moved) => Answer::right(moved.count() == 1 && moved.holds(64)),
-        Err(_) => Answer::Memory,
-    }
-}
-
-/// The copy with one growth refused, and the same copy after it.
-fn moved_twice(heap: &Heap, green: &Green, made_for: &Movie, movie: &Movie) -> Run
-    requires { IsLawful made_for.now green.now }
-{
-    let mut answer = moved(heap, green, made_for, movie);
-    let has_refused = heap.has_refused();
-    if has_refused {
-        if answer != Answer::Memory || !is_full(green) {
-            return Run::Wrong;
-        }
-        answer = moved(heap, green, made_for, movie);
-    }
-    Run::ended(has_refused, answer == Answer::Right && is_full(green))
-}
-
-fn run_moved<R: Abort>(rt: &R, alloc: Global, made_for: &Movie, movie: &Movie, number: u64) -> Run
-    requires { 1 ≤ number }
-{
-    let heap = Refusing::new(alloc, number);
-    let green = zone_of(rt, alloc, alloc, made_for, 383);
-    moved_twice(&heap, &green, made_for, movie)
-}
+/// What a merge of the batch gains.
+const MERGED: Merged = Merged {
+    front: 384,
+    kept: 4,
+};
 
 /// Whether a batch has the movie's cartridge and inputs, and the states that a zone of two lacked.
 fn is_batch(batch: &Batch<&Heap>, movie: &Movie) -> bool {
@@ -306,97 +144,213 @@ fn is_batch(batch: &Batch<&Heap>, movie: &Movie) -> bool {
         && !batch.holds(128)
 }
 
+/// A shot of frame 383.
+fn shoot(
+    green: &mut Green<&Heap>,
+    picture: &mut Picture,
+    meter: &mut Meter,
+    movie: &Movie,
+) -> Result<bool, AllocError>
+    requires lawful { IsLawful movie.now green.old }
+    requires long { 384 ≤ length movie.now.inputs }
+    requires meter { meter.old ≡ 0 }
+    ensures zone { OnErr result (green.new ≡ green.old) }
+    ensures meter { OnErr result (meter.new ≡ meter.old) }
+{
+    match green.shot(movie, 383, picture, meter) {
+        Ok(drawn) => Ok(drawn.is_ok() && is_full(green) && shows(picture, meter, 256)),
+        Err(error) => Err(error),
+    }
+}
+
+/// A shot of the other movie's frame 383, over a zone that is cut behind frame 100, so that its state after 128 frames goes.
+fn shoot_from(
+    green: &mut Green<&Heap>,
+    picture: &mut Picture,
+    meter: &mut Meter,
+    made_for: &Movie,
+    movie: &Movie,
+) -> Result<bool, AllocError>
+    requires lawful { IsLawful made_for.now green.old }
+    requires long { 384 ≤ length movie.now.inputs }
+    requires meter { meter.old ≡ 0 }
+    ensures zone { OnErr result (green.new ≡ green.old) }
+    ensures meter { OnErr result (meter.new ≡ meter.old) }
+{
+    match green.shot_from(made_for, movie, 383, picture, meter) {
+        Ok(drawn) => Ok(drawn.is_ok() && is_full(green) && shows(picture, meter, 320)),
+        Err(error) => Err(error),
+    }
+}
+
+fn merge(green: &mut Green<&Heap>, movie: &Movie, batch: &Batch) -> Result<bool, AllocError>
+    requires { IsLawful movie.now green.old }
+    ensures { OnErr result (green.new ≡ green.old) }
+{
+    match green.merge(movie, batch) {
+        Ok(merged) => Ok(merged == MERGED && is_full(green)),
+        Err(MergeError::Memory) => Err(AllocError),
+        Err(MergeError::Cartridge) => Ok(false),
+    }
+}
+
+fn gain(green: &mut Green<&Heap>, movie: &Movie, full: &Green) -> Result<bool, AllocError>
+    requires lawful { IsLawful movie.now green.old }
+    requires full { IsLawful movie.now full.now }
+    ensures { OnErr result (green.new ≡ green.old) }
+{
+    match green.gain(movie, full) {
+        Ok(gained) => Ok(gained == 4 && is_full(green)),
+        Err(error) => Err(error),
+    }
+}
+
+/// A gain for the other movie, by a zone that is cut as by a shot.
+fn gain_from(
+    green: &mut Green<&Heap>,
+    made_for: &Movie,
+    movie: &Movie,
+    full: &Green,
+) -> Result<bool, AllocError>
+    requires lawful { IsLawful made_for.now green.old }
+    requires full { IsLawful movie.now full.now }
+    ensures { OnErr result (green.new ≡ green.old) }
+{
+    match green.gain_from(made_for, movie, full) {
+        Ok(gained) => Ok(gained == 5 && is_full(green)),
+        Err(error) => Err(error),
+    }
+}
+
+/// Whether the full zone's copy for the other movie keeps just the state after 64 frames.
+fn moved(heap: &Heap, given: &Given) -> Result<bool, AllocError>
+    requires { IsLawful given.now.movie given.now.full }
+{
+    match given.full.moved(heap, &given.movie, &given.other) {
+        Ok(moved) => Ok(moved.count() == 1 && moved.holds(64)),
+        Err(error) => Err(error),
+    }
+}
+
 /// Whether a job gets the movie's cartridge and inputs, and makes the states that a zone of two lacks.
-fn take(heap: &Heap, movie: &Movie, green: &Green) -> Answer
+fn take(heap: &Heap, movie: &Movie, green: &Green<&Heap>) -> Result<bool, AllocError>
     requires { IsLawful movie.now green.now }
 {
     match Job::take(heap, movie, green, 400) {
-        Ok(job) => Answer::right(is_batch(&job.run(), movie)),
-        Err(_) => Answer::Memory,
+        Ok(job) => Ok(is_batch(&job.run(), movie)),
+        Err(error) => Err(error),
     }
 }
 
-/// The taking of a job with one growth refused, and the same taking after it.
-fn take_twice(heap: &Heap, movie: &Movie, green: &Green) -> Run
-    requires { IsLawful movie.now green.now }
+/// The call: whether it is right, where memory isn't refused.
+fn seek(
+    heap: &Heap,
+    green: &mut Green<&Heap>,
+    picture: &mut Picture,
+    meter: &mut Meter,
+    given: &Given,
+    seeking: Seeking,
+) -> Result<bool, AllocError>
+    requires lawful { IsLawful given.now.movie green.old }
+    requires full { IsLawful given.now.movie given.now.full }
+    requires full_of_other { IsLawful given.now.other given.now.full_of_other }
+    requires long { 384 ≤ length given.now.movie.inputs }
+    requires other { 384 ≤ length given.now.other.inputs }
+    requires meter { meter.old ≡ 0 }
+    ensures zone { OnErr result (green.new ≡ green.old) }
+    ensures meter { OnErr result (meter.new ≡ meter.old) }
 {
-    let mut answer = take(heap, movie, green);
+    let (movie, other) = (&given.movie, &given.other);
+    match seeking {
+        Seeking::Shot => shoot(green, picture, meter, movie),
+        Seeking::ShotFrom => shoot_from(green, picture, meter, movie, other),
+        Seeking::Merge => merge(green, movie, &given.batch),
+        Seeking::Gain => gain(green, movie, &given.full),
+        Seeking::GainFrom => gain_from(green, movie, other, &given.full_of_other),
+        Seeking::Moved => moved(heap, given),
+        Seeking::TakeJob => take(heap, movie, green),
+    }
+}
+
+/// Whether what the calls are given is as it was.
+fn is_given(given: &Given) -> bool {
+    given.batch.holds(384) && is_full(&given.full) && is_full(&given.full_of_other)
+}
+
+/// The call with one growth refused, and the same call after it.
+fn seek_twice(
+    heap: &Heap,
+    green: &mut Green<&Heap>,
+    picture: &mut Picture,
+    given: &Given,
+    seeking: Seeking,
+) -> Run
+    requires lawful { IsLawful given.now.movie green.old }
+    requires full { IsLawful given.now.movie given.now.full }
+    requires full_of_other { IsLawful given.now.other given.now.full_of_other }
+    requires long { 384 ≤ length given.now.movie.inputs }
+    requires other { 384 ≤ length given.now.other.inputs }
+{
+    let mut meter = Meter::new();
+    let mut answer = seek(heap, green, picture, &mut meter, given, seeking);
     let has_refused = heap.has_refused();
     if has_refused {
-        if answer != Answer::Memory || !is_as_before(green) {
+        if answer.is_ok() || !is_as_before(green) || !is_untouched(picture, &meter) {
             return Run::Wrong;
         }
-        answer = take(heap, movie, green);
+        answer = seek(heap, green, picture, &mut meter, given, seeking);
     }
-    Run::ended(has_refused, answer == Answer::Right)
+    Run::ended(has_refused, matches!(answer, Ok(true)) && is_given(given))
 }
 
-fn run_take<R: Abort>(rt: &R, alloc: Global, movie: &Movie, number: u64) -> Run
-    requires { 1 ≤ number }
-{
-    let heap = Refusing::new(alloc, number);
-    let green = zone_of(rt, alloc, alloc, movie, 127);
-    take_twice(&heap, movie, &green)
-}
-
-/// The call with one growth refused, and the same call after it, between a movie and one whose inputs differ at frame 100.
-fn run_seeking<R: Abort>(
-    rt: &R,
-    alloc: Global,
-    movie: &Movie,
-    other: &Movie,
-    seeking: Seeking,
-    number: u64,
-) -> Run
+/// The call on a zone with two states of the movie, with one growth refused, and the same call after it.
+fn run_seeking<R: Abort>(rt: &R, alloc: Global, given: &Given, seeking: Seeking, number: u64) -> Run
     requires number { 1 ≤ number }
-    requires long { 384 ≤ length movie.now.inputs }
-    requires other { 384 ≤ length other.now.inputs }
+    requires full { IsLawful given.now.movie given.now.full }
+    requires full_of_other { IsLawful given.now.other given.now.full_of_other }
+    requires long { 384 ≤ length given.now.movie.inputs }
+    requires other { 384 ≤ length given.now.other.inputs }
 {
-    match seeking {
-        Seeking::Shot => run_shot(rt, alloc, movie, number),
-        Seeking::ShotFrom => run_shot_from(rt, alloc, movie, other, number),
-        Seeking::Merge => run_merge(rt, alloc, movie, number),
-        Seeking::Gain => run_gain(rt, alloc, movie, number),
-        Seeking::GainFrom => run_gain_from(rt, alloc, movie, other, number),
-        Seeking::Moved => run_moved(rt, alloc, movie, other, number),
-        Seeking::TakeJob => run_take(rt, alloc, movie, number),
-    }
+    let heap = Refusing::new(alloc, NEVER);
+    let mut green = zone_of(rt, alloc, &heap, &given.movie, 127);
+    let mut picture = playfield(rt, alloc);
+    heap.refuse(number);
+    seek_twice(&heap, &mut green, &mut picture, given, seeking)
 }
 
-/// How many growths the call has, each of which is refused in turn.
-fn growths_of<R: Abort>(
-    rt: &R,
-    alloc: Global,
-    movie: &Movie,
-    other: &Movie,
-    seeking: Seeking,
-) -> u64
-    requires long { 384 ≤ length movie.now.inputs }
-    requires other { 384 ≤ length other.now.inputs }
+/// How many growths the call of this name has, each of which is refused in turn.
+fn growths_of<R: Abort>(rt: &R, alloc: Global, given: &Given, seeking: Seeking, name: &str) -> u64
+    requires full { IsLawful given.now.movie given.now.full }
+    requires full_of_other { IsLawful given.now.other given.now.full_of_other }
+    requires long { 384 ≤ length given.now.movie.inputs }
+    requires other { 384 ≤ length given.now.other.inputs }
 {
     for number in 1..MOST {
-        let run = run_seeking(rt, alloc, movie, other, seeking, number);
+        let run = run_seeking(rt, alloc, given, seeking, number);
         if run == Run::Done {
             return number - 1;
         }
-        check_same(rt, ("growth", seeking, number), run, Run::Refused);
+        check_same(rt, ("growth", name, number), run, Run::Refused);
     }
     MOST
 }
 
-/// Compares how many growths each call has, between these two movies.
-fn check_seekings<R: Abort>(rt: &R, alloc: Global, movie: &Movie, other: &Movie) {
-    check_that(rt, "movie", movie.len() == 400 && other.len() == 400);
-    for (seeking, growths) in SEEKINGS {
-        let found = growths_of(rt, alloc, movie, other, seeking);
-        check_same(rt, seeking, found, growths);
+/// Compares how many growths each call has.
+fn check_seekings<R: Abort>(rt: &R, alloc: Global, given: &Given)
+    requires full { IsLawful given.now.movie given.now.full }
+    requires full_of_other { IsLawful given.now.other given.now.full_of_other }
+{
+    let are_long = given.movie.len() == 400 && given.other.len() == 400;
+    check_that(rt, "movie", are_long);
+    for row in SEEKINGS.iter() {
+        let (seeking, name, growths) = *row;
+        let found = growths_of(rt, alloc, given, seeking, name);
+        check_same(rt, name, found, growths);
     }
 }
 
 #[test]
 fn what_a_greenzone_does(rt: HostRuntime) {
     let alloc = rt.alloc();
-    let movie = movie_of(&rt, alloc, BRIEF, Input::none(), 400);
-    let other = replaced(&rt, alloc, &movie, 100);
-    check_seekings(&rt, alloc, &movie, &other);
+    check_seekings(&rt, alloc, &make_given(&rt, alloc));
 }

@@ -16,7 +16,7 @@ use tas_tool::ToolFault;
 const MOST: u64 = 1000;
 
 /// How a run with one growth refused ended.
-#[derive(Clone, Copy, Debug, PartialEq, Eq)]
+#[derive(Clone, Copy)]
 enum Run {
     /// The growth was refused, and the engine ended so, with nothing written but the answers to its first lines.
     Refused,
@@ -186,7 +186,8 @@ static GROWTHS: [(Engine, u64, u64); 15] = [
 fn each_growth_refused(rt: HostRuntime) {
     let alloc = rt.alloc();
     let bytes = make_inputs(&rt, alloc);
-    for (engine, growths, replies) in GROWTHS {
+    for row in GROWTHS.iter() {
+        let (engine, growths, replies) = *row;
         check_engine(&rt, alloc, engine, &bytes, (growths, replies));
     }
 }

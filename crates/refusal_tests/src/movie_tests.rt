@@ -2,18 +2,19 @@
 
 ghost use Rattle.std.specs.Prelude.{◌≤◌};
 
-use crate::checks::{check_same, check_that, expect_ok};
+use crate::checks::{check_same, expect_ok};
+use crate::edits::{Change, edit_of};
 use crate::fixtures::{PLAYFIELD, are_equal, image, movie_of, right};
-use crate::runs::{Answer, Heap, MOST, NEVER, Run};
+use crate::runs::{Heap, MOST, NEVER, Run};
 use refusals::Refusing;
-use std::alloc::Global;
+use std::alloc::{AllocError, Global};
 use std::process::Abort;
 use tas_movie::{Edit, Inputs, Movie, ReadError, TextError, TextErrorKind, print_text, read_text};
 use vcs_machine::{Cart, CartError, Input};
 use vcs_tia::Picture;
 
 /// A call that makes something of a movie and its text.
-#[derive(Clone, Copy, Debug, PartialEq, Eq)]
+#[derive(Clone, Copy)]
 enum Making {
     BlankPicture,
     CartFromBytes,
@@ -28,101 +29,21 @@ enum Making {
     PrintText,
 }
 
-/// Each such call, and how many growths it has: a picture, a cartridge and a list of inputs have one each, a movie those of its
-/// cartridge and its inputs. A text is read into a movie, and printed into one list.
-static MAKINGS: [(Making, u64); 11] = [
-    (Making::BlankPicture, 1),
-    (Making::CartFromBytes, 1),
-    (Making::BlankCart, 1),
-    (Making::CopyCart, 1),
-    (Making::BlankMovie, 2),
-    (Making::NewMovie, 2),
-    (Making::CopyMovie, 2),
-    (Making::RepeatInput, 1),
-    (Making::CopyInputs, 1),
-    (Making::ReadText, 2),
-    (Making::PrintText, 1),
+/// Each such call, its name, and how many growths it has: a picture, a cartridge and a list of inputs have one each, a movie those of
+/// its cartridge and its inputs. A text is read into a movie, and printed into one list.
+static MAKINGS: [(Making, &str, u64); 11] = [
+    (Making::BlankPicture, "BlankPicture", 1),
+    (Making::CartFromBytes, "CartFromBytes", 1),
+    (Making::BlankCart, "BlankCart", 1),
+    (Making::CopyCart, "CopyCart", 1),
+    (Making::BlankMovie, "BlankMovie", 2),
+    (Making::NewMovie, "NewMovie", 2),
+    (Making::CopyMovie, "CopyMovie", 2),
+    (Making::RepeatInput, "RepeatInput", 1),
+    (Making::CopyInputs, "CopyInputs", 1),
+    (Making::ReadText, "ReadText", 2),
+    (Making::PrintText, "PrintText", 1),
 ];
-
-fn blank_picture(heap: &Heap) -> Answer {
-    match Picture::blank(heap) {
-        Ok(picture) => Answer::right(picture.lit() == 0),
-        Err(_) => Answer::Memory,
-    }
-}
-
-fn cart_from_bytes(heap: &Heap) -> Answer {
-    let image = image(PLAYFIELD);
-    match Cart::from_bytes(heap, &image) {
-        Ok(cart) => Answer::right(cart.bytes() == image.as_slice()),
-        Err(CartError::Memory) => Answer::Memory,
-        Err(CartError::Size(_)) => Answer::Wrong,
-    }
-}
-
-fn blank_cart(heap: &Heap) -> Answer {
-    match Cart::blank(heap) {
-        Ok(cart) => Answer::right(cart.bytes() == [0u8; 4096].as_slice()),
-        Err(_) => Answer::Memory,
-    }
-}
-
-fn copy_cart(heap: &Heap, movie: &Movie) -> Answer {
-    match movie.cart().copy(heap) {
-        Ok(cart) => Answer::right(cart.bytes() == movie.cart().bytes()),
-        Err(_) => Answer::Memory,
-    }
-}
-
-fn blank_movie(heap: &Heap) -> Answer {
-    match Movie::blank(heap) {
-        Ok(blank) => Answer::right(blank.is_empty()),
-        Err(_) => Answer::Memory,
-    }
-}
-
-fn new_movie(heap: &Heap, movie: &Movie) -> Answer {
-    match Movie::new(heap, movie.cart()) {
-        Ok(new) => Answer::right(new.is_empty() && new.cart().bytes() == movie.cart().bytes()),
-        Err(_) => Answer::Memory,
-    }
-}
-
-fn copy_movie(heap: &Heap, movie: &Movie) -> Answer {
-    match movie.copy(heap) {
-        Ok(copy) => Answer::right(are_equal(&copy, movie)),
-        Err(_) => Answer::Memory,
-    }
-}
-
-fn repeat_input(heap: &Heap) -> Answer {
-    match Inputs::repeated(heap, right(), 3) {
-        Ok(inputs) => Answer::right(inputs.as_slice() == [right(); 3].as_slice()),
-        Err(_) => Answer::Memory,
-    }
-}
-
-fn copy_inputs(heap: &Heap, inputs: &Inputs) -> Answer {
-    match inputs.copy(heap) {
-        Ok(copy) => Answer::right(copy.as_slice() == inputs.as_slice()),
-        Err(_) => Answer::Memory,
-    }
-}
-
-fn read(heap: &Heap, movie: &Movie, text: &[u8]) -> Answer {
-    match read_text(heap, text, movie.cart()) {
-        Ok(read) => Answer::right(are_equal(&read, movie)),
-        Err(ReadError::Memory) => Answer::Memory,
-        Err(ReadError::Text(_)) => Answer::Wrong,
-    }
-}
-
-fn print(heap: &Heap, movie: &Movie, text: &[u8]) -> Answer {
-    match print_text(heap, movie) {
-        Ok(printed) => Answer::right(printed.as_slice() == text),
-        Err(_) => Answer::Memory,
-    }
-}
 
 /// What the calls are made of.
 #[derive(Drop)]
@@ -132,7 +53,88 @@ struct Made {
     text: Vec<u8>,
 }
 
-fn make(heap: &Heap, made: &Made, making: Making) -> Answer {
+fn blank_picture(heap: &Heap) -> Result<bool, AllocError> {
+    match Picture::blank(heap) {
+        Ok(picture) => Ok(picture.lit() == 0),
+        Err(error) => Err(error),
+    }
+}
+
+fn cart_from_bytes(heap: &Heap) -> Result<bool, AllocError> {
+    let image = image(PLAYFIELD);
+    match Cart::from_bytes(heap, &image) {
+        Ok(cart) => Ok(cart.bytes() == image.as_slice()),
+        Err(CartError::Memory) => Err(AllocError),
+        Err(CartError::Size(_)) => Ok(false),
+    }
+}
+
+fn blank_cart(heap: &Heap) -> Result<bool, AllocError> {
+    match Cart::blank(heap) {
+        Ok(cart) => Ok(cart.bytes() == [0u8; 4096].as_slice()),
+        Err(error) => Err(error),
+    }
+}
+
+fn copy_cart(heap: &Heap, movie: &Movie) -> Result<bool, AllocError> {
+    match movie.cart().copy(heap) {
+        Ok(cart) => Ok(cart.bytes() == movie.cart().bytes()),
+        Err(error) => Err(error),
+    }
+}
+
+fn blank_movie(heap: &Heap) -> Result<bool, AllocError> {
+    match Movie::blank(heap) {
+        Ok(blank) => Ok(blank.is_empty()),
+        Err(error) => Err(error),
+    }
+}
+
+fn new_movie(heap: &Heap, movie: &Movie) -> Result<bool, AllocError> {
+    match Movie::new(heap, movie.cart()) {
+        Ok(new) => Ok(new.is_empty() && new.cart().bytes() == movie.cart().bytes()),
+        Err(error) => Err(error),
+    }
+}
+
+fn copy_movie(heap: &Heap, movie: &Movie) -> Result<bool, AllocError> {
+    match movie.copy(heap) {
+        Ok(copy) => Ok(are_equal(&copy, movie)),
+        Err(error) => Err(error),
+    }
+}
+
+fn repeat_input(heap: &Heap) -> Result<bool, AllocError> {
+    match Inputs::repeated(heap, right(), 3) {
+        Ok(inputs) => Ok(inputs.as_slice() == [right(); 3].as_slice()),
+        Err(error) => Err(error),
+    }
+}
+
+fn copy_inputs(heap: &Heap, inputs: &Inputs) -> Result<bool, AllocError> {
+    match inputs.copy(heap) {
+        Ok(copy) => Ok(copy.as_slice() == inputs.as_slice()),
+        Err(error) => Err(error),
+    }
+}
+
+fn read(heap: &Heap, movie: &Movie, text: &[u8]) -> Result<bool, AllocError> {
+    match read_text(heap, text, movie.cart()) {
+        Ok(read) => Ok(are_equal(&read, movie)),
+        Err(ReadError::Memory) => Err(AllocError),
+        Err(ReadError::Text(_)) => Ok(false),
+    }
+}
+
+fn print(heap: &Heap, movie: &Movie, text: &[u8]) -> Result<bool, AllocError> {
+    match print_text(heap, movie) {
+        Ok(printed) => Ok(printed.as_slice() == text),
+        Err(error) => Err(error),
+    }
+}
+
+/// Whether what the call makes is right, where memory isn't refused.
+fn make(heap: &Heap, made: &Made, making: Making) -> Result<bool, AllocError> {
     let movie = &made.movie;
     let text = made.text.as_slice();
     match making {
@@ -158,22 +160,22 @@ fn run_making(alloc: Global, made: &Made, making: Making, number: u64) -> Run
     let mut answer = make(&heap, made, making);
     let has_refused = heap.has_refused();
     if has_refused {
-        if answer != Answer::Memory {
+        if answer.is_ok() {
             return Run::Wrong;
         }
         answer = make(&heap, made, making);
     }
-    Run::ended(has_refused, answer == Answer::Right)
+    Run::ended(has_refused, matches!(answer, Ok(true)))
 }
 
-/// How many growths the call has, each of which is refused in turn.
-fn growths_of<R: Abort>(rt: &R, alloc: Global, made: &Made, making: Making) -> u64 {
+/// How many growths the call of this name has, each of which is refused in turn.
+fn growths_of<R: Abort>(rt: &R, alloc: Global, made: &Made, making: Making, name: &str) -> u64 {
     for number in 1..MOST {
         let run = run_making(alloc, made, making, number);
         if run == Run::Done {
             return number - 1;
         }
-        check_same(rt, ("growth", making, number), run, Run::Refused);
+        check_same(rt, ("growth", name, number), run, Run::Refused);
     }
     MOST
 }
@@ -191,8 +193,10 @@ fn make_all<R: Abort>(rt: &R, alloc: Global) -> Made {
 
 /// Compares how many growths each call has.
 fn check_makings<R: Abort>(rt: &R, alloc: Global, made: &Made) {
-    for (making, growths) in MAKINGS {
-        check_same(rt, making, growths_of(rt, alloc, made, making), growths);
+    for row in MAKINGS.iter() {
+        let (making, name, growths) = *row;
+        let found = growths_of(rt, alloc, made, making, name);
+        check_same(rt, name, found, growths);
     }
 }
 
@@ -211,20 +215,25 @@ fn fault_of(alloc: Global, cart: &Cart, number: u64) -> (Option<ReadError>, bool
     (fault, heap.has_refused())
 }
 
-/// Memory is asked for before the text is looked at.
+/// The fault of that text.
+const HEAD: ReadError = ReadError::Text(TextError {
+    line: 1,
+    kind: TextErrorKind::Head,
+});
+
+/// What is wrong where a growth is refused, and whether it was: memory is asked for before the text is looked at.
+static FAULTS: [(u64, ReadError, bool); 3] = [
+    (1, ReadError::Memory, true),
+    (2, ReadError::Memory, true),
+    (NEVER, HEAD, false),
+];
+
 #[test]
 fn memory_comes_before_a_fault_of_the_text(rt: HostRuntime) {
     let alloc = rt.alloc();
     let cart = expect_ok(&rt, Cart::blank(alloc));
-    let head = ReadError::Text(TextError {
-        line: 1,
-        kind: TextErrorKind::Head,
-    });
-    for (number, wanted, has_refused) in [
-        (1, ReadError::Memory, true),
-        (2, ReadError::Memory, true),
-        (NEVER, head, false),
-    ] {
+    for row in FAULTS.iter() {
+        let (number, wanted, has_refused) = *row;
         let found = fault_of(alloc, &cart, number);
         check_same(&rt, ("growth", number), found, (Some(wanted), has_refused));
     }
@@ -259,88 +268,57 @@ fn are_same<'a>(one: &Edit<&'a Heap>, other: &Edit<&'a Heap>) -> bool {
     }
 }
 
-/// A kind of edit.
-#[derive(Clone, Copy, Debug, PartialEq, Eq)]
-enum Kind {
-    Load,
-    Insert,
-    Replace,
-    Delete,
-}
-
-/// An edit of this kind.
-fn edit_of<'a, R: Abort>(rt: &R, heap: &'a Heap, kind: Kind) -> Edit<&'a Heap> {
-    match kind {
-        Kind::Load => Edit::Load(expect_ok(rt, Cart::from_bytes(heap, &image(PLAYFIELD)))),
-        Kind::Insert => Edit::Insert {
-            at: 1,
-            inputs: expect_ok(rt, Inputs::repeated(heap, right(), 5)),
-        },
-        Kind::Replace => Edit::Replace {
-            at: 2,
-            inputs: expect_ok(rt, Inputs::repeated(heap, right(), 6)),
-        },
-        Kind::Delete => Edit::Delete { at: 3, count: 7 },
-    }
-}
-
-fn copy_edit<'a>(heap: &'a Heap, edit: &Edit<&'a Heap>) -> Answer {
+/// Whether the copy of an edit is equal to it, where memory isn't refused.
+fn copy_edit<'a>(heap: &'a Heap, edit: &Edit<&'a Heap>) -> Result<bool, AllocError> {
     match edit.copy(heap) {
-        Ok(copy) => {
-            let is_right = are_same(&copy, edit);
-            drop(copy);
-            Answer::right(is_right)
-        }
-        Err(_) => Answer::Memory,
+        Ok(copy) => Ok(are_same(&copy, edit)),
+        Err(error) => Err(error),
     }
 }
 
 /// The copy of an edit with one growth refused, and the same copy after it.
-fn copy_twice<'a>(heap: &'a Heap, edit: &Edit<&'a Heap>) -> Run {
+fn copy_twice<'a>(heap: &'a Heap, edit: &Edit<&'a Heap>, number: u64) -> Run
+    requires { 1 ≤ number }
+{
+    heap.refuse(number);
     let mut answer = copy_edit(heap, edit);
     let has_refused = heap.has_refused();
     if has_refused {
-        if answer != Answer::Memory {
+        if answer.is_ok() {
             return Run::Wrong;
         }
         answer = copy_edit(heap, edit);
     }
-    Run::ended(has_refused, answer == Answer::Right)
+    Run::ended(has_refused, matches!(answer, Ok(true)))
 }
 
-fn run_copy<R: Abort>(rt: &R, alloc: Global, kind: Kind, number: u64) -> Run
-    requires { 1 ≤ number }
-{
-    let heap = Refusing::new(alloc, NEVER);
-    let edit = edit_of(rt, &heap, kind);
-    heap.refuse(number);
-    copy_twice(&heap, &edit)
-}
-
-/// How many growths the copy has, each of which is refused in turn.
-fn growths_of_copy<R: Abort>(rt: &R, alloc: Global, kind: Kind) -> u64 {
+/// How many growths the copy of an edit has, each of which is refused in turn.
+fn growths_of_copy<'a, R: Abort>(rt: &R, heap: &'a Heap, edit: &Edit<&'a Heap>, name: &str) -> u64 {
     for number in 1..MOST {
-        let run = run_copy(rt, alloc, kind, number);
+        let run = copy_twice(heap, edit, number);
         if run == Run::Done {
             return number - 1;
         }
-        check_same(rt, ("growth", kind, number), run, Run::Refused);
+        check_same(rt, ("growth", name, number), run, Run::Refused);
     }
     MOST
 }
 
-/// Each kind, and how many growths its copy has.
-static KINDS: [(Kind, u64); 4] = [
-    (Kind::Load, 1),
-    (Kind::Insert, 1),
-    (Kind::Replace, 1),
-    (Kind::Delete, 0),
+/// An edit of each kind, the kind's name, and how many growths its copy has.
+static EDITS: [(Change, &str, u64); 4] = [
+    (Change::LoadPlayfield, "Load", 1),
+    (Change::InsertRight(1, 5), "Insert", 1),
+    (Change::ReplaceRight(2, 6), "Replace", 1),
+    (Change::Delete(3, 7), "Delete", 0),
 ];
 
 #[test]
 fn copies_of_edits(rt: HostRuntime) {
-    let alloc = rt.alloc();
-    for (kind, growths) in KINDS {
-        check_same(&rt, kind, growths_of_copy(&rt, alloc, kind), growths);
+    let heap = Refusing::new(rt.alloc(), NEVER);
+    for row in EDITS.iter() {
+        let (change, name, growths) = *row;
+        heap.refuse(NEVER);
+        let edit = expect_ok(&rt, edit_of(&heap, change));
+        check_same(&rt, name, growths_of_copy(&rt, &heap, &edit, name), growths);
     }
 }

@@ -12,28 +12,6 @@ pub const MOST: u64 = 100;
 /// Nothing here grows so often.
 pub const NEVER: u64 = 1_000_000_000;
 
-/// What a call answered.
-#[derive(Clone, Copy, Debug, PartialEq, Eq)]
-pub enum Answer {
-    /// Memory was refused.
-    Memory,
-    /// What it answers with ample memory.
-    Right,
-    /// Anything else.
-    Wrong,
-}
-
-impl Answer {
-    /// The answer of a call that gave something.
-    pub fn right(is_right: bool) -> Answer {
-        if is_right {
-            Answer::Right
-        } else {
-            Answer::Wrong
-        }
-    }
-}
-
 /// How a run ended.
 #[derive(Clone, Copy, Debug, PartialEq, Eq)]
 pub enum Run {

@@ -2,7 +2,7 @@
 
 ghost use Rattle.std.specs.Prelude.{◌≤◌};
 
-use crate::checks::{check_same, check_that, expect_ok};
+use crate::checks::{check_same, check_that, expect_ok, expect_some};
 use crate::edits::{BRIEF_OF_400, Change, edit_of, history, movie_text};
 use crate::runs::{Heap, MOST, NEVER, Run};
 use refusals::Refusing;
@@ -12,10 +12,10 @@ use std::sync::Wait;
 use tas_desk::{EditError, OfferError, Offered, OpenError, Receipt, Session, ShotError};
 use tas_green::{Batch, Green, Job};
 use tas_movie::MAX_FRAMES;
-use vcs_machine::Meter;
+use vcs_machine::{Input, Meter};
 
 /// A call of a session.
-#[derive(Clone, Copy, Debug, PartialEq, Eq)]
+#[derive(Clone, Copy)]
 enum Turn {
     /// The first edit of all, an insertion.
     First,
@@ -73,39 +73,36 @@ fn set_up<'a, R: Wait + Abort>(
         let edit = expect_ok(rt, edit_of(heap, change));
         expect_ok(rt, session.edit(rt, 0, made, edit));
     }
-    check_that(
-        rt,
-        "a frame that is drawn",
-        shoot(alloc, session, 127).0.is_ok(),
-    );
+    let drawn = shoot(alloc, session, 127, 128);
+    check_that(rt, "a frame that is drawn", drawn.is_ok());
 }
 
-/// A shot: how many frames it says were played and how many pixels are lit, and how many frames the meter counts.
+/// A shot: whether it is of a black frame and says that so many were played, and the meter counts as many; at want of memory it counts
+/// none.
 fn shoot<A: Allocator + Copy, B: Allocator>(
     alloc: B,
     session: &mut Session<A>,
     k: usize,
-) -> (Result<(u64, usize), ShotError>, u64) {
+    ran: u64,
+) -> Result<bool, AllocError> {
     let mut meter = Meter::new();
     let len = session.movie().len();
     prove!(len <= MAX_FRAMES);
-    let answer = match session.shot(alloc, k, &mut meter) {
-        Ok(shot) => Ok((shot.ran, shot.picture.lit())),
-        Err(error) => Err(error),
-    };
-    (answer, meter.count())
+    match session.shot(alloc, k, &mut meter) {
+        Ok(shot) => Ok(shot.ran == ran && shot.picture.lit() == 0 && meter.count() == ran),
+        Err(ShotError::Memory) if meter.count() == 0 => Err(AllocError),
+        Err(_) => Ok(false),
+    }
 }
 
-/// The edit, given by seat 1 as its first.
-fn try_edit<'a, R: Wait + Abort>(
+/// An edit, given by seat 1 as its first: whether its receipt is right.
+fn make_edit<'a, R: Wait + Abort>(
     rt: &R,
-    alloc: Global,
     heap: &'a Heap,
     session: &mut Session<&'a Heap>,
-    before: &str,
     change: Change,
     number: u64,
-) -> Run
+) -> Result<bool, AllocError>
     requires { 1 ≤ number }
 {
     let receipt = Receipt {
@@ -113,73 +110,25 @@ fn try_edit<'a, R: Wait + Abort>(
         len: change.len_after(session.movie().len()),
     };
     let edit = expect_ok(rt, edit_of(heap, change));
-    let again = expect_ok(rt, edit_of(heap, change));
     heap.refuse(number);
-    let answer = session.edit(rt, 1, 0, edit);
-    if heap.has_refused() {
-        let is_as_before = shows(rt, alloc, session, before);
-        let made = session.edit(rt, 1, 0, again);
-        let is_refused = answer == Err(EditError::Memory);
-        Run::ended(true, is_refused && is_as_before && made == Ok(receipt))
-    } else {
-        Run::ended(false, answer == Ok(receipt))
+    match session.edit(rt, 1, 0, edit) {
+        Ok(made) => Ok(made == receipt),
+        Err(EditError::Memory) => Err(AllocError),
+        Err(_) => Ok(false),
     }
 }
 
-fn try_shot<'a, R: Abort>(
-    rt: &R,
-    alloc: Global,
-    heap: &'a Heap,
-    session: &mut Session<&'a Heap>,
-    before: &str,
-    number: u64,
-) -> Run
-    requires { 1 ≤ number }
-{
-    heap.refuse(number);
-    let mut answer = shoot(heap, session, 383);
-    let has_refused = heap.has_refused();
-    if has_refused {
-        if answer != (Err(ShotError::Memory), 0) || !shows(rt, alloc, session, before) {
-            return Run::Wrong;
-        }
-        answer = shoot(heap, session, 383);
+/// A job: whether it makes what one for all frames does.
+fn work<'a>(heap: &'a Heap, session: &Session<&'a Heap>) -> Result<bool, AllocError> {
+    match session.job(heap, 400) {
+        Ok(job) => Ok(is_of_all(&job.run(), session.movie().inputs())),
+        Err(error) => Err(error),
     }
-    Run::ended(has_refused, answer == (Ok((256, 0)), 256))
 }
 
-fn try_job<'a, R: Abort>(
-    rt: &R,
-    alloc: Global,
-    heap: &'a Heap,
-    session: &Session<&'a Heap>,
-    before: &str,
-    number: u64,
-) -> Run
-    requires { 1 ≤ number }
-{
-    heap.refuse(number);
-    let job = session.job(heap, 400);
-    let has_refused = heap.has_refused();
-    let first = is_whole(session, job);
-    if !has_refused {
-        return Run::ended(false, first == Some(true));
-    }
-    let is_as_before = shows(rt, alloc, session, before);
-    let again = is_whole(session, session.job(heap, 400));
-    Run::ended(true, first.is_none() && is_as_before && again == Some(true))
-}
-
-/// Whether a job makes what one for all frames does; nothing where it was refused memory.
-fn is_whole(session: &Session<&Heap>, job: Result<Job<&Heap>, AllocError>) -> Option<bool> {
-    match job {
-        Ok(job) => {
-            let batch = job.run();
-            let has_all = batch.inputs() == session.movie().inputs();
-            Some(has_all && batch.holds(384) && !batch.holds(128))
-        }
-        Err(_) => None,
-    }
+/// Whether a batch has these inputs, and the states that a zone with two of them lacks.
+fn is_of_all(batch: &Batch<&Heap>, inputs: &[Input]) -> bool {
+    batch.inputs() == inputs && batch.holds(384) && !batch.holds(128)
 }
 
 /// What an offer of all frames gains.
@@ -195,38 +144,77 @@ fn batch_of_all<A: Allocator, R: Abort>(rt: &R, alloc: Global, session: &Session
     expect_ok(rt, Job::take(alloc, session.movie(), &green, 400)).run()
 }
 
-fn try_offer<'a, R: Abort>(
+/// An offer of the batch that is held: whether it gains what it should. At want of memory the batch that was handed back is held.
+fn offer<A: Allocator + Copy, R: Abort>(
+    rt: &R,
+    session: &mut Session<A>,
+    held: &mut Option<Batch>,
+) -> Result<bool, AllocError> {
+    match session.offer(expect_some(rt, held.take())) {
+        Ok(offered) => Ok(offered == ALL),
+        Err(OfferError::Memory(batch)) => {
+            *held = Some(batch);
+            Err(AllocError)
+        }
+        Err(OfferError::Cartridge { .. }) => Ok(false),
+    }
+}
+
+/// The turn with one growth refused: whether it is right, where memory isn't refused.
+fn take<'a, R: Wait + Abort>(
+    rt: &R,
+    heap: &'a Heap,
+    session: &mut Session<&'a Heap>,
+    held: &mut Option<Batch>,
+    turn: Turn,
+    number: u64,
+) -> Result<bool, AllocError>
+    requires { 1 ≤ number }
+{
+    match turn {
+        Turn::First => make_edit(rt, heap, session, Change::Insert(0, 3), number),
+        Turn::Edit(change) => make_edit(rt, heap, session, change, number),
+        Turn::Shot => {
+            heap.refuse(number);
+            shoot(heap, session, 383, 256)
+        }
+        Turn::Job => {
+            heap.refuse(number);
+            work(heap, session)
+        }
+        Turn::Offer => {
+            heap.refuse(number);
+            offer(rt, session, held)
+        }
+    }
+}
+
+/// The turn with one growth refused, and the same turn after it.
+fn take_twice<'a, R: Wait + Abort>(
     rt: &R,
     alloc: Global,
     heap: &'a Heap,
     session: &mut Session<&'a Heap>,
+    held: &mut Option<Batch>,
     before: &str,
+    turn: Turn,
     number: u64,
 ) -> Run
     requires { 1 ≤ number }
 {
-    let batch = batch_of_all(rt, alloc, session);
-    heap.refuse(number);
-    match session.offer(batch) {
-        Ok(offered) => Run::ended(false, !heap.has_refused() && offered == ALL),
-        Err(OfferError::Memory(batch)) => {
-            let is_as_before = heap.has_refused() && shows(rt, alloc, session, before);
-            let is_taken = is_taken(session, batch, ALL);
-            Run::ended(true, is_as_before && is_taken)
+    let mut answer = take(rt, heap, session, held, turn, number);
+    let has_refused = heap.has_refused();
+    if has_refused {
+        if answer.is_ok() || !shows(rt, alloc, session, before) {
+            return Run::Wrong;
         }
-        Err(OfferError::Cartridge { .. }) => Run::Wrong,
+        answer = take(rt, heap, session, held, turn, NEVER);
     }
+    Run::ended(has_refused, matches!(answer, Ok(true)))
 }
 
-/// Whether a batch is taken so.
-fn is_taken<A: Allocator + Copy>(session: &mut Session<A>, batch: Batch, taken: Offered) -> bool {
-    match session.offer(batch) {
-        Ok(offered) => offered == taken,
-        Err(_) => false,
-    }
-}
-
-fn take_turn<'a, R: Wait + Abort>(
+/// So is a turn taken where a batch of all frames is held.
+fn take_held<'a, R: Wait + Abort>(
     rt: &R,
     alloc: Global,
     heap: &'a Heap,
@@ -236,21 +224,18 @@ fn take_turn<'a, R: Wait + Abort>(
 ) -> Run
     requires { 1 ≤ number }
 {
-    if turn != Turn::First {
-        set_up(rt, alloc, heap, session);
-    }
+    let mut held = Some(batch_of_all(rt, alloc, session));
     let before = shown(rt, alloc, session);
-    let before = before.as_str();
-    match turn {
-        Turn::First => {
-            let first = Change::Insert(0, 3);
-            try_edit(rt, alloc, heap, session, before, first, number)
-        }
-        Turn::Edit(change) => try_edit(rt, alloc, heap, session, before, change, number),
-        Turn::Shot => try_shot(rt, alloc, heap, session, before, number),
-        Turn::Job => try_job(rt, alloc, heap, session, before, number),
-        Turn::Offer => try_offer(rt, alloc, heap, session, before, number),
-    }
+    take_twice(
+        rt,
+        alloc,
+        heap,
+        session,
+        &mut held,
+        before.as_str(),
+        turn,
+        number,
+    )
 }
 
 /// A turn of a session with one growth refused, and the same turn after it.
@@ -259,50 +244,25 @@ fn run_turn<R: Wait + Abort>(rt: &R, alloc: Global, turn: Turn, number: u64) -> 
 {
     let heap = Refusing::new(alloc, NEVER);
     let mut session = expect_ok(rt, Session::new(&heap));
-    let run = take_turn(rt, alloc, &heap, &mut session, turn, number);
+    match turn {
+        Turn::First => {}
+        _ => set_up(rt, alloc, &heap, &mut session),
+    }
+    let run = take_held(rt, alloc, &heap, &mut session, turn, number);
     drop(session.close(rt));
     run
 }
 
-/// Each turn, and how many growths it has. The first edit has those of its seat's count, of the second copy of its inputs, of the journal
-/// and of the writer's list of edits. The fifth has those of the second copy, of a cartridge or of inputs, which a deletion doesn't
-/// have, and of the journal, whose first room was for four. A shot has those of its picture and of the list of states, a job those of
-/// its cartridge, its inputs and its list of states, and an offer that of the list of states.
-static TURNS: [(Turn, u64); 8] = [
-    (Turn::First, 4),
-    (Turn::Edit(Change::Load), 2),
-    (Turn::Edit(Change::Insert(400, 3)), 2),
-    (Turn::Edit(Change::ReplaceRight(399)), 2),
-    (Turn::Edit(Change::Delete(100, 7)), 1),
-    (Turn::Shot, 2),
-    (Turn::Job, 3),
-    (Turn::Offer, 1),
-];
-
-/// How many growths the turn has, each of which is refused in turn.
-fn growths_of<R: Wait + Abort>(rt: &R, alloc: Global, turn: Turn) -> u64 {
-    for number in 1..MOST {
-        let run = run_turn(rt, alloc, turn, number);
-        if run == Run::Done {
-            return number - 1;
-        }
-        check_same(rt, ("growth", turn, number), run, Run::Refused);
-    }
-    MOST
-}
-
-#[test]
-fn what_a_session_does(rt: HostRuntime) {
-    for (turn, growths) in TURNS {
-        check_same(&rt, turn, growths_of(&rt, rt.alloc(), turn), growths);
-    }
+/// Whether a session has no edits, and a movie without inputs.
+fn is_empty<A: Allocator>(session: &Session<A>) -> bool {
+    session.at() == 0 && session.movie().is_empty()
 }
 
 /// Whether a new session is empty; nothing where memory is refused.
 fn is_new<R: Wait>(rt: &R, heap: &Heap) -> Option<bool> {
     match Session::new(heap) {
         Ok(session) => {
-            let is_empty = session.at() == 0 && session.movie().is_empty();
+            let is_empty = is_empty(&session);
             drop(session.close(rt));
             Some(is_empty)
         }
@@ -316,26 +276,79 @@ fn run_new<R: Wait>(rt: &R, alloc: Global, number: u64) -> Run
     requires { 1 ≤ number }
 {
     let heap = Refusing::new(alloc, number);
-    let first = is_new(rt, &heap);
-    if !heap.has_refused() {
-        return Run::ended(false, first == Some(true));
+    let mut is_empty = is_new(rt, &heap);
+    let has_refused = heap.has_refused();
+    if has_refused {
+        if is_empty.is_some() {
+            return Run::Wrong;
+        }
+        is_empty = is_new(rt, &heap);
     }
-    Run::ended(true, first == None && is_new(rt, &heap) == Some(true))
+    Run::ended(has_refused, is_empty == Some(true))
+}
+
+/// A turn of a session, or, where there is none, a new session, with one growth refused, and the same after it.
+fn run_call<R: Wait + Abort>(rt: &R, alloc: Global, turn: Option<Turn>, number: u64) -> Run
+    requires { 1 ≤ number }
+{
+    match turn {
+        Some(turn) => run_turn(rt, alloc, turn, number),
+        None => run_new(rt, alloc, number),
+    }
+}
+
+/// How many growths the turn of this name, or a new session, has, each of which is refused in turn.
+fn growths_of<R: Wait + Abort>(rt: &R, alloc: Global, turn: Option<Turn>, name: &str) -> u64 {
+    for number in 1..MOST {
+        let run = run_call(rt, alloc, turn, number);
+        if run == Run::Done {
+            return number - 1;
+        }
+        check_same(rt, ("growth", name, number), run, Run::Refused);
+    }
+    MOST
+}
+
+/// Each turn, its name, and how many growths it has. The first edit has those of its seat's count, of the second copy of its inputs, of
+/// the journal and of the writer's list of edits. The fifth has those of the second copy, of a cartridge or of inputs, which a deletion
+/// doesn't have, and of the journal, whose first room was for four. A shot has those of its picture and of the list of states, a job those
+/// of its cartridge, its inputs and its list of states, and an offer that of the list of states.
+static TURNS: [(Turn, &str, u64); 8] = [
+    (Turn::First, "First", 4),
+    (Turn::Edit(Change::Load), "Edit(Load)", 2),
+    (
+        Turn::Edit(Change::Insert(400, 3)),
+        "Edit(Insert(400, 3))",
+        2,
+    ),
+    (
+        Turn::Edit(Change::ReplaceRight(399, 1)),
+        "Edit(ReplaceRight(399, 1))",
+        2,
+    ),
+    (
+        Turn::Edit(Change::Delete(100, 7)),
+        "Edit(Delete(100, 7))",
+        1,
+    ),
+    (Turn::Shot, "Shot", 2),
+    (Turn::Job, "Job", 3),
+    (Turn::Offer, "Offer", 1),
+];
+
+#[test]
+fn what_a_session_does(rt: HostRuntime) {
+    for row in TURNS.iter() {
+        let (turn, name, growths) = *row;
+        let found = growths_of(&rt, rt.alloc(), Some(turn), name);
+        check_same(&rt, name, found, growths);
+    }
 }
 
 /// Two blank movies have two growths each. The writer that shows them has eight: a box for each, what each reader was last seen to do,
 /// and the table by which readers tell that they read: its words and its places, each first in a list, and the share of it.
 #[test]
 fn a_new_session(rt: HostRuntime) {
-    let alloc = rt.alloc();
-    let mut refused = 0;
-    for number in 1..MOST {
-        let run = run_new(&rt, alloc, number);
-        if run == Run::Done {
-            break;
-        }
-        check_same(&rt, ("growth", number), run, Run::Refused);
-        refused = number;
-    }
+    let refused = growths_of(&rt, rt.alloc(), None, "a new session");
     check_same(&rt, "refused", refused, 12);
 }

@@ -1,5 +1,7 @@
 //! Lines of a conversation whose memory is refused.
 
+ghost use Rattle.std.specs.Prelude.{◌≤◌};
+
 use crate::checks::{check_same, check_that, expect_ok};
 use refusals::Refusing;
 use std::alloc::Global;
@@ -79,19 +81,29 @@ fn answers_but<T: Wait + Abort>(rt: &T, alloc: Global, refused: usize) -> Vec<u8
     told
 }
 
+/// Whether the answers in a conversation of these lines, with one growth refused, are those; nothing where it grows less often.
+fn is_told<T: Wait>(rt: &T, alloc: Global, lines: &[u8], wanted: &[u8], number: u64) -> Option<bool>
+    requires { 1 ≤ number }
+{
+    let heap = Refusing::new(alloc, number);
+    let mut input = lines;
+    let mut output = Vec::new(alloc);
+    let end = talk_run(rt, &heap, &mut input, &mut output);
+    if heap.has_refused() {
+        Some(end == Ok(()) && output.as_slice() == wanted)
+    } else {
+        None
+    }
+}
+
 /// In how many conversations of these lines, of which each growth is refused in turn, the answers are those.
 fn times_told<T: Wait>(rt: &T, alloc: Global, lines: &[u8], wanted: &[u8]) -> u64 {
     let mut times = 0u64;
     for number in 1..MOST {
-        let heap = Refusing::new(alloc, number);
-        let mut input = lines;
-        let mut output = Vec::new(alloc);
-        let end = talk_run(rt, &heap, &mut input, &mut output);
-        if !heap.has_refused() {
-            break;
-        }
-        if end == Ok(()) && output.as_slice() == wanted {
-            times = times.saturating_add(1);
+        match is_told(rt, alloc, lines, wanted, number) {
+            Some(true) => times = times.saturating_add(1),
+            Some(false) => {}
+            None => break,
         }
     }
     times

@@ -71,11 +71,13 @@ fn callers<'a, N: Name, R: Abort>(
     let mut callers = Vec::new(alloc);
     for seat in seats {
         let caller = Caller {
+            turns: expect_some(rt, TURNS.get(seat.number() as usize)),
             seat,
             edits: edits(rt, alloc, heap),
+            held: None,
             seen: FIRST_AT,
             refused: 0,
-            wrong: None,
+            is_right: true,
         };
         expect_ok(rt, callers.push(caller));
     }
@@ -109,7 +111,7 @@ fn take_turns<'a, N: Name + Send + Sync, R: Threads + Wait + Sync>(
     };
     join_mut(
         rt,
-        &mut || one.take_all(rt, heap, desk, sums, &TURNS[0]),
+        &mut || one.take_all(rt, heap, desk, sums),
         &mut || take_last_turns(rt, heap, desk, sums, others),
     );
 }
@@ -130,8 +132,8 @@ fn take_last_turns<'a, N: Name + Send + Sync, R: Threads + Wait + Sync>(
     };
     join_mut(
         rt,
-        &mut || two.take_all(rt, heap, desk, sums, &TURNS[1]),
-        &mut || three.take_all(rt, heap, desk, sums, &TURNS[2]),
+        &mut || two.take_all(rt, heap, desk, sums),
+        &mut || three.take_all(rt, heap, desk, sums),
     );
 }
 
@@ -148,8 +150,8 @@ fn were_right<'a, N: Name, R: Wait>(
     let mut refused = 0u64;
     for caller in callers {
         refused = refused.saturating_add(caller.refused);
-        let is_right = caller.wrong.is_none() && caller.edits.is_empty();
-        if !is_right || !caller.looks(desk) || !caller.shot(heap, desk, sums) {
+        let is_right = caller.is_right && caller.edits.is_empty();
+        if !is_right || !caller.looks(desk) || caller.shot(heap, desk, sums) != Some(true) {
             return Run::Wrong;
         }
         if caller.seen != FIRST_AT + EDITS as u64 {

@@ -1,4 +1,4 @@
-use Rattle.refusal_tests.proofs.desks.run_call.Given as goal
+use Rattle.refusal_tests.proofs.desks.run_opened.Given as goal
 
 abbrev pub ghosts-run_at-N-Ledger : goal.ghosts-run_at-N-Ledger
 ghosts-run_at-N-Ledger g a = record { name = a.unopened.ledger; parts = a.unopened.seats }
