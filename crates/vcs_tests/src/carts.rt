@@ -9,6 +9,9 @@ use vcs_machine::{Cart, trace};
 /// Bytes from an offset of a cartridge on.
 pub type Part<'a> = (usize, &'a [u8]);
 
+/// The vector of a program that starts at F000.
+pub const START: Part<'static> = (0xffc, &[0x00, 0xf0]);
+
 /// A cartridge of 4,096 zeros with these bytes.
 pub fn cart_with<R: Abort>(rt: &R, alloc: Global, parts: &[Part<'_>]) -> Cart {
     cart_of_size(rt, alloc, 4096, parts)
@@ -21,18 +24,19 @@ pub fn cart_of_size<R: Abort>(rt: &R, alloc: Global, size: usize, parts: &[Part<
     expect_ok(rt, Cart::from_bytes(alloc, &image))
 }
 
-/// Sets these bytes of an image.
+/// Sets these bytes of an image, where they lie in it.
 fn set_parts(image: &mut [u8], parts: &[Part<'_>]) {
     for (offset, bytes) in parts {
-        for (at, byte) in image.iter_mut().skip(*offset).zip(*bytes) {
-            *at = *byte;
+        let place = image.get_mut(*offset..offset.saturating_add(bytes.len()));
+        if let Some(place) = place {
+            place.copy_from_slice(*bytes);
         }
     }
 }
 
 /// A cartridge whose program stands at F000 and starts there.
 pub fn program<R: Abort>(rt: &R, alloc: Global, bytes: &[u8]) -> Cart {
-    cart_with(rt, alloc, &[(0, bytes), (0xffc, &[0x00, 0xf0])])
+    cart_with(rt, alloc, &[(0, bytes), START])
 }
 
 /// The lines of a cartridge's first instructions.
@@ -52,4 +56,20 @@ pub fn check_lines<R: Abort, C: Copy + Debug>(
 ) {
     let text = traced(rt, alloc, cart, count);
     check_same(rt, case, text.as_slice(), lines);
+}
+
+/// The parts of a cartridge, how many instructions, and the text of their trace by hand.
+pub type Traced = (&'static [Part<'static>], u32, &'static [u8]);
+
+/// Compares the traces of cartridges of so many bytes with these.
+pub fn check_traces<R: Abort>(rt: &R, alloc: Global, size: usize, rows: &[Traced]) {
+    for (row, (parts, count, wanted)) in rows.iter().enumerate() {
+        let cart = cart_of_size(rt, alloc, size, *parts);
+        check_lines(rt, alloc, ("row", row), &cart, (*count, *wanted));
+    }
+}
+
+/// The line of a halt.
+pub fn halt_text<R: Abort>(rt: &R, alloc: Global, address: u16, opcode: u8) -> String {
+    expect_ok(rt, format!(in alloc; "{address:04X} {opcode:02X} halt\n"))
 }

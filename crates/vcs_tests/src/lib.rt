@@ -17,6 +17,8 @@ mod image_tests;
 #[cfg(test)]
 mod played;
 #[cfg(test)]
+mod ranges;
+#[cfg(test)]
 mod register_tests;
 #[cfg(test)]
 mod riot_tests;

@@ -2,28 +2,34 @@
 
 use crate::checks::{check_that, expect_ok};
 use std::alloc::Global;
+use std::fmt::Debug;
 use std::process::Abort;
+use vcs_cpu::Halt;
 use vcs_machine::{Cart, Input, Meter, State, play, play_unseen};
 use vcs_tia::Picture;
 
-/// What some frames come to.
-#[derive(Clone, Copy, Debug, PartialEq, Eq)]
-pub struct Played {
-    /// The machine after them.
-    pub state: State,
-    /// How many pixels of the last one aren't black.
-    pub lit: usize,
-    /// Whether each frame is the same without a picture.
-    pub alike: bool,
-}
-
-/// Plays frames from power-on with nothing pressed, each with its picture and without.
-pub fn frames_of<R: Abort>(rt: &R, alloc: Global, cart: &Cart, frames: u32) -> Played {
+/// Plays frames from power-on with nothing pressed, each with its picture and without, which must be the same. Answers the
+/// halt, if there was one, and how many pixels of the last frame aren't black.
+pub fn frames_of<R: Abort, C: Copy + Debug>(
+    rt: &R,
+    alloc: Global,
+    case: C,
+    cart: &Cart,
+    frames: u32,
+) -> (Option<Halt>, usize) {
     let mut picture = expect_ok(rt, Picture::blank(alloc));
-    play_frames(rt, cart, frames, &mut picture)
+    let (halt, alike) = play_frames(rt, cart, frames, &mut picture);
+    check_that(rt, case, alike);
+    (halt, picture.lit())
 }
 
-fn play_frames<R: Abort>(rt: &R, cart: &Cart, frames: u32, picture: &mut Picture) -> Played {
+/// Plays the frames, and answers the halt and whether each is the same without a picture.
+fn play_frames<R: Abort>(
+    rt: &R,
+    cart: &Cart,
+    frames: u32,
+    picture: &mut Picture,
+) -> (Option<Halt>, bool) {
     let mut meter = Meter::new();
     let mut state = State::power_on(cart);
     let mut alike = true;
@@ -34,9 +40,5 @@ fn play_frames<R: Abort>(rt: &R, cart: &Cart, frames: u32, picture: &mut Picture
         let other = play_unseen(cart, &mut unseen, Input::none(), &mut meter);
         alike = alike && state == unseen && seen == other;
     }
-    Played {
-        state,
-        lit: picture.lit(),
-        alike,
-    }
+    (state.halted(), alike)
 }

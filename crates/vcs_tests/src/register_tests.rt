@@ -1,6 +1,6 @@
 //! Code in the registers of the TIA and of the RIOT, stacks that start at each place, and frames of two instructions.
 
-use crate::carts::{cart_with, check_lines, program};
+use crate::carts::{START, Traced, cart_with, check_lines, check_traces, program};
 use crate::checks::{check_same, check_that, expect_ok};
 use crate::played::frames_of;
 use std::alloc::Global;
@@ -59,11 +59,9 @@ fn code_runs_at_each_address(rt: HostRuntime) {
 
 fn check_frames_at<R: Abort>(rt: &R, alloc: Global, address: u16) {
     let cart = jump_to(rt, alloc, address);
-    let played = frames_of(rt, alloc, &cart, 2);
-    check_that(rt, address, played.alike);
+    let (halt, _lit) = frames_of(rt, alloc, address, &cart, 2);
     // A latch may become another instruction, so BRK may come to a halt too.
-    let is_halted = played.state.halted().is_some();
-    check_that(rt, address, is_halted || first_read(address) == 0);
+    check_that(rt, address, halt.is_some() || first_read(address) == 0);
 }
 
 // Where BRK stands it writes all over the TIA and the RAM, again and again. The addresses are those of the TIA's sixteen
@@ -75,33 +73,36 @@ fn frames_of_code_at_each_register(rt: HostRuntime) {
     }
 }
 
+static IN_THE_TIMER: [Traced; 1] = [(
+    &[(0, b"\xa9\xeb\x8d\x97\x02\x4c\x84\x02"), START],
+    5,
+    b"F000 A9 EB 00 00 FD B4 2\nF002 8D EB 00 00 FD B4 4\nF005 4C EB 00 00 FD B4 3\n\
+    0284 EA EB 00 00 FD B4 2\n0285 00 EB 00 00 FA B4 7\n",
+)];
+
 // The timer is set to EB with one cycle left, so that its count is EA, NOP, for the next 1,024; it has not underflowed, so
 // its other register reads 0, BRK.
 #[test]
 fn code_runs_in_the_timer(rt: HostRuntime) {
-    let alloc = rt.alloc();
-    let cart = program(&rt, alloc, b"\xa9\xeb\x8d\x97\x02\x4c\x84\x02");
-    let lines: &[u8] =
-        b"F000 A9 EB 00 00 FD B4 2\nF002 8D EB 00 00 FD B4 4\nF005 4C EB 00 00 FD B4 3\n\
-        0284 EA EB 00 00 FD B4 2\n0285 00 EB 00 00 FA B4 7\n";
-    check_lines(&rt, alloc, "traced", &cart, (5, lines));
+    check_traces(&rt, rt.alloc(), 4096, &IN_THE_TIMER);
 }
+
+static IN_THE_LATCHES: [Traced; 1] = [(
+    &[
+        (0, b"\xa2\xff\x86\x1b\x86\x1f\x86\x0d\x86\x02\x4c\x02\x00"),
+        START,
+    ],
+    8,
+    b"F000 A2 00 FF 00 FD B4 2\nF002 86 00 FF 00 FD B4 3\nF004 86 00 FF 00 FD B4 3\n\
+    F006 86 00 FF 00 FD B4 3\nF008 86 00 FF 00 FD B4 3\nF00A 4C 00 FF 00 FD B4 3\n\
+    0002 C0 00 FF 00 FD 37 2\n0004 00 00 FF 00 FA 37 7\n",
+)];
 
 // Player 0, ball and playfield meet on pixel 0 of line 0. So two latches of one byte are set, which is C0: CPY with the next
 // byte, where none is.
 #[test]
 fn code_runs_in_the_collision_latches(rt: HostRuntime) {
-    let alloc = rt.alloc();
-    let cart = program(
-        &rt,
-        alloc,
-        b"\xa2\xff\x86\x1b\x86\x1f\x86\x0d\x86\x02\x4c\x02\x00",
-    );
-    let lines: &[u8] =
-        b"F000 A2 00 FF 00 FD B4 2\nF002 86 00 FF 00 FD B4 3\nF004 86 00 FF 00 FD B4 3\n\
-        F006 86 00 FF 00 FD B4 3\nF008 86 00 FF 00 FD B4 3\nF00A 4C 00 FF 00 FD B4 3\n\
-        0002 C0 00 FF 00 FD 37 2\n0004 00 00 FF 00 FA 37 7\n";
-    check_lines(&rt, alloc, "traced", &cart, (8, lines));
+    check_traces(&rt, rt.alloc(), 4096, &IN_THE_LATCHES);
 }
 
 /// The status byte after a load of a value at power-on: N, I and Z.
@@ -119,15 +120,10 @@ fn stack_lines<R: Abort>(rt: &R, alloc: Global, place: u8) -> String {
         0x5a
     };
     let (below, after) = (place.wrapping_sub(1), status_of(pulled));
-    let placed = format!(in alloc;
-        "F000 A2 00 {place:02X} 00 FD {before:02X} 2\nF002 9A 00 {place:02X} 00 {place:02X} {before:02X} 2\n"
-    );
-    let pushed = format!(in alloc;
-        "F003 A9 5A {place:02X} 00 {place:02X} 34 2\nF005 48 5A {place:02X} 00 {below:02X} 34 3\n"
-    );
-    let (placed, pushed) = (expect_ok(rt, placed), expect_ok(rt, pushed));
     let lines = format!(in alloc;
-        "{placed}{pushed}F006 68 {pulled:02X} {place:02X} 00 {place:02X} {after:02X} 4\nF007 02 halt\n"
+        "F000 A2 00 {place:02X} 00 FD {before:02X} 2\nF002 9A 00 {place:02X} 00 {place:02X} {before:02X} 2\n\
+        F003 A9 5A {place:02X} 00 {place:02X} 34 2\nF005 48 5A {place:02X} 00 {below:02X} 34 3\n\
+        F006 68 {pulled:02X} {place:02X} 00 {place:02X} {after:02X} 4\nF007 02 halt\n"
     );
     expect_ok(rt, lines)
 }
@@ -140,7 +136,7 @@ fn check_stack<R: Abort>(rt: &R, alloc: Global, place: u8) {
     );
     let lines = stack_lines(rt, alloc, place);
     check_lines(rt, alloc, place, &cart, (9, lines.as_bytes()));
-    check_that(rt, place, frames_of(rt, alloc, &cart, 2).alike);
+    let _played = frames_of(rt, alloc, place, &cart, 2);
 }
 
 #[test]
@@ -166,14 +162,12 @@ fn vsync_pairs<R: Abort>(rt: &R, alloc: Global) -> Cart {
 fn each_instruction_writes_vsync(rt: HostRuntime) {
     let alloc = rt.alloc();
     let cart = vsync_pairs(&rt, alloc);
-    let before = frames_of(&rt, alloc, &cart, 1000);
-    check_that(&rt, "before.alike", before.alike);
-    check_same(&rt, "before.state", before.state.halted(), None);
-    let after = frames_of(&rt, alloc, &cart, 1001);
-    check_that(&rt, "after.alike", after.alike);
     let halt = Halt::Undocumented {
         at: 0xffa4,
         opcode: 2,
     };
-    check_same(&rt, "after.state", after.state.halted(), Some(halt));
+    for (frames, wanted) in [(1000, None), (1001, Some(halt))] {
+        let (found, _lit) = frames_of(&rt, alloc, frames, &cart, frames);
+        check_same(&rt, ("after", frames), found, wanted);
+    }
 }

@@ -8,15 +8,18 @@ use std::process::Abort;
 use test_streams::{Failure, Room, Taker};
 use vcs_tia::{Picture, ppm};
 
-/// How a pixmap ends whose writer takes so many bytes a call, for so many calls, and then fails so: how many bytes it says were
-/// written, how many came, and whether it tells the writer's fault.
+/// How a pixmap ends that is refused: how many bytes it says were written, how many came, and whether it tells the writer's
+/// fault.
+type Refused = Option<(usize, usize, bool)>;
+
+/// How a pixmap ends whose writer takes so many bytes a call, for so many calls, and then fails so.
 fn refused_pixmap(
     alloc: Global,
     picture: &Picture,
     a_call: usize,
     calls: usize,
     failure: Failure,
-) -> Option<(usize, usize, bool)> {
+) -> Refused {
     let kind = match failure {
         Failure::Error => ErrorKind::BrokenPipe,
         Failure::Nothing => ErrorKind::WriteZero,
@@ -33,23 +36,25 @@ fn check_pixmap<R: Abort>(rt: &R, alloc: Global, picture: &Picture) {
     check_same(rt, "bytes", all.taken.len(), 100815);
     let head = b"P6\n160 210\n255\n\xd2\xc8\x8c\xd2\xc8";
     check_that(rt, "head", all.taken.starts_with(head));
-    // Each call offers a row of pixels or more.
-    let mut rows = Taker::new(alloc, 1000, Room::Writes(210), Failure::Error);
-    check_that(rt, "in 210 calls", ppm(picture, &mut rows).is_ok());
 }
+
+/// How many bytes a writer takes a call, for how many calls, how it fails then, and how the pixmap ends, where it is refused.
+/// Each call offers a row of pixels or more.
+static REFUSED: [(usize, usize, Failure, Refused); 5] = [
+    (1000, 210, Failure::Error, None),
+    (20, 1, Failure::Error, Some((20, 20, true))),
+    (7, 3, Failure::Error, Some((21, 21, true))),
+    (7, 3, Failure::Nothing, Some((21, 21, true))),
+    (100, 0, Failure::Error, Some((0, 0, true))),
+];
 
 #[test]
 fn pixmap_of_a_picture(rt: HostRuntime) {
     let mut picture = expect_ok(&rt, Picture::blank(rt.alloc()));
     playfield_frame(0x00, &mut picture);
     check_pixmap(&rt, rt.alloc(), &picture);
-    for (a_call, calls, failure, written) in [
-        (20, 1, Failure::Error, 20),
-        (7, 3, Failure::Error, 21),
-        (7, 3, Failure::Nothing, 21),
-        (100, 0, Failure::Error, 0),
-    ] {
+    for (a_call, calls, failure, wanted) in REFUSED {
         let told = refused_pixmap(rt.alloc(), &picture, a_call, calls, failure);
-        check_same(&rt, (a_call, calls), told, Some((written, written, true)));
+        check_same(&rt, (a_call, calls), told, wanted);
     }
 }
