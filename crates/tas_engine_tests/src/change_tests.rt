@@ -40,10 +40,11 @@ fn script_of<R: Abort>(rt: &R, alloc: Global, old: &str, new: &str) -> Vec<u8> {
     script_between(rt, alloc, &old, &new)
 }
 
-/// How a script ends over a movie of four inputs.
-fn end_of<R: Abort>(rt: &R, alloc: Global, script: &str) -> Result<(), ScriptFault> {
+/// Fails where a script ends in another way over a movie of four inputs.
+fn check_end<R: Abort>(rt: &R, alloc: Global, script: &str, end: Result<(), ScriptFault>) {
     let mut movie = movie_of(rt, alloc, "R.RF");
-    edit_movie(alloc, &mut movie, script.as_bytes())
+    let ended = edit_movie(alloc, &mut movie, script.as_bytes());
+    check_same(rt, script, ended, end);
 }
 
 /// Fails where a script ends in another way, or makes a movie of other inputs.
@@ -54,10 +55,10 @@ fn check_edit<R: Abort>(
     script: &[u8],
     end: Result<(), ScriptFault>,
 ) {
-    let wanted = inputs_of(rt, alloc, new);
     let mut movie = movie_of(rt, alloc, old);
     let ended = edit_movie(alloc, &mut movie, script);
     check_same(rt, ("to", old, new), ended, end);
+    let wanted = inputs_of(rt, alloc, new);
     let is_made = movie.inputs() == wanted.as_slice();
     check_that(rt, ("to", old, new), is_made);
 }
@@ -86,17 +87,21 @@ static DIFFERENCES: [(&str, &str, &str); 12] = [
     ("F.RF", "FFF", "delete 1 2\ninsert 1 1 ....F ..... .....\n"),
 ];
 
+/// Fails where the script between two movies isn't this one, or doesn't make the one of the other.
+fn check_difference<R: Abort>(rt: &R, alloc: Global, (old, new): (&str, &str), script: &str) {
+    let text = script_of(rt, alloc, old, new);
+    check_same(rt, ("to", old, new), text.as_slice(), script.as_bytes());
+    check_edit(rt, alloc, (old, new), text.as_slice(), Ok(()));
+}
+
 #[test]
 fn differences_read_as_by_hand(rt: HostRuntime) {
-    let alloc = rt.alloc();
-    for (old, new, script) in DIFFERENCES {
-        let text = script_of(&rt, alloc, old, new);
-        check_same(&rt, ("to", old, new), text.as_slice(), script.as_bytes());
-        check_edit(&rt, alloc, (old, new), text.as_slice(), Ok(()));
+    for (old, new, script) in DIFFERENCES.iter() {
+        check_difference(&rt, rt.alloc(), (*old, *new), *script);
     }
 }
 
-/// Scripts for the movie of [`end_of`], and how each ends.
+/// Scripts for the movie of [`check_end`], and how each ends.
 static SCRIPTS: [(&str, Result<(), ScriptFault>); 16] = [
     ("", Ok(())),
     ("delete 0 4\n", Ok(())),
@@ -134,8 +139,8 @@ static SCRIPTS: [(&str, Result<(), ScriptFault>); 16] = [
 #[test]
 fn scripts_end_as_by_hand(rt: HostRuntime) {
     let alloc = rt.alloc();
-    for (script, end) in SCRIPTS {
-        check_same(&rt, script, end_of(&rt, alloc, script), end);
+    for (script, end) in SCRIPTS.iter() {
+        check_end(&rt, alloc, *script, *end);
     }
     let script =
         b"delete 1 2\ninsert 1 3 ....F ..... .....\nreplace 0 1 ..... ..... .....\ndelete 9 9\n";

@@ -1,7 +1,9 @@
 //! Whole runs of `tas edit` and `tas diff`, over readers and writers of the tests' own.
 
 use crate::checks::{check_same, expect_ok};
-use crate::movies::{BLANK, BLANK_DIGEST, older_text_of, text_of};
+use crate::movies::{
+    BLANK, BLANK_DIGEST, LAST_FRAME, NO_FRAMES, TWO_FRAMES, older_text_of, text_of,
+};
 use crate::ran::{Ran, check_fault, check_ran};
 use std::alloc::Global;
 use std::process::Abort;
@@ -100,20 +102,16 @@ fn check_script<R: Abort>(rt: &R, alloc: Global, before: &[u8], after: &[u8], wa
 #[test]
 fn the_longest_movies_are_edited_and_compared(rt: HostRuntime) {
     let alloc = rt.alloc();
-    let none = blank_text(&rt, alloc, b"");
     let full = long_movie(&rt, alloc, 262144, 262144);
-    let other = long_movie(&rt, alloc, 262144, 40000);
-    let scripts = [
-        (&none, &full, "insert 0 262144 ..... ..... .....\n"),
-        (&full, &none, "delete 0 262144\n"),
-        (&full, &other, "replace 40000 1 ....F ..... .....\n"),
-    ];
-    for (before, after, script) in scripts {
-        check_script(&rt, alloc, before.as_slice(), after.as_slice(), script);
-    }
+    let filled = "insert 0 262144 ..... ..... .....\n";
+    check_script(&rt, alloc, NO_FRAMES, &full, filled);
+    check_script(&rt, alloc, &full, NO_FRAMES, "delete 0 262144\n");
     let one_more = b"insert 262144 1 ..... ..... .....\n";
     let ran = edited(alloc, &BLANK, one_more, full.as_slice());
     check_fault(&rt, "one more", ran, ToolFault::EditLong { line: 1 });
+    let other = long_movie(&rt, alloc, 262144, 40000);
+    let replaced = "replace 40000 1 ....F ..... .....\n";
+    check_script(&rt, alloc, &full, &other, replaced);
     let ran = edited(alloc, &BLANK, b"", other.as_slice());
     check_ran(&rt, "no change", ran, other.as_slice());
 }
@@ -153,42 +151,48 @@ static FAULTS: [(&[u8], ToolFault); 9] = [
 #[test]
 fn a_line_at_fault_leaves_nothing_written(rt: HostRuntime) {
     let alloc = rt.alloc();
-    let two = blank_text(&rt, alloc, b"R.");
     for (number, (script, fault)) in FAULTS.iter().enumerate() {
-        let ran = edited(alloc, &BLANK, script, two.as_slice());
+        let ran = edited(alloc, &BLANK, script, TWO_FRAMES);
         check_fault(&rt, ("script", number), ran, *fault);
     }
 }
 
+/// A movie text that is cut off, and what is told of it.
+const CUT: &[u8] = b"a26movie 2\n";
+
+const END: ToolFault = ToolFault::Text(TextError {
+    line: 2,
+    kind: TextErrorKind::End,
+});
+
+/// Three inputs, and the fault of an engine that reads them.
+type Faulty = (&'static [u8], &'static [u8], &'static [u8], ToolFault);
+
+static EDITS: [Faulty; 3] = [
+    (b"1234567", b"len\n", CUT, ToolFault::Size(7)),
+    (&[0; 4096], b"len\n", CUT, END),
+    (
+        &[0; 4096],
+        b"len\n",
+        TWO_FRAMES,
+        ToolFault::Script { line: 1 },
+    ),
+];
+
+static COMPARISONS: [Faulty; 3] = [
+    (b"", CUT, b"", ToolFault::Size(0)),
+    (&[0; 4096], CUT, b"", END),
+    (&[0; 4096], TWO_FRAMES, CUT, END),
+];
+
 #[test]
 fn faults_of_the_movies_come_in_order(rt: HostRuntime) {
     let alloc = rt.alloc();
-    let two = blank_text(&rt, alloc, b"R.");
-    let bad = b"a26movie 2\n".as_slice();
-    let text = ToolFault::Text(TextError {
-        line: 2,
-        kind: TextErrorKind::End,
-    });
-    let edits: [(&[u8], &[u8], &[u8], ToolFault); 3] = [
-        (b"1234567", b"len\n", bad, ToolFault::Size(7)),
-        (&BLANK, b"len\n", bad, text),
-        (
-            &BLANK,
-            b"len\n",
-            two.as_slice(),
-            ToolFault::Script { line: 1 },
-        ),
-    ];
-    for (number, (cart, script, input, fault)) in edits.iter().enumerate() {
+    for (number, (cart, script, input, fault)) in EDITS.iter().enumerate() {
         let ran = edited(alloc, cart, script, input);
         check_fault(&rt, ("edit", number), ran, *fault);
     }
-    let comparisons: [(&[u8], &[u8], &[u8], ToolFault); 3] = [
-        (b"", bad, b"", ToolFault::Size(0)),
-        (&BLANK, bad, b"", text),
-        (&BLANK, two.as_slice(), bad, text),
-    ];
-    for (number, (cart, before, after, fault)) in comparisons.iter().enumerate() {
+    for (number, (cart, before, after, fault)) in COMPARISONS.iter().enumerate() {
         let ran = compared(alloc, cart, before, after);
         check_fault(&rt, ("comparison", number), ran, *fault);
     }
@@ -224,45 +228,32 @@ fn inputs_are_read_in_order_up_to_a_fault(rt: HostRuntime) {
         let mut output = Vec::new(alloc);
         let end = edit_run(alloc, &mut first, &mut second, &mut third, &mut output);
         check_fault(&rt, ("case", number), (output, end), *fault);
-        check_same(
-            &rt,
-            ("case", number),
-            [first.reads, second.reads, third.reads],
-            *reads,
-        );
+        let found = [first.reads, second.reads, third.reads];
+        check_same(&rt, ("case", number), found, *reads);
     }
 }
 
 /// Fails where the text of a movie without its first frame, for which there is so much room, goes out in another way.
-fn check_room<R: Abort>(
-    rt: &R,
-    alloc: Global,
-    (old, new): (&[u8], &[u8]),
-    room: usize,
-    end: Result<(), ToolFault>,
-) {
+fn check_room<R: Abort>(rt: &R, alloc: Global, room: usize, end: Result<(), ToolFault>) {
     let mut output = Taker::new(alloc, 7, Room::Bytes(room), Failure::Error);
     let mut cart = BLANK.as_slice();
     let mut script = b"delete 0 1\n".as_slice();
-    let mut input = old;
+    let mut input = TWO_FRAMES;
     let ended = edit_run(alloc, &mut cart, &mut script, &mut input, &mut output);
     check_same(rt, ("room", room), ended, end);
-    let written = &new[..room.min(new.len())];
+    let written = &LAST_FRAME[..room.min(LAST_FRAME.len())];
     check_same(rt, ("room", room), output.taken.as_slice(), written);
 }
 
 #[test]
 fn texts_go_out_in_small_pieces(rt: HostRuntime) {
     let alloc = rt.alloc();
-    let old = blank_text(&rt, alloc, b"R.");
-    let new = blank_text(&rt, alloc, b".");
-    let texts = (old.as_slice(), new.as_slice());
     for (room, end) in [
         (1000, Ok(())),
         (18, Err(ToolFault::Write { written: 18 })),
         (0, Err(ToolFault::Write { written: 0 })),
     ] {
-        check_room(&rt, alloc, texts, room, end);
+        check_room(&rt, alloc, room, end);
     }
 }
 
@@ -275,7 +266,7 @@ static MOTION: &[u8] = b"..... ..... ..... x180\n";
 
 /// Fails where a movie of these runs isn't this long, or these changes aren't made and unmade.
 fn check_example<R: Abort>(rt: &R, alloc: Global, runs: &[u8], size: usize, changes: &[u8]) {
-    let mut old = blank_text(rt, alloc, b"");
+    let mut old = expect_ok(rt, Vec::from_slice(alloc, NO_FRAMES));
     expect_ok(rt, old.extend_from_slice(runs));
     check_same(rt, ("size", size), old.len(), size);
     let (new, end) = edited(alloc, &BLANK, changes, old.as_slice());

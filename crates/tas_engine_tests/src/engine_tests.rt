@@ -2,7 +2,8 @@
 
 use crate::checks::{check_same, check_that};
 use crate::movies::{
-    HALTING_DIGEST, PLAYFIELD, PLAYFIELD_DIGEST, STORES, image_of, older_text_of, text_of,
+    BLANK, HALTING_MOVIE, PLAYFIELD, PLAYFIELD_DIGEST, PLAYFIELD_MOVIE, STORES, image_of,
+    older_text_of, text_of,
 };
 use crate::ran::{Ran, check_fault, check_ran};
 use std::alloc::Global;
@@ -50,12 +51,18 @@ fn a_trace_is_written_as_by_hand(rt: HostRuntime) {
     check_ran(&rt, "trace", ran, TRACE);
 }
 
+/// `tas trace` of three instructions, to this writer.
+fn trace_to(alloc: Global, cart: &[u8], output: &mut Taker) -> Result<(), ToolFault> {
+    let mut cart = cart;
+    trace_run(alloc, 3, &mut cart, output)
+}
+
 #[test]
 fn a_trace_goes_out_in_small_pieces(rt: HostRuntime) {
     let alloc = rt.alloc();
     let bytes = image_of(&rt, alloc, STORES);
     let mut output = Taker::new(alloc, 7, Room::Bytes(1000), Failure::Error);
-    let answer = trace_run(alloc, 3, &mut bytes.as_slice(), &mut output);
+    let answer = trace_to(alloc, &bytes, &mut output);
     check_same(&rt, "answer", answer, Ok(()));
     check_same(&rt, "output.taken", output.taken.as_slice(), TRACE);
 }
@@ -71,9 +78,9 @@ fn check_stop<R: Abort>(
 ) {
     let written = wanted.len();
     let fault = ToolFault::Write { written };
-    check_same(rt, ("room", written), answer, Err(fault));
+    let found = (answer, output.writes);
+    check_same(rt, ("room", written), found, (Err(fault), writes));
     check_same(rt, ("room", written), output.taken.as_slice(), wanted);
-    check_same(rt, ("room", written), output.writes, writes);
 }
 
 #[test]
@@ -83,7 +90,7 @@ fn a_writer_that_stops_has_the_first_bytes(rt: HostRuntime) {
     for failure in [Failure::Error, Failure::Nothing] {
         for room in [0, 1, 20, 25, 26, 74] {
             let mut output = Taker::new(alloc, 9, Room::Bytes(room), failure);
-            let answer = trace_run(alloc, 3, &mut bytes.as_slice(), &mut output);
+            let answer = trace_to(alloc, &bytes, &mut output);
             // As many writes as take bytes, and the one that fails or takes none.
             let writes = room.div_ceil(9) + 1;
             check_stop(&rt, &output, answer, &TRACE[..room], writes);
@@ -121,7 +128,7 @@ fn a_failed_read_is_the_last_one(rt: HostRuntime) {
 }
 
 /// Which engine a test runs.
-#[derive(Clone, Copy, Debug, PartialEq, Eq)]
+#[derive(Clone, Copy, Debug)]
 enum Engine {
     Trace,
     Check,
@@ -154,10 +161,9 @@ fn check_reads<R: Abort>(
     let mut cart = Giver::new(files.0, usize::MAX, fails_at.0);
     let mut text = Giver::new(files.1, usize::MAX, fails_at.1);
     let (written, answer) = run(alloc, engine, &mut cart, &mut text);
-    check_same(rt, (engine, fails_at), answer, end);
-    let found = (cart.reads, text.reads);
-    check_same(rt, (engine, fails_at), found, reads);
-    check_same(rt, (engine, fails_at), written.is_empty(), end.is_err());
+    let found = (answer, (cart.reads, text.reads), written.is_empty());
+    let wanted = (end, reads, end.is_err());
+    check_same(rt, (engine, fails_at), found, wanted);
 }
 
 /// A cartridge is one read and its end; a text of 99 bytes, too. Nothing is read after an end or a failure.
@@ -165,8 +171,7 @@ fn check_reads<R: Abort>(
 fn no_engine_reads_on(rt: HostRuntime) {
     let alloc = rt.alloc();
     let image = image_of(&rt, alloc, PLAYFIELD);
-    let movie = text_of(&rt, alloc, PLAYFIELD_DIGEST, b".");
-    let files = (image.as_slice(), movie.as_slice());
+    let files = (image.as_slice(), PLAYFIELD_MOVIE);
     for (engine, texts) in [
         (Engine::Trace, 0),
         (Engine::Check, 2),
@@ -186,8 +191,7 @@ fn no_engine_reads_on(rt: HostRuntime) {
 fn a_failed_read_of_the_text_is_the_last_one(rt: HostRuntime) {
     let alloc = rt.alloc();
     let image = image_of(&rt, alloc, PLAYFIELD);
-    let movie = text_of(&rt, alloc, PLAYFIELD_DIGEST, b".");
-    let files = (image.as_slice(), movie.as_slice());
+    let files = (image.as_slice(), PLAYFIELD_MOVIE);
     for engine in [Engine::Check, Engine::Migrate, Engine::Shot] {
         for fails_at in [1, 2] {
             let fails = (0, fails_at);
@@ -213,38 +217,44 @@ fn texts_are_migrated(rt: HostRuntime) {
     }
 }
 
+/// Fails where `tas migrate` of these bytes ends in another way than by this fault, or writes something.
+fn check_no_text<R: Abort>(rt: &R, alloc: Global, cart: &[u8], text: &[u8], fault: ToolFault) {
+    check_fault(rt, fault, migrated(alloc, cart, text), fault);
+}
+
 #[test]
 fn faults_of_migrating(rt: HostRuntime) {
     let alloc = rt.alloc();
-    let image = image_of(&rt, alloc, PLAYFIELD);
     let older = older_text_of(&rt, alloc, PLAYFIELD_DIGEST, &[b'.'; 200]);
-    let newer = text_of(&rt, alloc, PLAYFIELD_DIGEST, &[b'.'; 200]);
+    check_no_text(&rt, alloc, b"1234567", &older, ToolFault::Size(7));
     let digest = text_fault(2, TextErrorKind::Digest);
+    check_no_text(&rt, alloc, &BLANK, &older, digest);
+    let newer = text_of(&rt, alloc, PLAYFIELD_DIGEST, &[b'.'; 200]);
+    check_no_text(&rt, alloc, &BLANK[..2048], &newer, digest);
+    let image = image_of(&rt, alloc, PLAYFIELD);
     let head = text_fault(1, TextErrorKind::Head);
-    let faults: [(&[u8], &[u8], ToolFault); 4] = [
-        (b"1234567", older.as_slice(), ToolFault::Size(7)),
-        (&[0; 4096], older.as_slice(), digest),
-        (&[0; 2048], newer.as_slice(), digest),
-        (image.as_slice(), b"a26movie 3\n", head),
-    ];
-    for (cart, text, fault) in faults {
-        check_fault(&rt, fault, migrated(alloc, cart, text), fault);
-    }
+    check_no_text(&rt, alloc, &image, b"a26movie 3\n", head);
 }
+
+/// `tas check` of a movie of one frame, to this writer.
+fn check_to(alloc: Global, cart: &[u8], output: &mut Taker) -> Result<(), ToolFault> {
+    let mut cart = cart;
+    let mut text = PLAYFIELD_MOVIE;
+    check_run(alloc, &mut cart, &mut text, output)
+}
+
+/// What it writes.
+static CHECKED: &[u8] = b"ok 1 frames\n";
 
 /// A write of a few bytes is no failed one, and a failed one is the last.
 #[test]
 fn an_answer_goes_out_in_pieces(rt: HostRuntime) {
     let alloc = rt.alloc();
     let image = image_of(&rt, alloc, PLAYFIELD);
-    let movie = text_of(&rt, alloc, PLAYFIELD_DIGEST, b".");
     let mut output = Taker::new(alloc, 7, Room::Bytes(100), Failure::Error);
-    let mut cart = image.as_slice();
-    let mut text = movie.as_slice();
-    let answer = check_run(alloc, &mut cart, &mut text, &mut output);
+    let answer = check_to(alloc, &image, &mut output);
     check_same(&rt, "answer", answer, Ok(()));
-    let line = b"ok 1 frames\n".as_slice();
-    check_same(&rt, "output.taken", output.taken.as_slice(), line);
+    check_same(&rt, "output.taken", output.taken.as_slice(), CHECKED);
     check_same(&rt, "output.writes", output.writes, 2);
 }
 
@@ -252,16 +262,12 @@ fn an_answer_goes_out_in_pieces(rt: HostRuntime) {
 fn no_engine_writes_on(rt: HostRuntime) {
     let alloc = rt.alloc();
     let image = image_of(&rt, alloc, PLAYFIELD);
-    let movie = text_of(&rt, alloc, PLAYFIELD_DIGEST, b".");
-    let line = b"ok 1 frames\n".as_slice();
     for failure in [Failure::Error, Failure::Nothing] {
         for room in [0, 3, 7, 11] {
             let mut output = Taker::new(alloc, 7, Room::Bytes(room), failure);
-            let mut cart = image.as_slice();
-            let mut text = movie.as_slice();
-            let answer = check_run(alloc, &mut cart, &mut text, &mut output);
+            let answer = check_to(alloc, &image, &mut output);
             let writes = room.div_ceil(7) + 1;
-            check_stop(&rt, &output, answer, &line[..room], writes);
+            check_stop(&rt, &output, answer, &CHECKED[..room], writes);
         }
     }
 }
@@ -313,22 +319,20 @@ fn a_failed_read_comes_before_a_wrong_size(rt: HostRuntime) {
     }
 }
 
+/// Fails where `tas check` of these bytes ends in another way than by this fault, or writes something.
+fn check_unread<R: Abort>(rt: &R, alloc: Global, cart: &[u8], text: &[u8], fault: ToolFault) {
+    let ran = checked(alloc, &mut { cart }, &mut { text });
+    check_fault(rt, fault, ran, fault);
+}
+
 /// The cartridge's size comes before the faults of the text, and these in the order of its lines.
 #[test]
 fn faults_of_a_movie_come_in_order(rt: HostRuntime) {
     let alloc = rt.alloc();
+    check_unread(&rt, alloc, &[0; 7], HALTING_MOVIE, ToolFault::Size(7));
     let cart = image_of(&rt, alloc, PLAYFIELD);
-    let text = text_of(&rt, alloc, PLAYFIELD_DIGEST, b".");
-    let other = text_of(&rt, alloc, HALTING_DIGEST, b".");
-    let unended = text.as_slice().get(..98).unwrap_or(&[]);
-    let ran = checked(alloc, &mut Filler::new(0, 7, 0), &mut other.as_slice());
-    check_fault(&rt, "size", ran, ToolFault::Size(7));
-    let cases = [
-        (other.as_slice(), text_fault(2, TextErrorKind::Digest)),
-        (unended, text_fault(3, TextErrorKind::End)),
-    ];
-    for (text, fault) in cases {
-        let ran = checked(alloc, &mut cart.as_slice(), &mut { text });
-        check_fault(&rt, fault, ran, fault);
-    }
+    let digest = text_fault(2, TextErrorKind::Digest);
+    check_unread(&rt, alloc, &cart, HALTING_MOVIE, digest);
+    let end = text_fault(3, TextErrorKind::End);
+    check_unread(&rt, alloc, &cart, &PLAYFIELD_MOVIE[..98], end);
 }

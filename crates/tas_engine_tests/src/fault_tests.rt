@@ -50,8 +50,8 @@ static LINES: [(ToolFault, &str); 12] = [
 #[test]
 fn faults_read_as_their_lines(rt: HostRuntime) {
     let alloc = rt.alloc();
-    for (fault, line) in LINES {
-        check_line(&rt, alloc, fault, line);
+    for (fault, line) in LINES.iter() {
+        check_line(&rt, alloc, *fault, *line);
     }
 }
 
@@ -72,8 +72,9 @@ static TEXT_LINES: [(usize, TextErrorKind, &str); 6] = [
 #[test]
 fn faults_of_a_movie_text_read_as_their_lines(rt: HostRuntime) {
     let alloc = rt.alloc();
-    for (line, kind, words) in TEXT_LINES {
+    for (line, kind, words) in TEXT_LINES.iter() {
+        let (line, kind) = (*line, *kind);
         let fault = ToolFault::Text(TextError { line, kind });
-        check_line(&rt, alloc, fault, words);
+        check_line(&rt, alloc, fault, *words);
     }
 }

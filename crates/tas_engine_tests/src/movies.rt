@@ -14,18 +14,34 @@ pub static PLAYFIELD: &[u8] = b"\xa9\x10\x85\x0d\xa9\x1e\x85\x08\x4c\x08\xf0";
 pub static PLAYFIELD_DIGEST: &str =
     "820c64e9933496de683a000c5e11f0510fb7b1699b2ce86471295236b284906d";
 
+/// The text of a movie of its cartridge and one frame with nothing pressed.
+pub const PLAYFIELD_MOVIE: &[u8] =
+    b"a26movie 2\ncart 820c64e9933496de683a000c5e11f0510fb7b1699b2ce86471295236b284906d\n..... ..... .....\n";
+
 /// Ends three frames by vertical sync, and halts at F00D in the fourth.
 pub static HALTING: &[u8] = b"\xa2\x03\xa9\x02\x85\x00\xa9\x00\x85\x00\xca\xd0\xf5\x02";
 
-/// The SHA-256 of its cartridge.
-pub static HALTING_DIGEST: &str =
-    "c914dfbc057cd1e5dd9cefcba07cec773cc85a8be3a04676377b60ded704d22d";
+/// The text of a movie of its cartridge and one frame with nothing pressed.
+pub const HALTING_MOVIE: &[u8] =
+    b"a26movie 2\ncart c914dfbc057cd1e5dd9cefcba07cec773cc85a8be3a04676377b60ded704d22d\n..... ..... .....\n";
 
 /// A cartridge of zeros.
 pub static BLANK: [u8; 4096] = [0; 4096];
 
 /// Its SHA-256.
 pub static BLANK_DIGEST: &str = "ad7facb2586fc6e966c004d7d1d16b024f5805ff7cb47c7a85dabd8b48892ca7";
+
+/// The text of a movie of the blank cartridge without frames.
+pub const NO_FRAMES: &[u8] =
+    b"a26movie 2\ncart ad7facb2586fc6e966c004d7d1d16b024f5805ff7cb47c7a85dabd8b48892ca7\n";
+
+/// The text of a movie of the blank cartridge and two frames, the first with the left stick to the right.
+pub const TWO_FRAMES: &[u8] =
+    b"a26movie 2\ncart ad7facb2586fc6e966c004d7d1d16b024f5805ff7cb47c7a85dabd8b48892ca7\nR.... ..... .....\n..... ..... .....\n";
+
+/// The same without its first frame.
+pub const LAST_FRAME: &[u8] =
+    b"a26movie 2\ncart ad7facb2586fc6e966c004d7d1d16b024f5805ff7cb47c7a85dabd8b48892ca7\n..... ..... .....\n";
 
 /// The cartridge with a program at F000, where execution starts too; all other bytes are 0.
 pub fn image_of<R: Abort>(rt: &R, alloc: Global, program: &[u8]) -> Vec<u8> {

@@ -4,62 +4,103 @@ use crate::checks::{check_same, check_that, expect_ok};
 use std::alloc::Global;
 use std::process::Abort;
 use tas_script::{Command, Image, Reply, parse_line, reply_line};
-use vcs_machine::{CART_SIZE, Input, SMALL_CART_SIZE};
+use vcs_machine::{CART_SIZE, Input, SMALL_CART_SIZE, Stick};
 
-fn pressed_right() -> Input {
-    let mut input = Input::none();
-    input.left.right = true;
-    input
-}
+/// A stick at rest.
+const REST: Stick = Stick {
+    right: false,
+    left: false,
+    down: false,
+    up: false,
+    fire: false,
+};
 
-/// An image with one byte.
-fn large_image(offset: usize, byte: u8) -> Image {
-    let mut image = [0; CART_SIZE];
-    if let Some(cell) = image.get_mut(offset) {
-        *cell = byte;
-    }
-    Image::Large(image)
-}
+/// Nothing is pressed.
+const NONE: Input = Input {
+    left: REST,
+    right: REST,
+    reset: false,
+    select: false,
+    mono: false,
+    left_a: false,
+    right_a: false,
+};
 
-/// A small image with one byte.
-fn small_image(offset: usize, byte: u8) -> Image {
-    let mut image = [0; SMALL_CART_SIZE];
-    if let Some(cell) = image.get_mut(offset) {
-        *cell = byte;
-    }
-    Image::Small(image)
-}
+/// The left stick is pushed to the right.
+const RIGHT: Input = Input {
+    left: Stick {
+        right: true,
+        left: false,
+        down: false,
+        up: false,
+        fire: false,
+    },
+    right: REST,
+    reset: false,
+    select: false,
+    mono: false,
+    left_a: false,
+    right_a: false,
+};
 
-/// An image of this size with one byte.
-fn image(size: usize, offset: usize, byte: u8) -> Image {
-    if size == SMALL_CART_SIZE {
-        small_image(offset, byte)
+/// An image of one size or the other, of zeros but for one byte.
+fn image(is_small: bool, offset: usize, byte: u8) -> Image {
+    let mut large = [0; CART_SIZE];
+    let mut small = [0; SMALL_CART_SIZE];
+    if is_small {
+        small[offset % SMALL_CART_SIZE] = byte;
+        Image::Small(small)
     } else {
-        large_image(offset, byte)
+        large[offset % CART_SIZE] = byte;
+        Image::Large(large)
     }
 }
 
-/// Lines, the size of the image of each, and its byte.
-static LOADS: [(&[u8], usize, usize, u8); 6] = [
-    (b"load 00A=FF", CART_SIZE, 10, 0xff),
-    (b"load FFF=01", CART_SIZE, 4095, 1),
-    (b"load 00A=FF00 00B=1C 00B=00", CART_SIZE, 10, 0xff),
-    (b"load2 00A=FF", SMALL_CART_SIZE, 10, 0xff),
-    (b"load2 7FF=01", SMALL_CART_SIZE, 2047, 1),
-    (b"load2 7FE=FF01 7FE=00", SMALL_CART_SIZE, 2047, 1),
+/// Lines, whether the image of each is a small one, and its byte.
+static LOADS: [(&[u8], bool, usize, u8); 6] = [
+    (b"load 00A=FF", false, 10, 0xff),
+    (b"load FFF=01", false, 4095, 1),
+    (b"load 00A=FF00 00B=1C 00B=00", false, 10, 0xff),
+    (b"load2 00A=FF", true, 10, 0xff),
+    (b"load2 7FF=01", true, 2047, 1),
+    (b"load2 7FE=FF01 7FE=00", true, 2047, 1),
 ];
 
 #[test]
 fn a_load_has_its_image(rt: HostRuntime) {
-    for (line, size, offset, byte) in LOADS {
-        let image = image(size, offset, byte);
+    for (line, is_small, offset, byte) in LOADS.iter() {
+        let image = image(*is_small, *offset, *byte);
         let command = Command::Load { image };
-        check_same(&rt, line, parse_line(line), Some(command));
+        check_same(&rt, *line, parse_line(*line), Some(command));
     }
 }
 
 /// Lines, and the command of each.
-static COMMANDS: [(&[u8], Command); 8] = [
+static COMMANDS: [(&[u8], Command); 11] = [
+    (
+        b"insert 0 200 ..... ..... .....",
+        Command::Insert {
+            at: 0,
+            count: 200,
+            input: NONE,
+        },
+    ),
+    (
+        b"insert 9999999 0 R.... ..... .....",
+        Command::Insert {
+            at: 9_999_999,
+            count: 0,
+            input: RIGHT,
+        },
+    ),
+    (
+        b"replace 64 1 R.... ..... .....",
+        Command::Replace {
+            at: 64,
+            count: 1,
+            input: RIGHT,
+        },
+    ),
     (b"delete 10 191", Command::Delete { at: 10, count: 191 }),
     (b"len", Command::Length),
     (b"input 0", Command::InputAt { frame: 0 }),
@@ -72,39 +113,8 @@ static COMMANDS: [(&[u8], Command); 8] = [
 
 #[test]
 fn each_other_line_is_its_command(rt: HostRuntime) {
-    let none = Input::none();
-    let right = pressed_right();
-    let with_frames: [(&[u8], Command); 3] = [
-        (
-            b"insert 0 200 ..... ..... .....",
-            Command::Insert {
-                at: 0,
-                count: 200,
-                input: none,
-            },
-        ),
-        (
-            b"insert 9999999 0 R.... ..... .....",
-            Command::Insert {
-                at: 9_999_999,
-                count: 0,
-                input: right,
-            },
-        ),
-        (
-            b"replace 64 1 R.... ..... .....",
-            Command::Replace {
-                at: 64,
-                count: 1,
-                input: right,
-            },
-        ),
-    ];
-    for (line, command) in with_frames {
-        check_same(&rt, line, parse_line(line), Some(command));
-    }
-    for (line, command) in COMMANDS {
-        check_same(&rt, line, parse_line(line), Some(command));
+    for (line, command) in COMMANDS.iter() {
+        check_same(&rt, *line, parse_line(*line), Some(*command));
     }
 }
 
@@ -189,7 +199,7 @@ fn check_reply<R: Abort>(rt: &R, alloc: Global, reply: Reply, line: &[u8]) {
 }
 
 /// Replies to edits and looks, and the line of each.
-static REPLIES: [(Reply, &[u8]); 7] = [
+static REPLIES: [(Reply, &[u8]); 8] = [
     (Reply::OutOfMemory, b"out of memory\n"),
     (Reply::Edited { at: 1, len: 0 }, b"edit 1 len 0\n"),
     (Reply::Misplaced { at: 5, len: 9 }, b"place 5 len 9\n"),
@@ -200,17 +210,21 @@ static REPLIES: [(Reply, &[u8]); 7] = [
     (Reply::Full { at: 1_000_000 }, b"full 1000000\n"),
     (Reply::Measured { at: 0, len: 0 }, b"len 0 0\n"),
     (Reply::NoFrame { at: 4, len: 0 }, b"no frame 4 len 0\n"),
+    (
+        Reply::Pressed {
+            at: 3,
+            input: RIGHT,
+        },
+        b"input 3 R.... ..... .....\n",
+    ),
 ];
 
 #[test]
 fn replies_to_edits_and_looks(rt: HostRuntime) {
     let alloc = rt.alloc();
-    for (reply, line) in REPLIES {
-        check_reply(&rt, alloc, reply, line);
+    for (reply, line) in REPLIES.iter() {
+        check_reply(&rt, alloc, *reply, *line);
     }
-    let input = pressed_right();
-    let pressed = Reply::Pressed { at: 3, input };
-    check_reply(&rt, alloc, pressed, b"input 3 R.... ..... .....\n");
 }
 
 /// Replies of what was played, and the line of each.
@@ -253,7 +267,7 @@ static PLAYED: [(Reply, &[u8]); 4] = [
 #[test]
 fn replies_of_what_was_played(rt: HostRuntime) {
     let alloc = rt.alloc();
-    for (reply, line) in PLAYED {
-        check_reply(&rt, alloc, reply, line);
+    for (reply, line) in PLAYED.iter() {
+        check_reply(&rt, alloc, *reply, *line);
     }
 }

@@ -1,9 +1,7 @@
 //! The engine that shows a frame.
 
 use crate::checks::{check_same, check_that};
-use crate::movies::{
-    HALTING, HALTING_DIGEST, PLAYFIELD, PLAYFIELD_DIGEST, image_of, older_text_of, text_of,
-};
+use crate::movies::{HALTING, PLAYFIELD, PLAYFIELD_MOVIE, image_of};
 use crate::ran::{Ran, check_fault};
 use std::alloc::Global;
 use std::process::Abort;
@@ -40,8 +38,7 @@ fn check_playfield<R: Abort>(rt: &R, picture: &[u8]) {
 fn a_playfield_is_drawn(rt: HostRuntime) {
     let alloc = rt.alloc();
     let cart = image_of(&rt, alloc, PLAYFIELD);
-    let text = text_of(&rt, alloc, PLAYFIELD_DIGEST, b".");
-    let (picture, answer) = shown(alloc, 0, cart.as_slice(), text.as_slice());
+    let (picture, answer) = shown(alloc, 0, cart.as_slice(), PLAYFIELD_MOVIE);
     check_same(&rt, "answer", answer, Ok(()));
     check_playfield(&rt, picture.as_slice());
 }
@@ -50,8 +47,7 @@ fn a_playfield_is_drawn(rt: HostRuntime) {
 fn no_frame_past_the_end_is_drawn(rt: HostRuntime) {
     let alloc = rt.alloc();
     let cart = image_of(&rt, alloc, PLAYFIELD);
-    let text = text_of(&rt, alloc, PLAYFIELD_DIGEST, b".");
-    let ran = shown(alloc, 1, cart.as_slice(), text.as_slice());
+    let ran = shown(alloc, 1, cart.as_slice(), PLAYFIELD_MOVIE);
     check_fault(&rt, "one", ran, ToolFault::NoFrame { frame: 1, len: 1 });
 }
 
@@ -59,18 +55,21 @@ fn no_frame_past_the_end_is_drawn(rt: HostRuntime) {
 fn a_cut_picture_is_told_by_its_bytes(rt: HostRuntime) {
     let alloc = rt.alloc();
     let image = image_of(&rt, alloc, PLAYFIELD);
-    let movie = text_of(&rt, alloc, PLAYFIELD_DIGEST, b".");
     for failure in [Failure::Error, Failure::Nothing] {
         for room in [0, 20, 300, 700, 1100] {
             let mut picture = Taker::new(alloc, 1000, Room::Bytes(room), failure);
             let mut cart = image.as_slice();
-            let mut text = movie.as_slice();
+            let mut text = PLAYFIELD_MOVIE;
             let answer = shot_run(alloc, 0, &mut cart, &mut text, &mut picture);
             let fault = ToolFault::Write { written: room };
             check_same(&rt, ("room", room), answer, Err(fault));
         }
     }
 }
+
+/// The older text of a movie of the cartridge that halts, and five frames with nothing pressed.
+static OLDER_HALTING_MOVIE: &[u8] =
+    b"a26movie 1\ncart c914dfbc057cd1e5dd9cefcba07cec773cc85a8be3a04676377b60ded704d22d\n..... ..... .....\n..... ..... .....\n..... ..... .....\n..... ..... .....\n..... ..... .....\n";
 
 /// Fails where a picture isn't black throughout.
 fn check_black<R: Abort>(rt: &R, frame: usize, picture: &[u8]) {
@@ -82,10 +81,9 @@ fn check_black<R: Abort>(rt: &R, frame: usize, picture: &[u8]) {
 fn frames_before_a_halt_have_pictures(rt: HostRuntime) {
     let alloc = rt.alloc();
     let cart = image_of(&rt, alloc, HALTING);
-    let text = older_text_of(&rt, alloc, HALTING_DIGEST, b".....");
-    check_same(&rt, "text", text.len(), 171);
+    check_same(&rt, "text", OLDER_HALTING_MOVIE.len(), 171);
     for frame in [0, 1, 2] {
-        let (picture, answer) = shown(alloc, frame, cart.as_slice(), text.as_slice());
+        let (picture, answer) = shown(alloc, frame, cart.as_slice(), OLDER_HALTING_MOVIE);
         check_same(&rt, frame, answer, Ok(()));
         check_black(&rt, frame, picture.as_slice());
     }
@@ -95,13 +93,12 @@ fn frames_before_a_halt_have_pictures(rt: HostRuntime) {
 fn a_halted_frame_has_no_picture(rt: HostRuntime) {
     let alloc = rt.alloc();
     let cart = image_of(&rt, alloc, HALTING);
-    let text = older_text_of(&rt, alloc, HALTING_DIGEST, b".....");
     let fault = ToolFault::Halted {
         at: 0xf00d,
         opcode: 2,
     };
     for frame in [3, 4] {
-        let ran = shown(alloc, frame, cart.as_slice(), text.as_slice());
+        let ran = shown(alloc, frame, cart.as_slice(), OLDER_HALTING_MOVIE);
         check_fault(&rt, frame, ran, fault);
     }
 }
