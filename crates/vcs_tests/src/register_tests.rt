@@ -52,7 +52,12 @@ fn check_jump<R: Abort>(rt: &R, alloc: Global, address: u16) {
 
 #[test]
 fn code_runs_at_each_address(rt: HostRuntime) {
-    for address in (0..0x100u16).chain(0x280..0x300) {
+    for number in 0..0x180u16 {
+        let address = if number < 0x100 {
+            number
+        } else {
+            number + 0x180
+        };
         check_jump(&rt, rt.alloc(), address);
     }
 }
@@ -68,7 +73,10 @@ fn check_frames_at<R: Abort>(rt: &R, alloc: Global, address: u16) {
 // registers, the RAM's first byte, the ports' four and the timer's two; the others show the same ones again.
 #[test]
 fn frames_of_code_at_each_register(rt: HostRuntime) {
-    for address in (0..0x10u16).chain(0x80..0x81).chain(0x280..0x286) {
+    for address in [
+        0x00, 0x01, 0x02, 0x03, 0x04, 0x05, 0x06, 0x07, 0x08, 0x09, 0x0a, 0x0b, 0x0c, 0x0d, 0x0e,
+        0x0f, 0x80, 0x280, 0x281, 0x282, 0x283, 0x284, 0x285,
+    ] {
         check_frames_at(&rt, rt.alloc(), address);
     }
 }

@@ -1,6 +1,6 @@
 //! TIAs that lag behind, against the slow one that draws each clock as it comes.
 
-use super::plain::{Drawing, Plain};
+use super::plain::{Drawing, PLAIN, Plain};
 use super::{next_random, run};
 use crate::checks::{check_same, check_that, expect_ok};
 use std::alloc::Global;
@@ -109,7 +109,7 @@ impl Race {
         Race {
             drawing: Lagging::new(true),
             passing: Lagging::new(false),
-            plain: Plain::new(),
+            plain: PLAIN,
             fast: expect_ok(rt, Picture::blank(alloc)),
             slow: expect_ok(rt, Drawing::blank(alloc)),
         }
