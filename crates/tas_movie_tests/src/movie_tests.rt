@@ -2,7 +2,7 @@
 
 use crate::checks::{check_same, check_that, expect_ok, expect_some};
 use crate::movies::{PLAYFIELD, cart_of, idle};
-use crate::texts::{CART_LINE, HEAD2, NONE, is_printed, joined, reads_as};
+use crate::texts::{is_printed, reads_as};
 use std::alloc::Global;
 use std::process::Abort;
 use tas_movie::{
@@ -28,32 +28,37 @@ fn insert<R: Abort>(
     make(movie, &Edit::Insert { at, inputs })
 }
 
+/// How an edit ends.
+type Made = Result<(), EditRefusal>;
+
+/// Where so many inputs are put in, one after the other, how each ends, and how long the movie is then.
+static INSERTIONS: [(usize, usize, Made, usize); 4] = [
+    (0, 262145, Err(EditRefusal::Long { len: 0 }), 0),
+    (0, 262144, Ok(()), 262144),
+    (0, 1, Err(EditRefusal::Long { len: 262144 }), 262144),
+    (
+        262145,
+        1,
+        Err(EditRefusal::Place {
+            at: 262145,
+            len: 262144,
+        }),
+        262144,
+    ),
+];
+
 /// Checks the limits on a movie without frames.
 fn check_limits<R: Abort>(rt: &R, alloc: Global, movie: &mut Movie) {
     check_that(rt, "empty", movie.is_empty());
-    let (most, past) = (262144, 262145);
-    for (at, count, want, len) in [
-        (0, past, Err(EditRefusal::Long { len: 0 }), 0),
-        (0, most, Ok(()), most),
-        (0, 1, Err(EditRefusal::Long { len: most }), most),
-        (
-            past,
-            1,
-            Err(EditRefusal::Place {
-                at: past,
-                len: most,
-            }),
-            most,
-        ),
-    ] {
-        let answer = insert(rt, alloc, movie, at, count);
-        check_same(rt, ("insert", at, count), answer, want);
-        check_same(rt, ("length after", at, count), movie.len(), len);
+    for (at, count, want, len) in INSERTIONS.iter() {
+        let answer = insert(rt, alloc, movie, *at, *count);
+        let found = (answer, movie.len());
+        check_same(rt, ("insert", *at, *count), found, (*want, *len));
     }
     let inputs = idle(rt, alloc, 0);
-    let replaced = make(movie, &Edit::Replace { at: most, inputs });
-    check_same(rt, "replace none", replaced, Ok(()));
-    check_same(rt, "length", movie.len(), most);
+    let replaced = make(movie, &Edit::Replace { at: 262144, inputs });
+    let found = (replaced, movie.len());
+    check_same(rt, "replace none", found, (Ok(()), 262144));
 }
 
 #[test]
@@ -66,23 +71,28 @@ fn limits(rt: HostRuntime) {
     check_limits(&rt, alloc, &mut movie);
 }
 
+const FAR: usize = usize::MAX;
+
+/// Where so many inputs are taken out of a movie that has none, and how this ends.
+static DELETIONS: [(usize, usize, Made); 3] = [
+    (0, 0, Ok(())),
+    (0, 1, Err(EditRefusal::Place { at: 0, len: 0 })),
+    (FAR, FAR, Err(EditRefusal::Place { at: FAR, len: 0 })),
+];
+
 #[test]
 fn places_past_the_end(rt: HostRuntime) {
     let alloc = rt.alloc();
     let mut movie = expect_ok(&rt, Movie::blank(alloc));
-    let far = usize::MAX;
-    let place = Err(EditRefusal::Place { at: 0, len: 0 });
-    for (at, count, want) in [
-        (0, 0, Ok(())),
-        (0, 1, place),
-        (far, far, Err(EditRefusal::Place { at: far, len: 0 })),
-    ] {
+    for (at, count, want) in DELETIONS.iter() {
+        let (at, count) = (*at, *count);
         let answer = make(&mut movie, &Edit::Delete { at, count });
-        check_same(&rt, ("delete", at, count), answer, want);
+        check_same(&rt, ("delete", at, count), answer, *want);
     }
     let inputs = idle(&rt, alloc, 1);
     let replaced = make(&mut movie, &Edit::Replace { at: 0, inputs });
-    check_same(&rt, "replace", replaced, place);
+    let place = Err(EditRefusal::Place { at: 0, len: 0 });
+    check_same(&rt, ("replace", 0, 1), replaced, place);
 }
 
 #[test]
@@ -102,6 +112,16 @@ fn refusals_in_words(rt: HostRuntime) {
     }
 }
 
+/// The text of a movie of the playfield's cartridge and three frames.
+const SAMPLE: &[u8] =
+    b"a26movie 2\ncart 820c64e9933496de683a000c5e11f0510fb7b1699b2ce86471295236b284906d\n..... ..... .....\nR.... ..... .....\n..... ..... .....\n";
+
+/// The movie of this text.
+fn sample<R: Abort>(rt: &R, alloc: Global) -> Movie {
+    let cart = cart_of(rt, alloc, PLAYFIELD);
+    expect_ok(rt, read_text(alloc, SAMPLE, &cart))
+}
+
 /// Checks that a copy of the edit makes of a movie's copy what the edit makes of the movie, which has another text then.
 fn check_copied_edit<R: Abort>(
     rt: &R,
@@ -109,24 +129,20 @@ fn check_copied_edit<R: Abort>(
     kind: &str,
     edit: &Edit,
     (movie, copy): (&mut Movie, &mut Movie),
-    text: &[u8],
 ) {
     expect_ok(rt, make(movie, edit));
     expect_ok(rt, make(copy, &expect_ok(rt, edit.copy(alloc))));
     let changed = expect_ok(rt, print_text(alloc, movie));
     check_that(rt, (kind, "after"), is_printed(rt, alloc, copy, &changed));
-    check_that(rt, (kind, "changed"), changed.as_slice() != text);
+    check_that(rt, (kind, "changed"), changed.as_slice() != SAMPLE);
 }
 
 /// Checks that a copy of the edit makes of a copy of a movie what the edit makes of the movie, which isn't the same movie.
 fn check_copy<R: Abort>(rt: &R, alloc: Global, kind: &str, edit: &Edit) {
-    let cart = cart_of(rt, alloc, PLAYFIELD);
-    let right = b"R.... ..... .....\n";
-    let text = joined(rt, alloc, &[HEAD2, CART_LINE, NONE, right, NONE]);
-    let mut movie = expect_ok(rt, read_text(alloc, &text, &cart));
+    let mut movie = sample(rt, alloc);
     let mut copy = expect_ok(rt, movie.copy(alloc));
-    check_that(rt, (kind, "before"), is_printed(rt, alloc, &copy, &text));
-    check_copied_edit(rt, alloc, kind, edit, (&mut movie, &mut copy), &text);
+    check_that(rt, (kind, "before"), is_printed(rt, alloc, &copy, SAMPLE));
+    check_copied_edit(rt, alloc, kind, edit, (&mut movie, &mut copy));
 }
 
 #[test]

@@ -3,8 +3,8 @@
 use crate::checks::{check_same, check_that, expect_ok};
 use crate::movies::{PLAYFIELD, cart_of};
 use crate::texts::{
-    BLANK_LINE, CAPITALS, CART_LINE, HEAD, HEAD2, NONE, SMALL_LINE, Told, answer, at, idle_lines,
-    is_printed, is_read_and_printed, joined, read, reads_as, text_error, told,
+    BLANK_LINE, CAPITALS, CART_LINE, HEAD, HEAD2, NONE, SMALL_LINE, Told, at, check_told,
+    idle_lines, is_printed, is_read_and_printed, joined, read, reads_as, text_error,
 };
 use std::alloc::Global;
 use std::process::Abort;
@@ -101,8 +101,8 @@ static FIRST_LINES: [(&[u8], &[u8], usize, TextErrorKind); 11] = [
 fn first_two_lines_at_fault(rt: HostRuntime) {
     let alloc = rt.alloc();
     for (number, (first, second, line, kind)) in FIRST_LINES.iter().enumerate() {
-        let answer = told(&rt, alloc, &[first, second, NONE]);
-        check_same(&rt, ("text", number), answer, at(*line, *kind));
+        let want = Err((*line, *kind));
+        check_told(&rt, alloc, ("text", number), &[first, second, NONE], want);
     }
 }
 
@@ -120,17 +120,18 @@ static NO_FRAMES: [&[u8]; 6] = [
 fn frames_at_fault(rt: HostRuntime) {
     let alloc = rt.alloc();
     for (number, line) in NO_FRAMES.iter().enumerate() {
-        let first = told(&rt, alloc, &[HEAD, CART_LINE, line, NONE, NONE]);
-        check_same(&rt, ("line", number), first, at(3, TextErrorKind::Frame));
-        let middle = told(&rt, alloc, &[HEAD, CART_LINE, NONE, line, line]);
-        check_same(&rt, ("line", number), middle, at(4, TextErrorKind::Frame));
-        let last = told(&rt, alloc, &[HEAD, CART_LINE, NONE, NONE, line]);
-        check_same(&rt, ("line", number), last, at(5, TextErrorKind::Frame));
+        let case = ("line", number);
+        let first = &[HEAD, CART_LINE, line, NONE, NONE];
+        check_told(&rt, alloc, case, first, Err((3, TextErrorKind::Frame)));
+        let middle = &[HEAD, CART_LINE, NONE, line, line];
+        check_told(&rt, alloc, case, middle, Err((4, TextErrorKind::Frame)));
+        let last = &[HEAD, CART_LINE, NONE, NONE, line];
+        check_told(&rt, alloc, case, last, Err((5, TextErrorKind::Frame)));
     }
-    let open = told(&rt, alloc, &[HEAD, CART_LINE, NONE, NONE, b"."]);
-    check_same(&rt, "open", open, at(5, TextErrorKind::End));
-    let run = told(&rt, alloc, &[HEAD, CART_LINE, b"..... ..... ..... x2\n"]);
-    check_same(&rt, "run", run, at(3, TextErrorKind::Frame));
+    let open: &[&[u8]] = &[HEAD, CART_LINE, NONE, NONE, b"."];
+    check_told(&rt, alloc, ("open", 5), open, Err((5, TextErrorKind::End)));
+    let run: &[&[u8]] = &[HEAD, CART_LINE, b"..... ..... ..... x2\n"];
+    check_told(&rt, alloc, ("run", 3), run, Err((3, TextErrorKind::Frame)));
 }
 
 /// The stick to the right.
@@ -158,10 +159,11 @@ static NO_RUNS: [&[u8]; 14] = [
 fn lines_that_are_no_run(rt: HostRuntime) {
     let alloc = rt.alloc();
     for (number, line) in NO_RUNS.iter().enumerate() {
-        let first = told(&rt, alloc, &[HEAD2, CART_LINE, line, RIGHT]);
-        check_same(&rt, ("line", number), first, at(3, TextErrorKind::Frame));
-        let later = told(&rt, alloc, &[HEAD2, CART_LINE, RIGHT, line, line]);
-        check_same(&rt, ("line", number), later, at(4, TextErrorKind::Frame));
+        let case = ("line", number);
+        let first = &[HEAD2, CART_LINE, line, RIGHT];
+        check_told(&rt, alloc, case, first, Err((3, TextErrorKind::Frame)));
+        let later = &[HEAD2, CART_LINE, RIGHT, line, line];
+        check_told(&rt, alloc, case, later, Err((4, TextErrorKind::Frame)));
     }
 }
 
@@ -205,8 +207,8 @@ static RUNS: [(&[u8], Told); 9] = [
 #[test]
 fn runs_at_fault(rt: HostRuntime) {
     for (number, (lines, want)) in RUNS.iter().enumerate() {
-        let found = told(&rt, rt.alloc(), &[HEAD2, CART_LINE, lines]);
-        check_same(&rt, ("text", number), found, answer(*want));
+        let case = ("text", number);
+        check_told(&rt, rt.alloc(), case, &[HEAD2, CART_LINE, lines], *want);
     }
 }
 
@@ -231,8 +233,8 @@ static LAST_LINES: [(&[u8], &[u8], usize, TextErrorKind); 5] = [
 fn the_first_fault_of_a_line_is_told(rt: HostRuntime) {
     let alloc = rt.alloc();
     for (number, (first, second, line, kind)) in LAST_LINES.iter().enumerate() {
-        let answer = told(&rt, alloc, &[HEAD2, CART_LINE, first, second]);
-        check_same(&rt, ("text", number), answer, at(*line, *kind));
+        let text = &[HEAD2, CART_LINE, first, second];
+        check_told(&rt, alloc, ("text", number), text, Err((*line, *kind)));
     }
 }
 
@@ -250,48 +252,45 @@ fn too_many_frames(rt: HostRuntime) {
     let alloc = rt.alloc();
     for (number, (count, end, want)) in MANY_FRAMES.iter().enumerate() {
         let lines = idle_lines(&rt, alloc, *count, end);
-        let found = told(&rt, alloc, &[HEAD, CART_LINE, lines.as_slice()]);
-        check_same(&rt, ("text", number), found, answer(*want));
+        let text = &[HEAD, CART_LINE, lines.as_slice()];
+        check_told(&rt, alloc, ("text", number), text, *want);
     }
 }
 
-/// Checks that an older text of these lines is printed again as the text of these runs, and that this is read so.
+/// Checks that an older text of these lines is printed again as the text of these runs, that this is read so, and how many bytes
+/// they have.
 fn check_older_text<R: Abort>(
     rt: &R,
     alloc: Global,
     cart: &Cart,
-    frames: usize,
+    (frames, sizes): (usize, [usize; 2]),
     lines: &[&[u8]],
     runs: &[u8],
 ) {
     let older = joined(rt, alloc, lines);
-    let newer = joined(rt, alloc, &[HEAD2, CART_LINE, runs]);
     let movie = expect_ok(rt, read_text(alloc, &older, cart));
+    let newer = joined(rt, alloc, &[HEAD2, CART_LINE, runs]);
+    let found = [older.len(), newer.len()];
+    check_same(rt, ("sizes", frames), found, sizes);
     check_that(rt, frames, is_printed(rt, alloc, &movie, &newer));
-    check_that(
-        rt,
-        frames,
-        is_read_and_printed(rt, alloc, cart, &newer, frames),
-    );
+    let is_read = is_read_and_printed(rt, alloc, cart, &newer, frames);
+    check_that(rt, frames, is_read);
 }
+
+/// An older text of several runs.
+static MIXED: [&[u8]; 8] = [HEAD, CART_LINE, RIGHT, NONE, NONE, RIGHT, RIGHT, RIGHT];
 
 /// An older text is printed again as a text of runs, each as long as it can be.
 #[test]
 fn older_texts_are_printed_as_runs(rt: HostRuntime) {
     let alloc = rt.alloc();
+    let runs = b"R.... ..... .....\n..... ..... ..... x2\nR.... ..... ..... x3\n";
     let cart = cart_of(&rt, alloc, PLAYFIELD);
+    check_older_text(&rt, alloc, &cart, (6, [189, 141]), &MIXED, runs);
     let lines = idle_lines(&rt, alloc, 200, b"");
     let older: &[&[u8]] = &[HEAD, CART_LINE, lines.as_slice()];
-    check_older_text(&rt, alloc, &cart, 200, older, b"..... ..... ..... x200\n");
-    let sizes = [
-        joined(&rt, alloc, older).len(),
-        joined(&rt, alloc, &[HEAD2, CART_LINE, b"..... ..... ..... x200\n"]).len(),
-    ];
-    check_same(&rt, "sizes", sizes, [3681, 104]);
-    let right = b"R.... ..... .....\n";
-    let mixed: &[&[u8]] = &[HEAD, CART_LINE, right, NONE, NONE, right, right, right];
-    let runs = b"R.... ..... .....\n..... ..... ..... x2\nR.... ..... ..... x3\n";
-    check_older_text(&rt, alloc, &cart, 6, mixed, runs);
+    let runs = b"..... ..... ..... x200\n";
+    check_older_text(&rt, alloc, &cart, (200, [3681, 104]), older, runs);
 }
 
 /// So many times the line of nothing pressed and that of the left fire, behind the first two lines.
@@ -334,9 +333,9 @@ static WORDS: [(usize, TextErrorKind, &str); 6] = [
 #[test]
 fn errors_of_reading_in_words(rt: HostRuntime) {
     let alloc = rt.alloc();
-    for (line, kind, words) in WORDS {
-        let error = text_error(line, kind);
-        check_that(&rt, words, reads_as(&rt, alloc, &error, words));
+    for (line, kind, words) in WORDS.iter() {
+        let error = text_error(*line, *kind);
+        check_that(&rt, *words, reads_as(&rt, alloc, &error, *words));
     }
     let words = "out of memory";
     check_that(&rt, words, reads_as(&rt, alloc, &ReadError::Memory, words));

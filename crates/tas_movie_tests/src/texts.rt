@@ -1,6 +1,6 @@
 //! Texts of movies, in lines, and what is read of them.
 
-use crate::checks::expect_ok;
+use crate::checks::{check_same, expect_ok};
 use crate::movies::{PLAYFIELD, cart_of};
 use std::alloc::Global;
 use std::fmt::Display;
@@ -57,7 +57,7 @@ pub fn at(line: usize, kind: TextErrorKind) -> Result<usize, ReadError> {
 pub type Told = Result<usize, (usize, TextErrorKind)>;
 
 /// What reading such a text answers.
-pub fn answer(told: Told) -> Result<usize, ReadError> {
+fn answer(told: Told) -> Result<usize, ReadError> {
     match told {
         Ok(frames) => Ok(frames),
         Err((line, kind)) => at(line, kind),
@@ -83,10 +83,17 @@ pub fn is_printed<R: Abort>(rt: &R, alloc: Global, movie: &Movie, text: &[u8]) -
     expect_ok(rt, print_text(alloc, movie)).as_slice() == text
 }
 
-/// How many frames a text of these lines has, or its line at fault, with the playfield's cartridge.
-pub fn told<R: Abort>(rt: &R, alloc: Global, lines: &[&[u8]]) -> Result<usize, ReadError> {
+/// Fails where something else is told of a text of these lines, with the playfield's cartridge.
+pub fn check_told<R: Abort>(
+    rt: &R,
+    alloc: Global,
+    case: (&'static str, usize),
+    lines: &[&[u8]],
+    want: Told,
+) {
     let cart = cart_of(rt, alloc, PLAYFIELD);
-    read(alloc, &joined(rt, alloc, lines), &cart)
+    let text = joined(rt, alloc, lines);
+    check_same(rt, case, read(alloc, &text, &cart), answer(want));
 }
 
 /// So many lines of a frame with nothing pressed, and then these bytes.
