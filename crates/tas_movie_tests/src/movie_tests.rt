@@ -95,20 +95,24 @@ fn places_past_the_end(rt: HostRuntime) {
     check_same(&rt, ("replace", 0, 1), replaced, place);
 }
 
+static REFUSALS: [(EditRefusal, &str); 2] = [
+    (EditRefusal::Place { at: 9, len: 8 }, "place 9 of 8"),
+    (EditRefusal::Long { len: 262144 }, "too long at 262144"),
+];
+
+static CART_ERRORS: [(CartError, &str); 2] = [
+    (CartError::Size(7), "cartridge has 7 bytes"),
+    (CartError::Memory, "out of memory"),
+];
+
 #[test]
 fn refusals_in_words(rt: HostRuntime) {
     let alloc = rt.alloc();
-    for (refusal, words) in [
-        (EditRefusal::Place { at: 9, len: 8 }, "place 9 of 8"),
-        (EditRefusal::Long { len: 262144 }, "too long at 262144"),
-    ] {
-        check_that(&rt, words, reads_as(&rt, alloc, &refusal, words));
+    for (refusal, words) in REFUSALS.iter() {
+        check_that(&rt, *words, reads_as(&rt, alloc, refusal, *words));
     }
-    for (error, words) in [
-        (CartError::Size(7), "cartridge has 7 bytes"),
-        (CartError::Memory, "out of memory"),
-    ] {
-        check_that(&rt, words, reads_as(&rt, alloc, &error, words));
+    for (error, words) in CART_ERRORS.iter() {
+        check_that(&rt, *words, reads_as(&rt, alloc, error, *words));
     }
 }
 
@@ -161,8 +165,8 @@ fn copies_of_edits(rt: HostRuntime) {
 fn copies(rt: HostRuntime) {
     let alloc = rt.alloc();
     let cart = cart_of(&rt, alloc, PLAYFIELD);
-    let copy = expect_ok(&rt, cart.copy(alloc));
-    check_that(&rt, "cartridge", copy.bytes() == cart.bytes());
+    let is_copied = expect_ok(&rt, cart.copy(alloc)).bytes() == cart.bytes();
+    check_that(&rt, "cartridge", is_copied);
     let inputs = idle(&rt, alloc, 2);
     let copied = expect_ok(&rt, inputs.copy(alloc)).into_vec();
     check_that(&rt, "inputs", copied.as_slice() == inputs.as_slice());

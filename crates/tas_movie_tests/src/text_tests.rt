@@ -45,8 +45,8 @@ static FRAMES: [(&[u8], usize, usize); 3] = [
 fn texts_are_read_and_printed_again(rt: HostRuntime) {
     let alloc = rt.alloc();
     let cart = cart_of(&rt, alloc, PLAYFIELD);
-    for (frames, size, count) in FRAMES {
-        check_text(&rt, alloc, &cart, (CART_LINE, frames), size, count);
+    for (frames, size, count) in FRAMES.iter() {
+        check_text(&rt, alloc, &cart, (CART_LINE, *frames), *size, *count);
     }
     let blank = expect_ok(&rt, Cart::blank(alloc));
     check_text(&rt, alloc, &blank, (BLANK_LINE, NONE), 99, 1);
@@ -63,22 +63,27 @@ fn the_laws_of_texts_return(_rt: HostRuntime) {
     runs_are_longest();
 }
 
+/// Reads a text of one frame that is cut off anywhere.
+fn check_cuts<R: Abort>(rt: &R, alloc: Global, text: &[u8], cart: &Cart) {
+    for (count, byte) in text.iter().enumerate() {
+        let want = match count {
+            0..=10 => at(1, TextErrorKind::End),
+            11..=80 => at(2, TextErrorKind::End),
+            81 => Ok(0),
+            _ => at(3, TextErrorKind::End),
+        };
+        let cut = read(alloc, &text[..count], cart);
+        check_same(rt, ("bytes before", count, byte), cut, want);
+    }
+}
+
 #[test]
 fn cut_texts(rt: HostRuntime) {
     let alloc = rt.alloc();
     let cart = cart_of(&rt, alloc, PLAYFIELD);
     for head in [HEAD, HEAD2] {
         let text = joined(&rt, alloc, &[head, CART_LINE, NONE]);
-        for (count, byte) in text.iter().enumerate() {
-            let cut = read(alloc, &text[..count], &cart);
-            let want = match count {
-                0..=10 => at(1, TextErrorKind::End),
-                11..=80 => at(2, TextErrorKind::End),
-                81 => Ok(0),
-                _ => at(3, TextErrorKind::End),
-            };
-            check_same(&rt, ("bytes before", count, byte), cut, want);
-        }
+        check_cuts(&rt, alloc, &text, &cart);
     }
 }
 
