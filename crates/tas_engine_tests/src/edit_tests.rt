@@ -245,15 +245,18 @@ fn check_room<R: Abort>(rt: &R, alloc: Global, room: usize, end: Result<(), Tool
     check_same(rt, ("room", room), output.taken.as_slice(), written);
 }
 
+/// For how many bytes there is room, and how the engine ends.
+static ROOMS: [(usize, Result<(), ToolFault>); 3] = [
+    (1000, Ok(())),
+    (18, Err(ToolFault::Write { written: 18 })),
+    (0, Err(ToolFault::Write { written: 0 })),
+];
+
 #[test]
 fn texts_go_out_in_small_pieces(rt: HostRuntime) {
     let alloc = rt.alloc();
-    for (room, end) in [
-        (1000, Ok(())),
-        (18, Err(ToolFault::Write { written: 18 })),
-        (0, Err(ToolFault::Write { written: 0 })),
-    ] {
-        check_room(&rt, alloc, room, end);
+    for (room, end) in ROOMS.iter() {
+        check_room(&rt, alloc, *room, *end);
     }
 }
 

@@ -83,13 +83,16 @@ fn check_stop<R: Abort>(
     check_same(rt, ("room", written), output.taken.as_slice(), wanted);
 }
 
+/// How a writer fails.
+static FAILURES: [Failure; 2] = [Failure::Error, Failure::Nothing];
+
 #[test]
 fn a_writer_that_stops_has_the_first_bytes(rt: HostRuntime) {
     let alloc = rt.alloc();
     let bytes = image_of(&rt, alloc, STORES);
-    for failure in [Failure::Error, Failure::Nothing] {
+    for failure in FAILURES.iter() {
         for room in [0, 1, 20, 25, 26, 74] {
-            let mut output = Taker::new(alloc, 9, Room::Bytes(room), failure);
+            let mut output = Taker::new(alloc, 9, Room::Bytes(room), *failure);
             let answer = trace_to(alloc, &bytes, &mut output);
             // As many writes as take bytes, and the one that fails or takes none.
             let writes = room.div_ceil(9) + 1;
@@ -120,7 +123,7 @@ fn one_byte_past_the_limit_is_too_long(rt: HostRuntime) {
 #[test]
 fn a_failed_read_is_the_last_one(rt: HostRuntime) {
     let alloc = rt.alloc();
-    for fails_at in [1, 2] {
+    for fails_at in 1..3 {
         let mut input = Filler::new(0, 4096, fails_at);
         check_fault(&rt, fails_at, traced(alloc, &mut input), ToolFault::Read);
         check_same(&rt, "input.reads", input.reads, fails_at);
@@ -166,20 +169,24 @@ fn check_reads<R: Abort>(
     check_same(rt, (engine, fails_at), found, wanted);
 }
 
+/// The engines, and how often each reads a text of 99 bytes; only the first one reads none.
+static ENGINES: [(Engine, usize); 4] = [
+    (Engine::Trace, 0),
+    (Engine::Check, 2),
+    (Engine::Migrate, 2),
+    (Engine::Shot, 2),
+];
+
 /// A cartridge is one read and its end; a text of 99 bytes, too. Nothing is read after an end or a failure.
 #[test]
 fn no_engine_reads_on(rt: HostRuntime) {
     let alloc = rt.alloc();
     let image = image_of(&rt, alloc, PLAYFIELD);
     let files = (image.as_slice(), PLAYFIELD_MOVIE);
-    for (engine, texts) in [
-        (Engine::Trace, 0),
-        (Engine::Check, 2),
-        (Engine::Migrate, 2),
-        (Engine::Shot, 2),
-    ] {
+    for (engine, texts) in ENGINES.iter() {
+        let (engine, texts) = (*engine, *texts);
         check_reads(&rt, alloc, files, (engine, (0, 0)), Ok(()), (2, texts));
-        for fails_at in [1, 2] {
+        for fails_at in 1..3 {
             let fails = (fails_at, 0);
             let end = Err(ToolFault::Read);
             check_reads(&rt, alloc, files, (engine, fails), end, (fails_at, 0));
@@ -192,11 +199,11 @@ fn a_failed_read_of_the_text_is_the_last_one(rt: HostRuntime) {
     let alloc = rt.alloc();
     let image = image_of(&rt, alloc, PLAYFIELD);
     let files = (image.as_slice(), PLAYFIELD_MOVIE);
-    for engine in [Engine::Check, Engine::Migrate, Engine::Shot] {
-        for fails_at in [1, 2] {
+    for (engine, _texts) in ENGINES[1..].iter() {
+        for fails_at in 1..3 {
             let fails = (0, fails_at);
             let end = Err(ToolFault::Read);
-            check_reads(&rt, alloc, files, (engine, fails), end, (2, fails_at));
+            check_reads(&rt, alloc, files, (*engine, fails), end, (2, fails_at));
         }
     }
 }
@@ -262,9 +269,9 @@ fn an_answer_goes_out_in_pieces(rt: HostRuntime) {
 fn no_engine_writes_on(rt: HostRuntime) {
     let alloc = rt.alloc();
     let image = image_of(&rt, alloc, PLAYFIELD);
-    for failure in [Failure::Error, Failure::Nothing] {
+    for failure in FAILURES.iter() {
         for room in [0, 3, 7, 11] {
-            let mut output = Taker::new(alloc, 7, Room::Bytes(room), failure);
+            let mut output = Taker::new(alloc, 7, Room::Bytes(room), *failure);
             let answer = check_to(alloc, &image, &mut output);
             let writes = room.div_ceil(7) + 1;
             check_stop(&rt, &output, answer, &CHECKED[..room], writes);
@@ -301,8 +308,8 @@ static LENGTHS: [(&[u8], [usize; 2], &str); 3] = [
 fn a_movie_is_as_long_as_its_frames(rt: HostRuntime) {
     let alloc = rt.alloc();
     let cart = image_of(&rt, alloc, PLAYFIELD);
-    for (frames, lengths, line) in LENGTHS {
-        check_length(&rt, alloc, cart.as_slice(), frames, lengths, line);
+    for (frames, lengths, line) in LENGTHS.iter() {
+        check_length(&rt, alloc, &cart, *frames, *lengths, *line);
     }
 }
 

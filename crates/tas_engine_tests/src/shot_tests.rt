@@ -51,13 +51,16 @@ fn no_frame_past_the_end_is_drawn(rt: HostRuntime) {
     check_fault(&rt, "one", ran, ToolFault::NoFrame { frame: 1, len: 1 });
 }
 
+/// How a writer fails.
+static FAILURES: [Failure; 2] = [Failure::Error, Failure::Nothing];
+
 #[test]
 fn a_cut_picture_is_told_by_its_bytes(rt: HostRuntime) {
     let alloc = rt.alloc();
     let image = image_of(&rt, alloc, PLAYFIELD);
-    for failure in [Failure::Error, Failure::Nothing] {
+    for failure in FAILURES.iter() {
         for room in [0, 20, 300, 700, 1100] {
-            let mut picture = Taker::new(alloc, 1000, Room::Bytes(room), failure);
+            let mut picture = Taker::new(alloc, 1000, Room::Bytes(room), *failure);
             let mut cart = image.as_slice();
             let mut text = PLAYFIELD_MOVIE;
             let answer = shot_run(alloc, 0, &mut cart, &mut text, &mut picture);
@@ -82,7 +85,7 @@ fn frames_before_a_halt_have_pictures(rt: HostRuntime) {
     let alloc = rt.alloc();
     let cart = image_of(&rt, alloc, HALTING);
     check_same(&rt, "text", OLDER_HALTING_MOVIE.len(), 171);
-    for frame in [0, 1, 2] {
+    for frame in 0..3 {
         let (picture, answer) = shown(alloc, frame, cart.as_slice(), OLDER_HALTING_MOVIE);
         check_same(&rt, frame, answer, Ok(()));
         check_black(&rt, frame, picture.as_slice());
@@ -97,7 +100,7 @@ fn a_halted_frame_has_no_picture(rt: HostRuntime) {
         at: 0xf00d,
         opcode: 2,
     };
-    for frame in [3, 4] {
+    for frame in 3..5 {
         let ran = shown(alloc, frame, cart.as_slice(), OLDER_HALTING_MOVIE);
         check_fault(&rt, frame, ran, fault);
     }
