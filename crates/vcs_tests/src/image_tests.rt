@@ -43,8 +43,8 @@ static CIRCLES: [Endless; 3] = [
 // Pushes and calls write on all of the TIA and of the RAM, again and again.
 #[test]
 fn the_stack_runs_in_circles(rt: HostRuntime) {
-    for endless in CIRCLES {
-        let _lit = lit_after(&rt, rt.alloc(), endless, 5);
+    for endless in CIRCLES.iter() {
+        let _lit = lit_after(&rt, rt.alloc(), *endless, 5);
     }
 }
 
@@ -56,8 +56,8 @@ static SYNCS: [Endless; 3] = [
 
 #[test]
 fn frames_end_with_vsync_or_without(rt: HostRuntime) {
-    for endless in SYNCS {
-        let lit = lit_after(&rt, rt.alloc(), endless, 30);
+    for endless in SYNCS.iter() {
+        let lit = lit_after(&rt, rt.alloc(), *endless, 30);
         check_same(&rt, endless.0, lit, 0);
     }
 }

@@ -69,15 +69,18 @@ fn check_frames_at<R: Abort>(rt: &R, alloc: Global, address: u16) {
     check_that(rt, address, halt.is_some() || first_read(address) == 0);
 }
 
-// Where BRK stands it writes all over the TIA and the RAM, again and again. The addresses are those of the TIA's sixteen
-// registers, the RAM's first byte, the ports' four and the timer's two; the others show the same ones again.
+/// The addresses of the TIA's sixteen registers, the RAM's first byte, the ports' four and the timer's two; the others show the
+/// same ones again.
+static FRAMES_AT: [u16; 23] = [
+    0x00, 0x01, 0x02, 0x03, 0x04, 0x05, 0x06, 0x07, 0x08, 0x09, 0x0a, 0x0b, 0x0c, 0x0d, 0x0e, 0x0f,
+    0x80, 0x280, 0x281, 0x282, 0x283, 0x284, 0x285,
+];
+
+// Where BRK stands it writes all over the TIA and the RAM, again and again.
 #[test]
 fn frames_of_code_at_each_register(rt: HostRuntime) {
-    for address in [
-        0x00, 0x01, 0x02, 0x03, 0x04, 0x05, 0x06, 0x07, 0x08, 0x09, 0x0a, 0x0b, 0x0c, 0x0d, 0x0e,
-        0x0f, 0x80, 0x280, 0x281, 0x282, 0x283, 0x284, 0x285,
-    ] {
-        check_frames_at(&rt, rt.alloc(), address);
+    for address in FRAMES_AT.iter() {
+        check_frames_at(&rt, rt.alloc(), *address);
     }
 }
 

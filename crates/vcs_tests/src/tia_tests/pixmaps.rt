@@ -53,8 +53,8 @@ fn pixmap_of_a_picture(rt: HostRuntime) {
     let mut picture = expect_ok(&rt, Picture::blank(rt.alloc()));
     playfield_frame(0x00, &mut picture);
     check_pixmap(&rt, rt.alloc(), &picture);
-    for (a_call, calls, failure, wanted) in REFUSED {
-        let told = refused_pixmap(rt.alloc(), &picture, a_call, calls, failure);
-        check_same(&rt, (a_call, calls), told, wanted);
+    for (a_call, calls, failure, wanted) in REFUSED.iter() {
+        let told = refused_pixmap(rt.alloc(), &picture, *a_call, *calls, *failure);
+        check_same(&rt, (*a_call, *calls), told, *wanted);
     }
 }
