@@ -69,7 +69,31 @@ pub fn check_traces<R: Abort>(rt: &R, alloc: Global, size: usize, rows: &[Traced
     }
 }
 
+/// Puts the two digits of a byte in place of each pair of a sign.
+fn put_digits(text: &mut [u8], sign: u8, byte: u8) {
+    let digits = b"0123456789ABCDEF";
+    let mut is_second = false;
+    for place in text.iter_mut() {
+        if *place == sign {
+            let digit = if is_second { byte % 16 } else { byte / 16 };
+            *place = digits[digit as usize];
+            is_second = !is_second;
+        }
+    }
+}
+
+/// A text with the two digits of each of these bytes in place of each pair of its sign.
+pub fn filled<R: Abort>(rt: &R, alloc: Global, text: &[u8], bytes: &[(u8, u8)]) -> Vec<u8> {
+    let mut filled = expect_ok(rt, Vec::from_slice(alloc, text));
+    for (sign, byte) in bytes {
+        put_digits(&mut filled, *sign, *byte);
+    }
+    filled
+}
+
 /// The line of a halt.
-pub fn halt_text<R: Abort>(rt: &R, alloc: Global, address: u16, opcode: u8) -> String {
-    expect_ok(rt, format!(in alloc; "{address:04X} {opcode:02X} halt\n"))
+pub fn halt_line<R: Abort>(rt: &R, alloc: Global, address: u16, opcode: u8) -> Vec<u8> {
+    let [low, high] = address.to_le_bytes();
+    let bytes = [(b'+', high), (b'-', low), (b'?', opcode)];
+    filled(rt, alloc, b"++-- ?? halt\n", &bytes)
 }

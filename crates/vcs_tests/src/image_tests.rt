@@ -1,6 +1,6 @@
 //! Images whose code runs where none should stand, and images of one byte.
 
-use crate::carts::{START, Traced, cart_with, check_traces, halt_text, program, traced};
+use crate::carts::{START, Traced, cart_with, check_traces, halt_line, program, traced};
 use crate::checks::{check_same, check_that};
 use crate::played::frames_of;
 use std::alloc::Global;
@@ -64,8 +64,8 @@ fn frames_end_with_vsync_or_without(rt: HostRuntime) {
 
 /// Whether the first instruction of an image of this byte halts, where its address repeats the byte.
 fn halts_at_once<R: Abort>(rt: &R, alloc: Global, cart: &Cart, byte: u8) -> bool {
-    let halt = halt_text(rt, alloc, u16::from_le_bytes([byte, byte]), byte);
-    traced(rt, alloc, cart, 1).as_slice() == halt.as_bytes()
+    let halt = halt_line(rt, alloc, u16::from_le_bytes([byte, byte]), byte);
+    traced(rt, alloc, cart, 1).as_slice() == halt.as_slice()
 }
 
 /// Plays two frames of an image of this byte, and answers whether it starts in the cartridge and halts at once.

@@ -1,6 +1,6 @@
 //! Code in the registers of the TIA and of the RIOT, stacks that start at each place, and frames of two instructions.
 
-use crate::carts::{START, Traced, cart_with, check_lines, check_traces, program};
+use crate::carts::{START, Traced, cart_with, check_lines, check_traces, filled, program};
 use crate::checks::{check_same, check_that, expect_ok};
 use crate::played::frames_of;
 use std::alloc::Global;
@@ -26,15 +26,16 @@ fn first_read(address: u16) -> u8 {
 }
 
 /// The trace of a jump to an address and of what stands there: BRK, which goes back to the jump, or no instruction.
-fn jump_lines<R: Abort>(rt: &R, alloc: Global, address: u16) -> String {
+fn jump_lines<R: Abort>(rt: &R, alloc: Global, address: u16) -> Vec<u8> {
+    let [low, high] = address.to_le_bytes();
     let opcode = first_read(address);
-    let jump = "F000 4C 00 00 00 FD 34 3\n";
-    let lines = if opcode == 0 {
-        format!(in alloc; "{jump}{address:04X} 00 00 00 00 FA 34 7\nF000 4C 00 00 00 FA 34 3\n")
+    let lines: &[u8] = if opcode == 0 {
+        b"F000 4C 00 00 00 FD 34 3\n++-- 00 00 00 00 FA 34 7\nF000 4C 00 00 00 FA 34 3\n"
     } else {
-        format!(in alloc; "{jump}{address:04X} {opcode:02X} halt\n")
+        b"F000 4C 00 00 00 FD 34 3\n++-- ?? halt\n"
     };
-    expect_ok(rt, lines)
+    let bytes = [(b'+', high), (b'-', low), (b'?', opcode)];
+    filled(rt, alloc, lines, &bytes)
 }
 
 /// The cartridge that jumps to an address, and to its start again at BRK.
@@ -47,7 +48,7 @@ fn jump_to<R: Abort>(rt: &R, alloc: Global, address: u16) -> Cart {
 fn check_jump<R: Abort>(rt: &R, alloc: Global, address: u16) {
     let cart = jump_to(rt, alloc, address);
     let lines = jump_lines(rt, alloc, address);
-    check_lines(rt, alloc, address, &cart, (3, lines.as_bytes()));
+    check_lines(rt, alloc, address, &cart, (3, lines.as_slice()));
 }
 
 #[test]
@@ -123,20 +124,24 @@ fn status_of(value: u8) -> u8 {
 
 /// The trace of LDX, TXS, LDA 5A, PHA, PLA and no instruction, with the stack at this place of page 1: the RAM is its upper
 /// half, and the TIA, which doesn't show what is written, its lower one.
-fn stack_lines<R: Abort>(rt: &R, alloc: Global, place: u8) -> String {
+fn stack_lines<R: Abort>(rt: &R, alloc: Global, place: u8) -> Vec<u8> {
     let before = status_of(place);
     let pulled = if place < 0x80 {
         first_read(u16::from(place))
     } else {
         0x5a
     };
-    let (below, after) = (place.wrapping_sub(1), status_of(pulled));
-    let lines = format!(in alloc;
-        "F000 A2 00 {place:02X} 00 FD {before:02X} 2\nF002 9A 00 {place:02X} 00 {place:02X} {before:02X} 2\n\
-        F003 A9 5A {place:02X} 00 {place:02X} 34 2\nF005 48 5A {place:02X} 00 {below:02X} 34 3\n\
-        F006 68 {pulled:02X} {place:02X} 00 {place:02X} {after:02X} 4\nF007 02 halt\n"
-    );
-    expect_ok(rt, lines)
+    let bytes = [
+        (b'#', place),
+        (b'-', place.wrapping_sub(1)),
+        (b'?', before),
+        (b'+', pulled),
+        (b'!', status_of(pulled)),
+    ];
+    let lines: &[u8] = b"F000 A2 00 ## 00 FD ?? 2\nF002 9A 00 ## 00 ## ?? 2\n\
+        F003 A9 5A ## 00 ## 34 2\nF005 48 5A ## 00 -- 34 3\n\
+        F006 68 ++ ## 00 ## !! 4\nF007 02 halt\n";
+    filled(rt, alloc, lines, &bytes)
 }
 
 fn check_stack<R: Abort>(rt: &R, alloc: Global, place: u8) {
@@ -146,7 +151,7 @@ fn check_stack<R: Abort>(rt: &R, alloc: Global, place: u8) {
         &[0xa2, place, 0x9a, 0xa9, 0x5a, 0x48, 0x68, 0x02],
     );
     let lines = stack_lines(rt, alloc, place);
-    check_lines(rt, alloc, place, &cart, (9, lines.as_bytes()));
+    check_lines(rt, alloc, place, &cart, (9, lines.as_slice()));
     let _played = frames_of(rt, alloc, place, &cart, 2);
 }
 
