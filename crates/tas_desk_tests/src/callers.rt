@@ -2,16 +2,16 @@
 
 ghost use Rattle.std.specs.Prelude.{◌<◌};
 
-use crate::changes::{Change, FOLDING, HALTING, PLAYFIELD, edit_of};
+use crate::answers::{Answered, Refused, edit, export, offer, shoot};
+use crate::changes::{Change, FOLDING, HALTING, PLAYFIELD};
+use crate::checks::{check_that, expect_ok};
 use crate::gates::Open;
 use crate::replays::{Note, Notes, Told};
-use crate::sums::{Sum, sum_of};
-use std::alloc::{AllocError, Global};
+use std::alloc::Global;
+use std::process::Abort;
 use std::sync::Wait;
 use std::thread::Threads;
-use tas_desk::{
-    CloseOnDrop, Desk, EditError, ExportError, InputError, Name, OfferError, Seat, ShotError,
-};
+use tas_desk::{CloseOnDrop, Desk, EditError, InputError, Name, Seat, ShotError};
 use tas_movie::EditRefusal;
 
 /// A row of pseudo-random numbers.
@@ -55,7 +55,7 @@ impl Dice {
 }
 
 /// What a caller mostly does.
-#[derive(Clone, Copy, PartialEq, Eq)]
+#[derive(Clone, Copy)]
 pub enum Habit {
     /// Everything.
     All,
@@ -65,25 +65,7 @@ pub enum Habit {
     Shots,
 }
 
-/// What ended a caller's calls: an answer that no call should give.
-#[derive(Clone, Copy, Debug, PartialEq, Eq)]
-pub enum Fault {
-    NoEntry,
-    Memory,
-    Serial,
-    Full,
-    Write,
-    /// An earlier history than one that was seen before.
-    Earlier,
-}
-
-impl From<AllocError> for Fault {
-    fn from(_error: AllocError) -> Fault {
-        Fault::Memory
-    }
-}
-
-/// A seat with its notes.
+/// A seat with its notes. Its calls end the test where an answer is one that no call should give.
 #[derive(Drop)]
 pub struct Caller<N: Name> {
     pub seat: Seat<N>,
@@ -91,7 +73,6 @@ pub struct Caller<N: Name> {
     pub dice: Dice,
     pub notes: Notes,
     pub made: u64,
-    pub fault: Option<Fault>,
 }
 
 impl<N: Name> Caller<N> {
@@ -107,148 +88,150 @@ impl<N: Name> Caller<N> {
                 notes: Vec::new(alloc),
             },
             made: 0,
-            fault: None,
-        }
-    }
-
-    /// Writes down what was told, at a history that is no earlier one.
-    fn note(&mut self, at: u64, told: Told) -> Result<(), Fault> {
-        if let Some(last) = self.notes.notes.last() {
-            if last.at > at {
-                return Err(Fault::Earlier);
-            }
-        }
-        match self.notes.notes.push(Note { at, told }) {
-            Ok(()) => Ok(()),
-            Err(_) => Err(Fault::Memory),
         }
     }
 
     /// Makes an edit.
-    pub fn edit<W: CloseOnDrop, R: Wait>(
+    pub fn edit<W: CloseOnDrop, R: Wait + Abort>(
         &mut self,
         rt: &R,
         alloc: Global,
         desk: &Desk<N, W>,
         change: Change,
-    ) -> Result<(), Fault> {
-        let edit = edit_of(alloc, change)?;
-        match desk.edit(rt, &mut self.seat, edit) {
+    ) {
+        match edit(rt, alloc, desk, &mut self.seat, change) {
             Ok(receipt) => {
                 let serial = self.made;
                 self.made = serial.saturating_add(1);
-                self.note(receipt.at, Told::Made(change, serial, receipt.len))
+                let told = Told::Made(change, serial, receipt.len);
+                self.notes.add(rt, receipt.at, told);
             }
             Err(EditError::Place { at, place, len }) => {
                 let refusal = EditRefusal::Place { at: place, len };
-                self.note(at, Told::NotMade(change, refusal))
+                self.notes.add(rt, at, Told::NotMade(change, refusal));
             }
             Err(EditError::Long { at, len }) => {
-                self.note(at, Told::NotMade(change, EditRefusal::Long { len }))
+                let refusal = EditRefusal::Long { len };
+                self.notes.add(rt, at, Told::NotMade(change, refusal));
             }
-            Err(EditError::Serial { .. }) => Err(Fault::Serial),
-            Err(EditError::Full { .. }) => Err(Fault::Full),
-            Err(EditError::Memory) => Err(Fault::Memory),
+            Err(error) => self.notes.fail(rt, error),
         }
     }
 
     /// Asks for the length.
-    pub fn len<W: CloseOnDrop>(&mut self, desk: &Desk<N, W>) -> Result<(), Fault> {
+    pub fn len<W: CloseOnDrop, R: Abort>(&mut self, rt: &R, desk: &Desk<N, W>) {
         match desk.len(&mut self.seat) {
-            Ok((at, len)) => self.note(at, Told::Len(len)),
-            Err(_) => Err(Fault::NoEntry),
+            Ok((at, len)) => self.notes.add(rt, at, Told::Len(len)),
+            Err(error) => self.notes.fail(rt, error),
         }
     }
 
     /// Asks for an input.
-    pub fn input<W: CloseOnDrop>(&mut self, desk: &Desk<N, W>, k: usize) -> Result<(), Fault> {
+    pub fn input<W: CloseOnDrop, R: Abort>(&mut self, rt: &R, desk: &Desk<N, W>, k: usize) {
         match desk.input(&mut self.seat, k) {
-            Ok((at, input)) => self.note(at, Told::Input(k, input)),
-            Err(InputError::NoFrame { at, len }) => self.note(at, Told::NoFrame(k, len)),
-            Err(InputError::NoEntry) => Err(Fault::NoEntry),
+            Ok((at, input)) => self.notes.add(rt, at, Told::Input(k, input)),
+            Err(InputError::NoFrame { at, len }) => {
+                self.notes.add(rt, at, Told::NoFrame(k, len));
+            }
+            Err(error) => self.notes.fail(rt, error),
         }
     }
 
     /// Asks for a picture.
-    pub fn shot<W: CloseOnDrop>(
+    pub fn shot<W: CloseOnDrop, R: Abort>(
         &mut self,
+        rt: &R,
         alloc: Global,
         desk: &Desk<N, W>,
         k: usize,
-    ) -> Result<(), Fault> {
-        match desk.shot(alloc, &mut self.seat, k) {
-            Ok(shot) => self.note(shot.at, Told::Drawn(shot.frame, sum_of(&shot.picture))),
-            Err(ShotError::NoFrame { at, len }) => self.note(at, Told::NoFrame(k, len)),
-            Err(ShotError::Halted { at, halt }) => self.note(at, Told::Halted(k, halt)),
-            Err(ShotError::NoEntry) => Err(Fault::NoEntry),
-            Err(ShotError::Memory) => Err(Fault::Memory),
+    ) {
+        let range = (k, k.saturating_add(1));
+        match shoot(alloc, desk, &mut self.seat, k) {
+            Ok(shown) => self
+                .notes
+                .add(rt, shown.at, Told::Drawn(range, Ok(shown.sum))),
+            Err(ShotError::NoFrame { at, len }) => {
+                self.notes.add(rt, at, Told::NoFrame(k, len));
+            }
+            Err(ShotError::Halted { at, halt }) => {
+                self.notes.add(rt, at, Told::Drawn(range, Err((k, halt))));
+            }
+            Err(error) => self.notes.fail(rt, error),
         }
     }
 
     /// Takes a job, runs it and offers its batch.
-    pub fn job<W: CloseOnDrop, R: Wait>(
+    pub fn job<W: CloseOnDrop, R: Wait + Abort>(
         &mut self,
         rt: &R,
         alloc: Global,
         desk: &Desk<N, W>,
         near: usize,
-    ) -> Result<(), Fault> {
-        let batch = desk.job(rt, alloc, &mut self.seat, near)?.run();
-        let inputs = batch.inputs().to_vec(alloc)?;
-        let bytes = batch.cart().bytes().to_vec(alloc)?;
-        match desk.offer(rt, &mut self.seat, batch) {
-            Ok(offered) => self.note(offered.at, Told::Taken(inputs, offered.front)),
-            Err(OfferError::Cartridge { at }) => self.note(at, Told::OtherCartridge(bytes)),
-            Err(OfferError::Memory(_)) => Err(Fault::Memory),
+    ) {
+        let batch = expect_ok(rt, desk.job(rt, alloc, &mut self.seat, near)).run();
+        let inputs = expect_ok(rt, batch.inputs().to_vec(alloc));
+        let bytes = expect_ok(rt, batch.cart().bytes().to_vec(alloc));
+        match offer(rt, desk, &mut self.seat, batch) {
+            Answered::Taken(offered) => {
+                let told = Told::Taken(inputs, offered.front);
+                self.notes.add(rt, offered.at, told);
+            }
+            Answered::OtherCartridge(at) => self.notes.add(rt, at, Told::OtherCartridge(bytes)),
+            answer => self.notes.fail(rt, answer),
         }
     }
 
     /// Works for the desk, and takes over what it keeps.
-    pub fn work<W: CloseOnDrop, R: Wait>(
+    pub fn work<W: CloseOnDrop, R: Wait + Abort>(
         &mut self,
         rt: &R,
         alloc: Global,
         desk: &Desk<N, W>,
         target: usize,
-    ) -> Result<(), Fault> {
-        if desk
-            .work(rt, alloc, &mut self.seat, &[target], &Open)
-            .is_err()
-        {
-            return Err(Fault::Memory);
-        }
-        desk.share(rt, &mut self.seat)?;
-        Ok(())
+    ) {
+        let worked = desk.work(rt, alloc, &mut self.seat, &[target], &Open);
+        expect_ok(rt, worked);
+        expect_ok(rt, desk.share(rt, &mut self.seat));
     }
 
     /// Asks for the pixmaps of some frames, by two workers.
-    pub fn export<W: CloseOnDrop, R: Threads + Wait + Sync>(
+    pub fn export<W: CloseOnDrop, R: Threads + Wait + Abort + Sync>(
         &mut self,
         rt: &R,
         alloc: Global,
         desk: &Desk<N, W>,
         range: (usize, usize),
-    ) -> Result<(), Fault> {
-        let (from, to) = range;
-        let mut out = Sum::new(usize::MAX);
-        match desk.export(rt, alloc, &mut self.seat, from, to, 2, &Open, &mut out) {
-            Ok(exported) => self.note(exported.at, Told::Exported(from, to, out.told())),
-            Err(ExportError::Range { at, len }) => self.note(at, Told::OutOfRange(from, to, len)),
-            Err(ExportError::Halted { at, frame, halt }) => {
-                self.note(at, Told::ExportHalted(from, to, (frame, halt)))
+    ) {
+        let (told, bytes, sum) = export(
+            rt,
+            alloc,
+            desk,
+            &mut self.seat,
+            range,
+            2,
+            &Open,
+            usize::MAX,
+        );
+        match told {
+            Ok((at, _)) => self.notes.add(rt, at, Told::Drawn(range, Ok((bytes, sum)))),
+            Err(Refused::Range { at, len }) => {
+                self.notes.add(rt, at, Told::OutOfRange(range, len));
             }
-            Err(ExportError::Memory) => Err(Fault::Memory),
-            Err(ExportError::Write { .. }) => Err(Fault::Write),
+            Err(Refused::Halted { at, frame, halt }) => {
+                self.notes
+                    .add(rt, at, Told::Drawn(range, Err((frame, halt))));
+            }
+            Err(error) => self.notes.fail(rt, error),
         }
     }
 
     /// One call, at random.
-    fn turn<W: CloseOnDrop, R: Threads + Wait + Sync>(
+    fn turn<W: CloseOnDrop, R: Threads + Wait + Abort + Sync>(
         &mut self,
         rt: &R,
         alloc: Global,
         desk: &Desk<N, W>,
-    ) -> Result<(), Fault> {
+    ) {
         let k = self.dice.roll(24);
         let kind = match self.habit {
             Habit::All => self.dice.roll(9),
@@ -258,22 +241,22 @@ impl<N: Name> Caller<N> {
         match kind {
             0 | 1 | 2 => {
                 let change = self.dice.change();
-                self.edit(rt, alloc, desk, change)
+                self.edit(rt, alloc, desk, change);
             }
-            3 => self.len(desk),
-            4 => self.input(desk, k),
+            3 => self.len(rt, desk),
+            4 => self.input(rt, desk, k),
             5 => self.job(rt, alloc, desk, k),
             6 => self.work(rt, alloc, desk, k),
             7 => {
                 let to = self.dice.roll(4).saturating_add(k);
-                self.export(rt, alloc, desk, (k, to))
+                self.export(rt, alloc, desk, (k, to));
             }
-            _ => self.shot(alloc, desk, k),
+            _ => self.shot(rt, alloc, desk, k),
         }
     }
 
-    /// So many calls, up to the first fault.
-    pub fn turns<W: CloseOnDrop, R: Threads + Wait + Sync>(
+    /// So many calls.
+    pub fn turns<W: CloseOnDrop, R: Threads + Wait + Abort + Sync>(
         &mut self,
         rt: &R,
         alloc: Global,
@@ -281,25 +264,19 @@ impl<N: Name> Caller<N> {
         count: usize,
     ) {
         for _turn in 0..count {
-            if self.fault.is_none() {
-                self.fault = self.turn(rt, alloc, desk).err();
-            }
+            self.turn(rt, alloc, desk);
         }
     }
 }
 
 /// Two callers meet. Each writes down how many edits the front has that both have then.
-pub fn meet<N: Name, W: CloseOnDrop, R: Wait>(
+pub fn meet<N: Name, W: CloseOnDrop, R: Wait + Abort>(
     rt: &R,
     desk: &Desk<N, W>,
     one: &mut Caller<N>,
     other: &mut Caller<N>,
 ) {
     let at = desk.meet(rt, &mut one.seat, &mut other.seat);
-    if one.fault.is_none() {
-        one.fault = one.note(at, Told::Met).err();
-    }
-    if other.fault.is_none() {
-        other.fault = other.note(at, Told::Met).err();
-    }
+    one.notes.add(rt, at, Told::Met);
+    other.notes.add(rt, at, Told::Met);
 }

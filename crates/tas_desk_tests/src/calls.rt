@@ -2,17 +2,18 @@
 
 ghost use Rattle.std.specs.Prelude.{◌≤◌};
 
-use crate::changes::{Change, edit_of};
-use crate::checks::{check_that, expect_ok};
-use crate::desks::{Lending, lend};
+use crate::answers::{Refused, edit, export, shoot};
+use crate::changes::Change;
+use crate::checks::check_that;
+use crate::desks::{Task, lend};
 use crate::gates::Open;
 use std::alloc::Global;
 use std::process::Abort;
 use std::sync::Wait;
 use std::thread::Threads;
 use tas_desk::{
-    CloseOnDrop, Closed, Desk, EditError, ExportError, InputError, MAX_WORKERS, Name, NoEntry,
-    Receipt, Seat, ShotError, Worked,
+    CloseOnDrop, Closed, Desk, EditError, InputError, MAX_WORKERS, Name, Receipt, Seat, ShotError,
+    Worked,
 };
 use vcs_machine::Input;
 
@@ -45,51 +46,32 @@ pub enum Call {
     Meet(u64),
 }
 
-/// A shot's answer, its picture told by how many pixels are lit.
-fn shoot<N: Name, W: CloseOnDrop>(
-    alloc: Global,
-    desk: &Desk<N, W>,
-    seat: &mut Seat<N>,
-    k: usize,
-) -> Result<(usize, u64, u64, usize), ShotError> {
-    match desk.shot(alloc, seat, k) {
-        Ok(shot) => Ok((shot.frame, shot.at, shot.ran, shot.picture.lit())),
-        Err(error) => Err(error),
-    }
-}
-
-/// Whether an edit is answered so.
-fn is_edited<N: Name, W: CloseOnDrop, R: Wait + Abort>(
-    rt: &R,
-    alloc: Global,
-    desk: &Desk<N, W>,
-    seat: &mut Seat<N>,
-    change: Change,
-    answer: Result<Receipt, EditError>,
-) -> bool {
-    let edit = expect_ok(rt, edit_of(alloc, change));
-    desk.edit(rt, seat, edit) == answer
-}
-
-/// What an export tells: how many edits there are; frames played, or the movie's length where the frames aren't all there;
-/// and how many bytes were written. Nothing for other answers.
-fn export<N: Name, W: CloseOnDrop, R: Threads + Wait + Sync>(
+/// What an export tells, and how many bytes were written. Nothing for numbers of workers that no export may have.
+fn export_by<N: Name, W: CloseOnDrop, R: Threads + Wait + Sync>(
     rt: &R,
     alloc: Global,
     desk: &Desk<N, W>,
     seat: &mut Seat<N>,
     range: (usize, usize),
     workers: usize,
-) -> Option<(u64, Result<u64, usize>, usize)> {
+) -> Option<(Result<(u64, u64), Refused>, usize)> {
     if workers < 1 || workers > MAX_WORKERS {
         return None;
     }
-    let (from, to) = range;
-    let mut out = Vec::new(alloc);
-    match desk.export(rt, alloc, seat, from, to, workers, &Open, &mut out) {
-        Ok(exported) => Some((exported.at, Ok(exported.played), out.len())),
-        Err(ExportError::Range { at, len }) => Some((at, Err(len), out.len())),
-        Err(_) => None,
+    let (told, bytes, _) = export(rt, alloc, desk, seat, range, workers, &Open, usize::MAX);
+    Some((told, bytes))
+}
+
+/// What a shot shows: its frame, the number of edits, of frames that are played, and of lit pixels.
+fn shown<N: Name, W: CloseOnDrop>(
+    alloc: Global,
+    desk: &Desk<N, W>,
+    seat: &mut Seat<N>,
+    k: usize,
+) -> Result<(usize, u64, u64, usize), ShotError> {
+    match shoot(alloc, desk, seat, k) {
+        Ok(shown) => Ok((shown.frame, shown.at, shown.ran, shown.lit)),
+        Err(error) => Err(error),
     }
 }
 
@@ -103,8 +85,8 @@ fn is_seen<N: Name, W: CloseOnDrop>(
     match call {
         Call::Len(_, at, len) => desk.len(seat) == Ok((at, len)),
         Call::Input(_, k, answer) => desk.input(seat, k) == answer,
-        Call::Drawn(_, k, at, ran, lit) => shoot(alloc, desk, seat, k) == Ok((k, at, ran, lit)),
-        Call::NotDrawn(_, k, error) => shoot(alloc, desk, seat, k) == Err(error),
+        Call::Drawn(_, k, at, ran, lit) => shown(alloc, desk, seat, k) == Ok((k, at, ran, lit)),
+        Call::NotDrawn(_, k, error) => shown(alloc, desk, seat, k) == Err(error),
         Call::Keeps(_, count) => seat.kept() == count,
         _ => false,
     }
@@ -120,20 +102,21 @@ fn is_answered<N: Name, W: CloseOnDrop, R: Threads + Wait + Abort + Sync>(
 ) -> bool {
     match call {
         Call::Made(_, change, at, len) => {
-            is_edited(rt, alloc, desk, seat, change, Ok(Receipt { at, len }))
+            edit(rt, alloc, desk, seat, change) == Ok(Receipt { at, len })
         }
-        Call::Refused(_, change, error) => is_edited(rt, alloc, desk, seat, change, Err(error)),
+        Call::Refused(_, change, error) => edit(rt, alloc, desk, seat, change) == Err(error),
         Call::Work(_, targets, worked) => {
             desk.work(rt, alloc, seat, targets, &Open) == Ok(worked)
         }
         Call::Share(_, gained) => desk.share(rt, seat).ok() == Some(gained),
         Call::Exported(_, (from, to), workers, at, played) => {
             let bytes = to.saturating_sub(from).saturating_mul(100_815);
-            let told = export(rt, alloc, desk, seat, (from, to), workers);
-            told == Some((at, Ok(played), bytes))
+            let told = export_by(rt, alloc, desk, seat, (from, to), workers);
+            told == Some((Ok((at, played)), bytes))
         }
         Call::OutOfRange(_, range, at, len) => {
-            export(rt, alloc, desk, seat, range, 3) == Some((at, Err(len), 0))
+            let out = Refused::Range { at, len };
+            export_by(rt, alloc, desk, seat, range, 3) == Some((Err(out), 0))
         }
         _ => is_seen(alloc, desk, seat, call),
     }
@@ -164,12 +147,8 @@ fn is_met<N: Name, W: CloseOnDrop, R: Wait>(
     seats: &mut [Seat<N>],
     at: u64,
 ) -> bool {
-    if seats.len() < 2 {
-        return false;
-    }
-    let (first, rest) = seats.split_at_mut(1);
-    match (first.first_mut(), rest.first_mut()) {
-        (Some(one), Some(other)) => desk.meet(rt, one, other) == at,
+    match seats {
+        [one, other, ..] => desk.meet(rt, one, other) == at,
         _ => false,
     }
 }
@@ -214,5 +193,5 @@ pub fn play_calls<R: Threads + Wait + Abort + Sync>(
 ) -> Closed
     requires { (1 ≤ seats) × (seats ≤ 8) }
 {
-    lend(rt, alloc, seats, Lending::Calls(calls))
+    lend(rt, alloc, seats, Task::Calls(calls))
 }

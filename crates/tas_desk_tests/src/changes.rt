@@ -1,6 +1,8 @@
 //! Edits in short, and the cartridges that the tests play.
 
-use std::alloc::{AllocError, Global};
+use crate::checks::expect_ok;
+use std::alloc::Global;
+use std::process::Abort;
 use tas_movie::{Edit, Inputs};
 use vcs_cpu::Halt;
 use vcs_machine::{Cart, Input};
@@ -31,7 +33,7 @@ pub const HALT: Halt = Halt::Undocumented {
 };
 
 /// An edit in short.
-#[derive(Clone, Copy, Debug, PartialEq, Eq)]
+#[derive(Clone, Copy, Debug)]
 pub enum Change {
     /// Another cartridge with this program at F000.
     Load(&'static [u8]),
@@ -50,13 +52,13 @@ pub enum Change {
 }
 
 /// The cartridge with a program at F000.
-pub fn cart(alloc: Global, program: &[u8]) -> Result<Cart, AllocError> {
+pub fn cart<R: Abort>(rt: &R, alloc: Global, program: &[u8]) -> Cart {
     let mut image = [0u8; 4096];
     for (cell, byte) in image.iter_mut().zip(program) {
         *cell = *byte;
     }
     image[4093] = 0xF0;
-    Cart::from_bytes(alloc, &image).map_err(|_| AllocError)
+    expect_ok(rt, Cart::from_bytes(alloc, &image))
 }
 
 /// The left stick pushed right.
@@ -74,34 +76,31 @@ pub fn fire() -> Input {
 }
 
 /// So many equal inputs.
-fn copies(alloc: Global, input: Input, count: usize) -> Result<Inputs, AllocError> {
-    Ok(Inputs::from_vec(vec![in alloc; input; count]?))
+fn copies<R: Abort>(rt: &R, alloc: Global, input: Input, count: usize) -> Inputs {
+    Inputs::from_vec(expect_ok(rt, vec![in alloc; input; count]))
+}
+
+/// So many equal inputs put in at a place.
+fn insert<R: Abort>(rt: &R, alloc: Global, at: usize, input: Input, count: usize) -> Edit {
+    let inputs = copies(rt, alloc, input, count);
+    Edit::Insert { at, inputs }
+}
+
+/// So many equal inputs over those at a place.
+fn replace<R: Abort>(rt: &R, alloc: Global, at: usize, input: Input, count: usize) -> Edit {
+    let inputs = copies(rt, alloc, input, count);
+    Edit::Replace { at, inputs }
 }
 
 /// The edit.
-pub fn edit_of(alloc: Global, change: Change) -> Result<Edit, AllocError> {
-    Ok(match change {
-        Change::Load(program) => Edit::Load(cart(alloc, program)?),
-        Change::Insert(at, count) => Edit::Insert {
-            at,
-            inputs: copies(alloc, Input::none(), count)?,
-        },
-        Change::InsertRight(at, count) => Edit::Insert {
-            at,
-            inputs: copies(alloc, right(), count)?,
-        },
-        Change::InsertFire(at) => Edit::Insert {
-            at,
-            inputs: copies(alloc, fire(), 1)?,
-        },
-        Change::Replace(at, count) => Edit::Replace {
-            at,
-            inputs: copies(alloc, Input::none(), count)?,
-        },
-        Change::ReplaceRight(at) => Edit::Replace {
-            at,
-            inputs: copies(alloc, right(), 1)?,
-        },
+pub fn edit_of<R: Abort>(rt: &R, alloc: Global, change: Change) -> Edit {
+    match change {
+        Change::Load(program) => Edit::Load(cart(rt, alloc, program)),
+        Change::Insert(at, count) => insert(rt, alloc, at, Input::none(), count),
+        Change::InsertRight(at, count) => insert(rt, alloc, at, right(), count),
+        Change::InsertFire(at) => insert(rt, alloc, at, fire(), 1),
+        Change::Replace(at, count) => replace(rt, alloc, at, Input::none(), count),
+        Change::ReplaceRight(at) => replace(rt, alloc, at, right(), 1),
         Change::Delete(at, count) => Edit::Delete { at, count },
-    })
+    }
 }

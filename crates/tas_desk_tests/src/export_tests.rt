@@ -3,87 +3,79 @@
 ghost use Rattle.std.specs.Prelude.{◌≤◌};
 ghost use Rattle.tas_desk.specs.Runs.{most_workers};
 
+use crate::answers::{Refused, export};
 use crate::changes::{Change, FOLDING, HALT, HALTING, PLAYFIELD, WAITING, edit_of};
 use crate::checks::{check_same, check_that, expect_ok, expect_some};
-use crate::desks::{Lending, lend, make_edits};
+use crate::desks::{Task, lend, make_edits};
 use crate::gates::{Counting, Open, Ordered};
-use crate::replays::pixmaps;
-use crate::sums::{Compared, Sum};
+use crate::pictures::pixmaps;
+use crate::replays::make;
+use crate::sums::Compared;
 use std::alloc::Global;
-use std::io;
 use std::process::Abort;
 use std::sync::Wait;
 use std::thread::Threads;
-use tas_desk::{CloseOnDrop, Desk, ExportError, Exported, Gate, Name, Seat};
-use tas_movie::{Movie, apply, check};
-use vcs_cpu::Halt;
+use tas_desk::{Desk, ExportError, Exported, MAX_WORKERS, Name, Seat};
+use tas_movie::Movie;
 
-/// What an export tells, and what it has written: how many bytes, and the sum over them.
-type Told = (Result<(u64, u64), Refused>, usize, u64);
+/// The edits that make a movie of a program and some inputs.
+static FOLDED: [Change; 3] = [
+    Change::Load(FOLDING),
+    Change::Insert(0, 20),
+    Change::ReplaceRight(1),
+];
 
-/// Why frames weren't written, or not all.
-#[derive(Clone, Copy, Debug, PartialEq, Eq)]
-enum Refused {
-    Range { at: u64, len: usize },
-    Memory,
-    Halted { at: u64, frame: usize, halt: Halt },
-    Write { written: usize, is_full: bool },
+static LIT: [Change; 3] = [
+    Change::Load(PLAYFIELD),
+    Change::Insert(0, 2),
+    Change::ReplaceRight(1),
+];
+
+static LONG: [Change; 3] = [
+    Change::Load(PLAYFIELD),
+    Change::Insert(0, 1030),
+    Change::ReplaceRight(1),
+];
+
+static LONGEST: [Change; 3] = [
+    Change::Load(WAITING),
+    Change::Insert(0, 1024),
+    Change::ReplaceRight(1),
+];
+
+static HALTED: [Change; 3] = [
+    Change::Load(HALTING),
+    Change::Insert(0, 8),
+    Change::ReplaceRight(1),
+];
+
+/// The first five of such a movie's eight frames are left, of which the fourth halts.
+static HALTED_FIVE: [Change; 4] = [
+    Change::Load(HALTING),
+    Change::Insert(0, 8),
+    Change::ReplaceRight(1),
+    Change::Delete(5, 3),
+];
+
+/// The movie that these edits make, each of which is allowed.
+fn movie_of<R: Abort>(rt: &R, alloc: Global, changes: &[Change]) -> Movie {
+    let mut movie = expect_ok(rt, Movie::blank(alloc));
+    for change in changes {
+        make(rt, *change, &mut movie, &edit_of(rt, alloc, *change));
+    }
+    movie
 }
 
-/// Exports frames into a writer with so much room.
-fn export<N: Name, W: CloseOnDrop, G: Gate + Sync, R: Threads + Wait + Sync>(
-    rt: &R,
-    alloc: Global,
-    desk: &Desk<N, W>,
-    seat: &mut Seat<N>,
-    range: (usize, usize),
-    workers: usize,
-    gate: &G,
-    room: usize,
-) -> Told
-    requires { (1 ≤ workers) × (workers ≤ most_workers) }
-{
-    let (from, to) = range;
-    let mut out = Sum::new(room);
-    let told = match desk.export(rt, alloc, seat, from, to, workers, gate, &mut out) {
-        Ok(exported) => Ok((exported.at, exported.played)),
-        Err(ExportError::Range { at, len }) => Err(Refused::Range { at, len }),
-        Err(ExportError::Memory) => Err(Refused::Memory),
-        Err(ExportError::Halted { at, frame, halt }) => Err(Refused::Halted { at, frame, halt }),
-        Err(ExportError::Write { written, error }) => Err(Refused::Write {
-            written,
-            is_full: error.kind() == io::ErrorKind::WriteZero,
-        }),
-    };
-    let (bytes, sum) = out.told();
-    (told, bytes, sum)
-}
-
-/// The edits that make a movie of a program and so many inputs.
-fn making(program: &'static [u8], count: usize) -> [Change; 3] {
-    [
-        Change::Load(program),
-        Change::Insert(0, count),
-        Change::ReplaceRight(1),
-    ]
-}
-
-/// What an export of frames of such a movie writes: how many bytes, and the sum over them. No frame of them is halted.
+/// What an export of frames of the movie that these edits make writes: how many bytes, and the sum over them. None of them is halted.
 fn wanted_pixmaps<R: Abort>(
     rt: &R,
     alloc: Global,
-    program: &'static [u8],
-    count: usize,
+    changes: &[Change],
     range: (usize, usize),
 ) -> (usize, u64) {
-    let mut movie = expect_ok(rt, Movie::blank(alloc));
-    for change in making(program, count) {
-        let edit = expect_ok(rt, edit_of(alloc, change));
-        if check(&movie, &edit).is_ok() {
-            apply(&mut movie, &edit);
-        }
-    }
-    expect_ok(rt, expect_ok(rt, pixmaps(alloc, &movie, range.0, range.1)))
+    let movie = movie_of(rt, alloc, changes);
+    let drawn = pixmaps(rt, alloc, movie.cart(), movie.inputs(), range);
+    expect_ok(rt, drawn)
 }
 
 /// So many frames, from frame 2 on, by each number of workers.
@@ -95,35 +87,62 @@ pub fn export_by_each<N: Name + Send + Sync, R: Threads + Wait + Abort + Sync>(
     frames: usize,
 ) {
     let seat = expect_some(rt, seats.first_mut());
-    make_edits(rt, alloc, desk, seat, &making(FOLDING, 20));
+    make_edits(rt, alloc, desk, seat, &FOLDED);
     let range = (2, frames.saturating_add(2));
-    let (bytes, sum) = wanted_pixmaps(rt, alloc, FOLDING, 20, range);
+    let (bytes, sum) = wanted_pixmaps(rt, alloc, &FOLDED, range);
     check_same(rt, "bytes", bytes, frames.saturating_mul(100_815));
     for workers in 1..17usize {
-        let (told, written, found) = export(
-            rt,
-            alloc,
-            desk,
-            seat,
-            range,
-            workers,
-            &Open,
-            usize::MAX,
-        );
+        let told = export(rt, alloc, desk, seat, range, workers, &Open, usize::MAX);
         let name = ("frames by workers", frames, workers);
-        check_same(rt, name, (told.is_ok(), written, found), (true, bytes, sum));
+        check_same(
+            rt,
+            name,
+            (told.0.is_ok(), told.1, told.2),
+            (true, bytes, sum),
+        );
     }
 }
 
 #[test]
 fn every_number_of_workers_writes_the_same(rt: HostRuntime) {
     for frames in [0, 1, 15, 16, 17] {
-        let closed = lend(&rt, rt.alloc(), 1, Lending::ExportByEach(frames));
+        let closed = lend(&rt, rt.alloc(), 1, Task::ExportByEach(frames));
         check_same(&rt, "closed.journal", closed.journal.len(), 3);
     }
 }
 
-/// Two workers of whom the first waits until the second has come, and gates that are passed by workers without frames too.
+/// Two workers of whom the first waits until the second has come write these bytes.
+fn export_in_order<N: Name, R: Threads + Wait + Abort + Sync>(
+    rt: &R,
+    alloc: Global,
+    desk: &Desk<N, &R>,
+    seat: &mut Seat<N>,
+    bytes: usize,
+    sum: u64,
+) {
+    let gate = Ordered::new();
+    let both = export(rt, alloc, desk, seat, (0, 2), 2, &gate, usize::MAX);
+    check_that(rt, "one thread plays both runs", gate.entered.was_seen());
+    check_same(rt, "by two workers", both, (Ok((3, 3)), bytes, sum));
+}
+
+/// Sixteen workers write these bytes, and each passes its gate, those without frames too.
+fn export_counted<N: Name, R: Threads + Wait + Abort + Sync>(
+    rt: &R,
+    alloc: Global,
+    desk: &Desk<N, &R>,
+    seat: &mut Seat<N>,
+    bytes: usize,
+    sum: u64,
+) {
+    let gate = Counting::new();
+    let many = export(rt, alloc, desk, seat, (0, 2), 16, &gate, usize::MAX);
+    check_same(rt, "by 16 workers", (many.1, many.2), (bytes, sum));
+    // The numbers 0 to 15, each once.
+    check_same(rt, "gates passed", gate.passed(), (16, 1240));
+}
+
+/// One worker, two in their order, and more than there are frames.
 pub fn export_through_gates<N: Name + Send + Sync, R: Threads + Wait + Abort + Sync>(
     rt: &R,
     alloc: Global,
@@ -131,158 +150,135 @@ pub fn export_through_gates<N: Name + Send + Sync, R: Threads + Wait + Abort + S
     seats: &mut [Seat<N>],
 ) {
     let seat = expect_some(rt, seats.first_mut());
-    make_edits(rt, alloc, desk, seat, &making(PLAYFIELD, 2));
-    let alone = export(rt, alloc, desk, seat, (0, 2), 1, &Open, usize::MAX);
-    check_same(
-        rt,
-        "by one worker",
-        (alone.0, alone.1),
-        (Ok((3, 2)), 201_630),
-    );
-    let ordered = Ordered::new();
-    let both = export(rt, alloc, desk, seat, (0, 2), 2, &ordered, usize::MAX);
-    check_that(rt, "one thread plays both runs", ordered.entered.was_seen());
-    check_same(rt, "by two workers", both, (Ok((3, 3)), alone.1, alone.2));
-    let counting = Counting::new();
-    let many = export(rt, alloc, desk, seat, (0, 2), 16, &counting, usize::MAX);
-    check_same(rt, "by 16 workers", (many.1, many.2), (alone.1, alone.2));
-    // The numbers 0 to 15, each once.
-    check_same(rt, "gates passed", counting.passed(), (16, 1240));
+    make_edits(rt, alloc, desk, seat, &LIT);
+    let (told, bytes, sum) = export(rt, alloc, desk, seat, (0, 2), 1, &Open, usize::MAX);
+    check_same(rt, "by one worker", (told, bytes), (Ok((3, 2)), 201_630));
+    export_in_order(rt, alloc, desk, seat, bytes, sum);
+    export_counted(rt, alloc, desk, seat, bytes, sum);
 }
 
 #[test]
 fn workers_run_at_once(rt: HostRuntime) {
-    lend(&rt, rt.alloc(), 1, Lending::ExportThroughGates);
+    lend(&rt, rt.alloc(), 1, Task::ExportThroughGates);
 }
 
-/// Frames, workers, and the frame that is told as halted: in the last run; in two runs; in each of five.
-static HALTS: [((usize, usize), usize, usize); 6] = [
-    ((1, 5), 2, 3),
-    ((1, 5), 1, 3),
-    ((3, 5), 2, 3),
-    ((0, 8), 8, 3),
-    ((5, 8), 3, 5),
-    ((4, 5), 16, 4),
-];
+/// An export with its answer, into a writer with room for all where it doesn't say otherwise.
+#[derive(Clone, Copy, Debug)]
+pub enum Case {
+    /// Of frames by workers, behind so many edits: this frame is told as halted.
+    Halted(u64, (usize, usize), usize, usize),
+    /// Of the three frames before the halt.
+    BeforeTheHalt,
+    /// Of the first two frames, into a writer that fails after so many bytes.
+    Full(usize),
+    /// Of frames that a movie of 1,030 frames hasn't, or that are too many.
+    OutOfRange(usize, usize),
+    /// Of no frames, at this place of the movie.
+    Nothing(usize),
+}
 
-/// Exports with a halt in their frames, and of the frames before it.
-pub fn export_until_halted<N: Name + Send + Sync, R: Threads + Wait + Abort + Sync>(
+/// A case's frames, workers and room, what is told, and how many bytes are written.
+fn wanted(
+    case: Case,
+) -> (
+    (usize, usize),
+    usize,
+    usize,
+    Result<(u64, u64), Refused>,
+    usize,
+) {
+    let room = usize::MAX;
+    match case {
+        Case::Halted(at, range, workers, frame) => {
+            let halt = HALT;
+            (
+                range,
+                workers,
+                room,
+                Err(Refused::Halted { at, frame, halt }),
+                0,
+            )
+        }
+        Case::BeforeTheHalt => ((0, 3), 2, room, Ok((3, 4)), 302_445),
+        Case::Full(written) => {
+            let is_full = true;
+            (
+                (0, 2),
+                2,
+                written,
+                Err(Refused::Write { written, is_full }),
+                written,
+            )
+        }
+        Case::OutOfRange(from, to) => {
+            let (at, len) = (3, 1030);
+            ((from, to), 2, room, Err(Refused::Range { at, len }), 0)
+        }
+        Case::Nothing(end) => ((end, end), 3, room, Ok((3, 0)), 0),
+    }
+}
+
+/// Exports of a movie that these edits make.
+pub fn export_cases<N: Name + Send + Sync, R: Threads + Wait + Abort + Sync>(
     rt: &R,
     alloc: Global,
     desk: &Desk<N, &R>,
     seats: &mut [Seat<N>],
+    changes: &[Change],
+    cases: &[Case],
 ) {
     let seat = expect_some(rt, seats.first_mut());
-    make_edits(rt, alloc, desk, seat, &making(HALTING, 8));
-    let (_, nothing) = Sum::new(0).told();
-    for (range, workers, frame) in HALTS {
-        let told = export(rt, alloc, desk, seat, range, workers, &Open, usize::MAX);
-        let halted = Refused::Halted {
-            at: 3,
-            frame,
-            halt: HALT,
-        };
-        check_same(
-            rt,
-            ("frames by workers", range, workers),
-            told,
-            (Err(halted), 0, nothing),
-        );
+    make_edits(rt, alloc, desk, seat, changes);
+    for case in cases {
+        let (range, workers, room, told, bytes) = wanted(*case);
+        check_that(rt, *case, 1 <= workers && workers <= MAX_WORKERS);
+        let (found, written, _) = export(rt, alloc, desk, seat, range, workers, &Open, room);
+        check_same(rt, *case, (found, written), (told, bytes));
     }
-    let told = export(rt, alloc, desk, seat, (0, 3), 2, &Open, usize::MAX);
-    check_same(
-        rt,
-        "frames before the halt",
-        (told.0, told.1),
-        (Ok((3, 4)), 302_445),
-    );
-    export_of_five(rt, alloc, desk, seat);
 }
 
-/// The first five of such a movie's eight frames are left, of which the fourth halts: the last four by two workers.
-fn export_of_five<N: Name, R: Threads + Wait + Abort + Sync>(
-    rt: &R,
-    alloc: Global,
-    desk: &Desk<N, &R>,
-    seat: &mut Seat<N>,
-) {
-    make_edits(rt, alloc, desk, seat, &[Change::Delete(5, 3)]);
-    let told = export(rt, alloc, desk, seat, (1, 5), 2, &Open, usize::MAX);
-    let halted = Refused::Halted {
-        at: 4,
-        frame: 3,
-        halt: HALT,
-    };
-    check_same(rt, "four of five", (told.0, told.1), (Err(halted), 0));
-}
+/// A halt in the last run; in two runs; in each of five; and the frames before it.
+static HALTS: [Case; 7] = [
+    Case::Halted(3, (1, 5), 2, 3),
+    Case::Halted(3, (1, 5), 1, 3),
+    Case::Halted(3, (3, 5), 2, 3),
+    Case::Halted(3, (0, 8), 8, 3),
+    Case::Halted(3, (5, 8), 3, 5),
+    Case::Halted(3, (4, 5), 16, 4),
+    Case::BeforeTheHalt,
+];
+
+/// The last four of five frames by two workers.
+static FOUR_OF_FIVE: [Case; 1] = [Case::Halted(4, (1, 5), 2, 3)];
 
 #[test]
 fn the_least_halted_frame_is_told(rt: HostRuntime) {
-    lend(&rt, rt.alloc(), 1, Lending::ExportUntilHalted);
+    lend(&rt, rt.alloc(), 1, Task::Exports(&HALTED, &HALTS));
+    let of_five = Task::Exports(&HALTED_FIVE, &FOUR_OF_FIVE);
+    lend(&rt, rt.alloc(), 1, of_five);
 }
 
-/// The first two frames into writers that fail at some byte.
-fn export_to_full_writers<N: Name, R: Threads + Wait + Sync + Abort>(
-    rt: &R,
-    alloc: Global,
-    desk: &Desk<N, &R>,
-    seat: &mut Seat<N>,
-) {
-    for room in [0, 1, 15, 150_000, 201_629] {
-        let told = export(rt, alloc, desk, seat, (0, 2), 2, &Open, room);
-        let broken = Refused::Write {
-            written: room,
-            is_full: true,
-        };
-        check_same(rt, ("after", room), (told.0, told.1), (Err(broken), room));
-    }
-}
-
-/// Ranges that a movie of 1,030 frames hasn't, or that are too long.
-static OTHER_RANGES: [(usize, usize); 7] = [
-    (1, 0),
-    (0, 1025),
-    (6, 1031),
-    (1031, 1031),
-    (0, usize::MAX),
-    (usize::MAX, usize::MAX),
-    (usize::MAX, 0),
+/// Writers that fail at some byte, ranges that a movie of 1,030 frames hasn't or that are too long, and no frames at both ends.
+static ENDS: [Case; 14] = [
+    Case::Full(0),
+    Case::Full(1),
+    Case::Full(15),
+    Case::Full(150_000),
+    Case::Full(201_629),
+    Case::OutOfRange(1, 0),
+    Case::OutOfRange(0, 1025),
+    Case::OutOfRange(6, 1031),
+    Case::OutOfRange(1031, 1031),
+    Case::OutOfRange(0, usize::MAX),
+    Case::OutOfRange(usize::MAX, usize::MAX),
+    Case::OutOfRange(usize::MAX, 0),
+    Case::Nothing(0),
+    Case::Nothing(1030),
 ];
-
-/// These ranges, and those of no frames at both ends of the movie.
-fn export_at_the_ends<N: Name, R: Threads + Wait + Sync + Abort>(
-    rt: &R,
-    alloc: Global,
-    desk: &Desk<N, &R>,
-    seat: &mut Seat<N>,
-) {
-    for range in OTHER_RANGES {
-        let told = export(rt, alloc, desk, seat, range, 2, &Open, usize::MAX);
-        let out = Refused::Range { at: 3, len: 1030 };
-        check_same(rt, range, (told.0, told.1), (Err(out), 0));
-    }
-    for end in [0, 1030] {
-        let told = export(rt, alloc, desk, seat, (end, end), 3, &Open, usize::MAX);
-        check_same(rt, ("from", end), (told.0, told.1), (Ok((3, 0)), 0));
-    }
-}
-
-/// Writers that fail at some byte, and ranges at their ends.
-pub fn export_to_the_ends<N: Name + Send + Sync, R: Threads + Wait + Abort + Sync>(
-    rt: &R,
-    alloc: Global,
-    desk: &Desk<N, &R>,
-    seats: &mut [Seat<N>],
-) {
-    let seat = expect_some(rt, seats.first_mut());
-    make_edits(rt, alloc, desk, seat, &making(PLAYFIELD, 1030));
-    export_to_full_writers(rt, alloc, desk, seat);
-    export_at_the_ends(rt, alloc, desk, seat);
-}
 
 #[test]
 fn writers_fail_and_ranges_end(rt: HostRuntime) {
-    lend(&rt, rt.alloc(), 1, Lending::ExportToTheEnds);
+    lend(&rt, rt.alloc(), 1, Task::Exports(&LONG, &ENDS));
 }
 
 /// How many of 1,024 frames so many runs play that start from the kept states of every 64th frame.
@@ -299,8 +295,7 @@ fn played_from_the_grid(workers: usize) -> u64
     played
 }
 
-/// As many frames as one export may have: from no kept states by one worker, and then by every fourth number of workers
-/// from a full zone, where each run starts at a kept state.
+/// As many frames as one export may have: from no kept states by one worker, and then by every fourth number of workers.
 pub fn export_longest<N: Name + Send + Sync, R: Threads + Wait + Abort + Sync>(
     rt: &R,
     alloc: Global,
@@ -309,15 +304,27 @@ pub fn export_longest<N: Name + Send + Sync, R: Threads + Wait + Abort + Sync>(
     first: usize,
 ) {
     let seat = expect_some(rt, seats.first_mut());
-    make_edits(rt, alloc, desk, seat, &making(WAITING, 1024));
+    make_edits(rt, alloc, desk, seat, &LONGEST);
     let mut bytes = expect_ok(rt, Vec::with_capacity(alloc, 103_234_560));
     let alone = told(desk.export(rt, alloc, seat, 0, 1024, 1, &Open, &mut bytes));
     check_same(rt, "alone", alone, Some((3, 1024)));
     check_same(rt, "bytes", bytes.len(), 103_234_560);
+    export_groups(rt, alloc, desk, seat, first, bytes.as_slice());
+}
+
+/// The same by every fourth number of workers from a full zone, where each run starts at a kept state.
+fn export_groups<N: Name, R: Threads + Wait + Abort + Sync>(
+    rt: &R,
+    alloc: Global,
+    desk: &Desk<N, &R>,
+    seat: &mut Seat<N>,
+    first: usize,
+    bytes: &[u8],
+) {
     keep_all(rt, alloc, desk, seat);
     for group in 0..4usize {
         let workers = 4 * group + first % 4 + 1;
-        export_from_the_grid(rt, alloc, desk, seat, workers, bytes.as_slice());
+        export_from_the_grid(rt, alloc, desk, seat, workers, bytes);
     }
 }
 
@@ -361,20 +368,20 @@ fn export_from_the_grid<N: Name, R: Threads + Wait + Abort + Sync>(
 
 #[test]
 fn the_longest_export_by_1_5_9_and_13_workers(rt: HostRuntime) {
-    lend(&rt, rt.alloc(), 1, Lending::ExportLongest(0));
+    lend(&rt, rt.alloc(), 1, Task::ExportLongest(0));
 }
 
 #[test]
 fn the_longest_export_by_2_6_10_and_14_workers(rt: HostRuntime) {
-    lend(&rt, rt.alloc(), 1, Lending::ExportLongest(1));
+    lend(&rt, rt.alloc(), 1, Task::ExportLongest(1));
 }
 
 #[test]
 fn the_longest_export_by_3_7_11_and_15_workers(rt: HostRuntime) {
-    lend(&rt, rt.alloc(), 1, Lending::ExportLongest(2));
+    lend(&rt, rt.alloc(), 1, Task::ExportLongest(2));
 }
 
 #[test]
 fn the_longest_export_by_4_8_12_and_16_workers(rt: HostRuntime) {
-    lend(&rt, rt.alloc(), 1, Lending::ExportLongest(3));
+    lend(&rt, rt.alloc(), 1, Task::ExportLongest(3));
 }

@@ -51,29 +51,6 @@ impl Flag {
     }
 }
 
-/// A gate that tells that it was entered, and then waits until it is opened.
-#[derive(Drop)]
-pub struct Door {
-    pub entered: Flag,
-    pub opened: Flag,
-}
-
-impl Door {
-    pub fn new() -> Door {
-        Door {
-            entered: Flag::new(),
-            opened: Flag::new(),
-        }
-    }
-}
-
-impl Gate for Door {
-    fn pass(&self, _piece: usize) {
-        self.entered.set();
-        self.opened.wait();
-    }
-}
-
 /// Piece 0 waits until piece 1 has entered.
 #[derive(Drop)]
 pub struct Ordered {

@@ -1,12 +1,13 @@
 //! Jobs of a session, and the batches that are offered to it.
 
+use crate::answers::{Answered, answer_of};
 use crate::changes::{Change, HALTING, PLAYFIELD, cart, edit_of};
 use crate::checks::{check_same, check_that, expect_ok};
 use crate::sessions::{Lent, Turn, lend, open_movie, take_turns};
 use std::alloc::Global;
 use std::process::Abort;
 use std::sync::Wait;
-use tas_desk::{OfferError, Offered, Session};
+use tas_desk::{Offered, Session};
 use tas_green::Batch;
 
 /// A job's batch.
@@ -14,20 +15,8 @@ fn run<R: Abort>(rt: &R, alloc: Global, session: &Session, near: usize) -> Batch
     expect_ok(rt, session.job(alloc, near)).run()
 }
 
-/// An offer's answer, without the batch that it may hand back.
-#[derive(Clone, Copy, Debug, PartialEq, Eq)]
-enum Answered {
-    Taken(Offered),
-    OtherCartridge { at: u64 },
-    OutOfMemory,
-}
-
 fn offer(session: &mut Session, batch: Batch) -> Answered {
-    match session.offer(batch) {
-        Ok(offered) => Answered::Taken(offered),
-        Err(OfferError::Cartridge { at }) => Answered::OtherCartridge { at },
-        Err(OfferError::Memory(_)) => Answered::OutOfMemory,
-    }
+    answer_of(session.offer(batch))
 }
 
 fn taken(at: u64, front: usize, kept: usize) -> Answered {
@@ -110,7 +99,7 @@ impl Lent for ThreeBatches {
         check_same(rt, "offer, 2", offer(session, second), taken(3, 100, 0));
         let loaded = Turn::Made(Change::Load(HALTING), 4, 200);
         take_turns(rt, alloc, session, &[loaded]);
-        let other = Answered::OtherCartridge { at: 4 };
+        let other = Answered::OtherCartridge(4);
         check_same(rt, "offer, 3", offer(session, third), other);
     }
 }
@@ -131,7 +120,7 @@ struct OfferedAfter {
 impl Lent for OfferedAfter {
     fn run<R: Wait + Abort>(&self, rt: &R, alloc: Global, session: &mut Session) {
         open_movie(rt, alloc, session, PLAYFIELD, 200);
-        let edit = expect_ok(rt, edit_of(alloc, self.change));
+        let edit = edit_of(rt, alloc, self.change);
         let first = run(rt, alloc, session, 200);
         let second = run(rt, alloc, session, 200);
         expect_ok(rt, session.edit(rt, 0, 2, edit));
@@ -142,7 +131,7 @@ impl Lent for OfferedAfter {
 
 #[test]
 fn batches_count_as_far_as_the_inputs_agree(rt: HostRuntime) {
-    let other = Answered::OtherCartridge { at: 3 };
+    let other = Answered::OtherCartridge(3);
     let cases = [
         (Change::InsertRight(64, 1), taken(3, 64, 1), taken(3, 64, 0)),
         (Change::InsertRight(63, 1), taken(3, 63, 0), taken(3, 63, 0)),
@@ -196,7 +185,7 @@ fn batches_go_from_one_session_to_another(rt: HostRuntime) {
     };
     let other = FromAnother {
         program: HALTING,
-        answer: Answered::OtherCartridge { at: 2 },
+        answer: Answered::OtherCartridge(2),
         kept: "0:",
     };
     lend(&rt, rt.alloc(), &same);

@@ -1,13 +1,16 @@
 //! What a schedule's replies should be: a desk as lists and places, whose frames are all played from power-on.
 
-use crate::changes::{Change, fire, right};
+use crate::answers::{Answered, Refused};
+use crate::changes::{Change, cart, fire, right};
 use crate::checks::expect_ok;
-use crate::pictures::pixmaps;
+use crate::pictures::{Pixmaps, pixmaps};
+use crate::replays::equal_inputs;
 use crate::schedule_callers::RANGE;
-use crate::steps::{Action, Step};
+use crate::steps::{Action, Answer, Step};
+use crate::sums::Sum;
 use std::alloc::Global;
 use std::process::Abort;
-use vcs_cpu::Halt;
+use tas_desk::{Offered, Receipt, ShotError, Worked};
 use vcs_machine::Input;
 
 /// A program and inputs.
@@ -17,62 +20,57 @@ pub struct PlainMovie {
     pub inputs: Vec<Input>,
 }
 
+/// No program and no inputs.
+fn blank(alloc: Global) -> PlainMovie {
+    PlainMovie {
+        program: b"",
+        inputs: Vec::new(alloc),
+    }
+}
+
 /// Whether the states after frames 64, 128 and 192 are kept.
 type Kept = [bool; 3];
 
+/// No state.
+const NONE: Kept = [false; 3];
+
 /// The kept states up to a frame.
 fn up_to(kept: Kept, frame: usize) -> Kept {
-    let mut left = kept;
-    for (state, place) in left.iter_mut().zip([64, 128, 192]) {
-        *state = *state && place <= frame;
-    }
-    left
+    [
+        kept[0] && 64 <= frame,
+        kept[1] && 128 <= frame,
+        kept[2] && 192 <= frame,
+    ]
 }
 
 /// The last kept state up to a frame; 0 where there is none.
 fn nearest(kept: Kept, frame: usize) -> usize {
-    let mut found = 0;
-    for (state, place) in up_to(kept, frame).iter().zip([64, 128, 192]) {
-        if *state {
-            found = place;
-        }
+    match up_to(kept, frame) {
+        [_, _, true] => 192,
+        [_, true, _] => 128,
+        [true, _, _] => 64,
+        _ => 0,
     }
-    found
 }
 
-/// The kept states with those of a run from one frame to another, and how many they gain.
-fn with_run(kept: Kept, from: usize, to: usize) -> (Kept, usize) {
-    let mut all = kept;
-    let mut gained = 0usize;
-    for (state, place) in all.iter_mut().zip([64, 128, 192]) {
-        if !*state && from < place && place <= to {
-            *state = true;
-            gained = gained.saturating_add(1);
-        }
-    }
-    (all, gained)
+/// How many states are kept.
+fn count(kept: Kept) -> usize {
+    usize::from(kept[0]) + usize::from(kept[1]) + usize::from(kept[2])
 }
 
 /// The kept states with others, and how many they gain.
 fn with_all(kept: Kept, others: Kept) -> (Kept, usize) {
-    let mut all = kept;
-    let mut gained = 0usize;
-    for (state, other) in all.iter_mut().zip(others) {
-        if !*state && other {
-            *state = true;
-            gained = gained.saturating_add(1);
-        }
-    }
-    (all, gained)
+    let all = [
+        kept[0] || others[0],
+        kept[1] || others[1],
+        kept[2] || others[2],
+    ];
+    (all, count(all).saturating_sub(count(kept)))
 }
 
-/// With how many equal inputs two lists begin.
-fn common(some: &[Input], others: &[Input]) -> usize {
-    let differing = some
-        .iter()
-        .zip(others)
-        .position(|(one, other)| one != other);
-    differing.unwrap_or(some.len().min(others.len()))
+/// The kept states with those of a run from one frame to another, and how many they gain.
+fn with_run(kept: Kept, from: usize, to: usize) -> (Kept, usize) {
+    with_all(kept, up_to([from < 64, from < 128, from < 192], to))
 }
 
 /// A movie with the states of it that are kept: a seat's zone, or a job with the state that it starts from.
@@ -95,27 +93,19 @@ pub struct Model {
 impl Model {
     /// A desk of eight seats with the blank cartridge and no inputs.
     pub fn new<R: Abort>(rt: &R, alloc: Global) -> Model {
-        let blank: &'static [u8] = b"";
         let mut zones = Vec::new(alloc);
         for _ in 0..8u32 {
-            let movie = PlainMovie {
-                program: blank,
-                inputs: Vec::new(alloc),
-            };
             let zone = Zone {
-                movie,
-                kept: [false; 3],
+                movie: blank(alloc),
+                kept: NONE,
                 start: 0,
             };
             expect_ok(rt, zones.push(zone));
         }
         Model {
-            movie: PlainMovie {
-                program: blank,
-                inputs: Vec::new(alloc),
-            },
+            movie: blank(alloc),
             edits: 0,
-            kept: [false; 3],
+            kept: NONE,
             zones,
         }
     }
@@ -129,27 +119,23 @@ impl Model {
         taken: usize,
         copies: (Input, usize),
     ) {
-        let mut inputs = Vec::new(alloc);
+        let old = self.movie.inputs.as_slice();
+        let (front, behind) = old.split_at(at.min(old.len()));
+        let (_, rest) = behind.split_at(taken.min(behind.len()));
         let (input, count) = copies;
-        for (_, before) in (0..at).zip(self.movie.inputs.iter()) {
-            expect_ok(rt, inputs.push(*before));
-        }
-        for _ in 0..count {
-            expect_ok(rt, inputs.push(input));
-        }
-        for behind in self.movie.inputs.iter().skip(at.saturating_add(taken)) {
-            expect_ok(rt, inputs.push(*behind));
-        }
+        let mut inputs = expect_ok(rt, front.to_vec(alloc));
+        expect_ok(rt, inputs.resize(front.len().saturating_add(count), input));
+        expect_ok(rt, inputs.extend_from_slice(rest));
         self.kept = up_to(up_to(self.kept, at), inputs.len());
         self.movie.inputs = inputs;
     }
 
     /// The reply to an edit.
-    pub fn edit<R: Abort>(&mut self, rt: &R, alloc: Global, change: Change) -> String {
+    pub fn edit<R: Abort>(&mut self, rt: &R, alloc: Global, change: Change) -> Answer {
         match change {
             Change::Load(program) => {
                 self.movie.program = program;
-                self.kept = [false; 3];
+                self.kept = NONE;
             }
             Change::Insert(at, count) => self.change(rt, alloc, at, 0, (Input::none(), count)),
             Change::InsertRight(at, count) => self.change(rt, alloc, at, 0, (right(), count)),
@@ -161,40 +147,44 @@ impl Model {
             Change::Delete(at, count) => self.change(rt, alloc, at, count, (right(), 0)),
         }
         self.edits = self.edits.saturating_add(1);
-        let (at, len) = (self.edits, self.movie.inputs.len());
-        expect_ok(rt, format!(in alloc; "edit {at} len {len}"))
+        Answer::Edit(Ok(Receipt {
+            at: self.edits,
+            len: self.movie.inputs.len(),
+        }))
     }
 
-    /// The movie's first inputs, up to so many.
-    fn front<R: Abort>(&self, rt: &R, alloc: Global, most: usize) -> PlainMovie {
-        let mut inputs = Vec::new(alloc);
-        for (_, input) in (0..most).zip(self.movie.inputs.iter()) {
-            expect_ok(rt, inputs.push(*input));
-        }
-        PlainMovie {
+    /// The seat's zone is of the movie's first inputs now, up to so many, and keeps these states; a job starts from this frame.
+    fn put<R: Abort>(
+        &mut self,
+        rt: &R,
+        alloc: Global,
+        seat: usize,
+        most: usize,
+        kept: Kept,
+        start: usize,
+    ) {
+        let inputs = self.movie.inputs.as_slice();
+        let (front, _) = inputs.split_at(most.min(inputs.len()));
+        let movie = PlainMovie {
             program: self.movie.program,
-            inputs,
+            inputs: expect_ok(rt, front.to_vec(alloc)),
+        };
+        if let Some(zone) = self.zones.get_mut(seat) {
+            *zone = Zone { movie, kept, start };
         }
     }
 
     /// The seat takes a job.
     fn start<R: Abort>(&mut self, rt: &R, alloc: Global, seat: usize, near: usize) {
-        let movie = self.front(rt, alloc, near);
-        let start = nearest(self.kept, movie.inputs.len());
-        if let Some(zone) = self.zones.get_mut(seat) {
-            *zone = Zone {
-                movie,
-                kept: [false; 3],
-                start,
-            };
-        }
+        let start = nearest(self.kept, near.min(self.movie.inputs.len()));
+        self.put(rt, alloc, seat, near, NONE, start);
     }
 
     /// The common beginning of a seat's movie and the desk's, its last state, and whether the cartridges differ.
     fn met(&self, seat: usize) -> (usize, usize, bool) {
         match self.zones.get(seat) {
             Some(zone) => {
-                let front = common(&zone.movie.inputs, &self.movie.inputs);
+                let front = equal_inputs(&zone.movie.inputs, &self.movie.inputs);
                 (front, zone.start, zone.movie.program != self.movie.program)
             }
             None => (0, 0, false),
@@ -202,25 +192,28 @@ impl Model {
     }
 
     /// The reply to the offer of the seat's job. Seat 1 offers, the others work.
-    fn offer<R: Abort>(&mut self, rt: &R, alloc: Global, seat: usize) -> String {
+    fn offer(&mut self, seat: usize) -> Answer {
         let at = self.edits;
         let (front, start, is_stale) = self.met(seat);
-        if is_stale {
-            let text = if seat == 1 {
-                format!(in alloc; "other cartridge {at}")
-            } else {
-                String::from_str(alloc, "work jobs 1 kept 0 stale 1")
-            };
-            return expect_ok(rt, text);
+        if is_stale && seat == 1 {
+            return Answer::Offer(Answered::OtherCartridge(at));
         }
-        let (kept, gained) = with_run(self.kept, start, front);
-        self.kept = kept;
-        let text = if seat == 1 {
-            format!(in alloc; "offer {at} front {front} kept {gained}")
+        let (kept, gained) = if is_stale {
+            (self.kept, 0)
         } else {
-            format!(in alloc; "work jobs 1 kept {gained} stale 0")
+            with_run(self.kept, start, front)
         };
-        expect_ok(rt, text)
+        self.kept = kept;
+        if seat == 1 {
+            let kept = gained;
+            Answer::Offer(Answered::Taken(Offered { at, front, kept }))
+        } else {
+            Answer::Work(Ok(Worked {
+                jobs: 1,
+                kept: gained,
+                stale: usize::from(is_stale),
+            }))
+        }
     }
 
     /// What a seat's zone keeps of the present movie.
@@ -228,83 +221,81 @@ impl Model {
         let (front, _, is_stale) = self.met(seat);
         match self.zones.get(seat) {
             Some(zone) if !is_stale => up_to(zone.kept, front),
-            _ => [false; 3],
+            _ => NONE,
         }
     }
 
-    /// The seat's zone is of the present movie now, and keeps these states.
-    fn keep<R: Abort>(&mut self, rt: &R, alloc: Global, seat: usize, kept: Kept) {
-        let movie = self.front(rt, alloc, self.movie.inputs.len());
-        if let Some(zone) = self.zones.get_mut(seat) {
-            *zone = Zone {
-                movie,
-                kept,
-                start: 0,
-            };
-        }
+    /// The pixmaps of some frames.
+    fn pixmaps<R: Abort>(&self, rt: &R, alloc: Global, range: (usize, usize)) -> Pixmaps {
+        let cart = cart(rt, alloc, self.movie.program);
+        pixmaps(rt, alloc, &cart, &self.movie.inputs, range)
     }
 
     /// The reply to a shot, which plays from the seat's last state.
-    fn shot<R: Abort>(&mut self, rt: &R, alloc: Global, seat: usize, k: usize) -> String {
+    fn shot<R: Abort>(&mut self, rt: &R, alloc: Global, seat: usize, k: usize) -> Answer {
         let kept = self.cut(seat);
         let next = k.saturating_add(1);
         let from = nearest(kept, k);
-        self.keep(rt, alloc, seat, with_run(kept, from, next).0);
+        let (kept, _) = with_run(kept, from, next);
+        self.put(rt, alloc, seat, usize::MAX, kept, 0);
         let at = self.edits;
-        let text = match pixmaps(rt, alloc, self.movie.program, &self.movie.inputs, (k, next)) {
-            Ok((_, sum)) => {
-                let ran = next.saturating_sub(from);
-                format!(in alloc; "shot {at} {k} ran {ran} sum {sum}")
-            }
-            Err(Halt::Undocumented { at: address, .. }) => {
-                format!(in alloc; "halted {at} {address:04X}")
-            }
-        };
-        expect_ok(rt, text)
+        match self.pixmaps(rt, alloc, (k, next)) {
+            Ok(sum) => Answer::Shot(at, k, next.saturating_sub(from) as u64, sum),
+            Err((_, halt)) => Answer::NotDrawn(ShotError::Halted { at, halt }),
+        }
     }
 
     /// The reply to a share.
-    fn share<R: Abort>(&mut self, rt: &R, alloc: Global, seat: usize) -> String {
+    fn share<R: Abort>(&mut self, rt: &R, alloc: Global, seat: usize) -> Answer {
         let (kept, gained) = with_all(self.cut(seat), self.kept);
-        self.keep(rt, alloc, seat, kept);
-        expect_ok(rt, format!(in alloc; "share {gained}"))
+        self.put(rt, alloc, seat, usize::MAX, kept, 0);
+        Answer::Share(gained)
     }
 
     /// The reply to an export by a seat whose zone is empty: each of the three runs has two frames and plays all before them.
-    fn export<R: Abort>(&self, rt: &R, alloc: Global) -> String {
-        let (at, played) = (self.edits, 3 * RANGE.0 + 12);
-        let text = match pixmaps(rt, alloc, self.movie.program, &self.movie.inputs, RANGE) {
-            Ok((bytes, sum)) => {
-                format!(in alloc; "export {at} played {played} bytes {bytes} sum {sum}")
+    fn export<R: Abort>(&self, rt: &R, alloc: Global) -> Answer {
+        let at = self.edits;
+        let (told, (bytes, sum)) = match self.pixmaps(rt, alloc, RANGE) {
+            Ok(told) => (Ok((at, 3 * RANGE.0 as u64 + 12)), told),
+            Err((frame, halt)) => {
+                let nothing = Sum::new(0).told();
+                (Err(Refused::Halted { at, frame, halt }), nothing)
             }
-            Err(_) => String::from_str(alloc, "not exported"),
         };
-        expect_ok(rt, text)
+        Answer::Export((told, bytes, sum))
     }
 
     /// The reply in a step; nothing where a job is taken, or where a further run of an export passes its gate.
-    fn reply<R: Abort>(&mut self, rt: &R, alloc: Global, number: usize, step: Step) -> String {
+    fn reply<R: Abort>(
+        &mut self,
+        rt: &R,
+        alloc: Global,
+        number: usize,
+        step: Step,
+    ) -> Option<Answer> {
         let seat = step.seat as usize;
         match step.action {
             Action::Start(near) => {
                 self.start(rt, alloc, seat, near);
-                String::new(alloc)
+                None
             }
-            Action::Offer => self.offer(rt, alloc, seat),
-            Action::Pass(_) if number == 0 => self.export(rt, alloc),
-            Action::Pass(_) => String::new(alloc),
-            Action::Edit(change) => self.edit(rt, alloc, change),
-            Action::Len => {
-                let (at, len) = (self.edits, self.movie.inputs.len());
-                expect_ok(rt, format!(in alloc; "len {at} {len}"))
-            }
-            Action::Shot(k) => self.shot(rt, alloc, seat, k),
-            Action::Share => self.share(rt, alloc, seat),
+            Action::Offer => Some(self.offer(seat)),
+            Action::Pass(_) if number == 0 => Some(self.export(rt, alloc)),
+            Action::Pass(_) => None,
+            Action::Edit(change) => Some(self.edit(rt, alloc, change)),
+            Action::Len => Some(Answer::Len(Ok((self.edits, self.movie.inputs.len())))),
+            Action::Shot(k) => Some(self.shot(rt, alloc, seat, k)),
+            Action::Share => Some(self.share(rt, alloc, seat)),
         }
     }
 
     /// The replies in all steps.
-    pub fn replies<R: Abort>(&mut self, rt: &R, alloc: Global, steps: &[Step]) -> Vec<String> {
+    pub fn replies<R: Abort>(
+        &mut self,
+        rt: &R,
+        alloc: Global,
+        steps: &[Step],
+    ) -> Vec<Option<Answer>> {
         let mut replies = Vec::new(alloc);
         for (number, step) in steps.iter().enumerate() {
             let reply = self.reply(rt, alloc, number, *step);

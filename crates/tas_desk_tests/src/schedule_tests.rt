@@ -3,21 +3,22 @@
 
 use crate::changes::{BRIEF_FOLDING, Change, cart};
 use crate::checks::{check_same, check_that, expect_ok, expect_some};
-use crate::desks::{Task, Told, make_edits, play};
+use crate::desks::{Task, Told, make_edits, nothing, play};
 use crate::model::{Model, PlainMovie};
+use crate::replays::make;
 use crate::schedule_callers::{Caller, Played, Reply};
 use crate::step_order::StepOrder;
-use crate::steps::{Action, EXPORTER, ORDERS, Step, export_steps, job_steps};
+use crate::steps::{Action, Answer, EXPORTER, ORDERS, Step, export_steps, job_steps};
 use std::alloc::Global;
 use std::process::Abort;
 use std::sync::Wait;
-use std::thread;
 use std::thread::Threads;
+use std::{mem, thread};
 use tas_desk::{CloseOnDrop, Closed, Desk, Entry, Name, Seat};
-use tas_movie::{Movie, apply, check};
+use tas_movie::Movie;
 
 /// The edits before a schedule, by seat 0.
-const BEFORE: [Change; 2] = [Change::Load(BRIEF_FOLDING), Change::Insert(0, 200)];
+static BEFORE: [Change; 2] = [Change::Load(BRIEF_FOLDING), Change::Insert(0, 200)];
 
 /// Seats that share a thread.
 #[derive(Drop)]
@@ -26,10 +27,10 @@ struct Group<N: Name> {
 }
 
 /// Each seat that takes jobs or exports is alone, and all others are together.
-fn groups_of<N: Name, R: Abort>(rt: &R, alloc: Global, seats: Vec<Seat<N>>) -> Vec<Group<N>> {
+fn groups_of<N: Name, R: Abort>(rt: &R, alloc: Global, seats: &mut Vec<Seat<N>>) -> Vec<Group<N>> {
     let mut groups = Vec::new(alloc);
     let mut others = Vec::new(alloc);
-    for seat in seats {
+    for seat in mem::replace(seats, Vec::new(alloc)) {
         let number = seat.number();
         let caller = Caller::new(alloc, seat);
         if number <= EXPORTER {
@@ -50,7 +51,7 @@ fn alone<N: Name, R: Abort>(rt: &R, alloc: Global, caller: Caller<N>) -> Group<N
 }
 
 /// The steps of one thread, in order.
-fn play_group<N: Name, W: CloseOnDrop, R: Threads + Wait + Sync>(
+fn play_group<N: Name, W: CloseOnDrop, R: Threads + Wait + Abort + Sync>(
     rt: &R,
     alloc: Global,
     desk: &Desk<N, W>,
@@ -58,62 +59,44 @@ fn play_group<N: Name, W: CloseOnDrop, R: Threads + Wait + Sync>(
     played: Played<'_>,
 ) {
     for (number, step) in played.steps.iter().enumerate() {
-        for caller in group.callers.iter_mut() {
-            if caller.seat.number() == step.seat {
-                caller.take(rt, alloc, desk, played, number, step.action);
-            }
-        }
+        play_step(rt, alloc, desk, group, played, number, *step);
     }
+}
+
+/// A step, if its seat is in this group.
+fn play_step<N: Name, W: CloseOnDrop, R: Threads + Wait + Abort + Sync>(
+    rt: &R,
+    alloc: Global,
+    desk: &Desk<N, W>,
+    group: &mut Group<N>,
+    played: Played<'_>,
+    number: usize,
+    step: Step,
+) {
     for caller in group.callers.iter_mut() {
-        if caller.seat.number() == EXPORTER {
-            caller.export(rt, alloc, desk, played);
+        if caller.seat.number() == step.seat {
+            caller.take(rt, alloc, desk, played, number, step.action);
         }
     }
 }
 
-/// The seats, and all that they were told.
-fn leave<N: Name, R: Abort>(rt: &R, alloc: Global, groups: Vec<Group<N>>) -> (Vec<Seat<N>>, Told) {
-    let mut seats = Vec::new(alloc);
-    let mut all = Vec::new(alloc);
-    for group in groups {
-        for caller in group.callers {
-            let Caller {
-                seat,
-                replies,
-                has_memory,
-            } = caller;
-            check_that(rt, "want of memory", has_memory);
-            expect_ok(rt, seats.push(seat));
-            append(rt, &mut all, replies);
-        }
-    }
-    let told = Told {
-        notes: Vec::new(alloc),
-        replies: all,
-        batch: None,
-    };
-    (seats, told)
-}
-
-/// Puts replies behind others.
-fn append<R: Abort>(rt: &R, all: &mut Vec<Reply>, replies: Vec<Reply>) {
-    for reply in replies {
-        expect_ok(rt, all.push(reply));
+/// Gives a group's seats back, and tells what they were told.
+fn leave<N: Name, R: Abort>(rt: &R, group: Group<N>, seats: &mut Vec<Seat<N>>, told: &mut Told) {
+    for caller in group.callers {
+        let Caller { seat, replies } = caller;
+        expect_ok(rt, told.replies.extend_from_slice(replies.as_slice()));
+        expect_ok(rt, seats.push(seat));
     }
 }
 
-/// All seats take their steps of a schedule, over 200 frames that seat 0 makes: what they were told.
-pub fn play_steps<N: Name + Send + Sync, R: Threads + Wait + Abort + Sync>(
+/// All groups take their steps, each on a thread of its own.
+fn play_groups<N: Name + Send + Sync, R: Threads + Wait + Abort + Sync>(
     rt: &R,
     alloc: Global,
     desk: &Desk<N, &R>,
-    seats: Vec<Seat<N>>,
+    groups: &mut [Group<N>],
     steps: &[Step],
-) -> (Vec<Seat<N>>, Told) {
-    let mut seats = seats;
-    let first = expect_some(rt, seats.first_mut());
-    make_edits(rt, alloc, desk, first, &BEFORE);
-    let mut groups = groups_of(rt, alloc, seats);
+) {
     let order = StepOrder::new();
     let played = Played {
         order: &order,
@@ -121,7 +104,7 @@ pub fn play_steps<N: Name + Send + Sync, R: Threads + Wait + Abort + Sync>(
     };
     thread::for_each_mut(
         rt,
-        groups.as_mut_slice(),
+        groups,
         8,
         &|_, group| {
             play_group(rt, alloc, desk, group, played);
@@ -129,22 +112,34 @@ pub fn play_steps<N: Name + Send + Sync, R: Threads + Wait + Abort + Sync>(
     );
     let was_played = order.was_played(steps.len());
     check_that(rt, "a step that doesn't come", was_played);
-    leave(rt, alloc, groups)
 }
 
-/// The movie that a history makes from blank. All its edits are allowed.
-fn replayed<R: Abort>(rt: &R, alloc: Global, journal: &[Entry]) -> Movie {
-    let mut movie = expect_ok(rt, Movie::blank(alloc));
-    for (number, entry) in journal.iter().enumerate() {
-        check_that(rt, ("entry", number), check(&movie, &entry.edit).is_ok());
-        apply(&mut movie, &entry.edit);
+/// All seats take their steps of a schedule, over a movie that seat 0 makes by some edits.
+pub fn play_steps<N: Name + Send + Sync, R: Threads + Wait + Abort + Sync>(
+    rt: &R,
+    alloc: Global,
+    desk: &Desk<N, &R>,
+    seats: &mut Vec<Seat<N>>,
+    told: &mut Told,
+    before: &[Change],
+    steps: &[Step],
+) {
+    let first = expect_some(rt, seats.first_mut());
+    make_edits(rt, alloc, desk, first, before);
+    let mut groups = groups_of(rt, alloc, seats);
+    play_groups(rt, alloc, desk, groups.as_mut_slice(), steps);
+    for group in groups {
+        leave(rt, group, seats, told);
     }
-    movie
 }
 
-/// Whether two movies are the same.
-fn is_same(one: &Movie, other: &Movie) -> bool {
-    one.inputs() == other.inputs() && one.cart() == other.cart()
+/// Whether a history, played from blank, makes this movie. All its edits are allowed.
+fn is_replayed<R: Abort>(rt: &R, alloc: Global, journal: &[Entry], movie: &Movie) -> bool {
+    let mut made = expect_ok(rt, Movie::blank(alloc));
+    for (number, entry) in journal.iter().enumerate() {
+        make(rt, ("entry", number), &mut made, &entry.edit);
+    }
+    made.inputs() == movie.inputs() && made.cart() == movie.cart()
 }
 
 /// Whether the entries behind the first two are those of the steps that edit: their seats, and their serials.
@@ -165,13 +160,18 @@ fn are_in_order(journal: &[Entry], steps: &[Step]) -> bool {
 }
 
 /// Each reply is the wanted one of its step, and none of them is missing.
-fn check_replies<R: Abort>(rt: &R, name: (usize, usize), replies: &[Reply], wanted: &[String]) {
+fn check_replies<R: Abort>(
+    rt: &R,
+    name: (usize, usize),
+    replies: &[Reply],
+    wanted: &[Option<Answer>],
+) {
     for reply in replies {
-        let (step, text) = (reply.step, reply.text.as_str());
-        let right = expect_some(rt, wanted.get(step));
-        check_same(rt, ("schedule, step", name, step), text, right.as_str());
+        let right = *expect_some(rt, wanted.get(reply.step));
+        let case = ("schedule, step", name, reply.step);
+        check_same(rt, case, Some(reply.answer), right);
     }
-    let count = wanted.iter().filter(|text| !text.is_empty()).count();
+    let count = wanted.iter().filter(|answer| answer.is_some()).count();
     check_same(rt, ("schedule", name), replies.len(), count);
 }
 
@@ -186,73 +186,106 @@ fn check_closed<R: Abort>(
     wanted: &PlainMovie,
 ) {
     let journal = closed.journal.as_slice();
-    let movie = replayed(rt, alloc, journal);
-    check_that(rt, ("schedule", name), is_same(&movie, &closed.movie));
-    check_that(rt, ("schedule", name), are_in_order(journal, steps));
-    let right = expect_ok(rt, cart(alloc, wanted.program));
-    check_that(rt, ("schedule", name), *closed.movie.cart() == right);
-    let has_inputs = closed.movie.inputs() == wanted.inputs.as_slice();
-    check_that(rt, ("schedule", name), has_inputs);
+    let found = [
+        is_replayed(rt, alloc, journal, &closed.movie),
+        are_in_order(journal, steps),
+        *closed.movie.cart() == cart(rt, alloc, wanted.program),
+        closed.movie.inputs() == wanted.inputs.as_slice(),
+    ];
+    check_same(rt, ("schedule", name), found, [true; 4]);
 }
 
-/// Plays a schedule. Each reply is the model's, and the desk leaves the model's movie.
-fn judge<R: Threads + Wait + Abort + Sync>(
+/// Each reply of a schedule is the model's, and the desk leaves the model's movie.
+fn check_schedule<R: Abort>(
     rt: &R,
     alloc: Global,
     name: (usize, usize),
     steps: &[Step],
+    closed: &Closed,
+    replies: &[Reply],
 ) {
     let mut model = Model::new(rt, alloc);
     for change in BEFORE {
         model.edit(rt, alloc, change);
     }
     let wanted = model.replies(rt, alloc, steps);
-    let (closed, told) = play(rt, alloc, 8, Task::Steps(steps));
-    check_replies(rt, name, told.replies.as_slice(), wanted.as_slice());
-    check_closed(rt, alloc, name, &closed, steps, &model.movie);
+    check_replies(rt, name, replies, wanted.as_slice());
+    check_closed(rt, alloc, name, closed, steps, &model.movie);
 }
 
-/// Jobs that are taken in these orders, each offered in every order.
-fn judge_jobs<R: Threads + Wait + Abort + Sync>(rt: &R, alloc: Global, from: usize, to: usize) {
-    for (one, starts) in ORDERS.iter().enumerate().take(to).skip(from) {
-        for (other, offers) in ORDERS.iter().enumerate() {
-            let steps = job_steps(rt, alloc, *starts, *offers, one.wrapping_add(other));
-            judge(rt, alloc, (one, other), steps.as_slice());
-        }
+/// Plays a schedule.
+fn judge<R: Threads + Wait + Abort + Sync>(
+    rt: &R,
+    alloc: Global,
+    name: (usize, usize),
+    steps: &[Step],
+) {
+    let mut told = nothing(alloc);
+    let task = Task::Steps(&BEFORE, steps);
+    let closed = play(rt, alloc, 8, task, &mut told);
+    check_schedule(rt, alloc, name, steps, &closed, told.replies.as_slice());
+}
+
+/// What the schedules are of.
+#[derive(Clone, Copy)]
+enum Kind {
+    /// Jobs, taken in the first order and offered in the second one.
+    Jobs,
+    /// Exports whose runs pass in the first order, over each change that comes first.
+    Exports,
+}
+
+/// The steps of a schedule with these numbers.
+fn steps_of<R: Abort>(rt: &R, alloc: Global, kind: Kind, one: usize, other: usize) -> Vec<Step> {
+    let first = ORDERS[one % 6];
+    match kind {
+        Kind::Jobs => job_steps(rt, alloc, first, ORDERS[other % 6], one.wrapping_add(other)),
+        Kind::Exports => export_steps(rt, alloc, first, other),
+    }
+}
+
+/// All six schedules whose first order has this number.
+fn judge_order<R: Threads + Wait + Abort + Sync>(rt: &R, alloc: Global, kind: Kind, one: usize) {
+    for other in 0..6usize {
+        let steps = steps_of(rt, alloc, kind, one, other);
+        judge(rt, alloc, (one, other), steps.as_slice());
+    }
+}
+
+/// The schedules with these first orders.
+fn judge_orders<R: Threads + Wait + Abort + Sync>(
+    rt: &R,
+    alloc: Global,
+    kind: Kind,
+    from: usize,
+    to: usize,
+) {
+    for one in from..to {
+        judge_order(rt, alloc, kind, one);
     }
 }
 
 #[test]
 fn jobs_start_in_the_first_orders(rt: HostRuntime) {
-    judge_jobs(&rt, rt.alloc(), 0, 2);
+    judge_orders(&rt, rt.alloc(), Kind::Jobs, 0, 2);
 }
 
 #[test]
 fn jobs_start_in_the_next_orders(rt: HostRuntime) {
-    judge_jobs(&rt, rt.alloc(), 2, 4);
+    judge_orders(&rt, rt.alloc(), Kind::Jobs, 2, 4);
 }
 
 #[test]
 fn jobs_start_in_the_last_orders(rt: HostRuntime) {
-    judge_jobs(&rt, rt.alloc(), 4, 6);
-}
-
-/// Exports whose runs pass in these orders, over each change that comes first.
-fn judge_exports<R: Threads + Wait + Abort + Sync>(rt: &R, alloc: Global, from: usize, to: usize) {
-    for (one, order) in ORDERS.iter().enumerate().take(to).skip(from) {
-        for shift in 0..6usize {
-            let steps = export_steps(rt, alloc, *order, shift);
-            judge(rt, alloc, (one, shift), steps.as_slice());
-        }
-    }
+    judge_orders(&rt, rt.alloc(), Kind::Jobs, 4, 6);
 }
 
 #[test]
 fn runs_of_an_export_pass_in_the_first_orders(rt: HostRuntime) {
-    judge_exports(&rt, rt.alloc(), 0, 3);
+    judge_orders(&rt, rt.alloc(), Kind::Exports, 0, 3);
 }
 
 #[test]
 fn runs_of_an_export_pass_in_the_last_orders(rt: HostRuntime) {
-    judge_exports(&rt, rt.alloc(), 3, 6);
+    judge_orders(&rt, rt.alloc(), Kind::Exports, 3, 6);
 }

@@ -87,14 +87,15 @@ fn each_kind_of_edit_is_made(rt: HostRuntime) {
     let text =
         "0 0 load\n0 1 insert 0 5\n0 2 insert 5 2\n0 3 replace 6 1\n0 4 delete 1 4\n0 5 load\n0 6 insert 0 1\n";
     check_history(&rt, alloc, &closed, text);
+    check_each_kind(&rt, alloc, &closed);
+}
+
+/// The movie that these edits leave.
+fn check_each_kind<R: Abort>(rt: &R, alloc: Global, closed: &Closed) {
     let inputs = [right(), Input::none(), Input::none(), right()];
-    check_that(
-        &rt,
-        "closed.movie",
-        closed.movie.inputs() == inputs.as_slice(),
-    );
-    let halting = expect_ok(&rt, cart(alloc, HALTING));
-    check_cart(&rt, &closed, &halting);
+    let found = closed.movie.inputs();
+    check_that(rt, "closed.movie", found == inputs.as_slice());
+    check_cart(rt, closed, &cart(rt, alloc, HALTING));
 }
 
 /// Behind two edits, at 262,108 inputs.
@@ -225,7 +226,7 @@ struct Million;
 impl Lent for Million {
     fn run<R: Wait + Abort>(&self, rt: &R, alloc: Global, session: &mut Session) {
         for made in 0..MAX_EDITS {
-            let edit = expect_ok(rt, edit_of(alloc, Change::Delete(0, 0)));
+            let edit = edit_of(rt, alloc, Change::Delete(0, 0));
             expect_ok(rt, session.edit(rt, 4, made, edit));
         }
         let at = 1_000_000;
@@ -238,7 +239,7 @@ impl Lent for Million {
             (999_999, Change::Delete(0, 0), serial),
         ];
         for (made, change, error) in attempts {
-            let edit = expect_ok(rt, edit_of(alloc, change));
+            let edit = edit_of(rt, alloc, change);
             let answer = session.edit(rt, 4, made, edit);
             check_same(rt, ("after", change, made), answer, Err(error));
         }

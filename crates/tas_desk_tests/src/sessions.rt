@@ -25,27 +25,18 @@ pub enum Turn {
     Kept(&'static str),
 }
 
-/// What a shot tells.
-#[derive(Clone, Copy, PartialEq, Eq)]
-struct Seen {
-    at: u64,
-    frame: usize,
-    ran: u64,
-    lit: usize,
-}
-
-/// A shot's answer with a meter of its own, which counts more frames than any movie has; and what the meter counted.
-fn shoot(alloc: Global, session: &mut Session, k: usize) -> (Result<Seen, ShotError>, u64) {
+/// A shot's answer, its frame, number of edits, of frames that are played and of lit pixels, with a meter of its own, which counts
+/// more frames than any movie has; and what the meter counted.
+fn shoot(
+    alloc: Global,
+    session: &mut Session,
+    k: usize,
+) -> (Result<(usize, u64, u64, usize), ShotError>, u64) {
     let mut meter = Meter::new();
     let len = session.movie().len();
     prove!(len <= MAX_FRAMES);
     let answer = match session.shot(alloc, k, &mut meter) {
-        Ok(shot) => Ok(Seen {
-            at: shot.at,
-            frame: shot.frame,
-            ran: shot.ran,
-            lit: shot.picture.lit(),
-        }),
+        Ok(shot) => Ok((shot.frame, shot.at, shot.ran, shot.picture.lit())),
         Err(error) => Err(error),
     };
     (answer, meter.count())
@@ -66,18 +57,13 @@ pub fn kept<R: Abort>(rt: &R, alloc: Global, session: &Session) -> String {
 
 fn entry_line(alloc: Global, entry: &Entry) -> Result<String, AllocError> {
     let (seat, serial) = (entry.seat, entry.serial);
-    match &entry.edit {
-        Edit::Load(_) => format!(in alloc; "{seat} {serial} load\n"),
-        Edit::Insert { at, inputs } => {
-            let count = inputs.as_slice().len();
-            format!(in alloc; "{seat} {serial} insert {at} {count}\n")
-        }
-        Edit::Replace { at, inputs } => {
-            let count = inputs.as_slice().len();
-            format!(in alloc; "{seat} {serial} replace {at} {count}\n")
-        }
-        Edit::Delete { at, count } => format!(in alloc; "{seat} {serial} delete {at} {count}\n"),
-    }
+    let (word, at, count) = match &entry.edit {
+        Edit::Load(_) => return format!(in alloc; "{seat} {serial} load\n"),
+        Edit::Insert { at, inputs } => ("insert", *at, inputs.as_slice().len()),
+        Edit::Replace { at, inputs } => ("replace", *at, inputs.as_slice().len()),
+        Edit::Delete { at, count } => ("delete", *at, *count),
+    };
+    format!(in alloc; "{seat} {serial} {word} {at} {count}\n")
 }
 
 /// A history, an entry a line: the seat, the serial and the edit.
@@ -112,7 +98,7 @@ fn is_tried<R: Wait + Abort>(
 ) -> bool {
     let (seat, made, change) = attempt;
     let before = shown(rt, alloc, session);
-    let edit = expect_ok(rt, edit_of(alloc, change));
+    let edit = edit_of(rt, alloc, change);
     let given = session.edit(rt, seat, made, edit);
     let kept_all = given.is_ok() || shown(rt, alloc, session).as_str() == before.as_str();
     given == answer && kept_all
@@ -123,20 +109,14 @@ fn is_answered<R: Wait + Abort>(rt: &R, alloc: Global, session: &mut Session, tu
     match turn {
         Turn::Made(change, at, len) => {
             let made = session.at();
-            let edit = expect_ok(rt, edit_of(alloc, change));
+            let edit = edit_of(rt, alloc, change);
             session.edit(rt, 0, made, edit) == Ok(Receipt { at, len })
         }
         Turn::Tried(seat, made, change, answer) => {
             is_tried(rt, alloc, session, (seat, made, change), answer)
         }
         Turn::Drawn(frame, at, ran, lit) => {
-            let seen = Seen {
-                at,
-                frame,
-                ran,
-                lit,
-            };
-            shoot(alloc, session, frame) == (Ok(seen), ran)
+            shoot(alloc, session, frame) == (Ok((frame, at, ran, lit)), ran)
         }
         Turn::NotDrawn(frame, error, ran) => shoot(alloc, session, frame) == (Err(error), ran),
         Turn::Kept(places) => kept(rt, alloc, session).as_str() == places,

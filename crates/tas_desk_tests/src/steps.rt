@@ -1,12 +1,14 @@
 //! Schedules: who does what in which step.
 
+use crate::answers::{Answered, Export};
 use crate::changes::{BRIEF_FOLDING, Change, HALTING};
 use crate::checks::expect_ok;
 use std::alloc::Global;
 use std::process::Abort;
+use tas_desk::{EditError, NoEntry, Receipt, ShotError, WorkError, Worked};
 
 /// What a seat does in a step.
-#[derive(Clone, Copy, Debug, PartialEq, Eq)]
+#[derive(Clone, Copy)]
 pub enum Action {
     /// It takes a job for so many frames, which then waits in its gate.
     Start(usize),
@@ -25,10 +27,31 @@ pub enum Action {
 }
 
 /// A step of a schedule.
-#[derive(Clone, Copy, Debug, PartialEq, Eq)]
+#[derive(Clone, Copy)]
 pub struct Step {
     pub seat: u32,
     pub action: Action,
+}
+
+/// What is told in a step.
+#[derive(Clone, Copy, Debug, PartialEq, Eq)]
+pub enum Answer {
+    /// To an edit.
+    Edit(Result<Receipt, EditError>),
+    /// How many edits and inputs there are.
+    Len(Result<(u64, usize), NoEntry>),
+    /// A picture: how many edits there are, its frame, how many frames were played, and its image's bytes and the sum over them.
+    Shot(u64, usize, u64, (usize, u64)),
+    /// No picture.
+    NotDrawn(ShotError),
+    /// How many states were taken over.
+    Share(usize),
+    /// To a work.
+    Work(Result<Worked, WorkError>),
+    /// To an offer.
+    Offer(Answered),
+    /// To an export.
+    Export(Export),
 }
 
 /// The seat that exports. Those before it take jobs.
@@ -141,7 +164,12 @@ pub fn export_steps<R: Abort>(rt: &R, alloc: Global, order: [u32; 3], shift: usi
     steps
 }
 
-/// The number of the first step in which this seat does this.
-pub fn step_of(steps: &[Step], seat: u32, action: Action) -> Option<usize> {
-    steps.iter().position(|step| *step == Step { seat, action })
+/// The number of the step in which this seat's job is offered.
+pub fn offer_of(steps: &[Step], seat: u32) -> Option<usize> {
+    steps.iter().position(|step| step.seat == seat && matches!(step.action, Action::Offer))
+}
+
+/// The number of the step in which the export's run of this number passes its gate.
+pub fn pass_of(steps: &[Step], run: usize) -> Option<usize> {
+    steps.iter().position(|step| matches!(step.action, Action::Pass(number) if number == run))
 }

@@ -80,9 +80,9 @@ impl Write for Compared<'_> {
     }
 }
 
-/// The sum over a picture's image.
-pub fn sum_of(picture: &Picture) -> u64 {
+/// How many bytes a picture's image has, and the sum over them.
+pub fn sum_of(picture: &Picture) -> (usize, u64) {
     let mut out = Sum::new(usize::MAX);
     let _ = ppm(picture, &mut out);
-    out.told().1
+    out.told()
 }

@@ -1,26 +1,18 @@
 //! Seats on threads of their own. What they were told is compared with the history that the desk leaves.
 
-use crate::callers::{Caller, Fault, Habit, meet};
-use crate::changes::{Change, FOLDING, HALTING, PLAYFIELD, edit_of};
+use crate::callers::{Caller, Habit, meet};
+use crate::changes::{Change, FOLDING, HALTING, PLAYFIELD};
 use crate::checks::{check_same, check_that, expect_ok, expect_some};
-use crate::desks::{Lending, Task, Told, lend, make_edits, play};
-use crate::gates::Door;
-use crate::replays::{Notes, replayed};
+use crate::desks::{Task, Told, nothing, play};
+use crate::replays::{Notes, judge};
+use crate::schedule_callers::Reply;
+use crate::steps::{Action, Answer, Step};
 use std::alloc::Global;
 use std::process::Abort;
 use std::sync::Wait;
-use std::thread;
-use std::thread::{Threads, join};
+use std::thread::Threads;
+use std::{mem, thread};
 use tas_desk::{CloseOnDrop, Closed, Desk, Entry, Name, Seat, Worked};
-
-/// All that a seat was told is right, and so much of it there is at least; else the test fails and shows which note isn't.
-fn judge<R: Abort>(rt: &R, alloc: Global, journal: &[Entry], notes: &Notes, least: usize) {
-    let seat = notes.seat;
-    match expect_ok(rt, replayed(alloc, journal, notes)) {
-        Ok(count) => check_that(rt, ("seat, notes", seat, count), count >= least),
-        Err(number) => check_that(rt, ("seat, note", seat, number), false),
-    }
-}
 
 /// How many entries of a seat there are; its serials count up from 0.
 fn entries_of<R: Abort>(rt: &R, journal: &[Entry], seat: u32) -> u64 {
@@ -35,88 +27,83 @@ fn entries_of<R: Abort>(rt: &R, journal: &[Entry], seat: u32) -> u64 {
 }
 
 /// Each seat puts in so many inputs at place 0 and looks at the length and at input 0 after each.
-fn insert_and_look<N: Name, W: CloseOnDrop, R: Wait>(
+fn insert_and_look<N: Name, W: CloseOnDrop, R: Wait + Abort>(
     rt: &R,
     alloc: Global,
     desk: &Desk<N, W>,
     caller: &mut Caller<N>,
     count: usize,
-) -> Result<(), Fault> {
+) {
     for _k in 0..count {
-        caller.edit(rt, alloc, desk, Change::InsertRight(0, 1))?;
-        caller.len(desk)?;
-        caller.input(desk, 0)?;
+        caller.edit(rt, alloc, desk, Change::InsertRight(0, 1));
+        caller.len(rt, desk);
+        caller.input(rt, desk, 0);
     }
-    Ok(())
 }
 
-/// Each seat, on a thread of its own, inserts so often: what they were told.
+/// Each seat, on a thread of its own, inserts so often.
 pub fn insert_at_once<N: Name + Send + Sync, R: Threads + Wait + Abort + Sync>(
     rt: &R,
     alloc: Global,
     desk: &Desk<N, &R>,
-    seats: Vec<Seat<N>>,
+    seats: &mut Vec<Seat<N>>,
+    told: &mut Told,
     count: usize,
-) -> (Vec<Seat<N>>, Told) {
+) {
     let mut callers = callers(rt, alloc, seats, &[Habit::All]);
     thread::for_each_mut(
         rt,
         callers.as_mut_slice(),
         8,
         &|_, caller| {
-            caller.fault = insert_and_look(rt, alloc, desk, caller, count).err();
+            insert_and_look(rt, alloc, desk, caller, count);
         },
     );
-    leave(rt, alloc, callers)
+    leave(rt, callers, seats, told);
+}
+
+/// The habit of the seat of this number, where they are taken in turn.
+fn habit_of(habits: &[Habit], seat: usize) -> Habit {
+    if habits.is_empty() {
+        return Habit::All;
+    }
+    habits[seat % habits.len()]
 }
 
 /// Callers at all seats; their habits in turn.
 fn callers<N: Name, R: Abort>(
     rt: &R,
     alloc: Global,
-    seats: Vec<Seat<N>>,
+    seats: &mut Vec<Seat<N>>,
     habits: &[Habit],
 ) -> Vec<Caller<N>> {
     let mut callers = Vec::new(alloc);
-    let mut habits = habits.iter().cycle();
-    for seat in seats {
-        let habit = habits.next().copied().unwrap_or(Habit::All);
+    let all = mem::replace(seats, Vec::new(alloc));
+    for seat in all {
+        let habit = habit_of(habits, seat.number() as usize);
         expect_ok(rt, callers.push(Caller::new(alloc, seat, habit)));
     }
     callers
 }
 
-/// The callers' seats, and what they were told. No caller had a fault.
+/// Gives the callers' seats back, and tells what they were told.
 fn leave<N: Name, R: Abort>(
     rt: &R,
-    alloc: Global,
     callers: Vec<Caller<N>>,
-) -> (Vec<Seat<N>>, Told) {
-    let mut seats = Vec::new(alloc);
-    let mut all = Vec::new(alloc);
+    seats: &mut Vec<Seat<N>>,
+    told: &mut Told,
+) {
     for caller in callers {
-        let Caller {
-            seat,
-            notes,
-            fault,
-            ..
-        } = caller;
-        let number = seat.number();
-        check_same(rt, ("seat", number), fault, None);
+        let Caller { seat, notes, .. } = caller;
         expect_ok(rt, seats.push(seat));
-        expect_ok(rt, all.push(notes));
+        expect_ok(rt, told.notes.push(notes));
     }
-    let told = Told {
-        notes: all,
-        replies: Vec::new(alloc),
-        batch: None,
-    };
-    (seats, told)
 }
 
 #[test]
 fn two_seats_on_two_threads(rt: HostRuntime) {
-    let (closed, told) = play(&rt, rt.alloc(), 2, Task::Inserts(100));
+    let mut told = nothing(rt.alloc());
+    let closed = play(&rt, rt.alloc(), 2, Task::Inserts(100), &mut told);
     judge_inserts(&rt, rt.alloc(), &closed, told.notes.as_slice());
 }
 
@@ -138,7 +125,7 @@ fn judge_inserts<R: Abort>(rt: &R, alloc: Global, closed: &Closed, all: &[Notes]
 }
 
 /// Two callers that take turns and meet.
-fn pairs<N: Name, W: CloseOnDrop, R: Threads + Wait + Sync>(
+fn pairs<N: Name, W: CloseOnDrop, R: Threads + Wait + Abort + Sync>(
     rt: &R,
     alloc: Global,
     desk: &Desk<N, W>,
@@ -151,43 +138,24 @@ fn pairs<N: Name, W: CloseOnDrop, R: Threads + Wait + Sync>(
     let (one, other) = pair.split_at_mut(1);
     if let (Some(one), Some(other)) = (one.first_mut(), other.first_mut()) {
         for _round in 0..rounds {
-            if one.fault.is_none() && other.fault.is_none() {
-                one.turns(rt, alloc, desk, 2);
-                meet(rt, desk, one, other);
-                other.turns(rt, alloc, desk, 3);
-            }
+            one.turns(rt, alloc, desk, 2);
+            meet(rt, desk, one, other);
+            other.turns(rt, alloc, desk, 3);
         }
     }
 }
 
-/// A caller makes a movie, unless it has a fault.
-fn make_movie<N: Name, W: CloseOnDrop, R: Wait>(
-    rt: &R,
-    alloc: Global,
-    desk: &Desk<N, W>,
-    caller: &mut Caller<N>,
-) {
-    caller.fault = caller.edit(rt, alloc, desk, Change::Load(FOLDING)).err();
-    if caller.fault.is_none() {
-        caller.fault = caller.edit(rt, alloc, desk, Change::Insert(0, 12)).err();
-    }
-}
-
-/// Each seat, on a thread of its own, takes so many turns at random; then pairs of them do, and meet. Seat 0 makes a movie first.
-/// It comes to what they were told.
-pub fn take_turns_at_once<N: Name + Send + Sync, R: Threads + Wait + Abort + Sync>(
+/// Each caller, on a thread of its own, takes so many turns; then pairs of them do, and meet.
+fn turns_at_once<N: Name + Send + Sync, R: Threads + Wait + Abort + Sync>(
     rt: &R,
     alloc: Global,
     desk: &Desk<N, &R>,
-    seats: Vec<Seat<N>>,
-    habits: &[Habit],
+    callers: &mut [Caller<N>],
     turns: usize,
-) -> (Vec<Seat<N>>, Told) {
-    let mut callers = callers(rt, alloc, seats, habits);
-    make_movie(rt, alloc, desk, expect_some(rt, callers.first_mut()));
+) {
     thread::for_each_mut(
         rt,
-        callers.as_mut_slice(),
+        callers,
         8,
         &|_, caller| {
             caller.turns(rt, alloc, desk, turns);
@@ -195,13 +163,30 @@ pub fn take_turns_at_once<N: Name + Send + Sync, R: Threads + Wait + Abort + Syn
     );
     thread::for_each_chunk_mut(
         rt,
-        callers.as_mut_slice(),
+        callers,
         2,
         &|_, pair| {
             pairs(rt, alloc, desk, pair, 4);
         },
     );
-    leave(rt, alloc, callers)
+}
+
+/// Each seat, on a thread of its own, takes so many turns at random; then pairs of them do, and meet. Seat 0 makes a movie first.
+pub fn take_turns_at_once<N: Name + Send + Sync, R: Threads + Wait + Abort + Sync>(
+    rt: &R,
+    alloc: Global,
+    desk: &Desk<N, &R>,
+    seats: &mut Vec<Seat<N>>,
+    told: &mut Told,
+    habits: &[Habit],
+    turns: usize,
+) {
+    let mut callers = callers(rt, alloc, seats, habits);
+    let first = expect_some(rt, callers.first_mut());
+    first.edit(rt, alloc, desk, Change::Load(FOLDING));
+    first.edit(rt, alloc, desk, Change::Insert(0, 12));
+    turns_at_once(rt, alloc, desk, callers.as_mut_slice(), turns);
+    leave(rt, callers, seats, told);
 }
 
 /// All that eight seats were told is right, and there is so much of each at least.
@@ -215,52 +200,31 @@ fn judge_all<R: Abort>(rt: &R, alloc: Global, closed: &Closed, all: &[Notes], le
     check_same(rt, "made", made, closed.journal.len() as u64);
 }
 
+/// Eight seats with these habits take so many turns, and all that they were told is right.
+fn judge_turns<R: Threads + Wait + Abort + Sync>(
+    rt: &R,
+    alloc: Global,
+    habits: &[Habit],
+    turns: usize,
+    least: usize,
+) {
+    let mut told = nothing(alloc);
+    let closed = play(rt, alloc, 8, Task::Turns(habits, turns), &mut told);
+    judge_all(rt, alloc, &closed, told.notes.as_slice(), least);
+}
+
 #[test]
 fn eight_seats_on_eight_threads(rt: HostRuntime) {
-    let turns = Task::Turns(&[Habit::All], 30);
-    let (closed, told) = play(&rt, rt.alloc(), 8, turns);
-    judge_all(&rt, rt.alloc(), &closed, told.notes.as_slice(), 30);
+    judge_turns(&rt, rt.alloc(), &[Habit::All], 30, 30);
 }
 
 #[test]
 fn shots_while_others_edit(rt: HostRuntime) {
-    let turns = Task::Turns(&[Habit::Shots, Habit::Edits], 15);
-    let (closed, told) = play(&rt, rt.alloc(), 8, turns);
-    judge_all(&rt, rt.alloc(), &closed, told.notes.as_slice(), 20);
+    judge_turns(&rt, rt.alloc(), &[Habit::Shots, Habit::Edits], 15, 20);
 }
 
-/// Work of one seat, whose job waits in its gate until another seat, on another thread, has made an edit; and what the work
-/// answers.
-pub fn edit_in_the_gate<N: Name + Send + Sync, R: Threads + Wait + Abort + Sync>(
-    rt: &R,
-    alloc: Global,
-    desk: &Desk<N, &R>,
-    seats: &mut [Seat<N>],
-    change: Change,
-    wanted: Worked,
-) {
-    let (worker, others) = expect_some(rt, seats.split_first_mut());
-    let editor = expect_some(rt, others.first_mut());
-    let filled = [Change::Load(PLAYFIELD), Change::Insert(0, 200)];
-    make_edits(rt, alloc, desk, worker, &filled);
-    let edit = expect_ok(rt, edit_of(alloc, change));
-    let door = Door::new();
-    let gate = &door;
-    let (worked, made) = join(
-        rt,
-        move || desk.work(rt, alloc, worker, &[192], gate),
-        move || {
-            gate.entered.wait();
-            let made = desk.edit(rt, editor, edit);
-            gate.opened.set();
-            made
-        },
-    );
-    check_that(rt, "no job came to the gate", door.entered.was_seen());
-    check_that(rt, "the edit waits for the job", door.opened.was_seen());
-    check_that(rt, change, made.is_ok());
-    check_same(rt, change, worked, Ok(wanted));
-}
+/// The edits that make 200 frames.
+static FILLED: [Change; 2] = [Change::Load(PLAYFIELD), Change::Insert(0, 200)];
 
 /// Edits, how many states are kept behind them, and how many jobs are stale.
 static IN_THE_GATE: [(Change, usize, usize); 3] = [
@@ -268,6 +232,35 @@ static IN_THE_GATE: [(Change, usize, usize); 3] = [
     (Change::ReplaceRight(100), 1, 0),
     (Change::Load(HALTING), 0, 1),
 ];
+
+/// Work of one seat, whose job waits in its gate until another seat, on another thread, has made an edit.
+fn gate_steps(change: Change) -> [Step; 3] {
+    [
+        Step {
+            seat: 0,
+            action: Action::Start(192),
+        },
+        Step {
+            seat: 4,
+            action: Action::Edit(change),
+        },
+        Step {
+            seat: 0,
+            action: Action::Offer,
+        },
+    ]
+}
+
+/// The edit was made, and this is what the work answers.
+fn check_work<R: Abort>(rt: &R, change: Change, replies: &[Reply], worked: Worked) {
+    for reply in replies {
+        match reply.answer {
+            Answer::Edit(made) => check_that(rt, change, made.is_ok()),
+            answer => check_same(rt, change, answer, Answer::Work(Ok(worked))),
+        }
+    }
+    check_same(rt, change, replies.len(), 2);
+}
 
 #[test]
 fn jobs_run_outside_the_lock(rt: HostRuntime) {
@@ -277,8 +270,11 @@ fn jobs_run_outside_the_lock(rt: HostRuntime) {
             kept,
             stale,
         };
-        let lending = Lending::EditInTheGate(change, worked);
-        let closed = lend(&rt, rt.alloc(), 2, lending);
+        let steps = gate_steps(change);
+        let mut told = nothing(rt.alloc());
+        let task = Task::Steps(&FILLED, &steps);
+        let closed = play(&rt, rt.alloc(), 8, task, &mut told);
         check_same(&rt, "closed.journal", closed.journal.len(), 3);
+        check_work(&rt, change, told.replies.as_slice(), worked);
     }
 }
