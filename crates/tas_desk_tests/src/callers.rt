@@ -4,9 +4,9 @@ ghost use Rattle.std.specs.Prelude.{◌<◌};
 
 use crate::answers::{Answered, Refused, edit, export, offer, shoot};
 use crate::changes::{Change, FOLDING, HALTING, PLAYFIELD};
-use crate::checks::{check_that, expect_ok};
+use crate::checks::expect_ok;
 use crate::gates::Open;
-use crate::replays::{Note, Notes, Told};
+use crate::replays::{Notes, Told};
 use std::alloc::Global;
 use std::process::Abort;
 use std::sync::Wait;
@@ -63,6 +63,8 @@ pub enum Habit {
     Edits,
     /// Shots.
     Shots,
+    /// An input put in at place 0, and then looks at the length and at that input.
+    Inserts,
 }
 
 /// A seat with its notes. Its calls end the test where an answer is one that no call should give.
@@ -225,7 +227,32 @@ impl<N: Name> Caller<N> {
         }
     }
 
-    /// One call, at random.
+    /// Makes these edits.
+    pub fn edits<W: CloseOnDrop, R: Wait + Abort>(
+        &mut self,
+        rt: &R,
+        alloc: Global,
+        desk: &Desk<N, W>,
+        changes: &[Change],
+    ) {
+        for change in changes {
+            self.edit(rt, alloc, desk, *change);
+        }
+    }
+
+    /// Puts in an input at place 0, and looks at the length and at that input.
+    fn insert_and_look<W: CloseOnDrop, R: Wait + Abort>(
+        &mut self,
+        rt: &R,
+        alloc: Global,
+        desk: &Desk<N, W>,
+    ) {
+        self.edit(rt, alloc, desk, Change::InsertRight(0, 1));
+        self.len(rt, desk);
+        self.input(rt, desk, 0);
+    }
+
+    /// One turn: mostly a call, at random.
     fn turn<W: CloseOnDrop, R: Threads + Wait + Abort + Sync>(
         &mut self,
         rt: &R,
@@ -237,6 +264,7 @@ impl<N: Name> Caller<N> {
             Habit::All => self.dice.roll(9),
             Habit::Edits => 0,
             Habit::Shots => 8,
+            Habit::Inserts => 9,
         };
         match kind {
             0 | 1 | 2 => {
@@ -251,11 +279,12 @@ impl<N: Name> Caller<N> {
                 let to = self.dice.roll(4).saturating_add(k);
                 self.export(rt, alloc, desk, (k, to));
             }
-            _ => self.shot(rt, alloc, desk, k),
+            8 => self.shot(rt, alloc, desk, k),
+            _ => self.insert_and_look(rt, alloc, desk),
         }
     }
 
-    /// So many calls.
+    /// So many turns.
     pub fn turns<W: CloseOnDrop, R: Threads + Wait + Abort + Sync>(
         &mut self,
         rt: &R,

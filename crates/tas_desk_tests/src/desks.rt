@@ -5,7 +5,6 @@ ghost use Rattle.tas_desk.specs.Seats.{name_of};
 
 use crate::answers::edit;
 use crate::batch_tests::{give_batch, offer_three_batches, take_batch};
-use crate::callers::Habit;
 use crate::calls::{Call, take_calls};
 use crate::changes::Change;
 use crate::checks::{check_that, expect_ok, expect_some};
@@ -16,7 +15,7 @@ use crate::replays::Notes;
 use crate::schedule_callers::Reply;
 use crate::schedule_tests::play_steps;
 use crate::steps::Step;
-use crate::thread_tests::{insert_at_once, take_turns_at_once};
+use crate::thread_tests::{Turns, take_turns_at_once};
 use std::alloc::Global;
 use std::marker::Brand;
 use std::process::Abort;
@@ -40,10 +39,8 @@ pub enum Task<'a> {
     Exports(&'a [Change], &'a [Case]),
     /// The longest export, by every fourth number of workers from the first one on, 0 for one worker.
     ExportLongest(usize),
-    /// Each seat, on a thread of its own, inserts so often.
-    Inserts(usize),
-    /// Each seat, on a thread of its own, takes so many turns at random, and then pairs of them do; their habits in turn.
-    Turns(&'a [Habit], usize),
+    /// Each seat, on a thread of its own, takes turns, and then pairs of them do.
+    Turns(Turns<'a>),
     /// The steps of a schedule, behind some edits.
     Steps(&'a [Change], &'a [Step]),
     /// A job is taken and run.
@@ -88,10 +85,7 @@ fn take<N: Name + Send + Sync, R: Threads + Wait + Abort + Sync>(
         Task::ExportThroughGates => export_through_gates(rt, alloc, desk, seats),
         Task::Exports(changes, cases) => export_cases(rt, alloc, desk, seats, changes, cases),
         Task::ExportLongest(first) => export_longest(rt, alloc, desk, seats, first),
-        Task::Inserts(count) => insert_at_once(rt, alloc, desk, seats, told, count),
-        Task::Turns(habits, turns) => {
-            take_turns_at_once(rt, alloc, desk, seats, told, habits, turns);
-        }
+        Task::Turns(row) => take_turns_at_once(rt, alloc, desk, seats, told, row),
         Task::Steps(before, steps) => {
             play_steps(rt, alloc, desk, seats, told, before, steps);
         }

@@ -111,38 +111,7 @@ fn every_number_of_workers_writes_the_same(rt: HostRuntime) {
     }
 }
 
-/// Two workers of whom the first waits until the second has come write these bytes.
-fn export_in_order<N: Name, R: Threads + Wait + Abort + Sync>(
-    rt: &R,
-    alloc: Global,
-    desk: &Desk<N, &R>,
-    seat: &mut Seat<N>,
-    bytes: usize,
-    sum: u64,
-) {
-    let gate = Ordered::new();
-    let both = export(rt, alloc, desk, seat, (0, 2), 2, &gate, usize::MAX);
-    check_that(rt, "one thread plays both runs", gate.entered.was_seen());
-    check_same(rt, "by two workers", both, (Ok((3, 3)), bytes, sum));
-}
-
-/// Sixteen workers write these bytes, and each passes its gate, those without frames too.
-fn export_counted<N: Name, R: Threads + Wait + Abort + Sync>(
-    rt: &R,
-    alloc: Global,
-    desk: &Desk<N, &R>,
-    seat: &mut Seat<N>,
-    bytes: usize,
-    sum: u64,
-) {
-    let gate = Counting::new();
-    let many = export(rt, alloc, desk, seat, (0, 2), 16, &gate, usize::MAX);
-    check_same(rt, "by 16 workers", (many.1, many.2), (bytes, sum));
-    // The numbers 0 to 15, each once.
-    check_same(rt, "gates passed", gate.passed(), (16, 1240));
-}
-
-/// One worker, two in their order, and more than there are frames.
+/// Two workers of whom the first waits until the second has come, and gates that are passed by workers without frames too.
 pub fn export_through_gates<N: Name + Send + Sync, R: Threads + Wait + Abort + Sync>(
     rt: &R,
     alloc: Global,
@@ -153,8 +122,15 @@ pub fn export_through_gates<N: Name + Send + Sync, R: Threads + Wait + Abort + S
     make_edits(rt, alloc, desk, seat, &LIT);
     let (told, bytes, sum) = export(rt, alloc, desk, seat, (0, 2), 1, &Open, usize::MAX);
     check_same(rt, "by one worker", (told, bytes), (Ok((3, 2)), 201_630));
-    export_in_order(rt, alloc, desk, seat, bytes, sum);
-    export_counted(rt, alloc, desk, seat, bytes, sum);
+    let ordered = Ordered::new();
+    let both = export(rt, alloc, desk, seat, (0, 2), 2, &ordered, usize::MAX);
+    check_that(rt, "one thread plays both runs", ordered.entered.was_seen());
+    check_same(rt, "by two workers", both, (Ok((3, 3)), bytes, sum));
+    let counting = Counting::new();
+    let many = export(rt, alloc, desk, seat, (0, 2), 16, &counting, usize::MAX);
+    check_same(rt, "by 16 workers", (many.1, many.2), (bytes, sum));
+    // The numbers 0 to 15, each once.
+    check_same(rt, "gates passed", counting.passed(), (16, 1240));
 }
 
 #[test]

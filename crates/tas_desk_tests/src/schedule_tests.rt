@@ -89,31 +89,6 @@ fn leave<N: Name, R: Abort>(rt: &R, group: Group<N>, seats: &mut Vec<Seat<N>>, t
     }
 }
 
-/// All groups take their steps, each on a thread of its own.
-fn play_groups<N: Name + Send + Sync, R: Threads + Wait + Abort + Sync>(
-    rt: &R,
-    alloc: Global,
-    desk: &Desk<N, &R>,
-    groups: &mut [Group<N>],
-    steps: &[Step],
-) {
-    let order = StepOrder::new();
-    let played = Played {
-        order: &order,
-        steps,
-    };
-    thread::for_each_mut(
-        rt,
-        groups,
-        8,
-        &|_, group| {
-            play_group(rt, alloc, desk, group, played);
-        },
-    );
-    let was_played = order.was_played(steps.len());
-    check_that(rt, "a step that doesn't come", was_played);
-}
-
 /// All seats take their steps of a schedule, over a movie that seat 0 makes by some edits.
 pub fn play_steps<N: Name + Send + Sync, R: Threads + Wait + Abort + Sync>(
     rt: &R,
@@ -127,7 +102,21 @@ pub fn play_steps<N: Name + Send + Sync, R: Threads + Wait + Abort + Sync>(
     let first = expect_some(rt, seats.first_mut());
     make_edits(rt, alloc, desk, first, before);
     let mut groups = groups_of(rt, alloc, seats);
-    play_groups(rt, alloc, desk, groups.as_mut_slice(), steps);
+    let order = StepOrder::new();
+    let played = Played {
+        order: &order,
+        steps,
+    };
+    thread::for_each_mut(
+        rt,
+        groups.as_mut_slice(),
+        8,
+        &|_, group| {
+            play_group(rt, alloc, desk, group, played);
+        },
+    );
+    let was_played = order.was_played(steps.len());
+    check_that(rt, "a step that doesn't come", was_played);
     for group in groups {
         leave(rt, group, seats, told);
     }
@@ -195,35 +184,23 @@ fn check_closed<R: Abort>(
     check_same(rt, ("schedule", name), found, [true; 4]);
 }
 
-/// Each reply of a schedule is the model's, and the desk leaves the model's movie.
-fn check_schedule<R: Abort>(
-    rt: &R,
-    alloc: Global,
-    name: (usize, usize),
-    steps: &[Step],
-    closed: &Closed,
-    replies: &[Reply],
-) {
-    let mut model = Model::new(rt, alloc);
-    for change in BEFORE {
-        model.edit(rt, alloc, change);
-    }
-    let wanted = model.replies(rt, alloc, steps);
-    check_replies(rt, name, replies, wanted.as_slice());
-    check_closed(rt, alloc, name, closed, steps, &model.movie);
-}
-
-/// Plays a schedule.
+/// Plays a schedule. Each reply is the model's, and the desk leaves the model's movie.
 fn judge<R: Threads + Wait + Abort + Sync>(
     rt: &R,
     alloc: Global,
     name: (usize, usize),
     steps: &[Step],
 ) {
+    let mut model = Model::new(rt, alloc);
+    for change in BEFORE {
+        model.edit(rt, alloc, change);
+    }
+    let wanted = model.replies(rt, alloc, steps);
     let mut told = nothing(alloc);
     let task = Task::Steps(&BEFORE, steps);
     let closed = play(rt, alloc, 8, task, &mut told);
-    check_schedule(rt, alloc, name, steps, &closed, told.replies.as_slice());
+    check_replies(rt, name, told.replies.as_slice(), wanted.as_slice());
+    check_closed(rt, alloc, name, &closed, steps, &model.movie);
 }
 
 /// What the schedules are of.

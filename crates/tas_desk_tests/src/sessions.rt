@@ -57,13 +57,18 @@ pub fn kept<R: Abort>(rt: &R, alloc: Global, session: &Session) -> String {
 
 fn entry_line(alloc: Global, entry: &Entry) -> Result<String, AllocError> {
     let (seat, serial) = (entry.seat, entry.serial);
-    let (word, at, count) = match &entry.edit {
-        Edit::Load(_) => return format!(in alloc; "{seat} {serial} load\n"),
-        Edit::Insert { at, inputs } => ("insert", *at, inputs.as_slice().len()),
-        Edit::Replace { at, inputs } => ("replace", *at, inputs.as_slice().len()),
-        Edit::Delete { at, count } => ("delete", *at, *count),
-    };
-    format!(in alloc; "{seat} {serial} {word} {at} {count}\n")
+    match &entry.edit {
+        Edit::Load(_) => format!(in alloc; "{seat} {serial} load\n"),
+        Edit::Insert { at, inputs } => {
+            let count = inputs.as_slice().len();
+            format!(in alloc; "{seat} {serial} insert {at} {count}\n")
+        }
+        Edit::Replace { at, inputs } => {
+            let count = inputs.as_slice().len();
+            format!(in alloc; "{seat} {serial} replace {at} {count}\n")
+        }
+        Edit::Delete { at, count } => format!(in alloc; "{seat} {serial} delete {at} {count}\n"),
+    }
 }
 
 /// A history, an entry a line: the seat, the serial and the edit.

@@ -26,42 +26,6 @@ fn entries_of<R: Abort>(rt: &R, journal: &[Entry], seat: u32) -> u64 {
     serial
 }
 
-/// Each seat puts in so many inputs at place 0 and looks at the length and at input 0 after each.
-fn insert_and_look<N: Name, W: CloseOnDrop, R: Wait + Abort>(
-    rt: &R,
-    alloc: Global,
-    desk: &Desk<N, W>,
-    caller: &mut Caller<N>,
-    count: usize,
-) {
-    for _k in 0..count {
-        caller.edit(rt, alloc, desk, Change::InsertRight(0, 1));
-        caller.len(rt, desk);
-        caller.input(rt, desk, 0);
-    }
-}
-
-/// Each seat, on a thread of its own, inserts so often.
-pub fn insert_at_once<N: Name + Send + Sync, R: Threads + Wait + Abort + Sync>(
-    rt: &R,
-    alloc: Global,
-    desk: &Desk<N, &R>,
-    seats: &mut Vec<Seat<N>>,
-    told: &mut Told,
-    count: usize,
-) {
-    let mut callers = callers(rt, alloc, seats, &[Habit::All]);
-    thread::for_each_mut(
-        rt,
-        callers.as_mut_slice(),
-        8,
-        &|_, caller| {
-            insert_and_look(rt, alloc, desk, caller, count);
-        },
-    );
-    leave(rt, callers, seats, told);
-}
-
 /// The habit of the seat of this number, where they are taken in turn.
 fn habit_of(habits: &[Habit], seat: usize) -> Habit {
     if habits.is_empty() {
@@ -103,7 +67,13 @@ fn leave<N: Name, R: Abort>(
 #[test]
 fn two_seats_on_two_threads(rt: HostRuntime) {
     let mut told = nothing(rt.alloc());
-    let closed = play(&rt, rt.alloc(), 2, Task::Inserts(100), &mut told);
+    let inserts = Turns {
+        habits: &[Habit::Inserts],
+        before: &[],
+        turns: 100,
+        rounds: 0,
+    };
+    let closed = play(&rt, rt.alloc(), 2, Task::Turns(inserts), &mut told);
     judge_inserts(&rt, rt.alloc(), &closed, told.notes.as_slice());
 }
 
@@ -145,47 +115,46 @@ fn pairs<N: Name, W: CloseOnDrop, R: Threads + Wait + Abort + Sync>(
     }
 }
 
-/// Each caller, on a thread of its own, takes so many turns; then pairs of them do, and meet.
-fn turns_at_once<N: Name + Send + Sync, R: Threads + Wait + Abort + Sync>(
-    rt: &R,
-    alloc: Global,
-    desk: &Desk<N, &R>,
-    callers: &mut [Caller<N>],
-    turns: usize,
-) {
-    thread::for_each_mut(
-        rt,
-        callers,
-        8,
-        &|_, caller| {
-            caller.turns(rt, alloc, desk, turns);
-        },
-    );
-    thread::for_each_chunk_mut(
-        rt,
-        callers,
-        2,
-        &|_, pair| {
-            pairs(rt, alloc, desk, pair, 4);
-        },
-    );
+/// Turns that seats take at once.
+#[derive(Clone, Copy)]
+pub struct Turns<'a> {
+    /// The seats' habits in turn.
+    pub habits: &'a [Habit],
+    /// Edits that seat 0 makes first.
+    pub before: &'a [Change],
+    /// How many turns each seat takes, on a thread of its own.
+    pub turns: usize,
+    /// How often pairs of seats take turns then, and meet.
+    pub rounds: usize,
 }
 
-/// Each seat, on a thread of its own, takes so many turns at random; then pairs of them do, and meet. Seat 0 makes a movie first.
+/// Each seat, on a thread of its own, takes so many turns; then pairs of them do, and meet.
 pub fn take_turns_at_once<N: Name + Send + Sync, R: Threads + Wait + Abort + Sync>(
     rt: &R,
     alloc: Global,
     desk: &Desk<N, &R>,
     seats: &mut Vec<Seat<N>>,
     told: &mut Told,
-    habits: &[Habit],
-    turns: usize,
+    row: Turns<'_>,
 ) {
-    let mut callers = callers(rt, alloc, seats, habits);
-    let first = expect_some(rt, callers.first_mut());
-    first.edit(rt, alloc, desk, Change::Load(FOLDING));
-    first.edit(rt, alloc, desk, Change::Insert(0, 12));
-    turns_at_once(rt, alloc, desk, callers.as_mut_slice(), turns);
+    let mut callers = callers(rt, alloc, seats, row.habits);
+    expect_some(rt, callers.first_mut()).edits(rt, alloc, desk, row.before);
+    thread::for_each_mut(
+        rt,
+        callers.as_mut_slice(),
+        8,
+        &|_, caller| {
+            caller.turns(rt, alloc, desk, row.turns);
+        },
+    );
+    thread::for_each_chunk_mut(
+        rt,
+        callers.as_mut_slice(),
+        2,
+        &|_, pair| {
+            pairs(rt, alloc, desk, pair, row.rounds);
+        },
+    );
     leave(rt, callers, seats, told);
 }
 
@@ -209,7 +178,13 @@ fn judge_turns<R: Threads + Wait + Abort + Sync>(
     least: usize,
 ) {
     let mut told = nothing(alloc);
-    let closed = play(rt, alloc, 8, Task::Turns(habits, turns), &mut told);
+    let row = Turns {
+        habits,
+        before: &[Change::Load(FOLDING), Change::Insert(0, 12)],
+        turns,
+        rounds: 4,
+    };
+    let closed = play(rt, alloc, 8, Task::Turns(row), &mut told);
     judge_all(rt, alloc, &closed, told.notes.as_slice(), least);
 }
 
