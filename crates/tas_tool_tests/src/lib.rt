@@ -7,6 +7,8 @@ mod answers;
 #[cfg(test)]
 mod checks;
 #[cfg(test)]
+mod commands;
+#[cfg(test)]
 mod export_tests;
 #[cfg(test)]
 mod limit_tests;

@@ -1,9 +1,9 @@
 //! Each limit of the program at its last value that is taken and its first one that is refused.
 
 use crate::checks::{check_same, check_that, expect_ok};
-use crate::movies::{PICTURE, image_of};
-use crate::programs::{TwoFiles, only_game};
-use crate::tails::{Counted, run_counted};
+use crate::movies::{PICTURE, image_of, repeated};
+use crate::programs::{TwoFiles, only_game, run};
+use crate::tails::Tail;
 use std::alloc::Global;
 use std::process::Abort;
 use std::sync::Wait;
@@ -26,27 +26,6 @@ const FRAME: &[u8] = b"..... ..... .....\n";
 /// The most bytes of one input.
 const MOST_BYTES: usize = 16_777_216;
 
-/// Some bytes and then so many copies of others.
-fn repeated<R: Abort>(rt: &R, alloc: Global, front: &[u8], copy: &[u8], count: usize) -> Vec<u8> {
-    let room = copy.len().saturating_mul(count).saturating_add(front.len());
-    let mut bytes = expect_ok(rt, Vec::with_capacity(alloc, room));
-    expect_ok(rt, bytes.extend_from_slice(front));
-    for _ in 0..count {
-        expect_ok(rt, bytes.extend_from_slice(copy));
-    }
-    bytes
-}
-
-/// The older text of a movie with so many frames of nothing pressed.
-fn older_movie<R: Abort>(rt: &R, alloc: Global, frames: usize) -> Vec<u8> {
-    repeated(rt, alloc, OLDER_HEAD, FRAME, frames)
-}
-
-/// The text of runs with these lines.
-fn runs<R: Abort>(rt: &R, alloc: Global, lines: &[u8]) -> Vec<u8> {
-    repeated(rt, alloc, HEAD, lines, 1)
-}
-
 /// How the program ends.
 #[derive(Clone, Copy)]
 enum End {
@@ -58,21 +37,23 @@ enum End {
     Misuse,
 }
 
-/// Fails where a run of the program with these words ended in another way.
-fn check_ran<R: Abort>(rt: &R, words: &[&str], ran: &Counted, end: End) {
+/// Fails where a run of the program with these words ended in another way: with another status, or with other bytes written or
+/// told.
+fn check_ran<R: Abort>(rt: &R, words: &[&str], code: u8, output: &Tail, errors: &[u8], end: End) {
+    let found = (code, output.bytes);
     match end {
         End::Writes(bytes, last) => {
-            check_same(rt, words, (ran.code, ran.output.bytes), (0, bytes));
-            check_that(rt, words, ran.output.last.ends_with(last));
-            check_that(rt, words, ran.errors.is_empty());
+            check_same(rt, words, found, (0, bytes));
+            check_that(rt, words, output.last.ends_with(last));
+            check_that(rt, words, errors.is_empty());
         }
         End::Faults(line) => {
-            check_same(rt, words, (ran.code, ran.output.bytes), (1, 0));
-            check_same(rt, words, ran.errors.as_slice(), line);
+            check_same(rt, words, found, (1, 0));
+            check_same(rt, words, errors, line);
         }
         End::Misuse => {
-            check_same(rt, words, (ran.code, ran.output.bytes), (2, 0));
-            check_that(rt, words, ran.errors.starts_with(b"error: "));
+            check_same(rt, words, found, (2, 0));
+            check_that(rt, words, errors.starts_with(b"error: "));
         }
     }
 }
@@ -86,21 +67,49 @@ fn check_end<R: Threads + Wait + Abort + Sync>(
     input: &[u8],
     end: End,
 ) {
-    let ran = run_counted(rt, alloc, words, files, input);
-    check_ran(rt, words, &ran, end);
+    let mut output = Tail::new(alloc);
+    let mut errors = Vec::new(alloc);
+    let code = run(rt, alloc, words, files, input, &mut output, &mut errors);
+    check_ran(rt, words, code, &output, errors.as_slice(), end);
 }
 
-/// Fails where the program, run with each of these words over these files, ends in another way.
+/// Words, and how the program then ends.
+type Case = (&'static [&'static str], End);
+
+/// Fails where the program, run with each of these words over the cartridge of brief frames and this input, ends in another way.
 fn check_ends<R: Threads + Wait + Abort + Sync>(
     rt: &R,
     alloc: Global,
-    files: TwoFiles<'_>,
     input: &[u8],
-    cases: &[(&[&str], End)],
+    cases: &[Case],
 ) {
+    let game = image_of(rt, alloc, BRIEF);
+    let files = only_game(game.as_slice());
     for (words, end) in cases {
         check_end(rt, alloc, words, files, input, *end);
     }
+}
+
+/// The same over the older text of a movie with so many frames of nothing pressed.
+fn check_older<R: Threads + Wait + Abort + Sync>(
+    rt: &R,
+    alloc: Global,
+    frames: usize,
+    cases: &[Case],
+) {
+    let text = repeated(rt, alloc, OLDER_HEAD, FRAME, frames);
+    check_ends(rt, alloc, text.as_slice(), cases);
+}
+
+/// The same over the text of runs with these lines.
+fn check_runs<R: Threads + Wait + Abort + Sync>(
+    rt: &R,
+    alloc: Global,
+    lines: &[u8],
+    cases: &[Case],
+) {
+    let text = repeated(rt, alloc, HEAD, lines, 1);
+    check_ends(rt, alloc, text.as_slice(), cases);
 }
 
 const NO_FRAME: End = End::Faults(b"fault: no frame 9999999 of 2\n");
@@ -112,7 +121,7 @@ const TURNED: End = End::Faults(b"fault: range 9999999 to 0 of 2\n");
 const BOTH: End = End::Writes(2 * PICTURE, b"\0");
 
 /// Numbers of the words, over a movie of two frames.
-static NUMBERS: [(&[&str], End); 11] = [
+static NUMBERS: [Case; 11] = [
     (&["shot", "game.bin", "9999999"], NO_FRAME),
     (&["shot", "game.bin", "10000000"], End::Misuse),
     (&["shot", "game.bin", "1"], End::Writes(PICTURE, b"\0")),
@@ -128,19 +137,11 @@ static NUMBERS: [(&[&str], End); 11] = [
 
 #[test]
 fn numbers_of_the_words(rt: HostRuntime) {
-    let alloc = rt.alloc();
-    let (game, text) = (image_of(&rt, alloc, BRIEF), older_movie(&rt, alloc, 2));
-    check_ends(
-        &rt,
-        alloc,
-        only_game(game.as_slice()),
-        text.as_slice(),
-        NUMBERS.as_slice(),
-    );
+    check_older(&rt, rt.alloc(), 2, NUMBERS.as_slice());
 }
 
 /// Instructions of a trace that halts at its first one.
-static INSTRUCTIONS: [(&[&str], End); 3] = [
+static INSTRUCTIONS: [Case; 3] = [
     (&["trace", "0"], End::Writes(0, b"")),
     (&["trace", "1000000"], End::Writes(13, b"F000 02 halt\n")),
     (&["trace", "1000001"], End::Misuse),
@@ -151,13 +152,9 @@ fn instructions_of_a_trace(rt: HostRuntime) {
     let alloc = rt.alloc();
     // An undocumented opcode at its first instruction ends each trace.
     let halting = image_of(&rt, alloc, b"\x02");
-    check_ends(
-        &rt,
-        alloc,
-        only_game(b""),
-        halting.as_slice(),
-        INSTRUCTIONS.as_slice(),
-    );
+    for (words, end) in INSTRUCTIONS {
+        check_end(&rt, alloc, words, only_game(b""), halting.as_slice(), end);
+    }
 }
 
 /// A line has 25 bytes; the last one is the jump at the end of a loop of five instructions.
@@ -178,7 +175,7 @@ fn lines_of_a_trace(rt: HostRuntime) {
 }
 
 /// Over an older text of the most frames.
-static OLDER_LONGEST: [(&[&str], End); 4] = [
+static OLDER_LONGEST: [Case; 4] = [
     (
         &["check", "game.bin"],
         End::Writes(16, b"ok 65536 frames\n"),
@@ -197,7 +194,7 @@ static OLDER_LONGEST: [(&[&str], End); 4] = [
 const OLDER_TOO_MANY: End = End::Faults(b"fault: movie line 65539: too many\n");
 
 /// Over an older text of one frame more.
-static OLDER_LONGER: [(&[&str], End); 3] = [
+static OLDER_LONGER: [Case; 3] = [
     (&["check", "game.bin"], OLDER_TOO_MANY),
     (&["migrate", "game.bin"], OLDER_TOO_MANY),
     (&["shot", "game.bin", "0"], OLDER_TOO_MANY),
@@ -206,29 +203,14 @@ static OLDER_LONGER: [(&[&str], End); 3] = [
 #[test]
 fn frames_of_an_older_movie(rt: HostRuntime) {
     let alloc = rt.alloc();
-    let (game, longest) = (image_of(&rt, alloc, BRIEF), older_movie(&rt, alloc, 65_536));
-    let longer = older_movie(&rt, alloc, 65_537);
-    let files = only_game(game.as_slice());
-    check_ends(
-        &rt,
-        alloc,
-        files,
-        longest.as_slice(),
-        OLDER_LONGEST.as_slice(),
-    );
-    check_ends(
-        &rt,
-        alloc,
-        files,
-        longer.as_slice(),
-        OLDER_LONGER.as_slice(),
-    );
+    check_older(&rt, alloc, 65_536, OLDER_LONGEST.as_slice());
+    check_older(&rt, alloc, 65_537, OLDER_LONGER.as_slice());
 }
 
 const ALL_FRAMES: End = End::Writes(17, b"ok 262144 frames\n");
 
 /// Over the text of the most frames in one run.
-static LONGEST: [(&[&str], End); 3] = [
+static LONGEST: [Case; 3] = [
     (&["check", "game.bin"], ALL_FRAMES),
     (&["shot", "game.bin", "262143"], End::Writes(PICTURE, b"\0")),
     (
@@ -238,7 +220,7 @@ static LONGEST: [(&[&str], End); 3] = [
 ];
 
 /// Over the text of as many in two runs.
-static PARTED: [(&[&str], End); 2] = [
+static PARTED: [Case; 2] = [
     (&["check", "game.bin"], ALL_FRAMES),
     (
         &["migrate", "game.bin"],
@@ -250,30 +232,23 @@ static PARTED: [(&[&str], End); 2] = [
 #[test]
 fn frames_of_a_movie(rt: HostRuntime) {
     let alloc = rt.alloc();
-    let game = image_of(&rt, alloc, BRIEF);
-    let files = only_game(game.as_slice());
-    let longest = runs(&rt, alloc, b"..... ..... ..... x262144\n");
-    let parted = runs(
-        &rt,
-        alloc,
-        b"..... ..... ..... x262143\nR.... ..... .....\n",
-    );
-    check_ends(&rt, alloc, files, longest.as_slice(), LONGEST.as_slice());
-    check_ends(&rt, alloc, files, parted.as_slice(), PARTED.as_slice());
+    let longest = b"..... ..... ..... x262144\n";
+    check_runs(&rt, alloc, longest, LONGEST.as_slice());
+    let parted = b"..... ..... ..... x262143\nR.... ..... .....\n";
+    check_runs(&rt, alloc, parted, PARTED.as_slice());
 }
 
 const FRAME_FAULT: End = End::Faults(b"fault: movie line 3: frame\n");
 
 const TOO_MANY: End = End::Faults(b"fault: movie line 4: too many\n");
 
+const RUN_FAULT: End = End::Faults(b"fault: movie line 4: run\n");
+
 /// Runs with one frame more than the most, and two that would be one.
 static PAST_RUNS: [(&[u8], End); 5] = [
     (b"..... ..... ..... x262145\n", FRAME_FAULT),
     (b"..... ..... ..... x1\n", FRAME_FAULT),
-    (
-        b"..... ..... ..... x2\n..... ..... .....\n",
-        End::Faults(b"fault: movie line 4: run\n"),
-    ),
+    (b"..... ..... ..... x2\n..... ..... .....\n", RUN_FAULT),
     (b"..... ..... ..... x262144\nR.... ..... .....\n", TOO_MANY),
     (
         b"..... ..... ..... x262143\nR.... ..... ..... x2\n",
@@ -284,18 +259,8 @@ static PAST_RUNS: [(&[u8], End); 5] = [
 #[test]
 fn runs_past_their_limits(rt: HostRuntime) {
     let alloc = rt.alloc();
-    let game = image_of(&rt, alloc, BRIEF);
-    let files = only_game(game.as_slice());
     for (lines, end) in PAST_RUNS.iter() {
-        let text = runs(&rt, alloc, lines);
-        check_end(
-            &rt,
-            alloc,
-            &["check", "game.bin"],
-            files,
-            text.as_slice(),
-            *end,
-        );
+        check_runs(&rt, alloc, lines, &[(&["check", "game.bin"], *end)]);
     }
 }
 
@@ -311,41 +276,31 @@ static CHANGES: [(&[u8], End); 2] = [
     ),
 ];
 
+/// A script at the most frames.
+static SCRIPT: &[u8] =
+    b"insert 0 262145 ..... ..... .....\ninsert 0 262144 ..... ..... .....\ninsert 0 1 ..... ..... .....\n";
+
+/// Its replies.
+static REPLIES: &[u8] = b"long 0 len 0\nedit 1 len 262144\nlong 1 len 262144\n";
+
 /// Edits at the most frames, by `tas edit` of a movie of three frames and by `tas script`.
 #[test]
 fn frames_of_an_edit(rt: HostRuntime) {
     let alloc = rt.alloc();
-    let (game, text) = (image_of(&rt, alloc, BRIEF), older_movie(&rt, alloc, 3));
-    for (other, end) in CHANGES.iter() {
-        let files = TwoFiles {
-            game: game.as_slice(),
-            other,
-        };
-        check_end(
-            &rt,
-            alloc,
-            &["edit", "game.bin", "other"],
-            files,
-            text.as_slice(),
-            *end,
-        );
+    let game = image_of(&rt, alloc, BRIEF);
+    let game = game.as_slice();
+    let text = repeated(&rt, alloc, OLDER_HEAD, FRAME, 3);
+    let words = ["edit", "game.bin", "other"];
+    for (other, end) in CHANGES {
+        let files = TwoFiles { game, other };
+        check_end(&rt, alloc, &words, files, text.as_slice(), end);
     }
-    let files = only_game(game.as_slice());
-    let script =
-        b"insert 0 262145 ..... ..... .....\ninsert 0 262144 ..... ..... .....\ninsert 0 1 ..... ..... .....\n";
-    let replies = b"long 0 len 0\nedit 1 len 262144\nlong 1 len 262144\n";
-    check_end(
-        &rt,
-        alloc,
-        &["script"],
-        files,
-        script,
-        End::Writes(replies.len(), replies),
-    );
+    let end = End::Writes(REPLIES.len(), REPLIES);
+    check_end(&rt, alloc, &["script"], only_game(game), SCRIPT, end);
 }
 
 /// Exports of a movie of 1025 frames.
-static EXPORTS: [(&[&str], End); 2] = [
+static EXPORTS: [Case; 2] = [
     (
         &["export", "game.bin", "0", "1024", "16"],
         End::Writes(1024 * PICTURE, b"\0"),
@@ -358,18 +313,8 @@ static EXPORTS: [(&[&str], End); 2] = [
 
 #[test]
 fn frames_of_one_export(rt: HostRuntime) {
-    let alloc = rt.alloc();
-    let (game, text) = (
-        image_of(&rt, alloc, BRIEF),
-        runs(&rt, alloc, b"..... ..... ..... x1025\n"),
-    );
-    check_ends(
-        &rt,
-        alloc,
-        only_game(game.as_slice()),
-        text.as_slice(),
-        EXPORTS.as_slice(),
-    );
+    let lines = b"..... ..... ..... x1025\n";
+    check_runs(&rt, rt.alloc(), lines, EXPORTS.as_slice());
 }
 
 /// How many bytes the replies to so many edits have that leave the movie empty.
@@ -395,27 +340,53 @@ fn edits_of_a_script(rt: HostRuntime) {
     check_end(&rt, alloc, &["script"], files, script.as_slice(), end);
 }
 
+/// A file or an input.
+#[derive(Clone, Copy)]
+enum Bytes {
+    /// The cartridge of brief frames.
+    Brief,
+    /// So many zeros.
+    Zeros(usize),
+}
+
+fn bytes_of<R: Abort>(rt: &R, alloc: Global, bytes: Bytes) -> Vec<u8> {
+    match bytes {
+        Bytes::Brief => image_of(rt, alloc, BRIEF),
+        Bytes::Zeros(count) => expect_ok(rt, vec![in alloc; 0u8; count]),
+    }
+}
+
+const MOST: Bytes = Bytes::Zeros(MOST_BYTES);
+
+const MORE: Bytes = Bytes::Zeros(MOST_BYTES + 1);
+
+const NONE: Bytes = Bytes::Zeros(0);
+
+const SIZE: End = End::Faults(b"fault: cartridge has 16777216 bytes\n");
+
+const CUT: End = End::Faults(b"fault: movie line 1: end\n");
+
+const LONG: End = End::Faults(b"fault: input is too long\n");
+
+/// Words, the file `game.bin`, the input, and how the program ends.
+static INPUTS: [(&[&str], Bytes, Bytes, End); 6] = [
+    (&["trace", "1"], Bytes::Brief, MOST, SIZE),
+    (&["trace", "1"], Bytes::Brief, MORE, LONG),
+    (&["check", "game.bin"], MOST, NONE, SIZE),
+    (&["check", "game.bin"], MORE, NONE, LONG),
+    (&["check", "game.bin"], Bytes::Brief, MOST, CUT),
+    (&["check", "game.bin"], Bytes::Brief, MORE, LONG),
+];
+
 /// As many bytes as one input may have, and one more: of a cartridge, a movie text and a script.
 #[test]
 fn bytes_of_one_input(rt: HostRuntime) {
     let alloc = rt.alloc();
-    let game = image_of(&rt, alloc, BRIEF);
-    let zeros = expect_ok(&rt, vec![in alloc; 0u8; MOST_BYTES]);
-    let more = expect_ok(&rt, vec![in alloc; 0u8; MOST_BYTES + 1]);
-    let size = End::Faults(b"fault: cartridge has 16777216 bytes\n");
-    let cut = End::Faults(b"fault: movie line 1: end\n");
-    let long = End::Faults(b"fault: input is too long\n");
-    let cases: [(&[&str], &[u8], &[u8], End); 6] = [
-        (&["trace", "1"], &game, &zeros, size),
-        (&["trace", "1"], &game, &more, long),
-        (&["check", "game.bin"], &zeros, b"", size),
-        (&["check", "game.bin"], &more, b"", long),
-        (&["check", "game.bin"], &game, &zeros, cut),
-        (&["check", "game.bin"], &game, &more, long),
-    ];
-    for (words, game, input, end) in cases {
-        let files = only_game(game);
-        check_end(&rt, alloc, words, files, input, end);
+    for (words, game, input, end) in INPUTS {
+        let game = bytes_of(&rt, alloc, game);
+        let input = bytes_of(&rt, alloc, input);
+        let files = only_game(game.as_slice());
+        check_end(&rt, alloc, words, files, input.as_slice(), end);
     }
 }
 
@@ -445,6 +416,5 @@ fn bytes_of_a_script(rt: HostRuntime) {
     let all = End::Writes(bytes_of_replies(2046), b"edit 2046 len 0\n");
     check_end(&rt, alloc, &["script"], files, script.as_slice(), all);
     expect_ok(&rt, script.push(b'l'));
-    let long = End::Faults(b"fault: input is too long\n");
-    check_end(&rt, alloc, &["script"], files, script.as_slice(), long);
+    check_end(&rt, alloc, &["script"], files, script.as_slice(), LONG);
 }

@@ -16,10 +16,10 @@
 //! - `000=A203A9028500A9008500CAD0F502 FFC=00F0` ends three frames at once, and halts at F00D in its fourth.
 
 use crate::checks::{check_same, check_that, expect_ok, expect_some};
+use crate::commands::answer_script;
 use std::alloc::Global;
 use std::process::Abort;
 use tas_script::split_once;
-use tas_tool::script_run;
 
 /// Each line, a bar, and its reply.
 static TURNS: &str = "\
@@ -265,7 +265,7 @@ fn a_long_script_is_answered_as_worked_out_apart(rt: HostRuntime) {
     let alloc = rt.alloc();
     let script = script(&rt, alloc);
     let mut output = Vec::new(alloc);
-    let end = script_run(&rt, alloc, &mut script.as_slice(), &mut output);
+    let end = answer_script(&rt, alloc, &mut script.as_slice(), &mut output);
     check_same(&rt, "end", end, Ok(()));
     compare(&rt, alloc, output.as_slice());
 }

@@ -2,23 +2,30 @@
 
 use crate::answers::{Answer, check_answer};
 use crate::checks::check_same;
+use crate::commands::{Files, answer_over_movie, answer_script};
 use crate::movies::{IDLE, PLAYFIELD, image_of, joined, text_of};
 use std::alloc::Global;
+use std::fmt::Debug;
+use std::process::Abort;
 use std::sync::Wait;
 use tas_movie::{TextError, TextErrorKind};
-use tas_tool::{ToolFault, movie_script_run, script_run};
+use tas_tool::ToolFault;
 
 /// The line that loads the playfield's cartridge.
 static LOAD: &[u8] = b"load 000=A910850DA91E85084C08F0 FFC=00F0\n";
 
-/// What a script over a movie writes, and how it ends.
-fn written<R: Wait>(rt: &R, alloc: Global, cart: &[u8], movie: &[u8], script: &[u8]) -> Answer {
-    let mut cart = cart;
-    let mut movie = movie;
-    let mut input = script;
+/// Fails where a script over a movie is answered by other replies, or ends in another way.
+fn check_over_movie<R: Wait + Abort, C: Copy + Debug>(
+    rt: &R,
+    alloc: Global,
+    case: C,
+    files: Files<'_>,
+    script: &[u8],
+    wanted: Answer<'_>,
+) {
     let mut output = Vec::new(alloc);
-    let end = movie_script_run(rt, alloc, &mut cart, &mut movie, &mut input, &mut output);
-    (output, end)
+    let end = answer_over_movie(rt, alloc, files, script, &mut output);
+    check_answer(rt, case, (output.as_slice(), end), wanted);
 }
 
 static LINES: &[u8] =
@@ -33,14 +40,15 @@ fn a_script_goes_on_from_its_movie(rt: HostRuntime) {
     let alloc = rt.alloc();
     let cart = image_of(&rt, alloc, PLAYFIELD.bytes);
     let movie = text_of(&rt, alloc, PLAYFIELD, 3, IDLE);
-    let answer = written(&rt, alloc, cart.as_slice(), movie.as_bytes(), LINES);
-    check_answer(&rt, "over a movie", answer, REPLIES, Ok(()));
+    let files = (cart.as_slice(), movie.as_bytes());
+    check_over_movie(&rt, alloc, "over a movie", files, LINES, (REPLIES, Ok(())));
     let insert = b"insert 0 3 ..... ..... .....\n";
     let script = joined(&rt, alloc, &[LOAD, insert, LINES]);
     let replies = joined(&rt, alloc, &[b"edit 1 len 0\nedit 2 len 3\n", REPLIES]);
     let mut output = Vec::new(alloc);
-    let end = script_run(&rt, alloc, &mut script.as_slice(), &mut output);
-    check_answer(&rt, "alone", (output, end), replies.as_slice(), Ok(()));
+    let end = answer_script(&rt, alloc, &mut script.as_slice(), &mut output);
+    let wanted = (replies.as_slice(), Ok(()));
+    check_answer(&rt, "alone", (output.as_slice(), end), wanted);
 }
 
 /// Frames of a movie, lines, and the replies.
@@ -64,42 +72,43 @@ fn movies_of_no_frames_and_of_the_most_are_made(rt: HostRuntime) {
     let cart = image_of(&rt, alloc, PLAYFIELD.bytes);
     for (frames, lines, replies) in LENGTHS.iter() {
         let movie = text_of(&rt, alloc, PLAYFIELD, *frames, IDLE);
-        let answer = written(&rt, alloc, cart.as_slice(), movie.as_bytes(), lines);
-        check_answer(&rt, ("frames", frames), answer, replies, Ok(()));
+        let files = (cart.as_slice(), movie.as_bytes());
+        let wanted = (*replies, Ok(()));
+        check_over_movie(&rt, alloc, ("frames", frames), files, lines, wanted);
     }
 }
+
+const NO_END: ToolFault = ToolFault::Text(TextError {
+    line: 2,
+    kind: TextErrorKind::End,
+});
+
+/// Whether cartridge and movie are right, the script, its replies, and the fault. Other cartridges have 7 bytes, other movies one line.
+static FAULTS: [(bool, bool, &[u8], &[u8], ToolFault); 4] = [
+    (false, false, b"len\nx\n", b"", ToolFault::Size(7)),
+    (true, false, b"len\nx\n", b"", NO_END),
+    (
+        true,
+        true,
+        b"len\nx\n",
+        b"len 2 1\n",
+        ToolFault::Script { line: 2 },
+    ),
+    (true, true, b"len", b"", ToolFault::Script { line: 1 }),
+];
 
 #[test]
 fn faults_over_a_movie_come_in_order(rt: HostRuntime) {
     let alloc = rt.alloc();
     let cart = image_of(&rt, alloc, PLAYFIELD.bytes);
     let movie = text_of(&rt, alloc, PLAYFIELD, 1, IDLE);
-    let bad = b"a26movie 2\n".as_slice();
-    let text = ToolFault::Text(TextError {
-        line: 2,
-        kind: TextErrorKind::End,
-    });
-    let cases: [(&[u8], &[u8], &[u8], &[u8], ToolFault); 4] = [
-        (b"1234567", bad, b"len\nx\n", b"", ToolFault::Size(7)),
-        (cart.as_slice(), bad, b"len\nx\n", b"", text),
-        (
-            cart.as_slice(),
-            movie.as_bytes(),
-            b"len\nx\n",
-            b"len 2 1\n",
-            ToolFault::Script { line: 2 },
-        ),
-        (
-            cart.as_slice(),
-            movie.as_bytes(),
-            b"len",
-            b"",
-            ToolFault::Script { line: 1 },
-        ),
-    ];
-    for (number, (cart, movie, script, replies, fault)) in cases.iter().enumerate() {
-        let answer = written(&rt, alloc, cart, movie, script);
-        check_answer(&rt, ("case", number), answer, replies, Err(*fault));
+    let carts = [b"1234567".as_slice(), cart.as_slice()];
+    let movies = [b"a26movie 2\n".as_slice(), movie.as_bytes()];
+    for (number, (has_cart, has_movie, script, replies, fault)) in FAULTS.iter().enumerate() {
+        let cart = if *has_cart { carts[1] } else { carts[0] };
+        let movie = if *has_movie { movies[1] } else { movies[0] };
+        let wanted = (*replies, Err(*fault));
+        check_over_movie(&rt, alloc, ("case", number), (cart, movie), script, wanted);
     }
 }
 
@@ -108,11 +117,9 @@ fn a_full_writer_ends_a_script_over_a_movie(rt: HostRuntime) {
     let alloc = rt.alloc();
     let cart = image_of(&rt, alloc, PLAYFIELD.bytes);
     let movie = text_of(&rt, alloc, PLAYFIELD, 1, IDLE);
-    let mut cart = cart.as_slice();
-    let mut movie = movie.as_bytes();
-    let mut input = b"len\n".as_slice();
+    let files = (cart.as_slice(), movie.as_bytes());
     let mut room = [0u8; 5];
     let mut output = room.as_mut_slice();
-    let end = movie_script_run(&rt, alloc, &mut cart, &mut movie, &mut input, &mut output);
+    let end = answer_over_movie(&rt, alloc, files, b"len\n", &mut output);
     check_same(&rt, "end", end, Err(ToolFault::Write { written: 5 }));
 }

@@ -5,7 +5,7 @@ use std::alloc::Global;
 use std::process::Abort;
 
 /// A program at F000, and the SHA-256 of its cartridge by another program.
-#[derive(Clone, Copy, Drop)]
+#[derive(Clone, Copy)]
 pub struct Program {
     pub bytes: &'static [u8],
     pub digest: &'static str,
@@ -119,6 +119,23 @@ pub fn joined<R: Abort>(rt: &R, alloc: Global, parts: &[&[u8]]) -> Vec<u8> {
     let mut bytes = Vec::new(alloc);
     for part in parts {
         expect_ok(rt, bytes.extend_from_slice(part));
+    }
+    bytes
+}
+
+/// Some bytes and then so many copies of others.
+pub fn repeated<R: Abort>(
+    rt: &R,
+    alloc: Global,
+    front: &[u8],
+    copy: &[u8],
+    count: usize,
+) -> Vec<u8> {
+    let room = copy.len().saturating_mul(count).saturating_add(front.len());
+    let mut bytes = expect_ok(rt, Vec::with_capacity(alloc, room));
+    expect_ok(rt, bytes.extend_from_slice(front));
+    for _ in 0..count {
+        expect_ok(rt, bytes.extend_from_slice(copy));
     }
     bytes
 }

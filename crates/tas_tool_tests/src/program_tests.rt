@@ -2,11 +2,9 @@
 
 use crate::checks::check_same;
 use crate::movies::{PLAYFIELD, image_of, joined, playfield_picture};
-use crate::programs::{
-    ONE_FRAME, TwoFiles, check_ran, only_game, run, run_into, run_words, words_of,
-};
+use crate::programs::{ONE_FRAME, TWO_FRAMES, TwoFiles, check_run, check_unread, only_game, run};
 use std::alloc::Global;
-use std::io::{Error, ErrorKind};
+use std::io::ErrorKind;
 use std::process::Abort;
 use std::sync::Wait;
 use std::thread::Threads;
@@ -28,135 +26,172 @@ const SCRIPT: &[u8] =
 const REPLIES: &[u8] =
     b"edit 1 len 0\nedit 2 len 2\nshot 2 1 ran 2 lit 1680\nedit 3 len 2\ninput 3 R.... ..... .....\nno frame 3 len 2\n";
 
-/// Fails where a command over this cartridge and input doesn't end well, or writes another answer.
-fn check_done<R: Threads + Wait + Abort + Sync>(
+/// The words, the file `other`, the input, and what the program then writes and tells, by hand.
+type Case<'a> = (&'a [&'a str], &'a [u8], &'a [u8], &'a [u8], &'a [u8]);
+
+/// Fails where the program over this cartridge ends in another way: with status 0 where it tells nothing, and with 1 where it does.
+fn check_case<R: Threads + Wait + Abort + Sync>(
     rt: &R,
     alloc: Global,
-    words: &[&str],
-    cart: &[u8],
-    input: &[u8],
-    answer: &[u8],
+    game: &[u8],
+    case: Case<'_>,
 ) {
-    let ran = run(rt, alloc, words, only_game(cart), input);
-    check_ran(rt, words, ran, 0, answer, b"");
+    let (words, other, input, output, line) = case;
+    let end = (u8::from(!line.is_empty()), output, line);
+    check_run(rt, alloc, words, TwoFiles { game, other }, input, end);
 }
 
-/// Words, the input, and what the program then writes.
-static ANSWERS: [(&[&str], &[u8], &[u8]); 8] = [
-    (&["check", "game.bin"], ONE_FRAME, b"ok 1 frames\n"),
-    (&["check", "game.bin"], OLDER_FRAME, b"ok 1 frames\n"),
-    (&["migrate", "game.bin"], OLDER_FRAME, ONE_FRAME),
-    (&["migrate", "game.bin"], ONE_FRAME, ONE_FRAME),
-    (&["script"], SCRIPT, REPLIES),
-    (&["talk"], SCRIPT, REPLIES),
-    (&["talk", "game.bin"], b"len\nwhat", b"len 2 0\nunknown\n"),
-    (&["export", "game.bin", "0", "0", "3"], ONE_FRAME, b""),
+fn check_cases<R: Threads + Wait + Abort + Sync>(
+    rt: &R,
+    alloc: Global,
+    game: &[u8],
+    cases: &[Case<'_>],
+) {
+    for case in cases {
+        check_case(rt, alloc, game, *case);
+    }
+}
+
+fn check_over_playfield<R: Threads + Wait + Abort + Sync>(
+    rt: &R,
+    alloc: Global,
+    cases: &[Case<'_>],
+) {
+    let game = image_of(rt, alloc, PLAYFIELD.bytes);
+    check_cases(rt, alloc, game.as_slice(), cases);
+}
+
+/// Commands that write an answer.
+static ANSWERS: [Case<'static>; 8] = [
+    (
+        &["check", "game.bin"],
+        b"",
+        ONE_FRAME,
+        b"ok 1 frames\n",
+        b"",
+    ),
+    (
+        &["check", "game.bin"],
+        b"",
+        OLDER_FRAME,
+        b"ok 1 frames\n",
+        b"",
+    ),
+    (&["migrate", "game.bin"], b"", OLDER_FRAME, ONE_FRAME, b""),
+    (&["migrate", "game.bin"], b"", ONE_FRAME, ONE_FRAME, b""),
+    (&["script"], b"", SCRIPT, REPLIES, b""),
+    (&["talk"], b"", SCRIPT, REPLIES, b""),
+    (
+        &["talk", "game.bin"],
+        b"",
+        b"len\nwhat",
+        b"len 2 0\nunknown\n",
+        b"",
+    ),
+    (
+        &["export", "game.bin", "0", "0", "3"],
+        b"",
+        ONE_FRAME,
+        b"",
+        b"",
+    ),
 ];
 
 #[test]
 fn commands_write_their_answers(rt: HostRuntime) {
     let alloc = rt.alloc();
-    let cart = image_of(&rt, alloc, PLAYFIELD.bytes);
-    for (words, input, answer) in ANSWERS.iter() {
-        check_done(&rt, alloc, words, cart.as_slice(), input, answer);
-    }
+    check_over_playfield(&rt, alloc, ANSWERS.as_slice());
     let stores = image_of(&rt, alloc, STORES);
-    let words = ["trace", "3"];
-    check_done(
-        &rt,
-        alloc,
-        &words,
-        cart.as_slice(),
-        stores.as_slice(),
-        TRACE,
-    );
+    let trace: Case = (&["trace", "3"], b"", stores.as_slice(), TRACE, b"");
+    check_over_playfield(&rt, alloc, &[trace]);
+}
+
+/// Fails where a command over the playfield's cartridge and this movie doesn't write these pictures.
+fn check_pictures<R: Threads + Wait + Abort + Sync>(
+    rt: &R,
+    alloc: Global,
+    words: &[&str],
+    movie: &[u8],
+    pictures: &[u8],
+) {
+    check_over_playfield(rt, alloc, &[(words, b"", movie, pictures, b"")]);
 }
 
 #[test]
 fn commands_write_their_pictures(rt: HostRuntime) {
     let alloc = rt.alloc();
-    let cart = image_of(&rt, alloc, PLAYFIELD.bytes);
-    let cart = cart.as_slice();
     let picture = playfield_picture(&rt, alloc);
     let picture = picture.as_slice();
-    check_done(
-        &rt,
-        alloc,
-        &["shot", "game.bin", "0"],
-        cart,
-        ONE_FRAME,
-        picture,
-    );
-    let words = ["export", "game.bin", "0", "1", "4"];
-    check_done(&rt, alloc, &words, cart, ONE_FRAME, picture);
-    let movie = joined(&rt, alloc, &[ONE_FRAME, b"R.... ..... .....\n"]);
+    let shot = ["shot", "game.bin", "0"];
+    check_pictures(&rt, alloc, &shot, ONE_FRAME, picture);
+    let export = ["export", "game.bin", "0", "1", "4"];
+    check_pictures(&rt, alloc, &export, ONE_FRAME, picture);
     let pictures = joined(&rt, alloc, &[picture, picture]);
-    let words = ["export", "game.bin", "0", "2", "3"];
-    check_done(
-        &rt,
-        alloc,
-        &words,
-        cart,
-        movie.as_slice(),
-        pictures.as_slice(),
-    );
+    let export = ["export", "game.bin", "0", "2", "3"];
+    check_pictures(&rt, alloc, &export, TWO_FRAMES, pictures.as_slice());
 }
 
-/// The words, the input, and what the program then writes and tells, by hand.
-type Faulty<'a> = (&'a [&'a str], &'a [u8], &'a [u8], &'a [u8]);
-
 /// Faults over the playfield's cartridge.
-static FAULTS: [Faulty<'static>; 9] = [
+static FAULTS: [Case<'static>; 9] = [
     (
         &["trace", "1"],
+        b"",
         b"1234567",
         b"",
         b"fault: cartridge has 7 bytes\n",
     ),
     (
         &["check", "other.bin"],
+        b"",
         ONE_FRAME,
         b"",
         b"fault: read failed\n",
     ),
     (
         &["check", "game.bin"],
+        b"",
         b"a26movie 1\n",
         b"",
         b"fault: movie line 2: end\n",
     ),
     (
         &["migrate", "game.bin"],
+        b"",
         b"a26movie 1\n",
         b"",
         b"fault: movie line 2: end\n",
     ),
     (
         &["shot", "other.bin", "0"],
+        b"",
         ONE_FRAME,
         b"",
         b"fault: read failed\n",
     ),
     (
         &["shot", "game.bin", "9999999"],
+        b"",
         ONE_FRAME,
         b"",
         b"fault: no frame 9999999 of 1\n",
     ),
     (
         &["export", "other.bin", "0", "1", "1"],
+        b"",
         ONE_FRAME,
         b"",
         b"fault: read failed\n",
     ),
     (
         &["export", "game.bin", "0", "2", "1"],
+        b"",
         ONE_FRAME,
         b"",
         b"fault: range 0 to 2 of 1\n",
     ),
     (
         &["script"],
+        b"",
         b"len\nplay\n",
         b"len 0 0\n",
         b"fault: script line 2\n",
@@ -164,84 +199,57 @@ static FAULTS: [Faulty<'static>; 9] = [
 ];
 
 /// A fault over a cartridge of seven bytes.
-static SIZE_FAULT: [Faulty<'static>; 1] = [(
+static SIZE_FAULT: [Case<'static>; 1] = [(
     &["check", "game.bin"],
+    b"",
     ONE_FRAME,
     b"",
     b"fault: cartridge has 7 bytes\n",
 )];
 
-/// Fails where these commands over a cartridge don't end with these faults.
-fn check_faults<R: Threads + Wait + Abort + Sync>(
-    rt: &R,
-    alloc: Global,
-    cart: &[u8],
-    cases: &[Faulty],
-) {
-    for (words, input, output, line) in cases {
-        let ran = run(rt, alloc, words, only_game(cart), input);
-        check_ran(rt, words, ran, 1, output, line);
-    }
-}
-
 #[test]
 fn faults_end_with_status_1(rt: HostRuntime) {
     let alloc = rt.alloc();
-    let cart = image_of(&rt, alloc, PLAYFIELD.bytes);
-    check_faults(&rt, alloc, cart.as_slice(), FAULTS.as_slice());
-    check_faults(&rt, alloc, b"1234567", SIZE_FAULT.as_slice());
+    check_over_playfield(&rt, alloc, FAULTS.as_slice());
+    check_cases(&rt, alloc, b"1234567", SIZE_FAULT.as_slice());
 }
 
 #[test]
 fn no_memory_for_the_words_is_a_fault(rt: HostRuntime) {
     let alloc = rt.alloc();
     let cart = image_of(&rt, alloc, PLAYFIELD.bytes);
-    let words = Err(Error::from(ErrorKind::OutOfMemory));
-    let ran = run_words(&rt, alloc, words, only_game(cart.as_slice()), ONE_FRAME);
-    check_ran(&rt, &[], ran, 1, b"", b"fault: out of memory\n");
+    let end = (1, b"".as_slice(), b"fault: out of memory\n".as_slice());
+    let kind = ErrorKind::OutOfMemory;
+    check_unread(&rt, alloc, kind, only_game(cart.as_slice()), ONE_FRAME, end);
 }
 
 #[test]
 fn help_that_cannot_be_written_is_a_fault(rt: HostRuntime) {
     let alloc = rt.alloc();
-    let words = words_of(&rt, alloc, &["--version"]).into_iter();
     let mut room = [0u8; 20];
     let mut output = room.as_mut_slice();
-    let (errors, code) = run_into(&rt, alloc, Ok(words), only_game(b""), b"", &mut output);
-    check_same(&rt, "status", code, 1);
-    check_same(
+    let mut errors = Vec::new(alloc);
+    let words = ["--version"];
+    let code = run(
         &rt,
-        "errors",
-        errors.as_slice(),
-        b"fault: write failed after 20 bytes\n".as_slice(),
+        alloc,
+        &words,
+        only_game(b""),
+        b"",
+        &mut output,
+        &mut errors,
     );
+    check_same(&rt, "status", code, 1);
+    let line = b"fault: write failed after 20 bytes\n".as_slice();
+    check_same(&rt, "errors", errors.as_slice(), line);
 }
 
 /// A movie of the playfield's cartridge with three frames.
 const THREE_FRAMES: &[u8] =
     b"a26movie 2\ncart 820c64e9933496de683a000c5e11f0510fb7b1699b2ce86471295236b284906d\n..... ..... .....\nR.... ..... .....\n....F ..... .....\n";
 
-/// The words, the file `other`, the input, and what the program then writes and tells, by hand.
-type OverTwoFiles<'a> = (&'a [&'a str], &'a [u8], &'a [u8], &'a [u8], &'a [u8]);
-
-fn check_over_two_files<R: Threads + Wait + Abort + Sync>(
-    rt: &R,
-    alloc: Global,
-    cases: &[OverTwoFiles],
-) {
-    let cart = image_of(rt, alloc, PLAYFIELD.bytes);
-    for (words, other, input, output, line) in cases {
-        let folder = TwoFiles {
-            game: cart.as_slice(),
-            other,
-        };
-        let ran = run(rt, alloc, words, folder, input);
-        check_ran(rt, words, ran, u8::from(!line.is_empty()), output, line);
-    }
-}
-
 /// Edits, and their movies.
-static EDITS: [OverTwoFiles<'static>; 3] = [
+static EDITS: [Case<'static>; 3] = [
     (
         &["edit", "game.bin", "other"],
         b"insert 1 1 R.... ..... .....\ninsert 2 1 ....F ..... .....\n",
@@ -267,11 +275,11 @@ static EDITS: [OverTwoFiles<'static>; 3] = [
 
 #[test]
 fn edits_write_their_movies(rt: HostRuntime) {
-    check_over_two_files(&rt, rt.alloc(), EDITS.as_slice());
+    check_over_playfield(&rt, rt.alloc(), EDITS.as_slice());
 }
 
 /// Edits that are refused.
-static REFUSED_EDITS: [OverTwoFiles<'static>; 4] = [
+static REFUSED_EDITS: [Case<'static>; 4] = [
     (
         &["edit", "game.bin", "other"],
         b"delete 0 1\ndelete 2 1\n",
@@ -304,11 +312,11 @@ static REFUSED_EDITS: [OverTwoFiles<'static>; 4] = [
 
 #[test]
 fn edits_that_are_refused_write_nothing(rt: HostRuntime) {
-    check_over_two_files(&rt, rt.alloc(), REFUSED_EDITS.as_slice());
+    check_over_playfield(&rt, rt.alloc(), REFUSED_EDITS.as_slice());
 }
 
 /// Differences, and their scripts.
-static DIFFERENCES: [OverTwoFiles<'static>; 3] = [
+static DIFFERENCES: [Case<'static>; 3] = [
     (
         &["diff", "game.bin", "other"],
         ONE_FRAME,
@@ -334,11 +342,11 @@ static DIFFERENCES: [OverTwoFiles<'static>; 3] = [
 
 #[test]
 fn differences_write_their_scripts(rt: HostRuntime) {
-    check_over_two_files(&rt, rt.alloc(), DIFFERENCES.as_slice());
+    check_over_playfield(&rt, rt.alloc(), DIFFERENCES.as_slice());
 }
 
 /// Scripts over a movie.
-static SCRIPTS: [OverTwoFiles<'static>; 4] = [
+static SCRIPTS: [Case<'static>; 4] = [
     (
         &["script", "--cart", "game.bin", "--movie", "other"],
         THREE_FRAMES,
@@ -371,11 +379,11 @@ static SCRIPTS: [OverTwoFiles<'static>; 4] = [
 
 #[test]
 fn scripts_over_a_movie_write_their_replies(rt: HostRuntime) {
-    check_over_two_files(&rt, rt.alloc(), SCRIPTS.as_slice());
+    check_over_playfield(&rt, rt.alloc(), SCRIPTS.as_slice());
 }
 
 /// Conversations over a cartridge or a movie.
-static TALKS: [OverTwoFiles<'static>; 3] = [
+static TALKS: [Case<'static>; 3] = [
     (
         &["talk", "game.bin", "other"],
         THREE_FRAMES,
@@ -401,5 +409,5 @@ static TALKS: [OverTwoFiles<'static>; 3] = [
 
 #[test]
 fn conversations_over_a_movie_write_their_answers(rt: HostRuntime) {
-    check_over_two_files(&rt, rt.alloc(), TALKS.as_slice());
+    check_over_playfield(&rt, rt.alloc(), TALKS.as_slice());
 }

@@ -15,7 +15,7 @@ use std::thread::Threads;
 use tas_program::{Folder, run_program};
 
 /// A folder with the files `game.bin` and `other`.
-#[derive(Clone, Copy, Drop)]
+#[derive(Clone, Copy)]
 pub struct TwoFiles<'a> {
     pub game: &'a [u8],
     pub other: &'a [u8],
@@ -42,14 +42,6 @@ pub fn only_game(game: &[u8]) -> TwoFiles<'_> {
     TwoFiles { game, other: b"" }
 }
 
-/// What the program wrote, and its status.
-#[derive(Drop)]
-pub struct Ran {
-    pub output: Vec<u8>,
-    pub errors: Vec<u8>,
-    pub code: u8,
-}
-
 /// The program's name, and these words.
 pub fn words_of<R: Abort>(rt: &R, alloc: Global, words: &[&str]) -> Vec<String> {
     let mut all = Vec::new(alloc);
@@ -65,57 +57,83 @@ fn push_word<R: Abort>(rt: &R, alloc: Global, words: &mut Vec<String>, word: &st
     expect_ok(rt, words.push(word));
 }
 
-/// Runs the program with these words over this folder and input, into this writer: what it tells of faults, and its status.
-pub fn run_into<T: Threads + Wait + Sync, W: Write>(
+/// Runs the program with these words over this folder and input: its status. What it writes, and what it tells of faults, goes to
+/// these writers.
+pub fn run_words<T: Threads + Wait + Sync, W: Write>(
     rt: &T,
     alloc: Global,
     words: io::Result<Args>,
     folder: TwoFiles<'_>,
     input: &[u8],
     output: &mut W,
-) -> (Vec<u8>, u8) {
+    errors: &mut Vec<u8>,
+) -> u8 {
     let mut input = input;
-    let mut errors = Vec::new(alloc);
-    let status = run_program(rt, alloc, words, &folder, &mut input, output, &mut errors);
-    (errors, status.code())
+    run_program(rt, alloc, words, &folder, &mut input, output, errors).code()
 }
 
-/// Runs the program with these words over this folder and input.
-pub fn run_words<T: Threads + Wait + Sync>(
-    rt: &T,
-    alloc: Global,
-    words: io::Result<Args>,
-    folder: TwoFiles<'_>,
-    input: &[u8],
-) -> Ran {
-    let mut output = Vec::new(alloc);
-    let (errors, code) = run_into(rt, alloc, words, folder, input, &mut output);
-    Ran {
-        output,
-        errors,
-        code,
-    }
-}
-
-/// Runs the program with these words, which are text.
-pub fn run<T: Threads + Wait + Abort + Sync>(
+/// The same with words that are text.
+pub fn run<T: Threads + Wait + Abort + Sync, W: Write>(
     rt: &T,
     alloc: Global,
     words: &[&str],
     folder: TwoFiles<'_>,
     input: &[u8],
-) -> Ran {
+    output: &mut W,
+    errors: &mut Vec<u8>,
+) -> u8 {
     let words = words_of(rt, alloc, words).into_iter();
-    run_words(rt, alloc, Ok(words), folder, input)
+    run_words(rt, alloc, Ok(words), folder, input, output, errors)
 }
 
-/// Fails where a run ends with another status, writes something else, or tells something else.
-pub fn check_ran<R: Abort>(rt: &R, words: &[&str], ran: Ran, code: u8, output: &[u8], line: &[u8]) {
-    check_same(rt, words, ran.code, code);
-    check_same(rt, words, ran.errors.as_slice(), line);
-    check_that(rt, (words, line), ran.output.as_slice() == output);
+/// A status, what the program writes, and what it tells of faults.
+pub type End<'a> = (u8, &'a [u8], &'a [u8]);
+
+/// Fails where a run with these words ended in another way.
+pub fn check_ran<R: Abort>(rt: &R, words: &[&str], found: End<'_>, wanted: End<'_>) {
+    let (code, output, line) = wanted;
+    check_same(rt, words, found.0, code);
+    check_same(rt, words, found.2, line);
+    check_that(rt, (words, line), found.1 == output);
+}
+
+/// Fails where the program, run with these words over this folder and input, ends in another way.
+pub fn check_run<T: Threads + Wait + Abort + Sync>(
+    rt: &T,
+    alloc: Global,
+    words: &[&str],
+    folder: TwoFiles<'_>,
+    input: &[u8],
+    end: End<'_>,
+) {
+    let mut output = Vec::new(alloc);
+    let mut errors = Vec::new(alloc);
+    let code = run(rt, alloc, words, folder, input, &mut output, &mut errors);
+    let found = (code, output.as_slice(), errors.as_slice());
+    check_ran(rt, words, found, end);
+}
+
+/// The same where the words can't be read.
+pub fn check_unread<T: Threads + Wait + Abort + Sync>(
+    rt: &T,
+    alloc: Global,
+    kind: ErrorKind,
+    folder: TwoFiles<'_>,
+    input: &[u8],
+    end: End<'_>,
+) {
+    let mut output = Vec::new(alloc);
+    let mut errors = Vec::new(alloc);
+    let words = Err(Error::from(kind));
+    let code = run_words(rt, alloc, words, folder, input, &mut output, &mut errors);
+    let found = (code, output.as_slice(), errors.as_slice());
+    check_ran(rt, &[], found, end);
 }
 
 /// A movie of the playfield's cartridge, with one frame of nothing pressed. The digest comes from another program.
 pub const ONE_FRAME: &[u8] =
     b"a26movie 2\ncart 820c64e9933496de683a000c5e11f0510fb7b1699b2ce86471295236b284906d\n..... ..... .....\n";
+
+/// The same with a second one, where the left stick is pushed right.
+pub const TWO_FRAMES: &[u8] =
+    b"a26movie 2\ncart 820c64e9933496de683a000c5e11f0510fb7b1699b2ce86471295236b284906d\n..... ..... .....\nR.... ..... .....\n";

@@ -2,34 +2,43 @@
 
 use crate::answers::{Answer, check_answer};
 use crate::checks::check_same;
+use crate::commands::answer_script;
 use std::alloc::Global;
+use std::fmt::Debug;
+use std::io::Read;
+use std::process::Abort;
 use std::sync::Wait;
-use tas_tool::{INPUT_LIMIT, ToolFault, script_run};
+use tas_tool::{INPUT_LIMIT, ToolFault};
 use test_streams::{Failure, Filler, Room, Taker};
 
-/// What a script writes, and how it ends.
-fn written<R: Wait>(rt: &R, alloc: Global, script: &[u8]) -> Answer {
+/// Fails where a script is answered by other replies, or ends in another way.
+fn check_script<R: Wait + Abort, C: Copy + Debug, I: Read>(
+    rt: &R,
+    alloc: Global,
+    case: C,
+    input: &mut I,
+    wanted: Answer<'_>,
+) {
     let mut output = Vec::new(alloc);
-    let mut input = script;
-    let end = script_run(rt, alloc, &mut input, &mut output);
-    (output, end)
+    let end = answer_script(rt, alloc, input, &mut output);
+    check_answer(rt, case, (output.as_slice(), end), wanted);
 }
+
+/// The same for a script that ends well.
+fn check_replies<R: Wait + Abort>(rt: &R, alloc: Global, case: &str, script: &[u8], text: &[u8]) {
+    check_script(rt, alloc, case, &mut { script }, (text, Ok(())));
+}
+
+/// Each edit and each refusal.
+static EDITS: &[u8] =
+    b"len\ninput 0\nshot 0\ninsert 0 2 R.... ..... .....\ninput 1\ninput 2\ndelete 1 2\nreplace 1 1 ..... ..... .....\ninput 1\nlen\ninsert 3 1 ..... ..... .....\ninsert 0 262143 ..... ..... .....\ninsert 2 262142 ..... ..... .....\nlen\n";
+
+static EDITS_REPLIES: &[u8] =
+    b"len 0 0\nno frame 0 len 0\nno frame 0 len 0\nedit 1 len 2\ninput 1 R.... ..... .....\nno frame 1 len 2\nplace 1 len 2\nedit 2 len 2\ninput 2 ..... ..... .....\nlen 2 2\nplace 2 len 2\nlong 2 len 2\nedit 3 len 262144\nlen 3 262144\n";
 
 #[test]
 fn edits_and_refusals_are_answered(rt: HostRuntime) {
-    let alloc = rt.alloc();
-    let answer = written(
-        &rt,
-        alloc,
-        b"len\ninput 0\nshot 0\ninsert 0 2 R.... ..... .....\ninput 1\ninput 2\ndelete 1 2\nreplace 1 1 ..... ..... .....\ninput 1\nlen\ninsert 3 1 ..... ..... .....\ninsert 0 262143 ..... ..... .....\ninsert 2 262142 ..... ..... .....\nlen\n",
-    );
-    check_answer(
-        &rt,
-        "replies",
-        answer,
-        b"len 0 0\nno frame 0 len 0\nno frame 0 len 0\nedit 1 len 2\ninput 1 R.... ..... .....\nno frame 1 len 2\nplace 1 len 2\nedit 2 len 2\ninput 2 ..... ..... .....\nlen 2 2\nplace 2 len 2\nlong 2 len 2\nedit 3 len 262144\nlen 3 262144\n",
-        Ok(()),
-    );
+    check_replies(&rt, rt.alloc(), "replies", EDITS, EDITS_REPLIES);
 }
 
 /// Scripts, their replies, and the line that isn't understood.
@@ -45,9 +54,9 @@ fn a_line_not_understood_ends_with_its_number(rt: HostRuntime) {
     let alloc = rt.alloc();
     for (script, text, line) in NOT_UNDERSTOOD.iter() {
         let end = Err(ToolFault::Script { line: *line });
-        check_answer(&rt, *script, written(&rt, alloc, script), text, end);
+        check_script(&rt, alloc, *script, &mut { *script }, (*text, end));
     }
-    check_answer(&rt, "empty", written(&rt, alloc, b""), b"", Ok(()));
+    check_replies(&rt, alloc, "empty", b"", b"");
 }
 
 /// A cartridge that sets the playfield, its edits, and shots with the greenzone's help.
@@ -114,54 +123,58 @@ static BY_HAND: [(&str, &[u8], &[u8]); 7] = [
 fn shots_are_answered_as_by_hand(rt: HostRuntime) {
     let alloc = rt.alloc();
     for (name, script, text) in BY_HAND.iter() {
-        check_answer(&rt, *name, written(&rt, alloc, script), text, Ok(()));
+        check_replies(&rt, alloc, name, script, text);
     }
 }
+
+/// Fails where a script of which 21 bytes of replies are written, 7 at a time, doesn't fill so much room and end so.
+fn check_room<R: Wait + Abort>(rt: &R, alloc: Global, room: usize, end: ToolFault) {
+    let mut output = Taker::new(alloc, 7, Room::Bytes(room), Failure::Error);
+    let mut input = b"len\ndelete 0 0\nlen".as_slice();
+    let ended = answer_script(rt, alloc, &mut input, &mut output);
+    let written = room.min(21);
+    let text = &b"len 0 0\nedit 1 len 0\n"[..written];
+    let failed = if room < 21 { 1 } else { 0 };
+    let writes = written.div_ceil(7) + failed;
+    let case = ("room", room);
+    check_answer(rt, case, (output.taken.as_slice(), ended), (text, Err(end)));
+    check_same(rt, case, output.writes, writes);
+}
+
+/// Rooms, and how a script ends that has so much for its replies.
+static ROOMS: [(usize, ToolFault); 5] = [
+    (100, ToolFault::Script { line: 3 }),
+    (21, ToolFault::Script { line: 3 }),
+    (20, ToolFault::Write { written: 20 }),
+    (7, ToolFault::Write { written: 7 }),
+    (0, ToolFault::Write { written: 0 }),
+];
 
 /// A write of a few bytes is no failed one, and a failed one is the last; the replies before a line that isn't understood
 /// are written.
 #[test]
 fn replies_go_out_in_small_pieces(rt: HostRuntime) {
-    let alloc = rt.alloc();
-    let text = b"len 0 0\nedit 1 len 0\n".as_slice();
-    for (room, end) in [
-        (100, Err(ToolFault::Script { line: 3 })),
-        (21, Err(ToolFault::Script { line: 3 })),
-        (20, Err(ToolFault::Write { written: 20 })),
-        (7, Err(ToolFault::Write { written: 7 })),
-        (0, Err(ToolFault::Write { written: 0 })),
-    ] {
-        let mut output = Taker::new(alloc, 7, Room::Bytes(room), Failure::Error);
-        let mut input = b"len\ndelete 0 0\nlen".as_slice();
-        let ended = script_run(&rt, alloc, &mut input, &mut output);
-        let written = room.min(21);
-        let failed = if room < 21 { 1 } else { 0 };
-        let writes = written.div_ceil(7) + failed;
-        check_same(&rt, ("room", room), ended, end);
-        check_same(
-            &rt,
-            ("room", room),
-            output.taken.as_slice(),
-            &text[..written],
-        );
-        check_same(&rt, ("room", room), output.writes, writes);
+    for (room, end) in ROOMS {
+        check_room(&rt, rt.alloc(), room, end);
     }
 }
+
+/// How many blanks a script has, at which read it fails, how it ends, and after how many reads.
+static UNREAD: [(usize, usize, ToolFault, usize); 5] = [
+    (10, 1, ToolFault::Read, 1),
+    (10, 2, ToolFault::Read, 2),
+    (10, 3, ToolFault::Script { line: 1 }, 2),
+    (INPUT_LIMIT, 0, ToolFault::Script { line: 1 }, 4097),
+    (INPUT_LIMIT + 1, 0, ToolFault::TooLong, 4097),
+];
 
 #[test]
 fn a_script_that_is_not_read_is_not_answered(rt: HostRuntime) {
     let alloc = rt.alloc();
-    for (left, fails_at, fault, reads) in [
-        (10, 1, ToolFault::Read, 1),
-        (10, 2, ToolFault::Read, 2),
-        (10, 3, ToolFault::Script { line: 1 }, 2),
-        (INPUT_LIMIT, 0, ToolFault::Script { line: 1 }, 4097),
-        (INPUT_LIMIT + 1, 0, ToolFault::TooLong, 4097),
-    ] {
+    for (left, fails_at, fault, reads) in UNREAD {
         let mut input = Filler::new(b' ', left, fails_at);
-        let mut output = Vec::new(alloc);
-        let end = script_run(&rt, alloc, &mut input, &mut output);
-        check_answer(&rt, ("bytes", left), (output, end), b"", Err(fault));
-        check_same(&rt, ("bytes", left), input.reads, reads);
+        let case = ("bytes", left);
+        check_script(&rt, alloc, case, &mut input, (b"", Err(fault)));
+        check_same(&rt, case, input.reads, reads);
     }
 }

@@ -1,11 +1,12 @@
 //! Scripts that are cut off or have one wrong byte.
 
 use crate::checks::{check_same, check_that, expect_ok, expect_some};
+use crate::commands::answer_script;
 use crate::plain_editor::answer_plainly;
 use std::alloc::Global;
 use std::process::Abort;
 use std::sync::Wait;
-use tas_tool::{ToolFault, script_run};
+use tas_tool::ToolFault;
 
 /// Ten lines. The cartridge colours a frame by what port A shows, turned round, so that it is black where nothing is pressed;
 /// then it waits for 36 lines, of which two are on the picture, and ends the frame by vertical sync.
@@ -34,7 +35,7 @@ static SMALL: &[u8] = b"load2 000=AD800249FF8509A2248502CAD0FBA902850086004C00F0
 fn is_alike<R: Wait + Abort>(rt: &R, alloc: Global, script: &[u8]) -> bool {
     let mut replies = Vec::new(alloc);
     let mut input = script;
-    let end = script_run(rt, alloc, &mut input, &mut replies);
+    let end = answer_script(rt, alloc, &mut input, &mut replies);
     let (wanted, fault) = answer_plainly(rt, alloc, script);
     let wanted_end = match fault {
         Some(line) => Err(ToolFault::Script { line }),

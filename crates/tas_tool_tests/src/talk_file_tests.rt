@@ -2,13 +2,14 @@
 
 use crate::answers::check_answer;
 use crate::checks::{check_same, expect_ok};
+use crate::commands::{talk_from_cart, talk_from_movie};
 use crate::movies::{
     IDLE, PLAYFIELD, Program, SMALL_PLAYFIELD, image_of, joined, small_image_of, text_of,
 };
 use std::alloc::Global;
 use std::process::Abort;
 use std::sync::Wait;
-use tas_tool::{ToolFault, cart_talk_run, movie_talk_run};
+use tas_tool::ToolFault;
 use test_streams::Giver;
 
 /// Lines for conversations over files.
@@ -26,12 +27,11 @@ fn check_over_cart<R: Wait + Abort>(rt: &R, alloc: Global, program: Program, ima
             b"edit 3 len 1\nshot 3 0 ran 1 lit 1680\n",
         ],
     );
-    let mut cart = image;
     let mut input = OVER_FILES;
     let mut output = Vec::new(alloc);
-    let end = cart_talk_run(rt, alloc, &mut cart, &mut input, &mut output);
-    let answer = (output, end);
-    check_answer(rt, program.digest, answer, wanted.as_slice(), Ok(()));
+    let end = talk_from_cart(rt, alloc, image, &mut input, &mut output);
+    let answer = (output.as_slice(), end);
+    check_answer(rt, program.digest, answer, (wanted.as_slice(), Ok(())));
 }
 
 /// A conversation goes on from a cartridge of either size, which two edits have made.
@@ -70,8 +70,9 @@ fn conversations_go_on_from_a_movie(rt: HostRuntime) {
         let mut movie = bytes;
         let mut input = OVER_FILES;
         let mut output = Vec::new(alloc);
-        let end = movie_talk_run(&rt, alloc, &mut cart, &mut movie, &mut input, &mut output);
-        check_answer(&rt, "movie", (output, end), wanted.as_slice(), Ok(()));
+        let end = talk_from_movie(&rt, alloc, &mut cart, &mut movie, &mut input, &mut output);
+        let answer = (output.as_slice(), end);
+        check_answer(&rt, "movie", answer, (wanted.as_slice(), Ok(())));
     }
 }
 
@@ -81,10 +82,10 @@ fn check_size<R: Wait + Abort>(rt: &R, alloc: Global, image: &[u8], size: usize)
     let fault = ToolFault::Size(size);
     let mut input = Giver::new(b"len\n", 10, 0);
     let mut output = Vec::new(alloc);
-    let end = cart_talk_run(rt, alloc, &mut { cart }, &mut input, &mut output);
+    let end = talk_from_cart(rt, alloc, cart, &mut input, &mut output);
     check_same(rt, "over a cartridge", end, Err(fault));
     let mut movie = b"".as_slice();
-    let end = movie_talk_run(
+    let end = talk_from_movie(
         rt,
         alloc,
         &mut { cart },
@@ -108,7 +109,8 @@ fn faults_of_the_files_come_first(rt: HostRuntime) {
     let mut movie = Giver::new(b"", 10, 0);
     let mut input = Giver::new(b"len\n", 10, 0);
     let mut output = Vec::new(alloc);
-    let end = movie_talk_run(&rt, alloc, &mut cart, &mut movie, &mut input, &mut output);
-    check_answer(&rt, "read", (output, end), b"", Err(ToolFault::Read));
+    let end = talk_from_movie(&rt, alloc, &mut cart, &mut movie, &mut input, &mut output);
+    let answer = (output.as_slice(), end);
+    check_answer(&rt, "read", answer, (b"", Err(ToolFault::Read)));
     check_same(&rt, "reads", (movie.reads, input.reads), (0, 0));
 }

@@ -2,28 +2,36 @@
 
 use crate::answers::{Answer, check_answer};
 use crate::checks::{check_same, check_that, expect_ok};
-use crate::movies::{IDLE, PLAYFIELD, RIGHT, SMALL_PLAYFIELD, joined, playfield_picture, text_of};
+use crate::commands::talk;
+use crate::movies::{
+    IDLE, PLAYFIELD, RIGHT, SMALL_PLAYFIELD, joined, playfield_picture, repeated, text_of,
+};
 use std::alloc::Global;
 use std::cell::Cell;
+use std::fmt::Debug;
 use std::io;
 use std::io::{Error, ErrorKind, Read, Write};
 use std::process::Abort;
 use std::sync::Wait;
-use tas_tool::{ToolFault, talk_run};
+use tas_tool::ToolFault;
 use test_streams::{Failure, Filler, Giver, Room, Taker};
 
-/// What a conversation writes, and how it ends.
-fn said<R: Wait, I: Read>(rt: &R, alloc: Global, input: &mut I) -> Answer {
+/// Fails where a conversation is answered by other answers, or ends in another way.
+fn check_talk<R: Wait + Abort, C: Copy + Debug, I: Read>(
+    rt: &R,
+    alloc: Global,
+    case: C,
+    input: &mut I,
+    wanted: Answer<'_>,
+) {
     let mut output = Vec::new(alloc);
-    let end = talk_run(rt, alloc, input, &mut output);
-    (output, end)
+    let end = talk(rt, alloc, input, &mut output);
+    check_answer(rt, case, (output.as_slice(), end), wanted);
 }
 
 /// Fails where a conversation of these lines doesn't end well, or isn't answered by these answers.
 fn check_said<R: Wait + Abort>(rt: &R, alloc: Global, lines: &[u8], answers: &[u8]) {
-    let mut input = lines;
-    let answer = said(rt, alloc, &mut input);
-    check_answer(rt, "said", answer, answers, Ok(()));
+    check_talk(rt, alloc, "said", &mut { lines }, (answers, Ok(())));
 }
 
 /// The same for lines and answers in several pieces, one after the other.
@@ -42,8 +50,8 @@ fn check_at_once<R: Wait + Abort>(
     answers: &[u8],
 ) {
     let mut input = Giver::new(lines, at_once, 0);
-    let answer = said(rt, alloc, &mut input);
-    check_answer(rt, ("at once", at_once), answer, answers, Ok(()));
+    let case = ("at once", at_once);
+    check_talk(rt, alloc, case, &mut input, (answers, Ok(())));
 }
 
 /// Loads the playfield's cartridge and puts in 200 frames.
@@ -168,23 +176,15 @@ fn small_cartridges_are_talked_of(rt: HostRuntime) {
     );
 }
 
-/// A million edits that change nothing, and what stands behind them.
-fn a_million_edits<R: Abort>(rt: &R, alloc: Global, rest: &[u8]) -> Vec<u8> {
-    let mut lines = expect_ok(rt, Vec::with_capacity(alloc, 11_000_100));
-    for _ in 0..1_000_000u32 {
-        expect_ok(rt, lines.extend_from_slice(b"delete 0 0\n"));
-    }
-    expect_ok(rt, lines.extend_from_slice(rest));
-    lines
-}
-
 /// A million edits and no more are made; what refuses the next ones, and looks behind them, are told at these.
 #[test]
 fn edits_are_bounded(rt: HostRuntime) {
     let alloc = rt.alloc();
     let rest = b"delete 0 0\nload 000=00\nlen\npicture 0\nstates\n";
-    let lines = a_million_edits(&rt, alloc, rest);
-    let (output, end) = said(&rt, alloc, &mut lines.as_slice());
+    let mut lines = repeated(&rt, alloc, b"", b"delete 0 0\n", 1_000_000);
+    expect_ok(&rt, lines.extend_from_slice(rest));
+    let mut output = Vec::new(alloc);
+    let end = talk(&rt, alloc, &mut lines.as_slice(), &mut output);
     check_same(&rt, "end", end, Ok(()));
     let last =
         b"edit 1000000 len 0\nfull 1000000\nfull 1000000\nlen 1000000 0\nno frame 1000000 len 0\nstates 1000000 0\n";
@@ -221,10 +221,8 @@ fn unknown_lines_change_nothing(rt: HostRuntime) {
 fn load_line<R: Abort>(rt: &R, alloc: Global, parts: &[usize]) -> Vec<u8> {
     let mut line = joined(rt, alloc, &[b"load"]);
     for count in parts {
-        expect_ok(rt, line.extend_from_slice(b" 000="));
-        for _ in 0..*count {
-            expect_ok(rt, line.extend_from_slice(b"00"));
-        }
+        let part = repeated(rt, alloc, b" 000=", b"00", *count);
+        expect_ok(rt, line.extend_from_slice(part.as_slice()));
     }
     expect_ok(rt, line.push(b'\n'));
     line
@@ -257,8 +255,8 @@ fn lines_are_bounded(rt: HostRuntime) {
     for at_once in [1, 7, 4095, 4096] {
         check_at_once(&rt, alloc, lines.as_slice(), at_once, answers);
     }
-    let answer = said(&rt, alloc, &mut Filler::new(b' ', 20_000_000, 0));
-    check_answer(&rt, "blanks", answer, b"unknown\n", Ok(()));
+    let mut blanks = Filler::new(b' ', 20_000_000, 0);
+    check_talk(&rt, alloc, "blanks", &mut blanks, (b"unknown\n", Ok(())));
 }
 
 /// One byte at a time, and many lines at once, are answered alike.
@@ -273,7 +271,8 @@ fn pieces_of_the_input_make_no_difference(rt: HostRuntime) {
             b"picture 3\nwhat\nstates\nmovie\nshot 70\nstates\nlen",
         ],
     );
-    let (whole, end) = said(&rt, alloc, &mut lines.as_slice());
+    let mut whole = Vec::new(alloc);
+    let end = talk(&rt, alloc, &mut lines.as_slice(), &mut whole);
     check_same(&rt, "end", end, Ok(()));
     for at_once in [1, 2, 3, 50] {
         check_at_once(&rt, alloc, lines.as_slice(), at_once, whole.as_slice());
@@ -354,7 +353,7 @@ fn answers_are_out_before_the_next_read(rt: HostRuntime) {
         holds: 0,
         passed: &passed,
     };
-    let end = talk_run(&rt, alloc, &mut input, &mut output);
+    let end = talk(&rt, alloc, &mut input, &mut output);
     check_same(&rt, "end", end, Ok(()));
     check_same(&rt, "passed", passed.get(), 101_052);
     check_that(&rt, "input.lines", input.lines.is_empty());
@@ -370,7 +369,7 @@ fn check_full<R: Wait + Abort>(
 ) {
     let mut input = lines;
     let mut output = Taker::new(alloc, 5_000, Room::Bytes(room), failure);
-    let end = talk_run(rt, alloc, &mut input, &mut output);
+    let end = talk(rt, alloc, &mut input, &mut output);
     let fault = ToolFault::Write { written: room };
     check_same(rt, ("room", room), end, Err(fault));
     let sent = &answers[..room.min(answers.len())];
@@ -389,7 +388,8 @@ fn a_failed_write_ends_the_conversation(rt: HostRuntime) {
     let alloc = rt.alloc();
     let lines = joined(&rt, alloc, &[START, b"picture 3\nlen\nlen"]);
     let lines = lines.as_slice();
-    let (whole, end) = said(&rt, alloc, &mut { lines });
+    let mut whole = Vec::new(alloc);
+    let end = talk(&rt, alloc, &mut { lines }, &mut whole);
     let whole = whole.as_slice();
     check_same(&rt, "end", end, Ok(()));
     for room in ROOMS {
@@ -400,7 +400,7 @@ fn a_failed_write_ends_the_conversation(rt: HostRuntime) {
     check_same(&rt, "whole", whole.len(), 100_880);
     let mut input = lines;
     let mut output = Taker::new(alloc, 5_000, Room::Bytes(100_880), Failure::Error);
-    let end = talk_run(&rt, alloc, &mut input, &mut output);
+    let end = talk(&rt, alloc, &mut input, &mut output);
     check_same(&rt, "room for all", end, Ok(()));
 }
 
@@ -420,9 +420,8 @@ fn a_failed_read_ends_the_conversation(rt: HostRuntime) {
     for (fails_at, answers) in FAILED_READS.iter() {
         let fails_at = *fails_at;
         let mut input = Giver::new(b"len\nx\nlen\nlen", 3, fails_at);
-        let answer = said(&rt, alloc, &mut input);
-        let end = Err(ToolFault::Read);
-        check_answer(&rt, ("read", fails_at), answer, answers, end);
+        let wanted = (*answers, Err(ToolFault::Read));
+        check_talk(&rt, alloc, ("read", fails_at), &mut input, wanted);
         check_same(&rt, "input.reads", input.reads, fails_at);
     }
 }

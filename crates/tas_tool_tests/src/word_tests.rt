@@ -2,8 +2,12 @@
 
 use crate::checks::{check_same, check_that};
 use crate::movies::{PLAYFIELD, image_of};
-use crate::programs::{ONE_FRAME, TwoFiles, check_ran, run, run_words, words_of};
-use std::io::{Error, ErrorKind};
+use crate::programs::{ONE_FRAME, check_run, check_unread, only_game, run, words_of};
+use std::alloc::Global;
+use std::io::ErrorKind;
+use std::process::Abort;
+use std::sync::Wait;
+use std::thread::Threads;
 use tas_program::{Task, read_words};
 
 /// Words that name a task, and the task.
@@ -156,24 +160,43 @@ static MISUSES: [&[&str]; 44] = [
     &["export", "game.bin", "0", "-1", "1"],
 ];
 
+/// Whether a text begins with another one; with an empty one only an empty text does.
+fn begins(text: &[u8], start: &[u8]) -> bool {
+    text.starts_with(start) && text.is_empty() == start.is_empty()
+}
+
+/// Fails where the program, run with these words over this cartridge and input, ends with another status, or what it writes or
+/// what it tells begins in another way.
+fn check_begins<R: Threads + Wait + Abort + Sync>(
+    rt: &R,
+    alloc: Global,
+    case: (&str, usize),
+    words: &[&str],
+    (game, input): (&[u8], &[u8]),
+    (code, output, line): (u8, &[u8], &[u8]),
+) {
+    let mut written = Vec::new(alloc);
+    let mut told = Vec::new(alloc);
+    let folder = only_game(game);
+    let status = run(rt, alloc, words, folder, input, &mut written, &mut told);
+    check_same(rt, case, status, code);
+    check_that(rt, case, begins(written.as_slice(), output));
+    check_that(rt, case, begins(told.as_slice(), line));
+}
+
 #[test]
 fn other_words_end_with_status_2(rt: HostRuntime) {
     let alloc = rt.alloc();
     let cart = image_of(&rt, alloc, PLAYFIELD.bytes);
-    let folder = TwoFiles {
-        game: cart.as_slice(),
-        other: b"",
-    };
+    let cart = cart.as_slice();
     for (number, words) in MISUSES.iter().enumerate() {
-        let ran = run(&rt, alloc, words, folder, ONE_FRAME);
-        check_same(&rt, ("words", number), ran.code, 2);
-        check_that(&rt, ("words", number), ran.output.is_empty());
-        check_that(&rt, ("words", number), ran.errors.starts_with(b"error: "));
+        let end = (2, b"".as_slice(), b"error: ".as_slice());
+        check_begins(&rt, alloc, ("words", number), words, (cart, ONE_FRAME), end);
     }
-    let no_text = Err(Error::from(ErrorKind::InvalidData));
-    let ran = run_words(&rt, alloc, no_text, folder, ONE_FRAME);
-    let line = b"error: the words aren't all text\n";
-    check_ran(&rt, &[], ran, 2, b"", line);
+    let line = b"error: the words aren't all text\n".as_slice();
+    let end = (2, b"".as_slice(), line);
+    let kind = ErrorKind::InvalidData;
+    check_unread(&rt, alloc, kind, only_game(cart), ONE_FRAME, end);
 }
 
 /// Words that ask for help, and the beginning of the text.
@@ -227,18 +250,11 @@ static HELPS: [(&[&str], &[u8]); 11] = [
 #[test]
 fn help_and_version_are_shown(rt: HostRuntime) {
     let alloc = rt.alloc();
-    let folder = TwoFiles {
-        game: b"",
-        other: b"",
-    };
     for (number, (words, text)) in HELPS.iter().enumerate() {
-        let ran = run(&rt, alloc, words, folder, b"");
-        check_same(&rt, ("help", number), ran.code, 0);
-        check_that(&rt, ("help", number), ran.output.starts_with(text));
-        check_that(&rt, ("help", number), ran.errors.is_empty());
+        let end = (0, *text, b"".as_slice());
+        check_begins(&rt, alloc, ("help", number), words, (b"", b""), end);
     }
-    let words = ["--version"];
-    let ran = run(&rt, alloc, &words, folder, b"");
-    let version = b"tas 0.1.0, machine profile 2\n";
-    check_ran(&rt, &words, ran, 0, version, b"");
+    let version = b"tas 0.1.0, machine profile 2\n".as_slice();
+    let end = (0, version, b"".as_slice());
+    check_run(&rt, alloc, &["--version"], only_game(b""), b"", end);
 }

@@ -1,0 +1,82 @@
+//! The commands, each called in one place: what is proved of them is long, and would be looked up again wherever a test called one itself.
+
+use std::alloc::Global;
+use std::io::{Read, Write};
+use std::sync::Wait;
+use std::thread::Threads;
+use tas_tool::{
+    ToolFault, cart_talk_run, export_run, movie_script_run, movie_talk_run, script_run, talk_run,
+};
+
+/// Exports frames `from` to the one before `to` by so many workers.
+pub fn export<R: Wait + Threads + Sync, C: Read, I: Read, W: Write>(
+    rt: &R,
+    alloc: Global,
+    (from, to, workers): (usize, usize, usize),
+    cart: &mut C,
+    input: &mut I,
+    output: &mut W,
+) -> Result<(), ToolFault> {
+    export_run(rt, alloc, from, to, workers, cart, input, output)
+}
+
+/// Answers a script.
+pub fn answer_script<R: Wait, I: Read, W: Write>(
+    rt: &R,
+    alloc: Global,
+    input: &mut I,
+    output: &mut W,
+) -> Result<(), ToolFault> {
+    script_run(rt, alloc, input, output)
+}
+
+/// A cartridge and the text of a movie.
+pub type Files<'a> = (&'a [u8], &'a [u8]);
+
+/// Answers a script over a movie.
+pub fn answer_over_movie<R: Wait, W: Write>(
+    rt: &R,
+    alloc: Global,
+    (cart, movie): Files<'_>,
+    script: &[u8],
+    output: &mut W,
+) -> Result<(), ToolFault> {
+    let mut cart = cart;
+    let mut movie = movie;
+    let mut input = script;
+    movie_script_run(rt, alloc, &mut cart, &mut movie, &mut input, output)
+}
+
+/// Talks from a blank cartridge.
+pub fn talk<R: Wait, I: Read, W: Write>(
+    rt: &R,
+    alloc: Global,
+    input: &mut I,
+    output: &mut W,
+) -> Result<(), ToolFault> {
+    talk_run(rt, alloc, input, output)
+}
+
+/// Talks from a cartridge.
+pub fn talk_from_cart<R: Wait, I: Read>(
+    rt: &R,
+    alloc: Global,
+    cart: &[u8],
+    input: &mut I,
+    output: &mut Vec<u8>,
+) -> Result<(), ToolFault> {
+    let mut cart = cart;
+    cart_talk_run(rt, alloc, &mut cart, input, output)
+}
+
+/// Talks from a movie.
+pub fn talk_from_movie<R: Wait, C: Read, M: Read, I: Read>(
+    rt: &R,
+    alloc: Global,
+    cart: &mut C,
+    movie: &mut M,
+    input: &mut I,
+    output: &mut Vec<u8>,
+) -> Result<(), ToolFault> {
+    movie_talk_run(rt, alloc, cart, movie, input, output)
+}
