@@ -1,8 +1,9 @@
 //! Exports of whole movies.
 
 use crate::checks::{check_same, check_that};
-use crate::commands::export;
+use crate::commands::{Files, export};
 use crate::movies::{HALTING, PICTURE, PLAYFIELD, Program, RIGHT, image_of, text_of};
+use crate::programs::ONE_FRAME;
 use std::alloc::Global;
 use std::fmt::Debug;
 use std::process::Abort;
@@ -19,9 +20,6 @@ const FOLDING: Program = Program {
     digest: "01cd4f43e4064c0915ec1dde6c9364a0d994bc18d980d88e45a83ec89a41c425",
 };
 
-/// A cartridge and the text of a movie.
-type Files<'a> = (&'a [u8], &'a str);
-
 /// Fails where an export ends in another way, or writes other pictures, which are too long to be shown.
 fn check_export<R: Wait + Threads + Sync + Abort, C: Copy + Debug>(
     rt: &R,
@@ -33,7 +31,7 @@ fn check_export<R: Wait + Threads + Sync + Abort, C: Copy + Debug>(
 ) {
     let mut output = Vec::new(alloc);
     let mut cart = image;
-    let mut input = text.as_bytes();
+    let mut input = text;
     let ended = export(rt, alloc, range, &mut cart, &mut input, &mut output);
     check_same(rt, case, ended, end);
     check_same(rt, case, output.len(), pictures.len());
@@ -50,7 +48,7 @@ fn shots<R: Abort>(
     let mut output = Vec::new(alloc);
     for frame in from..to {
         let mut cart = image;
-        let mut input = text.as_bytes();
+        let mut input = text;
         let end = shot_run(alloc, frame, &mut cart, &mut input, &mut output);
         check_same(rt, ("shot", frame), end, Ok(()));
     }
@@ -76,8 +74,7 @@ fn check_shots<R: Wait + Threads + Sync + Abort>(
 fn one_frame_is_its_shot(rt: HostRuntime) {
     let alloc = rt.alloc();
     let image = image_of(&rt, alloc, PLAYFIELD.bytes);
-    let text = text_of(&rt, alloc, PLAYFIELD, 1, RIGHT);
-    let files = (image.as_slice(), text.as_str());
+    let files = (image.as_slice(), ONE_FRAME);
     check_shots(&rt, alloc, files, (0, 1), 4);
     let nothing = (b"".as_slice(), Ok(()));
     for at in [0, 1] {
@@ -103,7 +100,7 @@ fn other_ranges_are_refused(rt: HostRuntime) {
     let image = image_of(&rt, alloc, PLAYFIELD.bytes);
     for (from, to, len) in OTHER_RANGES {
         let text = text_of(&rt, alloc, PLAYFIELD, len, RIGHT);
-        let files = (image.as_slice(), text.as_str());
+        let files = (image.as_slice(), text.as_bytes());
         let wanted = (b"".as_slice(), Err(ToolFault::Range { from, to, len }));
         let case = ("range", from, to, len);
         check_export(&rt, alloc, case, files, (from, to, 1), wanted);
@@ -115,7 +112,7 @@ fn every_number_of_workers_writes_the_shots(rt: HostRuntime) {
     let alloc = rt.alloc();
     let image = image_of(&rt, alloc, FOLDING.bytes);
     let text = text_of(&rt, alloc, FOLDING, 20, RIGHT);
-    let files = (image.as_slice(), text.as_str());
+    let files = (image.as_slice(), text.as_bytes());
     let pictures = shots(&rt, alloc, files, (2, 19));
     let pictures = pictures.as_slice();
     check_same(&rt, "pictures", pictures.len(), 17 * PICTURE);
@@ -146,7 +143,7 @@ fn halted_frames_are_not_written(rt: HostRuntime) {
     let alloc = rt.alloc();
     let image = image_of(&rt, alloc, HALTING.bytes);
     let text = text_of(&rt, alloc, HALTING, 5, RIGHT);
-    let files = (image.as_slice(), text.as_str());
+    let files = (image.as_slice(), text.as_bytes());
     let halted = (b"".as_slice(), Err(HALTED));
     for (from, to) in [(1, 5), (3, 4), (4, 5), (0, 5)] {
         check_export(&rt, alloc, (from, to), files, (from, to, 2), halted);
@@ -176,7 +173,7 @@ fn check_full<R: Wait + Threads + Sync + Abort>(
 ) {
     let mut output = Taker::new(alloc, 1000, Room::Bytes(room), Failure::Error);
     let mut cart = image;
-    let mut input = text.as_bytes();
+    let mut input = text;
     let end = export(rt, alloc, (1, 3, 2), &mut cart, &mut input, &mut output);
     let fault = ToolFault::Write { written: room };
     check_same(rt, ("room", room), end, Err(fault));
@@ -192,7 +189,7 @@ fn a_writer_that_fails_has_the_first_bytes(rt: HostRuntime) {
     let alloc = rt.alloc();
     let image = image_of(&rt, alloc, FOLDING.bytes);
     let text = text_of(&rt, alloc, FOLDING, 4, RIGHT);
-    let files = (image.as_slice(), text.as_str());
+    let files = (image.as_slice(), text.as_bytes());
     let pictures = shots(&rt, alloc, files, (1, 3));
     for room in [0, 1, 20, PICTURE, PICTURE + 1, 2 * PICTURE - 1] {
         check_full(&rt, alloc, files, pictures.as_slice(), room);
@@ -213,10 +210,9 @@ static FAILED_READS: [(usize, usize, Result<(), ToolFault>, (usize, usize)); 5] 
 fn an_export_does_not_read_on(rt: HostRuntime) {
     let alloc = rt.alloc();
     let image = image_of(&rt, alloc, PLAYFIELD.bytes);
-    let text = text_of(&rt, alloc, PLAYFIELD, 1, RIGHT);
     for (cart_fails, text_fails, end, reads) in FAILED_READS {
         let mut cart = Giver::new(image.as_slice(), usize::MAX, cart_fails);
-        let mut input = Giver::new(text.as_bytes(), usize::MAX, text_fails);
+        let mut input = Giver::new(ONE_FRAME, usize::MAX, text_fails);
         let mut output = Vec::new(alloc);
         let ended = export(&rt, alloc, (0, 1, 1), &mut cart, &mut input, &mut output);
         check_same(&rt, reads, ended, end);
@@ -257,7 +253,7 @@ fn faults_of_an_export_come_in_order(rt: HostRuntime) {
         (b"1234567".as_slice(), ToolFault::Size(7)),
         (image.as_slice(), digest),
     ] {
-        let files = (image, other.as_str());
+        let files = (image, other.as_bytes());
         let wanted = (b"".as_slice(), Err(fault));
         check_export(&rt, alloc, fault, files, (0, 2, 1), wanted);
     }

@@ -4,6 +4,7 @@ use crate::answers::{Answer, check_answer};
 use crate::checks::check_same;
 use crate::commands::{Files, answer_over_movie, answer_script};
 use crate::movies::{IDLE, PLAYFIELD, image_of, joined, text_of};
+use crate::programs::ONE_FRAME;
 use std::alloc::Global;
 use std::fmt::Debug;
 use std::process::Abort;
@@ -28,6 +29,21 @@ fn check_over_movie<R: Wait + Abort, C: Copy + Debug>(
     check_answer(rt, case, (output.as_slice(), end), wanted);
 }
 
+/// The same over a movie of so many frames of nothing pressed with the playfield's cartridge.
+fn check_over_frames<R: Wait + Abort, C: Copy + Debug>(
+    rt: &R,
+    alloc: Global,
+    case: C,
+    frames: usize,
+    script: &[u8],
+    wanted: Answer<'_>,
+) {
+    let cart = image_of(rt, alloc, PLAYFIELD.bytes);
+    let movie = text_of(rt, alloc, PLAYFIELD, frames, IDLE);
+    let files = (cart.as_slice(), movie.as_bytes());
+    check_over_movie(rt, alloc, case, files, script, wanted);
+}
+
 static LINES: &[u8] =
     b"len\ninput 1\nshot 2\nreplace 1 1 R.... ..... .....\ninput 1\nshot 1\ninsert 3 262142 ..... ..... .....\ndelete 0 3\nlen\n";
 
@@ -38,10 +54,8 @@ static REPLIES: &[u8] =
 #[test]
 fn a_script_goes_on_from_its_movie(rt: HostRuntime) {
     let alloc = rt.alloc();
-    let cart = image_of(&rt, alloc, PLAYFIELD.bytes);
-    let movie = text_of(&rt, alloc, PLAYFIELD, 3, IDLE);
-    let files = (cart.as_slice(), movie.as_bytes());
-    check_over_movie(&rt, alloc, "over a movie", files, LINES, (REPLIES, Ok(())));
+    let wanted = (REPLIES, Ok(()));
+    check_over_frames(&rt, alloc, "over a movie", 3, LINES, wanted);
     let insert = b"insert 0 3 ..... ..... .....\n";
     let script = joined(&rt, alloc, &[LOAD, insert, LINES]);
     let replies = joined(&rt, alloc, &[b"edit 1 len 0\nedit 2 len 3\n", REPLIES]);
@@ -69,12 +83,9 @@ static LENGTHS: [(usize, &[u8], &[u8]); 3] = [
 #[test]
 fn movies_of_no_frames_and_of_the_most_are_made(rt: HostRuntime) {
     let alloc = rt.alloc();
-    let cart = image_of(&rt, alloc, PLAYFIELD.bytes);
-    for (frames, lines, replies) in LENGTHS.iter() {
-        let movie = text_of(&rt, alloc, PLAYFIELD, *frames, IDLE);
-        let files = (cart.as_slice(), movie.as_bytes());
-        let wanted = (*replies, Ok(()));
-        check_over_movie(&rt, alloc, ("frames", frames), files, lines, wanted);
+    for (frames, lines, replies) in LENGTHS {
+        let wanted = (replies, Ok(()));
+        check_over_frames(&rt, alloc, ("frames", frames), frames, lines, wanted);
     }
 }
 
@@ -83,32 +94,40 @@ const NO_END: ToolFault = ToolFault::Text(TextError {
     kind: TextErrorKind::End,
 });
 
-/// Whether cartridge and movie are right, the script, its replies, and the fault. Other cartridges have 7 bytes, other movies one line.
-static FAULTS: [(bool, bool, &[u8], &[u8], ToolFault); 4] = [
-    (false, false, b"len\nx\n", b"", ToolFault::Size(7)),
-    (true, false, b"len\nx\n", b"", NO_END),
-    (
-        true,
-        true,
-        b"len\nx\n",
-        b"len 2 1\n",
-        ToolFault::Script { line: 2 },
-    ),
-    (true, true, b"len", b"", ToolFault::Script { line: 1 }),
+/// Scripts over a movie of one frame, their replies and the line that isn't understood, each with its number among the cases.
+static NOT_UNDERSTOOD: [(usize, &[u8], &[u8], usize); 2] = [
+    (2, b"len\nx\n", b"len 2 1\n", 2),
+    (3, b"len", b"", 1),
 ];
 
+/// The cartridge's size comes before the text's fault, and this before the script's.
 #[test]
 fn faults_over_a_movie_come_in_order(rt: HostRuntime) {
     let alloc = rt.alloc();
     let cart = image_of(&rt, alloc, PLAYFIELD.bytes);
-    let movie = text_of(&rt, alloc, PLAYFIELD, 1, IDLE);
-    let carts = [b"1234567".as_slice(), cart.as_slice()];
-    let movies = [b"a26movie 2\n".as_slice(), movie.as_bytes()];
-    for (number, (has_cart, has_movie, script, replies, fault)) in FAULTS.iter().enumerate() {
-        let cart = if *has_cart { carts[1] } else { carts[0] };
-        let movie = if *has_movie { movies[1] } else { movies[0] };
-        let wanted = (*replies, Err(*fault));
-        check_over_movie(&rt, alloc, ("case", number), (cart, movie), script, wanted);
+    let bad = b"a26movie 2\n".as_slice();
+    let script = b"len\nx\n".as_slice();
+    let size = (b"".as_slice(), Err(ToolFault::Size(7)));
+    check_over_movie(
+        &rt,
+        alloc,
+        ("case", 0usize),
+        (b"1234567", bad),
+        script,
+        size,
+    );
+    let end = (b"".as_slice(), Err(NO_END));
+    check_over_movie(
+        &rt,
+        alloc,
+        ("case", 1usize),
+        (cart.as_slice(), bad),
+        script,
+        end,
+    );
+    for (number, script, replies, line) in NOT_UNDERSTOOD {
+        let wanted = (replies, Err(ToolFault::Script { line }));
+        check_over_frames(&rt, alloc, ("case", number), 1, script, wanted);
     }
 }
 
@@ -116,8 +135,7 @@ fn faults_over_a_movie_come_in_order(rt: HostRuntime) {
 fn a_full_writer_ends_a_script_over_a_movie(rt: HostRuntime) {
     let alloc = rt.alloc();
     let cart = image_of(&rt, alloc, PLAYFIELD.bytes);
-    let movie = text_of(&rt, alloc, PLAYFIELD, 1, IDLE);
-    let files = (cart.as_slice(), movie.as_bytes());
+    let files = (cart.as_slice(), ONE_FRAME);
     let mut room = [0u8; 5];
     let mut output = room.as_mut_slice();
     let end = answer_over_movie(&rt, alloc, files, b"len\n", &mut output);

@@ -22,7 +22,7 @@ struct Editor {
 
 /// Whether a frame has a letter at a place.
 fn is_set(frame: &Frame, place: usize) -> bool {
-    frame.get(place).is_some_and(|letter| *letter != b'.')
+    matches!(frame.get(place), Some(letter) if *letter != b'.')
 }
 
 /// The input of a frame.
@@ -122,11 +122,16 @@ impl Editor {
         expect_ok(rt, reply)
     }
 
+    /// The reply of this name, with the edits so far and the movie's length.
+    fn told<R: Abort>(&self, rt: &R, alloc: Global, name: &str) -> String {
+        let (at, len) = (self.edits, self.frames.len());
+        expect_ok(rt, format!(in alloc; "{name} {at} len {len}\n"))
+    }
+
     /// The reply to an edit that is made.
     fn made<R: Abort>(&mut self, rt: &R, alloc: Global) -> String {
         self.edits = self.edits.saturating_add(1);
-        let reply = format!(in alloc; "edit {} len {}\n", self.edits, self.frames.len());
-        expect_ok(rt, reply)
+        self.told(rt, alloc, "edit")
     }
 
     /// The reply to a change: so many frames from a place on go, and copies of one come.
@@ -138,23 +143,17 @@ impl Editor {
         taken: usize,
         copies: (usize, Frame),
     ) -> String {
-        let (at, len) = (self.edits, self.frames.len());
+        let len = self.frames.len();
         let (count, frame) = copies;
         if place.saturating_add(taken) > len {
-            return expect_ok(rt, format!(in alloc; "place {at} len {len}\n"));
+            return self.told(rt, alloc, "place");
         }
         if len.saturating_sub(taken).saturating_add(count) > MOST {
-            return expect_ok(rt, format!(in alloc; "long {at} len {len}\n"));
+            return self.told(rt, alloc, "long");
         }
         let copies = expect_ok(rt, vec![in alloc; frame; count]);
         self.change(rt, alloc, place, taken, copies.as_slice());
         self.made(rt, alloc)
-    }
-
-    /// The reply to a look at a frame that isn't there.
-    fn no_frame<R: Abort>(&self, rt: &R, alloc: Global) -> String {
-        let reply = format!(in alloc; "no frame {} len {}\n", self.edits, self.frames.len());
-        expect_ok(rt, reply)
     }
 
     /// The reply to a look at the input of a frame.
@@ -165,7 +164,7 @@ impl Editor {
                 let letters = expect_ok(rt, String::from_utf8_lossy(alloc, frame));
                 expect_ok(rt, format!(in alloc; "input {at} {letters}\n"))
             }
-            None => self.no_frame(rt, alloc),
+            None => self.told(rt, alloc, "no frame"),
         }
     }
 
@@ -185,7 +184,7 @@ impl Editor {
             Line::Len => expect_ok(rt, format!(in alloc; "len {at} {len}\n")),
             Line::Input(k) => self.input(rt, alloc, k),
             Line::Shot(k) if k < len => self.shot(rt, alloc, k),
-            Line::Shot(_) => self.no_frame(rt, alloc),
+            Line::Shot(_) => self.told(rt, alloc, "no frame"),
             Line::Work(_) => {
                 expect_ok(rt, String::from_str(alloc, "work jobs 1 kept 0 stale 0\n"))
             }

@@ -73,8 +73,8 @@ fn number(word: &[u8]) -> Option<usize> {
 fn hexadecimal(digits: &[u8]) -> Option<usize> {
     let mut value = 0usize;
     for digit in digits {
-        let place = b"0123456789ABCDEF".iter().position(|other| other == digit)?;
-        value = value.saturating_mul(16).saturating_add(place);
+        let (less, _) = split_once(b"0123456789ABCDEF", *digit)?;
+        value = value.saturating_mul(16).saturating_add(less.len());
     }
     Some(value)
 }
@@ -159,13 +159,15 @@ fn short_line(name: &[u8], words: &[&[u8]]) -> Option<Line> {
 /// What a line of these words behind its name asks for.
 fn line_of(name: &[u8], words: &[&[u8]]) -> Option<Line> {
     if name == b"load".as_slice() {
-        image_of(4096, words).map(Line::Load)
+        Some(Line::Load(image_of(4096, words)?))
     } else if name == b"load2".as_slice() {
-        image_of(2048, words).map(Line::Load)
+        Some(Line::Load(image_of(2048, words)?))
     } else if name == b"insert".as_slice() {
-        frames(words).map(|(place, count, frame)| Line::Insert(place, count, frame))
+        let (place, count, frame) = frames(words)?;
+        Some(Line::Insert(place, count, frame))
     } else if name == b"replace".as_slice() {
-        frames(words).map(|(place, count, frame)| Line::Replace(place, count, frame))
+        let (place, count, frame) = frames(words)?;
+        Some(Line::Replace(place, count, frame))
     } else {
         short_line(name, words)
     }

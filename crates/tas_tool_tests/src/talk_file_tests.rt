@@ -1,7 +1,7 @@
 //! Conversations over a cartridge's file and a movie's.
 
 use crate::answers::check_answer;
-use crate::checks::{check_same, expect_ok};
+use crate::checks::check_same;
 use crate::commands::{talk_from_cart, talk_from_movie};
 use crate::movies::{
     IDLE, PLAYFIELD, Program, SMALL_PLAYFIELD, image_of, joined, small_image_of, text_of,
@@ -44,35 +44,30 @@ fn conversations_go_on_from_a_cartridge(rt: HostRuntime) {
     check_over_cart(&rt, alloc, SMALL_PLAYFIELD, small.as_slice());
 }
 
+/// The text of a movie of three frames of nothing pressed, and an older one.
+static TEXTS: [&[u8]; 2] = [
+    b"a26movie 2\ncart 820c64e9933496de683a000c5e11f0510fb7b1699b2ce86471295236b284906d\n..... ..... ..... x3\n",
+    b"a26movie 1\ncart 820c64e9933496de683a000c5e11f0510fb7b1699b2ce86471295236b284906d\n..... ..... .....\n..... ..... .....\n..... ..... .....\n",
+];
+
+/// What a conversation of [`OVER_FILES`] over either of them tells.
+static OVER_TEXTS: &[u8] =
+    b"len 2 3\nmovie 2 102\na26movie 2\ncart 820c64e9933496de683a000c5e11f0510fb7b1699b2ce86471295236b284906d\n..... ..... ..... x3\nedit 3 len 4\nshot 3 0 ran 1 lit 1680\n";
+
 /// It goes on from a movie, too, which two edits have made, and tells it by the text of runs, also where the file's text was an
 /// older one.
 #[test]
 fn conversations_go_on_from_a_movie(rt: HostRuntime) {
     let alloc = rt.alloc();
     let image = image_of(&rt, alloc, PLAYFIELD.bytes);
-    let text = text_of(&rt, alloc, PLAYFIELD, 3, IDLE);
-    let (digest, idle) = (PLAYFIELD.digest, IDLE);
-    let older = expect_ok(
-        &rt,
-        format!(in alloc; "a26movie 1\ncart {digest}\n{idle}\n{idle}\n{idle}\n"),
-    );
-    let wanted = joined(
-        &rt,
-        alloc,
-        &[
-            b"len 2 3\nmovie 2 102\n",
-            text.as_bytes(),
-            b"edit 3 len 4\nshot 3 0 ran 1 lit 1680\n",
-        ],
-    );
-    for bytes in [text.as_bytes(), older.as_bytes()] {
+    for text in TEXTS {
         let mut cart = image.as_slice();
-        let mut movie = bytes;
+        let mut movie = text;
         let mut input = OVER_FILES;
         let mut output = Vec::new(alloc);
         let end = talk_from_movie(&rt, alloc, &mut cart, &mut movie, &mut input, &mut output);
         let answer = (output.as_slice(), end);
-        check_answer(&rt, "movie", answer, (wanted.as_slice(), Ok(())));
+        check_answer(&rt, "movie", answer, (OVER_TEXTS, Ok(())));
     }
 }
 
