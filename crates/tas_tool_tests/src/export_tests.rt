@@ -239,22 +239,24 @@ fn an_input_past_the_limit_is_too_long(rt: HostRuntime) {
     check_same(&rt, "output", output.len(), 0);
 }
 
+/// The text of a movie of one frame with another cartridge.
+static OTHER: &[u8] =
+    b"a26movie 2\ncart c914dfbc057cd1e5dd9cefcba07cec773cc85a8be3a04676377b60ded704d22d\n..... ..... .....\n";
+
+const SIZE: ToolFault = ToolFault::Size(7);
+
+const DIGEST: ToolFault = ToolFault::Text(TextError {
+    line: 2,
+    kind: TextErrorKind::Digest,
+});
+
 /// The cartridge's size comes before the text's fault, and this before the range.
 #[test]
 fn faults_of_an_export_come_in_order(rt: HostRuntime) {
     let alloc = rt.alloc();
     let image = image_of(&rt, alloc, PLAYFIELD.bytes);
-    let other = text_of(&rt, alloc, HALTING, 1, RIGHT);
-    let digest = ToolFault::Text(TextError {
-        line: 2,
-        kind: TextErrorKind::Digest,
-    });
-    for (image, fault) in [
-        (b"1234567".as_slice(), ToolFault::Size(7)),
-        (image.as_slice(), digest),
-    ] {
-        let files = (image, other.as_bytes());
+    for (image, fault) in [(b"1234567".as_slice(), SIZE), (image.as_slice(), DIGEST)] {
         let wanted = (b"".as_slice(), Err(fault));
-        check_export(&rt, alloc, fault, files, (0, 2, 1), wanted);
+        check_export(&rt, alloc, fault, (image, OTHER), (0, 2, 1), wanted);
     }
 }

@@ -76,17 +76,19 @@ fn check_end<R: Threads + Wait + Abort + Sync>(
 /// Words, and how the program then ends.
 type Case = (&'static [&'static str], End);
 
-/// Fails where the program, run with each of these words over the cartridge of brief frames and this input, ends in another way.
+/// Fails where the program, run with each of these words over the cartridge of brief frames, this other file and this input, ends
+/// in another way.
 fn check_ends<R: Threads + Wait + Abort + Sync>(
     rt: &R,
     alloc: Global,
+    other: &[u8],
     input: &[u8],
     cases: &[Case],
 ) {
     let game = image_of(rt, alloc, BRIEF);
-    let files = only_game(game.as_slice());
+    let game = game.as_slice();
     for (words, end) in cases {
-        check_end(rt, alloc, words, files, input, *end);
+        check_end(rt, alloc, words, TwoFiles { game, other }, input, *end);
     }
 }
 
@@ -98,7 +100,7 @@ fn check_older<R: Threads + Wait + Abort + Sync>(
     cases: &[Case],
 ) {
     let text = repeated(rt, alloc, OLDER_HEAD, FRAME, frames);
-    check_ends(rt, alloc, text.as_slice(), cases);
+    check_ends(rt, alloc, b"", text.as_slice(), cases);
 }
 
 /// The same over the text of runs with these lines.
@@ -109,7 +111,7 @@ fn check_runs<R: Threads + Wait + Abort + Sync>(
     cases: &[Case],
 ) {
     let text = repeated(rt, alloc, HEAD, lines, 1);
-    check_ends(rt, alloc, text.as_slice(), cases);
+    check_ends(rt, alloc, b"", text.as_slice(), cases);
 }
 
 const NO_FRAME: End = End::Faults(b"fault: no frame 9999999 of 2\n");
@@ -264,7 +266,11 @@ fn runs_past_their_limits(rt: HostRuntime) {
     }
 }
 
-/// Changes that make a movie of three frames one of the most, and longer.
+/// The older text of a movie of three frames.
+static THREE_FRAMES: &[u8] =
+    b"a26movie 1\ncart 6cf6d08d00f622eb70fbc534921dcd728359a14a5b46045bfe15f95ccb9a3543\n..... ..... .....\n..... ..... .....\n..... ..... .....\n";
+
+/// Changes that make it one of the most frames, and longer.
 static CHANGES: [(&[u8], End); 2] = [
     (
         b"insert 3 262141 ..... ..... .....\n",
@@ -276,27 +282,26 @@ static CHANGES: [(&[u8], End); 2] = [
     ),
 ];
 
+/// Words that make the changes of the file `other`.
+const EDIT: &[&str] = &["edit", "game.bin", "other"];
+
 /// A script at the most frames.
 static SCRIPT: &[u8] =
     b"insert 0 262145 ..... ..... .....\ninsert 0 262144 ..... ..... .....\ninsert 0 1 ..... ..... .....\n";
 
 /// Its replies.
-static REPLIES: &[u8] = b"long 0 len 0\nedit 1 len 262144\nlong 1 len 262144\n";
+const REPLIES: &[u8] = b"long 0 len 0\nedit 1 len 262144\nlong 1 len 262144\n";
+
+static SCRIPTS: [Case; 1] = [(&["script"], End::Writes(REPLIES.len(), REPLIES))];
 
 /// Edits at the most frames, by `tas edit` of a movie of three frames and by `tas script`.
 #[test]
 fn frames_of_an_edit(rt: HostRuntime) {
     let alloc = rt.alloc();
-    let game = image_of(&rt, alloc, BRIEF);
-    let game = game.as_slice();
-    let text = repeated(&rt, alloc, OLDER_HEAD, FRAME, 3);
-    let words = ["edit", "game.bin", "other"];
-    for (other, end) in CHANGES {
-        let files = TwoFiles { game, other };
-        check_end(&rt, alloc, &words, files, text.as_slice(), end);
+    for (other, end) in CHANGES.iter() {
+        check_ends(&rt, alloc, other, THREE_FRAMES, &[(EDIT, *end)]);
     }
-    let end = End::Writes(REPLIES.len(), REPLIES);
-    check_end(&rt, alloc, &["script"], only_game(game), SCRIPT, end);
+    check_ends(&rt, alloc, b"", SCRIPT, SCRIPTS.as_slice());
 }
 
 /// Exports of a movie of 1025 frames.

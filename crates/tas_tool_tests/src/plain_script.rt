@@ -81,8 +81,8 @@ fn hexadecimal(digits: &[u8]) -> Option<usize> {
 
 /// Writes the bytes of a word `OFF=HEX` into an image. Nothing where it is no such word.
 fn write_part(word: &[u8], image: &mut [u8]) -> Option<()> {
-    let (offset, digits) = (word.get(..3)?, word.get(4..)?);
-    if word.get(3) != Some(&b'=') || digits.is_empty() || digits.len() % 2 != 0 {
+    let (offset, digits) = split_once(word, b'=')?;
+    if offset.len() != 3 || digits.is_empty() || digits.len() % 2 != 0 {
         return None;
     }
     let mut place = hexadecimal(offset)?;
@@ -129,30 +129,23 @@ fn frame_of(words: &[&[u8]]) -> Option<Frame> {
 
 /// A place, a count and a frame.
 fn frames(words: &[&[u8]]) -> Option<(usize, usize, Frame)> {
-    let (place, count) = (number(words.first()?)?, number(words.get(1)?)?);
-    Some((place, count, frame_of(words.get(2..)?)?))
+    let [place, count, frame @ ..] = words else {
+        return None;
+    };
+    Some((number(place)?, number(count)?, frame_of(frame)?))
 }
 
-/// What a line of one or two words behind a name asks for.
+/// What a line of at most two words behind a name asks for.
 fn short_line(name: &[u8], words: &[&[u8]]) -> Option<Line> {
-    if name == b"len".as_slice() && words.is_empty() {
-        return Some(Line::Len);
-    }
-    let first = number(words.first()?)?;
-    if name == b"delete".as_slice() && words.len() == 2 {
-        return Some(Line::Delete(first, number(words.get(1)?)?));
-    }
-    if words.len() != 1 {
-        return None;
-    }
-    if name == b"input".as_slice() {
-        Some(Line::Input(first))
-    } else if name == b"shot".as_slice() {
-        Some(Line::Shot(first))
-    } else if name == b"work".as_slice() {
-        Some(Line::Work(first))
-    } else {
-        None
+    match words {
+        [] if name == b"len".as_slice() => Some(Line::Len),
+        [k] if name == b"input".as_slice() => Some(Line::Input(number(k)?)),
+        [k] if name == b"shot".as_slice() => Some(Line::Shot(number(k)?)),
+        [k] if name == b"work".as_slice() => Some(Line::Work(number(k)?)),
+        [place, count] if name == b"delete".as_slice() => {
+            Some(Line::Delete(number(place)?, number(count)?))
+        }
+        _ => None,
     }
 }
 

@@ -184,15 +184,19 @@ fn check_begins<R: Threads + Wait + Abort + Sync>(
     check_that(rt, case, begins(told.as_slice(), line));
 }
 
+fn check_misuses<R: Threads + Wait + Abort + Sync>(rt: &R, alloc: Global, cart: &[u8]) {
+    for (number, words) in MISUSES.iter().enumerate() {
+        let end = (2, b"".as_slice(), b"error: ".as_slice());
+        check_begins(rt, alloc, ("words", number), words, (cart, ONE_FRAME), end);
+    }
+}
+
 #[test]
 fn other_words_end_with_status_2(rt: HostRuntime) {
     let alloc = rt.alloc();
     let cart = image_of(&rt, alloc, PLAYFIELD.bytes);
     let cart = cart.as_slice();
-    for (number, words) in MISUSES.iter().enumerate() {
-        let end = (2, b"".as_slice(), b"error: ".as_slice());
-        check_begins(&rt, alloc, ("words", number), words, (cart, ONE_FRAME), end);
-    }
+    check_misuses(&rt, alloc, cart);
     let line = b"error: the words aren't all text\n".as_slice();
     let end = (2, b"".as_slice(), line);
     let kind = ErrorKind::InvalidData;
