@@ -193,8 +193,11 @@ fn open_at<'a, N: Name, R: Wait>(
     let was_refused = heap.has_refused();
     heap.refuse(number);
     match Desk::<N, &R, &'a Heap>::open(rt, heap, unopened) {
-        Ok((_desk, seats)) => Run::ended(heap.has_refused(), !was_refused && seats.len() == 2),
-        Err(OpenError::Memory) => Run::ended(heap.has_refused(), !was_refused),
+        Ok((_desk, seats)) => Run::ended(
+            false,
+            !was_refused && !heap.has_refused() && seats.len() == 2,
+        ),
+        Err(OpenError::Memory) => Run::ended(true, !was_refused && heap.has_refused()),
         Err(OpenError::NoPlace) => Run::Wrong,
     }
 }

@@ -74,7 +74,7 @@ fn set_up<'a, R: Wait + Abort>(
         expect_ok(rt, session.edit(rt, 0, made, edit));
     }
     let drawn = shoot(alloc, session, 127, 128);
-    check_that(rt, "a frame that is drawn", drawn.is_ok());
+    check_that(rt, "a frame that is drawn", matches!(drawn, Ok(true)));
 }
 
 /// A shot: whether it is of a black frame and says that so many were played, and the meter counts as many; at want of memory it counts

@@ -81,35 +81,38 @@ fn answers_but<T: Wait + Abort>(rt: &T, alloc: Global, refused: usize) -> Vec<u8
     told
 }
 
-/// Whether the answers in a conversation of these lines, with one growth refused, are those; nothing where it grows less often.
-fn is_told<T: Wait>(rt: &T, alloc: Global, lines: &[u8], wanted: &[u8], number: u64) -> Option<bool>
-    requires { 1 ≤ number }
-{
-    let heap = Refusing::new(alloc, number);
-    let mut input = lines;
-    let mut output = Vec::new(alloc);
-    let end = talk_run(rt, &heap, &mut input, &mut output);
-    if heap.has_refused() {
-        Some(end == Ok(()) && output.as_slice() == wanted)
-    } else {
-        None
-    }
-}
-
-/// In how many conversations of these lines, of which each growth is refused in turn, the answers are those.
-fn times_told<T: Wait>(rt: &T, alloc: Global, lines: &[u8], wanted: &[u8]) -> u64 {
-    let mut times = 0u64;
+/// The answers of each conversation of these lines that goes on to its end although one growth is refused, each growth in turn.
+fn answers_refused<T: Wait + Abort>(rt: &T, alloc: Global, lines: &[u8]) -> Vec<Vec<u8>> {
+    let mut all = Vec::new(alloc);
     for number in 1..MOST {
-        match is_told(rt, alloc, lines, wanted, number) {
-            Some(true) => times = times.saturating_add(1),
-            Some(false) => {}
-            None => break,
+        let heap = Refusing::new(alloc, number);
+        let mut input = lines;
+        let mut output = Vec::new(alloc);
+        let end = talk_run(rt, &heap, &mut input, &mut output);
+        if !heap.has_refused() {
+            break;
+        }
+        if end == Ok(()) {
+            expect_ok(rt, all.push(output));
         }
     }
-    times
+    all
 }
 
-/// Each look's want of memory is told in its place, byte by byte, and the looks behind it are answered as ever.
+/// How many of the texts are this one.
+fn times_told(told: &[Vec<u8>], wanted: &[u8]) -> usize {
+    told.iter().filter(|text| text.as_slice() == wanted).count()
+}
+
+/// How many of the texts begin with this one.
+fn times_begun(told: &[Vec<u8>], start: &[u8]) -> usize {
+    told.iter()
+        .filter(|text| text.as_slice().starts_with(start))
+        .count()
+}
+
+/// Each look's want of memory is told in its place, byte by byte, and the looks behind it are answered as ever; where the movie is made,
+/// nothing else is told.
 #[test]
 fn looks_without_memory(rt: HostRuntime) {
     let alloc = rt.alloc();
@@ -117,19 +120,29 @@ fn looks_without_memory(rt: HostRuntime) {
     let whole = answers(&rt, alloc, lines.as_slice());
     let all = answers_but(&rt, alloc, LOOKS.len());
     check_that(&rt, "whole", whole.as_slice() == all.as_slice());
+    let told = answers_refused(&rt, alloc, lines.as_slice());
+    let mut times = 0usize;
     for place in 0..LOOKS.len() {
         let wanted = answers_but(&rt, alloc, place);
-        let times = times_told(&rt, alloc, lines.as_slice(), wanted.as_slice());
-        check_that(&rt, ("look", place), times > 0);
+        let here = times_told(told.as_slice(), wanted.as_slice());
+        check_that(&rt, ("look", place), here > 0);
+        times = times.saturating_add(here);
     }
+    let made = answers(&rt, alloc, MADE);
+    let begun = times_begun(told.as_slice(), made.as_slice());
+    check_same(&rt, "all looks", times, begun);
 }
 
-/// An edit's want of memory is told in its place, byte by byte, and the movie is as it was.
+/// An edit's want of memory is told in its place, byte by byte, and the movie is as it was; nothing else is told.
 #[test]
 fn edits_without_memory(rt: HostRuntime) {
     let alloc = rt.alloc();
+    let told = answers_refused(&rt, alloc, EDITS);
+    let mut times = 0usize;
     for (place, wanted) in REFUSED_EDITS.iter().enumerate() {
-        let times = times_told(&rt, alloc, EDITS, *wanted);
-        check_that(&rt, ("edit", place), times > 0);
+        let here = times_told(told.as_slice(), *wanted);
+        check_that(&rt, ("edit", place), here > 0);
+        times = times.saturating_add(here);
     }
+    check_same(&rt, "all edits", times, told.len());
 }

@@ -4,7 +4,7 @@ ghost use Rattle.std.specs.Prelude.{◌<◌};
 
 use crate::answers::{Answered, Refused, edit, export, offer, shoot};
 use crate::changes::{Change, FOLDING, HALTING, PLAYFIELD};
-use crate::checks::expect_ok;
+use crate::checks::{check_same, expect_ok};
 use crate::gates::Open;
 use crate::replays::{Notes, Told};
 use std::alloc::Global;
@@ -149,9 +149,11 @@ impl<N: Name> Caller<N> {
     ) {
         let range = (k, k.saturating_add(1));
         match shoot(alloc, desk, &mut self.seat, k) {
-            Ok(shown) => self
-                .notes
-                .add(rt, shown.at, Told::Drawn(range, Ok(shown.sum))),
+            Ok(shown) => {
+                check_same(rt, "shown.frame", shown.frame, k);
+                self.notes
+                    .add(rt, shown.at, Told::Drawn(range, Ok(shown.sum)));
+            }
             Err(ShotError::NoFrame { at, len }) => {
                 self.notes.add(rt, at, Told::NoFrame(k, len));
             }

@@ -88,6 +88,7 @@ fn judge_inserts<R: Abort>(rt: &R, alloc: Global, closed: &Closed, all: &[Notes]
     );
     let counts = [entries_of(rt, journal, 0), entries_of(rt, journal, 1)];
     check_same(rt, "entries_of", counts, [100, 100]);
+    check_same(rt, "seats that were told something", all.len(), 2);
     for notes in all {
         check_same(rt, "notes.notes", notes.notes.len(), 300);
         judge(rt, alloc, journal, notes, 300);
