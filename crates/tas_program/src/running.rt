@@ -198,15 +198,24 @@ pub fn run_task<T: Wait + Threads + Sync, F: Folder, R: Read, W: Write>(
     }
 }
 
+/// Writes the line of a fault: as a whole, so that another program's lines come between two of them and not into one, and piece by
+/// piece where memory is refused for it.
+fn write_line<E: Write>(alloc: Global, errors: &mut E, fault: ToolFault) -> io::Result<()> {
+    match format!(in alloc; "{fault}\n") {
+        Ok(line) => errors.write_all(line.as_bytes()),
+        Err(_) => writeln!(errors, "{fault}"),
+    }
+}
+
 /// The status of what was done; the line of a fault is written to `errors`.
-fn tell<E: Write>(errors: &mut E, end: Result<(), ToolFault>) -> Status
+fn tell<E: Write>(alloc: Global, errors: &mut E, end: Result<(), ToolFault>) -> Status
     ensures { result ≡ end_status end }
 {
     match end {
         Ok(()) => Status::Done,
         Err(fault) => {
             // The status tells of the fault, also where its line can't be written.
-            let _ = writeln!(errors, "{fault}");
+            let _ = write_line(alloc, errors, fault);
             Status::Fault
         }
     }
@@ -236,13 +245,17 @@ pub fn carry_out<T: Wait + Threads + Sync, F: Folder, R: Read, W: Write, E: Writ
         (record { input = R.remaining input.new; output = W.contents output.new }) result }
 {
     match request {
-        Request::Do(task) => tell(errors, run_task(rt, alloc, task, folder, input, output)),
-        Request::Show(text) => tell(errors, show(output, text.as_str())),
+        Request::Do(task) => tell(
+            alloc,
+            errors,
+            run_task(rt, alloc, task, folder, input, output),
+        ),
+        Request::Show(text) => tell(alloc, errors, show(output, text.as_str())),
         Request::Refuse(text) => {
             let _ = write_all(errors, text.as_bytes());
             Status::Misuse
         }
-        Request::NoMemory => tell(errors, Err(ToolFault::Memory)),
+        Request::NoMemory => tell(alloc, errors, Err(ToolFault::Memory)),
     }
 }
 

@@ -1,6 +1,6 @@
 //! What each command writes, and what it tells of faults.
 
-use crate::checks::check_same;
+use crate::checks::{check_same, check_that};
 use crate::movies::{PLAYFIELD, image_of, joined, playfield_picture};
 use crate::programs::{ONE_FRAME, TWO_FRAMES, TwoFiles, check_run, check_unread, only_game, run};
 use std::alloc::Global;
@@ -8,6 +8,7 @@ use std::io::ErrorKind;
 use std::process::Abort;
 use std::sync::Wait;
 use std::thread::Threads;
+use test_streams::{Failure, Room, Taker};
 
 /// LDA #42, STA 80, JMP F000.
 static STORES: &[u8] = b"\xa9\x42\x85\x80\x4c\x00\xf0";
@@ -212,6 +213,28 @@ fn faults_end_with_status_1(rt: HostRuntime) {
     let alloc = rt.alloc();
     check_over_playfield(&rt, alloc, FAULTS.as_slice());
     check_cases(&rt, alloc, b"1234567", SIZE_FAULT.as_slice());
+}
+
+/// The line goes out by one write, so that no other program's line comes into it.
+#[test]
+fn a_fault_line_is_one_write(rt: HostRuntime) {
+    let alloc = rt.alloc();
+    let mut output = Vec::new(alloc);
+    let mut errors = Taker::new(alloc, 1000, Room::Bytes(1000), Failure::Error);
+    let words = ["check", "game.bin"];
+    let code = run(
+        &rt,
+        alloc,
+        &words,
+        only_game(b"1234567"),
+        ONE_FRAME,
+        &mut output,
+        &mut errors,
+    );
+    check_same(&rt, "status, writes", (code, errors.writes), (1, 1));
+    let line = b"fault: cartridge has 7 bytes\n".as_slice();
+    check_same(&rt, "errors", errors.taken.as_slice(), line);
+    check_that(&rt, "nothing is written", output.is_empty());
 }
 
 #[test]

@@ -59,28 +59,28 @@ fn push_word<R: Abort>(rt: &R, alloc: Global, words: &mut Vec<String>, word: &st
 
 /// Runs the program with these words over this folder and input: its status. What it writes, and what it tells of faults, goes to
 /// these writers.
-pub fn run_words<T: Threads + Wait + Sync, W: Write>(
+pub fn run_words<T: Threads + Wait + Sync, W: Write, E: Write>(
     rt: &T,
     alloc: Global,
     words: io::Result<Args>,
     folder: TwoFiles<'_>,
     input: &[u8],
     output: &mut W,
-    errors: &mut Vec<u8>,
+    errors: &mut E,
 ) -> u8 {
     let mut input = input;
     run_program(rt, alloc, words, &folder, &mut input, output, errors).code()
 }
 
 /// The same with words that are text.
-pub fn run<T: Threads + Wait + Abort + Sync, W: Write>(
+pub fn run<T: Threads + Wait + Abort + Sync, W: Write, E: Write>(
     rt: &T,
     alloc: Global,
     words: &[&str],
     folder: TwoFiles<'_>,
     input: &[u8],
     output: &mut W,
-    errors: &mut Vec<u8>,
+    errors: &mut E,
 ) -> u8 {
     let words = words_of(rt, alloc, words).into_iter();
     run_words(rt, alloc, Ok(words), folder, input, output, errors)
