@@ -1,4 +1,6 @@
 //! Writing bytes, and how many of them went out.
+//!
+//! (own) behind a comment says that its rule is this project's own.
 #![tactic(auto)]
 
 ghost use Rattle.std.specs.Prelude.{◌≡◌, ◌+◌, ◌-◌, ◌≤◌, ◌<◌, ◌^◌, length, IfOk, IfErr, OnOk};
