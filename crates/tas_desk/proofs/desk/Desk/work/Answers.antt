@@ -1,4 +1,4 @@
-use Rattle.std.proofs.Common.{arith, rules}
+use Rattle.std.proofs.Common.{arith}
 use Rattle.tas_desk.proofs.SeatLemmas.{looked_twice}
 use Rattle.tas_desk.proofs.WorkLemmas.{keeps_before, still_current}
 use Rattle.tas_desk.proofs.desk.Desk.work.Goals as goal
