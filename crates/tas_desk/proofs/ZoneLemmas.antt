@@ -1,10 +1,14 @@
 -- What a call leaves of a seat's zone.
-use Rattle.std.specs.Prelude.{OnOk, OnErr}
-use Rattle.std.proofs.Common.{◌≡◌, ℕ, List, refl, ap, sym, ◌∙◌, subst, arith, Option, Result, Ok, Err}
+use Rattle.std.specs.Prelude.{OnOk, IfOk}
+use Rattle.std.proofs.Common.{◌≡◌, ℕ, ◌+◌, List, length, refl, ap, sym, ◌∙◌, subst, arith, Option, Some, Result, Ok, Err}
 use Rattle.logbook.specs.Pages.{Book}
 use Rattle.tas_movie.specs.Content.{MovieContent}
 use Rattle.tas_green.specs.declared.savestate.Savestate.{Savestate}
-use Rattle.tas_green.specs.Green.{IsLawful}
+use Rattle.tas_green.specs.Run.{state_after}
+use Rattle.tas_green.specs.Zone.{state_at, nearest, first_of, where_true, is_passed}
+use Rattle.tas_green.specs.Grid.{stride}
+use Rattle.tas_green.specs.Green.{IsLawful, IsMoved, IsShotFrom}
+use Rattle.tas_green.proofs.MovingLemmas.{moved_same}
 use Rattle.tas_desk.specs.declared.movie_copy.MovieCopy.{MovieCopy}
 use Rattle.tas_desk.specs.declared.entry.Entry.{Entry}
 use Rattle.tas_desk.specs.declared.reader_view.ReaderView.{ReaderView}
@@ -12,7 +16,7 @@ use Rattle.tas_desk.specs.Version.{VersionContent, version_of}
 use Rattle.tas_desk.specs.History.{movie_of}
 use Rattle.tas_desk.specs.Published.{HasSeenMore}
 use Rattle.tas_desk.specs.Seats.{SeatContent, seat_of, IsSeated, HasSeen}
-use Rattle.tas_desk.specs.Zones.{ZoneContent, version_after, IsMadeFor}
+use Rattle.tas_desk.specs.Zones.{ZoneContent, version_after, Shares, IsMadeFor}
 use Rattle.tas_desk.proofs.SeatLemmas.{entries_of-prefix}
 
 pub seated_on : {A : Type 0} (v w : ReaderView A) (b : Book) (cut sum number made : ℕ) (z y : ZoneContent A) → IsSeated v b cut sum number made z → HasSeenMore v w → y.made_for.registry ≡ z.made_for.registry → IsSeated w b cut sum number made y
@@ -28,10 +32,18 @@ pub marked : {A : Type 0} (known old new : VersionContent A) (copied : Option (M
 marked {A} known old new copied list same found is =
     is ∙ ap (λ (m : VersionContent A). version_after m copied) (sym same) ∙ found ∙ ap (λ (m : VersionContent A). version_of m.registry list) same
 
--- a zone that a call leaves lawful, or as it was
-pub lawful_still : {X E : Type 0} (movie : MovieContent) (zone now : List Savestate) (same : Type 0) (answer : Result X E) → OnOk answer (IsLawful movie now) → OnErr answer same → (same → now ≡ zone) → IsLawful movie zone → IsLawful movie now
-lawful_still movie zone now same (Ok x) ok err is was = ok
-lawful_still movie zone now same (Err e) ok err is was = subst (IsLawful movie) (sym (is err)) was
+-- a shot of the movie that a zone was made for, which leaves all of its states
+pub shot_in_place : {X E : Type 0} (movie : MovieContent) (k : ℕ) (zone now : List Savestate) (meter rose : ℕ) (answer : Result X E) → IsLawful movie zone → OnOk answer (rose + nearest k zone ≡ meter + (k + 1))
+    → OnOk answer ((f : ℕ) → state_at f now ≡ first_of (state_at f zone) (where_true (is_passed (stride (length movie.inputs)) (nearest k zone) (k + 1) f) (Some (state_after movie f))))
+    → OnOk answer (IsShotFrom movie movie k zone now meter rose)
+shot_in_place movie k zone now meter rose (Ok x) lawful rise kept = record { left = zone; moved = moved_same movie zone lawful; rise = rise; kept = kept }
+shot_in_place movie k zone now meter rose (Err e) lawful rise kept = tt
+
+-- what such a zone gains of another one
+pub shared_in_place : {E : Type 0} (old new : MovieContent) (zone other now : List Savestate) (answer : Result ℕ E) → IsLawful old zone → new ≡ old
+    → OnOk answer ((f : ℕ) → state_at f now ≡ first_of (state_at f zone) (state_at f other)) → IfOk answer (λ gained. length now ≡ length zone + gained) → IfOk answer (Shares old new zone other now)
+shared_in_place old new zone other now (Ok gained) lawful same states count = (zone, subst (λ (m : MovieContent). IsMoved old m zone zone) (sym same) (moved_same old zone lawful), states, count)
+shared_in_place old new zone other now (Err e) lawful same states count = tt
 
 pub made_for : {A : Type 0} (z y : ZoneContent A) (list : List (Entry A)) → y.made_for ≡ version_of z.made_for.registry list → y.movie ≡ movie_of y.made_for.history → IsLawful y.movie y.states → IsMadeFor y list
 made_for {A} z y list marked movie lawful =

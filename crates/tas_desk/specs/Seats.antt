@@ -23,6 +23,10 @@ use Rattle.tas_desk.specs.declared.replies.ShotError.{ShotError}
 use Rattle.tas_desk.specs.declared.replies.ShotError.TheVariants.{NoEntry as NoShotEntry, NoFrame as NoShotFrame, Memory as NoShotMemory, Halted as ShotHalted}
 use Rattle.tas_desk.specs.Zones.{ZoneContent, IsPlayed}
 
+-- how many seats a desk has at most (own)
+abbrev pub most_seats : ℕ
+most_seats = 8
+
 -- a seat: its number, how many edits it made, what it has seen of the history, and its greenzone
 pub record SeatContent (A : Type 0) : Type 0 where
   pub number : ℕ

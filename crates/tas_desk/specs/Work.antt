@@ -1,5 +1,6 @@
 -- Jobs, what they made, and replies to work (own).
-use Rattle.std.specs.Prelude.{◌≡◌, ℕ, ◌+◌, ◌*◌, ◌<◌, ◌≤◌, List, length, take, min, Result, Ok, Err}
+use Rattle.std.specs.Prelude.{◌≡◌, ℕ, ◌+◌, ◌-◌, ◌*◌, ◌^◌, ◌<◌, ◌≤◌, List, length, take, min, Option, Some, None, Result, Ok, Err}
+use mathlib.Core.List.{IsPrefix}
 use Rattle.tas_movie.specs.Content.{MovieContent}
 use Rattle.tas_green.specs.declared.savestate.Savestate.{Savestate}
 use Rattle.tas_green.specs.Batch.{JobContent, BatchContent}
@@ -7,10 +8,12 @@ use Rattle.tas_green.specs.Front.{IsCommonFront}
 use Rattle.tas_green.specs.Green.{IsLawful}
 use Rattle.tas_green.specs.Grid.{most_states, stride}
 use Rattle.tas_green.specs.Zone.{state_at, nearest, first_of, where_true, is_on_grid}
+use Rattle.tas_desk.specs.declared.entry.Entry.{Entry}
 use Rattle.tas_desk.specs.declared.replies.Offered.{Offered}
 use Rattle.tas_desk.specs.declared.work.Worked.{Worked}
 use Rattle.tas_desk.specs.declared.work.WorkError.{WorkError}
 use Rattle.tas_desk.specs.declared.work.WorkError.TheVariants.{Memory}
+use Rattle.tas_desk.specs.History.{movie_of}
 
 -- a job for the first `near` frames of a movie: it has the cartridge, these inputs and the movie's stride, and starts from the
 -- nearest state among them of a zone that is lawful for the movie
@@ -33,6 +36,12 @@ pub record IsTaken (movie : MovieContent) (batch : BatchContent) (offered : Offe
   pub gained : length now ≡ length before + offered.kept
   pub lawful_now : IsLawful movie now
 
+-- what was worked, once there was one job more: it gained so many states, which are counted up to what a `usize` holds, or it
+-- was stale
+abbrev pub with_job : Worked → Option ℕ → Worked
+with_job worked (Some gained) = record { jobs = worked.jobs + 1; kept = min (worked.kept + gained) (2 ^ 64 - 1); stale = worked.stale }
+with_job worked None = record { jobs = worked.jobs + 1; kept = worked.kept; stale = worked.stale + 1 }
+
 -- no more jobs are stale than were run, and each of the others gained at most as many states as a zone has
 pub record IsTally (worked : Worked) : Type 0 where
   pub stale : worked.stale ≤ worked.jobs
@@ -42,3 +51,12 @@ pub record IsTally (worked : Worked) : Type 0 where
 abbrev pub IsWorked : ℕ → Result Worked WorkError → Type 0
 IsWorked targets (Ok worked) = (worked.jobs ≡ targets) × IsTally worked
 IsWorked targets (Err (Memory done)) = (done.jobs < targets) × IsTally done
+
+-- each history between these two has the first one's cartridge
+abbrev pub KeepsCart : {A : Type 0} → List (Entry A) → List (Entry A) → Type 0
+KeepsCart {A} before now = (front : List (Entry A)) → IsPrefix before front → IsPrefix front now → (movie_of front).cart ≡ (movie_of before).cart
+
+-- how many stale jobs are told
+abbrev pub stale_in : Result Worked WorkError → ℕ
+stale_in (Ok worked) = worked.stale
+stale_in (Err (Memory done)) = done.stale

@@ -14,7 +14,7 @@ ghost use Rattle.tas_desk.specs.Shots.{IsShotAt};
 ghost use Rattle.tas_desk.specs.Zones.{IsShared, IsShort, blank_zone};
 ghost use Rattle.tas_green.specs.Grid.{most_states};
 ghost use Rattle.tas_desk.specs.Closing.{made_by};
-ghost use Rattle.tas_desk.specs.Seats.{name_of, seat_of, HasSeen, KeepsZone, IsZoneShot, IsEdited, IsWhole, IsSettled, IsInput};
+ghost use Rattle.tas_desk.specs.Seats.{most_seats, name_of, seat_of, HasSeen, KeepsZone, IsZoneShot, IsEdited, IsWhole, IsSettled, IsInput};
 ghost use Rattle.tas_desk.specs.Work.{IsJobOf, IsTaken};
 
 use crate::locked_session::{CloseOnDrop, LockedSession};
@@ -30,6 +30,9 @@ use std::sync::{Mutex, Wait};
 use tas_green::{Batch, Job};
 use tas_movie::Edit;
 use vcs_machine::Input;
+
+/// How many seats a desk has at most (own).
+pub const MAX_SEATS: u32 = 8;
 
 /// A desk before it has a name (own): the blank cartridge with no inputs, and no edits. Contracts see what a name must be for
 /// it: its registry, its ledger and the number of its seats. It can't be dropped: open it.
@@ -52,9 +55,9 @@ impl<A: Allocator> Model for Unopened<A> {
 }
 
 impl<A: Allocator + Copy> Unopened<A> {
-    /// A desk with so many seats, of which there is one at least and eight at most. `Memory` where memory is refused.
+    /// A desk with so many seats, 1 to [`MAX_SEATS`]; the caller shows it. `Memory` where memory is refused.
     pub fn new(alloc: A, seats: u32) -> Result<Unopened<A>, OpenError>
-        requires { (1 ≤ seats) × (seats ≤ 8) }
+        requires { (1 ≤ seats) × (seats ≤ most_seats) }
         ensures seats { IfOk result (λ unopened. unopened.seats ≡ seats) }
         ensures error { IfErr result (λ error. error ≡ OutOfMemory) }
     {

@@ -27,6 +27,7 @@ pub fn play_up_to<A: Allocator>(
     let inputs = movie.inputs();
     let mut state = start.state;
     for frame in start.frame..end {
+        // A halted machine stays as it is: its state tells the halt.
         let _ = play_unseen(movie.cart(), &mut state, inputs[frame], meter);
     }
     state

@@ -1,5 +1,7 @@
 //! The editor: one movie, the history of its edits, and its greenzone; for one caller as a session, for several as a desk with
 //! seats, which read without waiting.
+//!
+//! "(own)" marks a rule that is this project's own; where a rule comes from a manual, its section is named.
 #![tactic(auto)]
 
 mod counts;
@@ -28,7 +30,7 @@ mod version;
 mod work;
 mod writing;
 
-pub use desk::{Desk, Unopened};
+pub use desk::{Desk, MAX_SEATS, Unopened};
 pub use entry::Entry;
 pub use export::{ExportError, Exported, MAX_EXPORT, MAX_WORKERS};
 pub use laws::limits_are_exact;

@@ -22,8 +22,8 @@ use std::sync::ledger::{Book, Share};
 use tas_green::{Batch, Job};
 use tas_movie::{Edit, Movie};
 
-/// How a dropped desk closes its session (own). Whatever may wait does it, by waiting. The trait itself has no part for waiting, so
-/// that the type of a desk doesn't make its looks calls that may wait.
+/// How a dropped desk closes its session (own). Implemented by every handle that may wait. It is no `Wait` bound itself, so that a
+/// desk's looks aren't counted as calls that may wait; dropping a desk does wait.
 pub trait CloseOnDrop: Drop {
     /// Closes the session.
     fn close_session<A: Allocator>(&self, session: Session<A>);

@@ -17,7 +17,7 @@ use std::collections::LinkedList;
 use std::marker::Model;
 use tas_movie::{Edit, Movie, apply, check};
 
-/// The movie as it is published, twice, by the two copies that readers and writer take in turns.
+/// One of the two copies that `left_right` keeps of the movie.
 #[derive(Drop)]
 pub struct PublishedMovie<A: Allocator = Global>
 where

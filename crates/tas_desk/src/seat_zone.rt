@@ -122,9 +122,7 @@ impl<A: Allocator + Copy> SeatZone<A> {
     {
         let old = &self.made_for;
         match copied {
-            None => self
-                .green
-                .shot_from(&old.movie, &old.movie, k, picture, meter),
+            None => self.green.shot(&old.movie, k, picture, meter),
             Some(copied) => {
                 let new = &copied;
                 let answer = self
@@ -155,7 +153,7 @@ impl<A: Allocator + Copy> SeatZone<A> {
     {
         let old = &self.made_for;
         if old.version.is_same(version) {
-            return self.green.gain_from(&old.movie, &old.movie, other);
+            return self.green.gain(&old.movie, other);
         }
         let copied = MovieCopy {
             movie: movie.copy(self.alloc)?,

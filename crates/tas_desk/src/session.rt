@@ -73,7 +73,7 @@ impl<A: Allocator> Session<A> {
         publisher.close(rt)
     }
 
-    /// One who has seen the history.
+    /// A reader of the published movie that has seen the whole history.
     pub(crate) fn reader<R: Wait>(&mut self, rt: &R) -> Result<MovieReader<A>, AllocError>
         ensures same { self.new ≡ self.old }
         ensures seen { IfOk result (λ reader. reader ≡ view_of (version_of self.old.registry self.old.journal)) }
@@ -81,7 +81,7 @@ impl<A: Allocator> Session<A> {
         self.publisher.reader(rt)
     }
 
-    /// Lets one see the history. It comes back when it has.
+    /// Makes a reader enter until it sees the present history.
     pub(crate) fn show_to<R: Wait>(&self, rt: &R, reader: &mut MovieReader<A>)
         requires { KnowsRegistry reader.old self.now.registry }
         ensures seen { reader.new ≡ view_of (version_of self.now.registry self.now.journal) }

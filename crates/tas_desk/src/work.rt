@@ -1,9 +1,9 @@
 //! Work outside the lock.
 
-ghost use Rattle.std.specs.Prelude.{◌≡◌, ◌+◌, ◌<◌, ◌≤◌, ◌^◌, length, IfOk, IfSome};
+ghost use Rattle.std.specs.Prelude.{◌≡◌, ◌≢◌, ◌+◌, ◌<◌, ◌≤◌, ◌^◌, length, None, Ok, IfOk, IfSome};
 ghost use Rattle.tas_green.specs.Grid.{most_states};
 ghost use Rattle.tas_desk.specs.Seats.{KeepsZone};
-ghost use Rattle.tas_desk.specs.Work.{IsTally, IsWorked};
+ghost use Rattle.tas_desk.specs.Work.{with_job, IsTally, IsWorked, KeepsCart, stale_in};
 
 use crate::locked_session::CloseOnDrop;
 use crate::{Desk, Name, OfferError, Seat};
@@ -35,6 +35,7 @@ impl Worked {
         requires tally { IsTally self }
         requires room { self.jobs + 1 < 2 ^ 64 }
         requires few { IfSome gained (λ kept. kept ≤ most_states) }
+        ensures exact { result ≡ with_job self gained }
         ensures tally { IsTally result }
         ensures jobs { result.jobs ≡ self.jobs + 1 }
     {
@@ -80,6 +81,8 @@ impl<N: Name, W: CloseOnDrop, A: Allocator + Copy> Desk<N, W, A> {
     ) -> Result<Worked, WorkError>
         ensures seat { KeepsZone seat.old seat.new }
         ensures reply { IsWorked (length targets.now) result }
+        // Where no other cartridge is loaded meanwhile, no job is stale.
+        ensures current { KeepsCart seat.old.front seat.new.front → stale_in result ≡ 0 }
     {
         let mut done = Worked {
             jobs: 0,
@@ -108,6 +111,7 @@ impl<N: Name, W: CloseOnDrop, A: Allocator + Copy> Desk<N, W, A> {
     ) -> Result<Option<usize>, AllocError>
         ensures seat { KeepsZone seat.old seat.new }
         ensures few { IfOk result (λ gained. IfSome gained (λ kept. kept ≤ most_states)) }
+        ensures current { KeepsCart seat.old.front seat.new.front → result ≢ Ok None }
     {
         let job = self.job(rt, alloc, seat, near)?;
         gate.pass(number);

@@ -1,6 +1,7 @@
 //! Calls of a desk in short, taken one after the other on one thread.
 
 ghost use Rattle.std.specs.Prelude.{◌≤◌};
+ghost use Rattle.tas_desk.specs.Seats.{most_seats};
 
 use crate::answers::{Refused, edit, export, shoot};
 use crate::changes::Change;
@@ -191,7 +192,7 @@ pub fn play_calls<R: Threads + Wait + Abort + Sync>(
     seats: u32,
     calls: &[Call],
 ) -> Closed
-    requires { (1 ≤ seats) × (seats ≤ 8) }
+    requires { (1 ≤ seats) × (seats ≤ most_seats) }
 {
     lend(rt, alloc, seats, Task::Calls(calls))
 }

@@ -1,7 +1,7 @@
 //! Desks for tests: opened, lent with all their seats, and closed.
 
 ghost use Rattle.std.specs.Prelude.{◌≡◌, ◌≤◌};
-ghost use Rattle.tas_desk.specs.Seats.{name_of};
+ghost use Rattle.tas_desk.specs.Seats.{most_seats, name_of};
 
 use crate::answers::edit;
 use crate::batch_tests::{give_batch, offer_three_batches, take_batch};
@@ -121,7 +121,7 @@ pub fn play<R: Threads + Wait + Abort + Sync>(
     task: Task<'_>,
     told: &mut Told,
 ) -> Closed
-    requires { (1 ≤ seats) × (seats ≤ 8) }
+    requires { (1 ≤ seats) × (seats ≤ most_seats) }
 {
     let unopened = expect_ok(rt, Unopened::new(alloc, seats));
     play_at::<Brand, R>(rt, alloc, unopened, task, told)
@@ -134,7 +134,7 @@ pub fn lend<R: Threads + Wait + Abort + Sync>(
     seats: u32,
     task: Task<'_>,
 ) -> Closed
-    requires { (1 ≤ seats) × (seats ≤ 8) }
+    requires { (1 ≤ seats) × (seats ≤ most_seats) }
 {
     play(rt, alloc, seats, task, &mut nothing(alloc))
 }

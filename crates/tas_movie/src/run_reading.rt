@@ -63,10 +63,7 @@ fn read_run(line: &[u8]) -> Option<FrameRun>
 fn is_repeated(before: &[Input], input: Input) -> bool
     ensures { result ≡ is_repeated (slice_get before.now (length before.now - 1)) input }
 {
-    match before.last() {
-        Some(last) => *last == input,
-        None => false,
-    }
+    before.last().is_some_and(|last| *last == input)
 }
 
 /// The run that a line says behind the frames with these inputs, or what is wrong with it.

@@ -1,4 +1,7 @@
+use Rattle.std.proofs.Common.{◌≡◌, length, ap, ◌∙◌, inl, inr, Err}
+use Rattle.tas_desk.specs.declared.replies.OfferError.TheVariants.{Cartridge}
 use Rattle.tas_desk.proofs.SeatLemmas.{looked_twice}
+use Rattle.tas_desk.proofs.WorkLemmas.{never_stale}
 use Rattle.tas_desk.proofs.desk.Desk.work_one.Goals as goal
 
 pub returns-in-Ok-clause-seat : goal.returns-in-Ok-clause-seat
@@ -9,3 +12,10 @@ returns-in-Err-Cartridge-clause-seat g c = looked_twice _ _ _ c.job.ensures.seat
 
 pub returns-clause-seat : goal.returns-clause-seat
 returns-clause-seat g c = looked_twice _ _ _ c.job.ensures.seat c.offer.ensures.seat
+
+pub returns-in-Err-Cartridge-clause-current : goal.returns-in-Err-Cartridge-clause-current
+returns-in-Err-Cartridge-clause-current g c = λ keeps _.
+    let front = c.offer.new.seat.front in
+    let same : c.in-Err-Cartridge.field-0 ≡ Cartridge (length front) = elim c.in-Err-Cartridge.ensures.error [ inl same ↦ same | inr memory ↦ cc (memory, c.in-Err-Cartridge.field-0-is) ] in
+    never_stale c.args.seat.now.front c.job.new.seat.front front c.run.result.cart c.job.ensures.seat.seen.begins c.offer.ensures.seat.seen.begins
+    (c.run.ensures.cart ∙ c.in_ok-job.ensures.job.cart) (c.offer.ensures.cartridge.0 (c.in-Err-Cartridge.is ∙ ap Err same)) keeps

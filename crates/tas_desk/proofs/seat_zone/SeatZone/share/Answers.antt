@@ -1,5 +1,14 @@
-use Rattle.std.proofs.Common.{rules}
+use Rattle.std.specs.Prelude.{IfOk}
+use Rattle.std.proofs.Common.{◌≡◌, sym, subst, rules}
+use Rattle.tas_desk.specs.Zones.{ZoneContent, Shares}
+use Rattle.tas_desk.proofs.ZoneLemmas.{shared_in_place}
 use Rattle.tas_desk.proofs.seat_zone.SeatZone.share.Goals as goal
+
+pub returns-then-is_same-clause-gained : goal.returns-then-is_same-clause-gained
+returns-then-is_same-clause-gained g c =
+    let same : c.self.inside.made_for.movie ≡ c.args.movie.now = search rules in
+    subst (λ (z : ZoneContent _). IfOk c.gain.result (Shares z.movie c.args.movie.now z.states c.args.other.now c.gain.new.self)) c.self.view_is
+    (shared_in_place c.self.inside.made_for.movie c.args.movie.now c.self.inside.green c.args.other.now c.gain.new.self c.gain.result c.self.invariant (sym same) c.gain.ensures.states c.gain.ensures.count)
 
 pub returns-clause-gained : goal.returns-clause-gained
 returns-clause-gained g c = search rules
