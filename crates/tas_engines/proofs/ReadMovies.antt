@@ -1,11 +1,9 @@
 -- What a cartridge and a text make.
-use Rattle.std.proofs.Common.{◌≡◌, ℕ, List, length, Option, Some, None, refl, sym, ap, ◌∙◌}
+use Rattle.std.proofs.Common.{◌≡◌, ℕ, List, refl, sym, ap, ◌∙◌}
 use Rattle.std.proofs.lemmas.Bool.{both_ways}
 use Rattle.vcs_machine.specs.Cart.{is_cart_size}
-use Rattle.tas_movie.specs.declared.error.TextError.{TextError}
 use Rattle.tas_movie.specs.Content.{MovieContent}
-use Rattle.tas_movie.specs.Fault.{fault}
-use Rattle.tas_movie.proofs.TwoTexts.{one_movie, text_right, read_no_error}
+use Rattle.tas_movie.proofs.TwoTexts.{one_movie, read_no_error}
 use Rattle.tas_engines.specs.declared.fault.RunFault.{RunFault}
 use Rattle.tas_engines.specs.declared.fault.RunFault.TheVariants.{Write, Size, Text, NoFrame, Range, Halted, Script, EditPlace, EditLong, NoPlace, NoEntry, Foreign, Memory}
 use Rattle.tas_engines.specs.Movies.{IsMovieOf, IsMovieFault}
