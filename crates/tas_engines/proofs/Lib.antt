@@ -1,3 +1,4 @@
 pub mod ReadLengths
 pub mod EngineEnds
 pub mod Shots
+pub mod ReadMovies

@@ -3,8 +3,8 @@ use Rattle.std.specs.Prelude.{◌≡◌, ℕ, ◌+◌, ◌<◌, ◌≤◌, true,
 use Rattle.vcs_cpu.specs.declared.halt.Halt.{Halt}
 use Rattle.vcs_cpu.specs.declared.halt.Halt.TheVariants.{Undocumented}
 use Rattle.vcs_tia.specs.Image.{ppm_bytes}
-use Rattle.tas_movie.specs.Content.{MovieContent}
 use Rattle.vcs_machine.specs.Cart.{is_cart_size}
+use Rattle.tas_movie.specs.Content.{MovieContent, most_inputs}
 use Rattle.tas_movie.specs.Text.{text2, IsText}
 use Rattle.tas_movie.specs.Fault.{fault}
 use Rattle.tas_green.specs.Run.{state_after, picture_of}
@@ -14,16 +14,19 @@ use Rattle.tas_engines.specs.declared.fault.ToolFault.{ToolFault}
 use Rattle.tas_engines.specs.Input.{IsReadWhole, StopsReadingTwo}
 use Rattle.tas_engines.specs.Output.{Ends, EndsAfter}
 
--- the movie whose cartridge is the image and of which the bytes are a text
+-- the movie whose cartridge is the image and of which the bytes are a text: the image has the size of a cartridge, and the movie
+-- at most as many inputs as a movie has
 pub record IsMovieOf (image bytes : List ℕ) (movie : MovieContent) : Type 0 where
+  pub size : is_cart_size (length image) ≡ true
   pub cart : movie.cart ≡ image
+  pub most : length movie.inputs ≤ most_inputs
   pub text : IsText bytes movie
 
--- why there is no such movie: the cartridge's size comes before the text
+-- why there is no such movie: a wrong size of the cartridge comes before the text and before want of memory
 abbrev pub IsMovieFault : List ℕ → List ℕ → RunFault → Type 0
-IsMovieFault image bytes Memory = Unit {0}
 IsMovieFault image bytes (Size n) = (n ≡ length image) × (is_cart_size n ≡ false)
 IsMovieFault image bytes (Text e) = (is_cart_size (length image) ≡ true) × (fault bytes image ≡ Some e)
+IsMovieFault image bytes Memory = is_cart_size (length image) ≡ true
 IsMovieFault image bytes _ = ⊥
 
 -- an engine of a cartridge and a movie text, read in this order: from what the readers have and the writer holds before to what

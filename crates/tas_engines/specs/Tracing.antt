@@ -8,10 +8,10 @@ use Rattle.tas_engines.specs.declared.fault.ToolFault.{ToolFault}
 use Rattle.tas_engines.specs.Input.{IsReadWhole, StopsReading}
 use Rattle.tas_engines.specs.Output.{Ends, EndsAfter}
 
--- why an image is no cartridge
+-- why an image is no cartridge: a wrong size comes before want of memory
 abbrev pub IsImageFault : List ℕ → RunFault → Type 0
 IsImageFault image (Size n) = (n ≡ length image) × (is_cart_size n ≡ false)
-IsImageFault image Memory = Unit {0}
+IsImageFault image Memory = is_cart_size (length image) ≡ true
 IsImageFault image _ = ⊥
 
 -- the trace of the image, or why it has none

@@ -9,6 +9,7 @@
 mod checking;
 mod fault;
 mod fault_lines;
+mod laws;
 mod migrating;
 mod movies;
 mod reading;
@@ -18,6 +19,7 @@ mod writing;
 
 pub use checking::check_run;
 pub use fault::{ReadFault, RunFault, ToolFault};
+pub use laws::one_movie_per_cartridge_and_text;
 pub use migrating::migrate_run;
 pub use movies::movie_of;
 pub use reading::{INPUT_LIMIT, ThreeInputs, read_input, read_three, read_two};

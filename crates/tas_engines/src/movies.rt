@@ -10,7 +10,7 @@ use vcs_machine::Cart;
 
 /// The movie whose cartridge is the image and of which the bytes are a text (own).
 ///
-/// Faults, in order: `Size`, `Text`; `Memory` at any point.
+/// Faults, in order: `Size`, `Text`; `Memory` at any point behind `Size`.
 pub fn movie_of<A: Allocator + Copy>(
     alloc: A,
     image: &[u8],

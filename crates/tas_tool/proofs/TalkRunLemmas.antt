@@ -7,9 +7,9 @@ use Rattle.vcs_machine.specs.Cart.{is_cart_size, IsRightCartError}
 use Rattle.tas_movie.specs.Content.{MovieContent}
 use Rattle.tas_engines.specs.declared.fault.ReadFault.{ReadFault}
 use Rattle.tas_engines.specs.declared.fault.RunFault.{RunFault}
-use Rattle.tas_engines.specs.declared.fault.RunFault.TheVariants.{Size}
+use Rattle.tas_engines.specs.declared.fault.RunFault.TheVariants.{Size, Memory}
 use Rattle.tas_engines.specs.declared.fault.ToolFault.{ToolFault}
-use Rattle.tas_engines.specs.declared.fault.ToolFault.TheVariants.{Size as OffSize}
+use Rattle.tas_engines.specs.declared.fault.ToolFault.TheVariants.{Size as OffSize, Memory as OutOfRoom}
 use Rattle.tas_engines.specs.Faults.{unread_fault, run_fault}
 use Rattle.tas_engines.specs.Input.{IsReadWhole, StopsReading, StopsReadingTwo}
 use Rattle.tas_engines.specs.Movies.{IsMovieOf, IsMovieFault}
@@ -35,6 +35,10 @@ cart_missized A cart cart' input output read image error n m whole same right is
     let told : IsRightCartError image (CartSize n) = subst (λ (e : CartError). IsRightCartError image e) is right in
     subst (λ (k : ℕ). IsCartTalk A cart cart' input input output output (Err (OffSize k))) (sym number)
     (cart_unmade A cart cart' input output read image (Size n) (OffSize n) whole same (told.0, ap is_cart_size told.0 ∙ told.1) refl)
+
+pub cart_unroomed : (A : Type 0) (cart cart' input output : Option (List ℕ)) (read image : List ℕ) → IsReadWhole cart cart' read → image ≡ read → is_cart_size (length image) ≡ true
+    → IsCartTalk A cart cart' input input output output (Err OutOfRoom)
+cart_unroomed A cart cart' input output read image whole same long = cart_unmade A cart cart' input output read image Memory OutOfRoom whole same long refl
 
 pub cart_talked : (A : Type 0) (cart cart' input input' output output' : Option (List ℕ)) (read image : List ℕ) (start : TalkState) (result : Result (Unit {0}) ToolFault) → IsReadWhole cart cart' read → image ≡ read → is_cart_size (length image) ≡ true
     → start ≡ cart_talk_state image → IsTalk A start input input' output output' result → IsCartTalk A cart cart' input input' output output' result
