@@ -15,7 +15,7 @@ use vcs_machine::Input;
 /// A change of a movie's inputs, as one line of a script says it (own).
 #[derive(Clone, Copy)]
 pub enum Change {
-    /// `insert AT COUNT FRAME`: copies of one input are put in.
+    /// `insert PLACE COUNT FRAME`: copies of one input are put in.
     Insert {
         /// The place in the movie's inputs, counted from 0.
         at: usize,
@@ -24,7 +24,7 @@ pub enum Change {
         /// The input.
         input: Input,
     },
-    /// `replace AT COUNT FRAME`: copies of one input are written over as many inputs.
+    /// `replace PLACE COUNT FRAME`: copies of one input are written over as many inputs.
     Replace {
         /// The place in the movie's inputs, counted from 0.
         at: usize,
@@ -33,7 +33,7 @@ pub enum Change {
         /// The input.
         input: Input,
     },
-    /// `delete AT COUNT`: inputs are taken out.
+    /// `delete PLACE COUNT`: inputs are taken out.
     Delete {
         /// The place in the movie's inputs, counted from 0.
         at: usize,

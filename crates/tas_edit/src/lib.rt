@@ -1,5 +1,7 @@
 //! Movies in, movies out: a script of changes made on a movie, and the script that makes one movie of
 //! another.
+//!
+//! '(own)' marks a decision of this project, one that no manual makes.
 #![tactic(auto)]
 
 mod change;

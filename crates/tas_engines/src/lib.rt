@@ -4,6 +4,8 @@
 //! An engine reads its inputs whole before it writes anything, and then runs on the bytes that it
 //! read. Its contract says what it left in its readers, and that it either wrote just the bytes that
 //! the definition names for what it read, or ends with a [`ToolFault`] whose cause holds.
+//!
+//! '(own)' marks a decision of this project, one that no manual makes.
 #![tactic(auto)]
 
 mod checking;

@@ -86,9 +86,9 @@ Example:
 
 const EDIT_HELP: &str = "\
 Standard input is the movie text, as for 'tas check'. The script's file has changes, a line each:
-  insert AT COUNT FRAME      insert COUNT frames such as 'R.... ..... .....'
-  replace AT COUNT FRAME     replace COUNT frames
-  delete AT COUNT            delete COUNT frames
+  insert PLACE COUNT FRAME   insert COUNT frames such as 'R.... ..... .....'
+  replace PLACE COUNT FRAME  replace COUNT frames
+  delete PLACE COUNT         delete COUNT frames
 Standard output is the text of the movie that they make, in order. A line that isn't understood, or
 whose change reaches past the last frame or makes the movie too long, ends the command with its fault
 and nothing written.
@@ -98,8 +98,8 @@ Example:
 
 const DIFF_HELP: &str = "\
 Standard input is a movie text, as for 'tas check', and OLD is the file with the text of an older one.
-Standard output is a script for 'tas edit' that makes the new movie of the old one: nothing where they
-are equal.
+Standard output is a script for 'tas edit' that turns the old movie into the new one: nothing where
+they are equal.
 
 Example:
   tas diff joystick.bin examples/joystick.movie < mended.movie";
@@ -108,13 +108,13 @@ const SCRIPT_HELP: &str = "\
 Standard input is the script: edits of a movie and looks at it, a line each:
   load OFF=HEX ..            take a cartridge of 4096 zeros with these bytes
   load2 OFF=HEX ..           take one of 2048 zeros
-  insert AT COUNT FRAME      insert COUNT frames such as 'R.... ..... .....'
-  replace AT COUNT FRAME     replace COUNT frames
-  delete AT COUNT            delete COUNT frames
+  insert PLACE COUNT FRAME   insert COUNT frames such as 'R.... ..... .....'
+  replace PLACE COUNT FRAME  replace COUNT frames
+  delete PLACE COUNT         delete COUNT frames
   len, input K, shot K       tell the length, an input, or what frame K shows
   work K                     keep states up to frame K
 Standard output has a reply for each line; refusals are replies, too. A line that isn't understood
-ends the script. With --cart and --movie the script starts from this movie, which is made by two
+ends the script. With --cart and --movie the script starts from this movie, which counts as two
 edits; else from a blank cartridge with no frames.
 
 Examples:
@@ -124,21 +124,22 @@ Examples:
 const TALK_HELP: &str = "\
 Standard input is lines, as of 'tas script', and standard output has the answer to each before the
 next one is read, so that another program can hold the conversation. It has these lines, too:
-  picture K                  a line 'picture AT K BYTES', and the pixmap of frame K: so many bytes
-  movie                      a line 'movie AT BYTES', and the movie's text: so many bytes
+  picture K                  a line 'picture AT K BYTES', then BYTES bytes: the pixmap of frame K
+  movie                      a line 'movie AT BYTES', then BYTES bytes: the movie's text
   states                     'states AT N' and the N frames after which a machine state is kept
   quit                       ends the conversation, as the end of standard input does
-A line that isn't understood, or longer than 16384 bytes, is answered 'unknown' and changes nothing.
-With CART it begins with this cartridge, with MOVIE with this movie's frames too, by two edits.
+AT is the number of edits so far. A line that isn't understood, or longer than 16384 bytes, is
+answered 'unknown' and changes nothing. With CART it starts from this cartridge, with MOVIE from this
+movie. That counts as two edits.
 
 Example:
   printf 'len\\npicture 60\\nquit\\n' | tas talk joystick.bin examples/joystick.movie";
 
 const EXPORT_HELP: &str = "\
 Standard input is the movie text, as for 'tas check'.
-Standard output is the pictures of the frames FROM to TO - 1, each as for 'tas shot', one after the
-other; they are at most 1024. The movie is replayed from power-on by WORKERS threads, which share the
-frames; the pictures are the same for every number of them. Nothing is written before all are there.
+Standard output is the pictures of the frames FROM to TO - 1, at most 1024, each as for 'tas shot',
+one after the other. WORKERS threads replay the movie from power-on and share the frames; the
+pictures don't depend on their number. Nothing is written before all are ready.
 
 Example:
   examples/cart joystick > joystick.bin
@@ -147,7 +148,7 @@ Example:
 
 const TAS_HELP: &str = "\
 Each command but 'talk' reads standard input whole before it writes anything to standard output.
-Status: 0 done, 1 a fault (one line on standard error), 2 words that aren't understood.";
+Status: 0 done, 1 a fault (one line on standard error), 2 a wrong command line.";
 
 const CARTRIDGE: Word = Word {
     name: "CART",
@@ -213,7 +214,7 @@ static SUBCOMMANDS: [Subcommand; 9] = [
     },
     Subcommand {
         name: "diff",
-        about: "Writes the script that makes one movie of another",
+        about: "Writes the script that turns one movie into another",
         help: DIFF_HELP,
         words: &[
             CARTRIDGE,

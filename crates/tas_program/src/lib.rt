@@ -3,6 +3,8 @@
 //!
 //! [`run_program`] reads the words into a [`Request`] and carries it out. The program's crate only
 //! hands it the real arguments, files and streams; tests hand it others.
+//!
+//! '(own)' marks a decision of this project, one that no manual makes.
 #![tactic(auto)]
 
 mod command_line;

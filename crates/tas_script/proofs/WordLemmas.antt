@@ -1,10 +1,8 @@
 -- Words, numbers and the bytes between them.
-use Rattle.std.proofs.Common.{◌≡◌, ℕ, ◌+◌, ◌<◌, ◌≤◌, List, [], ◌∷◌, ◌++◌, length, take, drop, get_or, Option, Some, None, refl, sym, ap, subst, ◌∙◌, arith}
-use Rattle.std.proofs.lemmas.List.{take_more, take-append-drop}
-use Rattle.std.proofs.Common.{Bool, true, false, ◌%◌, ◌^◌}
-use Rattle.std.specs.Prelude.{decimal}
-use Rattle.std.specs.Str.{bytes_eq}
-use Rattle.std.proofs.lemmas.Slice.Eq.{bytes_eq-Decides}
+use Rattle.std.proofs.Common.{◌≡◌, ℕ, ◌+◌, ◌<◌, ◌≤◌, List, [], ◌∷◌, ◌++◌, length, take, get_or, Option, Some, None, refl, sym, subst, ◌∙◌, arith}
+use Rattle.std.proofs.lemmas.List.{take_more}
+use Rattle.std.proofs.Common.{◌%◌, ◌^◌}
+use Rattle.std.specs.Prelude.{decimal, MatchOption, IfSome, IfNone}
 use Rattle.std.proofs.lemmas.Fmt.{decimal_by_steps, decimal_injective}
 use Rattle.tas_script.specs.Commands.{NoByte}
 
@@ -33,16 +31,21 @@ same_front c (k ∷ a) (m ∷ b) x y ha hb e =
     let whole : k ∷ a ≡ m ∷ b = cc in
     (whole, both.1)
 
+-- ---- what is said of both cases is said of each
+
+pub if_there : {X : Type 0} (P : Type 0) (Q : X → Type 0) (o : Option X) → MatchOption o P Q → IfSome o Q
+if_there P Q None both = tt
+if_there P Q (Some x) both = both
+
+pub if_none : {X : Type 0} (P : Type 0) (Q : X → Type 0) (o : Option X) → MatchOption o P Q → IfNone o P
+if_none P Q None both = both
+if_none P Q (Some x) both = tt
+
+pub none_then : {X : Type 0} (P Q : Type 0) (o : Option X) → IfNone o P → (P → Q) → IfNone o Q
+none_then P Q None holds follows = follows holds
+none_then P Q (Some x) holds follows = tt
+
 -- ---- numbers
-
-pub not_same : (a b : List ℕ) (r : Bool) → r ≡ bytes_eq a b → r ≡ false → a ≡ b → ⊥
-not_same a b r is off same = let on : bytes_eq a b ≡ true = (bytes_eq-Decides a b).1 same in cc
-
--- what stands behind a front that is cut off
-pub stripped : (line front head rest : List ℕ) (r : Bool) → r ≡ bytes_eq head front → r ≡ true → head ≡ take (length front) line → rest ≡ drop (length front) line → line ≡ front ++ rest
-stripped line front head rest r is on h t =
-    let same : head ≡ front = (bytes_eq-Decides head front).0 (sym is ∙ on) in
-    sym (take-append-drop (length front) line) ∙ ap (λ (l : List ℕ). l ++ drop (length front) line) (sym h ∙ same) ∙ ap (λ (l : List ℕ). front ++ l) (sym t)
 
 pub decimal_no_space : (n : ℕ) → n < 2 ^ 64 → NoByte 32 (decimal n)
 decimal_no_space n lt = decimal_by_steps (λ m ds. NoByte 32 ds)

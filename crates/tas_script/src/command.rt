@@ -11,7 +11,7 @@ pub enum Command {
         /// The cartridge's bytes.
         image: Image,
     },
-    /// `insert AT COUNT FRAME`: copies of one input are put in.
+    /// `insert PLACE COUNT FRAME`: copies of one input are put in.
     Insert {
         /// The place in the movie's inputs, counted from 0.
         at: usize,
@@ -20,7 +20,7 @@ pub enum Command {
         /// The input.
         input: Input,
     },
-    /// `replace AT COUNT FRAME`: copies of one input are written over as many inputs.
+    /// `replace PLACE COUNT FRAME`: copies of one input are written over as many inputs.
     Replace {
         /// The place in the movie's inputs, counted from 0.
         at: usize,
@@ -29,7 +29,7 @@ pub enum Command {
         /// The input.
         input: Input,
     },
-    /// `delete AT COUNT`: inputs are taken out.
+    /// `delete PLACE COUNT`: inputs are taken out.
     Delete {
         /// The place in the movie's inputs, counted from 0.
         at: usize,

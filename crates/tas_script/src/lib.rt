@@ -1,4 +1,6 @@
 //! The language of scripts: lines that edit a movie and look at it, and the replies to them.
+//!
+//! '(own)' marks a decision of this project, one that no manual makes.
 #![tactic(auto)]
 
 mod command;

@@ -7,7 +7,7 @@ ghost use Rattle.std.specs.List.{flat_map};
 ghost use Rattle.tas_script.specs.Parts.{Part, IsPart, AreParts, IsBytes, IsWordEnd, IsImageOf, AreWritten, hex_text, offset_text, word_text, part_text, overwritten};
 
 use crate::words::split_once;
-use vcs_machine::{CART_SIZE, SMALL_CART_SIZE};
+use vcs_machine::CART_SIZE;
 
 /// The value of an upper case hexadecimal digit.
 fn digit(byte: u8) -> Option<u8>
@@ -42,45 +42,41 @@ fn offset_of(first: u8, second: u8, third: u8) -> Option<usize>
     Some(usize::from(high) * 256 + usize::from(middle) * 16 + usize::from(low))
 }
 
-/// Writes the bytes of these digits. Whether all of them are digits.
-fn write_bytes(digits: &[u8], room: &mut [u8]) -> bool
+/// Writes the bytes of these digits; nothing comes back where one of them isn't a digit.
+fn write_bytes(digits: &[u8], room: &mut [u8]) -> Option<()>
     requires { length digits.now ≡ 2 * length room.old }
     ensures len { length room.new ≡ length room.old }
     ensures bytes { IsBytes room.new }
-    ensures written { result ≡ true → digits.now ≡ hex_text room.new }
-    ensures other { result ≡ false → (bytes : List ℕ) → IsBytes bytes → digits.now ≢ hex_text bytes }
+    ensures written { IfSome result (λ _. digits.now ≡ hex_text room.new) }
+    ensures other { IfNone result ((bytes : List ℕ) → IsBytes bytes → digits.now ≢ hex_text bytes) }
 {
     for k in 0..room.len() {
-        let Some(byte) = byte_of(digits[2 * k], digits[2 * k + 1]) else {
-            return false;
-        };
+        let byte = byte_of(digits[2 * k], digits[2 * k + 1])?;
         room[k] = byte;
     }
-    true
+    Some(())
 }
 
-/// Writes the bytes of a word OFF=HEX into the image. Whether it is such a word.
-fn write_part(word: &[u8], image: &mut [u8]) -> bool
+/// Writes the bytes of a word OFF=HEX into the image; nothing comes back where it is no such word.
+fn write_part(word: &[u8], image: &mut [u8]) -> Option<()>
     requires { length image.old ≤ CART_SIZE }
-    ensures written { result ≡ true → (part : Part) × IsPart (length image.old) part × (word.now ≡ word_text part) × (image.new ≡ overwritten part image.old) }
-    ensures other { result ≡ false → (part : Part) → IsPart (length image.old) part → word.now ≢ word_text part }
+    ensures written { IfSome result (λ _. (part : Part) × IsPart (length image.old) part × (word.now ≡ word_text part) × (image.new ≡ overwritten part image.old)) }
+    ensures other { IfNone result ((part : Part) → IsPart (length image.old) part → word.now ≢ word_text part) }
 {
     if word.len() < 6 {
-        return false;
+        return None;
     }
     if word[3] != b'=' {
-        return false;
+        return None;
     }
-    let Some(offset) = offset_of(word[0], word[1], word[2]) else {
-        return false;
-    };
+    let offset = offset_of(word[0], word[1], word[2])?;
     let (_front, digits) = word.split_at(4);
     if digits.len() % 2 != 0 {
-        return false;
+        return None;
     }
     let end = offset + digits.len() / 2;
     if end > image.len() {
-        return false;
+        return None;
     }
     write_bytes(digits, &mut image[offset..end])
 }
@@ -108,54 +104,34 @@ fn read_part<'a>(text: &'a [u8], image: &mut [u8]) -> Option<&'a [u8]>
         return None;
     }
     let (word, rest) = first_word(words);
-    if write_part(word, image) {
-        Some(rest)
-    } else {
-        None
-    }
+    write_part(word, image)?;
+    Some(rest)
 }
 
-/// Writes the bytes of a text's parts into the image, later ones over earlier ones. Whether the text names parts.
-fn write_parts(text: &[u8], image: &mut [u8]) -> bool
+/// Writes the bytes of a text's parts into the image, later ones over earlier ones; nothing comes back where the text names no
+/// parts.
+fn write_parts(text: &[u8], image: &mut [u8]) -> Option<()>
     requires { length image.old ≤ CART_SIZE }
-    ensures written { result ≡ true → AreWritten text.now image.old image.new }
-    ensures other { result ≡ false → (parts : List Part) → 0 < length parts → AreParts (length image.old) parts → text.now ≢ flat_map part_text parts }
+    ensures written { IfSome result (λ _. AreWritten text.now image.old image.new) }
+    ensures other { IfNone result ((parts : List Part) → 0 < length parts → AreParts (length image.old) parts → text.now ≢ flat_map part_text parts) }
 {
     if text.is_empty() {
-        return false;
+        return None;
     }
     let mut rest = text;
     while !rest.is_empty() {
-        let Some(after) = read_part(rest, image) else {
-            return false;
-        };
-        rest = after;
+        rest = read_part(rest, image)?;
     }
-    true
+    Some(())
 }
 
-/// The image of 4,096 bytes that the parts of a `load` line give, over zeros; nothing where the text names no parts.
-pub fn load_image(text: &[u8]) -> Option<[u8; CART_SIZE]>
-    ensures some { IfSome result (IsImageOf 4096 text.now) }
-    ensures none { IfNone result ((image : List ℕ) → IsImageOf 4096 text.now image → ⊥) }
+/// The image of so many bytes that the parts of a `load` or `load2` line give, over zeros; nothing where the text names no parts.
+pub fn load_image<const SIZE: usize>(text: &[u8]) -> Option<[u8; SIZE]>
+    requires { SIZE ≤ CART_SIZE }
+    ensures some { IfSome result (IsImageOf SIZE text.now) }
+    ensures none { IfNone result ((image : List ℕ) → IsImageOf SIZE text.now image → ⊥) }
 {
-    let mut image = [0; CART_SIZE];
-    if write_parts(text, &mut image) {
-        Some(image)
-    } else {
-        None
-    }
-}
-
-/// The image of 2,048 bytes that the parts of a `load2` line give, over zeros; nothing where the text names no parts.
-pub fn load_small_image(text: &[u8]) -> Option<[u8; SMALL_CART_SIZE]>
-    ensures some { IfSome result (IsImageOf 2048 text.now) }
-    ensures none { IfNone result ((image : List ℕ) → IsImageOf 2048 text.now image → ⊥) }
-{
-    let mut image = [0; SMALL_CART_SIZE];
-    if write_parts(text, &mut image) {
-        Some(image)
-    } else {
-        None
-    }
+    let mut image = [0; SIZE];
+    write_parts(text, &mut image)?;
+    Some(image)
 }

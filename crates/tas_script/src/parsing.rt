@@ -4,7 +4,7 @@ ghost use Rattle.std.specs.Prelude.{IfSome, IfNone};
 ghost use Rattle.tas_script.specs.declared.command.Command.{Command as Asked};
 ghost use Rattle.tas_script.specs.Commands.{Says};
 
-use crate::loading::{load_image, load_small_image};
+use crate::loading::load_image;
 use crate::words::{frames, number, pair, strip};
 use crate::{Command, Image};
 
@@ -17,7 +17,7 @@ pub fn parse_line(line: &[u8]) -> Option<Command>
         return Some(Command::Length);
     }
     if let Some(rest) = strip(line, b"load2") {
-        let image = Image::Small(load_small_image(rest)?);
+        let image = Image::Small(load_image(rest)?);
         return Some(Command::Load { image });
     }
     if let Some(rest) = strip(line, b"load") {

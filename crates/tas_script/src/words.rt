@@ -16,11 +16,7 @@ pub fn strip<'a>(line: &'a [u8], front: &[u8]) -> Option<&'a [u8]>
     ensures some { IfSome result (λ rest. line.entry.now ≡ front.now ++ rest.now) }
     ensures none { IfNone result ((rest : List ℕ) → line.entry.now ≢ front.now ++ rest) }
 {
-    if line.len() < front.len() {
-        return None;
-    }
-    let (head, rest) = line.split_at(front.len());
-    if head == front { Some(rest) } else { None }
+    line.strip_prefix(front)
 }
 
 /// The number of one to seven digits without leading zeros that these bytes write; nothing where they

@@ -1,6 +1,6 @@
 //! The answers for which a script has no reply. Each is one line, and what it says that follows it.
 
-ghost use Rattle.std.specs.Prelude.{◌≡◌, ◌++◌, IfOk, OnOk};
+ghost use Rattle.std.specs.Prelude.{◌≡◌, ◌++◌, length, IfOk, OnOk};
 ghost use Rattle.std.specs.List.{flat_map};
 ghost use Rattle.vcs_tia.specs.Image.{ppm_bytes};
 ghost use Rattle.tas_movie.specs.Text.{text2};
@@ -11,16 +11,18 @@ use std::alloc::{AllocError, Allocator};
 use tas_movie::{Movie, print_text};
 use vcs_tia::{PIXMAP_SIZE, Picture, ppm};
 
-/// The pixmap of a picture. There is room for it, so no more memory is asked for; no clause of a writer says so.
-fn pixmap<A: Allocator, B: Allocator>(
-    alloc: A,
+/// Appends the pixmap of a picture. Room for it is made first, so that a write of [`ppm`] asks for no more memory; no clause of a
+/// writer says so.
+fn push_pixmap<A: Allocator, B: Allocator>(
+    bytes: &mut Vec<u8, A>,
     picture: &Picture<B>,
-) -> Result<Vec<u8, A>, AllocError>
-    ensures { IfOk result (λ bytes. bytes.items ≡ ppm_bytes picture.now) }
+) -> Result<(), AllocError>
+    ensures all { OnOk result (bytes.new.items ≡ bytes.old.items ++ ppm_bytes picture.now) }
+    ensures size { OnOk result (length (ppm_bytes picture.now) ≡ PIXMAP_SIZE) }
 {
-    let mut bytes = Vec::with_capacity(alloc, PIXMAP_SIZE)?;
-    match ppm(picture, &mut bytes) {
-        Ok(()) => Ok(bytes),
+    bytes.reserve_exact(PIXMAP_SIZE)?;
+    match ppm(picture, bytes) {
+        Ok(()) => Ok(()),
         Err(_) => Err(AllocError),
     }
 }
@@ -35,10 +37,8 @@ pub fn picture_answer<A: Allocator + Copy, B: Allocator>(
 ) -> Result<Vec<u8, A>, AllocError>
     ensures { IfOk result (λ bytes. bytes.items ≡ picture_text at frame (ppm_bytes picture.now)) }
 {
-    let image = pixmap(alloc, picture)?;
-    let count = image.len();
-    let mut bytes = format!(in alloc; "picture {at} {frame} {count}\n")?.into_bytes();
-    bytes.extend_from_slice(image.as_slice())?;
+    let mut bytes = format!(in alloc; "picture {at} {frame} {PIXMAP_SIZE}\n")?.into_bytes();
+    push_pixmap(&mut bytes, picture)?;
     Ok(bytes)
 }
 

@@ -1,5 +1,7 @@
 //! The language of conversations: the lines that a script has and some more, how a line is held while it comes in pieces, and
 //! the answers for which a script has no reply.
+//!
+//! '(own)' marks a decision of this project, one that no manual makes.
 #![tactic(auto)]
 
 mod answers;

@@ -2,6 +2,7 @@
 use Rattle.std.specs.Prelude.{◌≡◌, ℕ, ◌+◌, ◌<◌, min, List, [], ◌∷◌, ◌++◌, length, Bool, Option, Some, None, Result, Ok, Err}
 use Rattle.std.specs.Io.KnownBytes.{Appends}
 use Rattle.counted_write.specs.CutOff.{IsCutOff}
+use Rattle.tas_movie.specs.Content.{MovieContent}
 use Rattle.tas_movie.specs.Text.{line}
 use Rattle.tas_green.specs.Green.{IsLawful}
 use Rattle.tas_desk.specs.declared.replies.ShotError.{ShotError}
@@ -10,6 +11,7 @@ use Rattle.tas_desk.specs.Seats.{SeatContent}
 use Rattle.tas_desk.specs.Zones.{IsShared}
 use Rattle.tas_engines.specs.declared.fault.RunFault.{RunFault}
 use Rattle.tas_engines.specs.declared.fault.RunFault.TheVariants.{Write, NoEntry, Foreign, Memory}
+use Rattle.tas_engines.specs.declared.fault.ToolFault.{ToolFault}
 use Rattle.tas_script.specs.declared.command.Command.{Command}
 use Rattle.tas_script.specs.declared.command.Command.TheVariants.{Shot, Work}
 use Rattle.tas_script.specs.declared.reply.Reply.{Reply}
@@ -21,7 +23,7 @@ use Rattle.tas_talk.specs.Requests.{IsHeard}
 use Rattle.tas_talk.specs.Held.{HoldsLine}
 use Rattle.tas_tool.specs.declared.talking.Progress.{Progress}
 use Rattle.tas_tool.specs.Turns.{own_edits_of, halted_reply, BeginsWithOwn, HasForeign}
-use Rattle.tas_tool.specs.Talk.{TalkState, Gains, ShotLeaves, Exchange, AreExchanges, IsAnswerTo, IsFirstAnswer, IsQuit, lines_of, answers_of, most_counted}
+use Rattle.tas_tool.specs.Talk.{TalkState, Gains, ShotLeaves, Exchange, AreExchanges, IsAnswerTo, IsFirstAnswer, IsQuit, IsTalk, lines_of, answers_of, most_counted, talk_state_from}
 
 -- what a seat's own edits made, and its greenzone
 abbrev pub talk_state_of : {A : Type 0} → SeatContent A → TalkState
@@ -115,3 +117,10 @@ IsPartTurn before now read told held long old new (Ok (Some next)) =
 IsPartTurn {A} before now read told held long old new (Ok None) =
     (exchanges : List Exchange) × (state : TalkState) × (rest : List ℕ) × AreExchanges A (talk_state_of before) exchanges state × (read ≡ lines_of exchanges ++ rest) × IsQuit rest × Appends old new (answers_of exchanges)
 IsPartTurn before now read told held long old new (Err fault) = StopsAfter (talk_state_of before) read now told old new fault
+
+-- files were read: a conversation from their movie on is a conversation of this kind; or there is no movie, and so is one that ends with the fault
+-- before it begins
+abbrev pub StartsTalk : Type 0 → ((input input' output output' : Option (List ℕ)) → Result (Unit {0}) ToolFault → Type 0) → Result MovieContent ToolFault → Type 0
+StartsTalk A IsSuch (Ok movie) =
+    (input input' output output' : Option (List ℕ)) (end : Result (Unit {0}) ToolFault) → IsTalk A (talk_state_from (Some movie)) input input' output output' end → IsSuch input input' output output' end
+StartsTalk A IsSuch (Err fault) = (input output : Option (List ℕ)) → IsSuch input input output output (Err fault)

@@ -1,8 +1,10 @@
 //! The engines of the program `tas`: a public function for each form of a command, over any readers and
 //! any writer.
 //!
-//! Those of one movie state in `tas_engines` and those that change a movie's text in `tas_edit`, and this
-//! crate hands them out; those of a desk state here.
+//! Those of one movie stand in `tas_engines` and those that change a movie's text in `tas_edit`, and this
+//! crate hands them out; those of a desk stand here.
+//!
+//! '(own)' marks a decision of this project, one that no manual makes.
 #![tactic(auto)]
 
 mod answering;

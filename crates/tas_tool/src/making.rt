@@ -54,9 +54,7 @@ pub fn put_movie<N: Name, W: CloseOnDrop, A: Allocator + Copy, R: Wait>(
     ensures holds { OnOk result (HoldsMovie seat.new movie.now) }
     ensures fault { IfErr result (IsMakingFault seat.new) }
 {
-    let Ok((cart, inputs)) = parts_of(alloc, movie) else {
-        return Err(RunFault::Memory);
-    };
+    let (cart, inputs) = parts_of(alloc, movie)?;
     match desk.edit(rt, seat, Edit::Load(cart)) {
         Ok(_) => {}
         Err(error) => return Err(edit_fault(error)),

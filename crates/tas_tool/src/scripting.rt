@@ -35,7 +35,7 @@ pub fn answer_lines<N: Name, W: CloseOnDrop, A: Allocator + Copy, R: Wait>(
     let mut rest = bytes;
     let mut number = 1;
     let mut made = before;
-    while 0 < rest.len() {
+    while !rest.is_empty() {
         let Some((line, after)) = split_once(rest, b'\n') else {
             return Err(RunFault::Script { line: number });
         };
@@ -43,12 +43,8 @@ pub fn answer_lines<N: Name, W: CloseOnDrop, A: Allocator + Copy, R: Wait>(
             return Err(RunFault::Script { line: number });
         };
         let answered = answer_command(rt, alloc, desk, seat, made, command)?;
-        let Ok(words) = reply_line(alloc, answered.reply) else {
-            return Err(RunFault::Memory);
-        };
-        let Ok(()) = text.extend_from_slice(words.as_slice()) else {
-            return Err(RunFault::Memory);
-        };
+        let words = reply_line(alloc, answered.reply)?;
+        text.extend_from_slice(words.as_slice())?;
         made = answered.made;
         rest = after;
         number += 1;

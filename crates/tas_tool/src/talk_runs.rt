@@ -1,9 +1,12 @@
 //! `tas talk`.
 
-ghost use Rattle.std.specs.Prelude.{◌≡◌, ◌≤◌, [], length, None};
+ghost use Rattle.std.specs.Prelude.{◌≡◌, ◌≤◌, [], true, length, None, MatchResult};
+ghost use Rattle.vcs_machine.specs.Cart.{is_cart_size};
 ghost use Rattle.tas_desk.specs.Seats.{name_of};
+ghost use Rattle.tas_engines.specs.Tracing.{IsImageFault};
 ghost use Rattle.tas_movie.specs.Content.{blank_movie};
 ghost use Rattle.tas_tool.specs.Talk.{talk_state_from, IsCartTalk, IsMovieTalk, IsTalk};
+ghost use Rattle.tas_tool.specs.Talking.{StartsTalk};
 
 use crate::making::{MOVIE_EDITS, put_movie};
 use crate::opening::open_alone;
@@ -13,9 +16,9 @@ use std::io::{Read, Write};
 use std::marker::Brand;
 use std::sync::Wait;
 use tas_desk::{CloseOnDrop, Desk, Name, Seat, Unopened};
-use tas_engines::{ToolFault, movie_of, read_input, read_two};
+use tas_engines::{RunFault, ToolFault, movie_of, read_input, read_two};
 use tas_movie::Movie;
-use vcs_machine::{Cart, CartError};
+use vcs_machine::Cart;
 
 /// Gives a desk without edits its movie, where there is one, and answers lines.
 fn talk_made<N: Name, C: CloseOnDrop, A: Allocator + Copy, T: Wait, R: Read, W: Write>(
@@ -37,6 +40,8 @@ fn talk_made<N: Name, C: CloseOnDrop, A: Allocator + Copy, T: Wait, R: Read, W: 
         return converse(rt, alloc, desk, seat, 0, input, output);
     };
     put_movie(rt, alloc, desk, seat, &movie)?;
+    // The desk has copies of its cartridge and inputs, and a conversation may be long.
+    drop(movie);
     converse(rt, alloc, desk, seat, MOVIE_EDITS, input, output)
 }
 
@@ -77,6 +82,44 @@ fn talk_from<A: Allocator + Copy, T: Wait, R: Read, W: Write>(
     talk_on::<Brand, A, T, R, W>(rt, alloc, unopened, movie, input, output)
 }
 
+/// The movie of a cartridge with no inputs.
+///
+/// Faults, in order: `Size`; `Memory`.
+fn blank_movie_of<A: Allocator + Copy>(alloc: A, image: &[u8]) -> Result<Movie<A>, RunFault>
+    ensures { MatchResult result (λ movie. (is_cart_size (length image.now) ≡ true) × (movie ≡ record { cart = image.now; inputs = [] })) (IsImageFault image.now) }
+{
+    let cart = Cart::from_bytes(alloc, image)?;
+    Ok(Movie::new(alloc, &cart)?)
+}
+
+/// Reads a cartridge, and makes the movie of it with no inputs. What was read is let go here, since a conversation may be long.
+///
+/// Faults, in order: those of [`read_input`], then those of `blank_movie_of`.
+fn read_blank_movie<A: Allocator + Copy, C: Read>(
+    alloc: A,
+    cart: &mut C,
+) -> Result<Movie<A>, ToolFault>
+    ensures { StartsTalk A (IsCartTalk A (C.remaining cart.old) (C.remaining cart.new)) result }
+{
+    let image = read_input(alloc, cart)?;
+    Ok(blank_movie_of(alloc, image.as_slice())?)
+}
+
+/// Reads a cartridge and a movie text, and makes the movie of them. What was read is let go here, since a conversation may be
+/// long.
+///
+/// Faults, in order: those of [`read_two`], then those of [`movie_of`].
+fn read_movie<A: Allocator + Copy, C: Read, M: Read>(
+    alloc: A,
+    cart: &mut C,
+    movie: &mut M,
+) -> Result<Movie<A>, ToolFault>
+    ensures { StartsTalk A (IsMovieTalk A (C.remaining cart.old) (C.remaining cart.new) (M.remaining movie.old) (M.remaining movie.new)) result }
+{
+    let (image, bytes) = read_two(alloc, cart, movie)?;
+    Ok(movie_of(alloc, image.as_slice(), bytes.as_slice())?)
+}
+
 /// Reads lines and answers each of them, from a blank cartridge with no inputs on (own): an answer is handed out whole before more
 /// is read. The lines are those of a script, `picture K`, `movie`, `states` and `quit`; another line, or one of more than
 /// [`MAX_LINE`](tas_talk::MAX_LINE) bytes, is answered `unknown` and changes nothing, and so is what stands behind the last
@@ -111,16 +154,8 @@ pub fn cart_talk_run<A: Allocator + Copy, T: Wait, C: Read, R: Read, W: Write>(
     ensures { IsCartTalk A (C.remaining cart.old) (C.remaining cart.new) (R.remaining input.old) (R.remaining input.new)
         (W.contents output.old) (W.contents output.new) result }
 {
-    let image = read_input(alloc, cart)?;
-    let taken = match Cart::from_bytes(alloc, image.as_slice()) {
-        Ok(taken) => taken,
-        Err(CartError::Size(n)) => return Err(ToolFault::Size(n)),
-        Err(CartError::Memory) => return Err(ToolFault::Memory),
-    };
-    match Movie::new(alloc, &taken) {
-        Ok(movie) => talk_from(rt, alloc, Some(movie), input, output),
-        Err(_) => Err(ToolFault::Memory),
-    }
+    let movie = read_blank_movie(alloc, cart)?;
+    talk_from(rt, alloc, Some(movie), input, output)
 }
 
 /// Reads a cartridge and a movie text, and then talks as [`talk_run`] does, but from this movie on: its cartridge is loaded and
@@ -139,7 +174,6 @@ pub fn movie_talk_run<A: Allocator + Copy, T: Wait, C: Read, M: Read, R: Read, W
     ensures { IsMovieTalk A (C.remaining cart.old) (C.remaining cart.new) (M.remaining movie.old) (M.remaining movie.new)
         (R.remaining input.old) (R.remaining input.new) (W.contents output.old) (W.contents output.new) result }
 {
-    let (image, bytes) = read_two(alloc, cart, movie)?;
-    let movie = movie_of(alloc, image.as_slice(), bytes.as_slice())?;
+    let movie = read_movie(alloc, cart, movie)?;
     talk_from(rt, alloc, Some(movie), input, output)
 }

@@ -37,13 +37,10 @@ fn hand_out<W: Write>(output: &mut W, bytes: &[u8], before: usize) -> Result<usi
     ensures count { IfOk result (λ n. n ≡ min (before + length bytes.now) most_counted) }
     ensures fault { IfErr result (CutsOff before bytes.now (W.contents output.old) (W.contents output.new)) }
 {
-    match write_counted(bytes, 0, output) {
-        Ok(_) => {}
-        Err(fault) => {
-            return Err(RunFault::Write {
-                written: before.saturating_add(fault.written),
-            });
-        }
+    if let Err(fault) = write_counted(bytes, 0, output) {
+        return Err(RunFault::Write {
+            written: before.saturating_add(fault.written),
+        });
     }
     // A flush that fails isn't told: a writer that can't pass on what it holds may fail at its next write, and behind the
     // last answer there is none.
@@ -116,9 +113,7 @@ fn answer_part<N: Name, C: CloseOnDrop, A: Allocator + Copy, R: Wait, W: Write>(
     let mut rest = part;
     let mut reached = progress;
     while let Some((front, after)) = split_once(rest, b'\n') {
-        let Ok(()) = line.add(front) else {
-            return Err(RunFault::Memory);
-        };
+        line.add(front)?;
         let Some(next) = answer_line(rt, alloc, desk, seat, reached, line, output)? else {
             return Ok(None);
         };
@@ -126,9 +121,7 @@ fn answer_part<N: Name, C: CloseOnDrop, A: Allocator + Copy, R: Wait, W: Write>(
         line.clear();
         rest = after;
     }
-    let Ok(()) = line.add(rest) else {
-        return Err(RunFault::Memory);
-    };
+    line.add(rest)?;
     Ok(Some(reached))
 }
 
@@ -172,9 +165,8 @@ pub fn converse<N: Name, C: CloseOnDrop, A: Allocator + Copy, T: Wait, R: Read, 
     let mut progress = Progress { made, written: 0 };
     let mut buffer = [0; CHUNK];
     for _ in rt.forever() {
-        let count = match input.read(&mut buffer) {
-            Ok(count) => count,
-            Err(_) => return Err(ToolFault::Read),
+        let Ok(count) = input.read(&mut buffer) else {
+            return Err(ToolFault::Read);
         };
         if count == 0 {
             return Ok(answer_last(&line, progress.written, output)?);

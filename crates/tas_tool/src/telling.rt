@@ -34,10 +34,8 @@ pub struct Told<A: Allocator> {
 fn told_reply<A: Allocator>(alloc: A, reply: Reply, made: u64) -> Result<Told<A>, RunFault>
     ensures { MatchResult result (λ told. (told.bytes.items ≡ reply_text reply) × (told.made ≡ made)) (λ fault. fault ≡ Memory) }
 {
-    match reply_line(alloc, reply) {
-        Ok(bytes) => Ok(Told { bytes, made }),
-        Err(_) => Err(RunFault::Memory),
-    }
+    let bytes = reply_line(alloc, reply)?;
+    Ok(Told { bytes, made })
 }
 
 /// A script's line. What `work` left of the greenzone is the conversation's own once the seat has seen just its own edits.
@@ -128,39 +126,23 @@ fn tell_movie<N: Name, W: CloseOnDrop, A: Allocator + Copy, R: Wait>(
     }
 }
 
-/// Whether a state is kept after so many frames. Only places of the grid need a look, since a lawful zone has no others.
-fn is_kept<N: Name, A: Allocator>(seat: &Seat<N, A>, step: usize, frame: usize) -> bool
-    requires lawful { IsLawful seat.now.zone.movie seat.now.zone.states }
-    requires step { step ≡ stride (length seat.now.zone.movie.inputs) }
-    requires positive { 0 < step }
-    ensures { result ≡ is_some (state_at frame seat.now.zone.states) }
-{
-    if frame % step != 0 {
-        return false;
-    }
-    seat.holds(frame)
-}
-
 /// Puts a frame at the end, where a state is kept after it.
 fn push_kept<N: Name, A: Allocator, B: Allocator>(
     frames: &mut Vec<usize, B>,
     seat: &Seat<N, A>,
-    step: usize,
     frame: usize,
 ) -> Result<(), AllocError>
-    requires lawful { IsLawful seat.now.zone.movie seat.now.zone.states }
-    requires step { step ≡ stride (length seat.now.zone.movie.inputs) }
-    requires positive { 0 < step }
     ensures { OnOk result (frames.new.items ≡ frames.old.items ++ (if is_some (state_at frame seat.now.zone.states) then frame ∷ [] else [])) }
 {
-    if !is_kept(seat, step, frame) {
+    if !seat.holds(frame) {
         return Ok(());
     }
     frames.push(frame)?;
     Ok(())
 }
 
-/// The frames from 1 to the movie's length at which the seat's greenzone keeps a state.
+/// The frames from 1 to the movie's length at which the seat's greenzone keeps a state. Only places of the grid need a look, since a
+/// lawful zone has no states elsewhere.
 fn frames_kept<N: Name, A: Allocator, B: Allocator>(
     alloc: B,
     seat: &Seat<N, A>,
@@ -172,8 +154,8 @@ fn frames_kept<N: Name, A: Allocator, B: Allocator>(
 {
     let step = stride(len);
     let mut frames = Vec::new(alloc);
-    for before in 0..len {
-        push_kept(&mut frames, seat, step, before + 1)?;
+    for before in 0..len / step {
+        push_kept(&mut frames, seat, (before + 1) * step)?;
     }
     Ok(frames)
 }

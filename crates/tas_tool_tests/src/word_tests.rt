@@ -235,7 +235,7 @@ static HELPS: [(&[&str], &[u8]); 11] = [
     ),
     (
         &["diff", "--help"],
-        b"Writes the script that makes one movie of another\n\nUsage: tas diff <CART> <OLD>\n",
+        b"Writes the script that turns one movie into another\n\nUsage: tas diff <CART> <OLD>\n",
     ),
     (
         &["script", "--help"],

@@ -1,7 +1,9 @@
 use Rattle.tas_script.proofs.PartLemmas.{spaced, word_of}
 use Rattle.tas_script.proofs.loading.read_part.Goals as goal
 
-pub returns-else-write_part-clause-none : goal.returns-else-write_part-clause-none
-returns-else-write_part-clause-none c = λ part rest is-part end is.
+pub returns-in_err-write_part-clause-none : goal.returns-in_err-write_part-clause-none
+returns-in_err-write_part-clause-none c =
+    rw c.from_residual-in_err-write_part.ensures
+    (λ part rest is-part end is.
     let whole = spaced c.args.text.now c.in_ok-first.field-0-0.now c.in_ok-first.words.now c.first_word.result.0.now c.first_word.result.1.now c.in_ok-first.ensures.cases.0 c.if-first-ne32.false c.first_word.ensures.bytes in
-    c.write_part.ensures.other c.if-write_part.false part is-part (word_of c.args.text.now c.first_word.result.0.now c.first_word.result.1.now rest part whole c.first_word.ensures.word c.first_word.ensures.end end is)
+    c.in_err-write_part.ensures.other part is-part (word_of c.args.text.now c.first_word.result.0.now c.first_word.result.1.now rest part whole c.first_word.ensures.word c.first_word.ensures.end end is))

@@ -1,43 +1,49 @@
 use Rattle.tas_tool.proofs.TurnLemmas.{edited_number}
 use Rattle.std.proofs.Common.{Ok, Err, subst, sym, ◌∙◌}
+use Rattle.std.proofs.lemmas.Result.{err_from_is_err_and}
 use Rattle.tas_tool.specs.TwoEdits.{IsMakingFault}
 use Rattle.tas_tool.proofs.MakingLemmas.{loaded, movie_made, insert_refused, load_refused}
 use Rattle.tas_tool.proofs.GreenLemmas.{edited_zone}
 use Rattle.tas_tool.proofs.making.put_movie.Goals as goal
 
-pub returns-in-Ok-edit-2-clause-holds : goal.returns-in-Ok-edit-2-clause-holds
-returns-in-Ok-edit-2-clause-holds g c =
-    let first = loaded c.args.seat.now c.edit.new.seat c.in-Ok.cart c.in-Ok-edit.field-0 c.requires.first.0 c.requires.first.1 c.in-Ok-edit.ensures in
-    (movie_made c.edit.new.seat c.edit-2.new.seat c.args.movie.now c.in-Ok.cart c.in-Ok.inputs c.in-Ok-edit-2.receipt _ c.in-Ok.ensures.whole c.in-Ok.ensures.few first c.in-Ok-edit-2.ensures c.checked.ensures).0
+pub returns-in-Ok-edit-clause-holds : goal.returns-in-Ok-edit-clause-holds
+returns-in-Ok-edit-clause-holds g c =
+    let first = loaded c.args.seat.now c.edit.new.seat c.in_ok-cart.cart c.in-Ok.field-0 c.requires.first.0 c.requires.first.1 c.in-Ok.ensures in
+    (movie_made c.edit.new.seat c.edit-2.new.seat c.args.movie.now c.in_ok-cart.cart c.in_ok-cart.inputs c.in-Ok-edit.receipt _ c.in_ok-cart.ensures.whole c.in_ok-cart.ensures.few first c.in-Ok-edit.ensures c.checked.ensures).0
 
-pub returns-in-Ok-edit-2-clause-fault : goal.returns-in-Ok-edit-2-clause-fault
-returns-in-Ok-edit-2-clause-fault g c =
-    let first = loaded c.args.seat.now c.edit.new.seat c.in-Ok.cart c.in-Ok-edit.field-0 c.requires.first.0 c.requires.first.1 c.in-Ok-edit.ensures in
-    (movie_made c.edit.new.seat c.edit-2.new.seat c.args.movie.now c.in-Ok.cart c.in-Ok.inputs c.in-Ok-edit-2.receipt _ c.in-Ok.ensures.whole c.in-Ok.ensures.few first c.in-Ok-edit-2.ensures c.checked.ensures).1
+pub returns-in-Ok-edit-clause-fault : goal.returns-in-Ok-edit-clause-fault
+returns-in-Ok-edit-clause-fault g c =
+    let first = loaded c.args.seat.now c.edit.new.seat c.in_ok-cart.cart c.in-Ok.field-0 c.requires.first.0 c.requires.first.1 c.in-Ok.ensures in
+    (movie_made c.edit.new.seat c.edit-2.new.seat c.args.movie.now c.in_ok-cart.cart c.in_ok-cart.inputs c.in-Ok-edit.receipt _ c.in_ok-cart.ensures.whole c.in_ok-cart.ensures.few first c.in-Ok-edit.ensures c.checked.ensures).1
 
 pub returns-in-Err-edit-clause-fault : goal.returns-in-Err-edit-clause-fault
 returns-in-Err-edit-clause-fault g c =
-    let first = loaded c.args.seat.now c.edit.new.seat c.in-Ok.cart c.in-Ok-edit.field-0 c.requires.first.0 c.requires.first.1 c.in-Ok-edit.ensures in
+    let first = loaded c.args.seat.now c.edit.new.seat c.in_ok-cart.cart c.in-Ok.field-0 c.requires.first.0 c.requires.first.1 c.in-Ok.ensures in
     subst (IsMakingFault c.edit-2.new.seat) (sym c.edit_fault-in-Err-edit.ensures)
-    (insert_refused c.edit.new.seat c.edit-2.new.seat c.in-Ok.cart c.in-Ok.inputs c.in-Err-edit.error c.in-Ok.ensures.few first c.in-Err-edit.ensures)
+    (insert_refused c.edit.new.seat c.edit-2.new.seat c.in_ok-cart.cart c.in_ok-cart.inputs c.in-Err-edit.error c.in_ok-cart.ensures.few first c.in-Err-edit.ensures)
 
 pub returns-in-Err-clause-zone : goal.returns-in-Err-clause-zone
 returns-in-Err-clause-zone g c = edited_zone c.args.seat.now c.edit.new.seat _ (Err c.in-Err.error) c.in-Err.ensures
 
-pub returns-in-Ok-edit-2-clause-zone : goal.returns-in-Ok-edit-2-clause-zone
-returns-in-Ok-edit-2-clause-zone g c =
-    edited_zone c.edit.new.seat c.edit-2.new.seat _ (Ok c.in-Ok-edit-2.receipt) c.in-Ok-edit-2.ensures ∙ edited_zone c.args.seat.now c.edit.new.seat _ (Ok c.in-Ok-edit.field-0) c.in-Ok-edit.ensures
+pub returns-in-Ok-edit-clause-zone : goal.returns-in-Ok-edit-clause-zone
+returns-in-Ok-edit-clause-zone g c =
+    edited_zone c.edit.new.seat c.edit-2.new.seat _ (Ok c.in-Ok-edit.receipt) c.in-Ok-edit.ensures ∙ edited_zone c.args.seat.now c.edit.new.seat _ (Ok c.in-Ok.field-0) c.in-Ok.ensures
 
 pub returns-in-Err-edit-clause-zone : goal.returns-in-Err-edit-clause-zone
 returns-in-Err-edit-clause-zone g c =
-    edited_zone c.edit.new.seat c.edit-2.new.seat _ (Err c.in-Err-edit.error) c.in-Err-edit.ensures ∙ edited_zone c.args.seat.now c.edit.new.seat _ (Ok c.in-Ok-edit.field-0) c.in-Ok-edit.ensures
+    edited_zone c.edit.new.seat c.edit-2.new.seat _ (Err c.in-Err-edit.error) c.in-Err-edit.ensures ∙ edited_zone c.args.seat.now c.edit.new.seat _ (Ok c.in-Ok.field-0) c.in-Ok.ensures
 
 pub returns-in-Err-clause-fault : goal.returns-in-Err-clause-fault
 returns-in-Err-clause-fault g c =
-    subst (IsMakingFault c.edit.new.seat) (sym c.edit_fault.ensures) (load_refused c.args.seat.now c.edit.new.seat c.in-Ok.cart c.in-Err.error c.requires.first.1 c.in-Err.ensures)
+    subst (IsMakingFault c.edit.new.seat) (sym c.edit_fault.ensures) (load_refused c.args.seat.now c.edit.new.seat c.in_ok-cart.cart c.in-Err.error c.requires.first.1 c.in-Err.ensures)
 
-pub returns-in-Ok-edit-2-clause-number : goal.returns-in-Ok-edit-2-clause-number
-returns-in-Ok-edit-2-clause-number g c = edited_number c.edit.new.seat c.edit-2.new.seat _ (Ok c.in-Ok-edit-2.receipt) c.in-Ok-edit-2.ensures ∙ edited_number c.args.seat.now c.edit.new.seat _ (Ok c.in-Ok-edit.field-0) c.in-Ok-edit.ensures ∙ c.requires.first.0
+pub returns-in-Ok-edit-clause-number : goal.returns-in-Ok-edit-clause-number
+returns-in-Ok-edit-clause-number g c = edited_number c.edit.new.seat c.edit-2.new.seat _ (Ok c.in-Ok-edit.receipt) c.in-Ok-edit.ensures ∙ edited_number c.args.seat.now c.edit.new.seat _ (Ok c.in-Ok.field-0) c.in-Ok.ensures ∙ c.requires.first.0
 
 pub returns-in-Err-edit-clause-number : goal.returns-in-Err-edit-clause-number
-returns-in-Err-edit-clause-number g c = edited_number c.edit.new.seat c.edit-2.new.seat _ (Err c.in-Err-edit.error) c.in-Err-edit.ensures ∙ edited_number c.args.seat.now c.edit.new.seat _ (Ok c.in-Ok-edit.field-0) c.in-Ok-edit.ensures ∙ c.requires.first.0
+returns-in-Err-edit-clause-number g c = edited_number c.edit.new.seat c.edit-2.new.seat _ (Err c.in-Err-edit.error) c.in-Err-edit.ensures ∙ edited_number c.args.seat.now c.edit.new.seat _ (Ok c.in-Ok.field-0) c.in-Ok.ensures ∙ c.requires.first.0
+
+pub returns-in_err-cart-clause-fault : goal.returns-in_err-cart-clause-fault
+returns-in_err-cart-clause-fault g c =
+    let p = err_from_is_err_and c.from_residual.result c.from_residual.ensures.1 in
+    rw (p.1, p.2) tt

@@ -1,20 +1,10 @@
-use Rattle.std.proofs.Common.{refl}
 use Rattle.std.proofs.lemmas.Result.{err_from_is_err_and}
-use Rattle.tas_tool.proofs.TalkRunLemmas.{movie_unread, movie_unmade, movie_talked}
 use Rattle.tas_tool.proofs.talk_runs.movie_talk_run.Goals as goal
-
-pub returns-in_err-image : goal.returns-in_err-image
-returns-in_err-image g c =
-    let p = err_from_is_err_and c.from_residual.result c.from_residual.ensures.1 in
-    rw (p.1, p.2) (movie_unread g.row.A.Denot _ _ _ _ _ _ c.in_err-image.field-0.0 _ c.in_err-image.ensures.fault refl)
 
 pub returns-in_err-movie : goal.returns-in_err-movie
 returns-in_err-movie g c =
-    let p = err_from_is_err_and c.from_residual-in_err-movie.result c.from_residual-in_err-movie.ensures.1 in
-    rw (p.1, p.2)
-    (movie_unmade g.row.A.Denot _ _ _ _ _ _ _ c.as_slice.result.now _ c.as_slice-2.result.now c.in_err-movie.field-0.0 _ c.in_ok-image.ensures.first c.as_slice.ensures.value c.in_ok-image.ensures.second c.as_slice-2.ensures.value c.in_err-movie.ensures refl)
+    let p = err_from_is_err_and c.from_residual.result c.from_residual.ensures.1 in
+    rw (p.1, p.2) (c.in_err-movie.ensures _ _)
 
 pub returns : goal.returns
-returns g c =
-    movie_talked g.row.A.Denot _ _ _ _ _ _ _ _ _ c.as_slice.result.now _ c.as_slice-2.result.now c.in_ok-movie.movie _ c.in_ok-image.ensures.first c.as_slice.ensures.value c.in_ok-image.ensures.second c.as_slice-2.ensures.value c.in_ok-movie.ensures
-    c.talk_from.ensures
+returns g c = c.in_ok-movie.ensures _ _ _ _ _ c.talk_from.ensures

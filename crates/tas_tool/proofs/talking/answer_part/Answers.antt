@@ -12,10 +12,11 @@ loop-front-init g c = record {
   turns = λ said holds none. ([], said, record { text = refl; none = none; holds = holds; answered = nothing_answered c.args.seat.now c.args.progress _ c.requires.own c.requires.made });
 }
 
-pub returns-in_default-add-clause-turn : goal.returns-in_default-add-clause-turn
-returns-in_default-add-clause-turn g c = λ said holds none.
+pub returns-in_err-add-clause-turn : goal.returns-in_err-add-clause-turn
+returns-in_err-add-clause-turn g c = λ said holds none.
     let (xs, part, i) = c.loop-front.invariant.turns said holds none in
-    part_memory c.args.seat.now c.loop-front.seat xs _ c.loop-front.reached _ (part ++ c.loop-front.rest.now) [] false _ _ i.answered i.text
+    let p = err_from_is_err_and c.from_residual.result c.from_residual.ensures.1 in
+    rw (p.1, p.2) (part_memory c.args.seat.now c.loop-front.seat xs _ c.loop-front.reached _ (part ++ c.loop-front.rest.now) [] false _ _ i.answered i.text)
 
 pub loop-front-preserved : goal.loop-front-preserved
 loop-front-preserved g c = record {
@@ -24,7 +25,7 @@ loop-front-preserved g c = record {
   turns = λ said holds none.
       let (xs, part, i) = c.loop-front.invariant.turns said holds none in
       let whole = no_newline part c.in-Some.front.now i.none c.in-Some.ensures.some.1 in
-      let (x, same, answered) = (rw c.in-Some-2.is at c.in_ok-next.ensures.turn) (part ++ c.in-Some.front.now) (c.in-Ok.ensures.added part i.holds) whole in (
+      let (x, same, answered) = (rw c.in-Some-2.is at c.in_ok-next.ensures.turn) (part ++ c.in-Some.front.now) (c.in_ok-add.ensures.added part i.holds) whole in (
         xs ++ x ∷ [],
         [],
         record {
@@ -41,26 +42,27 @@ returns-in_default-2-clause-turn g c = λ said holds none.
     let (xs, part, i) = c.loop-front.invariant.turns said holds none in
     let whole = no_newline part c.in-Some.front.now i.none c.in-Some.ensures.some.1 in
     line_quits c.args.seat.now c.loop-front.seat c.answer_line.new.seat xs _ c.loop-front.reached _ part c.in-Some.front.now c.in-Some.after.now [] false _ _ _ i.answered (i.text ∙ ap (λ l. lines_of xs ++ (part ++ l)) c.in-Some.ensures.some.0) whole
-    ((rw c.in_default-2.is at c.in_ok-next.ensures.turn) (part ++ c.in-Some.front.now) (c.in-Ok.ensures.added part i.holds) whole)
+    ((rw c.in_default-2.is at c.in_ok-next.ensures.turn) (part ++ c.in-Some.front.now) (c.in_ok-add.ensures.added part i.holds) whole)
 
 pub returns-in_err-next-clause-turn : goal.returns-in_err-next-clause-turn
 returns-in_err-next-clause-turn g c = λ said holds none.
     let (xs, part, i) = c.loop-front.invariant.turns said holds none in
     let whole = no_newline part c.in-Some.front.now i.none c.in-Some.ensures.some.1 in
-    let p = err_from_is_err_and c.from_residual.result c.from_residual.ensures.1 in
+    let p = err_from_is_err_and c.from_residual-in_err-next.result c.from_residual-in_err-next.ensures.1 in
     rw (p.1, p.2)
     (line_breaks c.args.seat.now c.loop-front.seat c.answer_line.new.seat xs _ c.loop-front.reached _ part c.in-Some.front.now c.in-Some.after.now [] false _ _ _ c.in_err-next.field-0.0 i.answered
-    (i.text ∙ ap (λ l. lines_of xs ++ (part ++ l)) c.in-Some.ensures.some.0) (c.in_err-next.ensures.turn (part ++ c.in-Some.front.now) (c.in-Ok.ensures.added part i.holds) whole))
+    (i.text ∙ ap (λ l. lines_of xs ++ (part ++ l)) c.in-Some.ensures.some.0) (c.in_err-next.ensures.turn (part ++ c.in-Some.front.now) (c.in_ok-add.ensures.added part i.holds) whole))
 
 pub returns-clause-turn : goal.returns-clause-turn
 returns-clause-turn g c = λ said holds none.
     let (xs, part, i) = c.loop-front.invariant.turns said holds none in
-    (xs, part ++ c.loop-front.rest.now, i.text, no_newline part c.loop-front.rest.now i.none c.in_default.ensures.none, c.in-Ok-add.ensures.added part i.holds, i.answered)
+    (xs, part ++ c.loop-front.rest.now, i.text, no_newline part c.loop-front.rest.now i.none c.in_default.ensures.none, c.in_ok-add-2.ensures.added part i.holds, i.answered)
 
-pub returns-in_default-add-2-clause-turn : goal.returns-in_default-add-2-clause-turn
-returns-in_default-add-2-clause-turn g c = λ said holds none.
+pub returns-in_err-add-2-clause-turn : goal.returns-in_err-add-2-clause-turn
+returns-in_err-add-2-clause-turn g c = λ said holds none.
     let (xs, part, i) = c.loop-front.invariant.turns said holds none in
-    part_memory c.args.seat.now c.loop-front.seat xs _ c.loop-front.reached _ (part ++ c.loop-front.rest.now) [] false _ _ i.answered i.text
+    let p = err_from_is_err_and c.from_residual-in_err-add-2.result c.from_residual-in_err-add-2.ensures.1 in
+    rw (p.1, p.2) (part_memory c.args.seat.now c.loop-front.seat xs _ c.loop-front.reached _ (part ++ c.loop-front.rest.now) [] false _ _ i.answered i.text)
 
 pub loop-front-smaller : goal.loop-front-smaller
 loop-front-smaller g c = omega (arith, split_length c.loop-front.rest.now c.in-Some.front.now c.in-Some.after.now c.in-Some.ensures.some.0)

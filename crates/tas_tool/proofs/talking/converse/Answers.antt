@@ -15,10 +15,10 @@ loop-init g c = record {
   next = search rules;
 }
 
-pub returns-in-Err-clause-talk : goal.returns-in-Err-clause-talk
-returns-in-Err-clause-talk g c = λ own.
+pub returns-in_default-read-clause-talk : goal.returns-in_default-read-clause-talk
+returns-in_default-read-clause-talk g c = λ own.
     let (xs, part, way) = c.loop.invariant.way in
-    unread c.args.seat.now c.loop.seat c.loop.progress c.loop.line.bytes.items c.loop.line.long _ _ _ _ _ xs part way c.in-Err.ensures.bytes
+    unread c.args.seat.now c.loop.seat c.loop.progress c.loop.line.bytes.items c.loop.line.long _ _ _ _ _ xs part way c.in_default-read.ensures.bytes
 
 pub returns-then-count-eq0-clause-talk : goal.returns-then-count-eq0-clause-talk
 returns-then-count-eq0-clause-talk g c = λ own.
@@ -65,8 +65,8 @@ answer_part-requires-clause-own g c = c.loop.invariant.stands.0
 pub answer_part-requires-clause-made : goal.answer_part-requires-clause-made
 answer_part-requires-clause-made g c = c.loop.invariant.stands.1
 
-pub returns-in-Err-clause-number : goal.returns-in-Err-clause-number
-returns-in-Err-clause-number g c = c.loop.invariant.number
+pub returns-in_default-read-clause-number : goal.returns-in_default-read-clause-number
+returns-in_default-read-clause-number g c = c.loop.invariant.number
 
 pub returns-then-count-eq0-clause-number : goal.returns-then-count-eq0-clause-number
 returns-then-count-eq0-clause-number g c = c.loop.invariant.number

@@ -9,4 +9,4 @@ returns-in-Err-clause-fault g c =
     (c.in-Err.fault.written, counted_from_nothing _ _ c.args.bytes.now c.in-Err.fault.written c.in-Err.ensures.cut, ap Write c.saturating_add.ensures)
 
 pub returns-clause-out : goal.returns-clause-out
-returns-clause-out g c = Appends-kept _ _ _ c.args.bytes.now c.in-Ok.ensures.all c.flush.ensures.bytes
+returns-clause-out g c = Appends-kept _ _ _ c.args.bytes.now c.in_default.ensures.all c.flush.ensures.bytes
