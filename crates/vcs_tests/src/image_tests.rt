@@ -48,17 +48,28 @@ fn the_stack_runs_in_circles(rt: HostRuntime) {
     }
 }
 
-static SYNCS: [Endless; 3] = [
-    ("often", b"\xa9\x02\x85\x00\xa9\x00\x85\x00\x4c\x00\xf0"),
-    ("always", b"\xa9\x02\x85\x00\x4c\x02\xf0"),
-    ("never", b"\x4c\x00\xf0"),
+/// Programs that colour the background, and how many pixels of their 30th frame aren't black: a frame ends as soon as vertical
+/// sync begins, here after 39 clocks, and else behind line 319, below the picture's last row.
+static SYNCS: [(Endless, usize); 3] = [
+    (
+        (
+            "often",
+            b"\xa9\x1e\x85\x09\xa9\x02\x85\x00\xa9\x00\x85\x00\x4c\x04\xf0",
+        ),
+        0,
+    ),
+    (
+        ("always", b"\xa9\x1e\x85\x09\xa9\x02\x85\x00\x4c\x06\xf0"),
+        33600,
+    ),
+    (("never", b"\xa9\x1e\x85\x09\x4c\x04\xf0"), 33600),
 ];
 
 #[test]
 fn frames_end_with_vsync_or_without(rt: HostRuntime) {
-    for endless in SYNCS.iter() {
+    for (endless, wanted) in SYNCS.iter() {
         let lit = lit_after(&rt, rt.alloc(), *endless, 30);
-        check_same(&rt, endless.0, lit, 0);
+        check_same(&rt, endless.0, lit, *wanted);
     }
 }
 

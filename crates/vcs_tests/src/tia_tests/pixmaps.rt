@@ -1,6 +1,6 @@
 //! The pixmap of a picture, written whole and into writers that get full.
 
-use super::playfield_frame;
+use super::{at_clock, playfield_frame, run};
 use crate::checks::{check_same, check_that, expect_ok};
 use std::alloc::Global;
 use std::io::ErrorKind;
@@ -29,13 +29,12 @@ fn refused_pixmap(
     Some((fault.written, some.taken.len(), fault.error.kind() == kind))
 }
 
-/// Fails where a pixmap is not as long as its pixels, or begins in another way.
-fn check_pixmap<R: Abort>(rt: &R, alloc: Global, picture: &Picture) {
+/// A writer that has taken a picture's pixmap, which is as long as its pixels.
+fn whole_pixmap<R: Abort>(rt: &R, alloc: Global, picture: &Picture) -> Taker {
     let mut all = Taker::new(alloc, 1000, Room::Writes(1000000), Failure::Error);
     check_that(rt, "written", ppm(picture, &mut all).is_ok());
     check_same(rt, "bytes", all.taken.len(), 100815);
-    let head = b"P6\n160 210\n255\n\xd2\xc8\x8c\xd2\xc8";
-    check_that(rt, "head", all.taken.starts_with(head));
+    all
 }
 
 /// How many bytes a writer takes a call, for how many calls, how it fails then, and how the pixmap ends, where it is refused.
@@ -52,9 +51,63 @@ static REFUSED: [(usize, usize, Failure, Refused); 5] = [
 fn pixmap_of_a_picture(rt: HostRuntime) {
     let mut picture = expect_ok(&rt, Picture::blank(rt.alloc()));
     playfield_frame(0x00, &mut picture);
-    check_pixmap(&rt, rt.alloc(), &picture);
+    let all = whole_pixmap(&rt, rt.alloc(), &picture);
+    let head = b"P6\n160 210\n255\n\xd2\xc8\x8c\xd2\xc8";
+    check_that(&rt, "head", all.taken.starts_with(head));
     for (a_call, calls, failure, wanted) in REFUSED.iter() {
         let told = refused_pixmap(rt.alloc(), &picture, *a_call, *calls, *failure);
         check_same(&rt, (*a_call, *calls), told, *wanted);
+    }
+}
+
+/// Red, green and blue of each hue's darkest shade, and how much brighter each of its further shades is.
+static HUES: [([u8; 3], u8); 16] = [
+    ([0, 0, 0], 36),
+    ([70, 60, 0], 20),
+    ([100, 45, 0], 20),
+    ([110, 30, 10], 20),
+    ([115, 15, 30], 20),
+    ([105, 10, 70], 20),
+    ([85, 10, 105], 20),
+    ([50, 15, 115], 20),
+    ([20, 25, 115], 20),
+    ([0, 40, 110], 20),
+    ([0, 55, 85], 20),
+    ([0, 65, 45], 20),
+    ([5, 70, 5], 20),
+    ([30, 65, 0], 20),
+    ([55, 55, 0], 20),
+    ([85, 45, 0], 20),
+];
+
+/// Red, green and blue of the shade of this number: there are 128, eight of each hue.
+fn shade(number: usize) -> [u8; 3] {
+    let ([red, green, blue], step) = HUES[number / 8 % 16];
+    let more = step.wrapping_mul((number % 8) as u8);
+    [
+        red.wrapping_add(more),
+        green.wrapping_add(more),
+        blue.wrapping_add(more),
+    ]
+}
+
+/// Each row of a picture has a shade of its own, until all were shown and they begin anew.
+fn draw_shades(picture: &mut Picture) {
+    let mut tia = at_clock(228, picture);
+    for row in 0..210u8 {
+        tia.write(0x09, row % 128 * 2);
+        run(&mut tia, 228, picture);
+    }
+}
+
+#[test]
+fn each_shade_of_a_pixmap(rt: HostRuntime) {
+    let mut picture = expect_ok(&rt, Picture::blank(rt.alloc()));
+    draw_shades(&mut picture);
+    let all = whole_pixmap(&rt, rt.alloc(), &picture);
+    let pixels = all.taken.get(15..).unwrap_or(&[]);
+    for (place, pixel) in pixels.chunks(3).enumerate() {
+        let row = place / 160;
+        check_same(&rt, ("pixel", place), pixel, shade(row).as_slice());
     }
 }
