@@ -4,9 +4,8 @@ ghost use Rattle.std.specs.Prelude.{◌≡◌, ◌≤◌, OnErr, length};
 ghost use Rattle.tas_green.specs.Green.{IsLawful};
 
 use crate::checks::{check_same, check_that, expect_ok};
-use crate::fixtures::{BRIEF, PLAYFIELD, movie_of, replaced};
-use crate::runs::{Heap, MOST, NEVER, Run};
-use refusals::Refusing;
+use crate::fixtures::{BRIEF, GRID, PLAYFIELD, has_lacked, movie_of, replaced};
+use crate::runs::{Heap, MOST, NEVER, NOT_AS_BEFORE, NOT_TOLD, Run, refuse, refusing};
 use std::alloc::{AllocError, Allocator, Global};
 use std::process::Abort;
 use tas_green::{Batch, Green, Job, MergeError, Merged};
@@ -59,8 +58,8 @@ fn is_as_before<A: Allocator>(green: &Green<A>) -> bool {
 
 /// Whether just the six states up to 384 frames are kept, as after each call that is right.
 fn is_full<A: Allocator>(green: &Green<A>) -> bool {
-    for frame in [64, 128, 192, 256, 320, 384] {
-        if !green.holds(frame) {
+    for frame in GRID.iter() {
+        if !green.holds(*frame) {
             return false;
         }
     }
@@ -139,9 +138,7 @@ const MERGED: Merged = Merged {
 fn is_batch(batch: &Batch<&Heap>, movie: &Movie) -> bool {
     batch.cart().bytes() == movie.cart().bytes()
         && batch.inputs() == movie.inputs()
-        && batch.holds(192)
-        && batch.holds(384)
-        && !batch.holds(128)
+        && has_lacked(batch)
 }
 
 /// A shot of frame 383.
@@ -295,8 +292,11 @@ fn seek_twice(
     let mut answer = seek(heap, green, picture, &mut meter, given, seeking);
     let has_refused = heap.has_refused();
     if has_refused {
-        if answer.is_ok() || !is_as_before(green) || !is_untouched(picture, &meter) {
-            return Run::Wrong;
+        if answer.is_ok() {
+            return NOT_TOLD;
+        }
+        if !is_as_before(green) || !is_untouched(picture, &meter) {
+            return NOT_AS_BEFORE;
         }
         answer = seek(heap, green, picture, &mut meter, given, seeking);
     }
@@ -305,16 +305,15 @@ fn seek_twice(
 
 /// The call on a zone with two states of the movie, with one growth refused, and the same call after it.
 fn run_seeking<R: Abort>(rt: &R, alloc: Global, given: &Given, seeking: Seeking, number: u64) -> Run
-    requires number { 1 ≤ number }
     requires full { IsLawful given.now.movie given.now.full }
     requires full_of_other { IsLawful given.now.other given.now.full_of_other }
     requires long { 384 ≤ length given.now.movie.inputs }
     requires other { 384 ≤ length given.now.other.inputs }
 {
-    let heap = Refusing::new(alloc, NEVER);
+    let heap = refusing(alloc, NEVER);
     let mut green = zone_of(rt, alloc, &heap, &given.movie, 127);
     let mut picture = playfield(rt, alloc);
-    heap.refuse(number);
+    refuse(&heap, number);
     seek_twice(&heap, &mut green, &mut picture, given, seeking)
 }
 

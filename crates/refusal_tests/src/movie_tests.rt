@@ -1,12 +1,9 @@
 //! Pictures, cartridges, movies, edits and texts.
 
-ghost use Rattle.std.specs.Prelude.{◌≤◌};
-
 use crate::checks::{check_same, expect_ok};
 use crate::edits::{Change, edit_of};
 use crate::fixtures::{PLAYFIELD, are_equal, image, movie_of, right};
-use crate::runs::{Heap, MOST, NEVER, Run};
-use refusals::Refusing;
+use crate::runs::{Heap, MOST, NEVER, NOT_TOLD, Run, refuse, refusing};
 use std::alloc::{AllocError, Global};
 use std::process::Abort;
 use tas_movie::{Edit, Inputs, Movie, ReadError, TextError, TextErrorKind, print_text, read_text};
@@ -153,15 +150,13 @@ fn make(heap: &Heap, made: &Made, making: Making) -> Result<bool, AllocError> {
 }
 
 /// The call with one growth refused, and the same call after it.
-fn run_making(alloc: Global, made: &Made, making: Making, number: u64) -> Run
-    requires { 1 ≤ number }
-{
-    let heap = Refusing::new(alloc, number);
+fn run_making(alloc: Global, made: &Made, making: Making, number: u64) -> Run {
+    let heap = refusing(alloc, number);
     let mut answer = make(&heap, made, making);
     let has_refused = heap.has_refused();
     if has_refused {
         if answer.is_ok() {
-            return Run::Wrong;
+            return NOT_TOLD;
         }
         answer = make(&heap, made, making);
     }
@@ -207,10 +202,8 @@ fn what_is_made_of_a_movie(rt: HostRuntime) {
 }
 
 /// What is wrong with a text of this first line where the growth with this number is refused, and whether it was.
-fn fault_of(alloc: Global, cart: &Cart, number: u64) -> (Option<ReadError>, bool)
-    requires { 1 ≤ number }
-{
-    let heap = Refusing::new(alloc, number);
+fn fault_of(alloc: Global, cart: &Cart, number: u64) -> (Option<ReadError>, bool) {
+    let heap = refusing(alloc, number);
     let fault = read_text(&heap, b"a26movie 3\n", cart).err();
     (fault, heap.has_refused())
 }
@@ -277,15 +270,13 @@ fn copy_edit<'a>(heap: &'a Heap, edit: &Edit<&'a Heap>) -> Result<bool, AllocErr
 }
 
 /// The copy of an edit with one growth refused, and the same copy after it.
-fn copy_twice<'a>(heap: &'a Heap, edit: &Edit<&'a Heap>, number: u64) -> Run
-    requires { 1 ≤ number }
-{
-    heap.refuse(number);
+fn copy_twice<'a>(heap: &'a Heap, edit: &Edit<&'a Heap>, number: u64) -> Run {
+    refuse(heap, number);
     let mut answer = copy_edit(heap, edit);
     let has_refused = heap.has_refused();
     if has_refused {
         if answer.is_ok() {
-            return Run::Wrong;
+            return NOT_TOLD;
         }
         answer = copy_edit(heap, edit);
     }
@@ -314,10 +305,10 @@ static EDITS: [(Change, &str, u64); 4] = [
 
 #[test]
 fn copies_of_edits(rt: HostRuntime) {
-    let heap = Refusing::new(rt.alloc(), NEVER);
+    let heap = refusing(rt.alloc(), NEVER);
     for row in EDITS.iter() {
         let (change, name, growths) = *row;
-        heap.refuse(NEVER);
+        refuse(&heap, NEVER);
         let edit = expect_ok(&rt, edit_of(&heap, change));
         check_same(&rt, name, growths_of_copy(&rt, &heap, &edit, name), growths);
     }
