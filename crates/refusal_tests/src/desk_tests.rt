@@ -1,11 +1,10 @@
 //! Desks: after each refusal history, movie and zones are as they were, and the same call is right.
 
-ghost use Rattle.std.specs.Prelude.{◌≤◌};
-
 use crate::checks::{check_same, expect_ok, expect_some};
 use crate::desks::{OpenGate, batch_of, run_call};
 use crate::edits::{Change, edit_of};
-use crate::runs::{Heap, MOST, NEVER, Run};
+use crate::fixtures::has_lacked;
+use crate::runs::{Heap, MOST, NEVER, NOT_AS_BEFORE, NOT_TOLD, Run, refuse};
 use std::alloc::{AllocError, Global};
 use std::process::Abort;
 use std::sync::Wait;
@@ -47,12 +46,10 @@ fn make_edit<'a, N: Name, R: Wait + Abort>(
     seat: &mut Seat<N, &'a Heap>,
     change: Change,
     number: u64,
-) -> Result<bool, AllocError>
-    requires { 1 ≤ number }
-{
+) -> Result<bool, AllocError> {
     let edit = expect_ok(rt, edit_of(heap, change));
     let len = change.len_after(400);
-    heap.refuse(number);
+    refuse(heap, number);
     match desk.edit(rt, seat, edit) {
         Ok(receipt) => Ok(receipt == Receipt { at: 5, len } && desk.len(seat) == Ok((5, len))),
         Err(EditError::Memory) => Err(AllocError),
@@ -67,10 +64,8 @@ fn shoot<'a, N: Name, R: Wait>(
     seat: &mut Seat<N, &'a Heap>,
     ran: u64,
     number: u64,
-) -> Result<bool, AllocError>
-    requires { 1 ≤ number }
-{
-    heap.refuse(number);
+) -> Result<bool, AllocError> {
+    refuse(heap, number);
     match desk.shot(heap, seat, 383) {
         Ok(shot) => {
             let is_told = shot.at == 4 && shot.ran == ran;
@@ -88,10 +83,8 @@ fn share<'a, N: Name, R: Wait>(
     desk: &Desk<N, &R, &'a Heap>,
     seat: &mut Seat<N, &'a Heap>,
     number: u64,
-) -> Result<bool, AllocError>
-    requires { 1 ≤ number }
-{
-    heap.refuse(number);
+) -> Result<bool, AllocError> {
+    refuse(heap, number);
     match desk.share(rt, seat) {
         Ok(gained) => Ok(gained == 2 && seat.kept() == 2),
         Err(error) => Err(error),
@@ -105,10 +98,8 @@ fn work_all<'a, N: Name, R: Wait>(
     desk: &Desk<N, &R, &'a Heap>,
     seat: &mut Seat<N, &'a Heap>,
     number: u64,
-) -> Result<bool, AllocError>
-    requires { 1 ≤ number }
-{
-    heap.refuse(number);
+) -> Result<bool, AllocError> {
+    refuse(heap, number);
     match desk.job(rt, heap, seat, 400) {
         Ok(job) => Ok(is_of_all(&job.run())),
         Err(error) => Err(error),
@@ -117,7 +108,7 @@ fn work_all<'a, N: Name, R: Wait>(
 
 /// Whether a batch is of all frames, and has the states that a zone with two of them lacks.
 fn is_of_all(batch: &Batch<&Heap>) -> bool {
-    batch.inputs().len() == 400 && batch.holds(384) && !batch.holds(128)
+    batch.inputs().len() == 400 && has_lacked(batch)
 }
 
 /// What an offer of all frames gains.
@@ -135,11 +126,9 @@ fn offer<'a, N: Name, R: Wait + Abort>(
     seat: &mut Seat<N, &'a Heap>,
     held: &mut Option<Batch>,
     number: u64,
-) -> Result<bool, AllocError>
-    requires { 1 ≤ number }
-{
+) -> Result<bool, AllocError> {
     let batch = expect_some(rt, held.take());
-    heap.refuse(number);
+    refuse(heap, number);
     match desk.offer(rt, seat, batch) {
         Ok(offered) => Ok(offered == ALL),
         Err(OfferError::Memory(batch)) => {
@@ -177,9 +166,7 @@ fn take<'a, N: Name, R: Wait + Abort>(
     held: &mut Option<Batch>,
     call: Call,
     number: u64,
-) -> Result<bool, AllocError>
-    requires { 1 ≤ number }
-{
+) -> Result<bool, AllocError> {
     match call {
         Call::Edit(change) => make_edit(rt, heap, desk, seat, change, number),
         Call::FirstShot => shoot(heap, desk, seat, 384, number),
@@ -201,15 +188,16 @@ fn take_twice<'a, N: Name, R: Wait + Abort>(
     held: &mut Option<Batch>,
     call: Call,
     number: u64,
-) -> Run
-    requires { 1 ≤ number }
-{
+) -> Run {
     let kept = seat.kept();
     let mut answer = take(rt, heap, desk, seat, held, call, number);
     let has_refused = heap.has_refused();
     if has_refused {
-        if answer.is_ok() || !is_as_before(rt, alloc, desk, seat, kept) {
-            return Run::Wrong;
+        if answer.is_ok() {
+            return NOT_TOLD;
+        }
+        if !is_as_before(rt, alloc, desk, seat, kept) {
+            return NOT_AS_BEFORE;
         }
         answer = take(rt, heap, desk, seat, held, call, NEVER);
     }
@@ -225,9 +213,7 @@ fn take_held<'a, N: Name, R: Wait + Abort>(
     seat: &mut Seat<N, &'a Heap>,
     call: Call,
     number: u64,
-) -> Run
-    requires { 1 ≤ number }
-{
+) -> Run {
     let mut held = Some(batch_of(rt, alloc, desk, seat, 400));
     take_twice(rt, alloc, heap, desk, seat, &mut held, call, number)
 }
@@ -248,10 +234,8 @@ fn try_work<'a, N: Name, R: Wait>(
     desk: &Desk<N, &R, &'a Heap>,
     seat: &mut Seat<N, &'a Heap>,
     number: u64,
-) -> Run
-    requires { 1 ≤ number }
-{
-    heap.refuse(number);
+) -> Run {
+    refuse(heap, number);
     let answer = desk.work(rt, heap, seat, &[192, 384], &OpenGate);
     if !heap.has_refused() {
         return Run::ended(false, answer == Ok(worked(2, 4)));
@@ -259,7 +243,7 @@ fn try_work<'a, N: Name, R: Wait>(
     let kept = match answer {
         Err(WorkError::Memory { done }) if done == worked(0, 0) => 0,
         Err(WorkError::Memory { done }) if done == worked(1, 1) => 1,
-        _ => return Run::Wrong,
+        _ => return Run::Wrong("what was done isn't told"),
     };
     let again = desk.work(rt, heap, seat, &[192, 384], &OpenGate);
     Run::ended(true, again == Ok(worked(2, 4 - kept)))
@@ -272,14 +256,12 @@ fn try_two_jobs<'a, N: Name, R: Wait>(
     desk: &Desk<N, &R, &'a Heap>,
     seat: &mut Seat<N, &'a Heap>,
     number: u64,
-) -> Run
-    requires { 1 ≤ number }
-{
-    heap.refuse(number);
+) -> Run {
+    refuse(heap, number);
     let done = worked(1, 1);
     let answer = desk.work(rt, heap, seat, &[64, 192], &OpenGate);
     if answer != Err(WorkError::Memory { done }) {
-        return Run::Wrong;
+        return Run::Wrong("the first job isn't told");
     }
     let again = desk.work(rt, heap, seat, &[64, 192], &OpenGate);
     Run::ended(heap.has_refused(), again == Ok(worked(2, 2)))
@@ -294,9 +276,7 @@ pub fn take_call<'a, N: Name, R: Wait + Abort>(
     seats: (&mut Seat<N, &'a Heap>, &mut Seat<N, &'a Heap>),
     call: Call,
     number: u64,
-) -> Run
-    requires { 1 ≤ number }
-{
+) -> Run {
     let (one, other) = seats;
     match call {
         Call::Work => try_work(rt, heap, desk, other, number),

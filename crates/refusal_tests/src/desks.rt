@@ -1,13 +1,12 @@
 //! Desks with two seats over a heap: opened, set up, lent and closed.
 
-ghost use Rattle.std.specs.Prelude.{◌≡◌, ◌≤◌};
+ghost use Rattle.std.specs.Prelude.{◌≡◌};
 ghost use Rattle.tas_desk.specs.Seats.{name_of};
 
 use crate::checks::{check_same, check_that, expect_ok, expect_some};
 use crate::desk_tests::{Call, take_call};
 use crate::edits::{BRIEF_OF_400, Change, edit_of, history};
-use crate::runs::{Heap, NEVER, Run};
-use refusals::Refusing;
+use crate::runs::{Heap, NEVER, Run, refuse, refusing};
 use std::alloc::Global;
 use std::marker::Brand;
 use std::process::Abort;
@@ -24,7 +23,7 @@ impl Gate for OpenGate {
 }
 
 /// Two edits, which make 200 frames of the playfield.
-const PLAYFIELD_OF_200: [Change; 2] = [Change::LoadPlayfield, Change::Insert(0, 200)];
+static PLAYFIELD_OF_200: [Change; 2] = [Change::LoadPlayfield, Change::Insert(0, 200)];
 
 /// Opens a desk over a heap that has the memory for it.
 pub fn open<'r, 'a, N: Name, R: Wait + Abort>(
@@ -104,7 +103,7 @@ pub fn with_history<R: Abort>(
     if history(rt, alloc, closed.journal.as_slice()).as_str() == wanted {
         run
     } else {
-        Run::Wrong
+        Run::Wrong("another history")
     }
 }
 
@@ -118,9 +117,7 @@ fn take_at<'a, N: Name, R: Wait + Abort>(
     seats: &mut [Seat<N, &'a Heap>],
     call: Call,
     number: u64,
-) -> Run
-    requires { 1 ≤ number }
-{
+) -> Run {
     check_same(rt, "seats", seats.len(), 2);
     let (one, other) = two_seats(rt, seats);
     match call {
@@ -143,7 +140,6 @@ fn run_at<'a, N: Name, R: Wait + Abort>(
     number: u64,
 ) -> Run
     requires name { unopened ≡ name_of N.registry N.name N.parts }
-    requires number { 1 ≤ number }
 {
     let (desk, mut seats) = open::<N, R>(rt, heap, unopened);
     let run = take_at(rt, alloc, heap, &desk, seats.as_mut_slice(), call, number);
@@ -172,10 +168,8 @@ fn history_after(call: Call) -> &'static str {
 }
 
 /// A call at an opened desk with one growth refused, and the same call after it.
-fn run_opened<R: Wait + Abort>(rt: &R, alloc: Global, call: Call, number: u64) -> Run
-    requires { 1 ≤ number }
-{
-    let heap = Refusing::new(alloc, NEVER);
+fn run_opened<R: Wait + Abort>(rt: &R, alloc: Global, call: Call, number: u64) -> Run {
+    let heap = refusing(alloc, NEVER);
     let unopened = expect_ok(rt, Unopened::new(&heap, 2));
     run_at::<Brand, R>(rt, alloc, &heap, unopened, call, number)
 }
@@ -188,54 +182,47 @@ fn open_at<'a, N: Name, R: Wait>(
     number: u64,
 ) -> Run
     requires name { unopened ≡ name_of N.registry N.name N.parts }
-    requires number { 1 ≤ number }
 {
     let was_refused = heap.has_refused();
-    heap.refuse(number);
+    refuse(heap, number);
     match Desk::<N, &R, &'a Heap>::open(rt, heap, unopened) {
         Ok((_desk, seats)) => Run::ended(
             false,
             !was_refused && !heap.has_refused() && seats.len() == 2,
         ),
         Err(OpenError::Memory) => Run::ended(true, !was_refused && heap.has_refused()),
-        Err(OpenError::NoPlace) => Run::Wrong,
+        Err(OpenError::NoPlace) => Run::Wrong("no place to open"),
     }
 }
 
 /// The making of a desk with two seats, of which no growth was refused, and its opening with one growth refused; nothing where memory is
 /// refused to the making.
-fn make_and_open<R: Wait>(rt: &R, heap: &Heap, number: u64) -> Option<Run>
-    requires { 1 ≤ number }
-{
+fn make_and_open<R: Wait>(rt: &R, heap: &Heap, number: u64) -> Option<Run> {
     match Unopened::new(heap, 2) {
         Ok(unopened) => Some(open_at::<Brand, R>(rt, heap, unopened, number)),
         Err(OpenError::Memory) => None,
-        Err(OpenError::NoPlace) => Some(Run::Wrong),
+        Err(OpenError::NoPlace) => Some(Run::Wrong("no place to make")),
     }
 }
 
 /// The making of a desk that isn't opened yet, with one growth refused, and another one after it, which then opens.
-fn run_making<R: Wait>(rt: &R, alloc: Global, number: u64) -> Run
-    requires { 1 ≤ number }
-{
-    let heap = Refusing::new(alloc, number);
+fn run_making<R: Wait>(rt: &R, alloc: Global, number: u64) -> Run {
+    let heap = refusing(alloc, number);
     if let Some(run) = make_and_open(rt, &heap, NEVER) {
         return run;
     }
     let has_refused = heap.has_refused();
-    heap.refuse(NEVER);
+    refuse(&heap, NEVER);
     let again = make_and_open(rt, &heap, NEVER);
     Run::ended(true, has_refused && again == Some(Run::Done))
 }
 
 /// A call at a desk with one growth refused, and the same call after it.
-pub fn run_call<R: Wait + Abort>(rt: &R, alloc: Global, call: Call, number: u64) -> Run
-    requires { 1 ≤ number }
-{
+pub fn run_call<R: Wait + Abort>(rt: &R, alloc: Global, call: Call, number: u64) -> Run {
     match call {
         Call::Make => run_making(rt, alloc, number),
         Call::Open => {
-            let heap = Refusing::new(alloc, NEVER);
+            let heap = refusing(alloc, NEVER);
             expect_some(rt, make_and_open(rt, &heap, number))
         }
         _ => run_opened(rt, alloc, call, number),

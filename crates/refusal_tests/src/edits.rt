@@ -99,7 +99,7 @@ pub fn edit_of<A: Allocator>(alloc: A, change: Change) -> Result<Edit<A>, AllocE
 }
 
 /// Four edits, which make 400 brief frames.
-pub const BRIEF_OF_400: [Change; 4] = [
+pub static BRIEF_OF_400: [Change; 4] = [
     Change::Load,
     Change::Insert(0, 200),
     Change::Insert(200, 200),
@@ -107,7 +107,7 @@ pub const BRIEF_OF_400: [Change; 4] = [
 ];
 
 /// Three edits, which make 72 frames that add up inputs, the last eight of them with the left stick pushed right.
-pub const FOLDING_OF_72: [Change; 3] = [
+pub static FOLDING_OF_72: [Change; 3] = [
     Change::LoadFolding,
     Change::Insert(0, 64),
     Change::InsertRight(64, 8),

@@ -3,7 +3,7 @@
 use crate::checks::check_same;
 use crate::inputs::Bytes;
 use std::alloc::{Allocator, Global};
-use std::io::{Read, Write};
+use std::io::Write;
 use std::process::Abort;
 use std::sync::Wait;
 use std::thread::Threads;
@@ -11,9 +11,10 @@ use tas_tool::{
     ToolFault, cart_talk_run, check_run, diff_run, edit_run, export_run, migrate_run,
     movie_script_run, movie_talk_run, script_run, shot_run, talk_run, trace_run,
 };
+use test_streams::Giver;
 
 /// An engine of the program.
-#[derive(Clone, Copy, Debug, PartialEq, Eq)]
+#[derive(Clone, Copy, Debug)]
 pub enum Engine {
     Trace,
     Check,
@@ -67,6 +68,19 @@ impl Engine {
         }
     }
 
+    /// All of its inputs, each given by as few reads as it takes, of which none fails.
+    pub fn given(self, bytes: &Bytes) -> Given<'_> {
+        Given {
+            inputs: [
+                self.input(bytes, 0),
+                self.input(bytes, 1),
+                self.input(bytes, 2),
+            ],
+            at_once: usize::MAX,
+            fails_at: [0; 3],
+        }
+    }
+
     /// How many inputs it reads.
     pub fn count(self) -> usize {
         match self {
@@ -82,39 +96,33 @@ impl Engine {
     }
 }
 
-/// Runs an engine over good inputs into a writer.
-pub fn run_whole<T: Wait + Threads + Sync, A: Allocator + Copy + Send + Sync, W: Write>(
-    rt: &T,
-    alloc: A,
-    engine: Engine,
-    bytes: &Bytes,
-    output: &mut W,
-) -> Result<(), ToolFault> {
-    let mut first = engine.input(bytes, 0);
-    let mut second = engine.input(bytes, 1);
-    let mut third = engine.input(bytes, 2);
-    run(
-        rt,
-        alloc,
-        engine,
-        &mut first,
-        &mut second,
-        &mut third,
-        output,
-    )
+/// What an engine reads, and how.
+#[derive(Clone, Copy)]
+pub struct Given<'a> {
+    /// Its inputs; those behind its last one are empty.
+    pub inputs: [&'a [u8]; 3],
+    /// How many bytes each read gives at most.
+    pub at_once: usize,
+    /// Which read of each input fails, counted from 1; at 0 none does.
+    pub fails_at: [usize; 3],
 }
 
+/// How an engine ended, and how often it read each input.
+pub type Ran = (Result<(), ToolFault>, [usize; 3]);
+
 /// Runs an engine.
-pub fn run<T: Wait + Threads + Sync, A: Allocator + Copy + Send + Sync, R: Read, W: Write>(
+pub fn run<T: Wait + Threads + Sync, A: Allocator + Copy + Send + Sync, W: Write>(
     rt: &T,
     alloc: A,
     engine: Engine,
-    first: &mut R,
-    second: &mut R,
-    third: &mut R,
+    given: Given<'_>,
     output: &mut W,
-) -> Result<(), ToolFault> {
-    match engine {
+) -> Ran {
+    let mut one = Giver::new(given.inputs[0], given.at_once, given.fails_at[0]);
+    let mut two = Giver::new(given.inputs[1], given.at_once, given.fails_at[1]);
+    let mut three = Giver::new(given.inputs[2], given.at_once, given.fails_at[2]);
+    let (first, second, third) = (&mut one, &mut two, &mut three);
+    let end = match engine {
         Engine::Trace => trace_run(alloc, 3, first, output),
         Engine::Check => check_run(alloc, first, second, output),
         Engine::Migrate => migrate_run(alloc, first, second, output),
@@ -127,7 +135,8 @@ pub fn run<T: Wait + Threads + Sync, A: Allocator + Copy + Send + Sync, R: Read,
         Engine::Talk => talk_run(rt, alloc, first, output),
         Engine::CartTalk => cart_talk_run(rt, alloc, first, second, output),
         Engine::MovieTalk => movie_talk_run(rt, alloc, first, second, third, output),
-    }
+    };
+    (end, [one.reads, two.reads, three.reads])
 }
 
 /// What an engine writes over good inputs, where nothing is refused.
@@ -138,7 +147,7 @@ pub fn whole_of<T: Wait + Threads + Sync + Abort>(
     bytes: &Bytes,
 ) -> Vec<u8> {
     let mut whole = Vec::new(alloc);
-    let end = run_whole(rt, alloc, engine, bytes, &mut whole);
+    let (end, _reads) = run(rt, alloc, engine, engine.given(bytes), &mut whole);
     check_same(rt, engine, end, Ok(()));
     whole
 }

@@ -1,22 +1,20 @@
 //! Exports of a desk: after each refusal no worker has begun, nothing is written, history, movie and zones are as they were, and the same
 //! export is right.
 
-ghost use Rattle.std.specs.Prelude.{◌≡◌, ◌≤◌};
-ghost use Rattle.tas_desk.specs.Runs.{most_workers};
+ghost use Rattle.std.specs.Prelude.{◌≡◌};
 ghost use Rattle.tas_desk.specs.Seats.{name_of};
 
 use crate::checks::{check_same, check_that, expect_ok};
 use crate::desks::{batch_of, close, keep_up_to, make_edits, open, two_seats, with_history};
 use crate::edits::{Change, FOLDING_OF_72, make_all};
-use crate::runs::{Heap, MOST, NEVER, Run};
-use refusals::Refusing;
+use crate::runs::{Heap, MOST, NEVER, NOT_AS_BEFORE, NOT_TOLD, Run, refuse, refusing};
 use std::alloc::Global;
 use std::marker::Brand;
 use std::process::Abort;
 use std::sync::Wait;
 use std::sync::atomic::{AtomicU64, Ordering};
 use std::thread::Threads;
-use tas_desk::{Desk, ExportError, Exported, Gate, Name, Seat, Shot, Unopened};
+use tas_desk::{Desk, ExportError, Exported, Gate, MAX_WORKERS, Name, Seat, Shot, Unopened};
 use tas_movie::Movie;
 use vcs_machine::{Meter, State, play};
 use vcs_tia::{Picture, ppm};
@@ -25,10 +23,10 @@ use vcs_tia::{Picture, ppm};
 const FRAMES: (usize, usize) = (66, 70);
 
 /// What seat 1 does behind the edits of seat 0, so that seat 0's zone is of an older movie.
-const BEHIND: [Change; 1] = [Change::InsertUp(10)];
+static BEHIND: [Change; 1] = [Change::InsertUp(10)];
 
 /// The zone of the seat that exports. It keeps the state after 64 frames.
-#[derive(Clone, Copy, Debug, PartialEq, Eq)]
+#[derive(Clone, Copy, PartialEq, Eq)]
 enum Zone {
     /// Of the present movie: the runs start from the state that is kept.
     Present,
@@ -96,7 +94,7 @@ impl Gate for Counting {
 }
 
 /// Whether an export is right; nothing where memory is refused before any worker has passed the gate, with nothing written.
-fn export<'a, N: Name, R: Threads + Wait + Sync>(
+fn export<'a, N: Name, R: Threads + Wait + Abort + Sync>(
     rt: &R,
     alloc: Global,
     heap: &'a Heap,
@@ -104,10 +102,10 @@ fn export<'a, N: Name, R: Threads + Wait + Sync>(
     seat: &mut Seat<N, &'a Heap>,
     workers: usize,
     wanted: &Wanted,
-) -> Option<bool>
-    requires { (1 ≤ workers) × (workers ≤ most_workers) }
-{
+) -> Option<bool> {
     let (from, to) = FRAMES;
+    let is_number = 1 <= workers && workers <= MAX_WORKERS;
+    check_that(rt, ("workers", workers), is_number);
     let gate = Counting {
         passed: AtomicU64::new(0),
     };
@@ -184,20 +182,20 @@ fn try_export<'a, N: Name, R: Threads + Wait + Abort + Sync>(
     workers: usize,
     wanted: &Wanted,
     number: u64,
-) -> Run
-    requires workers { (1 ≤ workers) × (workers ≤ most_workers) }
-    requires number { 1 ≤ number }
-{
-    heap.refuse(number);
+) -> Run {
+    refuse(heap, number);
     let mut answer = export(rt, alloc, heap, desk, seat, workers, wanted);
     let has_refused = heap.has_refused();
     if has_refused {
-        if answer.is_some() || !is_as_before(rt, alloc, desk, seat, zone, wanted) {
-            return Run::Wrong;
+        if answer.is_some() {
+            return NOT_TOLD;
+        }
+        if !is_as_before(rt, alloc, desk, seat, zone, wanted) {
+            return NOT_AS_BEFORE;
         }
         answer = export(rt, alloc, heap, desk, seat, workers, wanted);
     }
-    heap.refuse(NEVER);
+    refuse(heap, NEVER);
     let is_as_before = is_as_before(rt, alloc, desk, seat, zone, wanted);
     let is_shot = shoots_last(rt, alloc, heap, desk, seat, wanted);
     Run::ended(has_refused, answer == Some(true) && is_as_before && is_shot)
@@ -223,10 +221,7 @@ fn make_and_export<'a, N: Name, R: Threads + Wait + Abort + Sync>(
     workers: usize,
     wanted: &Wanted,
     number: u64,
-) -> Run
-    requires workers { (1 ≤ workers) × (workers ≤ most_workers) }
-    requires number { 1 ≤ number }
-{
+) -> Run {
     let (one, other) = two_seats(rt, seats);
     make_edits(rt, heap, desk, one, &FOLDING_OF_72);
     keep_up_to(rt, heap, desk, one, 64);
@@ -248,8 +243,6 @@ fn export_at<'a, N: Name, R: Threads + Wait + Abort + Sync>(
     number: u64,
 ) -> Run
     requires name { unopened ≡ name_of N.registry N.name N.parts }
-    requires workers { (1 ≤ workers) × (workers ≤ most_workers) }
-    requires number { 1 ≤ number }
 {
     let (desk, mut seats) = open::<N, R>(rt, heap, unopened);
     let lent = seats.as_mut_slice();
@@ -266,11 +259,8 @@ fn run_export<R: Threads + Wait + Abort + Sync>(
     workers: usize,
     wanted: &Wanted,
     number: u64,
-) -> Run
-    requires workers { (1 ≤ workers) × (workers ≤ most_workers) }
-    requires number { 1 ≤ number }
-{
-    let heap = Refusing::new(alloc, NEVER);
+) -> Run {
+    let heap = refusing(alloc, NEVER);
     let unopened = expect_ok(rt, Unopened::new(&heap, 2));
     export_at::<Brand, R>(rt, alloc, &heap, unopened, zone, workers, wanted, number)
 }
@@ -283,9 +273,7 @@ fn refuse_each<R: Threads + Wait + Abort + Sync>(
     workers: usize,
     played: u64,
     growths: u64,
-)
-    requires { (1 ≤ workers) × (workers ≤ most_workers) }
-{
+) {
     let wanted = wanted_of(rt, alloc, zone, played);
     let mut refused = 0;
     for number in 1..MOST {

@@ -3,6 +3,7 @@
 use crate::checks::expect_ok;
 use std::alloc::{Allocator, Global};
 use std::process::Abort;
+use tas_green::Batch;
 use tas_movie::{Edit, Inputs, Movie, apply, check};
 use vcs_machine::{Cart, Input};
 
@@ -18,6 +19,19 @@ pub const BRIEF: &[u8] = b"\xA9\x02\x85\x00\xA9\x00\x85\x00\x4C\x00\xF0";
 /// once. So a picture depends on all inputs up to it, and the frames are soon played.
 pub const FOLDING: &[u8] =
     b"\xAD\x80\x02\xC9\xFF\xF0\x0D\x65\x80\x85\x80\x85\x09\xA2\x50\x85\x02\xCA\xD0\xFB\xA9\x02\x85\x00\xA9\x00\x85\x00\x4C\x00\xF0";
+
+/// The places of the grid up to frame 384, after which a movie's states are kept.
+pub static GRID: [usize; 6] = [64, 128, 192, 256, 320, 384];
+
+/// Whether a batch of the frames up to 384 has the states that a zone with the first two of the grid lacks, and neither of these two.
+pub fn has_lacked<A: Allocator>(batch: &Batch<A>) -> bool {
+    for frame in GRID.iter() {
+        if batch.holds(*frame) != (*frame > 128) {
+            return false;
+        }
+    }
+    true
+}
 
 /// The cartridge with a program at F000, byte by byte.
 pub fn image(program: &[u8]) -> [u8; 4096] {

@@ -4,9 +4,8 @@ ghost use Rattle.std.specs.Prelude.{◌≡◌, ◌≤◌, OnErr, length};
 ghost use Rattle.tas_green.specs.Green.{IsLawful};
 
 use crate::checks::{check_same, check_that, expect_ok};
-use crate::fixtures::{BRIEF, PLAYFIELD, movie_of, replaced};
-use crate::runs::{Heap, MOST, NEVER, Run};
-use refusals::Refusing;
+use crate::fixtures::{BRIEF, GRID, PLAYFIELD, has_lacked, movie_of, replaced};
+use crate::runs::{Heap, MOST, NEVER, NOT_AS_BEFORE, NOT_TOLD, Run, refuse, refusing};
 use std::alloc::{AllocError, Allocator, Global};
 use std::process::Abort;
 use tas_green::{Batch, Green, Job, MergeError, Merged};
@@ -59,8 +58,8 @@ fn is_as_before<A: Allocator>(green: &Green<A>) -> bool {
 
 /// Whether just the six states up to 384 frames are kept, as after each call that is right.
 fn is_full<A: Allocator>(green: &Green<A>) -> bool {
-    for frame in [64, 128, 192, 256, 320, 384] {
-        if !green.holds(frame) {
+    for frame in GRID.iter() {
+        if !green.holds(*frame) {
             return false;
         }
     }
@@ -139,50 +138,10 @@ const MERGED: Merged = Merged {
 fn is_batch(batch: &Batch<&Heap>, movie: &Movie) -> bool {
     batch.cart().bytes() == movie.cart().bytes()
         && batch.inputs() == movie.inputs()
-        && batch.holds(192)
-        && batch.holds(384)
-        && !batch.holds(128)
+        && has_lacked(batch)
 }
 
-/// A shot of frame 383.
-fn shoot(
-    green: &mut Green<&Heap>,
-    picture: &mut Picture,
-    meter: &mut Meter,
-    movie: &Movie,
-) -> Result<bool, AllocError>
-    requires lawful { IsLawful movie.now green.old }
-    requires long { 384 ≤ length movie.now.inputs }
-    requires meter { meter.old ≡ 0 }
-    ensures zone { OnErr result (green.new ≡ green.old) }
-    ensures meter { OnErr result (meter.new ≡ meter.old) }
-{
-    match green.shot(movie, 383, picture, meter) {
-        Ok(drawn) => Ok(drawn.is_ok() && is_full(green) && shows(picture, meter, 256)),
-        Err(error) => Err(error),
-    }
-}
-
-/// A shot of the other movie's frame 383, over a zone that is cut behind frame 100, so that its state after 128 frames goes.
-fn shoot_from(
-    green: &mut Green<&Heap>,
-    picture: &mut Picture,
-    meter: &mut Meter,
-    made_for: &Movie,
-    movie: &Movie,
-) -> Result<bool, AllocError>
-    requires lawful { IsLawful made_for.now green.old }
-    requires long { 384 ≤ length movie.now.inputs }
-    requires meter { meter.old ≡ 0 }
-    ensures zone { OnErr result (green.new ≡ green.old) }
-    ensures meter { OnErr result (meter.new ≡ meter.old) }
-{
-    match green.shot_from(made_for, movie, 383, picture, meter) {
-        Ok(drawn) => Ok(drawn.is_ok() && is_full(green) && shows(picture, meter, 320)),
-        Err(error) => Err(error),
-    }
-}
-
+/// A merge of the batch: whether it is right, where memory isn't refused.
 fn merge(green: &mut Green<&Heap>, movie: &Movie, batch: &Batch) -> Result<bool, AllocError>
     requires { IsLawful movie.now green.old }
     ensures { OnErr result (green.new ≡ green.old) }
@@ -194,52 +153,9 @@ fn merge(green: &mut Green<&Heap>, movie: &Movie, batch: &Batch) -> Result<bool,
     }
 }
 
-fn gain(green: &mut Green<&Heap>, movie: &Movie, full: &Green) -> Result<bool, AllocError>
-    requires lawful { IsLawful movie.now green.old }
-    requires full { IsLawful movie.now full.now }
-    ensures { OnErr result (green.new ≡ green.old) }
-{
-    match green.gain(movie, full) {
-        Ok(gained) => Ok(gained == 4 && is_full(green)),
-        Err(error) => Err(error),
-    }
-}
-
-/// A gain for the other movie, by a zone that is cut as by a shot.
-fn gain_from(
-    green: &mut Green<&Heap>,
-    made_for: &Movie,
-    movie: &Movie,
-    full: &Green,
-) -> Result<bool, AllocError>
-    requires lawful { IsLawful made_for.now green.old }
-    requires full { IsLawful movie.now full.now }
-    ensures { OnErr result (green.new ≡ green.old) }
-{
-    match green.gain_from(made_for, movie, full) {
-        Ok(gained) => Ok(gained == 5 && is_full(green)),
-        Err(error) => Err(error),
-    }
-}
-
-/// Whether the full zone's copy for the other movie keeps just the state after 64 frames.
-fn moved(heap: &Heap, given: &Given) -> Result<bool, AllocError>
-    requires { IsLawful given.now.movie given.now.full }
-{
-    match given.full.moved(heap, &given.movie, &given.other) {
-        Ok(moved) => Ok(moved.count() == 1 && moved.holds(64)),
-        Err(error) => Err(error),
-    }
-}
-
-/// Whether a job gets the movie's cartridge and inputs, and makes the states that a zone of two lacks.
-fn take(heap: &Heap, movie: &Movie, green: &Green<&Heap>) -> Result<bool, AllocError>
-    requires { IsLawful movie.now green.now }
-{
-    match Job::take(heap, movie, green, 400) {
-        Ok(job) => Ok(is_batch(&job.run(), movie)),
-        Err(error) => Err(error),
-    }
+/// Whether a copy of the full zone for the other movie keeps just the state after 64 frames.
+fn is_moved(moved: &Green<&Heap>) -> bool {
+    moved.count() == 1 && moved.holds(64)
 }
 
 /// The call: whether it is right, where memory isn't refused.
@@ -261,15 +177,27 @@ fn seek(
     ensures meter { OnErr result (meter.new ≡ meter.old) }
 {
     let (movie, other) = (&given.movie, &given.other);
-    match seeking {
-        Seeking::Shot => shoot(green, picture, meter, movie),
-        Seeking::ShotFrom => shoot_from(green, picture, meter, movie, other),
-        Seeking::Merge => merge(green, movie, &given.batch),
-        Seeking::Gain => gain(green, movie, &given.full),
-        Seeking::GainFrom => gain_from(green, movie, other, &given.full_of_other),
-        Seeking::Moved => moved(heap, given),
-        Seeking::TakeJob => take(heap, movie, green),
-    }
+    let is_right = match seeking {
+        Seeking::Shot => {
+            let drawn = green.shot(movie, 383, picture, meter)?;
+            drawn.is_ok() && shows(picture, meter, 256) && is_full(green)
+        }
+        // The zone is cut behind frame 100, so that its state after 128 frames goes.
+        Seeking::ShotFrom => {
+            let drawn = green.shot_from(movie, other, 383, picture, meter)?;
+            drawn.is_ok() && shows(picture, meter, 320) && is_full(green)
+        }
+        Seeking::Merge => merge(green, movie, &given.batch)?,
+        Seeking::Gain => green.gain(movie, &given.full)? == 4 && is_full(green),
+        // So is it here.
+        Seeking::GainFrom => {
+            let gained = green.gain_from(movie, other, &given.full_of_other)?;
+            gained == 5 && is_full(green)
+        }
+        Seeking::Moved => is_moved(&given.full.moved(heap, movie, other)?),
+        Seeking::TakeJob => is_batch(&Job::take(heap, movie, green, 400)?.run(), movie),
+    };
+    Ok(is_right)
 }
 
 /// Whether what the calls are given is as it was.
@@ -295,8 +223,11 @@ fn seek_twice(
     let mut answer = seek(heap, green, picture, &mut meter, given, seeking);
     let has_refused = heap.has_refused();
     if has_refused {
-        if answer.is_ok() || !is_as_before(green) || !is_untouched(picture, &meter) {
-            return Run::Wrong;
+        if answer.is_ok() {
+            return NOT_TOLD;
+        }
+        if !is_as_before(green) || !is_untouched(picture, &meter) {
+            return NOT_AS_BEFORE;
         }
         answer = seek(heap, green, picture, &mut meter, given, seeking);
     }
@@ -305,16 +236,15 @@ fn seek_twice(
 
 /// The call on a zone with two states of the movie, with one growth refused, and the same call after it.
 fn run_seeking<R: Abort>(rt: &R, alloc: Global, given: &Given, seeking: Seeking, number: u64) -> Run
-    requires number { 1 ≤ number }
     requires full { IsLawful given.now.movie given.now.full }
     requires full_of_other { IsLawful given.now.other given.now.full_of_other }
     requires long { 384 ≤ length given.now.movie.inputs }
     requires other { 384 ≤ length given.now.other.inputs }
 {
-    let heap = Refusing::new(alloc, NEVER);
+    let heap = refusing(alloc, NEVER);
     let mut green = zone_of(rt, alloc, &heap, &given.movie, 127);
     let mut picture = playfield(rt, alloc);
-    heap.refuse(number);
+    refuse(&heap, number);
     seek_twice(&heap, &mut green, &mut picture, given, seeking)
 }
 

@@ -1,11 +1,9 @@
 //! Growths that are refused.
 
-ghost use Rattle.std.specs.Prelude.{◌≤◌};
-
 use crate::checks::check_same;
-use crate::engines::{Engine, run_whole, whole_of};
+use crate::engines::{Engine, run, whole_of};
 use crate::inputs::{Bytes, make_inputs};
-use refusals::Refusing;
+use crate::runs::refusing;
 use std::alloc::Global;
 use std::process::Abort;
 use std::sync::Wait;
@@ -24,21 +22,18 @@ enum Run {
     Replied,
     /// The engine grew less often, and wrote its answer.
     Done,
-    /// Anything else.
-    Wrong,
+    /// Anything else, and what it was.
+    Wrong(&'static str),
 }
 
-/// Whether nothing was written, or, by an engine that answers lines, its answers to the first of them.
+/// Whether nothing was written, or, by an engine that answers lines, its answers to the first of them: by a script whole lines.
 fn is_start(engine: Engine, output: &[u8], whole: &[u8]) -> bool {
-    let answers_lines = match engine {
-        Engine::Script
-        | Engine::MovieScript
-        | Engine::Talk
-        | Engine::CartTalk
-        | Engine::MovieTalk => true,
+    let are_answers = match engine {
+        Engine::Script | Engine::MovieScript => output.ends_with(b"\n"),
+        Engine::Talk | Engine::CartTalk | Engine::MovieTalk => true,
         _ => false,
     };
-    output.is_empty() || answers_lines && whole.starts_with(output)
+    output.is_empty() || are_answers && whole.starts_with(output)
 }
 
 /// The replies before the first one that says that memory was refused.
@@ -84,11 +79,14 @@ fn run_of(
     whole: &[u8],
     has_refused: bool,
 ) -> Run {
-    match end {
-        Ok(()) if !has_refused && text == whole => Run::Done,
-        Ok(()) if has_refused && tells_refusal(engine, text, whole) => Run::Replied,
-        Err(ToolFault::Memory) if has_refused && is_start(engine, text, whole) => Run::Refused,
-        _ => Run::Wrong,
+    match (end, has_refused) {
+        (Ok(()), false) if text == whole => Run::Done,
+        (Ok(()), false) => Run::Wrong("another answer, and nothing was refused"),
+        (Ok(()), true) if tells_refusal(engine, text, whole) => Run::Replied,
+        (Ok(()), true) => Run::Wrong("the refusal isn't told, or an answer before it is wrong"),
+        (Err(ToolFault::Memory), true) if is_start(engine, text, whole) => Run::Refused,
+        (Err(ToolFault::Memory), true) => Run::Wrong("not the answers to the first lines"),
+        _ => Run::Wrong("another fault"),
     }
 }
 
@@ -99,34 +97,32 @@ fn run_refused<T: Wait + Threads + Sync>(
     bytes: &Bytes,
     whole: &[u8],
     number: u64,
-) -> Run
-    requires { 1 ≤ number }
-{
-    let heap = Refusing::new(alloc, number);
+) -> Run {
+    let heap = refusing(alloc, number);
     let mut output = Vec::new(alloc);
-    let end = run_whole(rt, &heap, engine, bytes, &mut output);
+    let (end, _reads) = run(rt, &heap, engine, engine.given(bytes), &mut output);
     run_of(engine, end, output.as_slice(), whole, heap.has_refused())
 }
 
-/// Refuses an engine its growths in turn, until it grows no more: how many of them ended it, and how many an answer told. Nothing
-/// where a refusal was told otherwise.
+/// Refuses an engine its growths in turn, until it grows no more: how many of them ended it, and how many an answer told. Else the
+/// first growth that went wrong, and how.
 fn count_refused<T: Wait + Threads + Sync>(
     rt: &T,
     alloc: Global,
     engine: Engine,
     bytes: &Bytes,
     whole: &[u8],
-) -> Option<(u64, u64)> {
+) -> Result<(u64, u64), (u64, &'static str)> {
     let (mut refused, mut replied) = (0u64, 0u64);
     for number in 1..MOST {
         match run_refused(rt, alloc, engine, bytes, whole, number) {
             Run::Done => break,
             Run::Replied => replied = replied.saturating_add(1),
             Run::Refused => refused = refused.saturating_add(1),
-            Run::Wrong => return None,
+            Run::Wrong(how) => return Err((number, how)),
         }
     }
-    Some((refused, replied))
+    Ok((refused, replied))
 }
 
 /// Fails where another number of an engine's growths end it, or another number is told by an answer.
@@ -139,7 +135,7 @@ fn check_engine<T: Wait + Threads + Sync + Abort>(
 ) {
     let whole = whole_of(rt, alloc, engine, bytes);
     let counts = count_refused(rt, alloc, engine, bytes, whole.as_slice());
-    check_same(rt, engine, counts, Some(wanted));
+    check_same(rt, engine, counts, Ok(wanted));
 }
 
 /// Each engine, how many of its growths end it, and how many an answer tells.

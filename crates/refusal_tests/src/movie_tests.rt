@@ -1,12 +1,9 @@
 //! Pictures, cartridges, movies, edits and texts.
 
-ghost use Rattle.std.specs.Prelude.{◌≤◌};
-
 use crate::checks::{check_same, expect_ok};
 use crate::edits::{Change, edit_of};
 use crate::fixtures::{PLAYFIELD, are_equal, image, movie_of, right};
-use crate::runs::{Heap, MOST, NEVER, Run};
-use refusals::Refusing;
+use crate::runs::{Heap, MOST, NEVER, NOT_TOLD, Run, refuse, refusing};
 use std::alloc::{AllocError, Global};
 use std::process::Abort;
 use tas_movie::{Edit, Inputs, Movie, ReadError, TextError, TextErrorKind, print_text, read_text};
@@ -53,13 +50,7 @@ struct Made {
     text: Vec<u8>,
 }
 
-fn blank_picture(heap: &Heap) -> Result<bool, AllocError> {
-    match Picture::blank(heap) {
-        Ok(picture) => Ok(picture.lit() == 0),
-        Err(error) => Err(error),
-    }
-}
-
+/// Whether a cartridge is made of its bytes, where memory isn't refused.
 fn cart_from_bytes(heap: &Heap) -> Result<bool, AllocError> {
     let image = image(PLAYFIELD);
     match Cart::from_bytes(heap, &image) {
@@ -69,55 +60,7 @@ fn cart_from_bytes(heap: &Heap) -> Result<bool, AllocError> {
     }
 }
 
-fn blank_cart(heap: &Heap) -> Result<bool, AllocError> {
-    match Cart::blank(heap) {
-        Ok(cart) => Ok(cart.bytes() == [0u8; 4096].as_slice()),
-        Err(error) => Err(error),
-    }
-}
-
-fn copy_cart(heap: &Heap, movie: &Movie) -> Result<bool, AllocError> {
-    match movie.cart().copy(heap) {
-        Ok(cart) => Ok(cart.bytes() == movie.cart().bytes()),
-        Err(error) => Err(error),
-    }
-}
-
-fn blank_movie(heap: &Heap) -> Result<bool, AllocError> {
-    match Movie::blank(heap) {
-        Ok(blank) => Ok(blank.is_empty()),
-        Err(error) => Err(error),
-    }
-}
-
-fn new_movie(heap: &Heap, movie: &Movie) -> Result<bool, AllocError> {
-    match Movie::new(heap, movie.cart()) {
-        Ok(new) => Ok(new.is_empty() && new.cart().bytes() == movie.cart().bytes()),
-        Err(error) => Err(error),
-    }
-}
-
-fn copy_movie(heap: &Heap, movie: &Movie) -> Result<bool, AllocError> {
-    match movie.copy(heap) {
-        Ok(copy) => Ok(are_equal(&copy, movie)),
-        Err(error) => Err(error),
-    }
-}
-
-fn repeat_input(heap: &Heap) -> Result<bool, AllocError> {
-    match Inputs::repeated(heap, right(), 3) {
-        Ok(inputs) => Ok(inputs.as_slice() == [right(); 3].as_slice()),
-        Err(error) => Err(error),
-    }
-}
-
-fn copy_inputs(heap: &Heap, inputs: &Inputs) -> Result<bool, AllocError> {
-    match inputs.copy(heap) {
-        Ok(copy) => Ok(copy.as_slice() == inputs.as_slice()),
-        Err(error) => Err(error),
-    }
-}
-
+/// Whether the movie is read from its text, where memory isn't refused.
 fn read(heap: &Heap, movie: &Movie, text: &[u8]) -> Result<bool, AllocError> {
     match read_text(heap, text, movie.cart()) {
         Ok(read) => Ok(are_equal(&read, movie)),
@@ -126,42 +69,39 @@ fn read(heap: &Heap, movie: &Movie, text: &[u8]) -> Result<bool, AllocError> {
     }
 }
 
-fn print(heap: &Heap, movie: &Movie, text: &[u8]) -> Result<bool, AllocError> {
-    match print_text(heap, movie) {
-        Ok(printed) => Ok(printed.as_slice() == text),
-        Err(error) => Err(error),
-    }
+/// Whether a movie has this cartridge and no inputs.
+fn is_new(movie: &Movie<&Heap>, cart: &Cart) -> bool {
+    movie.is_empty() && movie.cart().bytes() == cart.bytes()
 }
 
 /// Whether what the call makes is right, where memory isn't refused.
 fn make(heap: &Heap, made: &Made, making: Making) -> Result<bool, AllocError> {
-    let movie = &made.movie;
-    let text = made.text.as_slice();
-    match making {
-        Making::BlankPicture => blank_picture(heap),
-        Making::CartFromBytes => cart_from_bytes(heap),
-        Making::BlankCart => blank_cart(heap),
-        Making::CopyCart => copy_cart(heap, movie),
-        Making::BlankMovie => blank_movie(heap),
-        Making::NewMovie => new_movie(heap, movie),
-        Making::CopyMovie => copy_movie(heap, movie),
-        Making::RepeatInput => repeat_input(heap),
-        Making::CopyInputs => copy_inputs(heap, &made.inputs),
-        Making::ReadText => read(heap, movie, text),
-        Making::PrintText => print(heap, movie, text),
-    }
+    let (movie, cart, text) = (&made.movie, made.movie.cart(), made.text.as_slice());
+    let (inputs, three) = (&made.inputs, [right(); 3]);
+    let is_right = match making {
+        Making::BlankPicture => Picture::blank(heap)?.lit() == 0,
+        Making::CartFromBytes => cart_from_bytes(heap)?,
+        Making::BlankCart => Cart::blank(heap)?.bytes() == [0u8; 4096].as_slice(),
+        Making::CopyCart => cart.copy(heap)?.bytes() == cart.bytes(),
+        Making::BlankMovie => Movie::blank(heap)?.is_empty(),
+        Making::NewMovie => is_new(&Movie::new(heap, cart)?, cart),
+        Making::CopyMovie => are_equal(&movie.copy(heap)?, movie),
+        Making::RepeatInput => Inputs::repeated(heap, right(), 3)?.as_slice() == three.as_slice(),
+        Making::CopyInputs => inputs.copy(heap)?.as_slice() == inputs.as_slice(),
+        Making::ReadText => read(heap, movie, text)?,
+        Making::PrintText => print_text(heap, movie)?.as_slice() == text,
+    };
+    Ok(is_right)
 }
 
 /// The call with one growth refused, and the same call after it.
-fn run_making(alloc: Global, made: &Made, making: Making, number: u64) -> Run
-    requires { 1 ≤ number }
-{
-    let heap = Refusing::new(alloc, number);
+fn run_making(alloc: Global, made: &Made, making: Making, number: u64) -> Run {
+    let heap = refusing(alloc, number);
     let mut answer = make(&heap, made, making);
     let has_refused = heap.has_refused();
     if has_refused {
         if answer.is_ok() {
-            return Run::Wrong;
+            return NOT_TOLD;
         }
         answer = make(&heap, made, making);
     }
@@ -207,10 +147,8 @@ fn what_is_made_of_a_movie(rt: HostRuntime) {
 }
 
 /// What is wrong with a text of this first line where the growth with this number is refused, and whether it was.
-fn fault_of(alloc: Global, cart: &Cart, number: u64) -> (Option<ReadError>, bool)
-    requires { 1 ≤ number }
-{
-    let heap = Refusing::new(alloc, number);
+fn fault_of(alloc: Global, cart: &Cart, number: u64) -> (Option<ReadError>, bool) {
+    let heap = refusing(alloc, number);
     let fault = read_text(&heap, b"a26movie 3\n", cart).err();
     (fault, heap.has_refused())
 }
@@ -277,15 +215,13 @@ fn copy_edit<'a>(heap: &'a Heap, edit: &Edit<&'a Heap>) -> Result<bool, AllocErr
 }
 
 /// The copy of an edit with one growth refused, and the same copy after it.
-fn copy_twice<'a>(heap: &'a Heap, edit: &Edit<&'a Heap>, number: u64) -> Run
-    requires { 1 ≤ number }
-{
-    heap.refuse(number);
+fn copy_twice<'a>(heap: &'a Heap, edit: &Edit<&'a Heap>, number: u64) -> Run {
+    refuse(heap, number);
     let mut answer = copy_edit(heap, edit);
     let has_refused = heap.has_refused();
     if has_refused {
         if answer.is_ok() {
-            return Run::Wrong;
+            return NOT_TOLD;
         }
         answer = copy_edit(heap, edit);
     }
@@ -314,10 +250,10 @@ static EDITS: [(Change, &str, u64); 4] = [
 
 #[test]
 fn copies_of_edits(rt: HostRuntime) {
-    let heap = Refusing::new(rt.alloc(), NEVER);
+    let heap = refusing(rt.alloc(), NEVER);
     for row in EDITS.iter() {
         let (change, name, growths) = *row;
-        heap.refuse(NEVER);
+        refuse(&heap, NEVER);
         let edit = expect_ok(&rt, edit_of(&heap, change));
         check_same(&rt, name, growths_of_copy(&rt, &heap, &edit, name), growths);
     }

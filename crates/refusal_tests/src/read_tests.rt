@@ -1,61 +1,27 @@
 //! Reads that fail, give one byte, or end early.
 
 use crate::checks::{check_same, check_that};
-use crate::engines::{CONVERSATIONS, ENGINES, Engine, run, whole_of};
+use crate::engines::{CONVERSATIONS, ENGINES, Engine, Given, Ran, run, whole_of};
 use crate::inputs::{Bytes, make_inputs};
 use std::alloc::Global;
 use std::process::Abort;
 use std::sync::Wait;
 use std::thread::Threads;
+use tas_movie::{TextError, TextErrorKind};
 use tas_tool::ToolFault;
-use test_streams::Giver;
 
 /// No engine reads one input so often here.
 const MOST: usize = 100;
 
-/// What an engine did: how it ended, how often it read each input, and what it wrote.
-#[derive(Drop)]
-struct Done {
-    end: Result<(), ToolFault>,
-    reads: [usize; 3],
-    written: Vec<u8>,
-}
+/// How many bytes each read gives at most, where one fails.
+const AT_ONCE: usize = 2000;
 
-/// Runs an engine whose readers give so many bytes at most at each read; one of them fails at a read.
-fn run_failing<T: Wait + Threads + Sync>(
-    rt: &T,
-    alloc: Global,
-    engine: Engine,
-    bytes: &Bytes,
-    at_once: usize,
-    fails_at: [usize; 3],
-) -> Done {
-    let mut first = Giver::new(engine.input(bytes, 0), at_once, fails_at[0]);
-    let mut second = Giver::new(engine.input(bytes, 1), at_once, fails_at[1]);
-    let mut third = Giver::new(engine.input(bytes, 2), at_once, fails_at[2]);
-    let mut written = Vec::new(alloc);
-    let end = run(
-        rt,
-        alloc,
-        engine,
-        &mut first,
-        &mut second,
-        &mut third,
-        &mut written,
-    );
-    Done {
-        end,
-        reads: [first.reads, second.reads, third.reads],
-        written,
-    }
-}
-
-/// The input of this number fails at that read, and no other.
-fn failing(input: usize, read: usize) -> [usize; 3] {
+/// How often the inputs are read up to a read of the input with this number, where these are the reads of all inputs to their ends.
+fn reads_up_to(whole: [usize; 3], input: usize, read: usize) -> [usize; 3] {
     match input {
         0 => [read, 0, 0],
-        1 => [0, read, 0],
-        _ => [0, 0, read],
+        1 => [whole[0], read, 0],
+        _ => [whole[0], whole[1], read],
     }
 }
 
@@ -75,37 +41,31 @@ fn written_before(engine: Engine, input: usize, read: usize, whole: &[u8]) -> &[
     }
 }
 
-/// A failed read is the last one of all inputs; nothing is written after it.
-fn is_stopped(done: &Done, input: usize, read: usize, written: &[u8]) -> bool {
-    let reads = done.reads;
-    let is_last = match input {
-        0 => reads == [read, 0, 0],
-        1 => reads[1] == read && reads[2] == 0,
-        _ => reads[2] == read,
-    };
-    done.end == Err(ToolFault::Read) && is_last && done.written.as_slice() == written
-}
-
-/// How often each input is read where no read fails: so many for its bytes, and one that gives none.
+/// How often each input is read where no read fails: so many times for its bytes, and once at its end.
 fn whole_reads(engine: Engine, bytes: &Bytes) -> [usize; 3] {
     let mut reads = [0; 3];
     for input in 0..engine.count() {
         if input < 3 {
             let size = engine.input(bytes, input).len();
-            reads[input] = size.div_ceil(2000).saturating_add(1);
+            reads[input] = size.div_ceil(AT_ONCE).saturating_add(1);
         }
     }
     reads
 }
 
-/// Fails where an engine that ended well wrote something else, or read its inputs more or less often.
-fn check_whole<R: Abort>(rt: &R, engine: Engine, bytes: &Bytes, done: &Done, whole: &[u8]) {
-    check_that(rt, engine, done.written.as_slice() == whole);
-    check_same(rt, engine, done.reads, whole_reads(engine, bytes));
+/// Fails where an engine didn't end so, read its inputs more or less often, or wrote something else.
+fn check_ran<R: Abort>(
+    rt: &R,
+    case: (&str, Engine, usize, usize),
+    (found, written): (Ran, &[u8]),
+    (wanted, text): (Ran, &[u8]),
+) {
+    check_same(rt, case, found, wanted);
+    check_that(rt, case, written == text);
 }
 
-/// How many reads of one input fail in turn, until there are no more of them. Each one stops the engine, and without one it
-/// writes all.
+/// How many reads of one input fail in turn, until there are no more of them. Each one stops the engine: it is the last one of all
+/// inputs, and nothing is written after it. Without one it writes all.
 fn failed_reads<T: Wait + Threads + Sync + Abort>(
     rt: &T,
     alloc: Global,
@@ -113,22 +73,36 @@ fn failed_reads<T: Wait + Threads + Sync + Abort>(
     bytes: &Bytes,
     whole: &[u8],
 ) -> usize {
+    let reads = whole_reads(engine, bytes);
     let mut failed = 0;
     for read in 1..MOST {
-        let done = run_failing(rt, alloc, engine, bytes, 2000, failing(input, read));
-        if done.end.is_ok() {
-            check_whole(rt, engine, bytes, &done, whole);
+        let given = Given {
+            at_once: AT_ONCE,
+            fails_at: reads_up_to([0; 3], input, read),
+            ..engine.given(bytes)
+        };
+        let mut output = Vec::new(alloc);
+        let ran = run(rt, alloc, engine, given, &mut output);
+        let found = (ran, output.as_slice());
+        if ran.0.is_ok() {
+            check_ran(
+                rt,
+                ("all", engine, input, read),
+                found,
+                ((Ok(()), reads), whole),
+            );
             break;
         }
+        let end = (Err(ToolFault::Read), reads_up_to(reads, input, read));
         let written = written_before(engine, input, read, whole);
-        let is_stopped = is_stopped(&done, input, read, written);
-        check_that(rt, ("read", engine, input, read), is_stopped);
+        check_ran(rt, ("read", engine, input, read), found, (end, written));
         failed = read;
     }
     failed
 }
 
-/// Each read of an engine fails in turn: one that gives the last bytes of an input, and one that gives none, too.
+/// Each read of an engine fails in turn: one that gives the last bytes of an input, and one that gives none, too. An input that an
+/// engine doesn't have is never read.
 fn check_reads<T: Wait + Threads + Sync + Abort>(
     rt: &T,
     alloc: Global,
@@ -136,11 +110,10 @@ fn check_reads<T: Wait + Threads + Sync + Abort>(
     bytes: &Bytes,
 ) {
     let whole = whole_of(rt, alloc, engine, bytes);
-    for input in 0..engine.count() {
+    let reads = whole_reads(engine, bytes);
+    for (input, wanted) in reads.iter().enumerate() {
         let failed = failed_reads(rt, alloc, (engine, input), bytes, whole.as_slice());
-        let size = engine.input(bytes, input).len();
-        let wanted = size.div_ceil(2000).saturating_add(1);
-        check_same(rt, (engine, input), failed, wanted);
+        check_same(rt, ("failed reads", engine, input), failed, *wanted);
     }
 }
 
@@ -148,11 +121,11 @@ fn check_reads<T: Wait + Threads + Sync + Abort>(
 fn each_read_failing(rt: HostRuntime) {
     let alloc = rt.alloc();
     let bytes = make_inputs(&rt, alloc);
-    for engine in ENGINES {
-        check_reads(&rt, alloc, engine, &bytes);
+    for engine in ENGINES.iter() {
+        check_reads(&rt, alloc, *engine, &bytes);
     }
-    for engine in CONVERSATIONS {
-        check_reads(&rt, alloc, engine, &bytes);
+    for engine in CONVERSATIONS.iter() {
+        check_reads(&rt, alloc, *engine, &bytes);
     }
 }
 
@@ -164,20 +137,25 @@ fn check_bytewise<T: Wait + Threads + Sync + Abort>(
     bytes: &Bytes,
 ) {
     let whole = whole_of(rt, alloc, engine, bytes);
-    let done = run_failing(rt, alloc, engine, bytes, 1, [0, 0, 0]);
-    check_same(rt, engine, done.end, Ok(()));
-    check_that(rt, engine, done.written == whole);
+    let given = Given {
+        at_once: 1,
+        ..engine.given(bytes)
+    };
+    let mut output = Vec::new(alloc);
+    let (end, _reads) = run(rt, alloc, engine, given, &mut output);
+    check_same(rt, engine, end, Ok(()));
+    check_that(rt, engine, output == whole);
 }
 
 #[test]
 fn one_byte_at_each_read(rt: HostRuntime) {
     let alloc = rt.alloc();
     let bytes = make_inputs(&rt, alloc);
-    for engine in ENGINES {
-        check_bytewise(&rt, alloc, engine, &bytes);
+    for engine in ENGINES.iter() {
+        check_bytewise(&rt, alloc, *engine, &bytes);
     }
-    for engine in CONVERSATIONS {
-        check_bytewise(&rt, alloc, engine, &bytes);
+    for engine in CONVERSATIONS.iter() {
+        check_bytewise(&rt, alloc, *engine, &bytes);
     }
 }
 
@@ -186,60 +164,48 @@ fn cut_short(bytes: &[u8]) -> &[u8] {
     &bytes[..bytes.len().saturating_sub(1)]
 }
 
-/// Whether a fault tells what is wrong with an input without its last byte: a cartridge, a script or a movie's text.
-fn tells_early_end(engine: Engine, input: usize, fault: ToolFault) -> bool {
-    match fault {
-        ToolFault::Size(size) => input == 0 && size == 4095,
-        ToolFault::Script { line } => match engine {
-            Engine::Script => line == 9,
-            Engine::MovieScript => input == 2 && line == 9,
-            Engine::Edit => input == 1 && line == 3,
-            _ => false,
-        },
-        ToolFault::Text(_) => input > 0,
-        _ => false,
+/// What is wrong with an input without its last byte: a cartridge, a script's ninth line, the third line of changes or of a movie's text.
+fn early_end(engine: Engine, input: usize) -> ToolFault {
+    match (engine, input) {
+        (Engine::Script, _) | (Engine::MovieScript, 2) => ToolFault::Script { line: 9 },
+        (Engine::Edit, 1) => ToolFault::Script { line: 3 },
+        (_, 0) => ToolFault::Size(4095),
+        _ => ToolFault::Text(TextError {
+            line: 3,
+            kind: TextErrorKind::End,
+        }),
     }
 }
 
-/// Runs an engine over one input without its last byte: how it ended.
-fn run_cut<T: Wait + Threads + Sync>(
+/// Fails where an engine over one input without its last byte doesn't tell what is wrong with it.
+fn check_cut<T: Wait + Threads + Sync + Abort>(
     rt: &T,
     alloc: Global,
     engine: Engine,
     bytes: &Bytes,
     input: usize,
-) -> Result<(), ToolFault> {
-    let mut first = engine.input(bytes, 0);
-    let mut second = engine.input(bytes, 1);
-    let mut third = engine.input(bytes, 2);
-    match input {
-        0 => first = cut_short(first),
-        1 => second = cut_short(second),
-        _ => third = cut_short(third),
+) {
+    let mut given = engine.given(bytes);
+    if let Some(cut) = given.inputs.get_mut(input) {
+        *cut = cut_short(cut);
     }
-    let mut written = Vec::new(alloc);
-    run(
+    let mut output = Vec::new(alloc);
+    let (end, _reads) = run(rt, alloc, engine, given, &mut output);
+    check_same(
         rt,
-        alloc,
-        engine,
-        &mut first,
-        &mut second,
-        &mut third,
-        &mut written,
-    )
+        ("cut", engine, input),
+        end,
+        Err(early_end(engine, input)),
+    );
 }
 
 #[test]
 fn inputs_that_end_early(rt: HostRuntime) {
     let alloc = rt.alloc();
     let bytes = make_inputs(&rt, alloc);
-    for engine in ENGINES {
+    for engine in ENGINES.iter() {
         for input in 0..engine.count() {
-            let is_told = match run_cut(&rt, alloc, engine, &bytes, input) {
-                Ok(()) => false,
-                Err(fault) => tells_early_end(engine, input, fault),
-            };
-            check_that(&rt, (engine, input), is_told);
+            check_cut(&rt, alloc, *engine, &bytes, input);
         }
     }
 }

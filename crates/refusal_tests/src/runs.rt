@@ -1,5 +1,7 @@
 //! Runs of one call with one growth refused.
 
+ghost use Rattle.std.specs.Prelude.{◌≤◌};
+
 use refusals::Refusing;
 use std::alloc::Global;
 
@@ -12,6 +14,16 @@ pub const MOST: u64 = 100;
 /// Nothing here grows so often.
 pub const NEVER: u64 = 1_000_000_000;
 
+/// Memory that refuses the growth with this number, counted from 1.
+pub fn refusing(alloc: Global, number: u64) -> Heap {
+    Refusing::new(alloc, number.max(1))
+}
+
+/// Counts anew: the growth with this number is refused from now on, counted from 1.
+pub fn refuse(heap: &Heap, number: u64) {
+    heap.refuse(number.max(1));
+}
+
 /// How a run ended.
 #[derive(Clone, Copy, Debug, PartialEq, Eq)]
 pub enum Run {
@@ -19,8 +31,8 @@ pub enum Run {
     Refused,
     /// The call grew less often, and was right.
     Done,
-    /// Anything else.
-    Wrong,
+    /// Anything else, and what it was.
+    Wrong(&'static str),
 }
 
 impl Run {
@@ -29,7 +41,14 @@ impl Run {
         match (has_refused, is_right) {
             (true, true) => Run::Refused,
             (false, true) => Run::Done,
-            _ => Run::Wrong,
+            (true, false) => Run::Wrong("wrong behind the refusal"),
+            (false, false) => Run::Wrong("wrong, and nothing was refused"),
         }
     }
 }
+
+/// A call that met the refusal didn't say so.
+pub const NOT_TOLD: Run = Run::Wrong("the refusal isn't told");
+
+/// Something isn't as it was before the call that met the refusal.
+pub const NOT_AS_BEFORE: Run = Run::Wrong("not as before the refusal");

@@ -1,11 +1,9 @@
 //! Sessions: after each refusal history, movie and kept states are as they were, and the same call is right.
 
-ghost use Rattle.std.specs.Prelude.{◌≤◌};
-
 use crate::checks::{check_same, check_that, expect_ok, expect_some};
 use crate::edits::{BRIEF_OF_400, Change, edit_of, history, movie_text};
-use crate::runs::{Heap, MOST, NEVER, Run};
-use refusals::Refusing;
+use crate::fixtures::{GRID, has_lacked};
+use crate::runs::{Heap, MOST, NEVER, NOT_AS_BEFORE, NOT_TOLD, Run, refuse, refusing};
 use std::alloc::{AllocError, Allocator, Global};
 use std::process::Abort;
 use std::sync::Wait;
@@ -42,8 +40,8 @@ fn shown<A: Allocator, R: Abort>(rt: &R, alloc: Global, session: &Session<A>) ->
 /// How many states are kept, and after which of the frames on the grid.
 fn kept_text<A: Allocator, R: Abort>(rt: &R, alloc: Global, green: &Green<A>) -> String {
     let mut text = expect_ok(rt, format!(in alloc; "{}:", green.count()));
-    for frame in [64, 128, 192, 256, 320, 384] {
-        if green.holds(frame) {
+    for frame in GRID.iter() {
+        if green.holds(*frame) {
             let place = expect_ok(rt, format!(in alloc; " {frame}"));
             expect_ok(rt, text.push_str(place.as_str()));
         }
@@ -68,9 +66,9 @@ fn set_up<'a, R: Wait + Abort>(
     heap: &'a Heap,
     session: &mut Session<&'a Heap>,
 ) {
-    for change in BRIEF_OF_400 {
+    for change in BRIEF_OF_400.iter() {
         let made = session.at();
-        let edit = expect_ok(rt, edit_of(heap, change));
+        let edit = expect_ok(rt, edit_of(heap, *change));
         expect_ok(rt, session.edit(rt, 0, made, edit));
     }
     let drawn = shoot(alloc, session, 127, 128);
@@ -102,15 +100,13 @@ fn make_edit<'a, R: Wait + Abort>(
     session: &mut Session<&'a Heap>,
     change: Change,
     number: u64,
-) -> Result<bool, AllocError>
-    requires { 1 ≤ number }
-{
+) -> Result<bool, AllocError> {
     let receipt = Receipt {
         at: session.at().saturating_add(1),
         len: change.len_after(session.movie().len()),
     };
     let edit = expect_ok(rt, edit_of(heap, change));
-    heap.refuse(number);
+    refuse(heap, number);
     match session.edit(rt, 1, 0, edit) {
         Ok(made) => Ok(made == receipt),
         Err(EditError::Memory) => Err(AllocError),
@@ -128,7 +124,7 @@ fn work<'a>(heap: &'a Heap, session: &Session<&'a Heap>) -> Result<bool, AllocEr
 
 /// Whether a batch has these inputs, and the states that a zone with two of them lacks.
 fn is_of_all(batch: &Batch<&Heap>, inputs: &[Input]) -> bool {
-    batch.inputs() == inputs && batch.holds(384) && !batch.holds(128)
+    batch.inputs() == inputs && has_lacked(batch)
 }
 
 /// What an offer of all frames gains.
@@ -168,22 +164,20 @@ fn take<'a, R: Wait + Abort>(
     held: &mut Option<Batch>,
     turn: Turn,
     number: u64,
-) -> Result<bool, AllocError>
-    requires { 1 ≤ number }
-{
+) -> Result<bool, AllocError> {
     match turn {
         Turn::First => make_edit(rt, heap, session, Change::Insert(0, 3), number),
         Turn::Edit(change) => make_edit(rt, heap, session, change, number),
         Turn::Shot => {
-            heap.refuse(number);
+            refuse(heap, number);
             shoot(heap, session, 383, 256)
         }
         Turn::Job => {
-            heap.refuse(number);
+            refuse(heap, number);
             work(heap, session)
         }
         Turn::Offer => {
-            heap.refuse(number);
+            refuse(heap, number);
             offer(rt, session, held)
         }
     }
@@ -199,14 +193,15 @@ fn take_twice<'a, R: Wait + Abort>(
     before: &str,
     turn: Turn,
     number: u64,
-) -> Run
-    requires { 1 ≤ number }
-{
+) -> Run {
     let mut answer = take(rt, heap, session, held, turn, number);
     let has_refused = heap.has_refused();
     if has_refused {
-        if answer.is_ok() || !shows(rt, alloc, session, before) {
-            return Run::Wrong;
+        if answer.is_ok() {
+            return NOT_TOLD;
+        }
+        if !shows(rt, alloc, session, before) {
+            return NOT_AS_BEFORE;
         }
         answer = take(rt, heap, session, held, turn, NEVER);
     }
@@ -221,9 +216,7 @@ fn take_held<'a, R: Wait + Abort>(
     session: &mut Session<&'a Heap>,
     turn: Turn,
     number: u64,
-) -> Run
-    requires { 1 ≤ number }
-{
+) -> Run {
     let mut held = Some(batch_of_all(rt, alloc, session));
     let before = shown(rt, alloc, session);
     take_twice(
@@ -239,10 +232,8 @@ fn take_held<'a, R: Wait + Abort>(
 }
 
 /// A turn of a session with one growth refused, and the same turn after it.
-fn run_turn<R: Wait + Abort>(rt: &R, alloc: Global, turn: Turn, number: u64) -> Run
-    requires { 1 ≤ number }
-{
-    let heap = Refusing::new(alloc, NEVER);
+fn run_turn<R: Wait + Abort>(rt: &R, alloc: Global, turn: Turn, number: u64) -> Run {
+    let heap = refusing(alloc, NEVER);
     let mut session = expect_ok(rt, Session::new(&heap));
     match turn {
         Turn::First => {}
@@ -272,15 +263,13 @@ fn is_new<R: Wait>(rt: &R, heap: &Heap) -> Option<bool> {
 }
 
 /// A new session with one growth refused, and another one after it.
-fn run_new<R: Wait>(rt: &R, alloc: Global, number: u64) -> Run
-    requires { 1 ≤ number }
-{
-    let heap = Refusing::new(alloc, number);
+fn run_new<R: Wait>(rt: &R, alloc: Global, number: u64) -> Run {
+    let heap = refusing(alloc, number);
     let mut is_empty = is_new(rt, &heap);
     let has_refused = heap.has_refused();
     if has_refused {
         if is_empty.is_some() {
-            return Run::Wrong;
+            return NOT_TOLD;
         }
         is_empty = is_new(rt, &heap);
     }
@@ -288,9 +277,7 @@ fn run_new<R: Wait>(rt: &R, alloc: Global, number: u64) -> Run
 }
 
 /// A turn of a session, or, where there is none, a new session, with one growth refused, and the same after it.
-fn run_call<R: Wait + Abort>(rt: &R, alloc: Global, turn: Option<Turn>, number: u64) -> Run
-    requires { 1 ≤ number }
-{
+fn run_call<R: Wait + Abort>(rt: &R, alloc: Global, turn: Option<Turn>, number: u64) -> Run {
     match turn {
         Some(turn) => run_turn(rt, alloc, turn, number),
         None => run_new(rt, alloc, number),

@@ -1,7 +1,7 @@
 //! Writes that fail, take a few bytes, or take none.
 
 use crate::checks::{check_same, check_that};
-use crate::engines::{CONVERSATIONS, Engine, run_whole, whole_of};
+use crate::engines::{CONVERSATIONS, Engine, Given, run, whole_of};
 use crate::inputs::{Bytes, make_inputs};
 use std::alloc::Global;
 use std::process::Abort;
@@ -13,22 +13,41 @@ use test_streams::{Failure, Room, Taker};
 /// No engine writes so often here.
 const MOST: usize = 1000;
 
-/// Fails where an engine whose write failed after so many isn't told of by just what was taken before it, or wrote on.
+/// An engine, how its writer fails, and for how many writes there is room.
+type Case = (Engine, &'static str, usize);
+
+/// Fails where an engine whose write failed isn't told of by just what was taken before it, or wrote on.
 fn check_failed<R: Abort>(
     rt: &R,
-    case: (Engine, usize),
+    case: Case,
     output: &Taker,
     end: Result<(), ToolFault>,
     whole: &[u8],
 ) {
-    let (_engine, taken) = case;
+    let (_engine, _failure, room) = case;
     let written = output.taken.len();
     check_same(rt, case, end, Err(ToolFault::Write { written }));
-    check_that(rt, case, whole.starts_with(output.taken.as_slice()));
-    check_that(rt, case, written < whole.len());
-    let writes = taken.saturating_add(1);
+    let is_first = whole.starts_with(output.taken.as_slice());
+    check_that(rt, ("the answer's first bytes", case), is_first);
+    check_that(rt, ("not all of it", case), written < whole.len());
+    let writes = room.saturating_add(1);
     check_same(rt, case, (output.writes, output.failed), (writes, 1));
 }
+
+/// Fails where an engine that ended well wrote something else, or wrote less often than there was room for: each of these writes has failed
+/// in a run before.
+fn check_whole<R: Abort>(rt: &R, case: Case, output: &Taker, whole: &[u8]) {
+    let (_engine, _failure, room) = case;
+    check_that(rt, ("the answer", case), output.taken.as_slice() == whole);
+    check_that(rt, ("a write", case), room > 0);
+    check_same(rt, case, (output.writes, output.failed), (room, 0));
+}
+
+/// How a writer fails, and its name.
+static FAILURES: [(Failure, &str); 2] = [
+    (Failure::Error, "an error"),
+    (Failure::Nothing, "nothing taken"),
+];
 
 /// Each write of an engine fails in turn, into a writer that takes so many bytes at most at each write. A failed write is the
 /// last one, and what `Write` counts is just what was taken before it: the answer's first bytes.
@@ -37,21 +56,42 @@ fn fail_each<T: Wait + Threads + Abort + Sync>(
     alloc: Global,
     bytes: &Bytes,
     engine: Engine,
-    (at_once, failure): (usize, Failure),
+    at_once: usize,
 ) {
     let whole = whole_of(rt, alloc, engine, bytes);
-    let mut failed = 0;
-    for taken in 0..MOST {
-        let mut output = Taker::new(alloc, at_once, Room::Writes(taken), failure);
-        let end = run_whole(rt, alloc, engine, bytes, &mut output);
+    for row in FAILURES.iter() {
+        fail_so(
+            rt,
+            alloc,
+            (engine, engine.given(bytes)),
+            whole.as_slice(),
+            at_once,
+            *row,
+        );
+    }
+}
+
+/// So it fails in one of the two ways.
+fn fail_so<T: Wait + Threads + Abort + Sync>(
+    rt: &T,
+    alloc: Global,
+    (engine, given): (Engine, Given<'_>),
+    whole: &[u8],
+    at_once: usize,
+    (failure, name): (Failure, &'static str),
+) {
+    let mut has_ended = false;
+    for room in 0..MOST {
+        let mut output = Taker::new(alloc, at_once, Room::Writes(room), failure);
+        let (end, _reads) = run(rt, alloc, engine, given, &mut output);
         if end.is_ok() {
-            check_that(rt, engine, output.taken == whole);
+            check_whole(rt, (engine, name, room), &output, whole);
+            has_ended = true;
             break;
         }
-        check_failed(rt, (engine, taken), &output, end, whole.as_slice());
-        failed = taken + 1;
+        check_failed(rt, (engine, name, room), &output, end, whole);
     }
-    check_that(rt, engine, failed > 0);
+    check_that(rt, ("an end", engine, name), has_ended);
 }
 
 /// Engines that write a text.
@@ -70,10 +110,8 @@ static TEXTS: [Engine; 8] = [
 #[test]
 fn each_write_of_a_text(rt: HostRuntime) {
     let bytes = make_inputs(&rt, rt.alloc());
-    for engine in TEXTS {
-        for failure in [Failure::Error, Failure::Nothing] {
-            fail_each(&rt, rt.alloc(), &bytes, engine, (7, failure));
-        }
+    for engine in TEXTS.iter() {
+        fail_each(&rt, rt.alloc(), &bytes, *engine, 7);
     }
 }
 
@@ -81,26 +119,20 @@ fn each_write_of_a_text(rt: HostRuntime) {
 #[test]
 fn each_write_of_a_shot(rt: HostRuntime) {
     let bytes = make_inputs(&rt, rt.alloc());
-    for failure in [Failure::Error, Failure::Nothing] {
-        fail_each(&rt, rt.alloc(), &bytes, Engine::Shot, (1000, failure));
-    }
+    fail_each(&rt, rt.alloc(), &bytes, Engine::Shot, 1000);
 }
 
 #[test]
 fn each_write_of_an_export(rt: HostRuntime) {
     let bytes = make_inputs(&rt, rt.alloc());
-    for failure in [Failure::Error, Failure::Nothing] {
-        fail_each(&rt, rt.alloc(), &bytes, Engine::Export(2), (1000, failure));
-    }
+    fail_each(&rt, rt.alloc(), &bytes, Engine::Export(2), 1000);
 }
 
 /// One of a conversation's answers, a picture, takes three writes.
 #[test]
 fn each_write_of_a_conversation(rt: HostRuntime) {
     let bytes = make_inputs(&rt, rt.alloc());
-    for engine in CONVERSATIONS {
-        for failure in [Failure::Error, Failure::Nothing] {
-            fail_each(&rt, rt.alloc(), &bytes, engine, (50_000, failure));
-        }
+    for engine in CONVERSATIONS.iter() {
+        fail_each(&rt, rt.alloc(), &bytes, *engine, 50_000);
     }
 }

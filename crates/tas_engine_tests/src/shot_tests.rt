@@ -58,6 +58,8 @@ static FAILURES: [Failure; 2] = [Failure::Error, Failure::Nothing];
 fn a_cut_picture_is_told_by_its_bytes(rt: HostRuntime) {
     let alloc = rt.alloc();
     let image = image_of(&rt, alloc, PLAYFIELD);
+    let (whole, _end) = shown(alloc, 0, image.as_slice(), PLAYFIELD_MOVIE);
+    check_playfield(&rt, whole.as_slice());
     for failure in FAILURES.iter() {
         for room in [0, 20, 300, 700, 1100] {
             let mut picture = Taker::new(alloc, 1000, Room::Bytes(room), *failure);
@@ -66,6 +68,8 @@ fn a_cut_picture_is_told_by_its_bytes(rt: HostRuntime) {
             let answer = shot_run(alloc, 0, &mut cart, &mut text, &mut picture);
             let fault = ToolFault::Write { written: room };
             check_same(&rt, ("room", room), answer, Err(fault));
+            let is_first = Some(picture.taken.as_slice()) == whole.get(..room);
+            check_that(&rt, ("the first bytes", room), is_first);
         }
     }
 }

@@ -98,7 +98,8 @@ static OTHER_RANGES: [(usize, usize, usize); 8] = [
 fn other_ranges_are_refused(rt: HostRuntime) {
     let alloc = rt.alloc();
     let image = image_of(&rt, alloc, PLAYFIELD.bytes);
-    for (from, to, len) in OTHER_RANGES {
+    for row in OTHER_RANGES.iter() {
+        let (from, to, len) = *row;
         let text = text_of(&rt, alloc, PLAYFIELD, len, RIGHT);
         let files = (image.as_slice(), text.as_bytes());
         let wanted = (b"".as_slice(), Err(ToolFault::Range { from, to, len }));
@@ -210,7 +211,8 @@ static FAILED_READS: [(usize, usize, Result<(), ToolFault>, (usize, usize)); 5] 
 fn an_export_does_not_read_on(rt: HostRuntime) {
     let alloc = rt.alloc();
     let image = image_of(&rt, alloc, PLAYFIELD.bytes);
-    for (cart_fails, text_fails, end, reads) in FAILED_READS {
+    for row in FAILED_READS.iter() {
+        let (cart_fails, text_fails, end, reads) = *row;
         let mut cart = Giver::new(image.as_slice(), usize::MAX, cart_fails);
         let mut input = Giver::new(ONE_FRAME, usize::MAX, text_fails);
         let mut output = Vec::new(alloc);

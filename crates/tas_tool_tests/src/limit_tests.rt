@@ -44,7 +44,7 @@ fn check_ran<R: Abort>(rt: &R, words: &[&str], code: u8, output: &Tail, errors: 
     match end {
         End::Writes(bytes, last) => {
             check_same(rt, words, found, (0, bytes));
-            check_that(rt, words, output.last.ends_with(last));
+            check_that(rt, words, output.ends_with(last));
             check_that(rt, words, errors.is_empty());
         }
         End::Faults(line) => {
@@ -67,7 +67,7 @@ fn check_end<R: Threads + Wait + Abort + Sync>(
     input: &[u8],
     end: End,
 ) {
-    let mut output = Tail::new(alloc);
+    let mut output = Tail::new();
     let mut errors = Vec::new(alloc);
     let code = run(rt, alloc, words, files, input, &mut output, &mut errors);
     check_ran(rt, words, code, &output, errors.as_slice(), end);
@@ -154,8 +154,8 @@ fn instructions_of_a_trace(rt: HostRuntime) {
     let alloc = rt.alloc();
     // An undocumented opcode at its first instruction ends each trace.
     let halting = image_of(&rt, alloc, b"\x02");
-    for (words, end) in INSTRUCTIONS {
-        check_end(&rt, alloc, words, only_game(b""), halting.as_slice(), end);
+    for (words, end) in INSTRUCTIONS.iter() {
+        check_end(&rt, alloc, words, only_game(b""), halting.as_slice(), *end);
     }
 }
 
@@ -387,11 +387,11 @@ static INPUTS: [(&[&str], Bytes, Bytes, End); 6] = [
 #[test]
 fn bytes_of_one_input(rt: HostRuntime) {
     let alloc = rt.alloc();
-    for (words, game, input, end) in INPUTS {
-        let game = bytes_of(&rt, alloc, game);
-        let input = bytes_of(&rt, alloc, input);
+    for (words, game, input, end) in INPUTS.iter() {
+        let game = bytes_of(&rt, alloc, *game);
+        let input = bytes_of(&rt, alloc, *input);
         let files = only_game(game.as_slice());
-        check_end(&rt, alloc, words, files, input.as_slice(), end);
+        check_end(&rt, alloc, words, files, input.as_slice(), *end);
     }
 }
 

@@ -83,7 +83,8 @@ static LENGTHS: [(usize, &[u8], &[u8]); 3] = [
 #[test]
 fn movies_of_no_frames_and_of_the_most_are_made(rt: HostRuntime) {
     let alloc = rt.alloc();
-    for (frames, lines, replies) in LENGTHS {
+    for row in LENGTHS.iter() {
+        let (frames, lines, replies) = *row;
         let wanted = (replies, Ok(()));
         check_over_frames(&rt, alloc, ("frames", frames), frames, lines, wanted);
     }
@@ -125,7 +126,8 @@ fn faults_over_a_movie_come_in_order(rt: HostRuntime) {
         script,
         end,
     );
-    for (number, script, replies, line) in NOT_UNDERSTOOD {
+    for row in NOT_UNDERSTOOD.iter() {
+        let (number, script, replies, line) = *row;
         let wanted = (replies, Err(ToolFault::Script { line }));
         check_over_frames(&rt, alloc, ("case", number), 1, script, wanted);
     }
@@ -137,7 +139,7 @@ fn a_full_writer_ends_a_script_over_a_movie(rt: HostRuntime) {
     let cart = image_of(&rt, alloc, PLAYFIELD.bytes);
     let files = (cart.as_slice(), ONE_FRAME);
     let mut room = [0u8; 5];
-    let mut output = room.as_mut_slice();
-    let end = answer_over_movie(&rt, alloc, files, b"len\n", &mut output);
+    let end = answer_over_movie(&rt, alloc, files, b"len\n", &mut room.as_mut_slice());
     check_same(&rt, "end", end, Err(ToolFault::Write { written: 5 }));
+    check_same(&rt, "the first bytes", room.as_slice(), b"len 2");
 }

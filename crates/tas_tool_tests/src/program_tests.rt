@@ -250,7 +250,6 @@ fn no_memory_for_the_words_is_a_fault(rt: HostRuntime) {
 fn help_that_cannot_be_written_is_a_fault(rt: HostRuntime) {
     let alloc = rt.alloc();
     let mut room = [0u8; 20];
-    let mut output = room.as_mut_slice();
     let mut errors = Vec::new(alloc);
     let words = ["--version"];
     let code = run(
@@ -259,12 +258,14 @@ fn help_that_cannot_be_written_is_a_fault(rt: HostRuntime) {
         &words,
         only_game(b""),
         b"",
-        &mut output,
+        &mut room.as_mut_slice(),
         &mut errors,
     );
     check_same(&rt, "status", code, 1);
     let line = b"fault: write failed after 20 bytes\n".as_slice();
     check_same(&rt, "errors", errors.as_slice(), line);
+    let first = b"tas 0.1.0, machine p".as_slice();
+    check_same(&rt, "the first bytes", room.as_slice(), first);
 }
 
 /// A movie of the playfield's cartridge with three frames.

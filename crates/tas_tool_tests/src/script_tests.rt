@@ -154,8 +154,8 @@ static ROOMS: [(usize, ToolFault); 5] = [
 /// are written.
 #[test]
 fn replies_go_out_in_small_pieces(rt: HostRuntime) {
-    for (room, end) in ROOMS {
-        check_room(&rt, rt.alloc(), room, end);
+    for (room, end) in ROOMS.iter() {
+        check_room(&rt, rt.alloc(), *room, *end);
     }
 }
 
@@ -171,7 +171,8 @@ static UNREAD: [(usize, usize, ToolFault, usize); 5] = [
 #[test]
 fn a_script_that_is_not_read_is_not_answered(rt: HostRuntime) {
     let alloc = rt.alloc();
-    for (left, fails_at, fault, reads) in UNREAD {
+    for row in UNREAD.iter() {
+        let (left, fails_at, fault, reads) = *row;
         let mut input = Filler::new(b' ', left, fails_at);
         let case = ("bytes", left);
         check_script(&rt, alloc, case, &mut input, (b"", Err(fault)));

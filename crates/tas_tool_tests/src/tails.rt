@@ -1,36 +1,40 @@
 //! A writer that keeps the end of what it is given, for long answers.
 
-use std::alloc::Global;
 use std::io;
-use std::io::{Error, ErrorKind, Write};
+use std::io::Write;
+
+/// How many bytes are kept.
+const KEPT: usize = 100;
 
 /// A writer that counts the bytes it is given, and keeps the last ones.
 #[derive(Drop)]
 pub struct Tail {
     pub bytes: usize,
-    pub last: Vec<u8>,
+    /// The last bytes of all writes; zeros before the first byte.
+    last: [u8; KEPT],
 }
 
 impl Tail {
     /// A writer that was given nothing.
-    pub fn new(alloc: Global) -> Tail {
+    pub fn new() -> Tail {
         Tail {
             bytes: 0,
-            last: Vec::new(alloc),
+            last: [0; KEPT],
         }
+    }
+
+    /// Whether these are the last bytes that it was given.
+    pub fn ends_with(&self, bytes: &[u8]) -> bool {
+        bytes.len() <= self.bytes && self.last.as_slice().ends_with(bytes)
     }
 }
 
 impl Write for Tail {
     fn write(&mut self, buf: &[u8]) -> io::Result<usize> {
+        let new = buf.len().min(KEPT);
+        self.last.copy_within(new.., 0);
+        self.last[KEPT - new..].copy_from_slice(&buf[buf.len() - new..]);
         self.bytes = self.bytes.saturating_add(buf.len());
-        let from = buf.len().saturating_sub(100);
-        self.last.clear();
-        if let Some(last) = buf.get(from..) {
-            if self.last.extend_from_slice(last).is_err() {
-                return Err(Error::from(ErrorKind::OutOfMemory));
-            }
-        }
         Ok(buf.len())
     }
 

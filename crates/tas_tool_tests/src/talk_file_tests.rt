@@ -60,9 +60,9 @@ static OVER_TEXTS: &[u8] =
 fn conversations_go_on_from_a_movie(rt: HostRuntime) {
     let alloc = rt.alloc();
     let image = image_of(&rt, alloc, PLAYFIELD.bytes);
-    for text in TEXTS {
+    for text in TEXTS.iter() {
         let mut cart = image.as_slice();
-        let mut movie = text;
+        let mut movie = *text;
         let mut input = OVER_FILES;
         let mut output = Vec::new(alloc);
         let end = talk_from_movie(&rt, alloc, &mut cart, &mut movie, &mut input, &mut output);

@@ -392,9 +392,9 @@ fn a_failed_write_ends_the_conversation(rt: HostRuntime) {
     let end = talk(&rt, alloc, &mut { lines }, &mut whole);
     let whole = whole.as_slice();
     check_same(&rt, "end", end, Ok(()));
-    for room in ROOMS {
+    for room in ROOMS.iter() {
         for failure in [Failure::Error, Failure::Nothing] {
-            check_full(&rt, alloc, lines, whole, (room, failure));
+            check_full(&rt, alloc, lines, whole, (*room, failure));
         }
     }
     check_same(&rt, "whole", whole.len(), 100_880);

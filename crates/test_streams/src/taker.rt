@@ -7,7 +7,7 @@ use std::io;
 use std::io::{Error, ErrorKind, Write};
 
 /// What a writer has room for.
-#[derive(Clone, Copy, Debug, PartialEq, Eq)]
+#[derive(Clone, Copy)]
 pub enum Room {
     /// So many bytes.
     Bytes(usize),
@@ -16,7 +16,7 @@ pub enum Room {
 }
 
 /// What a write does when there is no room.
-#[derive(Clone, Copy, Debug, PartialEq, Eq)]
+#[derive(Clone, Copy)]
 pub enum Failure {
     /// It fails with `BrokenPipe`.
     Error,
