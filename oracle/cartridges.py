@@ -1,8 +1,8 @@
 """Random cartridges and movies for oracle/compare, made so that they use much of the machine.
 
 Everything comes from one random.Random, so a seed makes the same cases again. A cartridge is written instruction by
-instruction. There are four kinds: `soup` is a circle of short exercises, `kernel` draws pictures by a frame loop,
-`quick` is a kernel most of whose frames end after a few instructions, and `wild` is nearly noise.
+instruction. `soup` is a circle of short exercises, `kernel` draws pictures by a frame loop, `quick` and `long` are
+kernels most of whose frames end after a few instructions, `wild` is nearly noise, and `tiny` ends soon.
 """
 
 from hashlib import sha256
@@ -61,7 +61,7 @@ def random_cartridge(rng, kind):
         return wild_cartridge(rng, size)
     if kind == "soup":
         return Soup(rng, size).write()
-    return Kernel(rng, size, kind == "quick").write()
+    return Kernel(rng, size, {"kernel": (), "quick": (1, 3, 7, 15), "long": (15, 31)}[kind]).write()
 
 
 # ---- movies (docs/FORMATS.md, "Movie text") --------------------------------------------------------------------------

@@ -1,4 +1,4 @@
-"""Random cartridges of the kinds `kernel` and `quick`: frame loops that draw."""
+"""Random cartridges of the kinds `kernel`, `quick` and `long`: frame loops that draw."""
 
 import tia
 from writer import COUNTER, DATA, INPUTS, INSTAT, INTIM, SWCHA, TIM1T, UNDOCUMENTED, Writer
@@ -7,10 +7,12 @@ from writer import COUNTER, DATA, INPUTS, INSTAT, INTIM, SWCHA, TIM1T, UNDOCUMEN
 class Kernel(Writer):
     """A frame loop that draws: bands of lines, each with its own writes somewhere along the line."""
 
-    def __init__(self, rng, size, is_quick=False):
+    def __init__(self, rng, size, masks=()):
         super().__init__(rng, size)
-        self.is_quick = is_quick
-        self.latches_buttons = rng.random() < 0.3  # VBLANK's D6 stays set for many frames, and D1 clear
+        self.masks = masks  # a frame is drawn where the counter has none of the bits of one of these
+        self.is_quick = bool(masks)
+        # VBLANK's D6 stays set for many frames, and D1 clear.
+        self.latches_buttons = rng.random() < (0.5 if self.is_quick else 0.2)
         self.free = "AX"  # Y counts the lines of a band
 
     def write(self):
@@ -22,13 +24,11 @@ class Kernel(Writer):
         self.read_inputs()
         if self.is_quick:
             self.op("LDA", "zp", COUNTER)
-            self.load("AND", self.rng.choice((1, 3, 7, 15)))
+            self.load("AND", self.rng.choice(self.masks))
             self.loop_back("BNE", start)
         self.blank_lines()
         if self.latches_buttons:
-            for register, byte in ((tia.COLUBK, INPUTS), (tia.PF1, INPUTS + 1), (tia.PF2, INPUTS + 2)):
-                self.op("LDA", "zp", byte)
-                self.op("STA", "zp", register)
+            self.show_buttons()
         lines, wanted = 0, self.rng.choice((20, 80, 110, 140))
         while lines < wanted and self.room() > 400:
             lines += self.band()
@@ -42,6 +42,9 @@ class Kernel(Writer):
                 self.write_register(register, self.value_for(register))
         if self.latches_buttons:
             self.write_register(tia.VBLANK, 0x40)
+        if self.rng.random() < 0.3:
+            for port in range(4):
+                self.store_value(self.riot_address(port), self.value())
         for register in tia.PLACE_STROBES:
             self.delay()
             self.strobe(register)
@@ -101,7 +104,9 @@ class Kernel(Writer):
 
     def unlatch_in_some_frames(self):
         self.op("LDA", "zp", COUNTER)
-        self.load("AND", self.rng.choice((1, 3, 7, 15)))
+        mask = self.rng.choice((3, 7, 15))
+        self.load("AND", mask)
+        self.load("CMP", self.rng.randrange(mask + 1))
         ahead = self.branch_ahead("BNE")
         for value in (0x00, 0x40):
             self.load("LDA", value)
@@ -183,12 +188,19 @@ class Kernel(Writer):
                 self.write_register(register, self.value())
         self.strobe(self.rng.choice((tia.HMOVE, tia.HMOVE, tia.HMCLR)))
 
+    def show_buttons(self):
+        """Both buttons as they read now, and what was read before."""
+        for register, address in ((tia.COLUBK, 0x0C), (tia.GRP0, 0x0D), (tia.PF1, INPUTS), (tia.PF2, INPUTS + 1)):
+            self.op("LDA", "zp", address)
+            self.op("STA", "zp", register)
+        self.wait_for_lines(self.rng.randrange(1, 8))
+
     def shown_register(self):
         return self.rng.choice((tia.COLUBK, tia.COLUPF, tia.PF1, tia.PF2, tia.GRP0, tia.COLUP0, tia.COLUP1))
 
     def show(self, address):
         """What a read of the TIA gives becomes a colour or a shape."""
-        self.op("LDA", "abs", self.tia_address(address) + self.rng.choice((0, 16, 32)))
+        self.op("LDA", "abs", self.tia_address(address) + self.rng.choice((0, 16, 32, 48)))
         if self.rng.random() < 0.5:
             self.load("ORA", self.rng.randrange(64))
         self.op("STA", "zp", self.shown_register())

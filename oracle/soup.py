@@ -73,8 +73,8 @@ class Soup(Writer):
             self.store_value(0xFF - byte, self.rng.choice(DOCUMENTED))
         self.op("JMP", "target", self.rng.choice((
             self.rng.randrange(128), self.riot_address(self.rng.randrange(4)),
-            self.riot_address(self.rng.randrange(32)), self.rng.randrange(0xF0, 0x100), 0xFFFF,
-            self.rng.randrange(65536))))
+            self.riot_address(self.rng.randrange(32)), self.rng.randrange(0xF0, 0x100),
+            self.rng.randrange(0xFFF8, 0x10000), self.rng.randrange(65536))))
 
     def operand_is_timer(self):
         """Code in a port whose immediate operand is INTIM: then INSTAT, the next opcode, tells the flag still."""
@@ -380,7 +380,7 @@ class Soup(Writer):
         for _ in range(self.rng.randrange(1, 5)):
             name = self.rng.choice(("LDA", "LDX", "LDY", "BIT", "EOR", "ASL", "INC"))
             address = self.tia_address(self.rng.randrange(16))
-            self.op(name, "abs", address + self.rng.choice((0, 16, 32)))
+            self.op(name, "abs", address + self.rng.choice((0, 16, 32, 48)))
 
     def sync(self):
         if self.is_long or self.rng.random() < 0.6:

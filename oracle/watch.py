@@ -18,6 +18,7 @@ WANTED = {
     "RIOT reads": 2 + len(PORTS),
     "collisions read": len(COLLISIONS),
     "clocks of strobes": len(STROBES_WITH_CLOCKS) * tia.CLOCKS_OF_A_LINE // 3,
+    "clocks of WSYNC": tia.CLOCKS_OF_A_LINE // 3,
     "page crossings": 4,
     "decimal sums": 2,
     "places of code": 5,
@@ -95,6 +96,8 @@ class WatchedMachine(machine.Machine):
         self.note("TIA writes", register)
         if register in STROBES_WITH_CLOCKS:
             self.note("clocks of strobes", (register, self.tia.h))
+        elif register == tia.WSYNC:
+            self.note("clocks of WSYNC", self.tia.h)
         elif register in (tia.NUSIZ0, tia.NUSIZ1):
             self.note("NUSIZ values", (register, value % 8, value // 16 % 4))
         elif register == tia.CTRLPF:
