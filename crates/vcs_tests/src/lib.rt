@@ -26,3 +26,5 @@ mod riot_tests;
 mod tia_tests;
 #[cfg(test)]
 mod trace_tests;
+#[cfg(test)]
+mod worked_tests;
