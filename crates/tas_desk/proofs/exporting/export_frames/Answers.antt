@@ -1,3 +1,4 @@
+use Rattle.std.proofs.lemmas.Grind.{common_steps}
 use Rattle.std.proofs.Common.{◌≡◌, ◌-◌, ◌∙◌, ap, subst, refl, ℕ, List, length, Some, arith, rules}
 use Rattle.std.specs.Io.KnownBytes.{Appends}
 use Rattle.counted_write.specs.CutOff.{IsCutOff}
@@ -44,3 +45,6 @@ returns-clause-fault g c =
       drawn.all,
       subst (λ (bytes : List ℕ). IsCutOff (g.W.Write.contents c.args.to.now) (g.W.Write.contents c.write_pixmaps.new.to) bytes c.in-Err.fault.written) drawn.are c.in-Err.ensures.cut,
     )
+
+pub play_runs-end-requires-clause-empty : goal.play_runs-end-requires-clause-empty
+play_runs-end-requires-clause-empty g c = grind (arith, common_steps)

@@ -1,3 +1,4 @@
+use Rattle.std.proofs.Common.{arith}
 use Rattle.tas_desk.proofs.PublishedRule.{looks}
 use Rattle.tas_desk.proofs.movie_reader.look_input.Goals as goal
 

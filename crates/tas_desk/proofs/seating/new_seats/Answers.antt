@@ -1,3 +1,4 @@
+use Rattle.std.proofs.lemmas.Grind.{common_steps}
 use Rattle.std.proofs.Common.{◌≡◌, ◌+◌, ◌<◌, ◌∷◌, ℕ, [], List, length, ap, sym, ◌∙◌, subst, arith, length-append}
 use Rattle.std.specs.Prelude.{slice_get, Some}
 use Rattle.tas_desk.specs.Seats.{SeatContent, seat_of}
@@ -17,3 +18,9 @@ loop-number-preserved g c =
       fresh = subst (λ (xs : List (SeatContent _)). (k : ℕ) → k < c.loop-number.number + 1 → slice_get xs k ≡ Some (seat_of k 0 [] (blank_zone g.N.Name.registry))) (sym items)
           (fresh_more (blank_zone g.N.Name.registry) c.loop-number.seats.items c.in_ok-seat.seat c.loop-number.number i.seats i.fresh e.seat);
     }
+
+pub returns-in-Err-clause-session : goal.returns-in-Err-clause-session
+returns-in-Err-clause-session g c = grind (arith, common_steps)
+
+pub loop-number-init : goal.loop-number-init
+loop-number-init g c = grind (arith, common_steps)

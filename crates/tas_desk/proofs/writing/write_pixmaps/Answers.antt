@@ -1,3 +1,4 @@
+use Rattle.std.proofs.lemmas.Grind.{common_steps}
 use Rattle.std.proofs.Common.{◌+◌, ◌-◌, ◌≤◌, ◌∙◌, ◌++◌, ap, subst, ℕ, List, length, take, arith}
 use Rattle.std.proofs.lemmas.List.{length-append}
 use Rattle.std.proofs.lemmas.Result.{err_from_is_err_and}
@@ -54,3 +55,9 @@ loop-run-preserved g c =
       out = subst (Appends _ _) (ap (λ (bs : List ℕ). concat (take i xs) ++ bs) c.bytes.ensures ∙ more)
           (Appends-trans _ _ _ _ _ c.loop-run.invariant.out c.in_ok-written.ensures.all);
     }
+
+pub returns-clause-ok : goal.returns-clause-ok
+returns-clause-ok g c = grind (arith, common_steps)
+
+pub loop-run-init : goal.loop-run-init
+loop-run-init g c = grind (arith, common_steps)

@@ -1,3 +1,4 @@
+use Rattle.std.proofs.lemmas.Grind.{common_steps}
 use Rattle.std.proofs.Common.{◌++◌, ◌∷◌, [], refl, sym, subst, ◌∙◌, ap, arith}
 use Rattle.std.proofs.lemmas.Bool.{eqb-false}
 use Rattle.tas_movie.specs.Edit.{edited, IsAllowed}
@@ -49,3 +50,9 @@ loop-rest-preserved g c =
         room = omega (arith, i.room, shorter);
       },
     )
+
+pub returns : goal.returns
+returns g c = grind (arith, common_steps)
+
+pub loop-rest-smaller : goal.loop-rest-smaller
+loop-rest-smaller g c = grind (arith, common_steps)

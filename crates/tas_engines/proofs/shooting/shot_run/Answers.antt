@@ -1,4 +1,5 @@
-use Rattle.std.proofs.Common.{ap, ◌∙◌, Err}
+use Rattle.std.proofs.lemmas.Grind.{common_steps}
+use Rattle.std.proofs.Common.{ap, ◌∙◌, Err, arith}
 use Rattle.std.proofs.lemmas.Result.{err_from_is_err_and}
 use Rattle.tas_engines.specs.Movies.{IsShotAnswer}
 use Rattle.tas_engines.proofs.EngineEnds.{movie_ran}
@@ -9,3 +10,6 @@ returns-in_err-shoot_movie g c =
     let told = err_from_is_err_and c.from_residual-in_err-shoot_movie.result c.from_residual-in_err-shoot_movie.ensures.1 in
     movie_ran (IsShotAnswer c.args.k) _ _ _ _ _ _ _ c.as_slice.result.now _ c.as_slice-2.result.now (Err c.in_err-shoot_movie.field-0.0) _ c.in_ok-image.ensures.first c.as_slice.ensures.value c.in_ok-image.ensures.second c.as_slice-2.ensures.value c.in_err-shoot_movie.ensures
     (told.1 ∙ ap Err told.2)
+
+pub returns : goal.returns
+returns g c = grind (arith, common_steps)

@@ -1,3 +1,4 @@
+use Rattle.std.proofs.lemmas.Grind.{common_steps}
 use Rattle.std.proofs.Common.{◌≤◌, ◌+◌, ◌++◌, ◌∙◌, length, take, drop, ap, append_assoc, arith}
 use Rattle.tas_movie.specs.Content.{MovieContent}
 use Rattle.tas_movie.proofs.EditLemmas.{place_within, insert_within, front_stays}
@@ -17,3 +18,15 @@ returns-in-Delete-clause-before g c =
     let end = place_within (length c.args.movie.now.inputs) c.in-Delete.at (c.in-Delete.at + c.in-Delete.count) (rw c.in-Delete.is at c.requires) in
     let le : c.in-Delete.at ≤ length c.args.movie.now.inputs = omega (arith, end) in
     rw c.in-Delete.is (front_stays c.in-Delete.at c.movie.inside.list.items c.args.movie.now.inputs _ c.delete_at.new.list.items (ap (λ (m : MovieContent). m.inputs) c.movie.view_is) le c.delete_at.ensures.items)
+
+pub returns-in-Replace-clause-movie : goal.returns-in-Replace-clause-movie
+returns-in-Replace-clause-movie g c = grind (arith, common_steps)
+
+pub invariant_of-movie-in-Insert : goal.invariant_of-movie-in-Insert
+invariant_of-movie-in-Insert g c = grind (arith, common_steps)
+
+pub invariant_of-movie-in-Delete : goal.invariant_of-movie-in-Delete
+invariant_of-movie-in-Delete g c = grind (arith, common_steps)
+
+pub returns-in-Replace-clause-before : goal.returns-in-Replace-clause-before
+returns-in-Replace-clause-before g c = grind (arith, common_steps)

@@ -1,3 +1,4 @@
+use Rattle.std.proofs.lemmas.Grind.{common_steps}
 use Rattle.std.proofs.Common.{◌≡◌, ◌↔◌, ℕ, Bool, false, List, get_or, Some, arith}
 use Rattle.std.specs.Prelude.{slice_get, IsTrue}
 use Rattle.std.proofs.lemmas.Bool.{both_ways}
@@ -14,3 +15,6 @@ returns-else-eq-clause-longest c = λ lt is. other_there c.args.inputs.now c.loo
 
 pub returns-after-loop-count-clause-longest : goal.returns-after-loop-count-clause-longest
 returns-after-loop-count-clause-longest c = λ lt. absurd (omega (arith, lt))
+
+pub loop-count-preserved : goal.loop-count-preserved
+loop-count-preserved c = grind (arith, common_steps)

@@ -1,3 +1,4 @@
+use Rattle.std.proofs.lemmas.Grind.{common_steps}
 use Rattle.std.proofs.Common.{sym, ◌∙◌, arith, rules}
 use Rattle.std.proofs.lemmas.Bool.{eqb-false, eqb-true}
 use Rattle.tas_movie.proofs.RunTextLemmas.{count_is, no_count, same_count, digits_are, long_count}
@@ -29,3 +30,6 @@ returns-then-count-gt-MAX_FRAMES-clause-none c = λ n le few is.
 
 pub returns-clause-some : goal.returns-clause-some
 returns-clause-some c = (search rules, omega arith, omega arith)
+
+pub returns-in_err-count-clause-some : goal.returns-in_err-count-clause-some
+returns-in_err-count-clause-some c = grind (arith, common_steps)

@@ -1,3 +1,4 @@
+use Rattle.std.proofs.Common.{arith}
 use Rattle.tas_engines.specs.Movies.{IsMovieRun, IsCheckAnswer, IsMigrateAnswer}
 use Rattle.tas_program.proofs.ProgramLemmas.{over_one}
 use Rattle.tas_program.proofs.running.run_task.Goals as goal

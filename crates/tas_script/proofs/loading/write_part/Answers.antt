@@ -1,3 +1,4 @@
+use Rattle.std.proofs.lemmas.Grind.{common_steps}
 use Rattle.std.proofs.Common.{◌≡◌, ◌*◌, length, arith, ap, sym, ◌∙◌}
 use Rattle.std.proofs.lemmas.Option.{IfSome_then}
 use Rattle.tas_script.specs.Parts.{Part, IsPart}
@@ -35,3 +36,6 @@ returns-clause-written c = IfSome_then c.write_bytes.result c.write_bytes.ensure
 pub returns-clause-other : goal.returns-clause-other
 returns-clause-other c = none_then _ _ c.write_bytes.result c.write_bytes.ensures.other (λ never part is-part is.
     never part.bytes is-part.bytes (word_read c.args.word.now c.split_at.result.1.now part is c.split_at.ensures.back).2)
+
+pub returns-in_err-offset-clause-other : goal.returns-in_err-offset-clause-other
+returns-in_err-offset-clause-other c = grind (arith, common_steps)

@@ -1,3 +1,4 @@
+use Rattle.std.proofs.lemmas.Grind.{common_steps}
 use Rattle.std.proofs.Common.{ℕ, ◌∙◌, [], ◌++◌, ◌∷◌, length, refl, ap, sym, subst, arith}
 use Rattle.std.proofs.lemmas.Bool.{eqb-true, eqb-false}
 use Rattle.tas_script.specs.Parts.{IsPart, AreParts, overwritten_by_all, overwritten}
@@ -43,3 +44,9 @@ pub returns-clause-written : goal.returns-clause-written
 returns-clause-written c =
     let (len, done, i) = c.loop-rest.invariant in
     all_written c.args.text.now c.loop-rest.rest.now c.args.image.now c.loop-rest.image done (eqb-false _ _ (sym c.is_empty.ensures ∙ c.if-is_empty.false)) (eqb-true _ _ (sym c.is_empty-in-loop-rest.ensures ∙ c.loop-rest-test.false)) i.are i.text i.image
+
+pub loop-rest-smaller : goal.loop-rest-smaller
+loop-rest-smaller c = grind (arith, common_steps)
+
+pub returns-in_err-rest-clause-written : goal.returns-in_err-rest-clause-written
+returns-in_err-rest-clause-written c = grind (arith, common_steps)

@@ -1,3 +1,4 @@
+use Rattle.std.proofs.lemmas.Grind.{common_steps}
 use Rattle.std.proofs.Common.{refl, arith, rules}
 use Rattle.tas_desk.proofs.SeatLemmas.{once_more, whole_of}
 use Rattle.tas_desk.proofs.desk.Desk.whole.Goals as goal
@@ -10,3 +11,6 @@ loop-k-preserved g c = once_more c.args.seats.now c.loop-k.k c.loop-k.invariant 
 
 pub returns : goal.returns
 returns g c = (λ _. whole_of _ _ c.args.seats.now c.loop-k.k c.self.invariant c.if-seats-self.false (c.below.ensures.0 c.if-not-below.false) c.loop-k-test.false c.loop-k.invariant, λ _. refl)
+
+pub returns-then-seats-self : goal.returns-then-seats-self
+returns-then-seats-self g c = grind (arith, common_steps)

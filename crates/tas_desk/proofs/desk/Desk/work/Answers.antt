@@ -1,3 +1,4 @@
+use Rattle.std.proofs.lemmas.Grind.{common_steps}
 use Rattle.std.proofs.Common.{arith}
 use Rattle.tas_desk.proofs.SeatLemmas.{looked_twice}
 use Rattle.tas_desk.proofs.WorkLemmas.{keeps_before, still_current}
@@ -13,3 +14,6 @@ loop-near-preserved g c = record {
 
 pub returns-in-Err-clause-current : goal.returns-in-Err-clause-current
 returns-in-Err-clause-current g c = λ keeps. c.loop-near.invariant.current (keeps_before _ _ _ c.work_one.ensures.seat.seen.begins keeps)
+
+pub returns-in-Err-clause-seat : goal.returns-in-Err-clause-seat
+returns-in-Err-clause-seat g c = grind (arith, common_steps)

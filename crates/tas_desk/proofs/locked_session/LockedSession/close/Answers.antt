@@ -1,3 +1,4 @@
+use Rattle.std.proofs.lemmas.Grind.{common_steps}
 use Rattle.std.proofs.Common.{◌≡◌, ap, sym, ◌∙◌, List, subst, All, length, arith}
 use Rattle.tas_desk.specs.declared.entry.Entry.{Entry}
 use Rattle.tas_desk.specs.Seats.{IsSettled}
@@ -28,3 +29,9 @@ loop-seat-init g c = joined_none _ _ _ _ c.self.invariant.2 c.self.invariant.3
 
 pub returns-clause-legal : goal.returns-clause-legal
 returns-clause-legal g c = subst (λ (l : List (Entry _)). IsLegal l) c.self.view_is c.close.ensures.legal
+
+pub returns-clause-movie : goal.returns-clause-movie
+returns-clause-movie g c = grind (arith, common_steps)
+
+pub returns-clause-journal : goal.returns-clause-journal
+returns-clause-journal g c = grind (arith, common_steps)

@@ -1,4 +1,5 @@
-use Rattle.std.proofs.Common.{ap, rules}
+use Rattle.std.proofs.lemmas.Grind.{common_steps}
+use Rattle.std.proofs.Common.{ap, rules, arith}
 use Rattle.std.proofs.lemmas.Result.{err_from_is_err_and}
 use Rattle.tas_desk.specs.Seats.{SeatContent}
 use Rattle.tas_desk.proofs.EntryLemmas.{refused_as, refusal_answered, receipt_answered}
@@ -27,3 +28,18 @@ returns-in_err-receipt-clause-answered g c =
 
 pub returns-clause-answered : goal.returns-clause-answered
 returns-clause-answered g c = receipt_answered c.self.inside.session _ _ _ c.args.edit _ c.in_ok-receipt.ensures.refusal c.in_ok-receipt.ensures.receipt c.show_to.ensures.history c.self.view_is
+
+pub invariant_of-seat : goal.invariant_of-seat
+invariant_of-seat g c = grind (arith, common_steps)
+
+pub invariant_of-seat-2 : goal.invariant_of-seat-2
+invariant_of-seat-2 g c = grind (arith, common_steps)
+
+pub overflow_add-seat : goal.overflow_add-seat
+overflow_add-seat g c = grind (arith, common_steps)
+
+pub invariant_of-self-2 : goal.invariant_of-self-2
+invariant_of-self-2 g c = grind (arith, common_steps)
+
+pub returns-clause-begins : goal.returns-clause-begins
+returns-clause-begins g c = grind (arith, common_steps)

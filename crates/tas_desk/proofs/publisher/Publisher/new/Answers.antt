@@ -1,4 +1,5 @@
-use Rattle.std.proofs.Common.{◌∙◌, ap}
+use Rattle.std.proofs.lemmas.Grind.{common_steps}
+use Rattle.std.proofs.Common.{◌∙◌, ap, arith}
 use Rattle.tas_movie.specs.Content.{blank_movie}
 use Rattle.tas_desk.specs.Published.{published_of}
 use Rattle.tas_desk.proofs.PublishedRule.{opened_as}
@@ -8,3 +9,6 @@ pub invariant_of-result : goal.invariant_of-result
 invariant_of-result g c =
     let made = c.in_ok-writer.ensures in
     opened_as _ _ c.new-latest.result _ _ made.none (made.value ∙ ap (published_of blank_movie 0) c.version.ensures) c.new-latest.ensures c.new.ensures.items made.view
+
+pub returns : goal.returns
+returns g c = grind (arith, common_steps)

@@ -1,4 +1,5 @@
-use Rattle.std.proofs.Common.{ap, sym, ◌∙◌, subst}
+use Rattle.std.proofs.lemmas.Grind.{common_steps}
+use Rattle.std.proofs.Common.{ap, sym, ◌∙◌, subst, arith}
 use Rattle.tas_desk.specs.Version.{VersionContent}
 use Rattle.tas_desk.specs.Session.{IsNextEntry}
 use Rattle.tas_desk.specs.Published.{PublisherContent}
@@ -54,3 +55,9 @@ returns-after-is_err-clause-refused g c =
           on_err _ answer (left_as _ _ _ _ _ _ _ c.self.view_is registry back (ap (λ p. p.movie) (where_err _ _ answer failed e.value)))
       | else-is_err w ↦ not_err _ answer (sym c.is_err.ensures.value ∙ w.if-is_err.false)
     ]
+
+pub returns-in-Err-clause-refused : goal.returns-in-Err-clause-refused
+returns-in-Err-clause-refused g c = grind (arith, common_steps)
+
+pub invariant_of-publisher-in-Err : goal.invariant_of-publisher-in-Err
+invariant_of-publisher-in-Err g c = grind (arith, common_steps)

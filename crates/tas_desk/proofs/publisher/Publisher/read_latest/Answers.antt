@@ -1,4 +1,5 @@
-use Rattle.std.proofs.Common.{List, ap, sym, ◌∙◌, subst, rules}
+use Rattle.std.proofs.lemmas.Grind.{common_steps}
+use Rattle.std.proofs.Common.{List, ap, sym, ◌∙◌, subst, rules, arith}
 use Rattle.left_right.specs.Sides.{view}
 use mathlib.Core.List.{IsPrefix}
 use Rattle.tas_desk.specs.declared.entry.Entry.{Entry}
@@ -23,3 +24,9 @@ returns-then-is_latest-clause-begins g c =
     ∙ c.self.invariant.same
     ∙ ap (λ (p : PublisherContent _). p.journal) c.self.view_is in
     subst (λ (l : List (Entry _)). IsPrefix (view c.args.reader.place).seen l) now (prefix_trans _ _ _ c.loop.invariant.begins c.in-Ok.ensures.1.fits.begins)
+
+pub loop-preserved-else-is_latest : goal.loop-preserved-else-is_latest
+loop-preserved-else-is_latest g c = grind (arith, common_steps)
+
+pub loop-preserved : goal.loop-preserved
+loop-preserved g c = grind (arith, common_steps)

@@ -1,3 +1,4 @@
+use Rattle.std.proofs.lemmas.Grind.{common_steps}
 use Rattle.std.proofs.Common.{◌+◌, arith}
 use Rattle.tas_desk.proofs.RunLemmas.{next_within}
 use Rattle.tas_desk.proofs.runs.Run.play.Goals as goal
@@ -7,3 +8,9 @@ play_run-self-requires-clause-within g c =
     let p = c.requires.plan in
     let high = next_within c.args.plan (c.args.number + 1) p.some p.order (omega arith) in
     omega (arith, high, c.first_of_run-next.ensures, p.within)
+
+pub play_run-self-requires-clause-few : goal.play_run-self-requires-clause-few
+play_run-self-requires-clause-few g c = grind (arith, common_steps)
+
+pub play_run-self-requires-clause-order : goal.play_run-self-requires-clause-order
+play_run-self-requires-clause-order g c = grind (arith, common_steps)

@@ -1,4 +1,5 @@
-use Rattle.std.proofs.Common.{ap, sym, subst, subst₂, refl}
+use Rattle.std.proofs.lemmas.Grind.{common_steps}
+use Rattle.std.proofs.Common.{ap, sym, subst, subst₂, refl, arith}
 use Rattle.tas_green.specs.Green.{IsShotFrom}
 use Rattle.tas_desk.specs.Version.{VersionContent}
 use Rattle.tas_desk.specs.Seats.{SeatContent}
@@ -51,3 +52,21 @@ returns-clause-seat g c = seen_more c.self.inside.reader c.copy.new.self _ _ _ c
 
 pub returns-in_default-shot-clause-seat : goal.returns-in_default-shot-clause-seat
 returns-in_default-shot-clause-seat g c = seen_more c.self.inside.reader c.copy.new.self _ _ _ c.self.inside.zone c.shot.new.self c.self.view_is c.in_ok-at.ensures.0
+
+pub invariant_of-self : goal.invariant_of-self
+invariant_of-self g c = grind (arith, common_steps)
+
+pub returns-in_err-at-clause-seat : goal.returns-in_err-at-clause-seat
+returns-in_err-at-clause-seat g c = grind (arith, common_steps)
+
+pub returns-in_default-clause-seat : goal.returns-in_default-clause-seat
+returns-in_default-clause-seat g c = grind (arith, common_steps)
+
+pub returns-in_default-shot-clause-zone : goal.returns-in_default-shot-clause-zone
+returns-in_default-shot-clause-zone g c = grind (arith, common_steps)
+
+pub returns-in_default-clause-zone : goal.returns-in_default-clause-zone
+returns-in_default-clause-zone g c = grind (arith, common_steps)
+
+pub shot-requires-clause-within : goal.shot-requires-clause-within
+shot-requires-clause-within g c = grind (arith, common_steps)

@@ -1,4 +1,5 @@
-use Rattle.std.proofs.Common.{List, ap, sym, ◌∙◌}
+use Rattle.std.proofs.lemmas.Grind.{common_steps}
+use Rattle.std.proofs.Common.{List, ap, sym, ◌∙◌, arith}
 use Rattle.tas_desk.specs.declared.entry.Entry.{Entry}
 use Rattle.tas_desk.specs.Version.{VersionContent}
 use Rattle.tas_desk.specs.History.{movie_of}
@@ -9,3 +10,6 @@ pub invariant_of-result : goal.invariant_of-result
 invariant_of-result g c = record {
   whole = c.in_ok-movie.ensures ∙ sym (movie_of-none _) ∙ ap (λ (h : List (Entry _)). movie_of h) (sym (ap (λ (m : VersionContent _). m.history) c.copy.ensures ∙ c.requires));
 }
+
+pub returns : goal.returns
+returns g c = grind (arith, common_steps)

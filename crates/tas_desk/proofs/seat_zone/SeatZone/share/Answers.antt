@@ -1,5 +1,6 @@
+use Rattle.std.proofs.lemmas.Grind.{common_steps}
 use Rattle.std.specs.Prelude.{IfOk}
-use Rattle.std.proofs.Common.{◌≡◌, sym, subst, rules}
+use Rattle.std.proofs.Common.{◌≡◌, sym, subst, rules, arith}
 use Rattle.tas_desk.specs.Zones.{ZoneContent, Shares}
 use Rattle.tas_desk.proofs.ZoneLemmas.{shared_in_place}
 use Rattle.tas_desk.proofs.seat_zone.SeatZone.share.Goals as goal
@@ -12,3 +13,15 @@ returns-then-is_same-clause-gained g c =
 
 pub returns-clause-gained : goal.returns-clause-gained
 returns-clause-gained g c = search rules
+
+pub invariant_of-self-in_err-gained : goal.invariant_of-self-in_err-gained
+invariant_of-self-in_err-gained g c = grind (arith, common_steps)
+
+pub gain-requires-clause-other : goal.gain-requires-clause-other
+gain-requires-clause-other g c = grind (arith, common_steps)
+
+pub gain_from-requires-clause-other : goal.gain_from-requires-clause-other
+gain_from-requires-clause-other g c = grind (arith, common_steps)
+
+pub returns-clause-made_for : goal.returns-clause-made_for
+returns-clause-made_for g c = grind (arith, common_steps)

@@ -1,4 +1,5 @@
-use Rattle.std.proofs.Common.{◌∙◌, ap, length, rules}
+use Rattle.std.proofs.lemmas.Grind.{common_steps}
+use Rattle.std.proofs.Common.{◌∙◌, ap, length, rules, arith}
 use Rattle.tas_desk.specs.Published.{PublisherContent}
 use Rattle.tas_desk.specs.Session.{SessionContent}
 use Rattle.tas_desk.proofs.HistoryLemmas.{sound_edited, counted_after, same_next}
@@ -18,3 +19,12 @@ invariant_of-self-2 g c =
 
 pub returns-clause-done : goal.returns-clause-done
 returns-clause-done g c = search rules
+
+pub add-requires-clause-bound : goal.add-requires-clause-bound
+add-requires-clause-bound g c = grind (arith, common_steps)
+
+pub invariant_of-self : goal.invariant_of-self
+invariant_of-self g c = grind (arith, common_steps)
+
+pub invariant_of-self-in_err-push : goal.invariant_of-self-in_err-push
+invariant_of-self-in_err-push g c = grind (arith, common_steps)

@@ -1,3 +1,4 @@
+use Rattle.std.proofs.lemmas.Grind.{common_steps}
 use Rattle.std.proofs.Common.{◌≡◌, ℕ, ◌+◌, ◌-◌, ◌≤◌, Some, length, ap, sym, ◌∙◌, subst₂, arith}
 use Rattle.tas_movie.specs.Content.{MovieContent}
 use Rattle.tas_green.specs.Green.{HoldsGrid}
@@ -42,3 +43,36 @@ returns-clause-kept g c =
     was_played _ _ _ _ c.in-Ok-played.end _ _ _ c.shown.ensures.shot c.shown.ensures.halted
     (subst₂ (λ movie zone. (f : ℕ) → state_at f c.shot-played.new.self ≡ first_of (state_at f zone) (where_true (is_passed (stride (length movie.inputs)) (nearest c.args.k zone) (c.args.k + 1) f) (Some (state_after movie f))))
     movie (ap (λ (s : SessionContent _). s.zone) c.self.view_is) c.in-Ok-played.ensures.kept)
+
+pub invariant_of-self-2 : goal.invariant_of-self-2
+invariant_of-self-2 g c = grind (arith, common_steps)
+
+pub invariant_of-self : goal.invariant_of-self
+invariant_of-self g c = grind (arith, common_steps)
+
+pub returns-in_default-played-clause-same : goal.returns-in_default-played-clause-same
+returns-in_default-played-clause-same g c = grind (arith, common_steps)
+
+pub returns-in_default-played-clause-reply : goal.returns-in_default-played-clause-reply
+returns-in_default-played-clause-reply g c = grind (arith, common_steps)
+
+pub returns-in_default-played-clause-kept : goal.returns-in_default-played-clause-kept
+returns-in_default-played-clause-kept g c = grind (arith, common_steps)
+
+pub returns-clause-same : goal.returns-clause-same
+returns-clause-same g c = grind (arith, common_steps)
+
+pub shot-played-requires-clause-lawful : goal.shot-played-requires-clause-lawful
+shot-played-requires-clause-lawful g c = grind (arith, common_steps)
+
+pub returns-in_default-played-clause-registry : goal.returns-in_default-played-clause-registry
+returns-in_default-played-clause-registry g c = grind (arith, common_steps)
+
+pub returns-clause-registry : goal.returns-clause-registry
+returns-clause-registry g c = grind (arith, common_steps)
+
+pub shot-played-requires-clause-within : goal.shot-played-requires-clause-within
+shot-played-requires-clause-within g c = grind (arith, common_steps)
+
+pub shot-played-requires-clause-room : goal.shot-played-requires-clause-room
+shot-played-requires-clause-room g c = grind (arith, common_steps)

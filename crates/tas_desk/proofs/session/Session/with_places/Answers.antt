@@ -1,4 +1,5 @@
-use Rattle.std.proofs.Common.{ap}
+use Rattle.std.proofs.lemmas.Grind.{common_steps}
+use Rattle.std.proofs.Common.{ap, arith}
 use Rattle.tas_desk.specs.Published.{PublisherContent}
 use Rattle.tas_desk.proofs.HistoryLemmas.{sound_opened, counted_none}
 use Rattle.tas_desk.proofs.session.Session.with_places.Goals as goal
@@ -10,3 +11,6 @@ invariant_of-result g c =
       sound_opened c.in_ok-new.field-0.journal c.in_ok-new.field-0.movie c.new-green.result none blank (c.new-green.ensures.lawful c.in_ok-new.field-0.movie),
       λ seat. counted_none c.in_ok-new.field-0.journal seat _ none (c.new-counts.ensures seat),
     )
+
+pub returns : goal.returns
+returns g c = grind (arith, common_steps)

@@ -1,4 +1,5 @@
-use Rattle.std.proofs.Common.{◌≡◌, length, Bool, MatchBool, sym, ◌∙◌, ap, subst, ◌∷◌, [], ◌++◌}
+use Rattle.std.proofs.lemmas.Grind.{common_steps}
+use Rattle.std.proofs.Common.{◌≡◌, length, Bool, MatchBool, sym, ◌∙◌, ap, subst, ◌∷◌, [], ◌++◌, arith}
 use Rattle.tas_desk.specs.Registry.{latest}
 use Rattle.tas_desk.proofs.RegistryLemmas.{exchange_keeps, latest-push}
 use Rattle.tas_desk.proofs.version.Version.try_renew.Goals as goal
@@ -23,3 +24,6 @@ returns-clause-history g c = λ found.
     let ask = c.plain-offer.result.ask in
     let grown : now ≡ was ++ ask ∷ [] = subst (λ (b : Bool). MatchBool b (now ≡ was ++ ask ∷ []) (length now ≡ c.compare_exchange-found.result)) found c.compare_exchange-found.ensures.7 in
     ap latest grown ∙ latest-push was ask ∙ c.plain-offer.ensures.1
+
+pub invariant_of-self : goal.invariant_of-self
+invariant_of-self g c = grind (arith, common_steps)

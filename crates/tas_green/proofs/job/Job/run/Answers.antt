@@ -1,3 +1,5 @@
+use Rattle.std.proofs.Common.{arith}
+use Rattle.std.proofs.lemmas.Grind.{common_steps}
 use Rattle.tas_green.proofs.JobLemmas.{ran_right}
 use Rattle.tas_green.proofs.job.Job.run.Goals as goal
 
@@ -20,3 +22,6 @@ pass_span-requires-clause-start g c = rw c.as_slice-2.ensures c.self.invariant.s
 
 pub pass_span-requires-clause-rising : goal.pass_span-requires-clause-rising
 pass_span-requires-clause-rising g c = rw c.self.invariant.none tt
+
+pub pass_span-requires-clause-room : goal.pass_span-requires-clause-room
+pass_span-requires-clause-room g c = grind (arith, common_steps)
