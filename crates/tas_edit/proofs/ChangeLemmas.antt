@@ -9,9 +9,9 @@ use Rattle.tas_movie.specs.Content.{MovieContent, most_inputs}
 use Rattle.tas_movie.specs.Edit.{edited, IsAllowed, spliced}
 use Rattle.tas_movie.specs.declared.edit.EditRefusal.{EditRefusal}
 use Rattle.tas_movie.specs.declared.edit.EditRefusal.TheVariants.{Place}
-use Rattle.tas_script.specs.declared.command.Command.{Command}
-use Rattle.tas_script.specs.declared.command.Command.TheVariants as command
-use Rattle.tas_script.specs.Commands.{Says}
+use Rattle.tas_language.specs.declared.command.Command.{Command}
+use Rattle.tas_language.specs.declared.command.Command.TheVariants as command
+use Rattle.tas_language.specs.Commands.{Says}
 use Rattle.tas_edit.specs.declared.change.Change.{Change}
 use Rattle.tas_edit.specs.declared.change.Change.TheVariants.{Insert, Replace, Delete}
 use Rattle.tas_edit.specs.Changes.{HasNumbers, HaveNumbers, IsChangeLine, edit_of, changed_by, AreAllowed}

@@ -5,8 +5,8 @@ use Rattle.std.proofs.lemmas.List.{append-nil}
 use Rattle.std.specs.List.{flat_map}
 use Rattle.tas_movie.specs.Content.{MovieContent}
 use Rattle.tas_movie.specs.declared.edit.EditRefusal.TheVariants.{Place, Long}
-use Rattle.tas_script.specs.Commands.{NoByte}
-use Rattle.tas_script.proofs.WordLemmas.{no_parts, same_front}
+use Rattle.tas_language.specs.Commands.{NoByte}
+use Rattle.tas_language.proofs.WordLemmas.{no_parts, same_front}
 use Rattle.tas_edit.specs.declared.change.Change.{Change}
 use Rattle.tas_edit.specs.declared.making.ChangeError.{ChangeError}
 use Rattle.tas_edit.specs.declared.making.ChangeError.TheVariants.{Refused, Memory}

@@ -4,9 +4,9 @@ use Rattle.tas_movie.specs.Content.{MovieContent}
 use Rattle.tas_movie.specs.declared.edit.Edit.{Edit}
 use Rattle.tas_movie.specs.declared.edit.Edit.TheVariants as edit
 use Rattle.tas_movie.specs.Edit.{refusal, edited, IsAllowed}
-use Rattle.tas_script.specs.declared.command.Command.{Command}
-use Rattle.tas_script.specs.declared.command.Command.TheVariants as command
-use Rattle.tas_script.specs.Commands.{IsNumber, frames_text, pair_text}
+use Rattle.tas_language.specs.declared.command.Command.{Command}
+use Rattle.tas_language.specs.declared.command.Command.TheVariants as command
+use Rattle.tas_language.specs.Commands.{IsNumber, frames_text, pair_text}
 use Rattle.tas_edit.specs.declared.change.Change.{Change}
 use Rattle.tas_edit.specs.declared.change.Change.TheVariants.{Insert, Replace, Delete}
 use Rattle.tas_edit.specs.declared.making.ChangeError.{ChangeError}

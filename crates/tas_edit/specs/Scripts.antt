@@ -6,7 +6,7 @@ use Rattle.tas_movie.specs.Text.{line}
 use Rattle.tas_movie.specs.declared.edit.EditRefusal.{EditRefusal}
 use Rattle.tas_movie.specs.declared.edit.EditRefusal.TheVariants.{Place, Long}
 use Rattle.tas_movie.specs.Edit.{refusal}
-use Rattle.tas_script.specs.Commands.{NoByte}
+use Rattle.tas_language.specs.Commands.{NoByte}
 use Rattle.tas_edit.specs.declared.change.Change.{Change}
 use Rattle.tas_edit.specs.declared.making.ChangeError.{ChangeError}
 use Rattle.tas_edit.specs.declared.making.ChangeError.TheVariants.{Refused, Memory as NoRoom}

@@ -2,14 +2,14 @@
 
 ghost use Rattle.std.specs.Prelude.{◌≡◌, ◌++◌, ◌∷◌, IfOk, IfSome, IfNone};
 ghost use Rattle.tas_movie.specs.Text.{line};
-ghost use Rattle.tas_script.specs.Commands.{frames_text};
+ghost use Rattle.tas_language.specs.Commands.{frames_text};
 ghost use Rattle.tas_edit.specs.declared.change.Change.{Change as Asked};
 ghost use Rattle.tas_edit.specs.declared.change.Change.TheVariants.{Delete};
 ghost use Rattle.tas_edit.specs.Changes.{change_of, change_text, IsChangeLine};
 
 use std::alloc::{AllocError, Allocator};
 use tas_movie::print_frame;
-use tas_script::{Command, one_command_per_line, parse_line};
+use tas_language::{Command, one_command_per_line, parse_line};
 use vcs_machine::Input;
 
 /// A change of a movie's inputs, as one line of a script says it (own).

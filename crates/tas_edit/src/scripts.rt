@@ -7,7 +7,7 @@ ghost use Rattle.tas_edit.specs.Scripts.{change_line, fault_at, MakesAll};
 use crate::{Change, ChangeError, change_line, make_change, read_change};
 use std::alloc::{AllocError, Allocator};
 use tas_movie::{EditRefusal, Movie};
-use tas_script::split_once;
+use tas_language::split_once;
 
 /// Why a script wasn't made to its end (own). Lines are counted from 1.
 #[derive(Clone, Copy, Debug, PartialEq, Eq)]

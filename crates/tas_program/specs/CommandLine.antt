@@ -8,7 +8,7 @@ use Rattle.clap.specs.declared.builder.action.ArgAction.TheVariants.{Set}
 use Rattle.clap.specs.declared.builder.command.Command.{Command}
 use Rattle.clap.specs.declared.builder.command.Command.TheViews.{out-Command}
 use Rattle.clap.specs.declared.builder.value_parser.ValueParser.{ValueParser}
-use Rattle.tas_script.specs.Commands.{most_number}
+use Rattle.tas_language.specs.Commands.{most_number}
 use Rattle.tas_tool.specs.Pixmaps.{most_workers}
 use Rattle.tas_program.specs.declared.command_line.Subcommand.{Subcommand}
 use Rattle.tas_program.specs.declared.command_line.Word.{Word}

@@ -2,7 +2,7 @@
 use Rattle.std.specs.Prelude.{◌≡◌, ℕ, ◌≤◌, List, Option, Some, None, codes}
 use Rattle.std.specs.Str.Parse.{digits_value, without_leading_plus}
 use Rattle.clap.specs.Walk.{Row, Text, first_of, one_of}
-use Rattle.tas_script.specs.Commands.{IsNumber}
+use Rattle.tas_language.specs.Commands.{IsNumber}
 use Rattle.tas_tool.specs.Pixmaps.{most_workers}
 use Rattle.tas_program.specs.declared.task.Task.{Task}
 use Rattle.tas_program.specs.declared.task.Task.TheVariants.{Trace, Check, Migrate, Shot, Edit, Diff, Script, MovieScript, Talk, CartTalk, MovieTalk, Export}

@@ -1,6 +1,6 @@
 //! What the program can be asked to do.
 
-use tas_script::MAX_NUMBER;
+use tas_language::MAX_NUMBER;
 
 /// The most instructions of one trace (own).
 pub const MAX_INSTRUCTIONS: u32 = 1_000_000;
