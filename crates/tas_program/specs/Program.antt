@@ -9,14 +9,18 @@ use Rattle.std.specs.Io.KnownBytes.{Appends}
 use Rattle.tas_engines.specs.declared.fault.RunFault.{RunFault}
 use Rattle.tas_engines.specs.declared.fault.ToolFault.{ToolFault}
 use Rattle.tas_engines.specs.declared.fault.ToolFault.TheVariants.{Read}
-use Rattle.tas_engines.specs.Movies.{IsCheckAnswer, IsMigrateAnswer, IsShotAnswer, IsMovieRun}
+use Rattle.tas_engines.specs.Movies.{IsMovieRun}
+use Rattle.tas_engines.specs.Checking.{IsCheckAnswer}
+use Rattle.tas_engines.specs.Migrating.{IsMigrateAnswer}
+use Rattle.tas_engines.specs.Shooting.{IsShotAnswer}
 use Rattle.tas_engines.specs.Output.{StopsWriting}
 use Rattle.tas_engines.specs.Tracing.{IsTraceRun}
 use Rattle.tas_tool.specs.Scripts.{IsScriptRun}
 use Rattle.tas_tool.specs.Talk.{talk_state_from, IsTalk, IsCartTalk, IsMovieTalk}
 use Rattle.tas_tool.specs.Pixmaps.{IsExportAnswer}
 use Rattle.tas_tool.specs.MovieScripts.{IsMovieScriptRun}
-use Rattle.tas_edit.specs.Runs.{IsEditRun, IsDiffRun}
+use Rattle.tas_engines.specs.Diffing.{IsDiffRun}
+use Rattle.tas_engines.specs.Editing.{IsEditRun}
 use Rattle.tas_program.specs.declared.request.Request.{Request}
 use Rattle.tas_program.specs.declared.request.Request.TheVariants.{Do, Show, Refuse, NoMemory}
 use Rattle.tas_program.specs.declared.status.Status.{Status}

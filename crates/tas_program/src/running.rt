@@ -17,10 +17,9 @@ use std::io::{Read, Write};
 use std::ops::Range;
 use std::sync::Wait;
 use std::thread::Threads;
-use tas_engines::write_all;
 use tas_tool::{
     ToolFault, cart_talk_run, check_run, diff_run, edit_run, export_run, migrate_run,
-    movie_script_run, movie_talk_run, script_run, shot_run, talk_run, trace_run,
+    movie_script_run, movie_talk_run, script_run, shot_run, talk_run, trace_run, write_all,
 };
 
 /// Opens a file of this name.

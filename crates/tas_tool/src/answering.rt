@@ -15,8 +15,8 @@ use std::alloc::Allocator;
 use std::sync::Wait;
 use tas_desk::{CloseOnDrop, Desk, EditError, Gate, InputError, MAX_EDITS, Name, Seat, ShotError};
 use tas_engines::RunFault;
-use tas_movie::{Edit, EditRefusal, Inputs, check_insertion, check_place};
 use tas_language::{Command, Image, Reply};
+use tas_movie::{Edit, EditRefusal, Inputs, check_insertion, check_place};
 use vcs_cpu::Halt;
 use vcs_machine::{Cart, Input};
 

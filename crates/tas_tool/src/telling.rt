@@ -18,7 +18,9 @@ use std::sync::Wait;
 use tas_desk::{CloseOnDrop, Desk, Name, Seat};
 use tas_engines::RunFault;
 use tas_green::stride;
-use tas_language::{Command, Reply, Request, movie_answer, picture_answer, reply_line, states_answer};
+use tas_language::{
+    Command, Reply, Request, movie_answer, picture_answer, reply_line, states_answer,
+};
 
 /// The answer to a request.
 #[derive(Drop)]
