@@ -106,7 +106,7 @@ pub struct Given<'a> {
     pub at_once: usize,
     /// Which read of each input fails, counted from 1; at 0 none does.
     pub fails_at: [usize; 3],
-    /// With what it fails.
+    /// The kind of the error.
     pub kind: ErrorKind,
 }
 

@@ -65,7 +65,7 @@ fn check_ran<R: Abort>(
     check_that(rt, case, written == text);
 }
 
-/// With what a read fails, and its name. None of them is tried again.
+/// The kinds of read errors, and their names. No read is tried again after either.
 static KINDS: [(ErrorKind, &str); 2] = [
     (ErrorKind::Other, "another error"),
     (ErrorKind::Interrupted, "an interruption"),

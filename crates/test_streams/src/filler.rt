@@ -12,7 +12,7 @@ pub struct Filler {
     pub left: usize,
     /// How many reads there were.
     pub reads: usize,
-    /// With what its failing read fails: `Other` in a new one.
+    /// The kind of its read error; `Other` in a new reader.
     pub kind: ErrorKind,
     byte: u8,
     fails_at: usize,

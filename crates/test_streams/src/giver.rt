@@ -11,7 +11,7 @@ use std::io::{Error, ErrorKind, Read};
 pub struct Giver<'a> {
     /// How many reads there were.
     pub reads: usize,
-    /// With what its failing read fails: `Other` in a new one.
+    /// The kind of its read error; `Other` in a new reader.
     pub kind: ErrorKind,
     bytes: &'a [u8],
     given: usize,

@@ -20,7 +20,7 @@ pub enum Room {
 pub enum Failure {
     /// It fails with `BrokenPipe`.
     Error,
-    /// It fails with `Interrupted`, after which others try again.
+    /// It fails with `Interrupted`, after which std's own loops try again.
     Interrupted,
     /// It takes no byte.
     Nothing,
