@@ -106,31 +106,28 @@ static SCRIPTS: [(&str, Result<(), ScriptFault>); 16] = [
     ("", Ok(())),
     ("delete 0 4\n", Ok(())),
     ("delete 4 0\n", Ok(())),
-    ("delete 0 5\n", Err(ScriptFault::OutOfPlace(1))),
-    ("delete 5 0\n", Err(ScriptFault::OutOfPlace(1))),
-    (
-        "insert 5 1 ..... ..... .....\n",
-        Err(ScriptFault::OutOfPlace(1)),
-    ),
+    ("delete 0 5\n", Err(ScriptFault::Place(1))),
+    ("delete 5 0\n", Err(ScriptFault::Place(1))),
+    ("insert 5 1 ..... ..... .....\n", Err(ScriptFault::Place(1))),
     ("insert 4 262140 ..... ..... .....\n", Ok(())),
     (
         "insert 4 262141 ..... ..... .....\n",
-        Err(ScriptFault::TooLong(1)),
+        Err(ScriptFault::Long(1)),
     ),
     (
         "insert 0 9999999 ..... ..... .....\n",
-        Err(ScriptFault::TooLong(1)),
+        Err(ScriptFault::Long(1)),
     ),
     (
         "insert 5 9999999 ..... ..... .....\n",
-        Err(ScriptFault::OutOfPlace(1)),
+        Err(ScriptFault::Place(1)),
     ),
     (
         "replace 0 9999999 ..... ..... .....\n",
-        Err(ScriptFault::OutOfPlace(1)),
+        Err(ScriptFault::Place(1)),
     ),
     ("replace 4 0 ..... ..... .....\n", Ok(())),
-    ("delete 0 1\ndelete 0 4\n", Err(ScriptFault::OutOfPlace(2))),
+    ("delete 0 1\ndelete 0 4\n", Err(ScriptFault::Place(2))),
     ("delete 0 1\nlen\n", Err(ScriptFault::Line(2))),
     ("delete 0 1\ndelete 0 1\n\n", Err(ScriptFault::Line(3))),
     ("delete 0 1\ndelete 0 1", Err(ScriptFault::Line(2))),
@@ -144,7 +141,7 @@ fn scripts_end_as_by_hand(rt: HostRuntime) {
     }
     let script =
         b"delete 1 2\ninsert 1 3 ....F ..... .....\nreplace 0 1 ..... ..... .....\ndelete 9 9\n";
-    let end = Err(ScriptFault::OutOfPlace(4));
+    let end = Err(ScriptFault::Place(4));
     check_edit(&rt, alloc, ("R.RF", ".FFFF"), script, end);
     check_same(&rt, "MAX_FRAMES", MAX_FRAMES, 262144);
 }

@@ -107,7 +107,7 @@ fn the_longest_movies_are_edited_and_compared(rt: HostRuntime) {
     check_script(&rt, alloc, &full, NO_FRAMES, "delete 0 262144\n");
     let one_more = b"insert 262144 1 ..... ..... .....\n";
     let ran = edited(alloc, &BLANK, one_more, full.as_slice());
-    check_fault(&rt, "one more", ran, ToolFault::EditLong { line: 1 });
+    check_fault(&rt, "one more", ran, ToolFault::Long { line: 1 });
     let other = long_movie(&rt, alloc, 262144, 40000);
     let replaced = "replace 40000 1 ....F ..... .....\n";
     check_script(&rt, alloc, &full, &other, replaced);
@@ -136,14 +136,11 @@ static FAULTS: [(&[u8], ToolFault); 9] = [
     (b"load2 000=A9\n", ToolFault::Script { line: 1 }),
     (b"work 0\n", ToolFault::Script { line: 1 }),
     (b"delete 0 1", ToolFault::Script { line: 1 }),
-    (
-        b"delete 0 1\ndelete 1 1\n",
-        ToolFault::EditPlace { line: 2 },
-    ),
-    (b"delete 0 3\nlen\n", ToolFault::EditPlace { line: 1 }),
+    (b"delete 0 1\ndelete 1 1\n", ToolFault::Place { line: 2 }),
+    (b"delete 0 3\nlen\n", ToolFault::Place { line: 1 }),
     (
         b"delete 0 1\ninsert 0 262143 ..... ..... .....\ninsert 0 1 ..... ..... .....\n",
-        ToolFault::EditLong { line: 3 },
+        ToolFault::Long { line: 3 },
     ),
 ];
 

@@ -3,7 +3,7 @@
 use crate::checks::{check_same, check_that, expect_ok};
 use std::alloc::Global;
 use std::process::Abort;
-use tas_language::{Command, Image, Reply, parse_line, reply_line};
+use tas_language::{Change, Command, Image, Reply, parse_line, reply_line};
 use vcs_machine::{CART_SIZE, Input, SMALL_CART_SIZE, Stick};
 
 /// A stick at rest.
@@ -79,29 +79,32 @@ fn a_load_has_its_image(rt: HostRuntime) {
 static COMMANDS: [(&[u8], Command); 11] = [
     (
         b"insert 0 200 ..... ..... .....",
-        Command::Insert {
+        Command::Edit(Change::Insert {
             at: 0,
             count: 200,
             input: NONE,
-        },
+        }),
     ),
     (
         b"insert 9999999 0 R.... ..... .....",
-        Command::Insert {
+        Command::Edit(Change::Insert {
             at: 9_999_999,
             count: 0,
             input: RIGHT,
-        },
+        }),
     ),
     (
         b"replace 64 1 R.... ..... .....",
-        Command::Replace {
+        Command::Edit(Change::Replace {
             at: 64,
             count: 1,
             input: RIGHT,
-        },
+        }),
     ),
-    (b"delete 10 191", Command::Delete { at: 10, count: 191 }),
+    (
+        b"delete 10 191",
+        Command::Edit(Change::Delete { at: 10, count: 191 }),
+    ),
     (b"len", Command::Length),
     (b"input 0", Command::InputAt { frame: 0 }),
     (b"input 9999999", Command::InputAt { frame: 9_999_999 }),
@@ -202,11 +205,8 @@ fn check_reply<R: Abort>(rt: &R, alloc: Global, reply: Reply, line: &[u8]) {
 static REPLIES: [(Reply, &[u8]); 8] = [
     (Reply::OutOfMemory, b"out of memory\n"),
     (Reply::Edited { at: 1, len: 0 }, b"edit 1 len 0\n"),
-    (Reply::Misplaced { at: 5, len: 9 }, b"place 5 len 9\n"),
-    (
-        Reply::TooLong { at: 2, len: 262144 },
-        b"long 2 len 262144\n",
-    ),
+    (Reply::Place { at: 5, len: 9 }, b"place 5 len 9\n"),
+    (Reply::Long { at: 2, len: 262144 }, b"long 2 len 262144\n"),
     (Reply::Full { at: 1_000_000 }, b"full 1000000\n"),
     (Reply::Measured { at: 0, len: 0 }, b"len 0 0\n"),
     (Reply::NoFrame { at: 4, len: 0 }, b"no frame 4 len 0\n"),

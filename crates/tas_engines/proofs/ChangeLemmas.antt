@@ -1,49 +1,70 @@
 -- One change more.
-use Rattle.std.proofs.Common.{◌≡◌, ℕ, ◌+◌, ◌≤◌, List, [], ◌∷◌, ◌++◌, length, drop, None, refl, ap, ◌∙◌, arith}
+use Rattle.std.proofs.Common.{◌≡◌, ℕ, ◌+◌, ◌≤◌, List, [], ◌∷◌, ◌++◌, length, drop, None, refl, sym, ap, ◌∙◌, arith}
 use Rattle.std.specs.Prelude.{replicate, nat_lt, if◌then◌else◌, Option, Some}
 use Rattle.std.proofs.lemmas.Bool.{le-ltb}
 use Rattle.std.proofs.lemmas.List.{length-replicate}
 use lib.Seq.{take-append_seam, drop-append-add}
 use Rattle.vcs_machine.specs.declared.input.Input.{Input}
 use Rattle.tas_movie.specs.Content.{MovieContent, most_inputs}
-use Rattle.tas_movie.specs.Edit.{edited, IsAllowed, length_refusal, first_refusal, spliced}
+use Rattle.tas_movie.specs.Edit.{edited, edited_unless, refusal, insert_refusal, place_refusal, IsAllowed, length_refusal, first_refusal, spliced}
 use Rattle.tas_movie.specs.declared.edit.EditRefusal.{EditRefusal}
 use Rattle.tas_movie.specs.declared.edit.EditRefusal.TheVariants.{Place}
-use Rattle.tas_language.specs.declared.command.Command.{Command}
-use Rattle.tas_language.specs.declared.command.Command.TheVariants as command
-use Rattle.tas_language.specs.Commands.{Says}
-use Rattle.tas_engines.specs.declared.change.Change.{Change}
-use Rattle.tas_engines.specs.declared.change.Change.TheVariants.{Insert, Replace, Delete}
-use Rattle.tas_engines.specs.Changes.{HasNumbers, HaveNumbers, IsChangeLine, edit_of, changed_by, AreAllowed}
+use Rattle.tas_language.specs.Commands.{HasNumbers}
+use Rattle.tas_language.specs.declared.change.Change.{Change}
+use Rattle.tas_language.specs.declared.change.Change.TheVariants.{Insert, Replace, Delete}
+use Rattle.tas_engines.specs.Changes.{HaveNumbers, edit_on, edit_of, changed_by, AreAllowed}
 use Rattle.tas_engines.specs.Differences.{taken_out, put_in}
 
--- ---- lines
+-- ---- what a change asks for, on any allocator
 
--- a line that says no command says no change
-pub nothing_said : (said : List ℕ) → ((asked : Command) → Says said asked → ⊥) → (change : Change) → IsChangeLine said change → ⊥
-nothing_said said never (Insert at count input) is = never (command.Insert at count input) (is.0, is.1.0, is.1.1)
-nothing_said said never (Replace at count input) is = never (command.Replace at count input) (is.0, is.1.0, is.1.1)
-nothing_said said never (Delete at count) is = never (command.Delete at count) (is.0, is.1.0, is.1.1)
+pub same_refusal : (A : Type 0) (movie : MovieContent) (change : Change) → refusal movie (edit_on A change) ≡ refusal movie (edit_of change)
+same_refusal A movie (Insert at count input) = refl
+same_refusal A movie (Replace at count input) = refl
+same_refusal A movie (Delete at count) = refl
+
+same_unless : (A : Type 0) (refused : Option EditRefusal) (movie : MovieContent) (change : Change) → edited_unless refused movie (edit_on A change) ≡ edited_unless refused movie (edit_of change)
+same_unless A (Some refused) movie change = refl
+same_unless A None movie (Insert at count input) = refl
+same_unless A None movie (Replace at count input) = refl
+same_unless A None movie (Delete at count) = refl
+
+pub same_edited : (A : Type 0) (movie : MovieContent) (change : Change) → edited movie (edit_on A change) ≡ edited movie (edit_of change)
+same_edited A movie change = ap (λ (r : Option EditRefusal). edited_unless r movie (edit_on A change)) (same_refusal A movie change) ∙ same_unless A (refusal movie (edit_of change)) movie change
+
+-- ---- what a length refuses
+
+pub insert_refused : (movie : MovieContent) (at count len : ℕ) (input : Input) → length movie.inputs ≡ len → insert_refusal len at count ≡ refusal movie (edit_of (Insert at count input))
+insert_refused movie at count len input is =
+    ap (λ (n : ℕ). insert_refusal n at count) (sym is)
+    ∙ ap (λ (n : ℕ). insert_refusal (length movie.inputs) at n) (sym (length-replicate count input))
+
+pub replace_refused : (movie : MovieContent) (at count len : ℕ) (input : Input) → length movie.inputs ≡ len → place_refusal len at (at + count) ≡ refusal movie (edit_of (Replace at count input))
+replace_refused movie at count len input is =
+    ap (λ (n : ℕ). place_refusal n at (at + count)) (sym is)
+    ∙ ap (λ (n : ℕ). place_refusal (length movie.inputs) at (at + n)) (sym (length-replicate count input))
+
+pub delete_refused : (movie : MovieContent) (at count len : ℕ) → length movie.inputs ≡ len → place_refusal len at (at + count) ≡ refusal movie (edit_of (Delete at count))
+delete_refused movie at count len is = ap (λ (n : ℕ). place_refusal n at (at + count)) (sym is)
 
 -- ---- lists of changes
 
-pub changed_more : (A : Type 0) (movie : MovieContent) (changes : List Change) (change : Change) → changed_by A movie (changes ++ change ∷ []) ≡ edited (changed_by A movie changes) (edit_of A change)
+pub changed_more : (movie : MovieContent) (changes : List Change) (change : Change) → changed_by movie (changes ++ change ∷ []) ≡ edited (changed_by movie changes) (edit_of change)
 unfolding changed_by
-changed_more A movie [] change = refl
-changed_more A movie (c ∷ changes) change = changed_more A (edited movie (edit_of A c)) changes change
+changed_more movie [] change = refl
+changed_more movie (c ∷ changes) change = changed_more (edited movie (edit_of c)) changes change
 
-pub allowed_more : (A : Type 0) (movie : MovieContent) (changes : List Change) (change : Change) → AreAllowed A movie changes → IsAllowed (changed_by A movie changes) (edit_of A change) → AreAllowed A movie (changes ++ change ∷ [])
+pub allowed_more : (movie : MovieContent) (changes : List Change) (change : Change) → AreAllowed movie changes → IsAllowed (changed_by movie changes) (edit_of change) → AreAllowed movie (changes ++ change ∷ [])
 unfolding changed_by AreAllowed
-allowed_more A movie [] change all is = (is, tt)
-allowed_more A movie (c ∷ changes) change all is = (all.0, allowed_more A (edited movie (edit_of A c)) changes change all.1 is)
+allowed_more movie [] change all is = (is, tt)
+allowed_more movie (c ∷ changes) change all is = (all.0, allowed_more (edited movie (edit_of c)) changes change all.1 is)
 
-pub none_made : (A : Type 0) (movie : MovieContent) → changed_by A movie [] ≡ movie
+pub none_made : (movie : MovieContent) → changed_by movie [] ≡ movie
 unfolding changed_by
-none_made A movie = refl
+none_made movie = refl
 
-pub none_asked : (A : Type 0) (movie : MovieContent) → AreAllowed A movie []
+pub none_asked : (movie : MovieContent) → AreAllowed movie []
 unfolding AreAllowed
-none_asked A movie = tt
+none_asked movie = tt
 
 pub numbers_more : (changes : List Change) (change : Change) → HaveNumbers changes → HasNumbers change → HaveNumbers (changes ++ change ∷ [])
 unfolding HaveNumbers
@@ -105,25 +126,25 @@ cut k p new q = rw (take-append_seam p q, drop-append-add p q k) refl
 allowed_length : (most all : ℕ) (refused : Option EditRefusal) → all ≤ most → (if nat_lt most all then refused else None) ≡ None
 allowed_length most all refused le = rw (le-ltb most all le) refl
 
-pub insert_allowed : (A : Type 0) (cart : List ℕ) (inputs : List Input) (at count : ℕ) (input : Input) → at ≤ length inputs → length inputs + count ≤ most_inputs → IsAllowed (movie_of cart inputs) (edit_of A (Insert at count input))
-insert_allowed A cart inputs at count input place long =
+pub insert_allowed : (cart : List ℕ) (inputs : List Input) (at count : ℕ) (input : Input) → at ≤ length inputs → length inputs + count ≤ most_inputs → IsAllowed (movie_of cart inputs) (edit_of (Insert at count input))
+insert_allowed cart inputs at count input place long =
     ap (λ (r : Option EditRefusal). first_refusal r (length_refusal (length inputs) (length inputs + length (replicate count input)))) (allowed_length (length inputs) at (Some (Place at (length inputs))) place)
     ∙ allowed_length most_inputs (length inputs + length (replicate count input)) _ (omega (arith, length-replicate count input))
 
-pub replace_allowed : (A : Type 0) (cart : List ℕ) (inputs : List Input) (at count : ℕ) (input : Input) → at + count ≤ length inputs → IsAllowed (movie_of cart inputs) (edit_of A (Replace at count input))
-replace_allowed A cart inputs at count input place = allowed_length (length inputs) (at + length (replicate count input)) _ (omega (arith, length-replicate count input))
+pub replace_allowed : (cart : List ℕ) (inputs : List Input) (at count : ℕ) (input : Input) → at + count ≤ length inputs → IsAllowed (movie_of cart inputs) (edit_of (Replace at count input))
+replace_allowed cart inputs at count input place = allowed_length (length inputs) (at + length (replicate count input)) _ (omega (arith, length-replicate count input))
 
-pub delete_allowed : (A : Type 0) (cart : List ℕ) (inputs : List Input) (at count : ℕ) → at + count ≤ length inputs → IsAllowed (movie_of cart inputs) (edit_of A (Delete at count))
-delete_allowed A cart inputs at count place = allowed_length (length inputs) (at + count) _ place
+pub delete_allowed : (cart : List ℕ) (inputs : List Input) (at count : ℕ) → at + count ≤ length inputs → IsAllowed (movie_of cart inputs) (edit_of (Delete at count))
+delete_allowed cart inputs at count place = allowed_length (length inputs) (at + count) _ place
 
-pub made_insert : (A : Type 0) (cart : List ℕ) (inputs : List Input) (at count : ℕ) (input : Input) → IsAllowed (movie_of cart inputs) (edit_of A (Insert at count input))
-    → edited (movie_of cart inputs) (edit_of A (Insert at count input)) ≡ movie_of cart (spliced at 0 (replicate count input) inputs)
-made_insert A cart inputs at count input is = rw is refl
+pub made_insert : (cart : List ℕ) (inputs : List Input) (at count : ℕ) (input : Input) → IsAllowed (movie_of cart inputs) (edit_of (Insert at count input))
+    → edited (movie_of cart inputs) (edit_of (Insert at count input)) ≡ movie_of cart (spliced at 0 (replicate count input) inputs)
+made_insert cart inputs at count input is = rw is refl
 
-pub made_replace : (A : Type 0) (cart : List ℕ) (inputs : List Input) (at count : ℕ) (input : Input) → IsAllowed (movie_of cart inputs) (edit_of A (Replace at count input))
-    → edited (movie_of cart inputs) (edit_of A (Replace at count input)) ≡ movie_of cart (spliced at (length (replicate count input)) (replicate count input) inputs)
-made_replace A cart inputs at count input is = rw is refl
+pub made_replace : (cart : List ℕ) (inputs : List Input) (at count : ℕ) (input : Input) → IsAllowed (movie_of cart inputs) (edit_of (Replace at count input))
+    → edited (movie_of cart inputs) (edit_of (Replace at count input)) ≡ movie_of cart (spliced at (length (replicate count input)) (replicate count input) inputs)
+made_replace cart inputs at count input is = rw is refl
 
-pub made_delete : (A : Type 0) (cart : List ℕ) (inputs : List Input) (at count : ℕ) → IsAllowed (movie_of cart inputs) (edit_of A (Delete at count))
-    → edited (movie_of cart inputs) (edit_of A (Delete at count)) ≡ movie_of cart (spliced at count [] inputs)
-made_delete A cart inputs at count is = rw is refl
+pub made_delete : (cart : List ℕ) (inputs : List Input) (at count : ℕ) → IsAllowed (movie_of cart inputs) (edit_of (Delete at count))
+    → edited (movie_of cart inputs) (edit_of (Delete at count)) ≡ movie_of cart (spliced at count [] inputs)
+made_delete cart inputs at count is = rw is refl

@@ -10,8 +10,8 @@ use Rattle.vcs_machine.specs.declared.input.Input.{Input}
 use Rattle.tas_movie.specs.Content.{MovieContent, most_inputs}
 use Rattle.tas_movie.specs.Edit.{edited, IsAllowed, spliced}
 use Rattle.tas_green.specs.Front.{IsCommonFront}
-use Rattle.tas_engines.specs.declared.change.Change.{Change}
-use Rattle.tas_engines.specs.declared.change.Change.TheVariants.{Insert, Replace, Delete}
+use Rattle.tas_language.specs.declared.change.Change.{Change}
+use Rattle.tas_language.specs.declared.change.Change.TheVariants.{Insert, Replace, Delete}
 use Rattle.tas_engines.specs.Changes.{HaveNumbers, edit_of, changed_by, AreAllowed}
 use Rattle.tas_engines.specs.Differences.{IsCommonEnd, AreInOrder, DeletionsDiffer, IsDifference, taken_out, put_in}
 use Rattle.tas_engines.proofs.LineLemmas.{run_line, lines_from, head_of, with_head, none_left, whole_in_order, whole_differ}
@@ -23,18 +23,18 @@ gone_by true front at gone = at - front
 gone_by false front at gone = gone
 
 -- the changes so far are allowed, and make the new inputs up to the place k, with the rest behind them
-pub record Stands (A : Type 0) (old new rest : List Input) (k : ℕ) (changes : List Change) : Type 0 where
-  pub allowed : (cart : List ℕ) → AreAllowed A (movie_of cart old) changes
-  pub made : (cart : List ℕ) → changed_by A (movie_of cart old) changes ≡ movie_of cart (take k new ++ rest)
+pub record Stands (old new rest : List Input) (k : ℕ) (changes : List Change) : Type 0 where
+  pub allowed : (cart : List ℕ) → AreAllowed (movie_of cart old) changes
+  pub made : (cart : List ℕ) → changed_by (movie_of cart old) changes ≡ movie_of cart (take k new ++ rest)
 
 -- a change more
-stands_more : (A : Type 0) (old new rest rest' : List Input) (k k' : ℕ) (changes : List Change) (change : Change) → Stands A old new rest k changes
-    → ((cart : List ℕ) → IsAllowed (movie_of cart (take k new ++ rest)) (edit_of A change))
-    → ((cart : List ℕ) → edited (movie_of cart (take k new ++ rest)) (edit_of A change) ≡ movie_of cart (take k' new ++ rest'))
-    → Stands A old new rest' k' (changes ++ change ∷ [])
-stands_more A old new rest rest' k k' changes change s may is = record {
-  allowed = λ cart. allowed_more A (movie_of cart old) changes change (s.allowed cart) (subst (λ (m : MovieContent). IsAllowed m (edit_of A change)) (sym (s.made cart)) (may cart));
-  made = λ cart. changed_more A (movie_of cart old) changes change ∙ ap (λ (m : MovieContent). edited m (edit_of A change)) (s.made cart) ∙ is cart;
+stands_more : (old new rest rest' : List Input) (k k' : ℕ) (changes : List Change) (change : Change) → Stands old new rest k changes
+    → ((cart : List ℕ) → IsAllowed (movie_of cart (take k new ++ rest)) (edit_of change))
+    → ((cart : List ℕ) → edited (movie_of cart (take k new ++ rest)) (edit_of change) ≡ movie_of cart (take k' new ++ rest'))
+    → Stands old new rest' k' (changes ++ change ∷ [])
+stands_more old new rest rest' k k' changes change s may is = record {
+  allowed = λ cart. allowed_more (movie_of cart old) changes change (s.allowed cart) (subst (λ (m : MovieContent). IsAllowed m (edit_of change)) (sym (s.made cart)) (may cart));
+  made = λ cart. changed_more (movie_of cart old) changes change ∙ ap (λ (m : MovieContent). edited m (edit_of change)) (s.made cart) ∙ is cart;
 }
 
 spliced_next : (new rest : List Input) (k n count : ℕ) (input : Input) → k ≤ length new → take count (drop k new) ≡ replicate count input
@@ -46,47 +46,47 @@ spliced_next new rest k n count input le run =
     subst (λ (j : ℕ). spliced j n copies (front ++ rest) ≡ front ++ copies ++ drop n rest) len (cut n front copies rest)
     ∙ ap (λ (l : List Input). l ++ drop n rest) (sym (take-add k count new ∙ ap (λ (l : List Input). front ++ l) run))
 
-pub inserted : (A : Type 0) (old new rest : List Input) (k count : ℕ) (input : Input) (changes : List Change) → Stands A old new rest k changes → k ≤ length new
-    → take count (drop k new) ≡ replicate count input → k + count + length rest ≤ most_inputs → Stands A old new rest (k + count) (changes ++ Insert k count input ∷ [])
-inserted A old new rest k count input changes s le run long =
+pub inserted : (old new rest : List Input) (k count : ℕ) (input : Input) (changes : List Change) → Stands old new rest k changes → k ≤ length new
+    → take count (drop k new) ≡ replicate count input → k + count + length rest ≤ most_inputs → Stands old new rest (k + count) (changes ++ Insert k count input ∷ [])
+inserted old new rest k count input changes s le run long =
     let now = take k new ++ rest in
     let len : length now ≡ k + length rest = length-append (take k new) rest ∙ ap (λ (n : ℕ). n + length rest) (length-take-le k new le) in
-    let may : (cart : List ℕ) → IsAllowed (movie_of cart now) (edit_of A (Insert k count input)) = λ cart. insert_allowed A cart now k count input (omega (arith, len)) (omega (arith, len)) in
-    stands_more A old new rest rest k (k + count) changes (Insert k count input) s may
-    (λ cart. made_insert A cart now k count input (may cart) ∙ ap (movie_of cart) (spliced_next new rest k 0 count input le run))
+    let may : (cart : List ℕ) → IsAllowed (movie_of cart now) (edit_of (Insert k count input)) = λ cart. insert_allowed cart now k count input (omega (arith, len)) (omega (arith, len)) in
+    stands_more old new rest rest k (k + count) changes (Insert k count input) s may
+    (λ cart. made_insert cart now k count input (may cart) ∙ ap (movie_of cart) (spliced_next new rest k 0 count input le run))
 
-pub replaced : (A : Type 0) (old new rest : List Input) (k count : ℕ) (input : Input) (changes : List Change) → Stands A old new rest k changes → k ≤ length new
-    → take count (drop k new) ≡ replicate count input → count ≤ length rest → Stands A old new (drop count rest) (k + count) (changes ++ Replace k count input ∷ [])
-replaced A old new rest k count input changes s le run fits =
+pub replaced : (old new rest : List Input) (k count : ℕ) (input : Input) (changes : List Change) → Stands old new rest k changes → k ≤ length new
+    → take count (drop k new) ≡ replicate count input → count ≤ length rest → Stands old new (drop count rest) (k + count) (changes ++ Replace k count input ∷ [])
+replaced old new rest k count input changes s le run fits =
     let now = take k new ++ rest in
     let len : length now ≡ k + length rest = length-append (take k new) rest ∙ ap (λ (n : ℕ). n + length rest) (length-take-le k new le) in
-    let may : (cart : List ℕ) → IsAllowed (movie_of cart now) (edit_of A (Replace k count input)) = λ cart. replace_allowed A cart now k count input (omega (arith, len)) in
+    let may : (cart : List ℕ) → IsAllowed (movie_of cart now) (edit_of (Replace k count input)) = λ cart. replace_allowed cart now k count input (omega (arith, len)) in
     let copies = length-replicate count input in
-    stands_more A old new rest (drop count rest) k (k + count) changes (Replace k count input) s may
-    (λ cart. made_replace A cart now k count input (may cart)
+    stands_more old new rest (drop count rest) k (k + count) changes (Replace k count input) s may
+    (λ cart. made_replace cart now k count input (may cart)
     ∙ ap (movie_of cart) (spliced_next new rest k (length (replicate count input)) count input le run ∙ ap (λ (n : ℕ). take (k + count) new ++ drop n rest) copies))
 
-pub begun : (A : Type 0) (old new : List Input) (front : ℕ) → take front old ≡ take front new → Stands A old new (drop front old) front []
-begun A old new front same = record {
-  allowed = λ cart. none_asked A (movie_of cart old);
-  made = λ cart. none_made A (movie_of cart old) ∙ ap (movie_of cart) (sym (take-append-drop front old) ∙ ap (λ (l : List Input). l ++ drop front old) same);
+pub begun : (old new : List Input) (front : ℕ) → take front old ≡ take front new → Stands old new (drop front old) front []
+begun old new front same = record {
+  allowed = λ cart. none_asked (movie_of cart old);
+  made = λ cart. none_made (movie_of cart old) ∙ ap (movie_of cart) (sym (take-append-drop front old) ∙ ap (λ (l : List Input). l ++ drop front old) same);
 }
 
-pub deleted : (A : Type 0) (old new : List Input) (front gone : ℕ) → take front old ≡ take front new → front + gone ≤ length old
-    → Stands A old new (drop gone (drop front old)) front (Delete front gone ∷ [])
-deleted A old new front gone same le =
+pub deleted : (old new : List Input) (front gone : ℕ) → take front old ≡ take front new → front + gone ≤ length old
+    → Stands old new (drop gone (drop front old)) front (Delete front gone ∷ [])
+deleted old new front gone same le =
     let whole : take front new ++ drop front old ≡ old = ap (λ (l : List Input). l ++ drop front old) (sym same) ∙ take-append-drop front old in
-    let may : (cart : List ℕ) → IsAllowed (movie_of cart old) (edit_of A (Delete front gone)) = λ cart. delete_allowed A cart old front gone le in
+    let may : (cart : List ℕ) → IsAllowed (movie_of cart old) (edit_of (Delete front gone)) = λ cart. delete_allowed cart old front gone le in
     let cut_out : spliced front gone [] old ≡ take front new ++ drop gone (drop front old) =
     ap (λ (l : List Input). l ++ drop (front + gone) old) (append-nil (take front old) ∙ same) ∙ ap (λ (l : List Input). take front new ++ l) (sym (drop-drop gone front old)) in
-    stands_more A old new (drop front old) (drop gone (drop front old)) front front [] (Delete front gone) (begun A old new front same)
-    (λ cart. subst (λ (l : List Input). IsAllowed (movie_of cart l) (edit_of A (Delete front gone))) (sym whole) (may cart))
-    (λ cart. ap (λ (l : List Input). edited (movie_of cart l) (edit_of A (Delete front gone))) whole ∙ made_delete A cart old front gone (may cart) ∙ ap (movie_of cart) cut_out)
+    stands_more old new (drop front old) (drop gone (drop front old)) front front [] (Delete front gone) (begun old new front same)
+    (λ cart. subst (λ (l : List Input). IsAllowed (movie_of cart l) (edit_of (Delete front gone))) (sym whole) (may cart))
+    (λ cart. ap (λ (l : List Input). edited (movie_of cart l) (edit_of (Delete front gone))) whole ∙ made_delete cart old front gone (may cart) ∙ ap (movie_of cart) cut_out)
 
 -- where the place is that of the common end, the new inputs are made
-pub finished : (A : Type 0) (old new rest : List Input) (k : ℕ) (changes : List Change) → Stands A old new rest k changes → rest ≡ drop k new
-    → (cart : List ℕ) → changed_by A (movie_of cart old) changes ≡ movie_of cart new
-finished A old new rest k changes s is = λ cart. s.made cart ∙ ap (movie_of cart) (ap (λ (l : List Input). take k new ++ l) is ∙ take-append-drop k new)
+pub finished : (old new rest : List Input) (k : ℕ) (changes : List Change) → Stands old new rest k changes → rest ≡ drop k new
+    → (cart : List ℕ) → changed_by (movie_of cart old) changes ≡ movie_of cart new
+finished old new rest k changes s is = λ cart. s.made cart ∙ ap (movie_of cart) (ap (λ (l : List Input). take k new ++ l) is ∙ take-append-drop k new)
 
 -- what stands behind the inputs that go is what stands behind those that come
 pub same_end : (old new : List Input) (front end gone come : ℕ) → IsCommonEnd (drop front old) (drop front new) end → front ≤ length old → front ≤ length new
@@ -154,8 +154,8 @@ places old new front end common ends short_old short =
     }
 
 -- the new inputs stand up to the place `at`, by these changes
-pub record Reached (A : Type 0) (old new : List Input) (replaces : Bool) (front gone behind at : ℕ) (changes : List Change) : Type 0 where
-  pub stands : Stands A old new (drop (gone_by replaces front at gone) (drop front old)) at changes
+pub record Reached (old new : List Input) (replaces : Bool) (front gone behind at : ℕ) (changes : List Change) : Type 0 where
+  pub stands : Stands old new (drop (gone_by replaces front at gone) (drop front old)) at changes
   pub begun : front ≤ at
   pub within : at ≤ behind
   pub out : taken_out changes ≡ gone_by replaces front at gone
@@ -165,10 +165,10 @@ pub record Reached (A : Type 0) (old new : List Input) (replaces : Bool) (front 
   pub none : gone ≡ 0 → behind ≡ front → changes ≡ []
 
 -- before any change
-pub reached_first : (A : Type 0) (old new : List Input) (replaces : Bool) (front end gone behind : ℕ) → Places old new replaces front end gone behind → gone_by replaces front front gone ≡ 0
-    → Reached A old new replaces front gone behind front []
-reached_first A old new replaces front end gone behind p zero = record {
-  stands = rw zero (begun A old new front p.common.same);
+pub reached_first : (old new : List Input) (replaces : Bool) (front end gone behind : ℕ) → Places old new replaces front end gone behind → gone_by replaces front front gone ≡ 0
+    → Reached old new replaces front gone behind front []
+reached_first old new replaces front end gone behind p zero = record {
+  stands = rw zero (begun old new front p.common.same);
   begun = omega arith;
   within = p.begins;
   out = nothing_out ∙ sym zero;
@@ -186,13 +186,13 @@ reached_first A old new replaces front end gone behind p zero = record {
     minus = omega arith
 
 -- after the deletion
-pub reached_deletion : (A : Type 0) (old new : List Input) (front end gone behind : ℕ) → Places old new false front end gone behind → 0 < gone → Reached A old new false front gone behind front (Delete front gone ∷ [])
-reached_deletion A old new front end gone behind p some =
+pub reached_deletion : (old new : List Input) (front end gone behind : ℕ) → Places old new false front end gone behind → 0 < gone → Reached old new false front gone behind front (Delete front gone ∷ [])
+reached_deletion old new front end gone behind p some =
     let whole = p.out in
     let short = p.short_old in
     let one = one_deletion front gone in
     record {
-      stands = deleted A old new front gone p.common.same (omega (arith, whole));
+      stands = deleted old new front gone p.common.same (omega (arith, whole));
       begun = omega arith;
       within = p.begins;
       out = one.0;
@@ -205,27 +205,27 @@ reached_deletion A old new front end gone behind p some =
     minus : 0 ≡ front - front
     minus = omega arith
 
-pub first_deletion : (A : Type 0) (old new : List Input) (replaces : Bool) (front end gone behind : ℕ) (changes : List Change) → replaces ≡ false → Places old new replaces front end gone behind → 0 < gone
-    → changes ≡ Delete front gone ∷ [] → Reached A old new replaces front gone behind front changes
-first_deletion A old new true front end gone behind changes off p some is = absurd (false≢true (sym off))
-first_deletion A old new false front end gone behind changes off p some is = rw is (reached_deletion A old new front end gone behind p some)
+pub first_deletion : (old new : List Input) (replaces : Bool) (front end gone behind : ℕ) (changes : List Change) → replaces ≡ false → Places old new replaces front end gone behind → 0 < gone
+    → changes ≡ Delete front gone ∷ [] → Reached old new replaces front gone behind front changes
+first_deletion old new true front end gone behind changes off p some is = absurd (false≢true (sym off))
+first_deletion old new false front end gone behind changes off p some is = rw is (reached_deletion old new front end gone behind p some)
 
-pub first_replacement : (A : Type 0) (old new : List Input) (replaces : Bool) (front end gone behind : ℕ) (changes : List Change) → replaces ≡ true → Places old new replaces front end gone behind
-    → changes ≡ [] → Reached A old new replaces front gone behind front changes
-first_replacement A old new true front end gone behind changes on p is = rw is (reached_first A old new true front end gone behind p (omega arith))
-first_replacement A old new false front end gone behind changes on p is = absurd (false≢true on)
+pub first_replacement : (old new : List Input) (replaces : Bool) (front end gone behind : ℕ) (changes : List Change) → replaces ≡ true → Places old new replaces front end gone behind
+    → changes ≡ [] → Reached old new replaces front gone behind front changes
+first_replacement old new true front end gone behind changes on p is = rw is (reached_first old new true front end gone behind p (omega arith))
+first_replacement old new false front end gone behind changes on p is = absurd (false≢true on)
 
-pub first_insertion : (A : Type 0) (old new : List Input) (replaces : Bool) (front end gone behind : ℕ) (changes : List Change) → gone ≡ 0 → Places old new replaces front end gone behind
-    → changes ≡ [] → Reached A old new replaces front gone behind front changes
-first_insertion A old new true front end gone behind changes none p is = rw is (reached_first A old new true front end gone behind p (omega arith))
-first_insertion A old new false front end gone behind changes none p is = rw is (reached_first A old new false front end gone behind p none)
+pub first_insertion : (old new : List Input) (replaces : Bool) (front end gone behind : ℕ) (changes : List Change) → gone ≡ 0 → Places old new replaces front end gone behind
+    → changes ≡ [] → Reached old new replaces front gone behind front changes
+first_insertion old new true front end gone behind changes none p is = rw is (reached_first old new true front end gone behind p (omega arith))
+first_insertion old new false front end gone behind changes none p is = rw is (reached_first old new false front end gone behind p none)
 
 -- after a run
-pub reached_next : (A : Type 0) (old new : List Input) (replaces : Bool) (front end gone behind at count : ℕ) (input : Input) (changes : List Change) → Places old new replaces front end gone behind
-    → Reached A old new replaces front gone behind at changes → 0 < count → at + count ≤ behind → take count (drop at new) ≡ replicate count input
+pub reached_next : (old new : List Input) (replaces : Bool) (front end gone behind at count : ℕ) (input : Input) (changes : List Change) → Places old new replaces front end gone behind
+    → Reached old new replaces front gone behind at changes → 0 < count → at + count ≤ behind → take count (drop at new) ≡ replicate count input
     → lines_from replaces new at behind ≡ run_line replaces at count input ∷ lines_from replaces new (at + count) behind
-    → Reached A old new replaces front gone behind (at + count) (changes ++ (if replaces then Replace at count input else Insert at count input) ∷ [])
-reached_next A old new true front end gone behind at count input changes p r some fits run line =
+    → Reached old new replaces front gone behind (at + count) (changes ++ (if replaces then Replace at count input else Insert at count input) ∷ [])
+reached_next old new true front end gone behind at count input changes p r some fits run line =
     let old_len = p.out in
     let new_len = p.into in
     let short = p.short in
@@ -237,8 +237,8 @@ reached_next A old new true front end gone behind at count input changes p r som
     let out = r.out in
     let into = r.into in
     record {
-      stands = subst (λ (l : List Input). Stands A old new l (at + count) (changes ++ Replace at count input ∷ [])) (drop-drop count (at - front) (drop front old) ∙ ap (λ (n : ℕ). drop n (drop front old)) next)
-          (replaced A old new rest at count input changes r.stands (omega (arith, new_len, fits)) run (omega (arith, rest_len, old_len, same, begins, fits)));
+      stands = subst (λ (l : List Input). Stands old new l (at + count) (changes ++ Replace at count input ∷ [])) (drop-drop count (at - front) (drop front old) ∙ ap (λ (n : ℕ). drop n (drop front old)) next)
+          (replaced old new rest at count input changes r.stands (omega (arith, new_len, fits)) run (omega (arith, rest_len, old_len, same, begins, fits)));
       begun = omega (arith, begins);
       within = fits;
       out = out_replace changes at count input ∙ ap (λ (n : ℕ). n + count) out ∙ next;
@@ -247,7 +247,7 @@ reached_next A old new true front end gone behind at count input changes p r som
       said = append_assoc changes (Replace at count input ∷ []) (lines_from true new (at + count) behind) ∙ ap (λ (l : List Change). changes ++ l) (sym line) ∙ r.said;
       none = λ a b. absurd (omega (arith, begins, b, fits, some));
     }
-reached_next A old new false front end gone behind at count input changes p r some fits run line =
+reached_next old new false front end gone behind at count input changes p r some fits run line =
     let old_len = p.out in
     let new_len = p.into in
     let short = p.short in
@@ -258,7 +258,7 @@ reached_next A old new false front end gone behind at count input changes p r so
     let out = r.out in
     let into = r.into in
     record {
-      stands = inserted A old new rest at count input changes r.stands (omega (arith, new_len, fits)) run (omega (arith, rest_len, old_len, new_len, fits, short));
+      stands = inserted old new rest at count input changes r.stands (omega (arith, new_len, fits)) run (omega (arith, rest_len, old_len, new_len, fits, short));
       begun = omega (arith, begins);
       within = fits;
       out = out_insert changes at count input ∙ out;
@@ -269,9 +269,9 @@ reached_next A old new false front end gone behind at count input changes p r so
     }
 
 -- at the common end the difference is complete
-pub reached_last : (A : Type 0) (old new : List Input) (replaces : Bool) (front end gone behind at : ℕ) (changes : List Change) → Places old new replaces front end gone behind
-    → Reached A old new replaces front gone behind at changes → behind ≤ at → IsDifference A old new changes
-reached_last A old new replaces front end gone behind at changes p r last =
+pub reached_last : (old new : List Input) (replaces : Bool) (front end gone behind at : ℕ) (changes : List Change) → Places old new replaces front end gone behind
+    → Reached old new replaces front gone behind at changes → behind ≤ at → IsDifference old new changes
+reached_last old new replaces front end gone behind at changes p r last =
     let within = r.within in
     let there : at ≡ behind = omega (arith, within, last) in
     let all : gone_by replaces front at gone ≡ gone = all_gone replaces p.as_many there in
@@ -284,7 +284,7 @@ reached_last A old new replaces front end gone behind at changes p r last =
     sym (append-nil changes) ∙ ap (λ (l : List Change). changes ++ l) (sym (none_left replaces new at behind last)) ∙ r.said in
     record {
       allowed = r.stands.allowed;
-      made = finished A old new _ at changes r.stands (ap (λ (n : ℕ). drop n (drop front old)) all ∙ behind_all there);
+      made = finished old new _ at changes r.stands (ap (λ (n : ℕ). drop n (drop front old)) all ∙ behind_all there);
       between = record {
         front = front;
         end = end;

@@ -10,8 +10,8 @@ use Rattle.vcs_machine.specs.declared.input.Input.{Input}
 use Rattle.tas_movie.specs.declared.run.FrameRun.{FrameRun}
 use Rattle.tas_movie.specs.Runs.{run_inputs, runs_of, BeginOtherwise, AreLongest}
 use Rattle.tas_movie.proofs.RunLemmas.{runs_longest, runs_made, runs_split, length-runs}
-use Rattle.tas_engines.specs.declared.change.Change.{Change}
-use Rattle.tas_engines.specs.declared.change.Change.TheVariants.{Insert, Replace, Delete}
+use Rattle.tas_language.specs.declared.change.Change.{Change}
+use Rattle.tas_language.specs.declared.change.Change.TheVariants.{Insert, Replace, Delete}
 use Rattle.tas_engines.specs.Differences.{count_of, MayTouch, Follows, AreInOrder, put_in_from, DeletionsDiffer}
 
 -- the line of a run, which is written over as many inputs or put in

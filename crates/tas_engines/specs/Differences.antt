@@ -2,8 +2,8 @@
 use Rattle.std.specs.Prelude.{◌≡◌, ◌≢◌, ℕ, ◌+◌, ◌-◌, ◌<◌, ◌≤◌, ◌==◌, if◌then◌else◌, List, [], ◌∷◌, length, drop, slice_get}
 use Rattle.vcs_machine.specs.declared.input.Input.{Input}
 use Rattle.tas_green.specs.Front.{IsCommonFront}
-use Rattle.tas_engines.specs.declared.change.Change.{Change}
-use Rattle.tas_engines.specs.declared.change.Change.TheVariants.{Insert, Replace, Delete}
+use Rattle.tas_language.specs.declared.change.Change.{Change}
+use Rattle.tas_language.specs.declared.change.Change.TheVariants.{Insert, Replace, Delete}
 use Rattle.tas_engines.specs.Changes.{changed_by, AreAllowed, HaveNumbers}
 
 -- n is the length of the longest list with which both end
@@ -86,9 +86,9 @@ pub record IsBetween (old new : List Input) (changes : List Change) : Type 0 whe
   pub into : front + put_in changes + end ≡ length new
 
 -- the changes make `new` of `old`, whatever the cartridge: each is allowed; they are no more than needed, and none could be longer
-pub record IsDifference (A : Type 0) (old new : List Input) (changes : List Change) : Type 0 where
-  pub allowed : (cart : List ℕ) → AreAllowed A (record { cart = cart; inputs = old }) changes
-  pub made : (cart : List ℕ) → changed_by A (record { cart = cart; inputs = old }) changes ≡ record { cart = cart; inputs = new }
+pub record IsDifference (old new : List Input) (changes : List Change) : Type 0 where
+  pub allowed : (cart : List ℕ) → AreAllowed (record { cart = cart; inputs = old }) changes
+  pub made : (cart : List ℕ) → changed_by (record { cart = cart; inputs = old }) changes ≡ record { cart = cart; inputs = new }
   pub between : IsBetween old new changes
   pub order : AreInOrder changes
   pub deletions : DeletionsDiffer changes

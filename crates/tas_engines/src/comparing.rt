@@ -2,12 +2,12 @@
 
 ghost use Rattle.std.specs.Prelude.{◌≡◌, ◌≤◌, length, if◌then◌else◌, IfOk};
 ghost use Rattle.tas_movie.specs.Content.{most_inputs};
-ghost use Rattle.tas_engines.specs.declared.change.Change.TheVariants.{Insert, Replace};
+ghost use Rattle.tas_language.specs.declared.change.Change.TheVariants.{Insert, Replace};
 ghost use Rattle.tas_engines.specs.Differences.{IsCommonEnd, IsDifference};
 
-use crate::Change;
 use std::alloc::{AllocError, Allocator};
 use tas_green::common_front;
+use tas_language::Change;
 use tas_movie::run_length;
 use vcs_machine::Input;
 
@@ -44,7 +44,7 @@ pub fn changes_between<A: Allocator>(
 ) -> Result<Vec<Change, A>, AllocError>
     requires old_bound { length old.now ≤ most_inputs }
     requires new_bound { length new.now ≤ most_inputs }
-    ensures { IfOk result (λ changes. IsDifference A old.now new.now changes.items) }
+    ensures { IfOk result (λ changes. IsDifference old.now new.now changes.items) }
 {
     let front = common_front(old, new);
     let end = common_end(&old[front..], &new[front..]);

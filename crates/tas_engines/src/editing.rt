@@ -15,8 +15,8 @@ fn script_fault(fault: ScriptFault) -> RunFault
 {
     match fault {
         ScriptFault::Line(line) => RunFault::Script { line },
-        ScriptFault::OutOfPlace(line) => RunFault::EditPlace { line },
-        ScriptFault::TooLong(line) => RunFault::EditLong { line },
+        ScriptFault::Place(line) => RunFault::Place { line },
+        ScriptFault::Long(line) => RunFault::Long { line },
         ScriptFault::Memory => RunFault::Memory,
     }
 }
@@ -28,8 +28,8 @@ fn text_made<A: Allocator + Copy>(
     movie: &mut Movie<A>,
     script: &[u8],
 ) -> Result<Vec<u8, A>, RunFault>
-    ensures text { IfOk result (λ text. IsScriptAnswer A movie.old script.now (Ok text.items)) }
-    ensures fault { IfErr result (λ fault. IsScriptAnswer A movie.old script.now (Err fault)) }
+    ensures text { IfOk result (λ text. IsScriptAnswer movie.old script.now (Ok text.items)) }
+    ensures fault { IfErr result (λ fault. IsScriptAnswer movie.old script.now (Err fault)) }
 {
     edit_movie(alloc, movie, script).map_err(script_fault)?;
     Ok(print_text(alloc, movie)?)
@@ -42,8 +42,8 @@ fn edited_text<A: Allocator + Copy>(
     script: &[u8],
     bytes: &[u8],
 ) -> Result<Vec<u8, A>, RunFault>
-    ensures text { IfOk result (λ text. IsEditAnswer A image.now script.now bytes.now (Ok text.items)) }
-    ensures fault { IfErr result (λ fault. IsEditAnswer A image.now script.now bytes.now (Err fault)) }
+    ensures text { IfOk result (λ text. IsEditAnswer image.now script.now bytes.now (Ok text.items)) }
+    ensures fault { IfErr result (λ fault. IsEditAnswer image.now script.now bytes.now (Err fault)) }
 {
     let mut movie = movie_of(alloc, image, bytes)?;
     text_made(alloc, &mut movie, script)
@@ -57,7 +57,7 @@ fn write_edited<A: Allocator + Copy, W: Write>(
     bytes: &[u8],
     output: &mut W,
 ) -> Result<(), RunFault>
-    ensures { Ends (IsEditAnswer A image.now script.now bytes.now) (W.contents output.old) (W.contents output.new) result }
+    ensures { Ends (IsEditAnswer image.now script.now bytes.now) (W.contents output.old) (W.contents output.new) result }
 {
     let text = edited_text(alloc, image, script, bytes)?;
     write_all(output, text.as_slice())
@@ -67,7 +67,7 @@ fn write_edited<A: Allocator + Copy, W: Write>(
 /// script makes of it (own).
 ///
 /// Faults, in order: those of reading the three, then `Size` and `Text`, then the script's first line at
-/// fault: `Script` where it isn't understood, `EditPlace` and `EditLong` where it is refused; each with
+/// fault: `Script` where it isn't understood, `Place` and `Long` where it is refused; each with
 /// nothing written. `Memory` with nothing written at any point; `Write` with the first bytes of the answer
 /// written, and how many.
 pub fn edit_run<A: Allocator + Copy, C: Read, S: Read, R: Read, W: Write>(
@@ -77,7 +77,7 @@ pub fn edit_run<A: Allocator + Copy, C: Read, S: Read, R: Read, W: Write>(
     input: &mut R,
     output: &mut W,
 ) -> Result<(), ToolFault>
-    ensures { IsEditRun A (C.remaining cart.old) (C.remaining cart.new) (S.remaining script.old) (S.remaining script.new)
+    ensures { IsEditRun (C.remaining cart.old) (C.remaining cart.new) (S.remaining script.old) (S.remaining script.new)
         (R.remaining input.old) (R.remaining input.new) (W.contents output.old) (W.contents output.new) result }
 {
     let read = read_three(alloc, cart, script, input)?;

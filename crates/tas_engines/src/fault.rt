@@ -64,12 +64,12 @@ pub enum RunFault {
         line: usize,
     },
     /// A line of a script of changes reaches past the movie's last input.
-    EditPlace {
+    Place {
         /// The line's number, counted from 1.
         line: usize,
     },
     /// A line of a script of changes would make the movie too long.
-    EditLong {
+    Long {
         /// The line's number, counted from 1.
         line: usize,
     },
@@ -143,13 +143,13 @@ pub enum ToolFault {
     },
     /// A line of a script of changes reaches past the movie's last input. Nothing was written.
     #[error("fault: script line {line}: place")]
-    EditPlace {
+    Place {
         /// The line's number, counted from 1.
         line: usize,
     },
     /// A line of a script of changes would make the movie too long. Nothing was written.
     #[error("fault: script line {line}: long")]
-    EditLong {
+    Long {
         /// The line's number, counted from 1.
         line: usize,
     },
@@ -232,8 +232,8 @@ impl From<RunFault> for ToolFault {
             RunFault::Range { from, to, len } => ToolFault::Range { from, to, len },
             RunFault::Halted { at, opcode } => ToolFault::Halted { at, opcode },
             RunFault::Script { line } => ToolFault::Script { line },
-            RunFault::EditPlace { line } => ToolFault::EditPlace { line },
-            RunFault::EditLong { line } => ToolFault::EditLong { line },
+            RunFault::Place { line } => ToolFault::Place { line },
+            RunFault::Long { line } => ToolFault::Long { line },
             RunFault::NoPlace => ToolFault::NoPlace,
             RunFault::NoEntry => ToolFault::NoEntry,
             RunFault::Foreign => ToolFault::Foreign,

@@ -8,7 +8,6 @@
 //! '(own)' marks a decision of this project, one that no manual makes.
 #![tactic(auto)]
 
-mod change;
 mod checking;
 mod comparing;
 mod diffing;
@@ -25,14 +24,13 @@ mod shooting;
 mod tracing;
 mod writing;
 
-pub use change::{Change, change_line, read_change};
 pub use checking::check_run;
 pub use comparing::changes_between;
 pub use diffing::diff_run;
 pub use editing::edit_run;
 pub use fault::{ReadFault, RunFault, ToolFault};
 pub use laws::one_movie_per_cartridge_and_text;
-pub use making::{ChangeError, make_change};
+pub use making::{ChangeError, check_change, edit_of, make_change};
 pub use migrating::migrate_run;
 pub use movies::movie_of;
 pub use reading::{INPUT_LIMIT, ThreeInputs, read_input, read_three, read_two};

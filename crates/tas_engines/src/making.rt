@@ -1,11 +1,12 @@
 //! Making a change.
 
-ghost use Rattle.std.specs.Prelude.{◌≡◌, Err, IfOk, OnErr};
+ghost use Rattle.std.specs.Prelude.{◌≡◌, length, Err, IfOk, OnErr};
+ghost use Rattle.tas_movie.specs.Content.{MovieContent};
 ghost use Rattle.tas_movie.specs.Edit.{refusal, check_answer};
-ghost use Rattle.tas_engines.specs.Changes.{edit_of, BringsCopies, Makes};
+ghost use Rattle.tas_engines.specs.Changes.{edit_of, edit_on, BringsCopies, Makes};
 
-use crate::Change;
 use std::alloc::{AllocError, Allocator};
+use tas_language::Change;
 use tas_movie::{Edit, EditRefusal, Inputs, Movie, apply, check_insertion, check_place};
 
 /// Why a change wasn't made; the movie is as before (own).
@@ -17,11 +18,10 @@ pub enum ChangeError {
     Memory,
 }
 
-/// Whether a change is allowed on this movie, as `tas_movie::check` answers it of the edit.
-fn check_change<A: Allocator>(movie: &Movie<A>, change: Change) -> Result<(), EditRefusal>
-    ensures { result ≡ check_answer (refusal movie.now (edit_of A change)) }
+/// Whether a change is allowed on a movie of `len` frames, as `tas_movie::check` answers it of the edit.
+pub fn check_change(len: usize, change: Change) -> Result<(), EditRefusal>
+    ensures { (movie : MovieContent) → length movie.inputs ≡ len → result ≡ check_answer (refusal movie (edit_of change)) }
 {
-    let len = movie.len();
     match change {
         Change::Insert { at, count, .. } => check_insertion(len, at, count),
         Change::Replace { at, count, .. } | Change::Delete { at, count } => {
@@ -31,8 +31,8 @@ fn check_change<A: Allocator>(movie: &Movie<A>, change: Change) -> Result<(), Ed
 }
 
 /// The edit that a change asks for. `AllocError` where the room for the copies of the input is refused.
-fn edit_of<A: Allocator>(alloc: A, change: Change) -> Result<Edit<A>, AllocError>
-    ensures edit { IfOk result (λ edit. edit ≡ edit_of A change) }
+pub fn edit_of<A: Allocator>(alloc: A, change: Change) -> Result<Edit<A>, AllocError>
+    ensures edit { IfOk result (λ edit. edit ≡ edit_on A change) }
     ensures memory { OnErr result (BringsCopies change) }
 {
     match change {
@@ -56,11 +56,11 @@ pub fn make_change<A: Allocator, B: Allocator>(
     movie: &mut Movie<A>,
     change: Change,
 ) -> Result<(), ChangeError>
-    ensures made { Makes B movie.old change result movie.new }
+    ensures made { Makes movie.old change result movie.new }
     // A deletion asks for none.
     ensures memory { result ≡ Err ChangeError.Memory → BringsCopies change }
 {
-    check_change(movie, change).map_err(ChangeError::Refused)?;
+    check_change(movie.len(), change).map_err(ChangeError::Refused)?;
     let edit = edit_of(alloc, change).map_err(|_| ChangeError::Memory)?;
     apply(movie, &edit);
     Ok(())

@@ -4,9 +4,9 @@ ghost use Rattle.std.specs.Prelude.{◌≡◌, ◌++◌, IfOk, OnOk};
 ghost use Rattle.std.specs.List.{flat_map};
 ghost use Rattle.tas_engines.specs.Scripts.{change_line, fault_at, MakesAll};
 
-use crate::{Change, ChangeError, change_line, make_change, read_change};
+use crate::{ChangeError, make_change};
 use std::alloc::{AllocError, Allocator};
-use tas_language::split_once;
+use tas_language::{Change, change_line, read_change, split_once};
 use tas_movie::{EditRefusal, Movie};
 
 /// Why a script wasn't made to its end (own). Lines are counted from 1.
@@ -15,9 +15,9 @@ pub enum ScriptFault {
     /// The line says no change, or no newline ends it.
     Line(usize),
     /// The line's change reaches past the last input.
-    OutOfPlace(usize),
+    Place(usize),
     /// The line's change would make the movie too long.
-    TooLong(usize),
+    Long(usize),
     /// Memory was refused.
     Memory,
 }
@@ -27,8 +27,8 @@ fn fault_at(line: usize, error: ChangeError) -> ScriptFault
     ensures { result ≡ fault_at line error }
 {
     match error {
-        ChangeError::Refused(EditRefusal::Place { .. }) => ScriptFault::OutOfPlace(line),
-        ChangeError::Refused(EditRefusal::Long { .. }) => ScriptFault::TooLong(line),
+        ChangeError::Refused(EditRefusal::Place { .. }) => ScriptFault::Place(line),
+        ChangeError::Refused(EditRefusal::Long { .. }) => ScriptFault::Long(line),
         ChangeError::Memory => ScriptFault::Memory,
     }
 }
@@ -41,7 +41,7 @@ pub fn edit_movie<A: Allocator, B: Allocator + Copy>(
     movie: &mut Movie<A>,
     bytes: &[u8],
 ) -> Result<(), ScriptFault>
-    ensures { MakesAll B movie.old bytes.now movie.new result }
+    ensures { MakesAll movie.old bytes.now movie.new result }
 {
     let mut rest = bytes;
     let mut number = 1;

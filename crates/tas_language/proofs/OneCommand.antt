@@ -7,7 +7,8 @@ use Rattle.vcs_machine.specs.declared.input.Input.{Input}
 use Rattle.tas_movie.specs.Text.{frame_text}
 use Rattle.tas_movie.proofs.TextLemmas.{shown_input-frame}
 use Rattle.tas_language.specs.declared.command.Command.{Command}
-use Rattle.tas_language.specs.declared.command.Command.TheVariants.{Load, Insert, Replace, Delete, Length, InputAt, Shot, Work}
+use Rattle.tas_language.specs.declared.command.Command.TheVariants.{Load, Edit, Length, InputAt, Shot, Work}
+use Rattle.tas_language.specs.declared.change.Change.TheVariants.{Insert, Replace, Delete}
 use Rattle.tas_language.specs.declared.image.Image.{Image}
 use Rattle.tas_language.specs.declared.image.Image.TheVariants.{Large, Small}
 use Rattle.tas_language.specs.Commands.{Says, Loads, IsNumber, pair_text, frames_text}
@@ -99,72 +100,72 @@ load_same line (Small image) (Large image') p q = absurd (sizes_apart line p.0 q
 
 pub one_command : (line : List ℕ) (a b : Command) → Says line a → Says line b → a ≡ b
 one_command line (Load image) (Load image') p q = ap Load (load_same line image image' p q)
-one_command line (Load image) (Insert at' count' input') p q = let e : ◌≡◌ {A = ℕ} 27745 26995 = sym (load_letters line image p) ∙ ap letters q.0 in absurd (omega (arith, e))
-one_command line (Load image) (Replace at' count' input') p q = let e : ◌≡◌ {A = ℕ} 27745 29296 = sym (load_letters line image p) ∙ ap letters q.0 in absurd (omega (arith, e))
-one_command line (Load image) (Delete at' count') p q = let e : ◌≡◌ {A = ℕ} 27745 25708 = sym (load_letters line image p) ∙ ap letters q.0 in absurd (omega (arith, e))
+one_command line (Load image) (Edit (Insert at' count' input')) p q = let e : ◌≡◌ {A = ℕ} 27745 26995 = sym (load_letters line image p) ∙ ap letters q.0 in absurd (omega (arith, e))
+one_command line (Load image) (Edit (Replace at' count' input')) p q = let e : ◌≡◌ {A = ℕ} 27745 29296 = sym (load_letters line image p) ∙ ap letters q.0 in absurd (omega (arith, e))
+one_command line (Load image) (Edit (Delete at' count')) p q = let e : ◌≡◌ {A = ℕ} 27745 25708 = sym (load_letters line image p) ∙ ap letters q.0 in absurd (omega (arith, e))
 one_command line (Load image) Length p q = let e : ◌≡◌ {A = ℕ} 27745 27758 = sym (load_letters line image p) ∙ ap letters q in absurd (omega (arith, e))
 one_command line (Load image) (InputAt frame') p q = let e : ◌≡◌ {A = ℕ} 27745 26992 = sym (load_letters line image p) ∙ ap letters q.0 in absurd (omega (arith, e))
 one_command line (Load image) (Shot frame') p q = let e : ◌≡◌ {A = ℕ} 27745 29551 = sym (load_letters line image p) ∙ ap letters q.0 in absurd (omega (arith, e))
 one_command line (Load image) (Work frame') p q = let e : ◌≡◌ {A = ℕ} 27745 30578 = sym (load_letters line image p) ∙ ap letters q.0 in absurd (omega (arith, e))
-one_command line (Insert at count input) (Load image') p q = let e : ◌≡◌ {A = ℕ} 26995 27745 = sym (ap letters p.0) ∙ load_letters line image' q in absurd (omega (arith, e))
-one_command line (Insert at count input) (Insert at' count' input') p q =
-    let s = frames_same at count at' count' input input' p.1 p.2 q.1 q.2 (ap (λ (l : List ℕ). drop 7 l) (sym p.0 ∙ q.0)) in
-    ap (λ (n : ℕ). Insert n count input) s.0 ∙ ap (λ (n : ℕ). Insert at' n input) s.1 ∙ ap (Insert at' count') s.2
-one_command line (Insert at count input) (Replace at' count' input') p q = let e : ◌≡◌ {A = ℕ} 26995 29296 = ap letters (sym p.0 ∙ q.0) in absurd (omega (arith, e))
-one_command line (Insert at count input) (Delete at' count') p q = let e : ◌≡◌ {A = ℕ} 26995 25708 = ap letters (sym p.0 ∙ q.0) in absurd (omega (arith, e))
-one_command line (Insert at count input) Length p q = let e : ◌≡◌ {A = ℕ} 26995 27758 = ap letters (sym p.0 ∙ q) in absurd (omega (arith, e))
-one_command line (Insert at count input) (InputAt frame') p q = let e : ◌≡◌ {A = ℕ} 26995 26992 = ap letters (sym p.0 ∙ q.0) in absurd (omega (arith, e))
-one_command line (Insert at count input) (Shot frame') p q = let e : ◌≡◌ {A = ℕ} 26995 29551 = ap letters (sym p.0 ∙ q.0) in absurd (omega (arith, e))
-one_command line (Insert at count input) (Work frame') p q = let e : ◌≡◌ {A = ℕ} 26995 30578 = ap letters (sym p.0 ∙ q.0) in absurd (omega (arith, e))
-one_command line (Replace at count input) (Load image') p q = let e : ◌≡◌ {A = ℕ} 29296 27745 = sym (ap letters p.0) ∙ load_letters line image' q in absurd (omega (arith, e))
-one_command line (Replace at count input) (Insert at' count' input') p q = let e : ◌≡◌ {A = ℕ} 29296 26995 = ap letters (sym p.0 ∙ q.0) in absurd (omega (arith, e))
-one_command line (Replace at count input) (Replace at' count' input') p q =
-    let s = frames_same at count at' count' input input' p.1 p.2 q.1 q.2 (ap (λ (l : List ℕ). drop 8 l) (sym p.0 ∙ q.0)) in
-    ap (λ (n : ℕ). Replace n count input) s.0 ∙ ap (λ (n : ℕ). Replace at' n input) s.1 ∙ ap (Replace at' count') s.2
-one_command line (Replace at count input) (Delete at' count') p q = let e : ◌≡◌ {A = ℕ} 29296 25708 = ap letters (sym p.0 ∙ q.0) in absurd (omega (arith, e))
-one_command line (Replace at count input) Length p q = let e : ◌≡◌ {A = ℕ} 29296 27758 = ap letters (sym p.0 ∙ q) in absurd (omega (arith, e))
-one_command line (Replace at count input) (InputAt frame') p q = let e : ◌≡◌ {A = ℕ} 29296 26992 = ap letters (sym p.0 ∙ q.0) in absurd (omega (arith, e))
-one_command line (Replace at count input) (Shot frame') p q = let e : ◌≡◌ {A = ℕ} 29296 29551 = ap letters (sym p.0 ∙ q.0) in absurd (omega (arith, e))
-one_command line (Replace at count input) (Work frame') p q = let e : ◌≡◌ {A = ℕ} 29296 30578 = ap letters (sym p.0 ∙ q.0) in absurd (omega (arith, e))
-one_command line (Delete at count) (Load image') p q = let e : ◌≡◌ {A = ℕ} 25708 27745 = sym (ap letters p.0) ∙ load_letters line image' q in absurd (omega (arith, e))
-one_command line (Delete at count) (Insert at' count' input') p q = let e : ◌≡◌ {A = ℕ} 25708 26995 = ap letters (sym p.0 ∙ q.0) in absurd (omega (arith, e))
-one_command line (Delete at count) (Replace at' count' input') p q = let e : ◌≡◌ {A = ℕ} 25708 29296 = ap letters (sym p.0 ∙ q.0) in absurd (omega (arith, e))
-one_command line (Delete at count) (Delete at' count') p q =
+one_command line (Edit (Insert at count input)) (Load image') p q = let e : ◌≡◌ {A = ℕ} 26995 27745 = sym (ap letters p.0) ∙ load_letters line image' q in absurd (omega (arith, e))
+one_command line (Edit (Insert at count input)) (Edit (Insert at' count' input')) p q =
+    let s = frames_same at count at' count' input input' p.1.0 p.1.1 q.1.0 q.1.1 (ap (λ (l : List ℕ). drop 7 l) (sym p.0 ∙ q.0)) in
+    ap Edit (ap (λ (n : ℕ). Insert n count input) s.0 ∙ ap (λ (n : ℕ). Insert at' n input) s.1 ∙ ap (Insert at' count') s.2)
+one_command line (Edit (Insert at count input)) (Edit (Replace at' count' input')) p q = let e : ◌≡◌ {A = ℕ} 26995 29296 = ap letters (sym p.0 ∙ q.0) in absurd (omega (arith, e))
+one_command line (Edit (Insert at count input)) (Edit (Delete at' count')) p q = let e : ◌≡◌ {A = ℕ} 26995 25708 = ap letters (sym p.0 ∙ q.0) in absurd (omega (arith, e))
+one_command line (Edit (Insert at count input)) Length p q = let e : ◌≡◌ {A = ℕ} 26995 27758 = ap letters (sym p.0 ∙ q) in absurd (omega (arith, e))
+one_command line (Edit (Insert at count input)) (InputAt frame') p q = let e : ◌≡◌ {A = ℕ} 26995 26992 = ap letters (sym p.0 ∙ q.0) in absurd (omega (arith, e))
+one_command line (Edit (Insert at count input)) (Shot frame') p q = let e : ◌≡◌ {A = ℕ} 26995 29551 = ap letters (sym p.0 ∙ q.0) in absurd (omega (arith, e))
+one_command line (Edit (Insert at count input)) (Work frame') p q = let e : ◌≡◌ {A = ℕ} 26995 30578 = ap letters (sym p.0 ∙ q.0) in absurd (omega (arith, e))
+one_command line (Edit (Replace at count input)) (Load image') p q = let e : ◌≡◌ {A = ℕ} 29296 27745 = sym (ap letters p.0) ∙ load_letters line image' q in absurd (omega (arith, e))
+one_command line (Edit (Replace at count input)) (Edit (Insert at' count' input')) p q = let e : ◌≡◌ {A = ℕ} 29296 26995 = ap letters (sym p.0 ∙ q.0) in absurd (omega (arith, e))
+one_command line (Edit (Replace at count input)) (Edit (Replace at' count' input')) p q =
+    let s = frames_same at count at' count' input input' p.1.0 p.1.1 q.1.0 q.1.1 (ap (λ (l : List ℕ). drop 8 l) (sym p.0 ∙ q.0)) in
+    ap Edit (ap (λ (n : ℕ). Replace n count input) s.0 ∙ ap (λ (n : ℕ). Replace at' n input) s.1 ∙ ap (Replace at' count') s.2)
+one_command line (Edit (Replace at count input)) (Edit (Delete at' count')) p q = let e : ◌≡◌ {A = ℕ} 29296 25708 = ap letters (sym p.0 ∙ q.0) in absurd (omega (arith, e))
+one_command line (Edit (Replace at count input)) Length p q = let e : ◌≡◌ {A = ℕ} 29296 27758 = ap letters (sym p.0 ∙ q) in absurd (omega (arith, e))
+one_command line (Edit (Replace at count input)) (InputAt frame') p q = let e : ◌≡◌ {A = ℕ} 29296 26992 = ap letters (sym p.0 ∙ q.0) in absurd (omega (arith, e))
+one_command line (Edit (Replace at count input)) (Shot frame') p q = let e : ◌≡◌ {A = ℕ} 29296 29551 = ap letters (sym p.0 ∙ q.0) in absurd (omega (arith, e))
+one_command line (Edit (Replace at count input)) (Work frame') p q = let e : ◌≡◌ {A = ℕ} 29296 30578 = ap letters (sym p.0 ∙ q.0) in absurd (omega (arith, e))
+one_command line (Edit (Delete at count)) (Load image') p q = let e : ◌≡◌ {A = ℕ} 25708 27745 = sym (ap letters p.0) ∙ load_letters line image' q in absurd (omega (arith, e))
+one_command line (Edit (Delete at count)) (Edit (Insert at' count' input')) p q = let e : ◌≡◌ {A = ℕ} 25708 26995 = ap letters (sym p.0 ∙ q.0) in absurd (omega (arith, e))
+one_command line (Edit (Delete at count)) (Edit (Replace at' count' input')) p q = let e : ◌≡◌ {A = ℕ} 25708 29296 = ap letters (sym p.0 ∙ q.0) in absurd (omega (arith, e))
+one_command line (Edit (Delete at count)) (Edit (Delete at' count')) p q =
     let e : pair_text at count ≡ pair_text at' count' = ap (λ (l : List ℕ). drop 7 l) (sym p.0 ∙ q.0) in
-    let s = number_before at at' (decimal count) (decimal count') p.1 q.1 e in
-    ap (λ (n : ℕ). Delete n count) s.0 ∙ ap (Delete at') (number_same count count' p.2 q.2 s.1)
-one_command line (Delete at count) Length p q = let e : ◌≡◌ {A = ℕ} 25708 27758 = ap letters (sym p.0 ∙ q) in absurd (omega (arith, e))
-one_command line (Delete at count) (InputAt frame') p q = let e : ◌≡◌ {A = ℕ} 25708 26992 = ap letters (sym p.0 ∙ q.0) in absurd (omega (arith, e))
-one_command line (Delete at count) (Shot frame') p q = let e : ◌≡◌ {A = ℕ} 25708 29551 = ap letters (sym p.0 ∙ q.0) in absurd (omega (arith, e))
-one_command line (Delete at count) (Work frame') p q = let e : ◌≡◌ {A = ℕ} 25708 30578 = ap letters (sym p.0 ∙ q.0) in absurd (omega (arith, e))
+    let s = number_before at at' (decimal count) (decimal count') p.1.0 q.1.0 e in
+    ap Edit (ap (λ (n : ℕ). Delete n count) s.0 ∙ ap (Delete at') (number_same count count' p.1.1 q.1.1 s.1))
+one_command line (Edit (Delete at count)) Length p q = let e : ◌≡◌ {A = ℕ} 25708 27758 = ap letters (sym p.0 ∙ q) in absurd (omega (arith, e))
+one_command line (Edit (Delete at count)) (InputAt frame') p q = let e : ◌≡◌ {A = ℕ} 25708 26992 = ap letters (sym p.0 ∙ q.0) in absurd (omega (arith, e))
+one_command line (Edit (Delete at count)) (Shot frame') p q = let e : ◌≡◌ {A = ℕ} 25708 29551 = ap letters (sym p.0 ∙ q.0) in absurd (omega (arith, e))
+one_command line (Edit (Delete at count)) (Work frame') p q = let e : ◌≡◌ {A = ℕ} 25708 30578 = ap letters (sym p.0 ∙ q.0) in absurd (omega (arith, e))
 one_command line Length (Load image') p q = let e : ◌≡◌ {A = ℕ} 27758 27745 = sym (ap letters p) ∙ load_letters line image' q in absurd (omega (arith, e))
-one_command line Length (Insert at' count' input') p q = let e : ◌≡◌ {A = ℕ} 27758 26995 = ap letters (sym p ∙ q.0) in absurd (omega (arith, e))
-one_command line Length (Replace at' count' input') p q = let e : ◌≡◌ {A = ℕ} 27758 29296 = ap letters (sym p ∙ q.0) in absurd (omega (arith, e))
-one_command line Length (Delete at' count') p q = let e : ◌≡◌ {A = ℕ} 27758 25708 = ap letters (sym p ∙ q.0) in absurd (omega (arith, e))
+one_command line Length (Edit (Insert at' count' input')) p q = let e : ◌≡◌ {A = ℕ} 27758 26995 = ap letters (sym p ∙ q.0) in absurd (omega (arith, e))
+one_command line Length (Edit (Replace at' count' input')) p q = let e : ◌≡◌ {A = ℕ} 27758 29296 = ap letters (sym p ∙ q.0) in absurd (omega (arith, e))
+one_command line Length (Edit (Delete at' count')) p q = let e : ◌≡◌ {A = ℕ} 27758 25708 = ap letters (sym p ∙ q.0) in absurd (omega (arith, e))
 one_command line Length Length p q = refl
 one_command line Length (InputAt frame') p q = let e : ◌≡◌ {A = ℕ} 27758 26992 = ap letters (sym p ∙ q.0) in absurd (omega (arith, e))
 one_command line Length (Shot frame') p q = let e : ◌≡◌ {A = ℕ} 27758 29551 = ap letters (sym p ∙ q.0) in absurd (omega (arith, e))
 one_command line Length (Work frame') p q = let e : ◌≡◌ {A = ℕ} 27758 30578 = ap letters (sym p ∙ q.0) in absurd (omega (arith, e))
 one_command line (InputAt frame) (Load image') p q = let e : ◌≡◌ {A = ℕ} 26992 27745 = sym (ap letters p.0) ∙ load_letters line image' q in absurd (omega (arith, e))
-one_command line (InputAt frame) (Insert at' count' input') p q = let e : ◌≡◌ {A = ℕ} 26992 26995 = ap letters (sym p.0 ∙ q.0) in absurd (omega (arith, e))
-one_command line (InputAt frame) (Replace at' count' input') p q = let e : ◌≡◌ {A = ℕ} 26992 29296 = ap letters (sym p.0 ∙ q.0) in absurd (omega (arith, e))
-one_command line (InputAt frame) (Delete at' count') p q = let e : ◌≡◌ {A = ℕ} 26992 25708 = ap letters (sym p.0 ∙ q.0) in absurd (omega (arith, e))
+one_command line (InputAt frame) (Edit (Insert at' count' input')) p q = let e : ◌≡◌ {A = ℕ} 26992 26995 = ap letters (sym p.0 ∙ q.0) in absurd (omega (arith, e))
+one_command line (InputAt frame) (Edit (Replace at' count' input')) p q = let e : ◌≡◌ {A = ℕ} 26992 29296 = ap letters (sym p.0 ∙ q.0) in absurd (omega (arith, e))
+one_command line (InputAt frame) (Edit (Delete at' count')) p q = let e : ◌≡◌ {A = ℕ} 26992 25708 = ap letters (sym p.0 ∙ q.0) in absurd (omega (arith, e))
 one_command line (InputAt frame) Length p q = let e : ◌≡◌ {A = ℕ} 26992 27758 = ap letters (sym p.0 ∙ q) in absurd (omega (arith, e))
 one_command line (InputAt frame) (InputAt frame') p q = ap InputAt (number_same frame frame' p.1 q.1 (ap (λ (l : List ℕ). drop 6 l) (sym p.0 ∙ q.0)))
 one_command line (InputAt frame) (Shot frame') p q = let e : ◌≡◌ {A = ℕ} 26992 29551 = ap letters (sym p.0 ∙ q.0) in absurd (omega (arith, e))
 one_command line (InputAt frame) (Work frame') p q = let e : ◌≡◌ {A = ℕ} 26992 30578 = ap letters (sym p.0 ∙ q.0) in absurd (omega (arith, e))
 one_command line (Shot frame) (Load image') p q = let e : ◌≡◌ {A = ℕ} 29551 27745 = sym (ap letters p.0) ∙ load_letters line image' q in absurd (omega (arith, e))
-one_command line (Shot frame) (Insert at' count' input') p q = let e : ◌≡◌ {A = ℕ} 29551 26995 = ap letters (sym p.0 ∙ q.0) in absurd (omega (arith, e))
-one_command line (Shot frame) (Replace at' count' input') p q = let e : ◌≡◌ {A = ℕ} 29551 29296 = ap letters (sym p.0 ∙ q.0) in absurd (omega (arith, e))
-one_command line (Shot frame) (Delete at' count') p q = let e : ◌≡◌ {A = ℕ} 29551 25708 = ap letters (sym p.0 ∙ q.0) in absurd (omega (arith, e))
+one_command line (Shot frame) (Edit (Insert at' count' input')) p q = let e : ◌≡◌ {A = ℕ} 29551 26995 = ap letters (sym p.0 ∙ q.0) in absurd (omega (arith, e))
+one_command line (Shot frame) (Edit (Replace at' count' input')) p q = let e : ◌≡◌ {A = ℕ} 29551 29296 = ap letters (sym p.0 ∙ q.0) in absurd (omega (arith, e))
+one_command line (Shot frame) (Edit (Delete at' count')) p q = let e : ◌≡◌ {A = ℕ} 29551 25708 = ap letters (sym p.0 ∙ q.0) in absurd (omega (arith, e))
 one_command line (Shot frame) Length p q = let e : ◌≡◌ {A = ℕ} 29551 27758 = ap letters (sym p.0 ∙ q) in absurd (omega (arith, e))
 one_command line (Shot frame) (InputAt frame') p q = let e : ◌≡◌ {A = ℕ} 29551 26992 = ap letters (sym p.0 ∙ q.0) in absurd (omega (arith, e))
 one_command line (Shot frame) (Shot frame') p q = ap Shot (number_same frame frame' p.1 q.1 (ap (λ (l : List ℕ). drop 5 l) (sym p.0 ∙ q.0)))
 one_command line (Shot frame) (Work frame') p q = let e : ◌≡◌ {A = ℕ} 29551 30578 = ap letters (sym p.0 ∙ q.0) in absurd (omega (arith, e))
 one_command line (Work frame) (Load image') p q = let e : ◌≡◌ {A = ℕ} 30578 27745 = sym (ap letters p.0) ∙ load_letters line image' q in absurd (omega (arith, e))
-one_command line (Work frame) (Insert at' count' input') p q = let e : ◌≡◌ {A = ℕ} 30578 26995 = ap letters (sym p.0 ∙ q.0) in absurd (omega (arith, e))
-one_command line (Work frame) (Replace at' count' input') p q = let e : ◌≡◌ {A = ℕ} 30578 29296 = ap letters (sym p.0 ∙ q.0) in absurd (omega (arith, e))
-one_command line (Work frame) (Delete at' count') p q = let e : ◌≡◌ {A = ℕ} 30578 25708 = ap letters (sym p.0 ∙ q.0) in absurd (omega (arith, e))
+one_command line (Work frame) (Edit (Insert at' count' input')) p q = let e : ◌≡◌ {A = ℕ} 30578 26995 = ap letters (sym p.0 ∙ q.0) in absurd (omega (arith, e))
+one_command line (Work frame) (Edit (Replace at' count' input')) p q = let e : ◌≡◌ {A = ℕ} 30578 29296 = ap letters (sym p.0 ∙ q.0) in absurd (omega (arith, e))
+one_command line (Work frame) (Edit (Delete at' count')) p q = let e : ◌≡◌ {A = ℕ} 30578 25708 = ap letters (sym p.0 ∙ q.0) in absurd (omega (arith, e))
 one_command line (Work frame) Length p q = let e : ◌≡◌ {A = ℕ} 30578 27758 = ap letters (sym p.0 ∙ q) in absurd (omega (arith, e))
 one_command line (Work frame) (InputAt frame') p q = let e : ◌≡◌ {A = ℕ} 30578 26992 = ap letters (sym p.0 ∙ q.0) in absurd (omega (arith, e))
 one_command line (Work frame) (Shot frame') p q = let e : ◌≡◌ {A = ℕ} 30578 29551 = ap letters (sym p.0 ∙ q.0) in absurd (omega (arith, e))

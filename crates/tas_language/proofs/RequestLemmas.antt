@@ -5,7 +5,8 @@ use Rattle.std.proofs.lemmas.List.{flat_map_more, take_more}
 use Rattle.std.specs.Prelude.{decimal}
 use Rattle.std.specs.List.{flat_map}
 use Rattle.tas_language.specs.declared.command.Command.{Command}
-use Rattle.tas_language.specs.declared.command.Command.TheVariants.{Load, Insert, Replace, Delete, Length, InputAt, Shot, Work}
+use Rattle.tas_language.specs.declared.command.Command.TheVariants.{Load, Edit, Length, InputAt, Shot, Work}
+use Rattle.tas_language.specs.declared.change.Change.TheVariants.{Insert, Replace, Delete}
 use Rattle.tas_language.specs.declared.image.Image.{Image}
 use Rattle.tas_language.specs.declared.image.Image.TheVariants.{Large, Small}
 use Rattle.tas_language.specs.Commands.{Says, Loads, IsNumber}
@@ -47,9 +48,9 @@ load_letters line (Small image) p = ap letters p.1
 
 not_script : (line : List ℕ) (x : ℕ) (command : Command) → letters line ≡ x → AreOther x → Says line command → ⊥
 not_script line x (Load image) at o says = o.lo (sym at ∙ load_letters line image says)
-not_script line x (Insert place count input) at o says = o.in_ (sym at ∙ ap letters says.0)
-not_script line x (Replace place count input) at o says = o.re (sym at ∙ ap letters says.0)
-not_script line x (Delete place count) at o says = o.de (sym at ∙ ap letters says.0)
+not_script line x (Edit (Insert place count input)) at o says = o.in_ (sym at ∙ ap letters says.0)
+not_script line x (Edit (Replace place count input)) at o says = o.re (sym at ∙ ap letters says.0)
+not_script line x (Edit (Delete place count)) at o says = o.de (sym at ∙ ap letters says.0)
 not_script line x Length at o says = o.le (sym at ∙ ap letters says)
 not_script line x (InputAt frame) at o says = o.in_ (sym at ∙ ap letters says.0)
 not_script line x (Shot frame) at o says = o.sh (sym at ∙ ap letters says.0)

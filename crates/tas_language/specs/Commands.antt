@@ -3,7 +3,9 @@ use Rattle.std.specs.Prelude.{◌≡◌, ℕ, ◌≤◌, List, [], ◌∷◌, �
 use Rattle.tas_movie.specs.Text.{frame_text}
 use Rattle.vcs_machine.specs.declared.input.Input.{Input}
 use Rattle.tas_language.specs.declared.command.Command.{Command}
-use Rattle.tas_language.specs.declared.command.Command.TheVariants.{Load, Insert, Replace, Delete, Length, InputAt, Shot, Work}
+use Rattle.tas_language.specs.declared.command.Command.TheVariants.{Load, Edit, Length, InputAt, Shot, Work}
+use Rattle.tas_language.specs.declared.change.Change.{Change}
+use Rattle.tas_language.specs.declared.change.Change.TheVariants.{Insert, Replace, Delete}
 use Rattle.tas_language.specs.declared.image.Image.{Image}
 use Rattle.tas_language.specs.declared.image.Image.TheVariants.{Large, Small}
 use Rattle.tas_language.specs.Parts.{IsImageOf}
@@ -29,6 +31,22 @@ pair_text at count = decimal at ++ 32 ∷ decimal count
 abbrev pub frames_text : ℕ → ℕ → Input → List ℕ
 frames_text at count input = decimal at ++ 32 ∷ (decimal count ++ 32 ∷ frame_text input)
 
+-- the line of a change, without its newline
+abbrev pub change_text : Change → List ℕ
+change_text (Insert at count input) = codes "insert " ++ frames_text at count input
+change_text (Replace at count input) = codes "replace " ++ frames_text at count input
+change_text (Delete at count) = codes "delete " ++ pair_text at count
+
+-- its numbers have one to seven digits
+abbrev pub HasNumbers : Change → Type 0
+HasNumbers (Insert at count input) = IsNumber at × IsNumber count
+HasNumbers (Replace at count input) = IsNumber at × IsNumber count
+HasNumbers (Delete at count) = IsNumber at × IsNumber count
+
+-- the line says this change
+abbrev pub IsChangeLine : List ℕ → Change → Type 0
+IsChangeLine said change = (said ≡ change_text change) × HasNumbers change
+
 -- an image's bytes
 abbrev pub image_bytes : Image → List ℕ
 image_bytes (Large bytes) = bytes
@@ -43,9 +61,7 @@ Loads said (Small image) = (parts : List ℕ) × (said ≡ codes "load2" ++ part
 -- without leading zeros
 abbrev pub Says : List ℕ → Command → Type 0
 Says said (Load image) = Loads said image
-Says said (Insert at count input) = (said ≡ codes "insert " ++ frames_text at count input) × IsNumber at × IsNumber count
-Says said (Replace at count input) = (said ≡ codes "replace " ++ frames_text at count input) × IsNumber at × IsNumber count
-Says said (Delete at count) = (said ≡ codes "delete " ++ pair_text at count) × IsNumber at × IsNumber count
+Says said (Edit change) = IsChangeLine said change
 Says said Length = said ≡ codes "len"
 Says said (InputAt frame) = (said ≡ codes "input " ++ decimal frame) × IsNumber frame
 Says said (Shot frame) = (said ≡ codes "shot " ++ decimal frame) × IsNumber frame

@@ -1,7 +1,6 @@
 //! What a line of a script asks for.
 
-use crate::Image;
-use vcs_machine::Input;
+use crate::{Change, Image};
 
 /// What a line of a script asks for (own). Numbers are at most [`MAX_NUMBER`](crate::MAX_NUMBER).
 #[derive(Clone, Copy, Debug, PartialEq, Eq)]
@@ -11,31 +10,8 @@ pub enum Command {
         /// The cartridge's bytes.
         image: Image,
     },
-    /// `insert PLACE COUNT FRAME`: copies of one input are put in.
-    Insert {
-        /// The place in the movie's inputs, counted from 0.
-        at: usize,
-        /// How many copies.
-        count: usize,
-        /// The input.
-        input: Input,
-    },
-    /// `replace PLACE COUNT FRAME`: copies of one input are written over as many inputs.
-    Replace {
-        /// The place in the movie's inputs, counted from 0.
-        at: usize,
-        /// How many copies.
-        count: usize,
-        /// The input.
-        input: Input,
-    },
-    /// `delete PLACE COUNT`: inputs are taken out.
-    Delete {
-        /// The place in the movie's inputs, counted from 0.
-        at: usize,
-        /// How many inputs.
-        count: usize,
-    },
+    /// `insert`, `replace` or `delete`: the movie's inputs change.
+    Edit(Change),
     /// `len`: the movie's length.
     Length,
     /// `input K`: the input of one frame.

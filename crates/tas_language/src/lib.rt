@@ -8,6 +8,7 @@
 #![tactic(auto)]
 
 mod answers;
+mod change;
 mod command;
 mod image;
 mod laws;
@@ -20,6 +21,7 @@ mod request;
 mod words;
 
 pub use answers::{movie_answer, picture_answer, states_answer};
+pub use change::{Change, change_line, read_change};
 pub use command::Command;
 pub use image::Image;
 pub use laws::{one_command_per_line, one_request_per_line};

@@ -8,7 +8,7 @@ ghost use Rattle.tas_language.specs.Requests.{Asks};
 
 use crate::loading::load_image;
 use crate::words::{frames, number, pair, strip};
-use crate::{Command, Image, Request};
+use crate::{Change, Command, Image, Request};
 
 /// What a line, without its newline, asks for; nothing where it isn't understood (own). Takes no memory.
 pub fn parse_line(line: &[u8]) -> Option<Command>
@@ -28,15 +28,15 @@ pub fn parse_line(line: &[u8]) -> Option<Command>
     }
     if let Some(rest) = strip(line, b"insert ") {
         let (at, count, input) = frames(rest)?;
-        return Some(Command::Insert { at, count, input });
+        return Some(Command::Edit(Change::Insert { at, count, input }));
     }
     if let Some(rest) = strip(line, b"replace ") {
         let (at, count, input) = frames(rest)?;
-        return Some(Command::Replace { at, count, input });
+        return Some(Command::Edit(Change::Replace { at, count, input }));
     }
     if let Some(rest) = strip(line, b"delete ") {
         let (at, count) = pair(rest)?;
-        return Some(Command::Delete { at, count });
+        return Some(Command::Edit(Change::Delete { at, count }));
     }
     if let Some(rest) = strip(line, b"input ") {
         let frame = number(rest)?;

@@ -1,7 +1,7 @@
 //! Printing a reply.
 
 ghost use Rattle.std.specs.Prelude.{◌≡◌, IfOk};
-ghost use Rattle.tas_language.specs.declared.reply.Reply.TheVariants.{Edited, Misplaced, TooLong, Full, Measured, Pressed, NoFrame, Drawn, Halted, Worked, OutOfMemory};
+ghost use Rattle.tas_language.specs.declared.reply.Reply.TheVariants.{Edited, Place, Long, Full, Measured, Pressed, NoFrame, Drawn, Halted, Worked, OutOfMemory};
 ghost use Rattle.tas_language.specs.Replies.{reply_text};
 ghost use Rattle.vcs_cpu.specs.Lines.{hex_word};
 
@@ -26,14 +26,14 @@ fn edited_line<A: Allocator>(alloc: A, at: u64, len: usize) -> Result<Vec<u8, A>
     Ok(format!(in alloc; "edit {at} len {len}\n")?.into_bytes())
 }
 
-fn misplaced_line<A: Allocator>(alloc: A, at: u64, len: usize) -> Result<Vec<u8, A>, AllocError>
-    ensures { IfOk result (λ bytes. bytes.items ≡ reply_text (Misplaced at len)) }
+fn place_line<A: Allocator>(alloc: A, at: u64, len: usize) -> Result<Vec<u8, A>, AllocError>
+    ensures { IfOk result (λ bytes. bytes.items ≡ reply_text (Place at len)) }
 {
     Ok(format!(in alloc; "place {at} len {len}\n")?.into_bytes())
 }
 
-fn too_long_line<A: Allocator>(alloc: A, at: u64, len: usize) -> Result<Vec<u8, A>, AllocError>
-    ensures { IfOk result (λ bytes. bytes.items ≡ reply_text (TooLong at len)) }
+fn long_line<A: Allocator>(alloc: A, at: u64, len: usize) -> Result<Vec<u8, A>, AllocError>
+    ensures { IfOk result (λ bytes. bytes.items ≡ reply_text (Long at len)) }
 {
     Ok(format!(in alloc; "long {at} len {len}\n")?.into_bytes())
 }
@@ -116,8 +116,8 @@ pub fn reply_line<A: Allocator>(alloc: A, reply: Reply) -> Result<Vec<u8, A>, Al
 {
     match reply {
         Reply::Edited { at, len } => edited_line(alloc, at, len),
-        Reply::Misplaced { at, len } => misplaced_line(alloc, at, len),
-        Reply::TooLong { at, len } => too_long_line(alloc, at, len),
+        Reply::Place { at, len } => place_line(alloc, at, len),
+        Reply::Long { at, len } => long_line(alloc, at, len),
         Reply::Full { at } => full_line(alloc, at),
         Reply::Measured { at, len } => measured_line(alloc, at, len),
         Reply::Pressed { at, input } => pressed_line(alloc, at, input),

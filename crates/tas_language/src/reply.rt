@@ -14,14 +14,14 @@ pub enum Reply {
         len: usize,
     },
     /// `place AT len N`: the edit reaches past the movie's last input.
-    Misplaced {
+    Place {
         /// How many edits were made before.
         at: u64,
         /// The movie's length in frames.
         len: usize,
     },
     /// `long AT len N`: the movie would have too many inputs.
-    TooLong {
+    Long {
         /// How many edits were made before.
         at: u64,
         /// The movie's length in frames.

@@ -11,9 +11,9 @@ use Rattle.tas_words.specs.declared.task.Task.{Task}
 use Rattle.tas_words.specs.Requests.{AreGiven, IsNoTask, IsRequest}
 use Rattle.tas_program.specs.Program.{IsAskedBy, Streams, end_status, EndsOver, EndsOverTwo, DoesTask, TaskEnds}
 
-pub task_ends : (A : Type 0) (files : List ℕ → Option (List ℕ)) (chosen : Task) (old new : Streams) (end : Result (Unit {0}) ToolFault) → DoesTask A files chosen old new end → TaskEnds A files chosen old new (end_status end)
-task_ends A files chosen old new (Ok u) does = does
-task_ends A files chosen old new (Err fault) does = (fault, does)
+pub task_ends : (files : List ℕ → Option (List ℕ)) (chosen : Task) (old new : Streams) (end : Result (Unit {0}) ToolFault) → DoesTask files chosen old new end → TaskEnds files chosen old new (end_status end)
+task_ends files chosen old new (Ok u) does = does
+task_ends files chosen old new (Err fault) does = (fault, does)
 
 -- an engine ran over a file that was opened
 pub over_one : (runs : (file left : Option (List ℕ)) → Type 0) (one file left : Option (List ℕ)) (old new : Streams) (end : Result (Unit {0}) ToolFault) → file ≡ one → runs file left → EndsOver one runs old new end

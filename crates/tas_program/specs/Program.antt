@@ -52,35 +52,34 @@ EndsOver file runs old new end = ((end ≡ Err Read) × (new ≡ old)) ⊎ ((lef
 abbrev pub EndsOverTwo : Option (List ℕ) → Option (List ℕ) → (Option (List ℕ) → Option (List ℕ) → Option (List ℕ) → Option (List ℕ) → Type 0) → Streams → Streams → Result (Unit {0}) ToolFault → Type 0
 EndsOverTwo one two runs old new end = ((end ≡ Err Read) × (new ≡ old)) ⊎ ((left left' : Option (List ℕ)) × runs one left two left')
 
--- a task ends as the definition of its command says, over its file and the streams. A is the allocator, on which no
--- answer depends
-abbrev pub DoesTask : Type 0 → (List ℕ → Option (List ℕ)) → Task → Streams → Streams → Result (Unit {0}) ToolFault → Type 0
-DoesTask A files (Trace n) old new end = IsTraceRun n old.input new.input old.output new.output end
-DoesTask A files (Check cart) old new end =
+-- a task ends as the definition of its command says, over its file and the streams
+abbrev pub DoesTask : (List ℕ → Option (List ℕ)) → Task → Streams → Streams → Result (Unit {0}) ToolFault → Type 0
+DoesTask files (Trace n) old new end = IsTraceRun n old.input new.input old.output new.output end
+DoesTask files (Check cart) old new end =
     EndsOver (files cart.now) (λ file left. IsMovieRun IsCheckAnswer file left old.input new.input old.output new.output end) old new end
-DoesTask A files (Migrate cart) old new end =
+DoesTask files (Migrate cart) old new end =
     EndsOver (files cart.now) (λ file left. IsMovieRun IsMigrateAnswer file left old.input new.input old.output new.output end) old new end
-DoesTask A files (Shot cart k) old new end =
+DoesTask files (Shot cart k) old new end =
     EndsOver (files cart.now) (λ file left. IsMovieRun (IsShotAnswer k) file left old.input new.input old.output new.output end) old new end
-DoesTask A files (Edit cart script) old new end =
-    EndsOverTwo (files cart.now) (files script.now) (λ file left file' left'. IsEditRun A file left file' left' old.input new.input old.output new.output end) old new end
-DoesTask A files (Diff cart before) old new end =
-    EndsOverTwo (files cart.now) (files before.now) (λ file left file' left'. IsDiffRun A file left file' left' old.input new.input old.output new.output end) old new end
-DoesTask A files Script old new end = IsScriptRun A old.input new.input old.output new.output end
-DoesTask A files (MovieScript cart movie) old new end =
-    EndsOverTwo (files cart.now) (files movie.now) (λ file left file' left'. IsMovieScriptRun A file left file' left' old.input new.input old.output new.output end) old new end
-DoesTask A files Talk old new end = IsTalk A (talk_state_from None) old.input new.input old.output new.output end
-DoesTask A files (CartTalk cart) old new end = EndsOver (files cart.now) (λ file left. IsCartTalk A file left old.input new.input old.output new.output end) old new end
-DoesTask A files (MovieTalk cart movie) old new end =
-    EndsOverTwo (files cart.now) (files movie.now) (λ file left file' left'. IsMovieTalk A file left file' left' old.input new.input old.output new.output end) old new end
-DoesTask A files (Export cart from to workers) old new end =
+DoesTask files (Edit cart script) old new end =
+    EndsOverTwo (files cart.now) (files script.now) (λ file left file' left'. IsEditRun file left file' left' old.input new.input old.output new.output end) old new end
+DoesTask files (Diff cart before) old new end =
+    EndsOverTwo (files cart.now) (files before.now) (λ file left file' left'. IsDiffRun file left file' left' old.input new.input old.output new.output end) old new end
+DoesTask files Script old new end = IsScriptRun old.input new.input old.output new.output end
+DoesTask files (MovieScript cart movie) old new end =
+    EndsOverTwo (files cart.now) (files movie.now) (λ file left file' left'. IsMovieScriptRun file left file' left' old.input new.input old.output new.output end) old new end
+DoesTask files Talk old new end = IsTalk (talk_state_from None) old.input new.input old.output new.output end
+DoesTask files (CartTalk cart) old new end = EndsOver (files cart.now) (λ file left. IsCartTalk file left old.input new.input old.output new.output end) old new end
+DoesTask files (MovieTalk cart movie) old new end =
+    EndsOverTwo (files cart.now) (files movie.now) (λ file left file' left'. IsMovieTalk file left file' left' old.input new.input old.output new.output end) old new end
+DoesTask files (Export cart from to workers) old new end =
     EndsOver (files cart.now) (λ file left. IsMovieRun (IsExportAnswer from to) file left old.input new.input old.output new.output end) old new end
 
 -- the program's end after a task: done where the task is, else a fault
-abbrev pub TaskEnds : Type 0 → (List ℕ → Option (List ℕ)) → Task → Streams → Streams → Status → Type 0
-TaskEnds A files chosen old new Done = DoesTask A files chosen old new (Ok tt)
-TaskEnds A files chosen old new Fault = (fault : ToolFault) × DoesTask A files chosen old new (Err fault)
-TaskEnds A files chosen old new Misuse = ⊥
+abbrev pub TaskEnds : (List ℕ → Option (List ℕ)) → Task → Streams → Streams → Status → Type 0
+TaskEnds files chosen old new Done = DoesTask files chosen old new (Ok tt)
+TaskEnds files chosen old new Fault = (fault : ToolFault) × DoesTask files chosen old new (Err fault)
+TaskEnds files chosen old new Misuse = ⊥
 
 -- the program's end after a text that was asked for: done where it was written whole, else a fault
 abbrev pub TextEnds : List ℕ → Option (List ℕ) → Option (List ℕ) → Status → Type 0
@@ -89,11 +88,11 @@ TextEnds text old new Fault = (fault : RunFault) × StopsWriting old new text fa
 TextEnds text old new Misuse = ⊥
 
 -- the program's end after a request: where there is no task, nothing is read, and where there is nothing to show, nothing is written
-abbrev pub CarriesOut : (A : Type 0) → (List ℕ → Option (List ℕ)) → Request A → Streams → Streams → Status → Type 0
-CarriesOut A files (Do chosen) old new status = TaskEnds A files chosen old new status
-CarriesOut A files (Show text) old new status = (new.input ≡ old.input) × TextEnds (string_bytes text) old.output new.output status
-CarriesOut A files (Refuse text) old new status = (status ≡ Misuse) × (new ≡ old)
-CarriesOut A files NoMemory old new status = (status ≡ Fault) × (new ≡ old)
+abbrev pub CarriesOut : {A : Type 0} → (List ℕ → Option (List ℕ)) → Request A → Streams → Streams → Status → Type 0
+CarriesOut files (Do chosen) old new status = TaskEnds files chosen old new status
+CarriesOut files (Show text) old new status = (new.input ≡ old.input) × TextEnds (string_bytes text) old.output new.output status
+CarriesOut files (Refuse text) old new status = (status ≡ Misuse) × (new ≡ old)
+CarriesOut files NoMemory old new status = (status ≡ Fault) × (new ≡ old)
 
 -- what may be asked for by what the system gave: a task by its words alone
 abbrev pub IsAskedBy : {A : Type 0} → Result (IntoIter (String A) A) Error → Request A → Type 0
@@ -101,5 +100,5 @@ IsAskedBy given (Do chosen) = (words : List Text) × AreGiven given words × IsR
 IsAskedBy given _ = Unit {0}
 
 -- the program carries out what the words may ask for
-abbrev pub ProgramEnds : (A : Type 0) → Result (IntoIter (String A) A) Error → (List ℕ → Option (List ℕ)) → Streams → Streams → Status → Type 0
-ProgramEnds A given files old new status = (request : Request A) × IsAskedBy given request × CarriesOut A files request old new status
+abbrev pub ProgramEnds : {A : Type 0} → Result (IntoIter (String A) A) Error → (List ℕ → Option (List ℕ)) → Streams → Streams → Status → Type 0
+ProgramEnds given files old new status = (request : Request A) × IsAskedBy given request × CarriesOut files request old new status

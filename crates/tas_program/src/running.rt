@@ -48,7 +48,7 @@ fn shot_file<A: Allocator + Copy, F: Folder, R: Read, W: Write>(
     input: &mut R,
     output: &mut W,
 ) -> Result<(), ToolFault>
-    ensures { DoesTask A (F.bytes_of folder.now) (Shot cart.entry frame)
+    ensures { DoesTask (F.bytes_of folder.now) (Shot cart.entry frame)
         (record { input = R.remaining input.old; output = W.contents output.old })
         (record { input = R.remaining input.new; output = W.contents output.new }) result }
 {
@@ -65,7 +65,7 @@ fn edit_files<A: Allocator + Copy, F: Folder, R: Read, W: Write>(
     input: &mut R,
     output: &mut W,
 ) -> Result<(), ToolFault>
-    ensures { DoesTask A (F.bytes_of folder.now) (Edit cart.entry script.entry)
+    ensures { DoesTask (F.bytes_of folder.now) (Edit cart.entry script.entry)
         (record { input = R.remaining input.old; output = W.contents output.old })
         (record { input = R.remaining input.new; output = W.contents output.new }) result }
 {
@@ -82,7 +82,7 @@ fn diff_files<A: Allocator + Copy, F: Folder, R: Read, W: Write>(
     input: &mut R,
     output: &mut W,
 ) -> Result<(), ToolFault>
-    ensures { DoesTask A (F.bytes_of folder.now) (Diff cart.entry old.entry)
+    ensures { DoesTask (F.bytes_of folder.now) (Diff cart.entry old.entry)
         (record { input = R.remaining input.old; output = W.contents output.old })
         (record { input = R.remaining input.new; output = W.contents output.new }) result }
 {
@@ -100,7 +100,7 @@ fn script_files<T: Wait, A: Allocator + Copy, F: Folder, R: Read, W: Write>(
     input: &mut R,
     output: &mut W,
 ) -> Result<(), ToolFault>
-    ensures { DoesTask A (F.bytes_of folder.now) (MovieScript cart.entry movie.entry)
+    ensures { DoesTask (F.bytes_of folder.now) (MovieScript cart.entry movie.entry)
         (record { input = R.remaining input.old; output = W.contents output.old })
         (record { input = R.remaining input.new; output = W.contents output.new }) result }
 {
@@ -118,7 +118,7 @@ fn talk_files<T: Wait, A: Allocator + Copy, F: Folder, R: Read, W: Write>(
     input: &mut R,
     output: &mut W,
 ) -> Result<(), ToolFault>
-    ensures { DoesTask A (F.bytes_of folder.now) (MovieTalk cart.entry movie.entry)
+    ensures { DoesTask (F.bytes_of folder.now) (MovieTalk cart.entry movie.entry)
         (record { input = R.remaining input.old; output = W.contents output.old })
         (record { input = R.remaining input.new; output = W.contents output.new }) result }
 {
@@ -143,7 +143,7 @@ fn export_file<
     input: &mut R,
     output: &mut W,
 ) -> Result<(), ToolFault>
-    ensures { DoesTask A (F.bytes_of folder.now) (Export cart.entry frames.start frames.end workers)
+    ensures { DoesTask (F.bytes_of folder.now) (Export cart.entry frames.start frames.end workers)
         (record { input = R.remaining input.old; output = W.contents output.old })
         (record { input = R.remaining input.new; output = W.contents output.new }) result }
 {
@@ -177,7 +177,7 @@ pub fn run_task<
     input: &mut R,
     output: &mut W,
 ) -> Result<(), ToolFault>
-    ensures { DoesTask A (F.bytes_of folder.now) task.entry
+    ensures { DoesTask (F.bytes_of folder.now) task.entry
         (record { input = R.remaining input.old; output = W.contents output.old })
         (record { input = R.remaining input.new; output = W.contents output.new }) result }
 {
@@ -261,7 +261,7 @@ pub fn carry_out<
     output: &mut W,
     errors: &mut E,
 ) -> Status
-    ensures { CarriesOut A (F.bytes_of folder.now) request.entry
+    ensures { CarriesOut (F.bytes_of folder.now) request.entry
         (record { input = R.remaining input.old; output = W.contents output.old })
         (record { input = R.remaining input.new; output = W.contents output.new }) result }
 {
@@ -299,7 +299,7 @@ pub fn run_program<
     output: &mut W,
     errors: &mut E,
 ) -> Status
-    ensures { ProgramEnds A words (F.bytes_of folder.now)
+    ensures { ProgramEnds words (F.bytes_of folder.now)
         (record { input = R.remaining input.old; output = W.contents output.old })
         (record { input = R.remaining input.new; output = W.contents output.new }) result }
 {

@@ -17,7 +17,7 @@ use Rattle.tas_desk.specs.Zones.{ZoneContent}
 use Rattle.tas_desk.specs.Exports.{IsInRange, IsExport}
 use Rattle.tas_desk.specs.Frames.{AllDrawn, pixmaps_of}
 use Rattle.tas_engines.specs.declared.fault.RunFault.{RunFault}
-use Rattle.tas_engines.specs.declared.fault.RunFault.TheVariants.{Write, Size, Text, NoFrame, Range, Halted, Script, EditPlace, EditLong, NoPlace, NoEntry, Foreign, Memory}
+use Rattle.tas_engines.specs.declared.fault.RunFault.TheVariants.{Write, Size, Text, NoFrame, Range, Halted, Script, Place, Long, NoPlace, NoEntry, Foreign, Memory}
 use Rattle.tas_engines.specs.Movies.{IsMovieOf}
 use Rattle.tas_engines.specs.Shooting.{halt_fault}
 use Rattle.tas_engines.specs.Output.{Ends}
@@ -114,8 +114,8 @@ unmade_ends seat movie from to old (NoFrame frame len) is own = absurd is
 unmade_ends seat movie from to old (Range first end len) is own = absurd is
 unmade_ends seat movie from to old (Halted at opcode) is own = absurd is
 unmade_ends seat movie from to old (Script line) is own = absurd is
-unmade_ends seat movie from to old (EditPlace line) is own = absurd is
-unmade_ends seat movie from to old (EditLong line) is own = absurd is
+unmade_ends seat movie from to old (Place line) is own = absurd is
+unmade_ends seat movie from to old (Long line) is own = absurd is
 
 -- what an export of a movie does, it does for the cartridge and the text that the movie is one of
 pub movie_ends : (from to : ℕ) (image bytes : List ℕ) (movie : MovieContent) (old new : Option (List ℕ)) (end : Result (Unit {0}) RunFault) → IsMovieOf image bytes movie → Ends (IsPixmapsAnswer movie from to) old new end

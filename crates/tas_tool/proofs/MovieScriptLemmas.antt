@@ -6,7 +6,7 @@ use Rattle.tas_movie.specs.Content.{MovieContent}
 use Rattle.tas_desk.specs.History.{movie_of, entries_of}
 use Rattle.tas_desk.specs.Seats.{SeatContent}
 use Rattle.tas_engines.specs.declared.fault.RunFault.{RunFault}
-use Rattle.tas_engines.specs.declared.fault.RunFault.TheVariants.{Write, Size, Text, NoFrame as OffMovie, Range as OffRange, Halted as Stopped, Script, EditPlace, EditLong, NoPlace, NoEntry, Foreign, Memory}
+use Rattle.tas_engines.specs.declared.fault.RunFault.TheVariants.{Write, Size, Text, NoFrame as OffMovie, Range as OffRange, Halted as Stopped, Script, Place, Long, NoPlace, NoEntry, Foreign, Memory}
 use Rattle.tas_engines.specs.Movies.{IsMovieOf}
 use Rattle.tas_tool.specs.Turns.{OwnEdits, own_edits_of, BeginsWithOwn}
 use Rattle.tas_tool.specs.TwoEdits.{HoldsMovie, IsMakingFault}
@@ -43,23 +43,23 @@ unmade_by seat (OffMovie frame len) is own = absurd is
 unmade_by seat (OffRange from to len) is own = absurd is
 unmade_by seat (Stopped at opcode) is own = absurd is
 unmade_by seat (Script line) is own = absurd is
-unmade_by seat (EditPlace line) is own = absurd is
-unmade_by seat (EditLong line) is own = absurd is
+unmade_by seat (Place line) is own = absurd is
+unmade_by seat (Long line) is own = absurd is
 
-pub unmade : (A : Type 0) (movie : MovieContent) (bytes text : List ℕ) (seat : SeatContent A) (fault : RunFault) → text ≡ [] → IsMakingFault seat fault → length seat.front ≤ seat.made → AnswersOver A movie bytes text (Err fault)
+pub unmade : (A : Type 0) (movie : MovieContent) (bytes text : List ℕ) (seat : SeatContent A) (fault : RunFault) → text ≡ [] → IsMakingFault seat fault → length seat.front ≤ seat.made → AnswersOver movie bytes text (Err fault)
 unmade A movie bytes text seat fault none is own = inl (none, unmade_by seat fault is own)
 
 -- the lines are answered from the movie's two edits on
-pub answered_over : (A : Type 0) (movie : MovieContent) (own : OwnEdits) (bytes text : List ℕ) (end : Result (Unit {0}) RunFault) → own ≡ own_edits_of_movie movie → Answers A own bytes text end → AnswersOver A movie bytes text end
-answered_over A movie own bytes text (Ok u) at answers = subst (λ (f : OwnEdits). Answers A f bytes text (Ok u)) at answers
-answered_over A movie own bytes text (Err fault) at answers = inr (subst (λ (f : OwnEdits). Answers A f bytes text (Err fault)) at answers)
+pub answered_over : (movie : MovieContent) (own : OwnEdits) (bytes text : List ℕ) (end : Result (Unit {0}) RunFault) → own ≡ own_edits_of_movie movie → Answers own bytes text end → AnswersOver movie bytes text end
+answered_over movie own bytes text (Ok u) at answers = subst (λ (f : OwnEdits). Answers f bytes text (Ok u)) at answers
+answered_over movie own bytes text (Err fault) at answers = inr (subst (λ (f : OwnEdits). Answers f bytes text (Err fault)) at answers)
 
 -- there is no desk for the movie
-pub unopened_over : (A : Type 0) (image said bytes : List ℕ) (movie : MovieContent) (old : Option (List ℕ)) → IsMovieOf image said movie → RunsOver A image said bytes old old (Err Memory)
-unopened_over A image said bytes movie old is = inr (movie, is, inl ([], inl (refl, tt), Appends-nil old))
+pub unopened_over : (image said bytes : List ℕ) (movie : MovieContent) (old : Option (List ℕ)) → IsMovieOf image said movie → RunsOver image said bytes old old (Err Memory)
+unopened_over image said bytes movie old is = inr (movie, is, inl ([], inl (refl, tt), Appends-nil old))
 
 -- the replies over the movie are written
-pub written_over : (A : Type 0) (image said bytes : List ℕ) (movie : MovieContent) (items text : List ℕ) (old new : Option (List ℕ)) (end : Result (Unit {0}) RunFault) → IsMovieOf image said movie → AnswersOver A movie bytes items end → text ≡ items
-    → Appends old new text → RunsOver A image said bytes old new end
-written_over A image said bytes movie items text old new (Ok u) is at same out = (movie, is, written (AnswersOver A movie bytes) items text old new (Ok u) at same out)
-written_over A image said bytes movie items text old new (Err fault) is at same out = inr (movie, is, written (AnswersOver A movie bytes) items text old new (Err fault) at same out)
+pub written_over : (image said bytes : List ℕ) (movie : MovieContent) (items text : List ℕ) (old new : Option (List ℕ)) (end : Result (Unit {0}) RunFault) → IsMovieOf image said movie → AnswersOver movie bytes items end → text ≡ items
+    → Appends old new text → RunsOver image said bytes old new end
+written_over image said bytes movie items text old new (Ok u) is at same out = (movie, is, written (AnswersOver movie bytes) items text old new (Ok u) at same out)
+written_over image said bytes movie items text old new (Err fault) is at same out = inr (movie, is, written (AnswersOver movie bytes) items text old new (Err fault) at same out)

@@ -5,7 +5,7 @@ use Rattle.std.specs.List.{flat_map}
 use Rattle.std.specs.Io.KnownBytes.{Appends}
 use Rattle.std.proofs.KnownBytes.{Appends-nil}
 use Rattle.tas_engines.specs.declared.fault.RunFault.{RunFault}
-use Rattle.tas_engines.specs.declared.fault.RunFault.TheVariants.{Write, Size, Text, NoFrame as OffMovie, Range as OffRange, Halted as Stopped, Script, EditPlace, EditLong, NoPlace, NoEntry, Foreign, Memory}
+use Rattle.tas_engines.specs.declared.fault.RunFault.TheVariants.{Write, Size, Text, NoFrame as OffMovie, Range as OffRange, Halted as Stopped, Script, Place, Long, NoPlace, NoEntry, Foreign, Memory}
 use Rattle.tas_engines.specs.declared.fault.ToolFault.{ToolFault}
 use Rattle.tas_engines.specs.Faults.{told}
 use Rattle.tas_engines.specs.Input.{IsReadWhole}
@@ -30,29 +30,29 @@ unfolding AreSaid
 said_more [] turn h s n = ((s, n), tt)
 said_more (t ∷ turns) turn h s n = (h.0, said_more turns turn h.1 s n)
 
-own_edits_more : (A : Type 0) (own : OwnEdits) (turns : List Turn) (turn : Turn) → own_edits_after_all A own (turns ++ turn ∷ []) ≡ own_edits_after A turn.unforeseen (own_edits_after_all A own turns) turn.command
+own_edits_more : (own : OwnEdits) (turns : List Turn) (turn : Turn) → own_edits_after_all own (turns ++ turn ∷ []) ≡ own_edits_after turn.unforeseen (own_edits_after_all own turns) turn.command
 unfolding own_edits_after_all
-own_edits_more A own [] turn = refl
-own_edits_more A own (t ∷ turns) turn = own_edits_more A (own_edits_after A t.unforeseen own t.command) turns turn
+own_edits_more own [] turn = refl
+own_edits_more own (t ∷ turns) turn = own_edits_more (own_edits_after t.unforeseen own t.command) turns turn
 
-replies_more : (A : Type 0) (own : OwnEdits) (turns : List Turn) (turn : Turn)
-    → replies_to_all A own (turns ++ turn ∷ []) ≡ replies_to_all A own turns ++ reply_text (reply_to A turn.unforeseen (own_edits_after_all A own turns) turn.command)
+replies_more : (own : OwnEdits) (turns : List Turn) (turn : Turn)
+    → replies_to_all own (turns ++ turn ∷ []) ≡ replies_to_all own turns ++ reply_text (reply_to turn.unforeseen (own_edits_after_all own turns) turn.command)
 unfolding replies_to_all own_edits_after_all
-replies_more A own [] turn = append-nil (reply_text (reply_to A turn.unforeseen own turn.command))
-replies_more A own (t ∷ turns) turn =
-    let first : List ℕ = reply_text (reply_to A t.unforeseen own t.command) in
-    let next : OwnEdits = own_edits_after A t.unforeseen own t.command in
-    ap (λ (r : List ℕ). first ++ r) (replies_more A next turns turn)
-    ∙ sym (append_assoc first (replies_to_all A next turns) (reply_text (reply_to A turn.unforeseen (own_edits_after_all A next turns) turn.command)))
+replies_more own [] turn = append-nil (reply_text (reply_to turn.unforeseen own turn.command))
+replies_more own (t ∷ turns) turn =
+    let first : List ℕ = reply_text (reply_to t.unforeseen own t.command) in
+    let next : OwnEdits = own_edits_after t.unforeseen own t.command in
+    ap (λ (r : List ℕ). first ++ r) (replies_more next turns turn)
+    ∙ sym (append_assoc first (replies_to_all next turns) (reply_text (reply_to turn.unforeseen (own_edits_after_all next turns) turn.command)))
 
 pub reads_none : (bytes : List ℕ) → Reads bytes [] bytes
 unfolding AreSaid
 reads_none bytes = record { text = refl; said = tt }
 
 -- nothing is read at first
-pub begun : (A : Type 0) (own : OwnEdits) → (own_edits_after_all A own [] ≡ own) × (replies_to_all A own [] ≡ [])
+pub begun : (own : OwnEdits) → (own_edits_after_all own [] ≡ own) × (replies_to_all own [] ≡ [])
 unfolding own_edits_after_all replies_to_all
-begun A own = (refl, refl)
+begun own = (refl, refl)
 
 pub count_more : (turns : List Turn) (turn : Turn) → length (turns ++ turn ∷ []) ≡ length turns + 1
 count_more turns turn = length-append turns (turn ∷ [])
@@ -66,18 +66,18 @@ reads_more bytes rest first after turns turn reads same is none says = record {
   said = said_more turns turn reads.said (subst (λ (l : List ℕ). Says l turn.command) (sym same) says) (subst (λ (l : List ℕ). NoByte 10 l) (sym same) none);
 }
 
-pub own_edits_answered : (A : Type 0) (start old new : OwnEdits) (turns : List Turn) (turn : Turn) (reply : Reply) → own_edits_after_all A start turns ≡ old → new ≡ own_edits_after A turn.unforeseen old turn.command
-    → own_edits_after_all A start (turns ++ turn ∷ []) ≡ new
-own_edits_answered A start old new turns turn reply at is = own_edits_more A start turns turn ∙ ap (λ (f : OwnEdits). own_edits_after A turn.unforeseen f turn.command) at ∙ sym is
+pub own_edits_answered : (start old new : OwnEdits) (turns : List Turn) (turn : Turn) (reply : Reply) → own_edits_after_all start turns ≡ old → new ≡ own_edits_after turn.unforeseen old turn.command
+    → own_edits_after_all start (turns ++ turn ∷ []) ≡ new
+own_edits_answered start old new turns turn reply at is = own_edits_more start turns turn ∙ ap (λ (f : OwnEdits). own_edits_after turn.unforeseen f turn.command) at ∙ sym is
 
-pub replies_answered : (A : Type 0) (start old : OwnEdits) (turns : List Turn) (turn : Turn) (reply : Reply) (before words after : List ℕ) → own_edits_after_all A start turns ≡ old
-    → reply ≡ reply_to A turn.unforeseen old turn.command → before ≡ replies_to_all A start turns → words ≡ reply_text reply → after ≡ before ++ words
-    → after ≡ replies_to_all A start (turns ++ turn ∷ [])
-replies_answered A start old turns turn reply before words after at is text line put =
+pub replies_answered : (start old : OwnEdits) (turns : List Turn) (turn : Turn) (reply : Reply) (before words after : List ℕ) → own_edits_after_all start turns ≡ old
+    → reply ≡ reply_to turn.unforeseen old turn.command → before ≡ replies_to_all start turns → words ≡ reply_text reply → after ≡ before ++ words
+    → after ≡ replies_to_all start (turns ++ turn ∷ [])
+replies_answered start old turns turn reply before words after at is text line put =
     put
     ∙ ap (λ (l : List ℕ). l ++ words) text
-    ∙ ap (λ (l : List ℕ). replies_to_all A start turns ++ l) (line ∙ ap reply_text (is ∙ ap (λ (f : OwnEdits). reply_to A turn.unforeseen f turn.command) (sym at)))
-    ∙ sym (replies_more A start turns turn)
+    ∙ ap (λ (l : List ℕ). replies_to_all start turns ++ l) (line ∙ ap reply_text (is ∙ ap (λ (f : OwnEdits). reply_to turn.unforeseen f turn.command) (sym at)))
+    ∙ sym (replies_more start turns turn)
 
 -- ---- a line that isn't understood
 
@@ -98,15 +98,15 @@ reads_all bytes (b ∷ rest) turns none reads = absurd (omega arith)
 -- ---- the engine
 
 -- no line is answered
-pub nothing_answered : (A : Type 0) (bytes : List ℕ) (old : Option (List ℕ)) → RunsScript A bytes old old (Err Memory)
-nothing_answered A bytes old = inl ([], ([], bytes, reads_none bytes, sym (begun A own_edits_at_start).1, tt), Appends-nil old)
+pub nothing_answered : (bytes : List ℕ) (old : Option (List ℕ)) → RunsScript bytes old old (Err Memory)
+nothing_answered bytes old = inl ([], ([], bytes, reads_none bytes, sym (begun own_edits_at_start).1, tt), Appends-nil old)
 
 -- no line is answered yet
-pub unanswered : (A : Type 0) (bytes text : List ℕ) → text ≡ [] → Answers A own_edits_at_start bytes text (Err Memory)
-unanswered A bytes text is = ([], bytes, reads_none bytes, is ∙ sym (begun A own_edits_at_start).1, tt)
+pub unanswered : (bytes text : List ℕ) → text ≡ [] → Answers own_edits_at_start bytes text (Err Memory)
+unanswered bytes text is = ([], bytes, reads_none bytes, is ∙ sym (begun own_edits_at_start).1, tt)
 
-pub unplaced : (A : Type 0) (bytes text : List ℕ) → text ≡ [] → Answers A own_edits_at_start bytes text (Err NoPlace)
-unplaced A bytes text is = ([], bytes, reads_none bytes, is ∙ sym (begun A own_edits_at_start).1, refl)
+pub unplaced : (bytes text : List ℕ) → text ≡ [] → Answers own_edits_at_start bytes text (Err NoPlace)
+unplaced bytes text is = ([], bytes, reads_none bytes, is ∙ sym (begun own_edits_at_start).1, refl)
 
 -- a fault of the desk's stops the script, where the seat has seen just its own edits
 pub desk_stop : {A : Type 0} (seat : SeatContent A) (fault : RunFault) (turns : List Turn) (rest : List ℕ) → 0 < length rest → IsDeskFault seat fault → length seat.front ≤ seat.made → IsStop rest turns fault
@@ -119,8 +119,8 @@ desk_stop seat (OffMovie frame len) turns rest some is own = absurd is
 desk_stop seat (OffRange from to len) turns rest some is own = absurd is
 desk_stop seat (Stopped at opcode) turns rest some is own = absurd is
 desk_stop seat (Script line) turns rest some is own = absurd is
-desk_stop seat (EditPlace line) turns rest some is own = absurd is
-desk_stop seat (EditLong line) turns rest some is own = absurd is
+desk_stop seat (Place line) turns rest some is own = absurd is
+desk_stop seat (Long line) turns rest some is own = absurd is
 desk_stop seat NoPlace turns rest some is own = absurd is
 desk_stop seat Memory turns rest some is own = absurd is
 
@@ -135,6 +135,6 @@ pub broken_off : (answers : List ℕ → Result (Unit {0}) RunFault → Type 0) 
 broken_off answers items text old new end fault at is stops = inr (record { text = text; end = end; answer = subst (λ (t : List ℕ). answers t end) (sym is) at; stops = stops })
 
 -- a script was read and run
-pub script_ran : (A : Type 0) (input input' output output' : Option (List ℕ)) (read bytes : List ℕ) (end : Result (Unit {0}) RunFault) (result : Result (Unit {0}) ToolFault) → IsReadWhole input input' read → bytes ≡ read
-    → RunsScript A bytes output output' end → result ≡ told end → IsScriptRun A input input' output output' result
-script_ran A input input' output output' read bytes end result whole same runs is = inr (end, is, (bytes, subst (IsReadWhole input input') (sym same) whole, runs))
+pub script_ran : (input input' output output' : Option (List ℕ)) (read bytes : List ℕ) (end : Result (Unit {0}) RunFault) (result : Result (Unit {0}) ToolFault) → IsReadWhole input input' read → bytes ≡ read
+    → RunsScript bytes output output' end → result ≡ told end → IsScriptRun input input' output output' result
+script_ran input input' output output' read bytes end result whole same runs is = inr (end, is, (bytes, subst (IsReadWhole input input') (sym same) whole, runs))

@@ -15,7 +15,7 @@ use Rattle.tas_desk.specs.Seats.{SeatContent}
 use Rattle.tas_desk.specs.Zones.{ZoneContent}
 use Rattle.tas_desk.proofs.HistoryLemmas.{movie_of-none}
 use Rattle.tas_engines.specs.declared.fault.RunFault.{RunFault}
-use Rattle.tas_engines.specs.declared.fault.RunFault.TheVariants.{Write, Size, Text, NoFrame as OffMovie, Range as OffRange, Halted as Stopped, Script, EditPlace, EditLong, NoPlace, NoEntry, Foreign, Memory}
+use Rattle.tas_engines.specs.declared.fault.RunFault.TheVariants.{Write, Size, Text, NoFrame as OffMovie, Range as OffRange, Halted as Stopped, Script, Place, Long, NoPlace, NoEntry, Foreign, Memory}
 use Rattle.tas_engines.specs.declared.fault.ToolFault.{ToolFault}
 use Rattle.tas_engines.specs.declared.fault.ToolFault.TheVariants.{Read as ReadFailed, Memory as OutOfRoom, NoPlace as WithoutPlace}
 use Rattle.tas_engines.specs.Faults.{run_fault}
@@ -35,18 +35,18 @@ use Rattle.tas_tool.proofs.MovieScriptLemmas.{holds_own_edits}
 
 -- ---- lists of exchanges
 
-exchanges_more : (A : Type 0) (a b c : TalkState) (xs ys : List Exchange) → AreExchanges A a xs b → AreExchanges A b ys c → AreExchanges A a (xs ++ ys) c
+exchanges_more : (a b c : TalkState) (xs ys : List Exchange) → AreExchanges a xs b → AreExchanges b ys c → AreExchanges a (xs ++ ys) c
 unfolding AreExchanges
-exchanges_more A a b c [] ys p q = subst (λ (f : TalkState). AreExchanges A f ys c) p q
-exchanges_more A a b c (x ∷ xs) ys p q = (p.0, exchanges_more A x.next b c xs ys p.1 q)
+exchanges_more a b c [] ys p q = subst (λ (f : TalkState). AreExchanges f ys c) p q
+exchanges_more a b c (x ∷ xs) ys p q = (p.0, exchanges_more x.next b c xs ys p.1 q)
 
-pub no_exchanges : (A : Type 0) (state : TalkState) → AreExchanges A state [] state
+pub no_exchanges : (state : TalkState) → AreExchanges state [] state
 unfolding AreExchanges
-no_exchanges A state = refl
+no_exchanges state = refl
 
-one_exchange : (A : Type 0) (state : TalkState) (x : Exchange) (next : TalkState) → IsExchange A state x → next ≡ x.next → AreExchanges A state (x ∷ []) next
+one_exchange : (state : TalkState) (x : Exchange) (next : TalkState) → IsExchange state x → next ≡ x.next → AreExchanges state (x ∷ []) next
 unfolding AreExchanges
-one_exchange A state x next is same = (is, same)
+one_exchange state x next is same = (is, same)
 
 lines_more : (xs ys : List Exchange) → lines_of (xs ++ ys) ≡ lines_of xs ++ lines_of ys
 lines_more xs ys = flat_map-append (λ (x : Exchange). line x.said) xs ys
@@ -75,12 +75,12 @@ counted_from_nothing old new bytes n cut =
 exchange_of : List ℕ → Option Request → List ℕ → TalkState → Exchange
 exchange_of said heard answer next = record { said = said; heard = heard; answer = answer; next = next }
 
-one_answered : {A : Type 0} (before now : SeatContent A) (x : Exchange) (told : ℕ) (next : Progress) (old new : Option (List ℕ)) → IsExchange A (talk_state_of before) x → talk_state_of now ≡ x.next → Appends old new x.answer
+one_answered : {A : Type 0} (before now : SeatContent A) (x : Exchange) (told : ℕ) (next : Progress) (old new : Option (List ℕ)) → IsExchange (talk_state_of before) x → talk_state_of now ≡ x.next → Appends old new x.answer
     → next.written ≡ min (told + length x.answer) most_counted → next.made ≡ now.made → BeginsWithOwn now → HasAnswered before now (x ∷ []) told next old new
 one_answered {A} before now x told next old new is same out count made own =
     let alone : answers_of (x ∷ []) ≡ x.answer = append-nil x.answer in
     record {
-      all = one_exchange A (talk_state_of before) x (talk_state_of now) is same;
+      all = one_exchange (talk_state_of before) x (talk_state_of now) is same;
       out = subst (Appends old new) (sym alone) out;
       count = omega (arith, count, ap (λ (l : List ℕ). length l) alone);
       made = made;
@@ -108,7 +108,7 @@ known_line before now said answer sent request made told next old new none heard
     )
 
 -- a write of an answer failed
-cut_line : {A : Type 0} (state : TalkState) (now : SeatContent A) (x : Exchange) (told : ℕ) (old new : Option (List ℕ)) (fault : RunFault) → IsExchange A state x → CutsOff told x.answer old new fault
+cut_line : {A : Type 0} (state : TalkState) (now : SeatContent A) (x : Exchange) (told : ℕ) (old new : Option (List ℕ)) (fault : RunFault) → IsExchange state x → CutsOff told x.answer old new fault
     → (more : List ℕ) → Breaks state (line x.said ++ more) now told old new fault
 cut_line {A} state now x told old new fault is cut more =
     let answer : Breaks state (line x.said ++ more) now told old new (Write (min (told + cut.0) most_counted)) =
@@ -140,19 +140,19 @@ line_fault before now said told old (OffMovie frame len) is = absurd is
 line_fault before now said told old (OffRange from to len) is = absurd is
 line_fault before now said told old (Stopped at opcode) is = absurd is
 line_fault before now said told old (Script number) is = absurd is
-line_fault before now said told old (EditPlace number) is = absurd is
-line_fault before now said told old (EditLong number) is = absurd is
+line_fault before now said told old (Place number) is = absurd is
+line_fault before now said told old (Long number) is = absurd is
 line_fault before now said told old NoPlace is = absurd is
 
 -- ---- lines of a part of the input
 
 pub nothing_answered : {A : Type 0} (seat : SeatContent A) (progress : Progress) (old : Option (List ℕ)) → BeginsWithOwn seat → progress.made ≡ seat.made → HasAnswered seat seat [] progress.written progress old old
-nothing_answered {A} seat progress old own made = record { all = no_exchanges A (talk_state_of seat); out = Appends-nil old; count = omega arith; made = made; own = own }
+nothing_answered {A} seat progress old own made = record { all = no_exchanges (talk_state_of seat); out = Appends-nil old; count = omega arith; made = made; own = own }
 
 pub answered_more : {A : Type 0} (a b c : SeatContent A) (xs ys : List Exchange) (told : ℕ) (mid next : Progress) (old middle new : Option (List ℕ)) → HasAnswered a b xs told mid old middle → HasAnswered b c ys mid.written next middle new
     → HasAnswered a c (xs ++ ys) told next old new
 answered_more {A} a b c xs ys told mid next old middle new p q = record {
-  all = exchanges_more A (talk_state_of a) (talk_state_of b) (talk_state_of c) xs ys p.all q.all;
+  all = exchanges_more (talk_state_of a) (talk_state_of b) (talk_state_of c) xs ys p.all q.all;
   out = subst (Appends old new) (sym (answers_more xs ys)) (Appends-trans old middle new (answers_of xs) (answers_of ys) p.out q.out);
   count = omega (arith, p.count, q.count, count_answers xs ys);
   made = q.made;
@@ -201,7 +201,7 @@ stops_later {A} a b now xs told mid read rest old middle new fault p is s = reco
   rest = s.rest;
   middle = s.middle;
   counted = s.counted;
-  all = exchanges_more A (talk_state_of a) (talk_state_of b) s.state xs s.exchanges p.all s.all;
+  all = exchanges_more (talk_state_of a) (talk_state_of b) s.state xs s.exchanges p.all s.all;
   text = is ∙ joined_text xs s.exchanges rest s.rest s.text;
   out = subst (Appends old s.middle) (sym (answers_more xs s.exchanges)) (Appends-trans old middle s.middle (answers_of xs) (answers_of s.exchanges) p.out s.out);
   count = omega (arith, p.count, s.count, count_answers xs s.exchanges);
@@ -295,20 +295,20 @@ answers_out first now progress xs ys output output' output'' p out =
 
 pub quits : {A : Type 0} (first now later : SeatContent A) (progress : Progress) (held held' : List ℕ) (long long' : Bool) (input input' input'' output output' output'' : Option (List ℕ)) (xs : List Exchange) (part more : List ℕ)
     → IsUnderway first now progress held long input input' output output' xs part → Consumes input' input'' more → IsPartTurn now later (part ++ more) progress.written held' long' output' output'' (Ok None)
-    → IsTalk A (talk_state_of first) input input'' output output'' (Ok tt)
+    → IsTalk (talk_state_of first) input input'' output output'' (Ok tt)
 quits {A} first now later progress held held' long long' input input' input'' output output' output'' xs part more way read turn =
     let (ys, state, rest, all, is, quit, out) = turn in
     record {
       exchanges = xs ++ ys;
       state = state;
       rest = rest;
-      answered = exchanges_more A (talk_state_of first) (talk_state_of now) state xs ys way.answered.all all;
+      answered = exchanges_more (talk_state_of first) (talk_state_of now) state xs ys way.answered.all all;
       left = left_more input input' input'' xs ys part more rest way.left read is;
       ends = inl (quit, answers_out first now progress xs ys output output' output'' way.answered out);
     }
 
 pub unread : {A : Type 0} (first now : SeatContent A) (progress : Progress) (held : List ℕ) (long : Bool) (input input' input'' output output' : Option (List ℕ)) (xs : List Exchange) (part : List ℕ)
-    → IsUnderway first now progress held long input input' output output' xs part → Keeps input' input'' → IsTalk A (talk_state_of first) input input'' output output' (Err ReadFailed)
+    → IsUnderway first now progress held long input input' output output' xs part → Keeps input' input'' → IsTalk (talk_state_of first) input input'' output output' (Err ReadFailed)
 unread {A} first now progress held long input input' input'' output output' xs part way kept = record {
   exchanges = xs;
   state = talk_state_of now;
@@ -325,7 +325,7 @@ read_out input input' input'' xs part more p q none =
 
 pub ends_well : {A : Type 0} (first now : SeatContent A) (progress : Progress) (held : List ℕ) (long : Bool) (input input' input'' output output' output'' : Option (List ℕ)) (xs : List Exchange) (part more : List ℕ)
     → IsUnderway first now progress held long input input' output output' xs part → Consumes input' input'' more → more ≡ [] → IsAtEnd input'' → Appends output' output'' (last_answer part)
-    → IsTalk A (talk_state_of first) input input'' output output'' (Ok tt)
+    → IsTalk (talk_state_of first) input input'' output output'' (Ok tt)
 ends_well {A} first now progress held long input input' input'' output output' output'' xs part more way read none end out = record {
   exchanges = xs;
   state = talk_state_of now;
@@ -352,11 +352,11 @@ cut_off told answer counted output output' output'' written count out cut =
 
 pub ends_cut : {A : Type 0} (first now : SeatContent A) (progress : Progress) (held : List ℕ) (long : Bool) (input input' input'' output output' output'' : Option (List ℕ)) (xs : List Exchange) (part more : List ℕ) (fault : RunFault)
     → IsUnderway first now progress held long input input' output output' xs part → Consumes input' input'' more → more ≡ [] → IsAtEnd input'' → CutsOff progress.written (last_answer part) output' output'' fault
-    → IsTalk A (talk_state_of first) input input'' output output'' (Err (run_fault fault))
+    → IsTalk (talk_state_of first) input input'' output output'' (Err (run_fault fault))
 ends_cut {A} first now progress held long input input' input'' output output' output'' xs part more fault way read none end cut =
     let same : fault ≡ Write (min (progress.written + cut.0) most_counted) = cut.2 in
     let cut' : CutsOff progress.written (last_answer part) output' output'' (Write (min (progress.written + cut.0) most_counted)) = (cut.0, cut.1, refl) in
-    let told : IsTalk A (talk_state_of first) input input'' output output'' (Err (run_fault (Write (min (progress.written + cut.0) most_counted)))) =
+    let told : IsTalk (talk_state_of first) input input'' output output'' (Err (run_fault (Write (min (progress.written + cut.0) most_counted)))) =
     record {
       exchanges = xs;
       state = talk_state_of now;
@@ -369,11 +369,11 @@ ends_cut {A} first now progress held long input input' input'' output output' ou
         cut_off (answers_of xs) (last_answer part) progress.written output output' output'' (min (progress.written + cut.0) most_counted) way.answered.count way.answered.out cut',
       );
     } in
-    subst (λ (f : RunFault). IsTalk A (talk_state_of first) input input'' output output'' (Err (run_fault f))) (sym same) told
+    subst (λ (f : RunFault). IsTalk (talk_state_of first) input input'' output output'' (Err (run_fault f))) (sym same) told
 
 -- a part of the input that isn't answered to its end
 stopped : {A : Type 0} (start : TalkState) (read : List ℕ) (now : SeatContent A) (input input' output output' : Option (List ℕ)) (fault : RunFault) → Consumes input input' read → StopsAfter start read now 0 output output' fault
-    → length now.front ≤ now.made → IsTalk A start input input' output output' (Err (run_fault fault))
+    → length now.front ≤ now.made → IsTalk start input input' output output' (Err (run_fault fault))
 stopped {A} start read now input input' output output' fault left s own = go fault s.breaks
   where
     out_all : Appends s.middle output' [] → Appends output output' (answers_of s.exchanges)
@@ -382,7 +382,7 @@ stopped {A} start read now input input' output output' fault left s own = go fau
     left_all : Consumes input input' (lines_of s.exchanges ++ s.rest)
     left_all = subst (Consumes input input') s.text left
 
-    go : (f : RunFault) → Breaks s.state s.rest now s.counted s.middle output' f → IsTalk A start input input' output output' (Err (run_fault f))
+    go : (f : RunFault) → Breaks s.state s.rest now s.counted s.middle output' f → IsTalk start input input' output output' (Err (run_fault f))
     go (Write written) b = record {
       exchanges = s.exchanges;
       state = s.state;
@@ -400,28 +400,28 @@ stopped {A} start read now input input' output output' fault left s own = go fau
     go (OffRange from to len) b = absurd b
     go (Stopped at opcode) b = absurd b
     go (Script number) b = absurd b
-    go (EditPlace number) b = absurd b
-    go (EditLong number) b = absurd b
+    go (Place number) b = absurd b
+    go (Long number) b = absurd b
     go NoPlace b = absurd b
 
 pub breaks_off : {A : Type 0} (first now later : SeatContent A) (progress : Progress) (held held' : List ℕ) (long long' : Bool) (input input' input'' output output' output'' : Option (List ℕ)) (xs : List Exchange) (part more : List ℕ) (fault : RunFault)
     → IsUnderway first now progress held long input input' output output' xs part → Consumes input' input'' more → IsPartTurn now later (part ++ more) progress.written held' long' output' output'' (Err fault)
-    → length later.front ≤ later.made → IsTalk A (talk_state_of first) input input'' output output'' (Err (run_fault fault))
+    → length later.front ≤ later.made → IsTalk (talk_state_of first) input input'' output output'' (Err (run_fault fault))
 breaks_off {A} first now later progress held held' long long' input input' input'' output output' output'' xs part more fault way read turn own =
     stopped (talk_state_of first) (lines_of xs ++ (part ++ more)) later input input'' output output'' fault (read_on input input' input'' xs part more way.left read)
     (stops_later first now later xs 0 progress (lines_of xs ++ (part ++ more)) (part ++ more) output output' output'' fault way.answered refl turn) own
 
 -- ---- before the first line
 
-pub no_memory_yet : (A : Type 0) (start : TalkState) (input output : Option (List ℕ)) → IsTalk A start input input output output (Err OutOfRoom)
-no_memory_yet A start input output = record { exchanges = []; state = start; rest = []; answered = no_exchanges A start; left = Consumes-nil input; ends = Appends-nil output }
+pub no_memory_yet : (start : TalkState) (input output : Option (List ℕ)) → IsTalk start input input output output (Err OutOfRoom)
+no_memory_yet start input output = record { exchanges = []; state = start; rest = []; answered = no_exchanges start; left = Consumes-nil input; ends = Appends-nil output }
 
-pub no_place_yet : (A : Type 0) (start : TalkState) (input output : Option (List ℕ)) → IsTalk A start input input output output (Err WithoutPlace)
-no_place_yet A start input output = record { exchanges = []; state = start; rest = []; answered = no_exchanges A start; left = Consumes-nil input; ends = (refl, refl, Appends-nil output) }
+pub no_place_yet : (start : TalkState) (input output : Option (List ℕ)) → IsTalk start input input output output (Err WithoutPlace)
+no_place_yet start input output = record { exchanges = []; state = start; rest = []; answered = no_exchanges start; left = Consumes-nil input; ends = (refl, refl, Appends-nil output) }
 
 -- the movie wasn't made
-pub unmade_talk : {A : Type 0} (start : TalkState) (seat : SeatContent A) (fault : RunFault) (input output : Option (List ℕ)) → IsMakingFault seat fault → length seat.front ≤ seat.made → IsTalk A start input input output output (Err (run_fault fault))
-unmade_talk {A} start seat Memory input output is own = no_memory_yet A start input output
+pub unmade_talk : {A : Type 0} (start : TalkState) (seat : SeatContent A) (fault : RunFault) (input output : Option (List ℕ)) → IsMakingFault seat fault → length seat.front ≤ seat.made → IsTalk start input input output output (Err (run_fault fault))
+unmade_talk {A} start seat Memory input output is own = no_memory_yet start input output
 unmade_talk start seat Foreign input output is own = absurd (omega (arith, is, own))
 unmade_talk start seat NoEntry input output is own = absurd is
 unmade_talk start seat NoPlace input output is own = absurd is
@@ -432,8 +432,8 @@ unmade_talk start seat (OffMovie frame len) input output is own = absurd is
 unmade_talk start seat (OffRange from to len) input output is own = absurd is
 unmade_talk start seat (Stopped at opcode) input output is own = absurd is
 unmade_talk start seat (Script number) input output is own = absurd is
-unmade_talk start seat (EditPlace number) input output is own = absurd is
-unmade_talk start seat (EditLong number) input output is own = absurd is
+unmade_talk start seat (Place number) input output is own = absurd is
+unmade_talk start seat (Long number) input output is own = absurd is
 
 -- ---- the seat of a desk that was just opened
 
@@ -464,6 +464,6 @@ made_talk_state {A} before now movie holds zone blank none =
     fresh_at now (own_edits_of_movie movie) (holds_own_edits now movie holds) (ap (λ (z : ZoneContent A). z.movie) zone ∙ blank) (ap (λ (z : ZoneContent A). z.states) zone ∙ none)
 
 -- the same conversation, its start named otherwise
-pub talk_as : (A : Type 0) (start other : TalkState) (input input' output output' : Option (List ℕ)) (result : Result (Unit {0}) ToolFault) → start ≡ other → IsTalk A start input input' output output' result
-    → IsTalk A other input input' output output' result
-talk_as A start other input input' output output' result same talk = subst (λ (f : TalkState). IsTalk A f input input' output output' result) same talk
+pub talk_as : (start other : TalkState) (input input' output output' : Option (List ℕ)) (result : Result (Unit {0}) ToolFault) → start ≡ other → IsTalk start input input' output output' result
+    → IsTalk other input input' output output' result
+talk_as start other input input' output output' result same talk = subst (λ (f : TalkState). IsTalk f input input' output output' result) same talk

@@ -18,34 +18,34 @@ untouched input output = record { unread = refl; unwritten = Keeps-refl output }
 
 -- ---- over a cartridge
 
-pub cart_unread : (A : Type 0) (cart cart' : Option (List ℕ)) (fault : ReadFault) (e : ToolFault) → StopsReading cart cart' fault → e ≡ unread_fault fault → StartsTalk A (IsCartTalk A cart cart') (Err e)
-cart_unread A cart cart' fault e stops is = λ input output. inl (fault, ap Err is, stops, untouched input output)
+pub cart_unread : (cart cart' : Option (List ℕ)) (fault : ReadFault) (e : ToolFault) → StopsReading cart cart' fault → e ≡ unread_fault fault → StartsTalk (IsCartTalk cart cart') (Err e)
+cart_unread cart cart' fault e stops is = λ input output. inl (fault, ap Err is, stops, untouched input output)
 
-pub cart_unmade : (A : Type 0) (cart cart' : Option (List ℕ)) (read image : List ℕ) (fault : RunFault) (e : ToolFault) → IsReadWhole cart cart' read → image ≡ read → IsImageFault image fault → e ≡ run_fault fault
-    → StartsTalk A (IsCartTalk A cart cart') (Err e)
-cart_unmade A cart cart' read image fault e whole same why is = λ input output.
+pub cart_unmade : (cart cart' : Option (List ℕ)) (read image : List ℕ) (fault : RunFault) (e : ToolFault) → IsReadWhole cart cart' read → image ≡ read → IsImageFault image fault → e ≡ run_fault fault
+    → StartsTalk (IsCartTalk cart cart') (Err e)
+cart_unmade cart cart' read image fault e whole same why is = λ input output.
     inr (image, subst (IsReadWhole cart cart') (sym same) whole, inl (fault, ap Err is, why, untouched input output))
 
-pub cart_started : (A : Type 0) (cart cart' : Option (List ℕ)) (read image : List ℕ) (movie : MovieContent) → IsReadWhole cart cart' read → image ≡ read → is_cart_size (length image) ≡ true → movie ≡ record { cart = image; inputs = [] }
-    → StartsTalk A (IsCartTalk A cart cart') (Ok movie)
-cart_started A cart cart' read image movie whole same long is = λ input input' output output' end talk.
+pub cart_started : (cart cart' : Option (List ℕ)) (read image : List ℕ) (movie : MovieContent) → IsReadWhole cart cart' read → image ≡ read → is_cart_size (length image) ≡ true → movie ≡ record { cart = image; inputs = [] }
+    → StartsTalk (IsCartTalk cart cart') (Ok movie)
+cart_started cart cart' read image movie whole same long is = λ input input' output output' end talk.
     inr (
       image,
       subst (IsReadWhole cart cart') (sym same) whole,
-      inr (long, subst (λ (m : MovieContent). IsTalk A (talk_state_from (Some m)) input input' output output' end) is talk),
+      inr (long, subst (λ (m : MovieContent). IsTalk (talk_state_from (Some m)) input input' output output' end) is talk),
     )
 
 -- ---- over a movie
 
-pub movie_unread : (A : Type 0) (cart cart' movie movie' : Option (List ℕ)) (fault : ReadFault) (e : ToolFault) → StopsReadingTwo cart cart' movie movie' fault → e ≡ unread_fault fault → StartsTalk A (IsMovieTalk A cart cart' movie movie') (Err e)
-movie_unread A cart cart' movie movie' fault e stops is = λ input output. inl (fault, ap Err is, stops, untouched input output)
+pub movie_unread : (cart cart' movie movie' : Option (List ℕ)) (fault : ReadFault) (e : ToolFault) → StopsReadingTwo cart cart' movie movie' fault → e ≡ unread_fault fault → StartsTalk (IsMovieTalk cart cart' movie movie') (Err e)
+movie_unread cart cart' movie movie' fault e stops is = λ input output. inl (fault, ap Err is, stops, untouched input output)
 
-pub movie_unmade : (A : Type 0) (cart cart' movie movie' : Option (List ℕ)) (read image read' said : List ℕ) (fault : RunFault) (e : ToolFault) → IsReadWhole cart cart' read → image ≡ read → IsReadWhole movie movie' read' → said ≡ read'
-    → IsMovieFault image said fault → e ≡ run_fault fault → StartsTalk A (IsMovieTalk A cart cart' movie movie') (Err e)
-movie_unmade A cart cart' movie movie' read image read' said fault e whole same whole' same' why is = λ input output.
+pub movie_unmade : (cart cart' movie movie' : Option (List ℕ)) (read image read' said : List ℕ) (fault : RunFault) (e : ToolFault) → IsReadWhole cart cart' read → image ≡ read → IsReadWhole movie movie' read' → said ≡ read'
+    → IsMovieFault image said fault → e ≡ run_fault fault → StartsTalk (IsMovieTalk cart cart' movie movie') (Err e)
+movie_unmade cart cart' movie movie' read image read' said fault e whole same whole' same' why is = λ input output.
     inr (image, said, subst (IsReadWhole cart cart') (sym same) whole, subst (IsReadWhole movie movie') (sym same') whole', inl (fault, ap Err is, why, untouched input output))
 
-pub movie_started : (A : Type 0) (cart cart' movie movie' : Option (List ℕ)) (read image read' said : List ℕ) (content : MovieContent) → IsReadWhole cart cart' read → image ≡ read → IsReadWhole movie movie' read' → said ≡ read'
-    → IsMovieOf image said content → StartsTalk A (IsMovieTalk A cart cart' movie movie') (Ok content)
-movie_started A cart cart' movie movie' read image read' said content whole same whole' same' is = λ input input' output output' end talk.
+pub movie_started : (cart cart' movie movie' : Option (List ℕ)) (read image read' said : List ℕ) (content : MovieContent) → IsReadWhole cart cart' read → image ≡ read → IsReadWhole movie movie' read' → said ≡ read'
+    → IsMovieOf image said content → StartsTalk (IsMovieTalk cart cart' movie movie') (Ok content)
+movie_started cart cart' movie movie' read image read' said content whole same whole' same' is = λ input input' output output' end talk.
     inr (image, said, subst (IsReadWhole cart cart') (sym same) whole, subst (IsReadWhole movie movie') (sym same') whole', inr (content, is, talk))

@@ -26,7 +26,7 @@ use Rattle.tas_desk.specs.Seats.{SeatContent, HasSeen, IsZoneShot}
 use Rattle.tas_desk.specs.Shots.{IsShotAt}
 use Rattle.tas_desk.specs.Zones.{ZoneContent, IsPlayed, IsShared}
 use Rattle.tas_engines.specs.declared.fault.RunFault.{RunFault}
-use Rattle.tas_engines.specs.declared.fault.RunFault.TheVariants.{Write, Size, Text, NoFrame as OffMovie, Range as OffRange, Halted as Stopped, Script, EditPlace, EditLong, NoPlace, NoEntry as NoDeskEntry, Foreign, Memory}
+use Rattle.tas_engines.specs.declared.fault.RunFault.TheVariants.{Write, Size, Text, NoFrame as OffMovie, Range as OffRange, Halted as Stopped, Script, Place, Long, NoPlace, NoEntry as NoDeskEntry, Foreign, Memory}
 use Rattle.tas_language.specs.declared.command.Command.{Command}
 use Rattle.tas_language.specs.declared.command.Command.TheVariants.{Shot}
 use Rattle.tas_language.specs.declared.reply.Reply.{Reply}
@@ -55,8 +55,8 @@ talk_fault seat (OffMovie frame len) is = absurd is
 talk_fault seat (OffRange from to len) is = absurd is
 talk_fault seat (Stopped at opcode) is = absurd is
 talk_fault seat (Script line) is = absurd is
-talk_fault seat (EditPlace line) is = absurd is
-talk_fault seat (EditLong line) is = absurd is
+talk_fault seat (Place line) is = absurd is
+talk_fault seat (Long line) is = absurd is
 talk_fault seat NoPlace is = absurd is
 
 pub memory_fault : {A : Type 0} (seat : SeatContent A) (fault : RunFault) → fault ≡ Memory → IsTalkFault seat fault
@@ -64,12 +64,12 @@ memory_fault seat fault is = subst (IsTalkFault seat) (sym is) tt
 
 -- ---- a script's line
 
-pub told_command : (A : Type 0) (before mid now : SeatContent A) (command : Command) (answered : Answered) (bytes : List ℕ) (made : ℕ) → IsAnswer A before mid command (Ok answered) → IsCommandZone before mid command answered.reply
+pub told_command : (A : Type 0) (before mid now : SeatContent A) (command : Command) (answered : Answered) (bytes : List ℕ) (made : ℕ) → IsAnswer before mid command (Ok answered) → IsCommandZone before mid command answered.reply
     → HasSeen mid now → now.zone ≡ mid.zone → length now.front ≡ answered.made → bytes ≡ reply_text answered.reply → made ≡ answered.made → IsToldTo before now (Do command) bytes made
 told_command A before mid now command answered bytes made told zone more same at is made_is = record {
   answer = (
     answered.reply,
-    subst (λ (f : OwnEdits). IsTurn A (own_edits_of before) command answered.reply f) (sym (own_edits_stay mid now told.own more)) told.turn_is,
+    subst (λ (f : OwnEdits). IsTurn (own_edits_of before) command answered.reply f) (sym (own_edits_stay mid now told.own more)) told.turn_is,
     is,
     command_leaves before mid now command answered.reply told.own more same (at ∙ told.made) zone,
   );
@@ -172,7 +172,7 @@ undrawn_reply u own old new made k error reply (Some (Err (Undocumented address 
     go false e = (false, ap reply_text e, halt_leaves old new made k own.made address opcode error reply e tells leaves)
 
 pub told_undrawn : (A : Type 0) (before mid now : SeatContent A) (made k : ℕ) (error : ShotError) (reply : Reply) (bytes : List ℕ) → BeginsWithOwn before → made ≡ before.made → HasSeen before mid → HasSeen mid now → now.zone ≡ mid.zone
-    → IsZoneShot {B = A} before mid k (Err error) → IsShotAt {B = A} mid.front k (Err error) → IsTurn A (own_edits_of mid) (Shot k) reply (own_edits_of now) → TellsError made error reply → bytes ≡ reply_text reply
+    → IsZoneShot {B = A} before mid k (Err error) → IsShotAt {B = A} mid.front k (Err error) → IsTurn (own_edits_of mid) (Shot k) reply (own_edits_of now) → TellsError made error reply → bytes ≡ reply_text reply
     → IsToldTo before now (Picture k) bytes made
 told_undrawn A before mid now made k error reply bytes own m seen more same zone shown turn tells is =
     let here : own_edits_of mid ≡ own_edits_of before = own_edits_stay before mid own seen in

@@ -6,13 +6,12 @@ use Rattle.std.proofs.lemmas.List.{take-append-le, take_all, length-replicate}
 use Rattle.std.proofs.lemmas.Bool.{eqb-true, eq-eqb, cases_lt}
 use Rattle.std.proofs.lemmas.List.Sums.{sum_by-append}
 use mathlib.Core.List.{IsPrefix}
-use Rattle.vcs_machine.specs.declared.input.Input.{Input}
 use Rattle.tas_movie.specs.Content.{MovieContent}
 use Rattle.tas_movie.specs.declared.edit.Edit.{Edit}
-use Rattle.tas_movie.specs.declared.edit.Edit.TheVariants.{Insert as InsertEdit, Replace as ReplaceEdit}
+use Rattle.tas_movie.specs.declared.edit.Edit.TheVariants.{Load as LoadEdit}
 use Rattle.tas_movie.specs.declared.edit.EditRefusal.{EditRefusal}
 use Rattle.tas_movie.specs.declared.edit.EditRefusal.TheVariants.{Place as PlaceRefusal, Long as LongRefusal}
-use Rattle.tas_movie.specs.Edit.{refusal, insert_refusal, place_refusal, check_answer, edited}
+use Rattle.tas_movie.specs.Edit.{refusal, check_answer, edited, edited_unless}
 use Rattle.tas_desk.specs.declared.entry.Entry.{Entry}
 use Rattle.tas_desk.specs.declared.replies.Receipt.{Receipt}
 use Rattle.tas_desk.specs.declared.replies.EditError.{EditError}
@@ -24,14 +23,16 @@ use Rattle.tas_desk.proofs.HistoryLemmas.{movie_of-push}
 use Rattle.tas_engines.specs.declared.fault.RunFault.{RunFault}
 use Rattle.tas_engines.specs.declared.fault.RunFault.TheVariants.{Foreign}
 use Rattle.tas_language.specs.declared.command.Command.{Command}
-use Rattle.tas_language.specs.declared.command.Command.TheVariants.{Load, Insert, Replace, Delete}
+use Rattle.tas_language.specs.declared.command.Command.TheVariants.{Load, Edit as EditLine}
+use Rattle.tas_language.specs.declared.change.Change.{Change}
 use Rattle.tas_language.specs.declared.image.Image.{Image}
 use Rattle.tas_language.specs.Commands.{image_bytes}
 use Rattle.tas_language.specs.declared.reply.Reply.{Reply}
-use Rattle.tas_language.specs.declared.reply.Reply.TheVariants.{Edited, Misplaced, TooLong, Full, OutOfMemory}
+use Rattle.tas_language.specs.declared.reply.Reply.TheVariants.{Edited, Place as PlaceReply, Long as LongReply, Full, OutOfMemory}
 use Rattle.tas_tool.specs.declared.answering.Answered.{Answered}
-use Rattle.tas_tool.specs.Edits.{load_edit, insert_edit, replace_edit, delete_edit}
-use Rattle.tas_tool.specs.Turns.{Unforeseen, OwnEdits, own_edits_of, BeginsWithOwn, HasForeign, IsDeskFault, refused_reply, refusal_reply, edit_reply, own_edits_unless, IsEditTurn, IsTurn}
+use Rattle.tas_engines.specs.Changes.{edit_of, edit_on}
+use Rattle.tas_engines.proofs.ChangeLemmas.{same_refusal, same_edited}
+use Rattle.tas_tool.specs.Turns.{load_edit, Unforeseen, OwnEdits, own_edits_of, BeginsWithOwn, HasForeign, IsDeskFault, refused_reply, refusal_reply, edit_reply, own_edits_unless, IsEditTurn, IsTurn}
 use Rattle.tas_tool.specs.Checking.{checked_end, looked, IsAnswer, IsEditAnswer}
 
 -- ---- what a seat has seen
@@ -127,8 +128,8 @@ abbrev told_of : Option EditError → Option Reply
 told_of None = None
 told_of (Some (Serial at counted)) = None
 told_of (Some (AllMade at)) = Some (Full at)
-told_of (Some (OutOfPlace at place len)) = Some (Misplaced at len)
-told_of (Some (OverLong at len)) = Some (TooLong at len)
+told_of (Some (OutOfPlace at place len)) = Some (PlaceReply at len)
+told_of (Some (OverLong at len)) = Some (LongReply at len)
 told_of (Some NoRoom) = None
 
 abbrev place_of : EditError → ℕ → ℕ
@@ -334,44 +335,63 @@ edit_refused {A} before mid now edit error made r answer own m e more told is =
 
 -- a turn of an edit is the turn of its line
 line_turn : {A : Type 0} (before now : SeatContent A) (command : Command) (edit : Edit A) (r : Result Answered RunFault)
-    → ((reply : Reply) (next : OwnEdits) → IsEditTurn (own_edits_of before) edit reply next → IsTurn A (own_edits_of before) command reply next) → IsEditAnswer before now edit r → IsAnswer A before now command r
+    → ((reply : Reply) (next : OwnEdits) → IsEditTurn (own_edits_of before) edit reply next → IsTurn (own_edits_of before) command reply next) → IsEditAnswer before now edit r → IsAnswer before now command r
 line_turn before now command edit (Ok answered) says told = record { turn_is = says answered.reply (own_edits_of now) told.turn_is; made = told.made; own = told.own }
 line_turn before now command edit (Err fault) says told = told
 
 -- the answer of a seat that has only looked before
-pub after_look : (A : Type 0) (before mid now : SeatContent A) (command : Command) (r : Result Answered RunFault) → BeginsWithOwn before → HasSeen before mid → IsAnswer A mid now command r → IsAnswer A before now command r
+pub after_look : (A : Type 0) (before mid now : SeatContent A) (command : Command) (r : Result Answered RunFault) → BeginsWithOwn before → HasSeen before mid → IsAnswer mid now command r → IsAnswer before now command r
 after_look A before mid now command (Ok answered) own seen told = record {
-  turn_is = subst (λ (f : OwnEdits). IsTurn A f command answered.reply (own_edits_of now)) (own_edits_stay before mid own seen) told.turn_is;
+  turn_is = subst (λ (f : OwnEdits). IsTurn f command answered.reply (own_edits_of now)) (own_edits_stay before mid own seen) told.turn_is;
   made = told.made;
   own = told.own;
 }
 after_look A before mid now command (Err fault) own seen told = told
 
-abbrev pub inserted : (A : Type 0) → ℕ → List Input → Edit A
-inserted A at inputs = InsertEdit at inputs
-
-abbrev pub replaced : (A : Type 0) → ℕ → List Input → Edit A
-replaced A at inputs = ReplaceEdit at inputs
+abbrev pub loaded : (A : Type 0) → List ℕ → Edit A
+loaded A cart = LoadEdit cart
 
 abbrev pub unforeseen : Bool → Unforeseen
 unforeseen refused = record { refused = refused; ran = 0; kept = 0; stale = 0 }
 
-pub load_answer : (A : Type 0) (before now : SeatContent A) (image : Image) (cart : List ℕ) (r : Result Answered RunFault) → cart ≡ image_bytes image → IsEditAnswer before now (load_edit A cart) r → IsAnswer A before now (Load image) r
+-- a turn of an edit is that of another one that is refused and made alike
+turn_as : {A B : Type 0} (own next : OwnEdits) (edit : Edit A) (other : Edit B) (reply : Reply) → refusal own.movie edit ≡ refusal own.movie other → edited own.movie edit ≡ edited own.movie other
+    → IsEditTurn own edit reply next → IsEditTurn own other reply next
+turn_as own next edit other reply same made turn = (
+  turn.0,
+  turn.1
+      ∙ ap (λ (r : Option EditRefusal). edit_reply (refused_reply own.made r) turn.0 own.made (length (edited own.movie edit).inputs)) same
+      ∙ ap (λ (m : MovieContent). edit_reply (refused_reply own.made (refusal own.movie other)) turn.0 own.made (length m.inputs)) made,
+  turn.2
+      ∙ ap (λ (r : Option EditRefusal). own_edits_unless (refused_reply own.made r) turn.0 own edit) same
+      ∙ unless (refused_reply own.made (refusal own.movie other)) turn.0,
+)
+  where
+    unless : (refused : Option Reply) (no_memory : Bool) → own_edits_unless refused no_memory own edit ≡ own_edits_unless refused no_memory own other
+    unless (Some said) no_memory = refl
+    unless None true = refl
+    unless None false = ap (λ (m : MovieContent). let o : OwnEdits = record { movie = m; made = own.made + 1 } in o) made
+
+same_load_unless : (A : Type 0) (refused : Option EditRefusal) (movie : MovieContent) (cart : List ℕ) → edited_unless refused movie (loaded A cart) ≡ edited_unless refused movie (load_edit cart)
+same_load_unless A None movie cart = refl
+same_load_unless A (Some refused) movie cart = refl
+
+pub load_answer : (A : Type 0) (before now : SeatContent A) (image : Image) (cart : List ℕ) (r : Result Answered RunFault) → cart ≡ image_bytes image → IsEditAnswer before now (loaded A cart) r → IsAnswer before now (Load image) r
 load_answer A before now image cart r is told =
-    line_turn before now (Load image) (load_edit A (image_bytes image)) r (λ reply next t. (unforeseen t.0, t.1, t.2)) (subst (λ (c : List ℕ). IsEditAnswer before now (load_edit A c) r) is told)
+    line_turn before now (Load image) (loaded A (image_bytes image)) r
+    (λ reply next t.
+    let same = turn_as (own_edits_of before) next (loaded A (image_bytes image)) (load_edit (image_bytes image)) reply refl (same_load_unless A None (own_edits_of before).movie (image_bytes image)) t in
+    (unforeseen same.0, same.1, same.2))
+    (subst (λ (c : List ℕ). IsEditAnswer before now (loaded A c) r) is told)
 
-pub insert_answer : (A : Type 0) (before now : SeatContent A) (at count : ℕ) (input : Input) (inputs : List Input) (r : Result Answered RunFault) → inputs ≡ replicate count input
-    → IsEditAnswer before now (inserted A at inputs) r → IsAnswer A before now (Insert at count input) r
-insert_answer A before now at count input inputs r is told =
-    line_turn before now (Insert at count input) (insert_edit A at count input) r (λ reply next t. (unforeseen t.0, t.1, t.2)) (subst (λ (l : List Input). IsEditAnswer before now (inserted A at l) r) is told)
-
-pub replace_answer : (A : Type 0) (before now : SeatContent A) (at count : ℕ) (input : Input) (inputs : List Input) (r : Result Answered RunFault) → inputs ≡ replicate count input
-    → IsEditAnswer before now (replaced A at inputs) r → IsAnswer A before now (Replace at count input) r
-replace_answer A before now at count input inputs r is told =
-    line_turn before now (Replace at count input) (replace_edit A at count input) r (λ reply next t. (unforeseen t.0, t.1, t.2)) (subst (λ (l : List Input). IsEditAnswer before now (replaced A at l) r) is told)
-
-pub delete_answer : (A : Type 0) (before now : SeatContent A) (at count : ℕ) (r : Result Answered RunFault) → IsEditAnswer before now (delete_edit A at count) r → IsAnswer A before now (Delete at count) r
-delete_answer A before now at count r told = line_turn before now (Delete at count) (delete_edit A at count) r (λ reply next t. (unforeseen t.0, t.1, t.2)) told
+pub change_answer : (A : Type 0) (before now : SeatContent A) (change : Change) (edit : Edit A) (r : Result Answered RunFault) → edit ≡ edit_on A change → IsEditAnswer before now edit r → IsAnswer before now (EditLine change) r
+change_answer A before now change edit r is told =
+    line_turn before now (EditLine change) (edit_on A change) r
+    (λ reply next t.
+    let movie = (own_edits_of before).movie in
+    let same = turn_as (own_edits_of before) next (edit_on A change) (edit_of change) reply (same_refusal A movie change) (same_edited A movie change) t in
+    (unforeseen same.0, same.1, same.2))
+    (subst (λ (e : Edit A). IsEditAnswer before now e r) is told)
 
 -- ---- edits that are refused before they are made
 
@@ -405,43 +425,22 @@ pub refused_by : (checked : Result (Unit {0}) EditRefusal) (found refused : Opti
 refused_by checked found None is answer = is ∙ ap result_err answer
 refused_by checked found (Some refused) is answer = is ∙ ap result_err answer
 
-insert_refused_as : (A : Type 0) (movie : MovieContent) (at count len : ℕ) (input : Input) → len ≡ length movie.inputs → refusal movie (insert_edit A at count input) ≡ insert_refusal len at count
-insert_refused_as A movie at count len input is =
-    ap (λ (n : ℕ). insert_refusal (length movie.inputs) at n) (length-replicate count input)
-    ∙ ap (λ (n : ℕ). insert_refusal n at count) (sym is)
-
-replace_refused_as : (A : Type 0) (movie : MovieContent) (at count len : ℕ) (input : Input) → len ≡ length movie.inputs → refusal movie (replace_edit A at count input) ≡ place_refusal len at (at + count)
-replace_refused_as A movie at count len input is =
-    ap (λ (n : ℕ). place_refusal (length movie.inputs) at (at + n)) (length-replicate count input) ∙ ap (λ (n : ℕ). place_refusal n at (at + count)) (sym is)
-
 pub load_early : (A : Type 0) (before now : SeatContent A) (image : Image) (made : ℕ) (reply : Reply) → BeginsWithOwn before → made ≡ before.made → HasSeen before now → refused_reply made None ≡ Some reply
-    → IsAnswer A before now (Load image) (Ok (record { reply = reply; made = made }))
-load_early A before now image made reply own m seen told = load_answer A before now image (image_bytes image) (answered_of reply made) refl (early before now (load_edit A (image_bytes image)) made None reply own m seen refl told)
+    → IsAnswer before now (Load image) (Ok (record { reply = reply; made = made }))
+load_early A before now image made reply own m seen told = load_answer A before now image (image_bytes image) (answered_of reply made) refl (early before now (loaded A (image_bytes image)) made None reply own m seen refl told)
 
 pub load_late : (A : Type 0) (before now : SeatContent A) (image : Image) (made : ℕ) → BeginsWithOwn before → made ≡ before.made → HasSeen before now → refused_reply made None ≡ None
-    → IsAnswer A before now (Load image) (Ok (record { reply = OutOfMemory; made = made }))
-load_late A before now image made own m seen told = load_answer A before now image (image_bytes image) (answered_of OutOfMemory made) refl (late before now (load_edit A (image_bytes image)) made None own m seen refl told)
+    → IsAnswer before now (Load image) (Ok (record { reply = OutOfMemory; made = made }))
+load_late A before now image made own m seen told = load_answer A before now image (image_bytes image) (answered_of OutOfMemory made) refl (late before now (loaded A (image_bytes image)) made None own m seen refl told)
 
-pub insert_early : (A : Type 0) (before now : SeatContent A) (at count len made : ℕ) (input : Input) (reply : Reply) → BeginsWithOwn before → made ≡ before.made → HasSeen before now → len ≡ length (own_edits_of before).movie.inputs
-    → refused_reply made (insert_refusal len at count) ≡ Some reply → IsAnswer A before now (Insert at count input) (Ok (record { reply = reply; made = made }))
-insert_early A before now at count len made input reply own m seen long told =
-    insert_answer A before now at count input (replicate count input) (answered_of reply made) refl
-    (early before now (insert_edit A at count input) made (insert_refusal len at count) reply own m seen (insert_refused_as A (own_edits_of before).movie at count len input long) told)
+pub change_early : (A : Type 0) (before now : SeatContent A) (change : Change) (made : ℕ) (refused : Option EditRefusal) (reply : Reply) → BeginsWithOwn before → made ≡ before.made → HasSeen before now
+    → refused ≡ refusal (own_edits_of before).movie (edit_of change) → refused_reply made refused ≡ Some reply → IsAnswer before now (EditLine change) (Ok (record { reply = reply; made = made }))
+change_early A before now change made refused reply own m seen is told =
+    change_answer A before now change (edit_on A change) (answered_of reply made) refl
+    (early before now (edit_on A change) made refused reply own m seen (same_refusal A (own_edits_of before).movie change ∙ sym is) told)
 
-pub insert_late : (A : Type 0) (before now : SeatContent A) (at count len made : ℕ) (input : Input) → BeginsWithOwn before → made ≡ before.made → HasSeen before now → len ≡ length (own_edits_of before).movie.inputs
-    → refused_reply made (insert_refusal len at count) ≡ None → IsAnswer A before now (Insert at count input) (Ok (record { reply = OutOfMemory; made = made }))
-insert_late A before now at count len made input own m seen long told =
-    insert_answer A before now at count input (replicate count input) (answered_of OutOfMemory made) refl
-    (late before now (insert_edit A at count input) made (insert_refusal len at count) own m seen (insert_refused_as A (own_edits_of before).movie at count len input long) told)
-
-pub replace_early : (A : Type 0) (before now : SeatContent A) (at count len made : ℕ) (input : Input) (reply : Reply) → BeginsWithOwn before → made ≡ before.made → HasSeen before now → len ≡ length (own_edits_of before).movie.inputs
-    → refused_reply made (place_refusal len at (at + count)) ≡ Some reply → IsAnswer A before now (Replace at count input) (Ok (record { reply = reply; made = made }))
-replace_early A before now at count len made input reply own m seen long told =
-    replace_answer A before now at count input (replicate count input) (answered_of reply made) refl
-    (early before now (replace_edit A at count input) made (place_refusal len at (at + count)) reply own m seen (replace_refused_as A (own_edits_of before).movie at count len input long) told)
-
-pub replace_late : (A : Type 0) (before now : SeatContent A) (at count len made : ℕ) (input : Input) → BeginsWithOwn before → made ≡ before.made → HasSeen before now → len ≡ length (own_edits_of before).movie.inputs
-    → refused_reply made (place_refusal len at (at + count)) ≡ None → IsAnswer A before now (Replace at count input) (Ok (record { reply = OutOfMemory; made = made }))
-replace_late A before now at count len made input own m seen long told =
-    replace_answer A before now at count input (replicate count input) (answered_of OutOfMemory made) refl
-    (late before now (replace_edit A at count input) made (place_refusal len at (at + count)) own m seen (replace_refused_as A (own_edits_of before).movie at count len input long) told)
+pub change_late : (A : Type 0) (before now : SeatContent A) (change : Change) (made : ℕ) (refused : Option EditRefusal) → BeginsWithOwn before → made ≡ before.made → HasSeen before now
+    → refused ≡ refusal (own_edits_of before).movie (edit_of change) → refused_reply made refused ≡ None → IsAnswer before now (EditLine change) (Ok (record { reply = OutOfMemory; made = made }))
+change_late A before now change made refused own m seen is told =
+    change_answer A before now change (edit_on A change) (answered_of OutOfMemory made) refl
+    (late before now (edit_on A change) made refused own m seen (same_refusal A (own_edits_of before).movie change ∙ sym is) told)

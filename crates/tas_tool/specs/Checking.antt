@@ -30,6 +30,6 @@ IsEditAnswer before now edit (Ok answered) = IsTold now answered (IsEditTurn (ow
 IsEditAnswer before now edit (Err fault) = IsDeskFault now fault
 
 -- the answer to a command
-abbrev pub IsAnswer : (A : Type 0) → SeatContent A → SeatContent A → Command → Result Answered RunFault → Type 0
-IsAnswer A before now command (Ok answered) = IsTold now answered (IsTurn A (own_edits_of before) command answered.reply (own_edits_of now))
-IsAnswer A before now command (Err fault) = IsDeskFault now fault
+abbrev pub IsAnswer : {A : Type 0} → SeatContent A → SeatContent A → Command → Result Answered RunFault → Type 0
+IsAnswer before now command (Ok answered) = IsTold now answered (IsTurn (own_edits_of before) command answered.reply (own_edits_of now))
+IsAnswer before now command (Err fault) = IsDeskFault now fault

@@ -1,4 +1,3 @@
-pub mod Edits
 pub mod Turns
 pub mod Checking
 pub mod Scripts

@@ -22,19 +22,19 @@ IsUnmade _ = ⊥
 
 -- the replies to a script that starts from a movie, and how it ends: the movie isn't made, and there are none; or they are
 -- those from its two edits on
-abbrev pub AnswersOver : Type 0 → MovieContent → List ℕ → List ℕ → Result (Unit {0}) RunFault → Type 0
-AnswersOver A movie bytes text (Ok u) = Answers A (own_edits_of_movie movie) bytes text (Ok u)
-AnswersOver A movie bytes text (Err fault) = ((text ≡ []) × IsUnmade fault) ⊎ Answers A (own_edits_of_movie movie) bytes text (Err fault)
+abbrev pub AnswersOver : MovieContent → List ℕ → List ℕ → Result (Unit {0}) RunFault → Type 0
+AnswersOver movie bytes text (Ok u) = Answers (own_edits_of_movie movie) bytes text (Ok u)
+AnswersOver movie bytes text (Err fault) = ((text ≡ []) × IsUnmade fault) ⊎ Answers (own_edits_of_movie movie) bytes text (Err fault)
 
 -- how a script ends that was read with a cartridge and a movie's text: there is no such movie, and nothing is written; or it
 -- is answered from the movie on
-abbrev pub RunsOver : Type 0 → (image said bytes : List ℕ) → Option (List ℕ) → Option (List ℕ) → Result (Unit {0}) RunFault → Type 0
-RunsOver A image said bytes old new (Ok u) = (movie : MovieContent) × IsMovieOf image said movie × EndsWithReplies (AnswersOver A movie bytes) old new (Ok u)
-RunsOver A image said bytes old new (Err fault) =
-    (IsMovieFault image said fault × Keeps old new) ⊎ ((movie : MovieContent) × IsMovieOf image said movie × EndsWithReplies (AnswersOver A movie bytes) old new (Err fault))
+abbrev pub RunsOver : (image said bytes : List ℕ) → Option (List ℕ) → Option (List ℕ) → Result (Unit {0}) RunFault → Type 0
+RunsOver image said bytes old new (Ok u) = (movie : MovieContent) × IsMovieOf image said movie × EndsWithReplies (AnswersOver movie bytes) old new (Ok u)
+RunsOver image said bytes old new (Err fault) =
+    (IsMovieFault image said fault × Keeps old new) ⊎ ((movie : MovieContent) × IsMovieOf image said movie × EndsWithReplies (AnswersOver movie bytes) old new (Err fault))
 
 -- `tas script` over a movie, from what its readers (a cartridge, a movie text and a script) have and the writer holds before to
 -- what they have and hold afterwards
-abbrev pub IsMovieScriptRun : Type 0 → (cart cart' movie movie' input input' output output' : Option (List ℕ)) → Result (Unit {0}) ToolFault → Type 0
-IsMovieScriptRun A cart cart' movie movie' input input' output output' result =
-    EndsAfterThree (λ image said bytes end. RunsOver A image said bytes output output' end) cart cart' movie movie' input input' output output' result
+abbrev pub IsMovieScriptRun : (cart cart' movie movie' input input' output output' : Option (List ℕ)) → Result (Unit {0}) ToolFault → Type 0
+IsMovieScriptRun cart cart' movie movie' input input' output output' result =
+    EndsAfterThree (λ image said bytes end. RunsOver image said bytes output output' end) cart cart' movie movie' input input' output output' result

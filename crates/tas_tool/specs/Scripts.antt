@@ -29,15 +29,15 @@ AreSaid [] = Unit {0}
 AreSaid (turn ∷ turns) = (Says turn.said turn.command × NoByte 10 turn.said) × AreSaid turns
 
 -- what is made after some lines
-unfoldable pub own_edits_after_all : Type 0 → OwnEdits → List Turn → OwnEdits
-own_edits_after_all A own [] = own
-own_edits_after_all A own (turn ∷ turns) = own_edits_after_all A (own_edits_after A turn.unforeseen own turn.command) turns
+unfoldable pub own_edits_after_all : OwnEdits → List Turn → OwnEdits
+own_edits_after_all own [] = own
+own_edits_after_all own (turn ∷ turns) = own_edits_after_all (own_edits_after turn.unforeseen own turn.command) turns
 
 -- the replies to some lines, each at what the lines before it made
-unfoldable pub replies_to_all : Type 0 → OwnEdits → List Turn → List ℕ
-replies_to_all A own [] = []
-replies_to_all A own (turn ∷ turns) =
-    reply_text (reply_to A turn.unforeseen own turn.command) ++ replies_to_all A (own_edits_after A turn.unforeseen own turn.command) turns
+unfoldable pub replies_to_all : OwnEdits → List Turn → List ℕ
+replies_to_all own [] = []
+replies_to_all own (turn ∷ turns) =
+    reply_text (reply_to turn.unforeseen own turn.command) ++ replies_to_all (own_edits_after turn.unforeseen own turn.command) turns
 
 -- the first line isn't understood, or no newline ends it
 abbrev pub IsUnclear : List ℕ → Type 0
@@ -58,9 +58,9 @@ IsStop rest turns NoEntry = 0 < length rest
 IsStop rest turns _ = ⊥
 
 -- the replies to a script that goes on from these own edits, and how it ends: all lines are answered, or the first ones up to a fault
-abbrev pub Answers : Type 0 → OwnEdits → List ℕ → List ℕ → Result (Unit {0}) RunFault → Type 0
-Answers A start bytes text (Ok _) = (turns : List Turn) × Reads bytes turns [] × (text ≡ replies_to_all A start turns)
-Answers A start bytes text (Err fault) = (turns : List Turn) × (rest : List ℕ) × Reads bytes turns rest × (text ≡ replies_to_all A start turns) × IsStop rest turns fault
+abbrev pub Answers : OwnEdits → List ℕ → List ℕ → Result (Unit {0}) RunFault → Type 0
+Answers start bytes text (Ok _) = (turns : List Turn) × Reads bytes turns [] × (text ≡ replies_to_all start turns)
+Answers start bytes text (Err fault) = (turns : List Turn) × (rest : List ℕ) × Reads bytes turns rest × (text ≡ replies_to_all start turns) × IsStop rest turns fault
 
 -- nothing is made yet
 abbrev pub own_edits_at_start : OwnEdits
@@ -83,10 +83,10 @@ EndsWithReplies answers old new (Ok u) = WritesReplies answers old new (Ok u)
 EndsWithReplies answers old new (Err fault) = WritesReplies answers old new (Err fault) ⊎ BreaksOffReplies answers old new fault
 
 -- how a script that was read ends
-abbrev pub RunsScript : Type 0 → List ℕ → Option (List ℕ) → Option (List ℕ) → Result (Unit {0}) RunFault → Type 0
-RunsScript A bytes old new end = EndsWithReplies (Answers A own_edits_at_start bytes) old new end
+abbrev pub RunsScript : List ℕ → Option (List ℕ) → Option (List ℕ) → Result (Unit {0}) RunFault → Type 0
+RunsScript bytes old new end = EndsWithReplies (Answers own_edits_at_start bytes) old new end
 
 -- `tas script`, from what the reader has and the writer holds before to what they have and hold afterwards
-abbrev pub IsScriptRun : Type 0 → (input input' output output' : Option (List ℕ)) → Result (Unit {0}) ToolFault → Type 0
-IsScriptRun A input input' output output' result =
-    EndsAfter (StopsReading input input') (λ end. (bytes : List ℕ) × IsReadWhole input input' bytes × RunsScript A bytes output output' end) output output' result
+abbrev pub IsScriptRun : (input input' output output' : Option (List ℕ)) → Result (Unit {0}) ToolFault → Type 0
+IsScriptRun input input' output output' result =
+    EndsAfter (StopsReading input input') (λ end. (bytes : List ℕ) × IsReadWhole input input' bytes × RunsScript bytes output output' end) output output' result

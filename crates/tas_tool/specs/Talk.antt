@@ -124,18 +124,18 @@ states_of_own no_memory own kept = if no_memory then reply_text OutOfMemory else
 
 -- the answer to a request at what was made and kept so far, and what is made and kept then. `quit` is answered nothing: it ends the
 -- conversation
-abbrev pub IsAnswerTo : Type 0 → TalkState → Request → List ℕ → TalkState → Type 0
-IsAnswerTo A state (Do command) answer next = (reply : Reply) × IsTurn A state.own command reply next.own × (answer ≡ reply_text reply) × CommandLeaves state next command reply
-IsAnswerTo A state (Picture k) answer next =
+abbrev pub IsAnswerTo : TalkState → Request → List ℕ → TalkState → Type 0
+IsAnswerTo state (Do command) answer next = (reply : Reply) × IsTurn state.own command reply next.own × (answer ≡ reply_text reply) × CommandLeaves state next command reply
+IsAnswerTo state (Picture k) answer next =
     (no_memory : Bool) × (answer ≡ picture_of_own no_memory state.own k (answer_shot state.own.movie k)) × (next.own ≡ state.own) × PictureLeaves no_memory state next k (answer_shot state.own.movie k)
-IsAnswerTo A state Movie answer next = (no_memory : Bool) × (answer ≡ text_of_own no_memory state.own) × (next.own ≡ state.own) × GainsUnless no_memory state next
-IsAnswerTo A state States answer next = (no_memory : Bool) × (answer ≡ states_of_own no_memory state.own next.states) × (next.own ≡ state.own) × GainsUnless no_memory state next
-IsAnswerTo A state Quit answer next = ⊥
+IsAnswerTo state Movie answer next = (no_memory : Bool) × (answer ≡ text_of_own no_memory state.own) × (next.own ≡ state.own) × GainsUnless no_memory state next
+IsAnswerTo state States answer next = (no_memory : Bool) × (answer ≡ states_of_own no_memory state.own next.states) × (next.own ≡ state.own) × GainsUnless no_memory state next
+IsAnswerTo state Quit answer next = ⊥
 
 -- a line that isn't understood is answered `unknown`, and changes nothing
-abbrev pub IsLineAnswer : Type 0 → TalkState → Option Request → List ℕ → TalkState → Type 0
-IsLineAnswer A state (Some request) answer next = IsAnswerTo A state request answer next
-IsLineAnswer A state None answer next = (answer ≡ unknown_text) × (next ≡ state)
+abbrev pub IsLineAnswer : TalkState → Option Request → List ℕ → TalkState → Type 0
+IsLineAnswer state (Some request) answer next = IsAnswerTo state request answer next
+IsLineAnswer state None answer next = (answer ≡ unknown_text) × (next ≡ state)
 
 -- ---- lines, one after the other
 
@@ -147,15 +147,15 @@ pub record Exchange : Type 0 where
   pub next : TalkState
 
 -- a line is answered at what was made and kept so far
-pub record IsExchange (A : Type 0) (state : TalkState) (exchange : Exchange) : Type 0 where
+pub record IsExchange (state : TalkState) (exchange : Exchange) : Type 0 where
   pub whole : NoByte 10 exchange.said
   pub heard : IsHeard exchange.said exchange.heard
-  pub answered : IsLineAnswer A state exchange.heard exchange.answer exchange.next
+  pub answered : IsLineAnswer state exchange.heard exchange.answer exchange.next
 
 -- each line is answered at what the lines before it made and left; the last state is what all of them did
-unfoldable pub AreExchanges : Type 0 → TalkState → List Exchange → TalkState → Type 0
-AreExchanges A state [] last = last ≡ state
-AreExchanges A state (exchange ∷ exchanges) last = IsExchange A state exchange × AreExchanges A exchange.next exchanges last
+unfoldable pub AreExchanges : TalkState → List Exchange → TalkState → Type 0
+AreExchanges state [] last = last ≡ state
+AreExchanges state (exchange ∷ exchanges) last = IsExchange state exchange × AreExchanges exchange.next exchanges last
 
 -- what was said, and what was answered
 abbrev pub lines_of : List Exchange → List ℕ
@@ -180,12 +180,12 @@ last_answer [] = []
 last_answer (byte ∷ bytes) = unknown_text
 
 -- the answer to the first line of the rest
-abbrev pub IsFirstAnswer : Type 0 → TalkState → List ℕ → List ℕ → Type 0
-IsFirstAnswer A state rest answer = (exchange : Exchange) × (more : List ℕ) × IsExchange A state exchange × (rest ≡ line exchange.said ++ more) × (answer ≡ exchange.answer)
+abbrev pub IsFirstAnswer : TalkState → List ℕ → List ℕ → Type 0
+IsFirstAnswer state rest answer = (exchange : Exchange) × (more : List ℕ) × IsExchange state exchange × (rest ≡ line exchange.said ++ more) × (answer ≡ exchange.answer)
 
 -- the answer that comes next: to the first line of the rest, or, where no more bytes come, to what stands behind the last newline
-abbrev pub IsNextAnswer : Type 0 → TalkState → List ℕ → Option (List ℕ) → List ℕ → Type 0
-IsNextAnswer A state rest input answer = IsFirstAnswer A state rest answer ⊎ (NoByte 10 rest × IsAtEnd input × (answer ≡ last_answer rest))
+abbrev pub IsNextAnswer : TalkState → List ℕ → Option (List ℕ) → List ℕ → Type 0
+IsNextAnswer state rest input answer = IsFirstAnswer state rest answer ⊎ (NoByte 10 rest × IsAtEnd input × (answer ≡ last_answer rest))
 
 -- how many bytes a count tells at most
 abbrev pub most_counted : ℕ
@@ -201,24 +201,24 @@ pub record IsAnswerCutOff (told answer : List ℕ) (old new : Option (List ℕ))
 -- how a conversation ends in front of this rest, with these answers out before: by `quit`; at the end of the input, after the answer to what
 -- stands behind the last newline; where a read failed, with no whole line unanswered; where a write failed; where memory or
 -- a reader's entry was refused; or before the first line, where the desk had no place
-abbrev pub TalkEnds : Type 0 → TalkState → (rest told : List ℕ) → (input output output' : Option (List ℕ)) → Result (Unit {0}) ToolFault → Type 0
-TalkEnds A state rest told input output output' (Ok _) = (IsQuit rest × Appends output output' told) ⊎ (NoByte 10 rest × IsAtEnd input × Appends output output' (told ++ last_answer rest))
-TalkEnds A state rest told input output output' (Err Read) = NoByte 10 rest × Appends output output' told
-TalkEnds A state rest told input output output' (Err (Write written)) = (answer : List ℕ) × IsNextAnswer A state rest input answer × IsAnswerCutOff told answer output output' written
-TalkEnds A state rest told input output output' (Err Memory) = Appends output output' told
-TalkEnds A state rest told input output output' (Err NoEntry) = (0 < length rest) × Appends output output' told
-TalkEnds A state rest told input output output' (Err NoPlace) = (rest ≡ []) × (told ≡ []) × Appends output output' told
-TalkEnds A state rest told input output output' (Err _) = ⊥
+abbrev pub TalkEnds : TalkState → (rest told : List ℕ) → (input output output' : Option (List ℕ)) → Result (Unit {0}) ToolFault → Type 0
+TalkEnds state rest told input output output' (Ok _) = (IsQuit rest × Appends output output' told) ⊎ (NoByte 10 rest × IsAtEnd input × Appends output output' (told ++ last_answer rest))
+TalkEnds state rest told input output output' (Err Read) = NoByte 10 rest × Appends output output' told
+TalkEnds state rest told input output output' (Err (Write written)) = (answer : List ℕ) × IsNextAnswer state rest input answer × IsAnswerCutOff told answer output output' written
+TalkEnds state rest told input output output' (Err Memory) = Appends output output' told
+TalkEnds state rest told input output output' (Err NoEntry) = (0 < length rest) × Appends output output' told
+TalkEnds state rest told input output output' (Err NoPlace) = (rest ≡ []) × (told ≡ []) × Appends output output' told
+TalkEnds state rest told input output output' (Err _) = ⊥
 
 -- a conversation from such a state on, from what the reader has and the writer holds before to what they have and hold afterwards:
 -- what left the reader is the lines that were answered, and the rest in front of which it ended
-pub record IsTalk (A : Type 0) (start : TalkState) (input input' output output' : Option (List ℕ)) (result : Result (Unit {0}) ToolFault) : Type 0 where
+pub record IsTalk (start : TalkState) (input input' output output' : Option (List ℕ)) (result : Result (Unit {0}) ToolFault) : Type 0 where
   pub exchanges : List Exchange
   pub state : TalkState
   pub rest : List ℕ
-  pub answered : AreExchanges A start exchanges state
+  pub answered : AreExchanges start exchanges state
   pub left : Consumes input input' (lines_of exchanges ++ rest)
-  pub ends : TalkEnds A state rest (answers_of exchanges) input' output output' result
+  pub ends : TalkEnds state rest (answers_of exchanges) input' output output' result
 
 -- ---- conversations over a cartridge or a movie
 
@@ -242,18 +242,18 @@ cart_talk_state image = fresh_talk_state (own_edits_of_movie (record { cart = im
 
 -- `tas talk CART`: reading the cartridge stopped, or its size is wrong, and the conversation didn't begin; or it goes on from
 -- the cartridge
-abbrev pub IsCartTalk : Type 0 → (cart cart' input input' output output' : Option (List ℕ)) → Result (Unit {0}) ToolFault → Type 0
-IsCartTalk A cart cart' input input' output output' result =
+abbrev pub IsCartTalk : (cart cart' input input' output output' : Option (List ℕ)) → Result (Unit {0}) ToolFault → Type 0
+IsCartTalk cart cart' input input' output output' result =
     ((fault : ReadFault) × (result ≡ Err (unread_fault fault)) × StopsReading cart cart' fault × IsUntouched input input' output output')
     ⊎ ((image : List ℕ) × IsReadWhole cart cart' image
     × (((fault : RunFault) × (result ≡ Err (run_fault fault)) × IsImageFault image fault × IsUntouched input input' output output')
-    ⊎ ((is_cart_size (length image) ≡ true) × IsTalk A (cart_talk_state image) input input' output output' result)))
+    ⊎ ((is_cart_size (length image) ≡ true) × IsTalk (cart_talk_state image) input input' output output' result)))
 
 -- `tas talk CART MOVIE`: reading the two stopped, or they make no movie, and the conversation didn't begin; or it goes on from
 -- the movie
-abbrev pub IsMovieTalk : Type 0 → (cart cart' movie movie' input input' output output' : Option (List ℕ)) → Result (Unit {0}) ToolFault → Type 0
-IsMovieTalk A cart cart' movie movie' input input' output output' result =
+abbrev pub IsMovieTalk : (cart cart' movie movie' input input' output output' : Option (List ℕ)) → Result (Unit {0}) ToolFault → Type 0
+IsMovieTalk cart cart' movie movie' input input' output output' result =
     ((fault : ReadFault) × (result ≡ Err (unread_fault fault)) × StopsReadingTwo cart cart' movie movie' fault × IsUntouched input input' output output')
     ⊎ ((image : List ℕ) × (said : List ℕ) × IsReadWhole cart cart' image × IsReadWhole movie movie' said
     × (((fault : RunFault) × (result ≡ Err (run_fault fault)) × IsMovieFault image said fault × IsUntouched input input' output output')
-    ⊎ ((content : MovieContent) × IsMovieOf image said content × IsTalk A (fresh_talk_state (own_edits_of_movie content)) input input' output output' result)))
+    ⊎ ((content : MovieContent) × IsMovieOf image said content × IsTalk (fresh_talk_state (own_edits_of_movie content)) input input' output output' result)))

@@ -63,7 +63,7 @@ pub record IsBrought {A : Type 0} (before now : SeatContent A) (len : ℕ) : Typ
 
 -- a request is answered at just the seat's own edits, which are its first ones still
 pub record IsToldTo {A : Type 0} (before now : SeatContent A) (request : Request) (bytes : List ℕ) (made : ℕ) : Type 0 where
-  pub answer : IsAnswerTo A (talk_state_of before) request bytes (talk_state_of now)
+  pub answer : IsAnswerTo (talk_state_of before) request bytes (talk_state_of now)
   pub made_is : made ≡ now.made
   pub own : BeginsWithOwn now
 
@@ -73,7 +73,7 @@ CutsOff before answer old new fault = (sent : ℕ) × IsCutOff old new answer se
 
 -- lines were answered from one front of the seat's to another, the answers went out and are counted behind so many bytes
 pub record HasAnswered {A : Type 0} (before now : SeatContent A) (exchanges : List Exchange) (told : ℕ) (next : Progress) (old new : Option (List ℕ)) : Type 0 where
-  pub all : AreExchanges A (talk_state_of before) exchanges (talk_state_of now)
+  pub all : AreExchanges (talk_state_of before) exchanges (talk_state_of now)
   pub out : Appends old new (answers_of exchanges)
   pub count : min next.written most_counted ≡ min (told + length (answers_of exchanges)) most_counted
   pub made : next.made ≡ now.made
@@ -85,7 +85,7 @@ StandsAt seat progress = BeginsWithOwn seat × (progress.made ≡ seat.made)
 
 -- why the rest isn't answered
 abbrev pub Breaks : {A : Type 0} → TalkState → List ℕ → SeatContent A → ℕ → Option (List ℕ) → Option (List ℕ) → RunFault → Type 0
-Breaks {A} state rest now told old new (Write written) = (answer : List ℕ) × IsFirstAnswer A state rest answer × CutsOff told answer old new (Write written)
+Breaks {A} state rest now told old new (Write written) = (answer : List ℕ) × IsFirstAnswer state rest answer × CutsOff told answer old new (Write written)
 Breaks state rest now told old new NoEntry = (0 < length rest) × Appends old new []
 Breaks state rest now told old new Memory = Appends old new []
 Breaks state rest now told old new Foreign = HasForeign now
@@ -98,7 +98,7 @@ pub record StopsAfter {A : Type 0} (start : TalkState) (read : List ℕ) (now : 
   pub rest : List ℕ
   pub middle : Option (List ℕ)
   pub counted : ℕ
-  pub all : AreExchanges A start exchanges state
+  pub all : AreExchanges start exchanges state
   pub text : read ≡ lines_of exchanges ++ rest
   pub out : Appends old middle (answers_of exchanges)
   pub count : min counted most_counted ≡ min (told + length (answers_of exchanges)) most_counted
@@ -115,12 +115,12 @@ abbrev pub IsPartTurn : {A : Type 0} → SeatContent A → SeatContent A → Lis
 IsPartTurn before now read told held long old new (Ok (Some next)) =
     (exchanges : List Exchange) × (part : List ℕ) × (read ≡ lines_of exchanges ++ part) × NoByte 10 part × HoldsLine part held long × HasAnswered before now exchanges told next old new
 IsPartTurn {A} before now read told held long old new (Ok None) =
-    (exchanges : List Exchange) × (state : TalkState) × (rest : List ℕ) × AreExchanges A (talk_state_of before) exchanges state × (read ≡ lines_of exchanges ++ rest) × IsQuit rest × Appends old new (answers_of exchanges)
+    (exchanges : List Exchange) × (state : TalkState) × (rest : List ℕ) × AreExchanges (talk_state_of before) exchanges state × (read ≡ lines_of exchanges ++ rest) × IsQuit rest × Appends old new (answers_of exchanges)
 IsPartTurn before now read told held long old new (Err fault) = StopsAfter (talk_state_of before) read now told old new fault
 
 -- files were read: a conversation from their movie on is a conversation of this kind; or there is no movie, and so is one that ends with the fault
 -- before it begins
-abbrev pub StartsTalk : Type 0 → ((input input' output output' : Option (List ℕ)) → Result (Unit {0}) ToolFault → Type 0) → Result MovieContent ToolFault → Type 0
-StartsTalk A IsSuch (Ok movie) =
-    (input input' output output' : Option (List ℕ)) (end : Result (Unit {0}) ToolFault) → IsTalk A (talk_state_from (Some movie)) input input' output output' end → IsSuch input input' output output' end
-StartsTalk A IsSuch (Err fault) = (input output : Option (List ℕ)) → IsSuch input input output output (Err fault)
+abbrev pub StartsTalk : ((input input' output output' : Option (List ℕ)) → Result (Unit {0}) ToolFault → Type 0) → Result MovieContent ToolFault → Type 0
+StartsTalk IsSuch (Ok movie) =
+    (input input' output output' : Option (List ℕ)) (end : Result (Unit {0}) ToolFault) → IsTalk (talk_state_from (Some movie)) input input' output output' end → IsSuch input input' output output' end
+StartsTalk IsSuch (Err fault) = (input output : Option (List ℕ)) → IsSuch input input output output (Err fault)

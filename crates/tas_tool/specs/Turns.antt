@@ -6,6 +6,7 @@ use Rattle.vcs_tia.specs.Picture.{lit_count}
 use Rattle.vcs_machine.specs.declared.input.Input.{Input}
 use Rattle.tas_movie.specs.Content.{MovieContent}
 use Rattle.tas_movie.specs.declared.edit.Edit.{Edit}
+use Rattle.tas_movie.specs.declared.edit.Edit.TheVariants.{Load as LoadEdit}
 use Rattle.tas_movie.specs.declared.edit.EditRefusal.{EditRefusal}
 use Rattle.tas_movie.specs.declared.edit.EditRefusal.TheVariants.{Place, Long}
 use Rattle.tas_movie.specs.Edit.{refusal, edited}
@@ -15,11 +16,11 @@ use Rattle.tas_desk.specs.Seats.{SeatContent}
 use Rattle.tas_engines.specs.declared.fault.RunFault.{RunFault}
 use Rattle.tas_engines.specs.declared.fault.RunFault.TheVariants.{Foreign, NoEntry}
 use Rattle.tas_language.specs.declared.command.Command.{Command}
-use Rattle.tas_language.specs.declared.command.Command.TheVariants.{Load, Insert, Replace, Delete, Length, InputAt, Shot, Work}
+use Rattle.tas_language.specs.declared.command.Command.TheVariants.{Load, Edit as EditLine, Length, InputAt, Shot, Work}
 use Rattle.tas_language.specs.declared.reply.Reply.{Reply}
-use Rattle.tas_language.specs.declared.reply.Reply.TheVariants.{Edited, Misplaced, TooLong, Full, Measured, Pressed, NoFrame, Drawn, Halted, Worked, OutOfMemory}
+use Rattle.tas_language.specs.declared.reply.Reply.TheVariants.{Edited, Place as PlaceReply, Long as LongReply, Full, Measured, Pressed, NoFrame, Drawn, Halted, Worked, OutOfMemory}
 use Rattle.tas_language.specs.Commands.{image_bytes}
-use Rattle.tas_tool.specs.Edits.{load_edit, insert_edit, replace_edit, delete_edit}
+use Rattle.tas_engines.specs.Changes.{EditContent, edit_of}
 
 -- what a session of cartridge and inputs alone can't tell: whether memory was refused, how many frames were played, and how
 -- many states a job gained and whether it was stale
@@ -57,8 +58,8 @@ IsDeskFault seat _ = ⊥
 
 abbrev pub refusal_reply : ℕ → Option EditRefusal → Option Reply
 refusal_reply made None = None
-refusal_reply made (Some (Place at len)) = Some (Misplaced made len)
-refusal_reply made (Some (Long len)) = Some (TooLong made len)
+refusal_reply made (Some (Place at len)) = Some (PlaceReply made len)
+refusal_reply made (Some (Long len)) = Some (LongReply made len)
 
 -- the reply to an edit that is refused, whatever memory there is: so many edits were made, or the movie doesn't allow it
 abbrev pub refused_reply : ℕ → Option EditRefusal → Option Reply
@@ -106,28 +107,28 @@ work_reply unforeseen = if unforeseen.refused then OutOfMemory else Worked 1 unf
 
 -- ---- any line
 
+-- the edit that a line asks for which loads this cartridge
+abbrev pub load_edit : List ℕ → EditContent
+load_edit image = LoadEdit image
+
 -- the reply to a command at what was made so far
-abbrev pub reply_to : Type 0 → Unforeseen → OwnEdits → Command → Reply
-reply_to A unforeseen own (Load image) = reply_to_edit unforeseen.refused own (load_edit A (image_bytes image))
-reply_to A unforeseen own (Insert at count input) = reply_to_edit unforeseen.refused own (insert_edit A at count input)
-reply_to A unforeseen own (Replace at count input) = reply_to_edit unforeseen.refused own (replace_edit A at count input)
-reply_to A unforeseen own (Delete at count) = reply_to_edit unforeseen.refused own (delete_edit A at count)
-reply_to A unforeseen own Length = Measured own.made (length own.movie.inputs)
-reply_to A unforeseen own (InputAt k) = input_reply own (answer_input own.movie k)
-reply_to A unforeseen own (Shot k) = shot_reply unforeseen own k (answer_shot own.movie k)
-reply_to A unforeseen own (Work k) = work_reply unforeseen
+abbrev pub reply_to : Unforeseen → OwnEdits → Command → Reply
+reply_to unforeseen own (Load image) = reply_to_edit unforeseen.refused own (load_edit (image_bytes image))
+reply_to unforeseen own (EditLine change) = reply_to_edit unforeseen.refused own (edit_of change)
+reply_to unforeseen own Length = Measured own.made (length own.movie.inputs)
+reply_to unforeseen own (InputAt k) = input_reply own (answer_input own.movie k)
+reply_to unforeseen own (Shot k) = shot_reply unforeseen own k (answer_shot own.movie k)
+reply_to unforeseen own (Work k) = work_reply unforeseen
 
 -- what is made after a command
-abbrev pub own_edits_after : Type 0 → Unforeseen → OwnEdits → Command → OwnEdits
-own_edits_after A unforeseen own (Load image) = own_edits_after_edit unforeseen.refused own (load_edit A (image_bytes image))
-own_edits_after A unforeseen own (Insert at count input) = own_edits_after_edit unforeseen.refused own (insert_edit A at count input)
-own_edits_after A unforeseen own (Replace at count input) = own_edits_after_edit unforeseen.refused own (replace_edit A at count input)
-own_edits_after A unforeseen own (Delete at count) = own_edits_after_edit unforeseen.refused own (delete_edit A at count)
-own_edits_after A unforeseen own Length = own
-own_edits_after A unforeseen own (InputAt k) = own
-own_edits_after A unforeseen own (Shot k) = own
-own_edits_after A unforeseen own (Work k) = own
+abbrev pub own_edits_after : Unforeseen → OwnEdits → Command → OwnEdits
+own_edits_after unforeseen own (Load image) = own_edits_after_edit unforeseen.refused own (load_edit (image_bytes image))
+own_edits_after unforeseen own (EditLine change) = own_edits_after_edit unforeseen.refused own (edit_of change)
+own_edits_after unforeseen own Length = own
+own_edits_after unforeseen own (InputAt k) = own
+own_edits_after unforeseen own (Shot k) = own
+own_edits_after unforeseen own (Work k) = own
 
 -- the reply to a command, and what is made then
-abbrev pub IsTurn : Type 0 → OwnEdits → Command → Reply → OwnEdits → Type 0
-IsTurn A own command reply next = (unforeseen : Unforeseen) × (reply ≡ reply_to A unforeseen own command) × (next ≡ own_edits_after A unforeseen own command)
+abbrev pub IsTurn : OwnEdits → Command → Reply → OwnEdits → Type 0
+IsTurn own command reply next = (unforeseen : Unforeseen) × (reply ≡ reply_to unforeseen own command) × (next ≡ own_edits_after unforeseen own command)

@@ -9,16 +9,16 @@ ghost use Rattle.tas_tool.specs.Turns.{own_edits_of, refused_reply, halted_reply
 ghost use Rattle.tas_tool.specs.Checking.{checked_end, looked, IsAnswer, IsEditAnswer};
 ghost use Rattle.tas_tool.specs.Talk.{ShotLeaves};
 ghost use Rattle.tas_tool.specs.Talking.{talk_state_of, IsCommandZone, IsWorkedZone, TellsError};
-ghost use Rattle.tas_language.specs.declared.command.Command.TheVariants.{Load as LoadLine, Insert as InsertLine, Replace as ReplaceLine, InputAt as InputLine, Shot as ShotLine, Work as WorkLine};
+ghost use Rattle.tas_language.specs.declared.command.Command.TheVariants.{Load as LoadLine, Edit as EditLine, InputAt as InputLine, Shot as ShotLine, Work as WorkLine};
 
 use std::alloc::Allocator;
 use std::sync::Wait;
 use tas_desk::{CloseOnDrop, Desk, EditError, Gate, InputError, MAX_EDITS, Name, Seat, ShotError};
-use tas_engines::RunFault;
-use tas_language::{Command, Image, Reply};
-use tas_movie::{Edit, EditRefusal, Inputs, check_insertion, check_place};
+use tas_engines::{RunFault, check_change, edit_of};
+use tas_language::{Change, Command, Image, Reply};
+use tas_movie::{Edit, EditRefusal};
 use vcs_cpu::Halt;
-use vcs_machine::{Cart, Input};
+use vcs_machine::Cart;
 
 /// The answer to a command.
 #[derive(Clone, Copy)]
@@ -79,12 +79,8 @@ fn refused_edit<N: Name, W: CloseOnDrop, A: Allocator>(
     match error {
         EditError::Serial { .. } => Err(RunFault::Foreign),
         EditError::Full { at } => checked(made, at, Ok(Reply::Full { at })),
-        EditError::Place { at, place: _, len } => checked(
-            made,
-            at,
-            Ok(Reply::Misplaced { at, len }),
-        ),
-        EditError::Long { at, len } => checked(made, at, Ok(Reply::TooLong { at, len })),
+        EditError::Place { at, place: _, len } => checked(made, at, Ok(Reply::Place { at, len })),
+        EditError::Long { at, len } => checked(made, at, Ok(Reply::Long { at, len })),
         EditError::Memory => {
             own_len(desk, seat, made)?;
             Ok(Reply::OutOfMemory)
@@ -133,8 +129,8 @@ fn refused_reply(made: u64, refusal: Option<EditRefusal>) -> Option<Reply>
     }
     match refusal {
         None => None,
-        Some(EditRefusal::Place { at: _, len }) => Some(Reply::Misplaced { at: made, len }),
-        Some(EditRefusal::Long { len }) => Some(Reply::TooLong { at: made, len }),
+        Some(EditRefusal::Place { at: _, len }) => Some(Reply::Place { at: made, len }),
+        Some(EditRefusal::Long { len }) => Some(Reply::Long { at: made, len }),
     }
 }
 
@@ -151,7 +147,7 @@ fn load<N: Name, W: CloseOnDrop, A: Allocator + Copy, R: Wait>(
     requires made { made ≡ seat.old.made }
     ensures number { seat.new.number ≡ seat.old.number }
     ensures zone { seat.new.zone ≡ seat.old.zone }
-    ensures answer { IsAnswer A seat.old seat.new (LoadLine image) result }
+    ensures answer { IsAnswer seat.old seat.new (LoadLine image) result }
 {
     own_len(desk, seat, made)?;
     if let Some(reply) = refused_reply(made, None) {
@@ -166,59 +162,27 @@ fn load<N: Name, W: CloseOnDrop, A: Allocator + Copy, R: Wait>(
     }
 }
 
-/// An `insert` line. Memory is asked for once nothing else refuses the edit.
-fn insert<N: Name, W: CloseOnDrop, A: Allocator + Copy, R: Wait>(
+/// An `insert`, `replace` or `delete` line. Memory is asked for once nothing else refuses the edit.
+fn change<N: Name, W: CloseOnDrop, A: Allocator + Copy, R: Wait>(
     rt: &R,
     alloc: A,
     desk: &Desk<N, W, A>,
     seat: &mut Seat<N, A>,
     made: u64,
-    at: usize,
-    count: usize,
-    input: Input,
+    change: Change,
 ) -> Result<Answered, RunFault>
     requires own { BeginsWithOwn seat.old }
     requires made { made ≡ seat.old.made }
     ensures number { seat.new.number ≡ seat.old.number }
     ensures zone { seat.new.zone ≡ seat.old.zone }
-    ensures answer { IsAnswer A seat.old seat.new (InsertLine at count input) result }
+    ensures answer { IsAnswer seat.old seat.new (EditLine change) result }
 {
     let len = own_len(desk, seat, made)?;
-    if let Some(reply) = refused_reply(made, check_insertion(len, at, count).err()) {
+    if let Some(reply) = refused_reply(made, check_change(len, change).err()) {
         return Ok(Answered { reply, made });
     }
-    match Inputs::repeated(alloc, input, count) {
-        Ok(inputs) => make_edit(rt, desk, seat, made, Edit::Insert { at, inputs }),
-        Err(_) => Ok(Answered {
-            reply: Reply::OutOfMemory,
-            made,
-        }),
-    }
-}
-
-/// A `replace` line. Memory is asked for once nothing else refuses the edit.
-fn replace<N: Name, W: CloseOnDrop, A: Allocator + Copy, R: Wait>(
-    rt: &R,
-    alloc: A,
-    desk: &Desk<N, W, A>,
-    seat: &mut Seat<N, A>,
-    made: u64,
-    at: usize,
-    count: usize,
-    input: Input,
-) -> Result<Answered, RunFault>
-    requires own { BeginsWithOwn seat.old }
-    requires made { made ≡ seat.old.made }
-    ensures number { seat.new.number ≡ seat.old.number }
-    ensures zone { seat.new.zone ≡ seat.old.zone }
-    ensures answer { IsAnswer A seat.old seat.new (ReplaceLine at count input) result }
-{
-    let len = own_len(desk, seat, made)?;
-    if let Some(reply) = refused_reply(made, check_place(len, at, count).err()) {
-        return Ok(Answered { reply, made });
-    }
-    match Inputs::repeated(alloc, input, count) {
-        Ok(inputs) => make_edit(rt, desk, seat, made, Edit::Replace { at, inputs }),
+    match edit_of(alloc, change) {
+        Ok(edit) => make_edit(rt, desk, seat, made, edit),
         Err(_) => Ok(Answered {
             reply: Reply::OutOfMemory,
             made,
@@ -239,7 +203,7 @@ fn show_input<N: Name, W: CloseOnDrop, A: Allocator>(
     requires made { made ≡ seat.old.made }
     ensures seen { HasSeen seat.old seat.new }
     ensures zone { seat.new.zone ≡ seat.old.zone }
-    ensures reply { MatchResult result (λ reply. IsTurn A (own_edits_of seat.old) (InputLine frame) reply (own_edits_of seat.new)) (IsDeskFault seat.new) }
+    ensures reply { MatchResult result (λ reply. IsTurn (own_edits_of seat.old) (InputLine frame) reply (own_edits_of seat.new)) (IsDeskFault seat.new) }
 {
     match desk.input(seat, frame) {
         Ok((at, input)) => checked(made, at, Ok(Reply::Pressed { at, input })),
@@ -278,7 +242,7 @@ pub fn unshown<N: Name, W: CloseOnDrop, A: Allocator>(
     ensures seen { HasSeen seat.old seat.new }
     ensures zone { seat.new.zone ≡ seat.old.zone }
     ensures tells { IfOk result (TellsError made error) }
-    ensures reply { MatchResult result (λ reply. IsTurn A (own_edits_of seat.old) (ShotLine frame) reply (own_edits_of seat.new)) (IsDeskFault seat.new) }
+    ensures reply { MatchResult result (λ reply. IsTurn (own_edits_of seat.old) (ShotLine frame) reply (own_edits_of seat.new)) (IsDeskFault seat.new) }
 {
     match error {
         ShotError::NoEntry => Err(RunFault::NoEntry),
@@ -303,7 +267,7 @@ fn draw<N: Name, W: CloseOnDrop, A: Allocator + Copy>(
     requires made { made ≡ seat.old.made }
     ensures seen { HasSeen seat.old seat.new }
     ensures zone { IfOk result (ShotLeaves (talk_state_of seat.old) (talk_state_of seat.new) frame) }
-    ensures reply { MatchResult result (λ reply. IsTurn A (own_edits_of seat.old) (ShotLine frame) reply (own_edits_of seat.new)) (IsDeskFault seat.new) }
+    ensures reply { MatchResult result (λ reply. IsTurn (own_edits_of seat.old) (ShotLine frame) reply (own_edits_of seat.new)) (IsDeskFault seat.new) }
 {
     let shot = match desk.shot(alloc, seat, frame) {
         Ok(shot) => shot,
@@ -337,7 +301,7 @@ fn work<N: Name, W: CloseOnDrop, A: Allocator + Copy, R: Wait>(
     requires own { BeginsWithOwn seat.old }
     ensures seen { HasSeen seat.old seat.new }
     ensures zone { IsWorkedZone seat.old seat.new result }
-    ensures reply { IsTurn A (own_edits_of seat.old) (WorkLine frame) result (own_edits_of seat.new) }
+    ensures reply { IsTurn (own_edits_of seat.old) (WorkLine frame) result (own_edits_of seat.new) }
 {
     let Ok(worked) = desk.work(rt, alloc, seat, &[frame], &OpenGate) else {
         return Reply::OutOfMemory;
@@ -378,19 +342,11 @@ pub fn answer_command<N: Name, W: CloseOnDrop, A: Allocator + Copy, R: Wait>(
     requires made { made ≡ seat.old.made }
     ensures number { seat.new.number ≡ seat.old.number }
     ensures zone { IfOk result (λ answered. IsCommandZone seat.old seat.new command answered.reply) }
-    ensures answer { IsAnswer A seat.old seat.new command result }
+    ensures answer { IsAnswer seat.old seat.new command result }
 {
     match command {
         Command::Load { image } => load(rt, alloc, desk, seat, made, image),
-        Command::Insert { at, count, input } => {
-            insert(rt, alloc, desk, seat, made, at, count, input)
-        }
-        Command::Replace { at, count, input } => {
-            replace(rt, alloc, desk, seat, made, at, count, input)
-        }
-        Command::Delete { at, count } => {
-            make_edit(rt, desk, seat, made, Edit::Delete { at, count })
-        }
+        Command::Edit(edit) => change(rt, alloc, desk, seat, made, edit),
         Command::Length => {
             let len = own_len(desk, seat, made)?;
             let reply = Reply::Measured { at: made, len };

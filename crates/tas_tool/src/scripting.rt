@@ -30,7 +30,7 @@ pub fn answer_lines<N: Name, W: CloseOnDrop, A: Allocator + Copy, R: Wait>(
     requires made { before ≡ seat.old.made }
     requires empty { text.old.items ≡ [] }
     ensures number { seat.new.number ≡ seat.old.number }
-    ensures answers { length seat.new.front ≤ seat.new.made → Answers A (own_edits_of seat.old) bytes.now text.new.items result }
+    ensures answers { length seat.new.front ≤ seat.new.made → Answers (own_edits_of seat.old) bytes.now text.new.items result }
 {
     let mut rest = bytes;
     let mut number = 1;
@@ -64,7 +64,7 @@ fn answer_script<N: Name, A: Allocator + Copy, R: Wait>(
     requires name { unopened ≡ name_of N.registry N.name N.parts }
     requires one { unopened.seats ≡ 1 }
     requires empty { text.old.items ≡ [] }
-    ensures { Answers A own_edits_at_start bytes.now text.new.items result }
+    ensures { Answers own_edits_at_start bytes.now text.new.items result }
 {
     let (desk, mut seats) = open_alone::<N, A, R>(rt, alloc, unopened)?;
     let seat = &mut seats.as_mut_slice()[0];
@@ -80,7 +80,7 @@ fn run_script<A: Allocator + Copy, R: Wait, W: Write>(
     bytes: &[u8],
     output: &mut W,
 ) -> Result<(), RunFault>
-    ensures { RunsScript A bytes.now (W.contents output.old) (W.contents output.new) result }
+    ensures { RunsScript bytes.now (W.contents output.old) (W.contents output.new) result }
 {
     let Ok(unopened) = Unopened::new(alloc, 1) else {
         return Err(RunFault::Memory);
@@ -103,7 +103,7 @@ pub fn script_run<A: Allocator + Copy, T: Wait, R: Read, W: Write>(
     input: &mut R,
     output: &mut W,
 ) -> Result<(), ToolFault>
-    ensures { IsScriptRun A (R.remaining input.old) (R.remaining input.new) (W.contents output.old) (W.contents output.new) result }
+    ensures { IsScriptRun (R.remaining input.old) (R.remaining input.new) (W.contents output.old) (W.contents output.new) result }
 {
     let bytes = read_input(alloc, input)?;
     Ok(run_script(rt, alloc, bytes.as_slice(), output)?)

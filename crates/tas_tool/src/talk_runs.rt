@@ -33,7 +33,7 @@ fn talk_made<N: Name, C: CloseOnDrop, A: Allocator + Copy, T: Wait, R: Read, W: 
     requires first { (seat.old.number ≡ 0) × (seat.old.made ≡ 0) × (seat.old.front ≡ []) }
     requires zone { (seat.old.zone.movie ≡ blank_movie) × (seat.old.zone.states ≡ []) }
     ensures number { seat.new.number ≡ 0 }
-    ensures talk { length seat.new.front ≤ seat.new.made → IsTalk A (talk_state_from movie) (R.remaining input.old) (R.remaining input.new)
+    ensures talk { length seat.new.front ≤ seat.new.made → IsTalk (talk_state_from movie) (R.remaining input.old) (R.remaining input.new)
         (W.contents output.old) (W.contents output.new) result }
 {
     let Some(movie) = movie else {
@@ -57,7 +57,7 @@ fn talk_on<N: Name, A: Allocator + Copy, T: Wait, R: Read, W: Write>(
 ) -> Result<(), ToolFault>
     requires name { unopened ≡ name_of N.registry N.name N.parts }
     requires one { unopened.seats ≡ 1 }
-    ensures { IsTalk A (talk_state_from movie) (R.remaining input.old) (R.remaining input.new) (W.contents output.old) (W.contents output.new) result }
+    ensures { IsTalk (talk_state_from movie) (R.remaining input.old) (R.remaining input.new) (W.contents output.old) (W.contents output.new) result }
 {
     let (desk, mut seats) = open_alone::<N, A, T>(rt, alloc, unopened)?;
     let seat = &mut seats.as_mut_slice()[0];
@@ -74,7 +74,7 @@ fn talk_from<A: Allocator + Copy, T: Wait, R: Read, W: Write>(
     input: &mut R,
     output: &mut W,
 ) -> Result<(), ToolFault>
-    ensures { IsTalk A (talk_state_from movie) (R.remaining input.old) (R.remaining input.new) (W.contents output.old) (W.contents output.new) result }
+    ensures { IsTalk (talk_state_from movie) (R.remaining input.old) (R.remaining input.new) (W.contents output.old) (W.contents output.new) result }
 {
     let Ok(unopened) = Unopened::new(alloc, 1) else {
         return Err(ToolFault::Memory);
@@ -99,7 +99,7 @@ fn read_blank_movie<A: Allocator + Copy, C: Read>(
     alloc: A,
     cart: &mut C,
 ) -> Result<Movie<A>, ToolFault>
-    ensures { StartsTalk A (IsCartTalk A (C.remaining cart.old) (C.remaining cart.new)) result }
+    ensures { StartsTalk (IsCartTalk (C.remaining cart.old) (C.remaining cart.new)) result }
 {
     let image = read_input(alloc, cart)?;
     Ok(blank_movie_of(alloc, image.as_slice())?)
@@ -114,7 +114,7 @@ fn read_movie<A: Allocator + Copy, C: Read, M: Read>(
     cart: &mut C,
     movie: &mut M,
 ) -> Result<Movie<A>, ToolFault>
-    ensures { StartsTalk A (IsMovieTalk A (C.remaining cart.old) (C.remaining cart.new) (M.remaining movie.old) (M.remaining movie.new)) result }
+    ensures { StartsTalk (IsMovieTalk (C.remaining cart.old) (C.remaining cart.new) (M.remaining movie.old) (M.remaining movie.new)) result }
 {
     let (image, bytes) = read_two(alloc, cart, movie)?;
     Ok(movie_of(alloc, image.as_slice(), bytes.as_slice())?)
@@ -134,7 +134,7 @@ pub fn talk_run<A: Allocator + Copy, T: Wait, R: Read, W: Write>(
     input: &mut R,
     output: &mut W,
 ) -> Result<(), ToolFault>
-    ensures { IsTalk A (talk_state_from None) (R.remaining input.old) (R.remaining input.new) (W.contents output.old) (W.contents output.new) result }
+    ensures { IsTalk (talk_state_from None) (R.remaining input.old) (R.remaining input.new) (W.contents output.old) (W.contents output.new) result }
 {
     talk_from(rt, alloc, None, input, output)
 }
@@ -151,7 +151,7 @@ pub fn cart_talk_run<A: Allocator + Copy, T: Wait, C: Read, R: Read, W: Write>(
     input: &mut R,
     output: &mut W,
 ) -> Result<(), ToolFault>
-    ensures { IsCartTalk A (C.remaining cart.old) (C.remaining cart.new) (R.remaining input.old) (R.remaining input.new)
+    ensures { IsCartTalk (C.remaining cart.old) (C.remaining cart.new) (R.remaining input.old) (R.remaining input.new)
         (W.contents output.old) (W.contents output.new) result }
 {
     let movie = read_blank_movie(alloc, cart)?;
@@ -171,7 +171,7 @@ pub fn movie_talk_run<A: Allocator + Copy, T: Wait, C: Read, M: Read, R: Read, W
     input: &mut R,
     output: &mut W,
 ) -> Result<(), ToolFault>
-    ensures { IsMovieTalk A (C.remaining cart.old) (C.remaining cart.new) (M.remaining movie.old) (M.remaining movie.new)
+    ensures { IsMovieTalk (C.remaining cart.old) (C.remaining cart.new) (M.remaining movie.old) (M.remaining movie.new)
         (R.remaining input.old) (R.remaining input.new) (W.contents output.old) (W.contents output.new) result }
 {
     let movie = read_movie(alloc, cart, movie)?;

@@ -155,7 +155,7 @@ pub fn converse<N: Name, C: CloseOnDrop, A: Allocator + Copy, T: Wait, R: Read, 
     requires own { BeginsWithOwn seat.old }
     requires made { made ≡ seat.old.made }
     ensures number { seat.new.number ≡ seat.old.number }
-    ensures talk { length seat.new.front ≤ seat.new.made → IsTalk A (talk_state_of seat.old) (R.remaining input.old) (R.remaining input.new)
+    ensures talk { length seat.new.front ≤ seat.new.made → IsTalk (talk_state_of seat.old) (R.remaining input.old) (R.remaining input.new)
         (W.contents output.old) (W.contents output.new) result }
 {
     let Ok(mut line) = Line::new(alloc) else {

@@ -13,6 +13,6 @@ returns-in_err-text g c =
 
 pub returns : goal.returns
 returns g c =
-    let answers = IsDiffAnswer g.row.A.Denot c.args.image.now c.args.before.now c.args.after.now in
+    let answers = IsDiffAnswer c.args.image.now c.args.before.now c.args.after.now in
     ends-written answers _ _ c.as_slice.result.now _
     (subst (λ text. answers (Ok text)) (sym c.as_slice.ensures.value) c.in_ok-text.ensures.text) c.write_all.ensures.ok c.write_all.ensures.fault

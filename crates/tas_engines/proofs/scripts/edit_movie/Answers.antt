@@ -9,7 +9,7 @@ use Rattle.tas_engines.proofs.ScriptLemmas.{reads_none, reads_more, count_more, 
 use Rattle.tas_engines.proofs.scripts.edit_movie.Goals as goal
 
 pub loop-rest-init : goal.loop-rest-init
-loop-rest-init g c = ([], record { reads = reads_none c.args.bytes.now; allowed = none_asked g.row.B.Denot c.args.movie.now; made = none_made g.row.B.Denot c.args.movie.now; number = refl; room = omega arith })
+loop-rest-init g c = ([], record { reads = reads_none c.args.bytes.now; allowed = none_asked c.args.movie.now; made = none_made c.args.movie.now; number = refl; room = omega arith })
 
 pub returns-in_default : goal.returns-in_default
 returns-in_default g c =
@@ -30,9 +30,9 @@ returns-in-Err g c =
       c.loop-rest.rest.now,
       i.reads,
       i.allowed,
-      same_movie g.row.B.Denot _ _ c.in-Some-read_change.change c.in-Err.error c.in-Err.ensures.made ∙ sym i.made,
-      subst (λ n. IsStop g.row.B.Denot c.make_change.new.movie c.loop-rest.rest.now n c.fault_at.result) i.number
-          (stopped g.row.B.Denot _ _ _ c.in-Some.line.now c.in-Some.after.now _ c.in-Some-read_change.change c.in-Err.error _ c.in-Some.ensures.some.0 c.in-Some-read_change.ensures.some c.in-Err.ensures.made (λ e. c.in-Err.ensures.memory (ap Err e)) c.fault_at.ensures),
+      same_movie _ _ c.in-Some-read_change.change c.in-Err.error c.in-Err.ensures.made ∙ sym i.made,
+      subst (λ n. IsStop c.make_change.new.movie c.loop-rest.rest.now n c.fault_at.result) i.number
+          (stopped _ _ _ c.in-Some.line.now c.in-Some.after.now _ c.in-Some-read_change.change c.in-Err.error _ c.in-Some.ensures.some.0 c.in-Some-read_change.ensures.some c.in-Err.ensures.made (λ e. c.in-Err.ensures.memory (ap Err e)) c.fault_at.ensures),
     )
 
 pub loop-rest-preserved : goal.loop-rest-preserved
@@ -44,8 +44,8 @@ loop-rest-preserved g c =
       changes ++ change ∷ [],
       record {
         reads = reads_more _ c.loop-rest.rest.now c.in-Some.line.now c.in-Some.after.now changes change i.reads c.in-Some.ensures.some.0 c.in-Some-read_change.ensures.some;
-        allowed = allowed_more g.row.B.Denot c.args.movie.now changes change i.allowed (subst (λ m. IsAllowed m (edit_of g.row.B.Denot change)) (sym i.made) makes.0);
-        made = changed_more g.row.B.Denot c.args.movie.now changes change ∙ ap (λ m. edited m (edit_of g.row.B.Denot change)) i.made ∙ sym makes.1;
+        allowed = allowed_more c.args.movie.now changes change i.allowed (subst (λ m. IsAllowed m (edit_of change)) (sym i.made) makes.0);
+        made = changed_more c.args.movie.now changes change ∙ ap (λ m. edited m (edit_of change)) i.made ∙ sym makes.1;
         number = omega (arith, i.number, count_more changes change);
         room = omega (arith, i.room, shorter);
       },

@@ -1,16 +1,10 @@
 use Rattle.std.proofs.Common.{Ok}
 use Rattle.tas_language.specs.declared.reply.Reply.TheVariants.{Measured}
-use Rattle.tas_tool.proofs.TurnLemmas.{delete_answer}
 use Rattle.tas_tool.proofs.LookLemmas.{answer_is, length_answer, looked_as, look_answer}
-use Rattle.tas_language.specs.declared.command.Command.TheVariants.{Load, Insert, Replace, Delete, Length, InputAt, Shot, Work}
+use Rattle.tas_language.specs.declared.command.Command.TheVariants.{Load, Edit, Length, InputAt, Shot, Work}
 use Rattle.tas_tool.proofs.GreenLemmas.{zone_as, zone_same, zone_looked, zone_worked}
 use Rattle.tas_tool.specs.Checking.{looked}
 use Rattle.tas_tool.proofs.answering.answer_command.Goals as goal
-
-pub returns-in-Delete-clause-answer : goal.returns-in-Delete-clause-answer
-returns-in-Delete-clause-answer g c =
-    answer_is g.row.A.Denot c.args.seat.now c.make_edit.new.seat c.args.command (Delete c.in-Delete.at c.in-Delete.count) _ c.in-Delete.is
-    (delete_answer g.row.A.Denot c.args.seat.now c.make_edit.new.seat c.in-Delete.at c.in-Delete.count _ c.make_edit.ensures.answer)
 
 pub returns-in_ok-len-in-Length-clause-answer : goal.returns-in_ok-len-in-Length-clause-answer
 returns-in_ok-len-in-Length-clause-answer g c =
@@ -30,14 +24,8 @@ returns-in-Shot-clause-answer g c =
 pub returns-in-Load-clause-zone : goal.returns-in-Load-clause-zone
 returns-in-Load-clause-zone g c = zone_as c.args.seat.now c.load.new.seat c.args.command (Load c.in-Load.image) _ c.in-Load.is (λ reply. c.load.ensures.zone)
 
-pub returns-in-Insert-clause-zone : goal.returns-in-Insert-clause-zone
-returns-in-Insert-clause-zone g c = zone_as c.args.seat.now c.insert.new.seat c.args.command (Insert c.in-Insert.at c.in-Insert.count c.in-Insert.input) _ c.in-Insert.is (λ reply. c.insert.ensures.zone)
-
-pub returns-in-Replace-clause-zone : goal.returns-in-Replace-clause-zone
-returns-in-Replace-clause-zone g c = zone_as c.args.seat.now c.replace.new.seat c.args.command (Replace c.in-Replace.at c.in-Replace.count c.in-Replace.input) _ c.in-Replace.is (λ reply. c.replace.ensures.zone)
-
-pub returns-in-Delete-clause-zone : goal.returns-in-Delete-clause-zone
-returns-in-Delete-clause-zone g c = zone_as c.args.seat.now c.make_edit.new.seat c.args.command (Delete c.in-Delete.at c.in-Delete.count) _ c.in-Delete.is (λ reply. c.make_edit.ensures.zone)
+pub returns-in-Edit-clause-zone : goal.returns-in-Edit-clause-zone
+returns-in-Edit-clause-zone g c = zone_as c.args.seat.now c.change.new.seat c.args.command (Edit c.in-Edit.edit) _ c.in-Edit.is (λ reply. c.change.ensures.zone)
 
 pub returns-in_ok-len-in-Length-clause-zone : goal.returns-in_ok-len-in-Length-clause-zone
 returns-in_ok-len-in-Length-clause-zone g c = zone_as c.args.seat.now c.own_len.new.seat c.args.command Length (Ok (record { reply = Measured c.args.made c.in_ok-len-in-Length.len; made = c.args.made })) c.in-Length.is (λ reply. c.own_len.ensures.zone)

@@ -27,7 +27,7 @@ returns-in-Err-clause-seen g c = seen_more c.args.seat.now c.shot.new.seat c.uns
 
 pub returns-in-Err-clause-reply : goal.returns-in-Err-clause-reply
 returns-in-Err-clause-reply g c =
-    subst (λ (f : OwnEdits). MatchResult c.unshown.result (λ reply. IsTurn g.row.A.Denot f (Shot c.args.frame) reply (own_edits_of c.unshown.new.seat)) (IsDeskFault c.unshown.new.seat))
+    subst (λ (f : OwnEdits). MatchResult c.unshown.result (λ reply. IsTurn f (Shot c.args.frame) reply (own_edits_of c.unshown.new.seat)) (IsDeskFault c.unshown.new.seat))
     (own_edits_stay c.args.seat.now c.shot.new.seat c.requires.own c.shot.ensures.seat) c.unshown.ensures.reply
 
 pub unshown-requires-clause-own : goal.unshown-requires-clause-own

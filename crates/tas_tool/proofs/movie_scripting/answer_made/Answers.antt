@@ -17,4 +17,4 @@ returns-in_err-put_movie-clause-answers g c = λ own.
 
 pub returns-clause-answers : goal.returns-clause-answers
 returns-clause-answers g c = λ own.
-    answered_over g.row.A.Denot c.args.movie.now _ c.args.bytes.now c.answer_lines.new.text.items c.answer_lines.result (holds_own_edits _ _ c.in_ok-put_movie.ensures.holds) (c.answer_lines.ensures.answers own)
+    answered_over c.args.movie.now _ c.args.bytes.now c.answer_lines.new.text.items c.answer_lines.result (holds_own_edits _ _ c.in_ok-put_movie.ensures.holds) (c.answer_lines.ensures.answers own)

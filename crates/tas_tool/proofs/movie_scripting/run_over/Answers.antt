@@ -13,16 +13,16 @@ returns-in_err-write_all g c =
     (inr (
       c.in_ok-movie.movie,
       c.in_ok-movie.ensures,
-      broken_off (AnswersOver g.row.A.Denot c.in_ok-movie.movie c.args.bytes.now) c.answer_over-end.new.text.items c.as_slice.result.now _ _ c.answer_over-end.result c.in_err-write_all.field-0.0 c.answer_over-end.ensures c.as_slice.ensures.value
+      broken_off (AnswersOver c.in_ok-movie.movie c.args.bytes.now) c.answer_over-end.new.text.items c.as_slice.result.now _ _ c.answer_over-end.result c.in_err-write_all.field-0.0 c.answer_over-end.ensures c.as_slice.ensures.value
           c.in_err-write_all.ensures.fault,
     ))
 
 pub returns-in_default : goal.returns-in_default
-returns-in_default g c = unopened_over g.row.A.Denot c.args.image.now c.args.said.now c.args.bytes.now c.in_ok-movie.movie _ c.in_ok-movie.ensures
+returns-in_default g c = unopened_over c.args.image.now c.args.said.now c.args.bytes.now c.in_ok-movie.movie _ c.in_ok-movie.ensures
 
 pub returns : goal.returns
 returns g c =
-    written_over g.row.A.Denot c.args.image.now c.args.said.now c.args.bytes.now c.in_ok-movie.movie c.answer_over-end.new.text.items c.as_slice.result.now _ _ c.answer_over-end.result c.in_ok-movie.ensures c.answer_over-end.ensures c.as_slice.ensures.value
+    written_over c.args.image.now c.args.said.now c.args.bytes.now c.in_ok-movie.movie c.answer_over-end.new.text.items c.as_slice.result.now _ _ c.answer_over-end.result c.in_ok-movie.ensures c.answer_over-end.ensures c.as_slice.ensures.value
     c.in_ok-write_all.ensures.ok
 
 pub returns-in_err-movie : goal.returns-in_err-movie

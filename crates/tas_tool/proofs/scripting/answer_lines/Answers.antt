@@ -8,7 +8,7 @@ use Rattle.tas_tool.proofs.scripting.answer_lines.Goals as goal
 
 pub loop-rest-init : goal.loop-rest-init
 loop-rest-init g c =
-    let b = begun g.row.A.Denot (own_edits_of c.args.seat.now) in
+    let b = begun (own_edits_of c.args.seat.now) in
     ([], record { reads = reads_none c.args.bytes.now; seat = refl; own = c.requires.own; made = c.requires.made; edits = b.0; number = refl; room = omega arith; replies = c.requires.empty ∙ sym b.1 })
 
 pub returns-in_default-clause-number : goal.returns-in_default-clause-number
@@ -87,10 +87,10 @@ loop-rest-preserved g c =
         seat = c.in_ok-answered.ensures.number ∙ i.seat;
         own = told.own;
         made = told.made;
-        edits = own_edits_answered _ start _ _ turns turn c.in_ok-answered.answered.reply i.edits t.2;
+        edits = own_edits_answered start _ _ turns turn c.in_ok-answered.answered.reply i.edits t.2;
         number = omega (arith, i.number, count_more turns turn);
         room = omega (arith, i.room, shorter);
-        replies = replies_answered _ start _ turns turn c.in_ok-answered.answered.reply _ c.in_ok-words.words.items _ i.edits t.1 i.replies c.in_ok-words.ensures put;
+        replies = replies_answered start _ turns turn c.in_ok-answered.answered.reply _ c.in_ok-words.words.items _ i.edits t.1 i.replies c.in_ok-words.ensures put;
       },
     )
 

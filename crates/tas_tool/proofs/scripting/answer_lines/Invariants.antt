@@ -9,10 +9,10 @@ invariant-loop-rest g l = (turns : List Turn) × record {
   seat : l.seat.number ≡ l.fn.seat.number;
   own : BeginsWithOwn l.seat;
   made : l.made ≡ l.seat.made;
-  edits : own_edits_after_all g.row.A.Denot (own_edits_of l.fn.seat) turns ≡ own_edits_of l.seat;
+  edits : own_edits_after_all (own_edits_of l.fn.seat) turns ≡ own_edits_of l.seat;
   number : l.number ≡ length turns + 1;
   room : l.number + length l.rest ≤ length l.bytes + 1;
-  replies : l.text.items ≡ replies_to_all g.row.A.Denot (own_edits_of l.fn.seat) turns;
+  replies : l.text.items ≡ replies_to_all (own_edits_of l.fn.seat) turns;
 }
 
 abbrev pub decreases-loop-rest : goal.decreases-loop-rest

@@ -28,15 +28,15 @@ pub returns-in_err-desk : goal.returns-in_err-desk
 returns-in_err-desk g c =
     let p = err_from_is_err_and c.from_residual.result c.from_residual.ensures.1 in
     rw (p.1, p.2)
-    (either_fault (λ fault. Answers g.row.A.Denot own_edits_at_start c.args.bytes.now c.args.text.now.items (Err fault)) _ c.in_err-desk.ensures.fault (unanswered g.row.A.Denot c.args.bytes.now c.args.text.now.items c.requires.empty)
-    (unplaced g.row.A.Denot c.args.bytes.now c.args.text.now.items c.requires.empty))
+    (either_fault (λ fault. Answers own_edits_at_start c.args.bytes.now c.args.text.now.items (Err fault)) _ c.in_err-desk.ensures.fault (unanswered c.args.bytes.now c.args.text.now.items c.requires.empty)
+    (unplaced c.args.bytes.now c.args.text.now.items c.requires.empty))
 
 pub returns : goal.returns
 returns g c =
     let lent = c.as_mut_slice.ensures in
     let one : length c.as_mut_slice.result.now ≡ 1 = ap (λ l. length l) lent.value ∙ c.in_ok-desk.ensures.alone in
     let alone = written_back c.as_mut_slice.result.now _ _ c.answer_lines-end.new.seat c.in_ok-desk.seats.len one (sym lent.len ∙ one) refl in
-    subst (λ f. Answers g.row.A.Denot f c.args.bytes.now c.answer_lines-end.new.text.items c.answer_lines-end.result)
+    subst (λ f. Answers f c.args.bytes.now c.answer_lines-end.new.text.items c.answer_lines-end.result)
     (fresh_own_edits _ _ (first_of c.as_mut_slice.result.now _ c.index-as_mut_slice-0.result (ap (λ l. slice_get l 0) c.as_mut_slice.ensures.value ∙ c.in_ok-desk.ensures.fresh)))
     (c.answer_lines-end.ensures.answers (sees_own _ _ c.answer_lines-end.new.seat alone c.close.ensures.seats c.close.ensures.count))
 

@@ -3,4 +3,4 @@ use Rattle.tas_tool.proofs.TalkLemmas.{no_memory_yet}
 use Rattle.tas_tool.proofs.talk_runs.talk_from.Goals as goal
 
 pub returns-in_default : goal.returns-in_default
-returns-in_default g c = no_memory_yet g.row.A.Denot (talk_state_from c.args.movie) _ _
+returns-in_default g c = no_memory_yet (talk_state_from c.args.movie) _ _

@@ -10,7 +10,7 @@ converse-requires-clause-own g c = first_own c.args.seat.now c.requires.first.1 
 
 pub returns-in_default-clause-talk : goal.returns-in_default-clause-talk
 returns-in_default-clause-talk g c = λ own.
-    talk_as g.row.A.Denot _ _ _ _ _ _ c.converse.result (first_talk_state c.args.seat.now c.requires.first.1 c.requires.first.2 c.requires.zone.0 c.requires.zone.1 ∙ ap talk_state_from (sym c.in_default.is)) (c.converse.ensures.talk own)
+    talk_as _ _ _ _ _ _ c.converse.result (first_talk_state c.args.seat.now c.requires.first.1 c.requires.first.2 c.requires.zone.0 c.requires.zone.1 ∙ ap talk_state_from (sym c.in_default.is)) (c.converse.ensures.talk own)
 
 pub returns-in_err-put_movie-clause-talk : goal.returns-in_err-put_movie-clause-talk
 returns-in_err-put_movie-clause-talk g c = λ own.
@@ -26,4 +26,4 @@ converse-requires-2-clause-made g c = sym c.in_ok-put_movie.ensures.holds.made
 
 pub returns-clause-talk : goal.returns-clause-talk
 returns-clause-talk g c = λ own.
-    talk_as g.row.A.Denot _ _ _ _ _ _ c.converse-2.result (made_talk_state c.args.seat.now _ _ c.in_ok-put_movie.ensures.holds c.put_movie.ensures.zone c.requires.zone.0 c.requires.zone.1 ∙ ap talk_state_from (sym c.in-Some.is)) (c.converse-2.ensures.talk own)
+    talk_as _ _ _ _ _ _ c.converse-2.result (made_talk_state c.args.seat.now _ _ c.in_ok-put_movie.ensures.holds c.put_movie.ensures.zone c.requires.zone.0 c.requires.zone.1 ∙ ap talk_state_from (sym c.in-Some.is)) (c.converse-2.ensures.talk own)

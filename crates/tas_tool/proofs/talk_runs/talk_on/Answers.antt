@@ -22,8 +22,8 @@ close-requires g c =
 pub returns-in_err-desk : goal.returns-in_err-desk
 returns-in_err-desk g c =
     let p = err_from_is_err_and c.from_residual.result c.from_residual.ensures.1 in
-    let talk = either_fault (λ fault. (input output : Option (List ℕ)) → IsTalk g.row.A.Denot (talk_state_from c.args.movie) input input output output (Err (run_fault fault))) _ c.in_err-desk.ensures.fault
-    (no_memory_yet g.row.A.Denot (talk_state_from c.args.movie)) (no_place_yet g.row.A.Denot (talk_state_from c.args.movie)) in
+    let talk = either_fault (λ fault. (input output : Option (List ℕ)) → IsTalk (talk_state_from c.args.movie) input input output output (Err (run_fault fault))) _ c.in_err-desk.ensures.fault
+    (no_memory_yet (talk_state_from c.args.movie)) (no_place_yet (talk_state_from c.args.movie)) in
     rw (p.1, p.2) (talk _ _)
 
 pub returns : goal.returns

@@ -5,7 +5,7 @@ use Rattle.tas_tool.proofs.TalkLemmas.{no_memory_yet, begins, goes_on, quits, un
 use Rattle.tas_tool.proofs.talking.converse.Goals as goal
 
 pub returns-in_default-clause-talk : goal.returns-in_default-clause-talk
-returns-in_default-clause-talk g c = λ own. no_memory_yet g.row.A.Denot (talk_state_of c.args.seat.now) _ _
+returns-in_default-clause-talk g c = λ own. no_memory_yet (talk_state_of c.args.seat.now) _ _
 
 pub loop-init : goal.loop-init
 loop-init g c = record {

@@ -2,18 +2,17 @@
 
 ghost use Rattle.std.specs.Prelude.{◌≡◌, ◌++◌, ◌∷◌, IfOk, IfSome, IfNone};
 ghost use Rattle.tas_movie.specs.Text.{line};
-ghost use Rattle.tas_language.specs.Commands.{frames_text};
-ghost use Rattle.tas_engines.specs.declared.change.Change.{Change as Asked};
-ghost use Rattle.tas_engines.specs.declared.change.Change.TheVariants.{Delete};
-ghost use Rattle.tas_engines.specs.Changes.{change_of, change_text, IsChangeLine};
+ghost use Rattle.tas_language.specs.declared.change.Change.{Change as Asked};
+ghost use Rattle.tas_language.specs.declared.change.Change.TheVariants.{Delete};
+ghost use Rattle.tas_language.specs.Commands.{change_text, frames_text, IsChangeLine};
 
+use crate::{Command, one_command_per_line, parse_line};
 use std::alloc::{AllocError, Allocator};
-use tas_language::{Command, one_command_per_line, parse_line};
 use tas_movie::print_frame;
 use vcs_machine::Input;
 
 /// A change of a movie's inputs, as one line of a script says it (own).
-#[derive(Clone, Copy)]
+#[derive(Clone, Copy, Debug, PartialEq, Eq)]
 pub enum Change {
     /// `insert PLACE COUNT FRAME`: copies of one input are put in.
     Insert {
@@ -42,22 +41,6 @@ pub enum Change {
     },
 }
 
-/// The change that a command is; nothing where it only looks, or takes another cartridge.
-fn change_of(command: Command) -> Option<Change>
-    ensures { result ≡ change_of command }
-{
-    match command {
-        Command::Insert { at, count, input } => Some(Change::Insert { at, count, input }),
-        Command::Replace { at, count, input } => Some(Change::Replace { at, count, input }),
-        Command::Delete { at, count } => Some(Change::Delete { at, count }),
-        Command::Load { .. }
-        | Command::Length
-        | Command::InputAt { .. }
-        | Command::Shot { .. }
-        | Command::Work { .. } => None,
-    }
-}
-
 /// The change that a line, without its newline, says; nothing where it says none (own). The lines are
 /// those of `tas script`, of which only these three kinds are changes.
 pub fn read_change(line: &[u8]) -> Option<Change>
@@ -67,7 +50,10 @@ pub fn read_change(line: &[u8]) -> Option<Change>
     let command = parse_line(line)?;
     // Called for its law: no other command has this line.
     one_command_per_line();
-    change_of(command)
+    match command {
+        Command::Edit(change) => Some(change),
+        _ => None,
+    }
 }
 
 /// The line of a word, a place, a count and a frame.
