@@ -2,3 +2,6 @@ pub mod ReadLengths
 pub mod EngineEnds
 pub mod Shots
 pub mod ReadMovies
+pub mod ChangeLemmas
+pub mod DifferenceLemmas
+pub mod ScriptLemmas

@@ -4,7 +4,8 @@ ghost use Rattle.std.specs.Prelude.{◌≡◌, ◌⊎◌, Ok, Err, IfOk, IfErr};
 ghost use Rattle.vcs_tia.specs.Image.{ppm_bytes};
 ghost use Rattle.tas_engines.specs.declared.fault.RunFault.TheVariants.{Memory};
 ghost use Rattle.tas_engines.specs.Output.{Ends};
-ghost use Rattle.tas_engines.specs.Movies.{IsMovieRun, IsShot, IsShotFault, IsShotAnswer, halt_fault};
+ghost use Rattle.tas_engines.specs.Movies.{IsMovieRun};
+ghost use Rattle.tas_engines.specs.Shooting.{IsShot, IsShotFault, IsShotAnswer, halt_fault};
 
 use crate::{RunFault, ToolFault, movie_of, read_two};
 use std::alloc::Allocator;

@@ -6,10 +6,11 @@ use Rattle.std.specs.Global.{Global}
 use Rattle.std.specs.declared.vec.IntoIter.{IntoIter}
 use Rattle.std.specs.declared.io.Error.{Error}
 use Rattle.clap.specs.Walk.{Text}
-use Rattle.tas_program.specs.declared.request.Request.{Request}
-use Rattle.tas_program.specs.declared.request.Request.TheVariants.{Do, Show, Refuse, NoMemory}
-use Rattle.tas_program.specs.declared.task.Task.{Task}
-use Rattle.tas_program.specs.Program.{AreGiven, IsAskedBy, IsNoTask, IsRequest, Streams, end_status, EndsOver, EndsOverTwo, DoesTask, TaskEnds}
+use Rattle.tas_words.specs.declared.request.Request.{Request}
+use Rattle.tas_words.specs.declared.request.Request.TheVariants.{Do, Show, Refuse, NoMemory}
+use Rattle.tas_words.specs.declared.task.Task.{Task}
+use Rattle.tas_words.specs.Requests.{AreGiven, IsNoTask, IsRequest}
+use Rattle.tas_program.specs.Program.{IsAskedBy, Streams, end_status, EndsOver, EndsOverTwo, DoesTask, TaskEnds}
 
 pub task_ends : (A : Type 0) (files : List ℕ → Option (List ℕ)) (chosen : Task) (old new : Streams) (end : Result (Unit {0}) ToolFault) → DoesTask A files chosen old new end → TaskEnds A files chosen old new (end_status end)
 task_ends A files chosen old new (Ok u) does = does

@@ -4,12 +4,11 @@ ghost use Rattle.std.specs.Prelude.{◌≡◌, IfOk, IfErr, OnOk, OnErr};
 ghost use Rattle.std.specs.Io.KnownBytes.{Appends};
 ghost use Rattle.tas_engines.specs.declared.fault.RunFault.{RunFault};
 ghost use Rattle.tas_engines.specs.Output.{StopsWriting};
-ghost use Rattle.tas_program.specs.declared.task.Task.TheVariants.{Shot, Edit, Diff, MovieScript, MovieTalk, Export};
+ghost use Rattle.tas_words.specs.declared.task.Task.TheVariants.{Shot, Edit, Diff, MovieScript, MovieTalk, Export};
 ghost use Rattle.tas_program.specs.Program.{DoesTask, CarriesOut, ProgramEnds, end_status};
 ghost use Rattle.std.specs.Global.{Global};
 
-use crate::request::collect_words;
-use crate::{Folder, Request, Status, Task, read_request};
+use crate::{Folder, Status};
 use std::alloc::Global;
 use std::env::Args;
 use std::io;
@@ -17,11 +16,11 @@ use std::io::{Read, Write};
 use std::ops::Range;
 use std::sync::Wait;
 use std::thread::Threads;
-use tas_engines::write_all;
 use tas_tool::{
     ToolFault, cart_talk_run, check_run, diff_run, edit_run, export_run, migrate_run,
-    movie_script_run, movie_talk_run, script_run, shot_run, talk_run, trace_run,
+    movie_script_run, movie_talk_run, script_run, shot_run, talk_run, trace_run, write_all,
 };
+use tas_words::{Request, Task, collect_words, read_request};
 
 /// Opens a file of this name.
 fn open_file<F: Folder>(folder: &F, name: &str) -> Result<F::File, ToolFault>

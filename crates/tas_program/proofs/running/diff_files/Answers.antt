@@ -1,5 +1,5 @@
 use Rattle.std.specs.Global.{Global}
-use Rattle.tas_edit.specs.Runs.{IsDiffRun}
+use Rattle.tas_engines.specs.Diffing.{IsDiffRun}
 use Rattle.tas_program.proofs.ProgramLemmas.{over_two}
 use Rattle.tas_program.proofs.running.diff_files.Goals as goal
 

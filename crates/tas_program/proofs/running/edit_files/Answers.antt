@@ -1,5 +1,5 @@
 use Rattle.std.specs.Global.{Global}
-use Rattle.tas_edit.specs.Runs.{IsEditRun}
+use Rattle.tas_engines.specs.Editing.{IsEditRun}
 use Rattle.tas_program.proofs.ProgramLemmas.{over_two}
 use Rattle.tas_program.proofs.running.edit_files.Goals as goal
 
