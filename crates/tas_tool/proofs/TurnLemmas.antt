@@ -1,8 +1,8 @@
 -- Turns of a script on a desk whose one seat is the script's.
 use Rattle.std.proofs.Common.{◌≡◌, ℕ, ◌+◌, ◌<◌, ◌≤◌, List, [], ◌∷◌, ◌++◌, length, take, Bool, true, false, Option, Some, None, Result, Ok, Err, inl, inr, refl, sym, ap, subst, ◌∙◌, arith, length-append, append_assoc, append-nil}
-use Rattle.std.specs.Prelude.{◌==◌, if◌then◌else◌, replicate, MatchResult}
+use Rattle.std.specs.Prelude.{◌==◌, if◌then◌else◌, MatchResult}
 use Rattle.std.specs.Result.{result_err}
-use Rattle.std.proofs.lemmas.List.{take-append-le, take_all, length-replicate}
+use Rattle.std.proofs.lemmas.List.{take-append-le, take_all}
 use Rattle.std.proofs.lemmas.Bool.{eqb-true, eq-eqb, cases_lt}
 use Rattle.std.proofs.lemmas.List.Sums.{sum_by-append}
 use mathlib.Core.List.{IsPrefix}

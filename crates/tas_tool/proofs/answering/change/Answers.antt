@@ -1,5 +1,5 @@
-use Rattle.std.proofs.Common.{ap, sym, ◌∙◌}
-use Rattle.tas_tool.specs.Turns.{own_edits_of, refused_reply}
+use Rattle.std.proofs.Common.{sym, ◌∙◌}
+use Rattle.tas_tool.specs.Turns.{own_edits_of}
 use Rattle.tas_language.specs.declared.command.Command.TheVariants.{Edit as EditLine}
 use Rattle.tas_tool.proofs.TurnLemmas.{own_stays, after_look, refused_by, change_early, change_late, change_answer}
 use Rattle.tas_tool.proofs.answering.change.Goals as goal
