@@ -13,7 +13,7 @@ use Rattle.tas_desk.specs.Shots.{IsShotAt}
 use Rattle.tas_desk.specs.Zones.{ZoneContent, IsMadeFor, IsPlayed, IsShared, Shares}
 use Rattle.tas_engines.specs.declared.fault.RunFault.{RunFault}
 use Rattle.tas_language.specs.declared.command.Command.{Command}
-use Rattle.tas_language.specs.declared.command.Command.TheVariants.{Load, Edit, Length, InputAt, Shot, Work}
+use Rattle.tas_language.specs.declared.command.Command.TheVariants.{Load, Edit as EditLine, Length, InputAt, Shot, Work}
 use Rattle.tas_language.specs.declared.reply.Reply.{Reply}
 use Rattle.tas_language.specs.declared.reply.Reply.TheVariants.{Drawn, Worked}
 use Rattle.tas_tool.specs.declared.answering.Answered.{Answered}
@@ -146,7 +146,7 @@ zone_worked before now command k made reply is zone = subst (λ (x : Command). I
 pub command_leaves : {A : Type 0} (before mid now : SeatContent A) (command : Command) (reply : Reply) → BeginsWithOwn mid → HasSeen mid now → now.zone ≡ mid.zone → length now.front ≡ mid.made → IsCommandZone before mid command reply
     → CommandLeaves (talk_state_of before) (talk_state_of now) command reply
 command_leaves before mid now (Load image) reply own more same at zone = rests before now (same ∙ zone)
-command_leaves before mid now (Edit change) reply own more same at zone = rests before now (same ∙ zone)
+command_leaves before mid now (EditLine change) reply own more same at zone = rests before now (same ∙ zone)
 command_leaves before mid now Length reply own more same at zone = rests before now (same ∙ zone)
 command_leaves before mid now (InputAt k) reply own more same at zone = rests before now (same ∙ zone)
 command_leaves before mid now (Shot k) reply own more same at zone = subst (λ (x : TalkState). ShotLeaves (talk_state_of before) x k reply) (sym (talk_state_stays mid now own more same)) zone

@@ -31,7 +31,7 @@ use Rattle.tas_language.specs.declared.reply.Reply.{Reply}
 use Rattle.tas_language.specs.declared.reply.Reply.TheVariants.{Edited, Place as PlaceReply, Long as LongReply, Full, OutOfMemory}
 use Rattle.tas_tool.specs.declared.answering.Answered.{Answered}
 use Rattle.tas_engines.specs.Changes.{edit_of, edit_on}
-use Rattle.tas_engines.proofs.ChangeLemmas.{same_refusal, same_edited}
+use Rattle.tas_engines.proofs.ChangeLemmas.{same_refusal as content_refusal, same_edited as content_edited}
 use Rattle.tas_tool.specs.Turns.{load_edit, Unforeseen, OwnEdits, own_edits_of, BeginsWithOwn, HasForeign, IsDeskFault, refused_reply, refusal_reply, edit_reply, own_edits_unless, IsEditTurn, IsTurn}
 use Rattle.tas_tool.specs.Checking.{checked_end, looked, IsAnswer, IsEditAnswer}
 
@@ -389,7 +389,7 @@ change_answer A before now change edit r is told =
     line_turn before now (EditLine change) (edit_on A change) r
     (λ reply next t.
     let movie = (own_edits_of before).movie in
-    let same = turn_as (own_edits_of before) next (edit_on A change) (edit_of change) reply (same_refusal A movie change) (same_edited A movie change) t in
+    let same = turn_as (own_edits_of before) next (edit_on A change) (edit_of change) reply (content_refusal A movie change) (content_edited A movie change) t in
     (unforeseen same.0, same.1, same.2))
     (subst (λ (e : Edit A). IsEditAnswer before now e r) is told)
 
@@ -437,10 +437,10 @@ pub change_early : (A : Type 0) (before now : SeatContent A) (change : Change) (
     → refused ≡ refusal (own_edits_of before).movie (edit_of change) → refused_reply made refused ≡ Some reply → IsAnswer before now (EditLine change) (Ok (record { reply = reply; made = made }))
 change_early A before now change made refused reply own m seen is told =
     change_answer A before now change (edit_on A change) (answered_of reply made) refl
-    (early before now (edit_on A change) made refused reply own m seen (same_refusal A (own_edits_of before).movie change ∙ sym is) told)
+    (early before now (edit_on A change) made refused reply own m seen (content_refusal A (own_edits_of before).movie change ∙ sym is) told)
 
 pub change_late : (A : Type 0) (before now : SeatContent A) (change : Change) (made : ℕ) (refused : Option EditRefusal) → BeginsWithOwn before → made ≡ before.made → HasSeen before now
     → refused ≡ refusal (own_edits_of before).movie (edit_of change) → refused_reply made refused ≡ None → IsAnswer before now (EditLine change) (Ok (record { reply = OutOfMemory; made = made }))
 change_late A before now change made refused own m seen is told =
     change_answer A before now change (edit_on A change) (answered_of OutOfMemory made) refl
-    (late before now (edit_on A change) made refused own m seen (same_refusal A (own_edits_of before).movie change ∙ sym is) told)
+    (late before now (edit_on A change) made refused own m seen (content_refusal A (own_edits_of before).movie change ∙ sym is) told)
