@@ -45,6 +45,8 @@ pub enum Call {
     Keeps(u32, usize),
     /// The two seats meet, at so many edits.
     Meet(u64),
+    /// Whether the seats from one number to the one before another are all seats of the desk.
+    Whole(usize, usize, bool),
 }
 
 /// What an export tells, and how many bytes were written. Nothing for numbers of workers that no export may have.
@@ -137,7 +139,7 @@ fn caller(call: Call) -> u32 {
         | Call::Exported(seat, ..)
         | Call::OutOfRange(seat, ..)
         | Call::Keeps(seat, _) => seat,
-        Call::Meet(_) => 0,
+        Call::Meet(_) | Call::Whole(..) => 0,
     }
 }
 
@@ -154,6 +156,19 @@ fn is_met<N: Name, W: CloseOnDrop, R: Wait>(
     }
 }
 
+/// Whether these seats are told to be all seats of the desk, or not, as it says.
+fn is_whole<N: Name, W: CloseOnDrop>(
+    desk: &Desk<N, W>,
+    seats: &[Seat<N>],
+    (from, to): (usize, usize),
+    answer: bool,
+) -> bool {
+    match seats.get(from..to) {
+        Some(some) => desk.whole(some) == answer,
+        None => false,
+    }
+}
+
 /// Whether the call is answered as it says.
 fn is_taken<N: Name, W: CloseOnDrop, R: Threads + Wait + Abort + Sync>(
     rt: &R,
@@ -162,12 +177,13 @@ fn is_taken<N: Name, W: CloseOnDrop, R: Threads + Wait + Abort + Sync>(
     seats: &mut [Seat<N>],
     call: Call,
 ) -> bool {
-    if let Call::Meet(at) = call {
-        return is_met(rt, desk, seats, at);
-    }
-    match seats.get_mut(caller(call) as usize) {
-        Some(seat) => is_answered(rt, alloc, desk, seat, call),
-        None => false,
+    match call {
+        Call::Meet(at) => is_met(rt, desk, seats, at),
+        Call::Whole(from, to, answer) => is_whole(desk, seats, (from, to), answer),
+        _ => match seats.get_mut(caller(call) as usize) {
+            Some(seat) => is_answered(rt, alloc, desk, seat, call),
+            None => false,
+        },
     }
 }
 

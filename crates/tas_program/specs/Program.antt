@@ -1,6 +1,5 @@
 -- How the program ends: what it writes, and its status (own).
 use Rattle.std.specs.Prelude.{◌≡◌, ℕ, List, ◌⊎◌, Option, None, Result, Ok, Err, String, string_bytes}
-use Rattle.std.specs.Global.{Global}
 use Rattle.std.specs.declared.vec.IntoIter.{IntoIter}
 use Rattle.std.specs.declared.io.Error.{Error}
 use Rattle.std.specs.Io.KnownBytes.{Appends}
@@ -90,17 +89,17 @@ TextEnds text old new Fault = (fault : RunFault) × StopsWriting old new text fa
 TextEnds text old new Misuse = ⊥
 
 -- the program's end after a request: where there is no task, nothing is read, and where there is nothing to show, nothing is written
-abbrev pub CarriesOut : Type 0 → (List ℕ → Option (List ℕ)) → Request → Streams → Streams → Status → Type 0
+abbrev pub CarriesOut : (A : Type 0) → (List ℕ → Option (List ℕ)) → Request A → Streams → Streams → Status → Type 0
 CarriesOut A files (Do chosen) old new status = TaskEnds A files chosen old new status
 CarriesOut A files (Show text) old new status = (new.input ≡ old.input) × TextEnds (string_bytes text) old.output new.output status
 CarriesOut A files (Refuse text) old new status = (status ≡ Misuse) × (new ≡ old)
 CarriesOut A files NoMemory old new status = (status ≡ Fault) × (new ≡ old)
 
 -- what may be asked for by what the system gave: a task by its words alone
-abbrev pub IsAskedBy : Result (IntoIter (String Global) Global) Error → Request → Type 0
+abbrev pub IsAskedBy : {A : Type 0} → Result (IntoIter (String A) A) Error → Request A → Type 0
 IsAskedBy given (Do chosen) = (words : List Text) × AreGiven given words × IsRequest words (Do chosen)
 IsAskedBy given _ = Unit {0}
 
 -- the program carries out what the words may ask for
-abbrev pub ProgramEnds : Type 0 → Result (IntoIter (String Global) Global) Error → (List ℕ → Option (List ℕ)) → Streams → Streams → Status → Type 0
-ProgramEnds A given files old new status = (request : Request) × IsAskedBy given request × CarriesOut A files request old new status
+abbrev pub ProgramEnds : (A : Type 0) → Result (IntoIter (String A) A) Error → (List ℕ → Option (List ℕ)) → Streams → Streams → Status → Type 0
+ProgramEnds A given files old new status = (request : Request A) × IsAskedBy given request × CarriesOut A files request old new status

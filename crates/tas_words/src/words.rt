@@ -9,7 +9,7 @@ use crate::command_line::command_line;
 use crate::{MAX_FRAME_NUMBER, MAX_INSTRUCTIONS, MAX_WORKERS, Task};
 use clap::error::ErrorKind;
 use clap::{ArgMatches, Command, Error};
-use std::alloc::Global;
+use std::alloc::{Allocator, Global};
 
 /// The number of this name, where it is in its range.
 fn number_of(matches: &ArgMatches<'_>, name: &str, least: u32, most: u32) -> Option<u32>
@@ -153,7 +153,10 @@ fn task_of<'a>(matches: &ArgMatches<'a>) -> Option<Task<'a>>
 }
 
 /// What the words ask of this command line.
-fn task_by<'a>(line: &mut Command<'a>, words: &'a [String]) -> Result<Task<'a>, Error>
+fn task_by<'a, A: Allocator>(
+    line: &mut Command<'a>,
+    words: &'a [String<A>],
+) -> Result<Task<'a>, Error>
     requires { IsCommandLine line.now }
     ensures range { IfOk result IsInRange }
     ensures asked { IfOk result (IsAsked (map string_bytes words.entry.now)) }
@@ -167,12 +170,16 @@ fn task_by<'a>(line: &mut Command<'a>, words: &'a [String]) -> Result<Task<'a>, 
 }
 
 /// What the words ask for; the first of them is the program's name. The task is that of the command that they name, with its files and
-/// numbers. An error is clap's: a text that was asked for, or words that aren't understood, or no memory.
-pub fn read_words<'a>(alloc: Global, words: &'a [String]) -> Result<Task<'a>, Error>
+/// numbers. An error is clap's: a text that was asked for, or words that aren't understood, or no memory. clap takes its memory from
+/// `global` alone.
+pub fn read_words<'a, A: Allocator>(
+    global: Global,
+    words: &'a [String<A>],
+) -> Result<Task<'a>, Error>
     ensures range { IfOk result IsInRange }
     ensures named { IfOk result (λ task. named_command (map string_bytes words.entry.now) ≡ Some (command_name task)) }
     ensures asked { IfOk result (IsAsked (map string_bytes words.entry.now)) }
 {
-    let mut line = command_line(alloc)?;
+    let mut line = command_line(global)?;
     task_by(&mut line, words)
 }
