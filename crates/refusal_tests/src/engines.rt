@@ -3,7 +3,7 @@
 use crate::checks::check_same;
 use crate::inputs::Bytes;
 use std::alloc::{Allocator, Global};
-use std::io::Write;
+use std::io::{ErrorKind, Write};
 use std::process::Abort;
 use std::sync::Wait;
 use std::thread::Threads;
@@ -78,6 +78,7 @@ impl Engine {
             ],
             at_once: usize::MAX,
             fails_at: [0; 3],
+            kind: ErrorKind::Other,
         }
     }
 
@@ -105,6 +106,17 @@ pub struct Given<'a> {
     pub at_once: usize,
     /// Which read of each input fails, counted from 1; at 0 none does.
     pub fails_at: [usize; 3],
+    /// The kind of the error.
+    pub kind: ErrorKind,
+}
+
+impl<'a> Given<'a> {
+    /// The reader of one of its inputs.
+    fn giver(&self, input: &'a [u8], fails_at: usize) -> Giver<'a> {
+        let mut giver = Giver::new(input, self.at_once, fails_at);
+        giver.kind = self.kind;
+        giver
+    }
 }
 
 /// How an engine ended, and how often it read each input.
@@ -118,9 +130,9 @@ pub fn run<T: Wait + Threads + Sync, A: Allocator + Copy + Send + Sync, W: Write
     given: Given<'_>,
     output: &mut W,
 ) -> Ran {
-    let mut one = Giver::new(given.inputs[0], given.at_once, given.fails_at[0]);
-    let mut two = Giver::new(given.inputs[1], given.at_once, given.fails_at[1]);
-    let mut three = Giver::new(given.inputs[2], given.at_once, given.fails_at[2]);
+    let mut one = given.giver(given.inputs[0], given.fails_at[0]);
+    let mut two = given.giver(given.inputs[1], given.fails_at[1]);
+    let mut three = given.giver(given.inputs[2], given.fails_at[2]);
     let (first, second, third) = (&mut one, &mut two, &mut three);
     let end = match engine {
         Engine::Trace => trace_run(alloc, 3, first, output),

@@ -1,5 +1,5 @@
-//! What the calls do where memory, a read or a write is refused: each growth of pictures, cartridges, movies, greenzones, sessions, desks
-//! and engines in turn, and each read and each write of engines.
+//! What the calls do where memory, a read or a write is refused: each growth of pictures, cartridges, movies, greenzones, sessions, desks,
+//! engines and the program in turn, and each read and each write of engines.
 #![tactic(auto)]
 
 #[cfg(test)]
@@ -26,6 +26,8 @@ mod growth_tests;
 mod inputs;
 #[cfg(test)]
 mod movie_tests;
+#[cfg(test)]
+mod program_tests;
 #[cfg(test)]
 mod read_tests;
 #[cfg(test)]

@@ -4,6 +4,7 @@ use crate::checks::{check_same, check_that};
 use crate::engines::{CONVERSATIONS, ENGINES, Engine, Given, Ran, run, whole_of};
 use crate::inputs::{Bytes, make_inputs};
 use std::alloc::Global;
+use std::io::ErrorKind;
 use std::process::Abort;
 use std::sync::Wait;
 use std::thread::Threads;
@@ -64,12 +65,19 @@ fn check_ran<R: Abort>(
     check_that(rt, case, written == text);
 }
 
+/// The kinds of read errors, and their names. No read is tried again after either.
+static KINDS: [(ErrorKind, &str); 2] = [
+    (ErrorKind::Other, "another error"),
+    (ErrorKind::Interrupted, "an interruption"),
+];
+
 /// How many reads of one input fail in turn, until there are no more of them. Each one stops the engine: it is the last one of all
 /// inputs, and nothing is written after it. Without one it writes all.
 fn failed_reads<T: Wait + Threads + Sync + Abort>(
     rt: &T,
     alloc: Global,
     (engine, input): (Engine, usize),
+    (kind, name): (ErrorKind, &'static str),
     bytes: &Bytes,
     whole: &[u8],
 ) -> usize {
@@ -79,23 +87,20 @@ fn failed_reads<T: Wait + Threads + Sync + Abort>(
         let given = Given {
             at_once: AT_ONCE,
             fails_at: reads_up_to([0; 3], input, read),
+            kind,
             ..engine.given(bytes)
         };
         let mut output = Vec::new(alloc);
         let ran = run(rt, alloc, engine, given, &mut output);
+        let case = (name, engine, input, read);
         let found = (ran, output.as_slice());
         if ran.0.is_ok() {
-            check_ran(
-                rt,
-                ("all", engine, input, read),
-                found,
-                ((Ok(()), reads), whole),
-            );
+            check_ran(rt, case, found, ((Ok(()), reads), whole));
             break;
         }
         let end = (Err(ToolFault::Read), reads_up_to(reads, input, read));
         let written = written_before(engine, input, read, whole);
-        check_ran(rt, ("read", engine, input, read), found, (end, written));
+        check_ran(rt, case, found, (end, written));
         failed = read;
     }
     failed
@@ -112,8 +117,10 @@ fn check_reads<T: Wait + Threads + Sync + Abort>(
     let whole = whole_of(rt, alloc, engine, bytes);
     let reads = whole_reads(engine, bytes);
     for (input, wanted) in reads.iter().enumerate() {
-        let failed = failed_reads(rt, alloc, (engine, input), bytes, whole.as_slice());
-        check_same(rt, ("failed reads", engine, input), failed, *wanted);
+        for row in KINDS.iter() {
+            let failed = failed_reads(rt, alloc, (engine, input), *row, bytes, &whole);
+            check_same(rt, ("failed reads", engine, input), failed, *wanted);
+        }
     }
 }
 

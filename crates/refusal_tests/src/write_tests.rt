@@ -44,8 +44,9 @@ fn check_whole<R: Abort>(rt: &R, case: Case, output: &Taker, whole: &[u8]) {
 }
 
 /// How a writer fails, and its name.
-static FAILURES: [(Failure, &str); 2] = [
+static FAILURES: [(Failure, &str); 3] = [
     (Failure::Error, "an error"),
+    (Failure::Interrupted, "an interruption"),
     (Failure::Nothing, "nothing taken"),
 ];
 
@@ -71,7 +72,7 @@ fn fail_each<T: Wait + Threads + Abort + Sync>(
     }
 }
 
-/// So it fails in one of the two ways.
+/// So it fails in one of these ways.
 fn fail_so<T: Wait + Threads + Abort + Sync>(
     rt: &T,
     alloc: Global,

@@ -11,6 +11,7 @@ fn main(rt: HostRuntime) -> ExitCode {
     let status = run_program(
         &rt,
         rt.alloc(),
+        rt.alloc(),
         words,
         &rt,
         &mut input,

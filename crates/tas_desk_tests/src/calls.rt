@@ -7,7 +7,7 @@ use crate::answers::{Refused, edit, export, shoot};
 use crate::changes::Change;
 use crate::checks::check_that;
 use crate::desks::{Task, lend};
-use crate::gates::Open;
+use crate::gates::{InOrder, Open};
 use std::alloc::Global;
 use std::process::Abort;
 use std::sync::Wait;
@@ -33,7 +33,7 @@ pub enum Call {
     Drawn(u32, usize, u64, u64, usize),
     /// A shot of a frame that isn't drawn.
     NotDrawn(u32, usize, ShotError),
-    /// Work on some targets.
+    /// Work on some targets, each of which passes the gate with its index.
     Work(u32, &'static [usize], Worked),
     /// How many states the seat's zone gained.
     Share(u32, usize),
@@ -45,6 +45,8 @@ pub enum Call {
     Keeps(u32, usize),
     /// The two seats meet, at so many edits.
     Meet(u64),
+    /// Whether the seats from one number to the one before another are all seats of the desk.
+    Whole(usize, usize, bool),
 }
 
 /// What an export tells, and how many bytes were written. Nothing for numbers of workers that no export may have.
@@ -107,7 +109,9 @@ fn is_answered<N: Name, W: CloseOnDrop, R: Threads + Wait + Abort + Sync>(
         }
         Call::Refused(_, change, error) => edit(rt, alloc, desk, seat, change) == Err(error),
         Call::Work(_, targets, worked) => {
-            desk.work(rt, alloc, seat, targets, &Open) == Ok(worked)
+            let gate = InOrder::new();
+            let told = desk.work(rt, alloc, seat, targets, &gate);
+            told == Ok(worked) && gate.was_passed_by(targets.len())
         }
         Call::Share(_, gained) => desk.share(rt, seat).ok() == Some(gained),
         Call::Exported(_, (from, to), workers, at, played) => {
@@ -137,7 +141,7 @@ fn caller(call: Call) -> u32 {
         | Call::Exported(seat, ..)
         | Call::OutOfRange(seat, ..)
         | Call::Keeps(seat, _) => seat,
-        Call::Meet(_) => 0,
+        Call::Meet(_) | Call::Whole(..) => 0,
     }
 }
 
@@ -154,6 +158,19 @@ fn is_met<N: Name, W: CloseOnDrop, R: Wait>(
     }
 }
 
+/// Whether these seats are told to be all seats of the desk, or not, as it says.
+fn is_whole<N: Name, W: CloseOnDrop>(
+    desk: &Desk<N, W>,
+    seats: &[Seat<N>],
+    (from, to): (usize, usize),
+    answer: bool,
+) -> bool {
+    match seats.get(from..to) {
+        Some(some) => desk.whole(some) == answer,
+        None => false,
+    }
+}
+
 /// Whether the call is answered as it says.
 fn is_taken<N: Name, W: CloseOnDrop, R: Threads + Wait + Abort + Sync>(
     rt: &R,
@@ -162,12 +179,13 @@ fn is_taken<N: Name, W: CloseOnDrop, R: Threads + Wait + Abort + Sync>(
     seats: &mut [Seat<N>],
     call: Call,
 ) -> bool {
-    if let Call::Meet(at) = call {
-        return is_met(rt, desk, seats, at);
-    }
-    match seats.get_mut(caller(call) as usize) {
-        Some(seat) => is_answered(rt, alloc, desk, seat, call),
-        None => false,
+    match call {
+        Call::Meet(at) => is_met(rt, desk, seats, at),
+        Call::Whole(from, to, answer) => is_whole(desk, seats, (from, to), answer),
+        _ => match seats.get_mut(caller(call) as usize) {
+            Some(seat) => is_answered(rt, alloc, desk, seat, call),
+            None => false,
+        },
     }
 }
 

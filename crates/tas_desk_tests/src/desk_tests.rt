@@ -42,6 +42,22 @@ fn a_fresh_desk_has_no_frames(rt: HostRuntime) {
     );
 }
 
+/// Some of three seats, and whether they are all.
+static SEATS: [Call; 7] = [
+    Call::Whole(0, 3, true),
+    Call::Whole(0, 2, false),
+    Call::Whole(1, 3, false),
+    Call::Whole(0, 1, false),
+    Call::Whole(1, 2, false),
+    Call::Whole(2, 3, false),
+    Call::Whole(0, 0, false),
+];
+
+#[test]
+fn fewer_seats_are_not_all(rt: HostRuntime) {
+    play_calls(&rt, rt.alloc(), 3, &SEATS);
+}
+
 /// One seat sees the other's edit without a meeting, and without an edit of its own.
 #[test]
 fn a_seat_sees_the_other_s_edit(rt: HostRuntime) {
@@ -213,6 +229,21 @@ static LENGTHENED: [Call; 9] = [
 #[test]
 fn a_seat_s_grid_follows_the_length(rt: HostRuntime) {
     play_calls(&rt, rt.alloc(), 1, &LENGTHENED);
+}
+
+static HALTED_OF_FIVE: [Call; 7] = [
+    Call::Made(0, Change::Load(HALTING), 1, 0),
+    Call::Made(0, Change::Insert(0, 5), 2, 5),
+    Call::Drawn(0, 0, 2, 1, 0),
+    Call::Drawn(0, 1, 2, 2, 0),
+    Call::Drawn(0, 2, 2, 3, 0),
+    Call::NotDrawn(0, 3, ShotError::Halted { at: 2, halt: HALT }),
+    Call::NotDrawn(0, 4, ShotError::Halted { at: 2, halt: HALT }),
+];
+
+#[test]
+fn frames_before_a_halt_are_drawn_by_a_desk(rt: HostRuntime) {
+    play_calls(&rt, rt.alloc(), 1, &HALTED_OF_FIVE);
 }
 
 static HALTED: [Call; 9] = [

@@ -49,13 +49,8 @@ static HALTED: [Change; 3] = [
     Change::ReplaceRight(1),
 ];
 
-/// The first five of such a movie's eight frames are left, of which the fourth halts.
-static HALTED_FIVE: [Change; 4] = [
-    Change::Load(HALTING),
-    Change::Insert(0, 8),
-    Change::ReplaceRight(1),
-    Change::Delete(5, 3),
-];
+/// Five frames of nothing pressed, of which the fourth halts.
+static HALTED_FIVE: [Change; 2] = [Change::Load(HALTING), Change::Insert(0, 5)];
 
 /// The movie that these edits make, each of which is allowed.
 fn movie_of<R: Abort>(rt: &R, alloc: Global, changes: &[Change]) -> Movie {
@@ -225,7 +220,7 @@ static HALTS: [Case; 7] = [
 ];
 
 /// The last four of five frames by two workers.
-static FOUR_OF_FIVE: [Case; 1] = [Case::Halted(4, (1, 5), 2, 3)];
+static FOUR_OF_FIVE: [Case; 1] = [Case::Halted(2, (1, 5), 2, 3)];
 
 #[test]
 fn the_least_halted_frame_is_told(rt: HostRuntime) {

@@ -325,6 +325,21 @@ fn the_grid_follows_the_length(rt: HostRuntime) {
     play_turns(&rt, rt.alloc(), &LENGTHENED);
 }
 
+static HALTED_OF_FIVE: [Turn; 7] = [
+    Turn::Made(Change::Load(HALTING), 1, 0),
+    Turn::Made(Change::Insert(0, 5), 2, 5),
+    Turn::Drawn(0, 2, 1, 0),
+    Turn::Drawn(1, 2, 2, 0),
+    Turn::Drawn(2, 2, 3, 0),
+    Turn::NotDrawn(3, ShotError::Halted { at: 2, halt: HALT }, 4),
+    Turn::NotDrawn(4, ShotError::Halted { at: 2, halt: HALT }, 5),
+];
+
+#[test]
+fn frames_before_a_halt_are_drawn(rt: HostRuntime) {
+    play_turns(&rt, rt.alloc(), &HALTED_OF_FIVE);
+}
+
 static HALTED: [Turn; 9] = [
     Turn::Made(Change::Load(HALTING), 1, 0),
     Turn::Made(Change::Insert(0, 100), 2, 100),

@@ -4,7 +4,7 @@ use crate::checks::{check_same, check_that, expect_ok, expect_some};
 use crate::movies::frame_of;
 use std::alloc::Global;
 use std::process::Abort;
-use tas_edit::{ScriptFault, changes_between, edit_movie, print_changes};
+use tas_engines::{ScriptFault, changes_between, edit_movie, print_changes};
 use tas_movie::{Edit, Inputs, MAX_FRAMES, Movie, apply, check, read_frame};
 use vcs_machine::Input;
 

@@ -7,8 +7,7 @@ use crate::movies::{
 use crate::ran::{Ran, check_fault, check_ran};
 use std::alloc::Global;
 use std::process::Abort;
-use tas_edit::{diff_run, edit_run};
-use tas_engines::{INPUT_LIMIT, ToolFault};
+use tas_engines::{INPUT_LIMIT, ToolFault, diff_run, edit_run};
 use tas_movie::{TextError, TextErrorKind};
 use test_streams::{Failure, Filler, Room, Taker};
 

@@ -7,7 +7,7 @@ use crate::movies::{
 };
 use crate::ran::{Ran, check_fault, check_ran};
 use std::alloc::Global;
-use std::io::Read;
+use std::io::{ErrorKind, Read};
 use std::process::Abort;
 use tas_engines::{INPUT_LIMIT, ToolFault, check_run, migrate_run, shot_run, trace_run};
 use tas_movie::{TextError, TextErrorKind};
@@ -84,7 +84,7 @@ fn check_stop<R: Abort>(
 }
 
 /// How a writer fails.
-static FAILURES: [Failure; 2] = [Failure::Error, Failure::Nothing];
+static FAILURES: [Failure; 3] = [Failure::Error, Failure::Interrupted, Failure::Nothing];
 
 #[test]
 fn a_writer_that_stops_has_the_first_bytes(rt: HostRuntime) {
@@ -123,10 +123,13 @@ fn one_byte_past_the_limit_is_too_long(rt: HostRuntime) {
 #[test]
 fn a_failed_read_is_the_last_one(rt: HostRuntime) {
     let alloc = rt.alloc();
-    for fails_at in 1..3 {
-        let mut input = Filler::new(0, 4096, fails_at);
-        check_fault(&rt, fails_at, traced(alloc, &mut input), ToolFault::Read);
-        check_same(&rt, "input.reads", input.reads, fails_at);
+    for kind in [ErrorKind::Other, ErrorKind::Interrupted] {
+        for fails_at in 1..3 {
+            let mut input = Filler::new(0, 4096, fails_at);
+            input.kind = kind;
+            check_fault(&rt, fails_at, traced(alloc, &mut input), ToolFault::Read);
+            check_same(&rt, "input.reads", input.reads, fails_at);
+        }
     }
 }
 

@@ -13,7 +13,7 @@ fn check_line<R: Abort>(rt: &R, alloc: Global, fault: ToolFault, line: &str) {
 }
 
 /// Faults, and the line that tells each.
-static LINES: [(ToolFault, &str); 12] = [
+static LINES: [(ToolFault, &str); 13] = [
     (ToolFault::TooLong, "fault: input is too long"),
     (ToolFault::Read, "fault: read failed"),
     (
@@ -39,6 +39,13 @@ static LINES: [(ToolFault, &str); 12] = [
             opcode: 2,
         },
         "fault: halted at F00D by 02",
+    ),
+    (
+        ToolFault::Halted {
+            at: 0x000c,
+            opcode: 0x80,
+        },
+        "fault: halted at 000C by 80",
     ),
     (ToolFault::Script { line: 12 }, "fault: script line 12"),
     (ToolFault::NoPlace, "fault: no place"),

@@ -3,7 +3,7 @@
 use crate::checks::{check_same, check_that, expect_ok};
 use std::alloc::Global;
 use std::process::Abort;
-use tas_script::{Command, Image, Reply, parse_line, reply_line};
+use tas_language::{Command, Image, Reply, parse_line, reply_line};
 use vcs_machine::{CART_SIZE, Input, SMALL_CART_SIZE, Stick};
 
 /// A stick at rest.

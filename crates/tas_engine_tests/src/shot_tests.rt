@@ -52,7 +52,7 @@ fn no_frame_past_the_end_is_drawn(rt: HostRuntime) {
 }
 
 /// How a writer fails.
-static FAILURES: [Failure; 2] = [Failure::Error, Failure::Nothing];
+static FAILURES: [Failure; 3] = [Failure::Error, Failure::Interrupted, Failure::Nothing];
 
 #[test]
 fn a_cut_picture_is_told_by_its_bytes(rt: HostRuntime) {
@@ -70,6 +70,7 @@ fn a_cut_picture_is_told_by_its_bytes(rt: HostRuntime) {
             check_same(&rt, ("room", room), answer, Err(fault));
             let is_first = Some(picture.taken.as_slice()) == whole.get(..room);
             check_that(&rt, ("the first bytes", room), is_first);
+            check_same(&rt, ("failed writes", room), picture.failed, 1);
         }
     }
 }

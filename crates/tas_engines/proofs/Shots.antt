@@ -5,7 +5,7 @@ use Rattle.vcs_cpu.specs.declared.halt.Halt.TheVariants.{Undocumented}
 use Rattle.tas_movie.specs.Content.{MovieContent}
 use Rattle.tas_green.specs.Run.{answer_of, state_after}
 use Rattle.tas_engines.specs.declared.fault.RunFault.{RunFault}
-use Rattle.tas_engines.specs.Movies.{halt_fault, IsShotFault}
+use Rattle.tas_engines.specs.Shooting.{halt_fault, IsShotFault}
 
 pub no_halt : (answer : Result (Unit {0}) Halt) (u : Unit {0}) (halt : Option Halt) → answer ≡ answer_of halt → answer ≡ Ok u → halt ≡ None
 no_halt answer u None is ok = refl

@@ -1,6 +1,14 @@
 pub mod Faults
 pub mod Input
 pub mod Movies
+pub mod Checking
+pub mod Migrating
+pub mod Shooting
 pub mod Output
 pub mod Tracing
 pub mod ThreeInputs
+pub mod Changes
+pub mod Differences
+pub mod Scripts
+pub mod Editing
+pub mod Diffing

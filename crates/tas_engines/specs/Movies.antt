@@ -1,15 +1,11 @@
--- What `tas check`, `tas migrate` and `tas shot` answer (own).
-use Rattle.std.specs.Prelude.{◌≡◌, ℕ, ◌+◌, ◌<◌, ◌≤◌, true, false, List, length, ◌++◌, codes, decimal, ◌⊎◌, Option, Some, None, Result, Ok, Err}
-use Rattle.vcs_cpu.specs.declared.halt.Halt.{Halt}
-use Rattle.vcs_cpu.specs.declared.halt.Halt.TheVariants.{Undocumented}
-use Rattle.vcs_tia.specs.Image.{ppm_bytes}
+-- The movie of a cartridge and a text, and engines of these two inputs (own).
+use Rattle.std.specs.Prelude.{◌≡◌, ℕ, ◌≤◌, true, false, List, length, Option, Some, Result}
 use Rattle.vcs_machine.specs.Cart.{is_cart_size}
 use Rattle.tas_movie.specs.Content.{MovieContent, most_inputs}
-use Rattle.tas_movie.specs.Text.{text2, IsText}
+use Rattle.tas_movie.specs.Text.{IsText}
 use Rattle.tas_movie.specs.Fault.{fault}
-use Rattle.tas_green.specs.Run.{state_after, picture_of}
 use Rattle.tas_engines.specs.declared.fault.RunFault.{RunFault}
-use Rattle.tas_engines.specs.declared.fault.RunFault.TheVariants.{Size, Text, NoFrame, Halted, Memory}
+use Rattle.tas_engines.specs.declared.fault.RunFault.TheVariants.{Size, Text, Memory}
 use Rattle.tas_engines.specs.declared.fault.ToolFault.{ToolFault}
 use Rattle.tas_engines.specs.Input.{IsReadWhole, StopsReadingTwo}
 use Rattle.tas_engines.specs.Output.{Ends, EndsAfter}
@@ -36,38 +32,3 @@ IsMovieRun answers cart cart' input input' output output' result =
     EndsAfter (StopsReadingTwo cart cart' input input')
     (λ end. (image : List ℕ) × IsReadWhole cart cart' image × ((bytes : List ℕ) × IsReadWhole input input' bytes × Ends (answers image bytes) output output' end))
     output output' result
-
--- the line of `tas check`
-abbrev pub length_line : ℕ → List ℕ
-length_line frames = codes "ok " ++ decimal frames ++ codes " frames\n"
-
--- the movie's length, or why there is no movie
-abbrev pub IsCheckAnswer : List ℕ → List ℕ → Result (List ℕ) RunFault → Type 0
-IsCheckAnswer image bytes (Ok line) = (movie : MovieContent) × IsMovieOf image bytes movie × (line ≡ length_line (length movie.inputs))
-IsCheckAnswer image bytes (Err e) = IsMovieFault image bytes e
-
--- the movie's text of runs ('a26movie 2'), or why there is no movie
-abbrev pub IsMigrateAnswer : List ℕ → List ℕ → Result (List ℕ) RunFault → Type 0
-IsMigrateAnswer image bytes (Ok out) = (movie : MovieContent) × IsMovieOf image bytes movie × (out ≡ text2 movie)
-IsMigrateAnswer image bytes (Err e) = IsMovieFault image bytes e
-
--- frame k of a movie is played without a halt, and this is its picture as a pixmap
-pub record IsShot (movie : MovieContent) (k : ℕ) (picture : List ℕ) : Type 0 where
-  pub within : k < length movie.inputs
-  pub runs : (state_after movie (k + 1)).halt ≡ None
-  pub drawn : picture ≡ ppm_bytes (picture_of movie k)
-
--- the fault that tells a halt
-abbrev pub halt_fault : Halt → RunFault
-halt_fault (Undocumented at opcode) = Halted at opcode
-
--- why frame k has no picture: the movie is too short, or the machine is halted after it
-abbrev pub IsShotFault : MovieContent → ℕ → RunFault → Type 0
-IsShotFault movie k (NoFrame frame len) = (frame ≡ k) × (len ≡ length movie.inputs) × (len ≤ k)
-IsShotFault movie k (Halted at opcode) = (k < length movie.inputs) × ((state_after movie (k + 1)).halt ≡ Some (Undocumented at opcode))
-IsShotFault movie k _ = ⊥
-
--- the picture of frame k, or why there is none
-abbrev pub IsShotAnswer : ℕ → List ℕ → List ℕ → Result (List ℕ) RunFault → Type 0
-IsShotAnswer k image bytes (Ok picture) = (movie : MovieContent) × IsMovieOf image bytes movie × IsShot movie k picture
-IsShotAnswer k image bytes (Err e) = IsMovieFault image bytes e ⊎ ((movie : MovieContent) × IsMovieOf image bytes movie × IsShotFault movie k e)

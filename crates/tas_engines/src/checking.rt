@@ -2,7 +2,8 @@
 
 ghost use Rattle.std.specs.Prelude.{◌≡◌, Ok, IfOk, IfErr, string_bytes};
 ghost use Rattle.tas_engines.specs.Output.{Ends};
-ghost use Rattle.tas_engines.specs.Movies.{IsCheckAnswer, IsMovieFault, IsMovieRun, length_line};
+ghost use Rattle.tas_engines.specs.Movies.{IsMovieFault, IsMovieRun};
+ghost use Rattle.tas_engines.specs.Checking.{IsCheckAnswer, length_line};
 
 use crate::{RunFault, ToolFault, movie_of, read_two, write_all};
 use std::alloc::{AllocError, Allocator};

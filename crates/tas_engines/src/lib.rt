@@ -1,5 +1,5 @@
-//! The engines of the program `tas` for one movie: a public function for each command, over any
-//! readers and any writer.
+//! The engines of the program `tas` that need no desk: a module for each command, with its engine over any
+//! readers and any writer, and what the engines share: reading, writing, faults, movies, and scripts of changes.
 //!
 //! An engine reads its inputs whole before it writes anything, and then runs on the bytes that it
 //! read. Its contract says what it left in its readers, and that it either wrote just the bytes that
@@ -8,23 +8,35 @@
 //! '(own)' marks a decision of this project, one that no manual makes.
 #![tactic(auto)]
 
+mod change;
 mod checking;
+mod comparing;
+mod diffing;
+mod editing;
 mod fault;
 mod fault_lines;
 mod laws;
+mod making;
 mod migrating;
 mod movies;
 mod reading;
+mod scripts;
 mod shooting;
 mod tracing;
 mod writing;
 
+pub use change::{Change, change_line, read_change};
 pub use checking::check_run;
+pub use comparing::changes_between;
+pub use diffing::diff_run;
+pub use editing::edit_run;
 pub use fault::{ReadFault, RunFault, ToolFault};
 pub use laws::one_movie_per_cartridge_and_text;
+pub use making::{ChangeError, make_change};
 pub use migrating::migrate_run;
 pub use movies::movie_of;
 pub use reading::{INPUT_LIMIT, ThreeInputs, read_input, read_three, read_two};
+pub use scripts::{ScriptFault, edit_movie, print_changes};
 pub use shooting::{halt_fault, shot_run};
 pub use tracing::trace_run;
 pub use writing::write_all;

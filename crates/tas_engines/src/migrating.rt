@@ -2,7 +2,8 @@
 
 ghost use Rattle.std.specs.Prelude.{Ok, IfOk, IfErr};
 ghost use Rattle.tas_engines.specs.Output.{Ends};
-ghost use Rattle.tas_engines.specs.Movies.{IsMigrateAnswer, IsMovieFault, IsMovieRun};
+ghost use Rattle.tas_engines.specs.Movies.{IsMovieFault, IsMovieRun};
+ghost use Rattle.tas_engines.specs.Migrating.{IsMigrateAnswer};
 
 use crate::{RunFault, ToolFault, movie_of, read_two, write_all};
 use std::alloc::Allocator;

@@ -1,12 +1,13 @@
 -- The text of runs.
-use Rattle.std.proofs.Common.{◌≡◌, ℕ, zero, suc, ◌+◌, ◌-◌, ◌%◌, ◌^◌, ◌<◌, ◌≤◌, ◌⊎◌, inl, inr, ⊎_elim, Bool, true, false, not, ◌&&◌, cond, List, [], ◌∷◌, ◌++◌, length, get_or, take, drop, Option, Some, None, refl, sym, ap, subst, ◌∙◌, arith, append_assoc}
+use Rattle.std.proofs.Common.{◌≡◌, ℕ, zero, suc, ◌+◌, ◌-◌, ◌%◌, ◌^◌, ◌<◌, ◌≤◌, ◌⊎◌, inl, inr, ⊎_elim, Bool, true, false, not, ◌&&◌, cond, eqb, List, [], ◌∷◌, ◌++◌, length, get_or, take, drop, Option, Some, None, refl, sym, ap, subst, ◌∙◌, arith, append_assoc}
 use Rattle.std.specs.Prelude.{codes, decimal, replicate, slice_get, nat_le, nat_lt}
 use Rattle.std.specs.List.{flat_map}
-use Rattle.std.specs.Str.{bytes_eq}
-use Rattle.std.proofs.lemmas.Bool.{both_ways, cases_Bool, cases_eq, ne_eqb, and_parts, and_from, le-leb, lt-leb, leb-true, lt-ltb, le-ltb}
-use Rattle.std.proofs.lemmas.Fmt.{decimal_by_steps, decimal_injective, decimal_is_IsNumeral}
+use Rattle.std.specs.Str.{all_ascii_digits}
+use Rattle.std.specs.Str.Parse.{digits_value}
+use Rattle.std.proofs.lemmas.Bool.{both_ways, cases_Bool, cases_eq, eqb-true, eqb-false, false≢true, ne_eqb, not-true, and_parts, and_from, le-leb, lt-leb, leb-true, lt-ltb, le-ltb}
+use Rattle.std.proofs.lemmas.Fmt.{decimal-digits_value, digits_decimal, digits_value-decimal, first_decimal, decimal_by_steps, decimal_injective, decimal_is_IsNumeral}
 use Rattle.std.proofs.lemmas.List.{append-nil, length-append, length-replicate, take-append-drop, take_all, flat_map_more}
-use Rattle.std.proofs.lemmas.Slice.Eq.{bytes_eq-Decides}
+use Rattle.std.proofs.lemmas.Str.Parse.{IsNumeralModel, numerals_by_value, tells_all_ascii_digits}
 use Rattle.vcs_machine.specs.declared.input.Input.{Input}
 use Rattle.vcs_machine.specs.Input.{are_same_inputs}
 use Rattle.tas_movie.specs.declared.error.TextErrorKind.{TextErrorKind}
@@ -15,9 +16,9 @@ use Rattle.tas_movie.specs.declared.run.FrameRun.{FrameRun}
 use Rattle.tas_movie.specs.Content.{most_inputs}
 use Rattle.tas_movie.specs.Runs.{run_inputs, runs_of, BeginOtherwise, AreLongest}
 use Rattle.tas_movie.specs.Text.{line, frame_text, count_text, run_text, run_line}
-use Rattle.tas_movie.specs.Fault.{SplitLines, split_lines, shown_count, shown_run, is_run, is_repeated, IsRunLine, run_fault, fault_at, fault_or, runs_fault, fault_by}
+use Rattle.tas_movie.specs.Fault.{SplitLines, split_lines, shown_input, is_frame, shown_count, shown_run, is_many, is_count, is_run, is_repeated, IsRunLine, run_fault, fault_at, fault_or, runs_fault, fault_by}
 use Rattle.tas_movie.proofs.RunLemmas.{equal_same, apart_same, runs_longest, runs_made, runs_split, runs_more, run_is_last, length-runs}
-use Rattle.tas_movie.proofs.TextLemmas.{NoBreak, NoBreak-push, NoBreak-append, split_lines-line, input_read, frame_no_break}
+use Rattle.tas_movie.proofs.TextLemmas.{NoBreak, NoBreak-push, NoBreak-append, split_lines-line, input_read, frame_shown, is_frame-frame, frame_no_break}
 
 -- ---- the line of a run
 
@@ -42,21 +43,69 @@ run_shown l r said =
     ap shown_run said.0
     ∙ run_by_fields _ r.input _ r.count (input_read r.input (count_text r.count)) (count_shown r.count said.1 (omega (arith, said.2)))
 
+own_digits : IsNumeralModel (λ (ds : List ℕ). all_ascii_digits ds ≡ true) (digits_value 10)
+own_digits = numerals_by_value _ tells_all_ascii_digits
+
+many_decimal : (n : ℕ) → 2 ≤ n → n ≤ most_inputs → is_many (decimal n) ≡ true
+many_decimal n more few =
+    let small : n < 2 ^ 64 = omega (arith, few) in
+    let value : digits_value 10 (decimal n) ≡ n = digits_value-decimal own_digits n small in
+    let first = first_decimal n (omega (arith, more)) small in
+    and_from _ _ (and_from _ _ (digits_decimal own_digits n small) (ap (λ (b : Bool). not b) (ne_eqb (get_or (decimal n) 0 0) 48 (λ e. omega (arith, e, first)))))
+    (and_from _ _ (le-leb 2 (digits_value 10 (decimal n)) (omega (arith, value, more))) (le-leb (digits_value 10 (decimal n)) most_inputs (omega (arith, value, few))))
+
+many_digits : (ds : List ℕ) → 2 ≤ digits_value 10 ds → 0 < length ds
+many_digits [] more = absurd (omega (arith, more))
+many_digits (d ∷ ds) more = omega arith
+
+many_back : (ds : List ℕ) → is_many ds ≡ true → (decimal (digits_value 10 ds) ≡ ds) × (2 ≤ digits_value 10 ds) × (digits_value 10 ds ≤ most_inputs)
+many_back ds h =
+    let both = and_parts (all_ascii_digits ds && not (eqb (get_or ds 0 0) 48)) (nat_le 2 (digits_value 10 ds) && nat_le (digits_value 10 ds) most_inputs) h in
+    let digits = and_parts (all_ascii_digits ds) (not (eqb (get_or ds 0 0) 48)) both.0 in
+    let counts = and_parts (nat_le 2 (digits_value 10 ds)) (nat_le (digits_value 10 ds) most_inputs) both.1 in
+    let more = leb-true 2 (digits_value 10 ds) counts.0 in
+    let few = leb-true (digits_value 10 ds) most_inputs counts.1 in (
+      decimal-digits_value own_digits ds digits.0 (many_digits ds more) (λ e. absurd (eqb-false (get_or ds 0 0) 48 (not-true _ digits.1) e)) (omega (arith, few)),
+      more,
+      few,
+    )
+
+count_said : (n : ℕ) → 1 ≤ n → n ≤ most_inputs → is_count (count_text n) ≡ true
+count_said n le few =
+    ⊎_elim (λ (e : n ≡ 1). subst (λ (m : ℕ). is_count (count_text m) ≡ true) (sym e) refl)
+    (λ (more : 2 ≤ n). ap is_count (count_more n more) ∙ many_decimal n more few)
+    (one_or_more n le)
+
+count_back : (l : List ℕ) → is_count l ≡ true → (l ≡ count_text (shown_count l)) × (1 ≤ shown_count l) × (shown_count l ≤ most_inputs)
+count_back [] h = (refl, omega arith, omega arith)
+count_back (a ∷ []) h = absurd (false≢true h)
+count_back (a ∷ b ∷ ds) h =
+    let both = and_parts (eqb a 32 && eqb b 120) (is_many ds) h in
+    let letters = and_parts (eqb a 32) (eqb b 120) both.0 in
+    let many = many_back ds both.1 in
+    let front : a ∷ b ∷ ds ≡ 32 ∷ 120 ∷ ds = ap (λ (x : ℕ). x ∷ b ∷ ds) (eqb-true a 32 letters.0) ∙ ap (λ (x : ℕ). 32 ∷ x ∷ ds) (eqb-true b 120 letters.1) in (
+      front ∙ ap (λ (x : List ℕ). 32 ∷ 120 ∷ x) (sym many.0) ∙ sym (count_more (digits_value 10 ds) many.1),
+      omega (arith, many.1),
+      many.2,
+    )
+
 is_run_true : (l : List ℕ) (r : FrameRun) → IsRunLine l r → is_run l ≡ true
-is_run_true l r said =
-    let shown : shown_run l ≡ r = run_shown l r said in
-    let count : (shown_run l).count ≡ r.count = ap (λ (q : FrameRun). q.count) shown in
-    and_from _ _ ((bytes_eq-Decides l (run_text (shown_run l))).1 (said.0 ∙ ap run_text (sym shown)))
-    (and_from _ _ (le-leb 1 (shown_run l).count (omega (arith, count, said.1))) (le-leb (shown_run l).count most_inputs (omega (arith, count, said.2))))
+is_run_true l r said = ap is_run said.0 ∙ and_from _ _ (is_frame-frame (frame_text r.input) r.input refl) (count_said r.count said.1 said.2)
 
 is_run_false : (l : List ℕ) → ((r : FrameRun) → IsRunLine l r → ⊥) → is_run l ≡ false
 is_run_false l never = ⊎_elim (λ t. absurd (never (shown_run l) (says t))) (λ f. f) (cases_Bool (is_run l))
   where
     says : is_run l ≡ true → IsRunLine l (shown_run l)
     says t =
-        let both = and_parts (bytes_eq l (run_text (shown_run l))) (nat_le 1 (shown_run l).count && nat_le (shown_run l).count most_inputs) t in
-        let counts = and_parts (nat_le 1 (shown_run l).count) (nat_le (shown_run l).count most_inputs) both.1 in
-        ((bytes_eq-Decides l (run_text (shown_run l))).0 both.0, leb-true 1 (shown_run l).count counts.0, leb-true (shown_run l).count most_inputs counts.1)
+        let both = and_parts (is_frame (take 17 l)) (is_count (drop 17 l)) t in
+        let count = count_back (drop 17 l) both.1 in
+        let i : Input = shown_input (take 17 l) in
+        let whole : l ≡ frame_text i ++ drop 17 l = sym (take-append-drop 17 l) ∙ ap (λ (x : List ℕ). x ++ drop 17 l) (sym (frame_shown (take 17 l) both.0)) in
+        let input : shown_input l ≡ i = ap shown_input whole ∙ input_read i (drop 17 l) in (
+          whole ∙ ap (λ (j : Input). frame_text j ++ drop 17 l) (sym input) ∙ ap (λ (x : List ℕ). frame_text (shown_input l) ++ x) count.0,
+          count.1,
+          count.2,
+        )
 
 -- ---- what is wrong with a line
 

@@ -1,11 +1,12 @@
 -- Lines of bytes, and the frames among them; the older text.
-use Rattle.std.proofs.Common.{◌≡◌, ℕ, zero, suc, ◌+◌, ◌/◌, ◌%◌, ◌<◌, ◌≤◌, ◌&&◌, Bool, true, false, not, cond, eqb, List, [], ◌∷◌, ◌++◌, length, get_or, take, drop, Option, None, refl, sym, ap, subst, ◌∙◌, arith, append_assoc}
+use Rattle.std.proofs.Common.{◌≡◌, ℕ, zero, suc, ◌+◌, ◌/◌, ◌%◌, ◌<◌, ◌≤◌, ◌&&◌, ◌||◌, Bool, true, false, not, cond, eqb, List, [], ◌∷◌, ◌++◌, length, get_or, take, drop, Option, None, refl, sym, ap, subst, ◌∙◌, arith, append_assoc}
 use Rattle.std.specs.Prelude.{codes}
 use Rattle.std.specs.List.{flat_map}
 use Rattle.std.specs.Str.{bytes_eq}
-use Rattle.std.proofs.lemmas.Bool.{ne_eqb, eq-eqb, eqb-false, le-leb, lt-leb, and_parts, not-true}
+use Rattle.std.proofs.lemmas.Bool.{ne_eqb, eq-eqb, eqb-true, eqb-false, false≢true, le-leb, lt-leb, and_parts, and_from, not-true}
 use Rattle.std.proofs.lemmas.List.{append_cancel_left, append-nil, length-append, take_more, take_all, drop_more, take-append-drop, flat_map_more}
 use Rattle.std.proofs.lemmas.Slice.Eq.{bytes_eq-Decides}
+use Rattle.std.proofs.Math.Seq.{get_or-append_seam}
 use Rattle.sha2.specs.Sha256.{sha256}
 use Rattle.hex.specs.Hex.{encode_with, encode_lower, lower_digits}
 use Rattle.vcs_machine.specs.declared.input.Input.{Input}
@@ -14,7 +15,7 @@ use Rattle.tas_movie.specs.declared.error.TextError.{TextError}
 use Rattle.tas_movie.specs.declared.error.TextErrorKind.TheVariants.{Digest, Frame, End, TooMany}
 use Rattle.tas_movie.specs.Content.{MovieContent}
 use Rattle.tas_movie.specs.Text.{line, mark, stick_text, frame_text, frame_line, head_text1, head_text2, digest_text, text1, most_frames1}
-use Rattle.tas_movie.specs.Fault.{SplitLines, split_lines, shown_input, is_frame, fault_at, frames_fault, head_fault, fault_by, fault}
+use Rattle.tas_movie.specs.Fault.{SplitLines, split_lines, shown_input, frame_letters, may_stand, stand_for, is_frame, fault_at, frames_fault, head_fault, fault_by, fault}
 
 -- ---- lines
 
@@ -133,8 +134,54 @@ input_read i rest = inputs _ _ _ _ _ _ _ _ _ _ _ _ _ _ (stick_read i.left) (stic
 pub bytes_same : (xs ys : List ℕ) → xs ≡ ys → bytes_eq xs ys ≡ true
 bytes_same xs ys e = (bytes_eq-Decides xs ys).1 e
 
+-- ---- which lines are frames
+
+mark_stands : (letter : ℕ) (b : Bool) → may_stand letter letter ≡ true → may_stand letter 46 ≡ true → may_stand letter (mark letter b) ≡ true
+mark_stands letter true own dot = own
+mark_stands letter false own dot = dot
+
 frame_is : (i : Input) → is_frame (frame_text i) ≡ true
-frame_is i = bytes_same (frame_text i) (frame_text (shown_input (frame_text i))) (ap frame_text (sym (input_read i [])))
+unfolding stand_for
+frame_is i =
+    and_from _ _ (mark_stands 82 i.left.right refl refl) (and_from _ _ (mark_stands 76 i.left.left refl refl) (and_from _ _ (mark_stands 68 i.left.down refl refl) (and_from _ _ (mark_stands 85 i.left.up refl refl)
+    (and_from _ _ (mark_stands 70 i.left.fire refl refl) (and_from _ _ refl
+    (and_from _ _ (mark_stands 82 i.right.right refl refl) (and_from _ _ (mark_stands 76 i.right.left refl refl) (and_from _ _ (mark_stands 68 i.right.down refl refl) (and_from _ _ (mark_stands 85 i.right.up refl refl)
+    (and_from _ _ (mark_stands 70 i.right.fire refl refl) (and_from _ _ refl
+    (and_from _ _ (mark_stands 114 i.reset refl refl) (and_from _ _ (mark_stands 115 i.select refl refl) (and_from _ _ (mark_stands 98 i.mono refl refl) (and_from _ _ (mark_stands 65 i.left_a refl refl)
+    (and_from _ _ (mark_stands 66 i.right_a refl refl) refl))))))))))))))))
+
+-- what stands in the places of some letters, the first of them at the k-th place of a line, where each is read as its letter or a dot
+abbrev marks_at : ℕ → List ℕ → List ℕ → List ℕ
+marks_at k [] l = []
+marks_at k (letter ∷ letters) l = cond (eqb letter 32) 32 (mark letter (eqb (get_or l k 0) letter)) ∷ marks_at (k + 1) letters l
+
+mark_back : (letter b : ℕ) (space is dot : Bool) → eqb letter 32 ≡ space → eqb b letter ≡ is → eqb b 46 ≡ dot → (is || (not space && dot)) ≡ true → cond space 32 (mark letter is) ≡ b
+mark_back letter b true true dot s i d h = sym (eqb-true letter 32 s) ∙ sym (eqb-true b letter i)
+mark_back letter b false true dot s i d h = sym (eqb-true b letter i)
+mark_back letter b true false dot s i d h = absurd (false≢true h)
+mark_back letter b false false true s i d h = sym (eqb-true b 46 d)
+mark_back letter b false false false s i d h = absurd (false≢true h)
+
+marks_back : (letters before l : List ℕ) → stand_for letters l ≡ true → marks_at (length before) letters (before ++ l) ≡ l
+unfolding stand_for
+marks_back [] before [] h = refl
+marks_back [] before (b ∷ l) h = absurd (false≢true h)
+marks_back (x ∷ letters) before [] h = absurd (false≢true h)
+marks_back (x ∷ letters) before (b ∷ l) h =
+    let both = and_parts (may_stand x b) (stand_for letters l) h in
+    let here : get_or (before ++ b ∷ l) (length before) 0 ≡ b = get_or-append_seam before b l 0 in
+    let first : cond (eqb x 32) 32 (mark x (eqb (get_or (before ++ b ∷ l) (length before) 0) x)) ≡ b =
+    ap (λ (c : ℕ). cond (eqb x 32) 32 (mark x (eqb c x))) here ∙ mark_back x b _ _ _ refl refl refl both.0 in
+    let place : length before + 1 ≡ length (before ++ b ∷ []) = omega (arith, length-append before (b ∷ [])) in
+    let rest : marks_at (length before + 1) letters (before ++ b ∷ l) ≡ l =
+    ap (λ (n : ℕ). marks_at n letters (before ++ b ∷ l)) place
+    ∙ ap (marks_at (length (before ++ b ∷ [])) letters) (sym (append_assoc before (b ∷ []) l))
+    ∙ marks_back letters (before ++ b ∷ []) l both.1 in
+    ap (λ (c : ℕ). c ∷ marks_at (length before + 1) letters (before ++ b ∷ l)) first ∙ ap (λ (r : List ℕ). b ∷ r) rest
+
+-- a frame is the text of the input that its letters show
+pub frame_shown : (l : List ℕ) → is_frame l ≡ true → frame_text (shown_input l) ≡ l
+frame_shown l h = marks_back frame_letters [] l h
 
 -- a frame's text shows its input
 pub shown_input-frame : (l : List ℕ) (i : Input) → l ≡ frame_text i → shown_input l ≡ i

@@ -15,12 +15,19 @@ spliced at count new inputs = take at inputs ++ new ++ drop (at + count) inputs
 abbrev pub place_refusal : ℕ → ℕ → ℕ → Option EditRefusal
 place_refusal len at end = if nat_lt len end then Some (Place at len) else None
 
--- putting so many inputs in at the place `at` of `len` inputs is refused for its place first, then for the length that it would give
+-- inputs that are longer than those of a movie may be are refused
+abbrev pub length_refusal : ℕ → ℕ → Option EditRefusal
+length_refusal len longer = if nat_lt most_inputs longer then Some (Long len) else None
+
+-- of two refusals the first that is due
+abbrev pub first_refusal : Option EditRefusal → Option EditRefusal → Option EditRefusal
+first_refusal (Some refused) later = Some refused
+first_refusal None later = later
+
+-- putting so many inputs in at the place `at` of `len` inputs changes none of these, so it ends at `at`; its place is refused before
+-- the length that it would give
 abbrev pub insert_refusal : ℕ → ℕ → ℕ → Option EditRefusal
-insert_refusal len at count =
-    if nat_lt len at then Some (Place at len)
-    else if nat_lt most_inputs (len + count) then Some (Long len)
-    else None
+insert_refusal len at count = first_refusal (place_refusal len at at) (length_refusal len (len + count))
 
 -- why an edit is refused, where it is
 abbrev pub refusal : {A : Type 0} → MovieContent → Edit A → Option EditRefusal

@@ -1,6 +1,6 @@
 -- The first line at fault in bytes that aren't a text of a movie with a given cartridge (own).
-use Rattle.std.specs.Prelude.{◌≡◌, ℕ, ◌+◌, ◌-◌, ◌≤◌, ◌==◌, nat_le, nat_lt, List, [], ◌∷◌, ◌++◌, length, drop, Bool, false, not, ◌&&◌, Option, Some, None, if◌then◌else◌, slice_index, slice_get}
-use Rattle.std.specs.Str.{bytes_eq}
+use Rattle.std.specs.Prelude.{◌≡◌, ℕ, ◌+◌, ◌-◌, ◌≤◌, ◌==◌, nat_le, nat_lt, List, [], ◌∷◌, ◌++◌, length, take, drop, Bool, true, false, not, ◌&&◌, ◌||◌, codes, Option, Some, None, if◌then◌else◌, slice_index, slice_get}
+use Rattle.std.specs.Str.{all_ascii_digits, bytes_eq}
 use Rattle.std.specs.Str.Parse.{digits_value}
 use Rattle.vcs_machine.specs.declared.input.Input.{Input}
 use Rattle.vcs_machine.specs.declared.input.Stick.{Stick}
@@ -13,7 +13,7 @@ use Rattle.vcs_machine.specs.Input.{are_same_inputs}
 use Rattle.tas_movie.specs.declared.run.FrameRun.{FrameRun}
 use Rattle.tas_movie.specs.Content.{most_inputs}
 use Rattle.tas_movie.specs.Runs.{run_inputs}
-use Rattle.tas_movie.specs.Text.{frame_text, run_text, head_text1, head_text2, digest_text, most_frames1}
+use Rattle.tas_movie.specs.Text.{run_text, head_text1, head_text2, digest_text, most_frames1}
 
 -- the lines that a newline ends, without it, and what stands behind the last newline
 pub record SplitLines : Type 0 where
@@ -40,9 +40,24 @@ shown_stick k l = record { right = slice_index l k == 82; left = slice_index l (
 abbrev pub shown_input : List ℕ → Input
 shown_input l = record { left = shown_stick 0 l; right = shown_stick 6 l; reset = slice_index l 12 == 114; select = slice_index l 13 == 115; mono = slice_index l 14 == 98; left_a = slice_index l 15 == 65; right_a = slice_index l 16 == 66 }
 
--- a line is a frame where it is the text of the input that its letters show
+-- the letters of a frame in their places, each for something that is pressed or set, and the two spaces between its parts
+abbrev pub frame_letters : List ℕ
+frame_letters = codes "RLDUF RLDUF rsbAB"
+
+-- what may stand in a letter's place: the letter itself, or a dot; in a space's place only a space
+abbrev pub may_stand : ℕ → ℕ → Bool
+may_stand letter b = b == letter || (not (letter == 32) && b == 46)
+
+-- there are as many bytes as letters, and each may stand in its letter's place
+unfoldable pub stand_for : List ℕ → List ℕ → Bool
+stand_for [] [] = true
+stand_for [] (b ∷ bytes) = false
+stand_for (letter ∷ letters) [] = false
+stand_for (letter ∷ letters) (b ∷ bytes) = may_stand letter b && stand_for letters bytes
+
+-- a line is a frame where each of its bytes may stand in its place
 abbrev pub is_frame : List ℕ → Bool
-is_frame l = bytes_eq l (frame_text (shown_input l))
+is_frame l = stand_for frame_letters l
 
 -- a fault at a line, counted from 1
 abbrev pub fault_at : ℕ → TextErrorKind → Option TextError
@@ -71,9 +86,19 @@ shown_count (b ∷ more) = digits_value 10 (drop 1 more)
 abbrev pub shown_run : List ℕ → FrameRun
 shown_run l = record { input = shown_input l; count = shown_count (drop 17 l) }
 
--- a line is a run where it is the text of the run that it shows, of one frame at least and as many as a movie has at most
+-- decimal digits of a number from 2 to as many frames as a movie has at most, of which the first is no zero
+abbrev pub is_many : List ℕ → Bool
+is_many digits = (all_ascii_digits digits && not (slice_index digits 0 == 48)) && (nat_le 2 (digits_value 10 digits) && nat_le (digits_value 10 digits) most_inputs)
+
+-- what may follow the letters of a frame: nothing, or " x" and such a number
+abbrev pub is_count : List ℕ → Bool
+is_count [] = true
+is_count (space ∷ []) = false
+is_count (space ∷ letter ∷ digits) = (space == 32 && letter == 120) && is_many digits
+
+-- a line is a run where its first 17 bytes are a frame and the further ones say how often it comes
 abbrev pub is_run : List ℕ → Bool
-is_run l = bytes_eq l (run_text (shown_run l)) && (nat_le 1 (shown_run l).count && nat_le (shown_run l).count most_inputs)
+is_run l = is_frame (take 17 l) && is_count (drop 17 l)
 
 -- a line says this run, of one frame at least and as many as a movie has at most
 abbrev pub IsRunLine : List ℕ → FrameRun → Type 0

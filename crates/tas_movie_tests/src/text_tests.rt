@@ -8,10 +8,7 @@ use crate::texts::{
 };
 use std::alloc::Global;
 use std::process::Abort;
-use tas_movie::{
-    ReadError, TextErrorKind, limits_are_exact, one_movie_per_text, read_text, runs_are_longest,
-    texts_have_no_fault,
-};
+use tas_movie::{ReadError, TextErrorKind, read_text};
 use vcs_machine::Cart;
 
 /// Checks that the text of runs with this second line and these frames has so many bytes, and is read as so many frames and
@@ -52,15 +49,6 @@ fn texts_are_read_and_printed_again(rt: HostRuntime) {
     check_text(&rt, alloc, &blank, (BLANK_LINE, NONE), 99, 1);
     let small = expect_ok(&rt, Cart::from_bytes(alloc, &[0; 2048]));
     check_text(&rt, alloc, &small, (SMALL_LINE, NONE), 99, 1);
-}
-
-/// Laws have no result: this shows only that their calls return.
-#[test]
-fn the_laws_of_texts_return(_rt: HostRuntime) {
-    limits_are_exact();
-    one_movie_per_text();
-    texts_have_no_fault();
-    runs_are_longest();
 }
 
 /// Reads a text of one frame that is cut off anywhere.

@@ -1,2 +1,1 @@
 pub mod ProgramLemmas
-pub mod CommandLineLemmas

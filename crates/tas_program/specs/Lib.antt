@@ -1,3 +1,1 @@
-pub mod Task
-pub mod CommandLine
 pub mod Program

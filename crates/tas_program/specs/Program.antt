@@ -1,31 +1,31 @@
 -- How the program ends: what it writes, and its status (own).
-use Rattle.std.specs.Prelude.{◌≡◌, ℕ, List, ◌⊎◌, Option, None, Some, Result, Ok, Err, String, map, string_bytes}
-use Rattle.std.specs.Global.{Global}
-use Rattle.std.specs.Iterator.Runs.{WholeRun}
-use Rattle.std.specs.Vec.Iter.{into_iter_steps}
+use Rattle.std.specs.Prelude.{◌≡◌, ℕ, List, ◌⊎◌, Option, None, Result, Ok, Err, String, string_bytes}
 use Rattle.std.specs.declared.vec.IntoIter.{IntoIter}
 use Rattle.std.specs.declared.io.Error.{Error}
 use Rattle.std.specs.Io.KnownBytes.{Appends}
 use Rattle.tas_engines.specs.declared.fault.RunFault.{RunFault}
 use Rattle.tas_engines.specs.declared.fault.ToolFault.{ToolFault}
 use Rattle.tas_engines.specs.declared.fault.ToolFault.TheVariants.{Read}
-use Rattle.tas_engines.specs.Movies.{IsCheckAnswer, IsMigrateAnswer, IsShotAnswer, IsMovieRun}
+use Rattle.tas_engines.specs.Movies.{IsMovieRun}
+use Rattle.tas_engines.specs.Checking.{IsCheckAnswer}
+use Rattle.tas_engines.specs.Migrating.{IsMigrateAnswer}
+use Rattle.tas_engines.specs.Shooting.{IsShotAnswer}
 use Rattle.tas_engines.specs.Output.{StopsWriting}
 use Rattle.tas_engines.specs.Tracing.{IsTraceRun}
 use Rattle.tas_tool.specs.Scripts.{IsScriptRun}
 use Rattle.tas_tool.specs.Talk.{talk_state_from, IsTalk, IsCartTalk, IsMovieTalk}
 use Rattle.tas_tool.specs.Pixmaps.{IsExportAnswer}
 use Rattle.tas_tool.specs.MovieScripts.{IsMovieScriptRun}
-use Rattle.tas_edit.specs.Runs.{IsEditRun, IsDiffRun}
-use Rattle.tas_program.specs.declared.request.Request.{Request}
-use Rattle.tas_program.specs.declared.request.Request.TheVariants.{Do, Show, Refuse, NoMemory}
+use Rattle.tas_engines.specs.Diffing.{IsDiffRun}
+use Rattle.tas_engines.specs.Editing.{IsEditRun}
+use Rattle.tas_words.specs.declared.request.Request.{Request}
+use Rattle.tas_words.specs.declared.request.Request.TheVariants.{Do, Show, Refuse, NoMemory}
 use Rattle.tas_program.specs.declared.status.Status.{Status}
 use Rattle.tas_program.specs.declared.status.Status.TheVariants.{Done, Fault, Misuse}
-use Rattle.tas_program.specs.declared.task.Task.{Task}
-use Rattle.tas_program.specs.declared.task.Task.TheVariants.{Trace, Check, Migrate, Shot, Edit, Diff, Script, MovieScript, Talk, CartTalk, MovieTalk, Export}
+use Rattle.tas_words.specs.declared.task.Task.{Task}
+use Rattle.tas_words.specs.declared.task.Task.TheVariants.{Trace, Check, Migrate, Shot, Edit, Diff, Script, MovieScript, Talk, CartTalk, MovieTalk, Export}
 use Rattle.clap.specs.Walk.{Text}
-use Rattle.tas_program.specs.CommandLine.{named_command, IsAsked}
-use Rattle.tas_program.specs.Task.{IsInRange, command_name}
+use Rattle.tas_words.specs.Requests.{AreGiven, IsRequest}
 
 -- the number that the system is told
 abbrev pub status_code : Status → ℕ
@@ -89,37 +89,17 @@ TextEnds text old new Fault = (fault : RunFault) × StopsWriting old new text fa
 TextEnds text old new Misuse = ⊥
 
 -- the program's end after a request: where there is no task, nothing is read, and where there is nothing to show, nothing is written
-abbrev pub CarriesOut : Type 0 → (List ℕ → Option (List ℕ)) → Request → Streams → Streams → Status → Type 0
+abbrev pub CarriesOut : (A : Type 0) → (List ℕ → Option (List ℕ)) → Request A → Streams → Streams → Status → Type 0
 CarriesOut A files (Do chosen) old new status = TaskEnds A files chosen old new status
 CarriesOut A files (Show text) old new status = (new.input ≡ old.input) × TextEnds (string_bytes text) old.output new.output status
 CarriesOut A files (Refuse text) old new status = (status ≡ Misuse) × (new ≡ old)
 CarriesOut A files NoMemory old new status = (status ≡ Fault) × (new ≡ old)
 
--- what these words may ask for, the first of which is the program's name: the task of the command that they name, with its files and
--- numbers, these in their ranges; or a text, or nothing that is understood, or memory was refused
-abbrev pub IsRequest : List Text → Request → Type 0
-IsRequest words (Do chosen) = (named_command words ≡ Some (command_name chosen)) × IsAsked words chosen × IsInRange chosen
-IsRequest words _ = Unit {0}
-
--- a request that is no task
-abbrev pub IsNoTask : Request → Type 0
-IsNoTask (Do chosen) = ⊥
-IsNoTask _ = Unit {0}
-
--- an iterator gives these words, one after the other, and then no more
-abbrev pub Gives : IntoIter (String Global) Global → List Text → Type 0
-Gives given words = WholeRun into_iter_steps given (λ run. map string_bytes run.items ≡ words)
-
--- the words that the system gave; where it gave an error, there are none
-abbrev pub AreGiven : Result (IntoIter (String Global) Global) Error → List Text → Type 0
-AreGiven (Ok given) words = Gives given words
-AreGiven (Err error) words = ⊥
-
 -- what may be asked for by what the system gave: a task by its words alone
-abbrev pub IsAskedBy : Result (IntoIter (String Global) Global) Error → Request → Type 0
+abbrev pub IsAskedBy : {A : Type 0} → Result (IntoIter (String A) A) Error → Request A → Type 0
 IsAskedBy given (Do chosen) = (words : List Text) × AreGiven given words × IsRequest words (Do chosen)
 IsAskedBy given _ = Unit {0}
 
 -- the program carries out what the words may ask for
-abbrev pub ProgramEnds : Type 0 → Result (IntoIter (String Global) Global) Error → (List ℕ → Option (List ℕ)) → Streams → Streams → Status → Type 0
-ProgramEnds A given files old new status = (request : Request) × IsAskedBy given request × CarriesOut A files request old new status
+abbrev pub ProgramEnds : (A : Type 0) → Result (IntoIter (String A) A) Error → (List ℕ → Option (List ℕ)) → Streams → Streams → Status → Type 0
+ProgramEnds A given files old new status = (request : Request A) × IsAskedBy given request × CarriesOut A files request old new status

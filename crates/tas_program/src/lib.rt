@@ -7,17 +7,13 @@
 //! '(own)' marks a decision of this project, one that no manual makes.
 #![tactic(auto)]
 
-mod command_line;
 mod folder;
-mod request;
 mod running;
 mod status;
-mod task;
-mod words;
 
 pub use folder::Folder;
-pub use request::{Request, read_request};
 pub use running::{carry_out, run_program, run_task};
 pub use status::Status;
-pub use task::{MAX_FRAME_NUMBER, MAX_INSTRUCTIONS, MAX_WORKERS, Task};
-pub use words::read_words;
+pub use tas_words::{
+    MAX_FRAME_NUMBER, MAX_INSTRUCTIONS, MAX_WORKERS, Request, Task, read_request, read_words,
+};

@@ -4,24 +4,22 @@ ghost use Rattle.std.specs.Prelude.{◌≡◌, IfOk, IfErr, OnOk, OnErr};
 ghost use Rattle.std.specs.Io.KnownBytes.{Appends};
 ghost use Rattle.tas_engines.specs.declared.fault.RunFault.{RunFault};
 ghost use Rattle.tas_engines.specs.Output.{StopsWriting};
-ghost use Rattle.tas_program.specs.declared.task.Task.TheVariants.{Shot, Edit, Diff, MovieScript, MovieTalk, Export};
+ghost use Rattle.tas_words.specs.declared.task.Task.TheVariants.{Shot, Edit, Diff, MovieScript, MovieTalk, Export};
 ghost use Rattle.tas_program.specs.Program.{DoesTask, CarriesOut, ProgramEnds, end_status};
-ghost use Rattle.std.specs.Global.{Global};
 
-use crate::request::collect_words;
-use crate::{Folder, Request, Status, Task, read_request};
-use std::alloc::Global;
+use crate::{Folder, Status};
+use std::alloc::{Allocator, Global};
 use std::env::Args;
 use std::io;
 use std::io::{Read, Write};
 use std::ops::Range;
 use std::sync::Wait;
 use std::thread::Threads;
-use tas_engines::write_all;
 use tas_tool::{
     ToolFault, cart_talk_run, check_run, diff_run, edit_run, export_run, migrate_run,
-    movie_script_run, movie_talk_run, script_run, shot_run, talk_run, trace_run,
+    movie_script_run, movie_talk_run, script_run, shot_run, talk_run, trace_run, write_all,
 };
+use tas_words::{Request, Task, collect_words, read_request};
 
 /// Opens a file of this name.
 fn open_file<F: Folder>(folder: &F, name: &str) -> Result<F::File, ToolFault>
@@ -42,15 +40,15 @@ fn open_two<F: Folder>(folder: &F, one: &str, two: &str) -> Result<(F::File, F::
 }
 
 /// Draws a frame of the input's movie.
-fn shot_file<F: Folder, R: Read, W: Write>(
-    alloc: Global,
+fn shot_file<A: Allocator + Copy, F: Folder, R: Read, W: Write>(
+    alloc: A,
     cart: &str,
     frame: u32,
     folder: &F,
     input: &mut R,
     output: &mut W,
 ) -> Result<(), ToolFault>
-    ensures { DoesTask Global (F.bytes_of folder.now) (Shot cart.entry frame)
+    ensures { DoesTask A (F.bytes_of folder.now) (Shot cart.entry frame)
         (record { input = R.remaining input.old; output = W.contents output.old })
         (record { input = R.remaining input.new; output = W.contents output.new }) result }
 {
@@ -59,15 +57,15 @@ fn shot_file<F: Folder, R: Read, W: Write>(
 }
 
 /// Makes the changes of a script on the input's movie.
-fn edit_files<F: Folder, R: Read, W: Write>(
-    alloc: Global,
+fn edit_files<A: Allocator + Copy, F: Folder, R: Read, W: Write>(
+    alloc: A,
     cart: &str,
     script: &str,
     folder: &F,
     input: &mut R,
     output: &mut W,
 ) -> Result<(), ToolFault>
-    ensures { DoesTask Global (F.bytes_of folder.now) (Edit cart.entry script.entry)
+    ensures { DoesTask A (F.bytes_of folder.now) (Edit cart.entry script.entry)
         (record { input = R.remaining input.old; output = W.contents output.old })
         (record { input = R.remaining input.new; output = W.contents output.new }) result }
 {
@@ -76,15 +74,15 @@ fn edit_files<F: Folder, R: Read, W: Write>(
 }
 
 /// Compares the input's movie with an older one.
-fn diff_files<F: Folder, R: Read, W: Write>(
-    alloc: Global,
+fn diff_files<A: Allocator + Copy, F: Folder, R: Read, W: Write>(
+    alloc: A,
     cart: &str,
     old: &str,
     folder: &F,
     input: &mut R,
     output: &mut W,
 ) -> Result<(), ToolFault>
-    ensures { DoesTask Global (F.bytes_of folder.now) (Diff cart.entry old.entry)
+    ensures { DoesTask A (F.bytes_of folder.now) (Diff cart.entry old.entry)
         (record { input = R.remaining input.old; output = W.contents output.old })
         (record { input = R.remaining input.new; output = W.contents output.new }) result }
 {
@@ -93,16 +91,16 @@ fn diff_files<F: Folder, R: Read, W: Write>(
 }
 
 /// Runs the input's script from a movie on.
-fn script_files<T: Wait + Threads + Sync, F: Folder, R: Read, W: Write>(
+fn script_files<T: Wait, A: Allocator + Copy, F: Folder, R: Read, W: Write>(
     rt: &T,
-    alloc: Global,
+    alloc: A,
     cart: &str,
     movie: &str,
     folder: &F,
     input: &mut R,
     output: &mut W,
 ) -> Result<(), ToolFault>
-    ensures { DoesTask Global (F.bytes_of folder.now) (MovieScript cart.entry movie.entry)
+    ensures { DoesTask A (F.bytes_of folder.now) (MovieScript cart.entry movie.entry)
         (record { input = R.remaining input.old; output = W.contents output.old })
         (record { input = R.remaining input.new; output = W.contents output.new }) result }
 {
@@ -111,16 +109,16 @@ fn script_files<T: Wait + Threads + Sync, F: Folder, R: Read, W: Write>(
 }
 
 /// Answers the input's lines from a movie on.
-fn talk_files<T: Wait + Threads + Sync, F: Folder, R: Read, W: Write>(
+fn talk_files<T: Wait, A: Allocator + Copy, F: Folder, R: Read, W: Write>(
     rt: &T,
-    alloc: Global,
+    alloc: A,
     cart: &str,
     movie: &str,
     folder: &F,
     input: &mut R,
     output: &mut W,
 ) -> Result<(), ToolFault>
-    ensures { DoesTask Global (F.bytes_of folder.now) (MovieTalk cart.entry movie.entry)
+    ensures { DoesTask A (F.bytes_of folder.now) (MovieTalk cart.entry movie.entry)
         (record { input = R.remaining input.old; output = W.contents output.old })
         (record { input = R.remaining input.new; output = W.contents output.new }) result }
 {
@@ -129,9 +127,15 @@ fn talk_files<T: Wait + Threads + Sync, F: Folder, R: Read, W: Write>(
 }
 
 /// Writes the pictures of some frames of the input's movie.
-fn export_file<T: Wait + Threads + Sync, F: Folder, R: Read, W: Write>(
+fn export_file<
+    T: Wait + Threads + Sync,
+    A: Allocator + Copy + Send + Sync,
+    F: Folder,
+    R: Read,
+    W: Write,
+>(
     rt: &T,
-    alloc: Global,
+    alloc: A,
     cart: &str,
     frames: Range<u32>,
     workers: u32,
@@ -139,7 +143,7 @@ fn export_file<T: Wait + Threads + Sync, F: Folder, R: Read, W: Write>(
     input: &mut R,
     output: &mut W,
 ) -> Result<(), ToolFault>
-    ensures { DoesTask Global (F.bytes_of folder.now) (Export cart.entry frames.start frames.end workers)
+    ensures { DoesTask A (F.bytes_of folder.now) (Export cart.entry frames.start frames.end workers)
         (record { input = R.remaining input.old; output = W.contents output.old })
         (record { input = R.remaining input.new; output = W.contents output.new }) result }
 {
@@ -159,15 +163,21 @@ fn export_file<T: Wait + Threads + Sync, F: Folder, R: Read, W: Write>(
 
 /// Does a task by its engine (own): the files that it names are opened first, a failure being `Read`, then
 /// the engine reads them and the input, and writes its answer to the output.
-pub fn run_task<T: Wait + Threads + Sync, F: Folder, R: Read, W: Write>(
+pub fn run_task<
+    T: Wait + Threads + Sync,
+    A: Allocator + Copy + Send + Sync,
+    F: Folder,
+    R: Read,
+    W: Write,
+>(
     rt: &T,
-    alloc: Global,
+    alloc: A,
     task: Task<'_>,
     folder: &F,
     input: &mut R,
     output: &mut W,
 ) -> Result<(), ToolFault>
-    ensures { DoesTask Global (F.bytes_of folder.now) task.entry
+    ensures { DoesTask A (F.bytes_of folder.now) task.entry
         (record { input = R.remaining input.old; output = W.contents output.old })
         (record { input = R.remaining input.new; output = W.contents output.new }) result }
 {
@@ -200,7 +210,11 @@ pub fn run_task<T: Wait + Threads + Sync, F: Folder, R: Read, W: Write>(
 
 /// Writes the line of a fault: as a whole, so that another program's lines come between two of them and not into one, and piece by
 /// piece where memory is refused for it.
-fn write_line<E: Write>(alloc: Global, errors: &mut E, fault: ToolFault) -> io::Result<()> {
+fn write_line<A: Allocator, E: Write>(
+    alloc: A,
+    errors: &mut E,
+    fault: ToolFault,
+) -> io::Result<()> {
     match format!(in alloc; "{fault}\n") {
         Ok(line) => errors.write_all(line.as_bytes()),
         Err(_) => writeln!(errors, "{fault}"),
@@ -208,7 +222,7 @@ fn write_line<E: Write>(alloc: Global, errors: &mut E, fault: ToolFault) -> io::
 }
 
 /// The status of what was done; the line of a fault is written to `errors`.
-fn tell<E: Write>(alloc: Global, errors: &mut E, end: Result<(), ToolFault>) -> Status
+fn tell<A: Allocator, E: Write>(alloc: A, errors: &mut E, end: Result<(), ToolFault>) -> Status
     ensures { result ≡ end_status end }
 {
     match end {
@@ -231,16 +245,23 @@ fn show<W: Write>(output: &mut W, text: &str) -> Result<(), ToolFault>
 
 /// Carries a request out, and answers the program's status (own): 0 where it was done, 1 after a fault, whose
 /// line is written to `errors`, and 2 where the words weren't understood, whose text goes there too.
-pub fn carry_out<T: Wait + Threads + Sync, F: Folder, R: Read, W: Write, E: Write>(
+pub fn carry_out<
+    T: Wait + Threads + Sync,
+    A: Allocator + Copy + Send + Sync,
+    F: Folder,
+    R: Read,
+    W: Write,
+    E: Write,
+>(
     rt: &T,
-    alloc: Global,
-    request: Request<'_>,
+    alloc: A,
+    request: Request<'_, A>,
     folder: &F,
     input: &mut R,
     output: &mut W,
     errors: &mut E,
 ) -> Status
-    ensures { CarriesOut Global (F.bytes_of folder.now) request.entry
+    ensures { CarriesOut A (F.bytes_of folder.now) request.entry
         (record { input = R.remaining input.old; output = W.contents output.old })
         (record { input = R.remaining input.new; output = W.contents output.new }) result }
 {
@@ -259,23 +280,32 @@ pub fn carry_out<T: Wait + Threads + Sync, F: Folder, R: Read, W: Write, E: Writ
     }
 }
 
-/// The whole program (own): reads the words, the first of which is its name, and does what they ask for.
-pub fn run_program<T: Wait + Threads + Sync, F: Folder, R: Read, W: Write, E: Write>(
+/// The whole program (own): reads the words, the first of which is its name, and does what they ask for. clap takes its memory from
+/// `global` alone, all else from `alloc`.
+pub fn run_program<
+    T: Wait + Threads + Sync,
+    A: Allocator + Copy + Send + Sync,
+    F: Folder,
+    R: Read,
+    W: Write,
+    E: Write,
+>(
     rt: &T,
-    alloc: Global,
-    words: io::Result<Args>,
+    global: Global,
+    alloc: A,
+    words: io::Result<Args<A>>,
     folder: &F,
     input: &mut R,
     output: &mut W,
     errors: &mut E,
 ) -> Status
-    ensures { ProgramEnds Global words (F.bytes_of folder.now)
+    ensures { ProgramEnds A words (F.bytes_of folder.now)
         (record { input = R.remaining input.old; output = W.contents output.old })
         (record { input = R.remaining input.new; output = W.contents output.new }) result }
 {
     match collect_words(alloc, words) {
         Ok(words) => {
-            let request = read_request(alloc, words.as_slice());
+            let request = read_request(global, alloc, words.as_slice());
             carry_out(rt, alloc, request, folder, input, output, errors)
         }
         Err(request) => carry_out(rt, alloc, request, folder, input, output, errors),

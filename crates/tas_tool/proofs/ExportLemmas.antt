@@ -18,7 +18,8 @@ use Rattle.tas_desk.specs.Exports.{IsInRange, IsExport}
 use Rattle.tas_desk.specs.Frames.{AllDrawn, pixmaps_of}
 use Rattle.tas_engines.specs.declared.fault.RunFault.{RunFault}
 use Rattle.tas_engines.specs.declared.fault.RunFault.TheVariants.{Write, Size, Text, NoFrame, Range, Halted, Script, EditPlace, EditLong, NoPlace, NoEntry, Foreign, Memory}
-use Rattle.tas_engines.specs.Movies.{halt_fault, IsMovieOf}
+use Rattle.tas_engines.specs.Movies.{IsMovieOf}
+use Rattle.tas_engines.specs.Shooting.{halt_fault}
 use Rattle.tas_engines.specs.Output.{Ends}
 use Rattle.tas_tool.specs.Pixmaps.{IsPixmapsAnswer, IsExportAnswer}
 use Rattle.tas_tool.specs.Checking.{checked_end}

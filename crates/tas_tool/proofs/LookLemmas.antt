@@ -15,10 +15,10 @@ use Rattle.tas_desk.specs.Answers.{answer_input, answer_shot}
 use Rattle.tas_desk.specs.declared.replies.InputError.{InputError}
 use Rattle.tas_desk.specs.Seats.{SeatContent, HasSeen, IsInput}
 use Rattle.tas_engines.specs.declared.fault.RunFault.{RunFault}
-use Rattle.tas_script.specs.declared.command.Command.{Command}
-use Rattle.tas_script.specs.declared.command.Command.TheVariants.{Length, InputAt, Shot, Work}
-use Rattle.tas_script.specs.declared.reply.Reply.{Reply}
-use Rattle.tas_script.specs.declared.reply.Reply.TheVariants.{Measured, Pressed, NoFrame, Drawn, Worked, OutOfMemory}
+use Rattle.tas_language.specs.declared.command.Command.{Command}
+use Rattle.tas_language.specs.declared.command.Command.TheVariants.{Length, InputAt, Shot, Work}
+use Rattle.tas_language.specs.declared.reply.Reply.{Reply}
+use Rattle.tas_language.specs.declared.reply.Reply.TheVariants.{Measured, Pressed, NoFrame, Drawn, Worked, OutOfMemory}
 use Rattle.tas_tool.specs.declared.answering.Answered.{Answered}
 use Rattle.tas_tool.specs.Turns.{Unforeseen, own_edits_of, BeginsWithOwn, IsDeskFault, input_reply, halted_reply, shot_reply, reply_to, own_edits_after, IsTurn}
 use Rattle.tas_tool.specs.Checking.{checked_end, looked, IsAnswer}

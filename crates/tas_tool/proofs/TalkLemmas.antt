@@ -19,11 +19,11 @@ use Rattle.tas_engines.specs.declared.fault.RunFault.TheVariants.{Write, Size, T
 use Rattle.tas_engines.specs.declared.fault.ToolFault.{ToolFault}
 use Rattle.tas_engines.specs.declared.fault.ToolFault.TheVariants.{Read as ReadFailed, Memory as OutOfRoom, NoPlace as WithoutPlace}
 use Rattle.tas_engines.specs.Faults.{run_fault}
-use Rattle.tas_script.specs.Commands.{NoByte}
-use Rattle.tas_talk.specs.declared.request.Request.{Request}
-use Rattle.tas_talk.specs.Requests.{IsHeard}
-use Rattle.tas_talk.specs.Held.{HoldsLine}
-use Rattle.tas_talk.specs.Answers.{unknown_text}
+use Rattle.tas_language.specs.Commands.{NoByte}
+use Rattle.tas_language.specs.declared.request.Request.{Request}
+use Rattle.tas_language.specs.Requests.{IsHeard}
+use Rattle.tas_language.specs.Held.{HoldsLine}
+use Rattle.tas_language.specs.Answers.{unknown_text}
 use Rattle.tas_tool.specs.declared.talking.Progress.{Progress}
 use Rattle.tas_tool.specs.Turns.{OwnEdits, own_edits_of, BeginsWithOwn}
 use Rattle.tas_tool.specs.Scripts.{own_edits_at_start}

@@ -27,13 +27,13 @@ use Rattle.tas_desk.specs.Shots.{IsShotAt}
 use Rattle.tas_desk.specs.Zones.{ZoneContent, IsPlayed, IsShared}
 use Rattle.tas_engines.specs.declared.fault.RunFault.{RunFault}
 use Rattle.tas_engines.specs.declared.fault.RunFault.TheVariants.{Write, Size, Text, NoFrame as OffMovie, Range as OffRange, Halted as Stopped, Script, EditPlace, EditLong, NoPlace, NoEntry as NoDeskEntry, Foreign, Memory}
-use Rattle.tas_script.specs.declared.command.Command.{Command}
-use Rattle.tas_script.specs.declared.command.Command.TheVariants.{Shot}
-use Rattle.tas_script.specs.declared.reply.Reply.{Reply}
-use Rattle.tas_script.specs.declared.reply.Reply.TheVariants.{NoFrame, Drawn, Halted, OutOfMemory}
-use Rattle.tas_script.specs.Replies.{reply_text}
-use Rattle.tas_talk.specs.declared.request.Request.TheVariants.{Do, Picture, Movie, States}
-use Rattle.tas_talk.specs.Answers.{picture_text, movie_text, states_text}
+use Rattle.tas_language.specs.declared.command.Command.{Command}
+use Rattle.tas_language.specs.declared.command.Command.TheVariants.{Shot}
+use Rattle.tas_language.specs.declared.reply.Reply.{Reply}
+use Rattle.tas_language.specs.declared.reply.Reply.TheVariants.{NoFrame, Drawn, Halted, OutOfMemory}
+use Rattle.tas_language.specs.Replies.{reply_text}
+use Rattle.tas_language.specs.declared.request.Request.TheVariants.{Do, Picture, Movie, States}
+use Rattle.tas_language.specs.Answers.{picture_text, movie_text, states_text}
 use Rattle.tas_tool.specs.declared.answering.Answered.{Answered}
 use Rattle.tas_tool.specs.Turns.{Unforeseen, OwnEdits, own_edits_of, BeginsWithOwn, IsDeskFault, shot_reply, IsTurn}
 use Rattle.tas_tool.specs.Checking.{IsAnswer}

@@ -23,12 +23,12 @@ use Rattle.tas_desk.specs.Seats.{SeatContent, seat_of, entry_of, HasSeen, IsEdit
 use Rattle.tas_desk.proofs.HistoryLemmas.{movie_of-push}
 use Rattle.tas_engines.specs.declared.fault.RunFault.{RunFault}
 use Rattle.tas_engines.specs.declared.fault.RunFault.TheVariants.{Foreign}
-use Rattle.tas_script.specs.declared.command.Command.{Command}
-use Rattle.tas_script.specs.declared.command.Command.TheVariants.{Load, Insert, Replace, Delete}
-use Rattle.tas_script.specs.declared.image.Image.{Image}
-use Rattle.tas_script.specs.Commands.{image_bytes}
-use Rattle.tas_script.specs.declared.reply.Reply.{Reply}
-use Rattle.tas_script.specs.declared.reply.Reply.TheVariants.{Edited, Misplaced, TooLong, Full, OutOfMemory}
+use Rattle.tas_language.specs.declared.command.Command.{Command}
+use Rattle.tas_language.specs.declared.command.Command.TheVariants.{Load, Insert, Replace, Delete}
+use Rattle.tas_language.specs.declared.image.Image.{Image}
+use Rattle.tas_language.specs.Commands.{image_bytes}
+use Rattle.tas_language.specs.declared.reply.Reply.{Reply}
+use Rattle.tas_language.specs.declared.reply.Reply.TheVariants.{Edited, Misplaced, TooLong, Full, OutOfMemory}
 use Rattle.tas_tool.specs.declared.answering.Answered.{Answered}
 use Rattle.tas_tool.specs.Edits.{load_edit, insert_edit, replace_edit, delete_edit}
 use Rattle.tas_tool.specs.Turns.{Unforeseen, OwnEdits, own_edits_of, BeginsWithOwn, HasForeign, IsDeskFault, refused_reply, refusal_reply, edit_reply, own_edits_unless, IsEditTurn, IsTurn}

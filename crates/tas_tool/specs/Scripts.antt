@@ -9,9 +9,9 @@ use Rattle.tas_engines.specs.declared.fault.RunFault.TheVariants.{Script, NoPlac
 use Rattle.tas_engines.specs.declared.fault.ToolFault.{ToolFault}
 use Rattle.tas_engines.specs.Input.{IsReadWhole, StopsReading}
 use Rattle.tas_engines.specs.Output.{StopsWriting, EndsAfter}
-use Rattle.tas_script.specs.declared.command.Command.{Command}
-use Rattle.tas_script.specs.Commands.{Says, NoByte}
-use Rattle.tas_script.specs.Replies.{reply_text}
+use Rattle.tas_language.specs.declared.command.Command.{Command}
+use Rattle.tas_language.specs.Commands.{Says, NoByte}
+use Rattle.tas_language.specs.Replies.{reply_text}
 use Rattle.tas_tool.specs.Turns.{Unforeseen, OwnEdits, reply_to, own_edits_after}
 
 -- a line, the command that it is, and what no session of cartridge and inputs alone can tell of its reply

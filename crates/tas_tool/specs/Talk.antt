@@ -21,16 +21,16 @@ use Rattle.tas_engines.specs.Faults.{unread_fault, run_fault}
 use Rattle.tas_engines.specs.Input.{IsReadWhole, StopsReading, StopsReadingTwo}
 use Rattle.tas_engines.specs.Movies.{IsMovieOf, IsMovieFault}
 use Rattle.tas_engines.specs.Tracing.{IsImageFault}
-use Rattle.tas_script.specs.declared.command.Command.{Command}
-use Rattle.tas_script.specs.declared.command.Command.TheVariants.{Shot, Work}
-use Rattle.tas_script.specs.declared.reply.Reply.{Reply}
-use Rattle.tas_script.specs.declared.reply.Reply.TheVariants.{NoFrame, Drawn, Halted, Worked, OutOfMemory}
-use Rattle.tas_script.specs.Commands.{NoByte}
-use Rattle.tas_script.specs.Replies.{reply_text}
-use Rattle.tas_talk.specs.declared.request.Request.{Request}
-use Rattle.tas_talk.specs.declared.request.Request.TheVariants.{Do, Picture, Movie, States, Quit}
-use Rattle.tas_talk.specs.Requests.{IsHeard}
-use Rattle.tas_talk.specs.Answers.{unknown_text, picture_text, movie_text, states_text}
+use Rattle.tas_language.specs.declared.command.Command.{Command}
+use Rattle.tas_language.specs.declared.command.Command.TheVariants.{Shot, Work}
+use Rattle.tas_language.specs.declared.reply.Reply.{Reply}
+use Rattle.tas_language.specs.declared.reply.Reply.TheVariants.{NoFrame, Drawn, Halted, Worked, OutOfMemory}
+use Rattle.tas_language.specs.Commands.{NoByte}
+use Rattle.tas_language.specs.Replies.{reply_text}
+use Rattle.tas_language.specs.declared.request.Request.{Request}
+use Rattle.tas_language.specs.declared.request.Request.TheVariants.{Do, Picture, Movie, States, Quit}
+use Rattle.tas_language.specs.Requests.{IsHeard}
+use Rattle.tas_language.specs.Answers.{unknown_text, picture_text, movie_text, states_text}
 use Rattle.tas_tool.specs.Turns.{OwnEdits, halted_reply, IsTurn}
 use Rattle.tas_tool.specs.Scripts.{own_edits_at_start}
 use Rattle.tas_tool.specs.MovieScripts.{own_edits_of_movie}

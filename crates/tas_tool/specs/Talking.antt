@@ -12,15 +12,15 @@ use Rattle.tas_desk.specs.Zones.{IsShared}
 use Rattle.tas_engines.specs.declared.fault.RunFault.{RunFault}
 use Rattle.tas_engines.specs.declared.fault.RunFault.TheVariants.{Write, NoEntry, Foreign, Memory}
 use Rattle.tas_engines.specs.declared.fault.ToolFault.{ToolFault}
-use Rattle.tas_script.specs.declared.command.Command.{Command}
-use Rattle.tas_script.specs.declared.command.Command.TheVariants.{Shot, Work}
-use Rattle.tas_script.specs.declared.reply.Reply.{Reply}
-use Rattle.tas_script.specs.declared.reply.Reply.TheVariants.{NoFrame, Worked, OutOfMemory}
-use Rattle.tas_script.specs.Commands.{NoByte}
-use Rattle.tas_talk.specs.declared.request.Request.{Request}
-use Rattle.tas_talk.specs.declared.request.Request.TheVariants.{Quit}
-use Rattle.tas_talk.specs.Requests.{IsHeard}
-use Rattle.tas_talk.specs.Held.{HoldsLine}
+use Rattle.tas_language.specs.declared.command.Command.{Command}
+use Rattle.tas_language.specs.declared.command.Command.TheVariants.{Shot, Work}
+use Rattle.tas_language.specs.declared.reply.Reply.{Reply}
+use Rattle.tas_language.specs.declared.reply.Reply.TheVariants.{NoFrame, Worked, OutOfMemory}
+use Rattle.tas_language.specs.Commands.{NoByte}
+use Rattle.tas_language.specs.declared.request.Request.{Request}
+use Rattle.tas_language.specs.declared.request.Request.TheVariants.{Quit}
+use Rattle.tas_language.specs.Requests.{IsHeard}
+use Rattle.tas_language.specs.Held.{HoldsLine}
 use Rattle.tas_tool.specs.declared.talking.Progress.{Progress}
 use Rattle.tas_tool.specs.Turns.{own_edits_of, halted_reply, BeginsWithOwn, HasForeign}
 use Rattle.tas_tool.specs.Talk.{TalkState, Gains, ShotLeaves, Exchange, AreExchanges, IsAnswerTo, IsFirstAnswer, IsQuit, IsTalk, lines_of, answers_of, most_counted, talk_state_from}

@@ -14,11 +14,11 @@ use Rattle.tas_desk.specs.Answers.{answer_input, answer_shot}
 use Rattle.tas_desk.specs.Seats.{SeatContent}
 use Rattle.tas_engines.specs.declared.fault.RunFault.{RunFault}
 use Rattle.tas_engines.specs.declared.fault.RunFault.TheVariants.{Foreign, NoEntry}
-use Rattle.tas_script.specs.declared.command.Command.{Command}
-use Rattle.tas_script.specs.declared.command.Command.TheVariants.{Load, Insert, Replace, Delete, Length, InputAt, Shot, Work}
-use Rattle.tas_script.specs.declared.reply.Reply.{Reply}
-use Rattle.tas_script.specs.declared.reply.Reply.TheVariants.{Edited, Misplaced, TooLong, Full, Measured, Pressed, NoFrame, Drawn, Halted, Worked, OutOfMemory}
-use Rattle.tas_script.specs.Commands.{image_bytes}
+use Rattle.tas_language.specs.declared.command.Command.{Command}
+use Rattle.tas_language.specs.declared.command.Command.TheVariants.{Load, Insert, Replace, Delete, Length, InputAt, Shot, Work}
+use Rattle.tas_language.specs.declared.reply.Reply.{Reply}
+use Rattle.tas_language.specs.declared.reply.Reply.TheVariants.{Edited, Misplaced, TooLong, Full, Measured, Pressed, NoFrame, Drawn, Halted, Worked, OutOfMemory}
+use Rattle.tas_language.specs.Commands.{image_bytes}
 use Rattle.tas_tool.specs.Edits.{load_edit, insert_edit, replace_edit, delete_edit}
 
 -- what a session of cartridge and inputs alone can't tell: whether memory was refused, how many frames were played, and how

@@ -9,14 +9,14 @@ ghost use Rattle.tas_tool.specs.Turns.{own_edits_of, refused_reply, halted_reply
 ghost use Rattle.tas_tool.specs.Checking.{checked_end, looked, IsAnswer, IsEditAnswer};
 ghost use Rattle.tas_tool.specs.Talk.{ShotLeaves};
 ghost use Rattle.tas_tool.specs.Talking.{talk_state_of, IsCommandZone, IsWorkedZone, TellsError};
-ghost use Rattle.tas_script.specs.declared.command.Command.TheVariants.{Load as LoadLine, Insert as InsertLine, Replace as ReplaceLine, InputAt as InputLine, Shot as ShotLine, Work as WorkLine};
+ghost use Rattle.tas_language.specs.declared.command.Command.TheVariants.{Load as LoadLine, Insert as InsertLine, Replace as ReplaceLine, InputAt as InputLine, Shot as ShotLine, Work as WorkLine};
 
 use std::alloc::Allocator;
 use std::sync::Wait;
 use tas_desk::{CloseOnDrop, Desk, EditError, Gate, InputError, MAX_EDITS, Name, Seat, ShotError};
 use tas_engines::RunFault;
+use tas_language::{Command, Image, Reply};
 use tas_movie::{Edit, EditRefusal, Inputs, check_insertion, check_place};
-use tas_script::{Command, Image, Reply};
 use vcs_cpu::Halt;
 use vcs_machine::{Cart, Input};
 

@@ -1,8 +1,8 @@
 //! The engines of the program `tas`: a public function for each form of a command, over any readers and
 //! any writer.
 //!
-//! Those of one movie stand in `tas_engines` and those that change a movie's text in `tas_edit`, and this
-//! crate hands them out; those of a desk stand here.
+//! Those that need no desk stand in `tas_engines`, and this crate hands them out with what they share; those of a desk stand
+//! here.
 //!
 //! '(own)' marks a decision of this project, one that no manual makes.
 #![tactic(auto)]
@@ -22,7 +22,7 @@ pub use movie_scripting::movie_script_run;
 pub use scripting::script_run;
 pub use talk_runs::{cart_talk_run, movie_talk_run, talk_run};
 pub use tas_desk::MAX_WORKERS;
-pub use tas_edit::{diff_run, edit_run};
 pub use tas_engines::{
-    INPUT_LIMIT, ReadFault, RunFault, ToolFault, check_run, migrate_run, shot_run, trace_run,
+    INPUT_LIMIT, ReadFault, RunFault, ToolFault, check_run, diff_run, edit_run, migrate_run,
+    shot_run, trace_run, write_all,
 };

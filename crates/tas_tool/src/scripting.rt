@@ -13,7 +13,7 @@ use std::marker::Brand;
 use std::sync::Wait;
 use tas_desk::{CloseOnDrop, Desk, Name, Seat, Unopened};
 use tas_engines::{RunFault, ToolFault, read_input, write_all};
-use tas_script::{parse_line, reply_line, split_once};
+use tas_language::{parse_line, reply_line, split_once};
 
 /// Does what the lines ask for, as a seat that has made so many edits, and puts the replies into the empty text. `Foreign` comes
 /// only where the seat has seen more than its own edits.

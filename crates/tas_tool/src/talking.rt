@@ -2,9 +2,9 @@
 
 ghost use Rattle.std.specs.Prelude.{◌≡◌, ◌≤◌, ◌+◌, ◌++◌, ℕ, List, length, min, IfOk, IfErr, IfSome, OnOk, MatchResult};
 ghost use Rattle.std.specs.Io.KnownBytes.{Appends};
-ghost use Rattle.tas_script.specs.Commands.{NoByte};
-ghost use Rattle.tas_talk.specs.Answers.{unknown_text};
-ghost use Rattle.tas_talk.specs.Held.{HoldsLine};
+ghost use Rattle.tas_language.specs.Commands.{NoByte};
+ghost use Rattle.tas_language.specs.Answers.{unknown_text};
+ghost use Rattle.tas_language.specs.Held.{HoldsLine};
 ghost use Rattle.tas_tool.specs.Turns.{BeginsWithOwn};
 ghost use Rattle.tas_tool.specs.Talk.{last_answer, most_counted, IsTalk};
 ghost use Rattle.tas_tool.specs.Talking.{talk_state_of, CutsOff, IsLineTurn, IsPartTurn, StandsAt};
@@ -16,8 +16,7 @@ use std::io::{Read, Write};
 use std::sync::Wait;
 use tas_desk::{CloseOnDrop, Desk, Name, Seat};
 use tas_engines::{RunFault, ToolFault};
-use tas_script::split_once;
-use tas_talk::Line;
+use tas_language::{Line, split_once};
 
 /// How many bytes one read asks for.
 const CHUNK: usize = 4096;

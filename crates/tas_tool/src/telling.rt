@@ -6,8 +6,8 @@ ghost use Rattle.tas_green.specs.Grid.{stride};
 ghost use Rattle.tas_green.specs.Zone.{state_at};
 ghost use Rattle.tas_desk.specs.Seats.{HasSeen};
 ghost use Rattle.tas_engines.specs.declared.fault.RunFault.TheVariants.{Memory};
-ghost use Rattle.tas_script.specs.Replies.{reply_text};
-ghost use Rattle.tas_talk.specs.declared.request.Request.TheVariants.{Do as ScriptLine, Picture as PictureLine, Movie as MovieLine, States as StatesLine, Quit as QuitLine};
+ghost use Rattle.tas_language.specs.Replies.{reply_text};
+ghost use Rattle.tas_language.specs.declared.request.Request.TheVariants.{Do as ScriptLine, Picture as PictureLine, Movie as MovieLine, States as StatesLine, Quit as QuitLine};
 ghost use Rattle.tas_tool.specs.Turns.{BeginsWithOwn, IsDeskFault};
 ghost use Rattle.tas_tool.specs.Talk.{kept_frames};
 ghost use Rattle.tas_tool.specs.Talking.{IsBrought, IsTalkFault, IsToldTo};
@@ -18,8 +18,9 @@ use std::sync::Wait;
 use tas_desk::{CloseOnDrop, Desk, Name, Seat};
 use tas_engines::RunFault;
 use tas_green::stride;
-use tas_script::{Command, Reply, reply_line};
-use tas_talk::{Request, movie_answer, picture_answer, states_answer};
+use tas_language::{
+    Command, Reply, Request, movie_answer, picture_answer, reply_line, states_answer,
+};
 
 /// The answer to a request.
 #[derive(Drop)]

@@ -2,7 +2,7 @@
 
 use crate::checks::{check_same, check_that};
 use crate::commands::{Files, export};
-use crate::movies::{HALTING, PICTURE, PLAYFIELD, Program, RIGHT, image_of, text_of};
+use crate::movies::{HALTING, IDLE, PICTURE, PLAYFIELD, Program, RIGHT, image_of, text_of};
 use crate::programs::ONE_FRAME;
 use std::alloc::Global;
 use std::fmt::Debug;
@@ -143,7 +143,7 @@ const HALTED: ToolFault = ToolFault::Halted {
 fn halted_frames_are_not_written(rt: HostRuntime) {
     let alloc = rt.alloc();
     let image = image_of(&rt, alloc, HALTING.bytes);
-    let text = text_of(&rt, alloc, HALTING, 5, RIGHT);
+    let text = text_of(&rt, alloc, HALTING, 5, IDLE);
     let files = (image.as_slice(), text.as_bytes());
     let halted = (b"".as_slice(), Err(HALTED));
     for (from, to) in [(1, 5), (3, 4), (4, 5), (0, 5)] {

@@ -1,7 +1,9 @@
 //! What each command writes, and what it tells of faults.
 
 use crate::checks::{check_same, check_that};
-use crate::movies::{PLAYFIELD, image_of, joined, playfield_picture};
+use crate::movies::{
+    HALTING, IDLE, PLAYFIELD, Program, image_of, joined, playfield_picture, text_of,
+};
 use crate::programs::{ONE_FRAME, TWO_FRAMES, TwoFiles, check_run, check_unread, only_game, run};
 use std::alloc::Global;
 use std::io::ErrorKind;
@@ -213,6 +215,47 @@ fn faults_end_with_status_1(rt: HostRuntime) {
     let alloc = rt.alloc();
     check_over_playfield(&rt, alloc, FAULTS.as_slice());
     check_cases(&rt, alloc, b"1234567", SIZE_FAULT.as_slice());
+}
+
+/// `000=4C0C00 FFC=00F0`: goes on at the address 000C, which shows the left fire button.
+const AT_THE_BUTTON: Program = Program {
+    bytes: b"\x4c\x0c\x00",
+    digest: "30f49a6ef25379cf93c2f36ddbf9988035ff9a5bd05acdca15e753c18fecd9e5",
+};
+
+/// Programs of cartridges, how many frames of nothing pressed their movies have, the words, and the line of the halt that they meet.
+static HALTS: [(Program, usize, &[&str], &[u8]); 3] = [
+    (
+        HALTING,
+        5,
+        &["shot", "game.bin", "3"],
+        b"fault: halted at F00D by 02\n",
+    ),
+    (
+        HALTING,
+        5,
+        &["export", "game.bin", "1", "5", "2"],
+        b"fault: halted at F00D by 02\n",
+    ),
+    (
+        AT_THE_BUTTON,
+        1,
+        &["shot", "game.bin", "0"],
+        b"fault: halted at 000C by 80\n",
+    ),
+];
+
+/// The address has four digits and the opcode two.
+#[test]
+fn halts_end_with_status_1(rt: HostRuntime) {
+    let alloc = rt.alloc();
+    for row in HALTS.iter() {
+        let (program, frames, words, line) = *row;
+        let game = image_of(&rt, alloc, program.bytes);
+        let text = text_of(&rt, alloc, program, frames, IDLE);
+        let case: Case = (words, b"", text.as_bytes(), b"", line);
+        check_case(&rt, alloc, game.as_slice(), case);
+    }
 }
 
 /// The line goes out by one write, so that no other program's line comes into it.

@@ -69,7 +69,7 @@ pub fn run_words<T: Threads + Wait + Sync, W: Write, E: Write>(
     errors: &mut E,
 ) -> u8 {
     let mut input = input;
-    run_program(rt, alloc, words, &folder, &mut input, output, errors).code()
+    run_program(rt, alloc, alloc, words, &folder, &mut input, output, errors).code()
 }
 
 /// The same with words that are text.

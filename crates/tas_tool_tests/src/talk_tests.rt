@@ -393,7 +393,7 @@ fn a_failed_write_ends_the_conversation(rt: HostRuntime) {
     let whole = whole.as_slice();
     check_same(&rt, "end", end, Ok(()));
     for room in ROOMS.iter() {
-        for failure in [Failure::Error, Failure::Nothing] {
+        for failure in [Failure::Error, Failure::Interrupted, Failure::Nothing] {
             check_full(&rt, alloc, lines, whole, (*room, failure));
         }
     }

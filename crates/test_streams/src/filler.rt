@@ -12,6 +12,8 @@ pub struct Filler {
     pub left: usize,
     /// How many reads there were.
     pub reads: usize,
+    /// The kind of its read error; `Other` in a new reader.
+    pub kind: ErrorKind,
     byte: u8,
     fails_at: usize,
 }
@@ -25,6 +27,7 @@ impl Filler {
         Filler {
             left,
             reads: 0,
+            kind: ErrorKind::Other,
             byte,
             fails_at,
         }
@@ -35,7 +38,7 @@ impl Read for Filler {
     fn read(&mut self, buf: &mut [u8]) -> io::Result<usize> {
         self.reads = self.reads.saturating_add(1);
         if self.reads == self.fails_at {
-            return Err(Error::from(ErrorKind::Other));
+            return Err(Error::from(self.kind));
         }
         let n = buf.len().min(self.left);
         buf[..n].fill(self.byte);

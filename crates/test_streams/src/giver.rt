@@ -11,6 +11,8 @@ use std::io::{Error, ErrorKind, Read};
 pub struct Giver<'a> {
     /// How many reads there were.
     pub reads: usize,
+    /// The kind of its read error; `Other` in a new reader.
+    pub kind: ErrorKind,
     bytes: &'a [u8],
     given: usize,
     at_once: usize,
@@ -24,6 +26,7 @@ impl<'a> Giver<'a> {
     {
         Giver {
             reads: 0,
+            kind: ErrorKind::Other,
             bytes,
             given: 0,
             at_once,
@@ -36,7 +39,7 @@ impl<'a> Read for Giver<'a> {
     fn read(&mut self, buf: &mut [u8]) -> io::Result<usize> {
         self.reads = self.reads.saturating_add(1);
         if self.reads == self.fails_at {
-            return Err(Error::from(ErrorKind::Other));
+            return Err(Error::from(self.kind));
         }
         let rest = self.bytes.get(self.given..).unwrap_or(&[]);
         let n = buf.len().min(rest.len()).min(self.at_once);

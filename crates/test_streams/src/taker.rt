@@ -20,6 +20,8 @@ pub enum Room {
 pub enum Failure {
     /// It fails with `BrokenPipe`.
     Error,
+    /// It fails with `Interrupted`, after which std's own loops try again.
+    Interrupted,
     /// It takes no byte.
     Nothing,
 }
@@ -73,6 +75,7 @@ impl Write for Taker {
             self.failed = self.failed.saturating_add(1);
             return match self.failure {
                 Failure::Error => Err(Error::from(ErrorKind::BrokenPipe)),
+                Failure::Interrupted => Err(Error::from(ErrorKind::Interrupted)),
                 Failure::Nothing => Ok(0),
             };
         }

@@ -8,9 +8,9 @@ use std::process::Abort;
 use test_streams::{Failure, Room, Taker};
 use vcs_tia::{Picture, ppm};
 
-/// How a pixmap ends that is refused: how many bytes it says were written, how many came, and whether it tells the writer's
-/// fault.
-type Refused = Option<(usize, usize, bool)>;
+/// How a pixmap ends that is refused: how many bytes it says were written, how many came, how many writes failed, and whether
+/// it tells the writer's fault.
+type Refused = Option<(usize, usize, usize, bool)>;
 
 /// How a pixmap ends whose writer takes so many bytes a call, for so many calls, and then fails so.
 fn refused_pixmap(
@@ -22,11 +22,13 @@ fn refused_pixmap(
 ) -> Refused {
     let kind = match failure {
         Failure::Error => ErrorKind::BrokenPipe,
+        Failure::Interrupted => ErrorKind::Interrupted,
         Failure::Nothing => ErrorKind::WriteZero,
     };
     let mut some = Taker::new(alloc, a_call, Room::Writes(calls), failure);
     let fault = ppm(picture, &mut some).err()?;
-    Some((fault.written, some.taken.len(), fault.error.kind() == kind))
+    let is_told = fault.error.kind() == kind;
+    Some((fault.written, some.taken.len(), some.failed, is_told))
 }
 
 /// A writer that has taken a picture's pixmap, which is as long as its pixels.
@@ -38,13 +40,14 @@ fn whole_pixmap<R: Abort>(rt: &R, alloc: Global, picture: &Picture) -> Taker {
 }
 
 /// How many bytes a writer takes a call, for how many calls, how it fails then, and how the pixmap ends, where it is refused.
-/// Each call offers a row of pixels or more.
-static REFUSED: [(usize, usize, Failure, Refused); 5] = [
+/// Each call offers a row of pixels or more. A failed write is the last one, of whatever kind.
+static REFUSED: [(usize, usize, Failure, Refused); 6] = [
     (1000, 210, Failure::Error, None),
-    (20, 1, Failure::Error, Some((20, 20, true))),
-    (7, 3, Failure::Error, Some((21, 21, true))),
-    (7, 3, Failure::Nothing, Some((21, 21, true))),
-    (100, 0, Failure::Error, Some((0, 0, true))),
+    (20, 1, Failure::Error, Some((20, 20, 1, true))),
+    (7, 3, Failure::Error, Some((21, 21, 1, true))),
+    (7, 3, Failure::Interrupted, Some((21, 21, 1, true))),
+    (7, 3, Failure::Nothing, Some((21, 21, 1, true))),
+    (100, 0, Failure::Error, Some((0, 0, 1, true))),
 ];
 
 #[test]

@@ -1,6 +1,6 @@
 use Rattle.std.proofs.lemmas.Grind.{common_steps}
 use Rattle.std.proofs.Common.{subst, sym, ◌∙◌, Ok, arith}
-use Rattle.tas_engines.specs.Movies.{IsCheckAnswer}
+use Rattle.tas_engines.specs.Checking.{IsCheckAnswer}
 use Rattle.tas_engines.proofs.EngineEnds.{ends-written}
 use Rattle.tas_engines.proofs.checking.check_movie.Goals as goal
 

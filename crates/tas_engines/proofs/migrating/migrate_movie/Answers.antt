@@ -1,6 +1,6 @@
 use Rattle.std.proofs.lemmas.Grind.{common_steps}
 use Rattle.std.proofs.Common.{subst, sym, Ok, arith}
-use Rattle.tas_engines.specs.Movies.{IsMigrateAnswer}
+use Rattle.tas_engines.specs.Migrating.{IsMigrateAnswer}
 use Rattle.tas_engines.proofs.EngineEnds.{ends-written}
 use Rattle.tas_engines.proofs.migrating.migrate_movie.Goals as goal
 

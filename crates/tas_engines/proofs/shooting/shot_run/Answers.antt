@@ -1,7 +1,7 @@
 use Rattle.std.proofs.lemmas.Grind.{common_steps}
 use Rattle.std.proofs.Common.{ap, ◌∙◌, Err, arith}
 use Rattle.std.proofs.lemmas.Result.{err_from_is_err_and}
-use Rattle.tas_engines.specs.Movies.{IsShotAnswer}
+use Rattle.tas_engines.specs.Shooting.{IsShotAnswer}
 use Rattle.tas_engines.proofs.EngineEnds.{movie_ran}
 use Rattle.tas_engines.proofs.shooting.shot_run.Goals as goal
 

@@ -1,5 +1,4 @@
-use Rattle.std.specs.Global.{Global}
-use Rattle.tas_edit.specs.Runs.{IsDiffRun}
+use Rattle.tas_engines.specs.Diffing.{IsDiffRun}
 use Rattle.tas_program.proofs.ProgramLemmas.{over_two}
 use Rattle.tas_program.proofs.running.diff_files.Goals as goal
 
@@ -9,4 +8,4 @@ returns g c =
     let input' = g.R.Read.remaining c.diff_run.new.input in
     let output = g.W.Write.contents c.args.output.now in
     let output' = g.W.Write.contents c.diff_run.new.output in
-    over_two (λ file left file' left'. IsDiffRun Global file left file' left' input input' output output' c.diff_run.result) (g.F.Folder.bytes_of c.args.folder.now c.args.cart.now) (g.F.Folder.bytes_of c.args.folder.now c.args.old.now) (g.F.File.Read.remaining c.in_ok-file.file) (g.F.File.Read.remaining c.diff_run.new.cart) (g.F.File.Read.remaining c.in_ok-file.other) (g.F.File.Read.remaining c.diff_run.new.before) (record { input = input; output = output }) (record { input = input'; output = output' }) c.diff_run.result c.in_ok-file.ensures.files.0 c.in_ok-file.ensures.files.1 c.diff_run.ensures
+    over_two (λ file left file' left'. IsDiffRun _ file left file' left' input input' output output' c.diff_run.result) (g.F.Folder.bytes_of c.args.folder.now c.args.cart.now) (g.F.Folder.bytes_of c.args.folder.now c.args.old.now) (g.F.File.Read.remaining c.in_ok-file.file) (g.F.File.Read.remaining c.diff_run.new.cart) (g.F.File.Read.remaining c.in_ok-file.other) (g.F.File.Read.remaining c.diff_run.new.before) (record { input = input; output = output }) (record { input = input'; output = output' }) c.diff_run.result c.in_ok-file.ensures.files.0 c.in_ok-file.ensures.files.1 c.diff_run.ensures

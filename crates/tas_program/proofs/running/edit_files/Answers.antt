@@ -1,5 +1,4 @@
-use Rattle.std.specs.Global.{Global}
-use Rattle.tas_edit.specs.Runs.{IsEditRun}
+use Rattle.tas_engines.specs.Editing.{IsEditRun}
 use Rattle.tas_program.proofs.ProgramLemmas.{over_two}
 use Rattle.tas_program.proofs.running.edit_files.Goals as goal
 
@@ -9,4 +8,4 @@ returns g c =
     let input' = g.R.Read.remaining c.edit_run.new.input in
     let output = g.W.Write.contents c.args.output.now in
     let output' = g.W.Write.contents c.edit_run.new.output in
-    over_two (λ file left file' left'. IsEditRun Global file left file' left' input input' output output' c.edit_run.result) (g.F.Folder.bytes_of c.args.folder.now c.args.cart.now) (g.F.Folder.bytes_of c.args.folder.now c.args.script.now) (g.F.File.Read.remaining c.in_ok-file.file) (g.F.File.Read.remaining c.edit_run.new.cart) (g.F.File.Read.remaining c.in_ok-file.other) (g.F.File.Read.remaining c.edit_run.new.script) (record { input = input; output = output }) (record { input = input'; output = output' }) c.edit_run.result c.in_ok-file.ensures.files.0 c.in_ok-file.ensures.files.1 c.edit_run.ensures
+    over_two (λ file left file' left'. IsEditRun _ file left file' left' input input' output output' c.edit_run.result) (g.F.Folder.bytes_of c.args.folder.now c.args.cart.now) (g.F.Folder.bytes_of c.args.folder.now c.args.script.now) (g.F.File.Read.remaining c.in_ok-file.file) (g.F.File.Read.remaining c.edit_run.new.cart) (g.F.File.Read.remaining c.in_ok-file.other) (g.F.File.Read.remaining c.edit_run.new.script) (record { input = input; output = output }) (record { input = input'; output = output' }) c.edit_run.result c.in_ok-file.ensures.files.0 c.in_ok-file.ensures.files.1 c.edit_run.ensures

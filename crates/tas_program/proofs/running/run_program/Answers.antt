@@ -1,5 +1,5 @@
 use Rattle.std.proofs.Common.{map, string_bytes, subst}
-use Rattle.tas_program.specs.Program.{IsRequest}
+use Rattle.tas_words.specs.Requests.{IsRequest}
 use Rattle.tas_program.proofs.ProgramLemmas.{asked_by, no_task_asked_by}
 use Rattle.tas_program.proofs.running.run_program.Goals as goal
 

@@ -1,5 +1,7 @@
 use Rattle.std.proofs.Common.{arith}
-use Rattle.tas_engines.specs.Movies.{IsMovieRun, IsCheckAnswer, IsMigrateAnswer}
+use Rattle.tas_engines.specs.Movies.{IsMovieRun}
+use Rattle.tas_engines.specs.Checking.{IsCheckAnswer}
+use Rattle.tas_engines.specs.Migrating.{IsMigrateAnswer}
 use Rattle.tas_program.proofs.ProgramLemmas.{over_one}
 use Rattle.tas_program.proofs.running.run_task.Goals as goal
 

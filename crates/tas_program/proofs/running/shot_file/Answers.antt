@@ -1,4 +1,5 @@
-use Rattle.tas_engines.specs.Movies.{IsMovieRun, IsShotAnswer}
+use Rattle.tas_engines.specs.Movies.{IsMovieRun}
+use Rattle.tas_engines.specs.Shooting.{IsShotAnswer}
 use Rattle.tas_program.proofs.ProgramLemmas.{over_one}
 use Rattle.tas_program.proofs.running.shot_file.Goals as goal
 

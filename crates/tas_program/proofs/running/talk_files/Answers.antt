@@ -1,4 +1,3 @@
-use Rattle.std.specs.Global.{Global}
 use Rattle.tas_tool.specs.Talk.{IsMovieTalk}
 use Rattle.tas_program.proofs.ProgramLemmas.{over_two}
 use Rattle.tas_program.proofs.running.talk_files.Goals as goal
@@ -9,4 +8,4 @@ returns g c =
     let input' = g.R.Read.remaining c.movie_talk_run.new.input in
     let output = g.W.Write.contents c.args.output.now in
     let output' = g.W.Write.contents c.movie_talk_run.new.output in
-    over_two (λ file left file' left'. IsMovieTalk Global file left file' left' input input' output output' c.movie_talk_run.result) (g.F.Folder.bytes_of c.args.folder.now c.args.cart.now) (g.F.Folder.bytes_of c.args.folder.now c.args.movie.now) (g.F.File.Read.remaining c.in_ok-file.file) (g.F.File.Read.remaining c.movie_talk_run.new.cart) (g.F.File.Read.remaining c.in_ok-file.other) (g.F.File.Read.remaining c.movie_talk_run.new.movie) (record { input = input; output = output }) (record { input = input'; output = output' }) c.movie_talk_run.result c.in_ok-file.ensures.files.0 c.in_ok-file.ensures.files.1 c.movie_talk_run.ensures
+    over_two (λ file left file' left'. IsMovieTalk _ file left file' left' input input' output output' c.movie_talk_run.result) (g.F.Folder.bytes_of c.args.folder.now c.args.cart.now) (g.F.Folder.bytes_of c.args.folder.now c.args.movie.now) (g.F.File.Read.remaining c.in_ok-file.file) (g.F.File.Read.remaining c.movie_talk_run.new.cart) (g.F.File.Read.remaining c.in_ok-file.other) (g.F.File.Read.remaining c.movie_talk_run.new.movie) (record { input = input; output = output }) (record { input = input'; output = output' }) c.movie_talk_run.result c.in_ok-file.ensures.files.0 c.in_ok-file.ensures.files.1 c.movie_talk_run.ensures

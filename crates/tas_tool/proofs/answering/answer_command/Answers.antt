@@ -1,8 +1,8 @@
 use Rattle.std.proofs.Common.{Ok}
-use Rattle.tas_script.specs.declared.reply.Reply.TheVariants.{Measured}
+use Rattle.tas_language.specs.declared.reply.Reply.TheVariants.{Measured}
 use Rattle.tas_tool.proofs.TurnLemmas.{delete_answer}
 use Rattle.tas_tool.proofs.LookLemmas.{answer_is, length_answer, looked_as, look_answer}
-use Rattle.tas_script.specs.declared.command.Command.TheVariants.{Load, Insert, Replace, Delete, Length, InputAt, Shot, Work}
+use Rattle.tas_language.specs.declared.command.Command.TheVariants.{Load, Insert, Replace, Delete, Length, InputAt, Shot, Work}
 use Rattle.tas_tool.proofs.GreenLemmas.{zone_as, zone_same, zone_looked, zone_worked}
 use Rattle.tas_tool.specs.Checking.{looked}
 use Rattle.tas_tool.proofs.answering.answer_command.Goals as goal

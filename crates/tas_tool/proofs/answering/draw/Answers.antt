@@ -1,6 +1,6 @@
 use Rattle.std.proofs.Common.{subst}
 use Rattle.std.specs.Prelude.{MatchResult}
-use Rattle.tas_script.specs.declared.command.Command.TheVariants.{Shot}
+use Rattle.tas_language.specs.declared.command.Command.TheVariants.{Shot}
 use Rattle.tas_tool.specs.Turns.{OwnEdits, own_edits_of, IsDeskFault, IsTurn}
 use Rattle.tas_tool.proofs.TurnLemmas.{seen_more, own_edits_stay, own_stays}
 use Rattle.tas_tool.proofs.LookLemmas.{shot_turn}

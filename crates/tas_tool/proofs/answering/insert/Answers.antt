@@ -1,6 +1,6 @@
 use Rattle.std.proofs.Common.{ap, sym, ◌∙◌}
 use Rattle.tas_tool.specs.Turns.{refused_reply}
-use Rattle.tas_script.specs.declared.command.Command.TheVariants.{Insert as InsertLine}
+use Rattle.tas_language.specs.declared.command.Command.TheVariants.{Insert as InsertLine}
 use Rattle.tas_tool.proofs.TurnLemmas.{own_stays, after_look, refused_by, insert_early, insert_late, insert_answer}
 use Rattle.tas_tool.proofs.answering.insert.Goals as goal
 

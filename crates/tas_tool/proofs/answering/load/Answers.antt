@@ -1,5 +1,5 @@
 use Rattle.std.proofs.Common.{sym, ◌∙◌}
-use Rattle.tas_script.specs.declared.command.Command.TheVariants.{Load as LoadLine}
+use Rattle.tas_language.specs.declared.command.Command.TheVariants.{Load as LoadLine}
 use Rattle.tas_tool.proofs.TurnLemmas.{own_stays, after_look, load_early, load_late, load_answer}
 use Rattle.tas_tool.proofs.answering.load.Goals as goal
 

@@ -1,7 +1,7 @@
 use Rattle.tas_tool.proofs.TurnLemmas.{seen_self}
 use Rattle.std.proofs.Common.{◌∙◌, refl}
 use Rattle.tas_desk.specs.declared.replies.ShotError.TheVariants.{NoFrame as NoShotFrame, Halted as ShotHalted}
-use Rattle.tas_script.specs.declared.reply.Reply.TheVariants.{NoFrame}
+use Rattle.tas_language.specs.declared.reply.Reply.TheVariants.{NoFrame}
 use Rattle.tas_tool.specs.Talking.{TellsError}
 use Rattle.tas_tool.proofs.LookLemmas.{shot_error_is, no_frame_turn, halted_turn, shot_without_memory}
 use Rattle.tas_tool.proofs.GreenLemmas.{error_as, checked_fact}

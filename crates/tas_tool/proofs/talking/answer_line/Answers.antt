@@ -1,8 +1,8 @@
 use Rattle.std.proofs.Common.{Some, refl, subst}
 use Rattle.std.proofs.lemmas.Result.{err_from_is_err_and}
 use Rattle.std.proofs.KnownBytes.{Appends-nil}
-use Rattle.tas_talk.specs.declared.request.Request.{Request}
-use Rattle.tas_talk.specs.Requests.{IsHeard}
+use Rattle.tas_language.specs.declared.request.Request.{Request}
+use Rattle.tas_language.specs.Requests.{IsHeard}
 use Rattle.tas_tool.proofs.TalkLemmas.{unknown_line, unknown_cut, known_line, known_cut, line_fault}
 use Rattle.tas_tool.proofs.talking.answer_line.Goals as goal
 

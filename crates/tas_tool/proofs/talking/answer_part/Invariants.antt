@@ -1,6 +1,6 @@
 use Rattle.std.proofs.Common.{◌≡◌, ℕ, ◌++◌, List, length}
-use Rattle.tas_script.specs.Commands.{NoByte}
-use Rattle.tas_talk.specs.Held.{HoldsLine}
+use Rattle.tas_language.specs.Commands.{NoByte}
+use Rattle.tas_language.specs.Held.{HoldsLine}
 use Rattle.tas_tool.specs.Talk.{Exchange, lines_of}
 use Rattle.tas_tool.specs.Talking.{HasAnswered, StandsAt}
 use Rattle.tas_tool.proofs.talking.answer_part.Given as goal

@@ -2,7 +2,7 @@ use Rattle.std.proofs.Common.{ap, ◌∙◌}
 use Rattle.std.proofs.lemmas.Result.{err_from_is_err_and}
 use Rattle.std.proofs.lemmas.Result.{MatchResult-weaker}
 use Rattle.tas_movie.specs.Text.{text2}
-use Rattle.tas_talk.specs.Answers.{movie_text}
+use Rattle.tas_language.specs.Answers.{movie_text}
 use Rattle.tas_tool.proofs.TellingLemmas.{talk_fault, memory_fault, unbrought, brought_still, told_movie, told_no_movie}
 use Rattle.tas_tool.proofs.telling.tell_movie.Goals as goal
 

@@ -1,7 +1,7 @@
 use Rattle.std.proofs.Common.{ap, ◌∙◌}
 use Rattle.std.proofs.lemmas.Result.{err_from_is_err_and}
 use Rattle.std.proofs.lemmas.Result.{MatchResult-weaker}
-use Rattle.tas_talk.specs.Answers.{states_text}
+use Rattle.tas_language.specs.Answers.{states_text}
 use Rattle.tas_tool.proofs.TellingLemmas.{talk_fault, memory_fault, unbrought, brought_still, told_states, told_no_states}
 use Rattle.tas_tool.proofs.telling.tell_states.Goals as goal
 

@@ -1,5 +1,0 @@
-use Rattle.std.proofs.Common.{append_assoc}
-use Rattle.tas_edit.proofs.change.frames_line.Goals as goal
-
-pub returns : goal.returns
-returns g c = rw (c.push.ensures.items, c.in_ok-push.was, c.extend_from_slice.ensures.items, c.in_ok-extend_from_slice.was, c.print_frame.ensures, c.into_bytes-bytes.ensures.value, c.in_ok-format.ensures.ok) (simp append_assoc)

@@ -1,4 +1,0 @@
-pub mod Changes
-pub mod Differences
-pub mod Scripts
-pub mod Runs

@@ -1,0 +1,25 @@
+-- What `tas diff` answers (own).
+use Rattle.std.specs.Prelude.{◌≡◌, ℕ, List, ◌⊎◌, Option, Result, Ok, Err}
+use Rattle.std.specs.List.{flat_map}
+use Rattle.tas_movie.specs.Content.{MovieContent}
+use Rattle.tas_engines.specs.declared.fault.RunFault.{RunFault}
+use Rattle.tas_engines.specs.declared.fault.ToolFault.{ToolFault}
+use Rattle.tas_engines.specs.Movies.{IsMovieOf, IsMovieFault}
+use Rattle.tas_engines.specs.Output.{Ends}
+use Rattle.tas_engines.specs.ThreeInputs.{EndsAfterThree}
+use Rattle.tas_engines.specs.declared.change.Change.{Change}
+use Rattle.tas_engines.specs.Differences.{IsDifference}
+use Rattle.tas_engines.specs.Scripts.{change_line}
+
+-- the script of the changes that make the new movie of the old one; or why there is none: the old text's fault comes first.
+-- A is the allocator, on which no answer depends
+abbrev pub IsDiffAnswer : Type 0 → List ℕ → List ℕ → List ℕ → Result (List ℕ) RunFault → Type 0
+IsDiffAnswer A image before after (Ok out) =
+    (old new : MovieContent) × (changes : List Change) × IsMovieOf image before old × IsMovieOf image after new × IsDifference A old.inputs new.inputs changes × (out ≡ flat_map change_line changes)
+IsDiffAnswer A image before after (Err e) = IsMovieFault image before e ⊎ ((old : MovieContent) × IsMovieOf image before old × IsMovieFault image after e)
+
+-- `tas diff`, from what its readers (a cartridge, the old text and the new one) have and the writer holds before to what they
+-- have and hold afterwards
+abbrev pub IsDiffRun : Type 0 → (cart cart' before before' input input' output output' : Option (List ℕ)) → Result (Unit {0}) ToolFault → Type 0
+IsDiffRun A cart cart' before before' input input' output output' result =
+    EndsAfterThree (λ image old new end. Ends (IsDiffAnswer A image old new) output output' end) cart cart' before before' input input' output output' result

@@ -1,0 +1,5 @@
+pub mod WordLemmas
+pub mod PartLemmas
+pub mod OneCommand
+pub mod CommandLemmas
+pub mod RequestLemmas

@@ -1,0 +1,10 @@
+use Rattle.std.proofs.Common.{◌≡◌, ◌*◌, length, take}
+use Rattle.tas_language.specs.Parts.{hex_text, IsBytes}
+use Rattle.tas_language.proofs.loading.write_bytes.Given as goal
+
+abbrev pub invariant-loop-k : goal.invariant-loop-k
+invariant-loop-k l = record {
+  len : length l.room ≡ length l.fn.room;
+  bytes : IsBytes l.room;
+  done : take (2 * l.k) l.digits ≡ hex_text (take l.k l.room);
+}

@@ -1,0 +1,33 @@
+use Rattle.std.proofs.Common.{List, ℕ, ◌++◌, ◌∷◌, refl, ap, sym, ◌∙◌, arith, subst}
+use Rattle.std.specs.Prelude.{decimal}
+use Rattle.tas_movie.specs.Text.{frame_text}
+use Rattle.tas_language.specs.Commands.{NoByte}
+use Rattle.tas_language.proofs.WordLemmas.{no_parts, same_front, decimal_no_space, none_some}
+use Rattle.tas_language.proofs.words.count_and_frame.Goals as goal
+
+pub returns-in_err-first-clause-none : goal.returns-in_err-first-clause-none
+returns-in_err-first-clause-none c =
+    rw c.from_residual.ensures
+    (λ count input le is. no_parts 32 (decimal count) (frame_text input) (subst (NoByte 32) is c.in_err-first.ensures.none))
+
+pub returns-in_err-count-clause-none : goal.returns-in_err-count-clause-none
+returns-in_err-count-clause-none c =
+    rw c.from_residual-in_err-count.ensures
+    (λ count input le is.
+    let split = same_front 32 c.in_ok-first.first.now (decimal count) c.in_ok-first.second.now (frame_text input) c.in_ok-first.ensures.some.1 (decimal_no_space count (omega arith)) (sym c.in_ok-first.ensures.some.0 ∙ is) in
+    c.in_err-count.ensures.none count le split.0)
+
+pub returns-in_err-input-clause-none : goal.returns-in_err-input-clause-none
+returns-in_err-input-clause-none c =
+    rw c.from_residual-in_err-input.ensures
+    (λ count input le is.
+    let split = same_front 32 c.in_ok-first.first.now (decimal count) c.in_ok-first.second.now (frame_text input) c.in_ok-first.ensures.some.1 (decimal_no_space count (omega arith)) (sym c.in_ok-first.ensures.some.0 ∙ is) in
+    none_some _ input refl (c.in_err-input.ensures.all input split.1))
+
+pub returns-clause-some : goal.returns-clause-some
+returns-clause-some c = (
+  c.in_ok-first.ensures.some.0
+      ∙ ap (λ (r : List ℕ). r ++ 32 ∷ c.in_ok-first.second.now) c.in_ok-count.ensures.some.0
+      ∙ ap (λ (r : List ℕ). decimal c.in_ok-count.count ++ 32 ∷ r) c.in_ok-input.ensures.some,
+  c.in_ok-count.ensures.some.1,
+)

@@ -1,0 +1,52 @@
+-- The lines of a script (own).
+use Rattle.std.specs.Prelude.{◌≡◌, ℕ, ◌≤◌, List, [], ◌∷◌, ◌++◌, codes, decimal}
+use Rattle.tas_movie.specs.Text.{frame_text}
+use Rattle.vcs_machine.specs.declared.input.Input.{Input}
+use Rattle.tas_language.specs.declared.command.Command.{Command}
+use Rattle.tas_language.specs.declared.command.Command.TheVariants.{Load, Insert, Replace, Delete, Length, InputAt, Shot, Work}
+use Rattle.tas_language.specs.declared.image.Image.{Image}
+use Rattle.tas_language.specs.declared.image.Image.TheVariants.{Large, Small}
+use Rattle.tas_language.specs.Parts.{IsImageOf}
+
+-- a byte doesn't stand in the bytes
+abbrev pub NoByte : ℕ → List ℕ → Type 0
+NoByte c [] = Unit {0}
+NoByte c (b ∷ bytes) = (b ≡ c → ⊥) × NoByte c bytes
+
+-- the greatest number: seven digits
+abbrev pub most_number : ℕ
+most_number = 9999999
+
+-- a number of one to seven digits
+abbrev pub IsNumber : ℕ → Type 0
+IsNumber n = n ≤ most_number
+
+-- two numbers with one space between
+abbrev pub pair_text : ℕ → ℕ → List ℕ
+pair_text at count = decimal at ++ 32 ∷ decimal count
+
+-- a place, a count and a frame, with one space between
+abbrev pub frames_text : ℕ → ℕ → Input → List ℕ
+frames_text at count input = decimal at ++ 32 ∷ (decimal count ++ 32 ∷ frame_text input)
+
+-- an image's bytes
+abbrev pub image_bytes : Image → List ℕ
+image_bytes (Large bytes) = bytes
+image_bytes (Small bytes) = bytes
+
+-- the line loads this image: by the parts behind `load`, or behind `load2` where the cartridge is small
+abbrev pub Loads : List ℕ → Image → Type 0
+Loads said (Large image) = (parts : List ℕ) × (said ≡ codes "load" ++ parts) × IsImageOf 4096 parts image
+Loads said (Small image) = (parts : List ℕ) × (said ≡ codes "load2" ++ parts) × IsImageOf 2048 parts image
+
+-- the line, without its newline, is this command: its words are parted by one space, a number is decimal
+-- without leading zeros
+abbrev pub Says : List ℕ → Command → Type 0
+Says said (Load image) = Loads said image
+Says said (Insert at count input) = (said ≡ codes "insert " ++ frames_text at count input) × IsNumber at × IsNumber count
+Says said (Replace at count input) = (said ≡ codes "replace " ++ frames_text at count input) × IsNumber at × IsNumber count
+Says said (Delete at count) = (said ≡ codes "delete " ++ pair_text at count) × IsNumber at × IsNumber count
+Says said Length = said ≡ codes "len"
+Says said (InputAt frame) = (said ≡ codes "input " ++ decimal frame) × IsNumber frame
+Says said (Shot frame) = (said ≡ codes "shot " ++ decimal frame) × IsNumber frame
+Says said (Work frame) = (said ≡ codes "work " ++ decimal frame) × IsNumber frame

@@ -1,0 +1,6 @@
+pub mod Commands
+pub mod Parts
+pub mod Replies
+pub mod Requests
+pub mod Held
+pub mod Answers

@@ -1,0 +1,28 @@
+//! The image that a line loads.
+
+ghost use Rattle.std.specs.Prelude.{◌≡◌};
+
+use vcs_machine::{CART_SIZE, SMALL_CART_SIZE};
+
+/// A cartridge's bytes, as a line of a script writes them (own).
+#[derive(Clone, Copy, Debug, PartialEq, Eq)]
+pub enum Image {
+    /// Those of a cartridge that is no small one.
+    Large([u8; CART_SIZE]),
+    /// Those of a small cartridge.
+    Small([u8; SMALL_CART_SIZE]),
+}
+
+impl Image {
+    ghost use Rattle.tas_language.specs.Commands.{image_bytes};
+
+    /// The bytes, as many as the cartridge has.
+    pub fn bytes(&self) -> &[u8]
+        ensures { result.now ≡ image_bytes self.now }
+    {
+        match self {
+            Image::Large(bytes) => bytes,
+            Image::Small(bytes) => bytes,
+        }
+    }
+}

@@ -1,0 +1,31 @@
+//! The language of scripts and conversations: lines that edit a movie and look at it, the replies to them, and how a line is
+//! held while it comes in pieces.
+//!
+//! A script has the lines of [`Command`]; a conversation has those and some more ([`Request`]). A script's replies are those of
+//! [`Reply`]; the other lines of a conversation have answers of their own.
+//!
+//! '(own)' marks a decision of this project, one that no manual makes.
+#![tactic(auto)]
+
+mod answers;
+mod command;
+mod image;
+mod laws;
+mod line;
+mod loading;
+mod parsing;
+mod printing;
+mod reply;
+mod request;
+mod words;
+
+pub use answers::{movie_answer, picture_answer, states_answer};
+pub use command::Command;
+pub use image::Image;
+pub use laws::{one_command_per_line, one_request_per_line};
+pub use line::{Line, MAX_LINE};
+pub use parsing::{parse_line, parse_request};
+pub use printing::reply_line;
+pub use reply::Reply;
+pub use request::Request;
+pub use words::{MAX_NUMBER, number, split_once, strip};

@@ -1,0 +1,76 @@
+//! A line that comes in pieces.
+
+ghost use Rattle.std.specs.Prelude.{◌≡◌, ◌<◌, ◌++◌, ℕ, [], List, length, true, false, IfOk, OnOk, OnErr};
+ghost use Rattle.tas_language.specs.Requests.{IsHeard};
+ghost use Rattle.tas_language.specs.Held.{HoldsLine};
+
+use crate::{Request, parse_request};
+use std::alloc::{AllocError, Allocator, Global};
+
+/// The longest line that is understood, in bytes without its newline (own).
+pub const MAX_LINE: usize = 16_384;
+
+/// The bytes of a line so far (own). Of one that is longer than [`MAX_LINE`] only this is known, so it never takes more memory
+/// (no clause says so).
+#[derive(Drop)]
+pub struct Line<A: Allocator = Global> {
+    /// The bytes so far; none of a line that is too long.
+    pub bytes: Vec<u8, A>,
+    /// Whether the line is too long.
+    pub long: bool,
+}
+
+impl<A: Allocator> Line<A> {
+    /// No bytes yet, and room for the longest line that is understood. `AllocError` where that room is refused.
+    pub fn new(alloc: A) -> Result<Line<A>, AllocError>
+        ensures { IfOk result (λ line. HoldsLine [] line.bytes.items line.long) }
+    {
+        let bytes = Vec::with_capacity(alloc, MAX_LINE)?;
+        Ok(Line { bytes, long: false })
+    }
+
+    /// Takes the line's next bytes. After `AllocError` the line is as before.
+    pub fn add(&mut self, more: &[u8]) -> Result<(), AllocError>
+        ensures added { OnOk result ((said : List ℕ) → HoldsLine said self.old.bytes.items self.old.long → HoldsLine (said ++ more.now) self.new.bytes.items self.new.long) }
+        ensures err { OnErr result ((self.new.bytes.items ≡ self.old.bytes.items) × (self.new.long ≡ self.old.long)) }
+    {
+        if self.long {
+            return Ok(());
+        }
+        if self.bytes.len().saturating_add(more.len()) > MAX_LINE {
+            self.bytes.clear();
+            self.long = true;
+            return Ok(());
+        }
+        self.bytes.extend_from_slice(more)
+    }
+
+    /// Begins the next line.
+    pub fn clear(&mut self)
+        ensures { HoldsLine [] self.new.bytes.items self.new.long }
+    {
+        self.bytes.clear();
+        self.long = false;
+    }
+
+    /// Whether there are no bytes.
+    pub fn is_empty(&self) -> bool
+        ensures none { result ≡ true → (said : List ℕ) → HoldsLine said self.now.bytes.items self.now.long → said ≡ [] }
+        ensures some { result ≡ false → (said : List ℕ) → HoldsLine said self.now.bytes.items self.now.long → 0 < length said }
+    {
+        if self.long {
+            return false;
+        }
+        self.bytes.is_empty()
+    }
+
+    /// What the line asks for; nothing where it isn't understood or is too long.
+    pub fn request(&self) -> Option<Request>
+        ensures { (said : List ℕ) → HoldsLine said self.now.bytes.items self.now.long → IsHeard said result }
+    {
+        if self.long {
+            return None;
+        }
+        parse_request(self.bytes.as_slice())
+    }
+}

@@ -1,0 +1,79 @@
+//! The words of a line.
+
+ghost use Rattle.std.specs.Prelude.{◌≡◌, ◌≢◌, ◌++◌, ◌∷◌, ℕ, List, decimal, IfSome, IfNone};
+ghost use Rattle.vcs_machine.specs.declared.input.Input.{Input as Pressed};
+ghost use Rattle.tas_movie.specs.Text.{frame_text};
+ghost use Rattle.tas_language.specs.Commands.{NoByte, IsNumber, pair_text, frames_text};
+
+use tas_movie::{read_decimal, read_frame};
+use vcs_machine::Input;
+
+/// The greatest number of a script: seven digits (own).
+pub const MAX_NUMBER: usize = 9_999_999;
+
+/// The bytes of `line` behind `front`; nothing where the line doesn't begin with it (own).
+pub fn strip<'a>(line: &'a [u8], front: &[u8]) -> Option<&'a [u8]>
+    ensures some { IfSome result (λ rest. line.entry.now ≡ front.now ++ rest.now) }
+    ensures none { IfNone result ((rest : List ℕ) → line.entry.now ≢ front.now ++ rest) }
+{
+    line.strip_prefix(front)
+}
+
+/// The number of one to seven digits without leading zeros that these bytes write; nothing where they
+/// write none (own).
+pub fn number(word: &[u8]) -> Option<usize>
+    ensures some { IfSome result (λ n. (word.now ≡ decimal n) × IsNumber n) }
+    ensures none { IfNone result ((n : ℕ) → IsNumber n → word.now ≢ decimal n) }
+{
+    let n = read_decimal(word)?;
+    if n > MAX_NUMBER {
+        return None;
+    }
+    Some(n)
+}
+
+/// The bytes before the first such byte and those after it; nothing where there is no such byte.
+pub fn split_once(bytes: &[u8], mark: u8) -> Option<(&[u8], &[u8])>
+    ensures some { IfSome result (λ parts. (bytes.now ≡ parts.0.now ++ mark ∷ parts.1.now) × NoByte mark parts.0.now) }
+    ensures none { IfNone result (NoByte mark bytes.now) }
+{
+    for at in 0..bytes.len() {
+        if bytes[at] == mark {
+            return Some((&bytes[..at], &bytes[at + 1..]));
+        }
+    }
+    None
+}
+
+/// Two numbers with one space between.
+pub fn pair(bytes: &[u8]) -> Option<(usize, usize)>
+    ensures some { IfSome result (λ found. (bytes.now ≡ pair_text found.0 found.1) × IsNumber found.0 × IsNumber found.1) }
+    ensures none { IfNone result ((a b : ℕ) → IsNumber a → IsNumber b → bytes.now ≢ pair_text a b) }
+{
+    let (first, second) = split_once(bytes, b' ')?;
+    let a = number(first)?;
+    let b = number(second)?;
+    Some((a, b))
+}
+
+/// A number and a frame with one space between.
+fn count_and_frame(bytes: &[u8]) -> Option<(usize, Input)>
+    ensures some { IfSome result (λ found. (bytes.now ≡ decimal found.0 ++ 32 ∷ frame_text found.1) × IsNumber found.0) }
+    ensures none { IfNone result ((count : ℕ) (input : Pressed) → IsNumber count → bytes.now ≢ decimal count ++ 32 ∷ frame_text input) }
+{
+    let (first, second) = split_once(bytes, b' ')?;
+    let count = number(first)?;
+    let input = read_frame(second)?;
+    Some((count, input))
+}
+
+/// A place, a count and a frame with one space between.
+pub fn frames(bytes: &[u8]) -> Option<(usize, usize, Input)>
+    ensures some { IfSome result (λ found. (bytes.now ≡ frames_text found.0 found.1 found.2) × IsNumber found.0 × IsNumber found.1) }
+    ensures none { IfNone result ((at count : ℕ) (input : Pressed) → IsNumber at → IsNumber count → bytes.now ≢ frames_text at count input) }
+{
+    let (first, second) = split_once(bytes, b' ')?;
+    let at = number(first)?;
+    let (count, input) = count_and_frame(second)?;
+    Some((at, count, input))
+}

@@ -1,6 +1,0 @@
-use Rattle.std.proofs.Common.{arith}
-use Rattle.std.proofs.lemmas.Grind.{common_steps}
-use Rattle.tas_program.proofs.command_line.number.Goals as goal
-
-pub returns-clause-local : goal.returns-clause-local
-returns-clause-local c = grind (arith, common_steps)

@@ -1,4 +1,0 @@
-use Rattle.tas_program.proofs.request.read_request.Goals as goal
-
-pub returns-in-Ok : goal.returns-in-Ok
-returns-in-Ok c = (c.in-Ok.ensures.named, c.in-Ok.ensures.asked, c.in-Ok.ensures.range)

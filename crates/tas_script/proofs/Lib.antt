@@ -1,4 +1,0 @@
-pub mod WordLemmas
-pub mod PartLemmas
-pub mod OneCommand
-pub mod CommandLemmas

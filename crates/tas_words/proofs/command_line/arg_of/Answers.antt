@@ -1,0 +1,13 @@
+use Rattle.tas_words.proofs.command_line.arg_of.Goals as goal
+
+pub returns-in-File-clause-rule : goal.returns-in-File-clause-rule
+returns-in-File-clause-rule c = rw c.in-File.is c.file.ensures.rule
+
+pub returns-in-OptionalFile-clause-rule : goal.returns-in-OptionalFile-clause-rule
+returns-in-OptionalFile-clause-rule c = rw c.in-OptionalFile.is c.optional_file.ensures.rule
+
+pub returns-in-Flag-clause-rule : goal.returns-in-Flag-clause-rule
+returns-in-Flag-clause-rule c = rw c.in-Flag.is c.flag.ensures.rule
+
+pub returns-in-Number-clause-rule : goal.returns-in-Number-clause-rule
+returns-in-Number-clause-rule c = rw c.in-Number.is c.number.ensures.rule

@@ -1,0 +1,128 @@
+-- The command line, as clap's definitions see it (own).
+use Rattle.std.specs.Prelude.{◌≡◌, ℕ, pos, List, [], ◌∷◌, Option, Some, None, true, false, codes, drop, fold, map, option_map}
+use Rattle.std.specs.Int.{int_max, int_min}
+use Rattle.clap.specs.Values.{signed_between}
+use Rattle.clap.specs.Simple.{App, Shape, app_of, filled_from, help_rule, version_rule, new_rule, new_shape, subcommand_of, with_subcommand}
+use Rattle.clap.specs.Walk.{Names, Rule, Text, stop_after}
+use Rattle.clap.specs.declared.builder.action.ArgAction.TheVariants.{Set}
+use Rattle.clap.specs.declared.builder.command.Command.{Command}
+use Rattle.clap.specs.declared.builder.command.Command.TheViews.{out-Command}
+use Rattle.clap.specs.declared.builder.value_parser.ValueParser.{ValueParser}
+use Rattle.tas_language.specs.Commands.{most_number}
+use Rattle.tas_desk.specs.Runs.{most_workers}
+use Rattle.tas_words.specs.declared.command_line.Subcommand.{Subcommand}
+use Rattle.tas_words.specs.declared.command_line.Word.{Word}
+use Rattle.tas_words.specs.declared.command_line.WordKind.{WordKind}
+use Rattle.tas_words.specs.declared.command_line.WordKind.TheVariants.{File, OptionalFile, Flag, Number}
+use Rattle.tas_words.specs.declared.task.Task.{Task}
+use Rattle.tas_words.specs.Task.{HasWordsOf}
+
+-- ---- which command some words name
+
+abbrev pub command_names : List Text
+command_names = codes "trace" ∷ codes "check" ∷ codes "migrate" ∷ codes "shot" ∷ codes "edit" ∷ codes "diff" ∷ codes "script" ∷ codes "talk" ∷ codes "export" ∷ []
+
+-- names that no other names stand beside
+abbrev pub labels : List Text → Names
+labels names = map (λ name. (name, [])) names
+
+-- the flags that stand before a command: help and version
+abbrev pub own_flags : List Rule
+own_flags = filled_from 1 (help_rule ∷ version_rule ∷ [])
+
+-- the command that the words name, the first of which is the program's name
+abbrev pub named_command : List Text → Option Text
+named_command words = option_map (λ p. p.0) (stop_after own_flags (labels command_names) (drop 1 words))
+
+-- ---- the commands. Public contracts cite `IsAsked`, at the end, and so `command_line`; private functions cite the rest
+
+-- a required word
+abbrev pub word_rule : Text → Option ValueParser → Rule
+word_rule name parser = record (new_rule name) {
+  action = Some Set;
+  parser = parser;
+  required = true;
+}
+
+-- the numbers of 32 bits from the least to the most
+abbrev pub numbers : ℕ → ℕ → ValueParser
+numbers least most = signed_between (int_max (pos 0) (pos least)) (int_min (pos 4294967295) (pos most))
+
+-- a required word that is a number in a range
+abbrev pub number_rule : Text → ℕ → ℕ → Rule
+number_rule name least most = word_rule name (Some (numbers least most))
+
+-- a word that may stand there
+abbrev pub may_word_rule : Text → Rule
+may_word_rule name = record (new_rule name) { action = Some Set }
+
+-- a word behind a flag, which goes with another one
+abbrev pub flag_rule : Text → Text → Rule
+flag_rule name flag = record (new_rule name) {
+  long = Some flag;
+  action = Some Set;
+  value_names = 1;
+  is_free = false;
+}
+
+-- a word, as clap reads it
+abbrev pub kind_rule : Text → WordKind → Rule
+kind_rule name File = word_rule name None
+kind_rule name OptionalFile = may_word_rule name
+kind_rule name (Flag flag other) = flag_rule name flag.now
+kind_rule name (Number least most) = number_rule name least most
+
+abbrev pub rule_of_word : Word → Rule
+rule_of_word word = kind_rule word.name.now word.kind
+
+abbrev pub shape_with : Text → List Rule → Shape
+shape_with name rules = record (new_shape name) { rules = rules }
+
+-- a command with these words
+pub record HasRules (name : Text) (rules : List Rule) (command : Command) : Type 0 where
+  pub local : (out-Command command).has_globals ≡ false
+  pub app : app_of command ≡ record { top = shape_with name rules; subs = [] }
+
+-- the command line before it has commands
+abbrev pub empty_line : App
+empty_line = record {
+  top = record (new_shape (codes "tas")) {
+    disable_help_subcommand = true;
+    has_version = true;
+    subcommand_required = true;
+  };
+  subs = [];
+}
+
+-- a command line with these commands behind its own
+abbrev pub with_commands : App → List Subcommand → App
+with_commands line commands = fold (λ l command. with_subcommand l (shape_with command.name.now (map rule_of_word command.words.now))) line commands
+
+-- the program's command line
+abbrev pub command_line : App
+command_line = record {
+  top = record (new_shape (codes "tas")) {
+    is_leaf = false;
+    disable_help_subcommand = true;
+    has_version = true;
+    subcommand_required = true;
+  };
+  subs =
+      shape_with (codes "trace") (number_rule (codes "N") 0 1000000 ∷ [])
+      ∷ shape_with (codes "check") (word_rule (codes "CART") None ∷ [])
+      ∷ shape_with (codes "migrate") (word_rule (codes "CART") None ∷ [])
+      ∷ shape_with (codes "shot") (word_rule (codes "CART") None ∷ number_rule (codes "K") 0 most_number ∷ [])
+      ∷ shape_with (codes "edit") (word_rule (codes "CART") None ∷ word_rule (codes "SCRIPT") None ∷ [])
+      ∷ shape_with (codes "diff") (word_rule (codes "CART") None ∷ word_rule (codes "OLD") None ∷ [])
+      ∷ shape_with (codes "script") (flag_rule (codes "CART") (codes "cart") ∷ flag_rule (codes "MOVIE") (codes "movie") ∷ [])
+      ∷ shape_with (codes "talk") (may_word_rule (codes "CART") ∷ may_word_rule (codes "MOVIE") ∷ [])
+      ∷ shape_with (codes "export") (word_rule (codes "CART") None ∷ number_rule (codes "FROM") 0 most_number ∷ number_rule (codes "TO") 0 most_number ∷ number_rule (codes "WORKERS") 1 most_workers ∷ [])
+      ∷ [];
+}
+
+abbrev pub IsCommandLine : Command → Type 0
+IsCommandLine command = app_of command ≡ command_line
+
+-- the words reach the command of a task, whose own words are among those behind it
+abbrev pub IsAsked : List Text → Task → Type 0
+IsAsked words chosen = HasWordsOf (subcommand_of command_line words) chosen

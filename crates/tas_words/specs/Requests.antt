@@ -1,0 +1,31 @@
+-- What the words that the system gave ask for (own).
+use Rattle.std.specs.Prelude.{◌≡◌, List, Some, Result, Ok, Err, String, map, string_bytes}
+use Rattle.std.specs.Iterator.Runs.{WholeRun}
+use Rattle.std.specs.Vec.Iter.{into_iter_steps}
+use Rattle.std.specs.declared.vec.IntoIter.{IntoIter}
+use Rattle.std.specs.declared.io.Error.{Error}
+use Rattle.tas_words.specs.declared.request.Request.{Request}
+use Rattle.tas_words.specs.declared.request.Request.TheVariants.{Do}
+use Rattle.clap.specs.Walk.{Text}
+use Rattle.tas_words.specs.CommandLine.{named_command, IsAsked}
+use Rattle.tas_words.specs.Task.{IsInRange, command_name}
+
+-- what these words may ask for, the first of which is the program's name: the task of the command that they name, with its files and
+-- numbers, these in their ranges; or a text, or nothing that is understood, or memory was refused
+abbrev pub IsRequest : {A : Type 0} → List Text → Request A → Type 0
+IsRequest words (Do chosen) = (named_command words ≡ Some (command_name chosen)) × IsAsked words chosen × IsInRange chosen
+IsRequest words _ = Unit {0}
+
+-- a request that is no task
+abbrev pub IsNoTask : {A : Type 0} → Request A → Type 0
+IsNoTask (Do chosen) = ⊥
+IsNoTask _ = Unit {0}
+
+-- an iterator gives these words, one after the other, and then no more
+abbrev pub Gives : {A : Type 0} → IntoIter (String A) A → List Text → Type 0
+Gives given words = WholeRun into_iter_steps given (λ run. map string_bytes run.items ≡ words)
+
+-- the words that the system gave; where it gave an error, there are none
+abbrev pub AreGiven : {A : Type 0} → Result (IntoIter (String A) A) Error → List Text → Type 0
+AreGiven (Ok given) words = Gives given words
+AreGiven (Err error) words = ⊥

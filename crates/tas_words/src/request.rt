@@ -1,0 +1,74 @@
+//! What the words ask for.
+
+ghost use Rattle.std.specs.Prelude.{IfOk, IfErr, map, string_bytes};
+ghost use Rattle.tas_words.specs.Requests.{AreGiven, IsNoTask, IsRequest};
+
+use crate::{Task, read_words};
+use clap::Error;
+use clap::error::ErrorKind;
+use std::alloc::{Allocator, Global};
+use std::env::Args;
+use std::io;
+
+/// What the words on the command line ask for (own).
+#[derive(Debug, Drop)]
+pub enum Request<'a, A: Allocator = Global> {
+    /// A command.
+    Do(Task<'a>),
+    /// This text on standard output: help, or the version.
+    Show(String<A>),
+    /// The words aren't understood; this text on standard error says why.
+    Refuse(String<A>),
+    /// Memory was refused while the words were read.
+    NoMemory,
+}
+
+/// The text of a request for help, or of words that aren't understood.
+fn request_of<'a, A: Allocator>(alloc: A, error: &Error) -> Request<'a, A>
+    ensures { IsNoTask result }
+{
+    if error.kind() == ErrorKind::OutOfMemory {
+        return Request::NoMemory;
+    }
+    match error.to_string(alloc) {
+        Ok(text) if error.use_stderr() => Request::Refuse(text),
+        Ok(text) => Request::Show(text),
+        Err(_) => Request::NoMemory,
+    }
+}
+
+/// What the words ask for; the first of them is the program's name. A task is that of the command that they name. clap takes its memory
+/// from `global` alone, a text its from `alloc`.
+pub fn read_request<'a, A: Allocator>(
+    global: Global,
+    alloc: A,
+    words: &'a [String<A>],
+) -> Request<'a, A>
+    ensures { IsRequest (map string_bytes words.entry.now) result }
+{
+    match read_words(global, words) {
+        Ok(task) => Request::Do(task),
+        Err(error) => request_of(alloc, &error),
+    }
+}
+
+/// The words, as the system gave them. Where it gave none, memory was refused or one is no text.
+pub fn collect_words<A: Allocator>(
+    alloc: A,
+    words: io::Result<Args<A>>,
+) -> Result<Vec<String<A>, A>, Request<'static, A>>
+    ensures words { IfOk result (λ list. AreGiven words (map string_bytes list.items)) }
+    ensures none { IfErr result IsNoTask }
+{
+    match words {
+        Ok(words) => match words.collect(alloc) {
+            Ok(words) => Ok(words),
+            Err(_) => Err(Request::NoMemory),
+        },
+        Err(error) if error.kind() == io::ErrorKind::OutOfMemory => Err(Request::NoMemory),
+        Err(_) => match String::from_str(alloc, "error: the words aren't all text\n") {
+            Ok(text) => Err(Request::Refuse(text)),
+            Err(_) => Err(Request::NoMemory),
+        },
+    }
+}
