@@ -5,7 +5,7 @@ use Rattle.tas_words.proofs.CommandLineLemmas.{asked_named}
 use Rattle.tas_words.proofs.words.read_words.Goals as goal
 
 pub returns-clause-named : goal.returns-clause-named
-returns-clause-named c = IfOk-weaker c.task_by.result _ _ (λ task asked. asked_named (map string_bytes c.args.words.now) task asked) c.task_by.ensures.asked
+returns-clause-named g c = IfOk-weaker c.task_by.result _ _ (λ task asked. asked_named (map string_bytes c.args.words.now) task asked) c.task_by.ensures.asked
 
 pub task_by-requires : goal.task_by-requires
-task_by-requires c = grind (arith, common_steps)
+task_by-requires g c = grind (arith, common_steps)
