@@ -1,8 +1,8 @@
 #!/bin/bash
 # Talks to the editor through a coprocess of the shell:
 #   examples/talk.sh joystick.bin examples/joystick.movie 60 frame60.ppm
-# It tells the movie's length, shoots FRAME, holds the fire button in frames 30 to 34, shoots FRAME again, writes its picture,
-# and tells the kept states.
+# It prints the movie's length, shoots FRAME, holds the fire button in frames 30 to 34, shoots FRAME again, writes its picture,
+# and lists the kept states.
 top=$(CDPATH='' cd -- "$(dirname -- "$0")/.." && pwd) || exit 1
 [ $# -eq 4 ] || { echo "usage: $0 CART MOVIE FRAME PICTURE" >&2; exit 2; }
 "$top/tas" --version > /dev/null || exit 1

@@ -1,4 +1,4 @@
-"""A second machine: the Atari 2600 of docs/MACHINE.md, told in Python as plainly as that page tells it.
+"""A second machine: the Atari 2600 of docs/MACHINE.md, in Python, as plainly as that page says it.
 
 It was written from docs/MACHINE.md and docs/FORMATS.md alone, by somebody who hadn't read the program. Each part names
 the section and the heading that it follows. Nothing is made fast at the cost of being plain: one colour clock passes
@@ -14,7 +14,7 @@ from tia import BLACK, LAST_LINE, ROWS, VBLANK, WIDTH, Tia, bit
 
 # ---- Section 1, "Opcodes" --------------------------------------------------------------------------------------------
 
-# The tables of the page: a line `modes` names the columns of the lines behind it, and .. is a gap.
+# The tables of the page: a line `modes` names the columns of the lines after it, and .. is a gap.
 # A branch's operand is `rel`, JMP's and JSR's target is `target`, JMP's pointer is `pointer`.
 OPCODE_TABLES = """
 modes imm zp zpx abs absx absy indx indy
@@ -312,7 +312,7 @@ class Machine:
         return self.word(at, page + (at + 1) % 256)
 
     def find_operand(self, mode):
-        """Reads the operand bytes and the pointer bytes; the program counter then stands behind the instruction."""
+        """Reads the operand bytes and the pointer bytes; the program counter is then after the instruction."""
         if mode in ("imp", "acc"):
             return Operand(None, None, False)
         if mode == "imm":
@@ -635,7 +635,7 @@ def trace_line(machine, step):
 
 
 def trace_text(machine, lines):
-    """The trace of a new machine: so many lines, or fewer where it halts."""
+    """The trace of a new machine: n lines, or fewer where it halts."""
     text = []
     for _ in range(lines):
         step = machine.step()

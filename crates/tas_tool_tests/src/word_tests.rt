@@ -248,7 +248,7 @@ static HELPS: [(&[&str], &[u8]); 11] = [
     ),
     (
         &["check", "--help"],
-        b"Checks a movie text and tells its length\n\nUsage: tas check <CART>\n",
+        b"Checks a movie text and prints its length\n\nUsage: tas check <CART>\n",
     ),
     (
         &["migrate", "--help"],
@@ -287,7 +287,7 @@ fn help_and_version_are_shown(rt: HostRuntime) {
         let end = (0, *text, b"".as_slice());
         check_begins(&rt, alloc, ("help", number), words, (b"", b""), end);
     }
-    let version = b"tas 0.1.0, machine profile 2\n".as_slice();
+    let version = b"tas 0.2.0, machine profile 2\n".as_slice();
     let end = (0, version, b"".as_slice());
     check_run(&rt, alloc, &["--version"], only_game(b""), b"", end);
 }

@@ -8,8 +8,8 @@ use crate::{MAX_FRAME_NUMBER, MAX_INSTRUCTIONS, MAX_WORKERS};
 use clap::{Arg, ArgAction, Command, value_parser};
 use std::alloc::{AllocError, Global};
 
-/// The versions that `tas --version` tells: the program's, and that of docs/MACHINE.md.
-static VERSION: &str = "0.1.0, machine profile 2";
+/// The versions that `tas --version` prints: the program's, and that of docs/MACHINE.md.
+static VERSION: &str = "0.2.0, machine profile 2";
 
 /// What a word of a command is.
 #[derive(Clone, Copy)]
@@ -18,7 +18,7 @@ enum WordKind {
     File,
     /// The name of a file that may be left out.
     OptionalFile,
-    /// The name of a file behind a flag, which goes with another one.
+    /// The name of a file after a flag, which goes with another one.
     Flag {
         flag: &'static str,
         other: &'static str,
@@ -54,18 +54,18 @@ its address, its opcode, the registers A X Y S P after it, and its CPU cycles.
 A byte that is no documented opcode ends the trace with a line such as 'F006 02 halt'.
 
 Example:
-  examples/cart counter | tas trace 3";
+  examples/cart counter | ./tas trace 3";
 
 const CHECK_HELP: &str = "\
 Standard input is the movie text: a line 'a26movie 2', a line 'cart ' with the SHA-256 of the
 cartridge, and a line for each run of equal frames: 'R.... ..... .....' is one frame, and
 'R.... ..... ..... x60' sixty. An older text, 'a26movie 1' with a line for each frame, is read too.
 Standard output is 'ok F frames', where the text is one of a movie of F frames with this cartridge.
-Otherwise the first line at fault is told.
+Otherwise the first line at fault is reported.
 
 Example:
   examples/cart joystick > joystick.bin
-  tas check joystick.bin < examples/joystick.movie";
+  ./tas check joystick.bin < examples/joystick.movie";
 
 const MIGRATE_HELP: &str = "\
 Standard input is a movie text, as for 'tas check'.
@@ -73,7 +73,7 @@ Standard output is the same movie as a text of runs: 'a26movie 2', and a line fo
 frames.
 
 Example:
-  tas migrate joystick.bin < old.movie > new.movie";
+  ./tas migrate joystick.bin < examples/older.movie > new.movie";
 
 const SHOT_HELP: &str = "\
 Standard input is the movie text, as for 'tas check'.
@@ -82,7 +82,7 @@ replayed from power-on.
 
 Example:
   examples/cart joystick > joystick.bin
-  tas shot joystick.bin 60 < examples/joystick.movie > frame60.ppm";
+  ./tas shot joystick.bin 60 < examples/joystick.movie > frame60.ppm";
 
 const EDIT_HELP: &str = "\
 Standard input is the movie text, as for 'tas check'. The script's file has changes, a line each:
@@ -94,7 +94,7 @@ whose change reaches past the last frame or makes the movie too long, ends the c
 and nothing written.
 
 Example:
-  tas edit joystick.bin examples/mend.script < examples/joystick.movie > mended.movie";
+  ./tas edit joystick.bin examples/mend.script < examples/joystick.movie > mended.movie";
 
 const DIFF_HELP: &str = "\
 Standard input is a movie text, as for 'tas check', and OLD is the file with the text of an older one.
@@ -102,7 +102,7 @@ Standard output is a script for 'tas edit' that turns the old movie into the new
 they are equal.
 
 Example:
-  tas diff joystick.bin examples/joystick.movie < mended.movie";
+  ./tas diff joystick.bin examples/joystick.movie < mended.movie";
 
 const SCRIPT_HELP: &str = "\
 Standard input is the script: edits of a movie and looks at it, a line each:
@@ -111,15 +111,15 @@ Standard input is the script: edits of a movie and looks at it, a line each:
   insert PLACE COUNT FRAME   insert COUNT frames such as 'R.... ..... .....'
   replace PLACE COUNT FRAME  replace COUNT frames
   delete PLACE COUNT         delete COUNT frames
-  len, input K, shot K       tell the length, an input, or what frame K shows
+  len, input K, shot K       report the length, an input, or what frame K shows
   work K                     keep states up to frame K
 Standard output has a reply for each line; refusals are replies, too. A line that isn't understood
 ends the script. With --cart and --movie the script starts from this movie, which counts as two
 edits; else from a blank cartridge with no frames.
 
 Examples:
-  tas script < examples/edits.script
-  echo shot 60 | tas script --cart joystick.bin --movie examples/joystick.movie";
+  ./tas script < examples/edits.script
+  echo shot 60 | ./tas script --cart joystick.bin --movie examples/joystick.movie";
 
 const TALK_HELP: &str = "\
 Standard input is lines, as of 'tas script', and standard output has the answer to each before the
@@ -133,7 +133,7 @@ answered 'unknown' and changes nothing. With CART it starts from this cartridge,
 movie. That counts as two edits.
 
 Example:
-  printf 'len\\npicture 60\\nquit\\n' | tas talk joystick.bin examples/joystick.movie";
+  printf 'len\\nshot 60\\nstates\\nquit\\n' | ./tas talk joystick.bin examples/joystick.movie";
 
 const EXPORT_HELP: &str = "\
 Standard input is the movie text, as for 'tas check'.
@@ -143,8 +143,8 @@ pictures don't depend on their number. Nothing is written before all are ready.
 
 Example:
   examples/cart joystick > joystick.bin
-  tas export joystick.bin 0 120 4 < examples/joystick.movie |
-    ffmpeg -f image2pipe -framerate 60 -c:v ppm -i - film.mp4";
+  ./tas export joystick.bin 0 120 4 < examples/joystick.movie |
+    ffmpeg -f ppm_pipe -framerate 60 -i - -vf scale=640:420:flags=neighbor -pix_fmt yuv420p film.mp4";
 
 const TAS_HELP: &str = "\
 Each command but 'talk' reads standard input whole before it writes anything to standard output.
@@ -173,7 +173,7 @@ static SUBCOMMANDS: [Subcommand; 9] = [
     },
     Subcommand {
         name: "check",
-        about: "Checks a movie text and tells its length",
+        about: "Checks a movie text and prints its length",
         help: CHECK_HELP,
         words: &[CARTRIDGE],
     },
@@ -281,7 +281,7 @@ static SUBCOMMANDS: [Subcommand; 9] = [
             },
             Word {
                 name: "TO",
-                help: "The frame behind the last one",
+                help: "The frame after the last one",
                 kind: WordKind::Number {
                     least: 0,
                     most: MAX_FRAME_NUMBER,
@@ -318,7 +318,7 @@ fn optional_file<'a>(alloc: Global, name: &'a str, help: &'a str) -> Arg<'a>
     Arg::new(alloc, name).action(ArgAction::Set).help(help)
 }
 
-/// A word that names a file, behind a flag, and goes with another one.
+/// A word that names a file, after a flag, and goes with another one.
 fn flag<'a>(
     alloc: Global,
     name: &'a str,
@@ -391,7 +391,7 @@ fn empty_line<'a>(alloc: Global) -> Result<Command<'a>, AllocError>
     )
 }
 
-/// A command line with these commands behind its own.
+/// A command line with these commands after its own.
 fn with_commands<'a>(
     alloc: Global,
     line: Command<'a>,
