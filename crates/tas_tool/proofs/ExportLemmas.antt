@@ -104,7 +104,7 @@ write_ends movie plan old new written range drawn cut =
     })
 
 -- what a desk answers is told so
-pub export_ends : {A : Type 0} (seat : SeatContent A) (zone : ZoneContent A) (plan : Plan) (old new : Option (List ℕ)) (answer : Result Exported ExportError) → seat.made ≡ 2 → 2 ≤ length seat.front
+export_ends : {A : Type 0} (seat : SeatContent A) (zone : ZoneContent A) (plan : Plan) (old new : Option (List ℕ)) (answer : Result Exported ExportError) → seat.made ≡ 2 → 2 ≤ length seat.front
     → IsExport zone (movie_of seat.front) (length seat.front) plan old new answer → length seat.front ≤ seat.made
     → Ends (IsPixmapsAnswer (movie_of seat.front) plan.from plan.to) old new (export_end plan.from plan.to answer)
 export_ends seat zone plan old new (Ok exported) made two is le =
@@ -115,6 +115,12 @@ export_ends seat zone plan old new (Err OutOfRoom) made two is le = memory_ends 
 export_ends seat zone plan old new (Err (HaltedAt at frame halt)) made two is le =
     ends_here seat (movie_of seat.front) at plan.from plan.to old new (Err (halt_fault halt)) made two is.0 le (halted_ends zone (movie_of seat.front) (length seat.front) plan old new at frame halt (halt_fault halt) is refl)
 export_ends seat zone plan old new (Err (WriteFailed written error)) made two is le = write_ends (movie_of seat.front) plan old new written is.0 is.1 is.2
+
+pub frames_end : {A : Type 0} (seat : SeatContent A) (zone : ZoneContent A) (plan : Plan) (old new : Option (List ℕ)) (answer : Result Exported ExportError) (told : Result (Unit {0}) RunFault) → seat.made ≡ 2
+    → 2 ≤ length seat.front → IsExport zone (movie_of seat.front) (length seat.front) plan old new answer → told ≡ export_end plan.from plan.to answer → length seat.front ≤ seat.made
+    → Ends (IsPixmapsAnswer (movie_of seat.front) plan.from plan.to) old new told
+frames_end seat zone plan old new answer told made two is same le =
+    subst (λ (r : Result (Unit {0}) RunFault). Ends (IsPixmapsAnswer (movie_of seat.front) plan.from plan.to) old new r) (sym same) (export_ends seat zone plan old new answer made two is le)
 
 pub export_own : {A : Type 0} (seat : SeatContent A) (zone : ZoneContent A) (plan : Plan) (old new : Option (List ℕ)) (answer : Result Exported ExportError) → seat.made ≡ 2 → 2 ≤ length seat.front
     → IsExport zone (movie_of seat.front) (length seat.front) plan old new answer → StandsAtOwn seat (export_end plan.from plan.to answer)

@@ -243,7 +243,7 @@ unrefused_next {A} seat movie made edit so_many next none =
     ap (λ (e : Edit A). refusal_at seat.front seat.number seat.made e) (ap (λ (n : ℕ). next_edit A movie n) so_many ∙ next) ∙ none
 
 pub unrefused_at_first : {A : Type 0} (seat : SeatContent A) (movie : MovieContent) → seat.number ≡ 0 → seat.made ≡ 0 → seat.front ≡ [] → IsUnrefused A seat movie
-unrefused_at_first {A} seat movie number made front = unrefused_next seat movie 0 (Load movie.cart) made refl (rw (front, number, made) refl)
+unrefused_at_first {A} seat movie number made front = unrefused_next seat movie 0 (Load movie.cart) made refl (rw (front, made) refl)
 
 pub load_unrefused : {A : Type 0} (before now : SeatContent A) (movie : MovieContent) (cart : List ℕ) (inputs : List Input) (error : EditError) → movie ≡ record { cart = cart; inputs = inputs } → before.made ≡ 0
     → IsEdited before now (Load cart) (Err error) → edit_fault error ≡ Memory → IsUnrefused A now movie

@@ -4,7 +4,7 @@ use Rattle.tas_tool.proofs.ExportLemmas.{still_holds, unmade_ends, at_movie}
 use Rattle.tas_tool.proofs.exporting.export_made.Goals as goal
 
 pub write_frames-requires-clause-two : goal.write_frames-requires-clause-two
-write_frames-requires-clause-two g c = (c.in_ok-put_movie.ensures.holds.made, c.in_ok-put_movie.ensures.holds.seen)
+write_frames-requires-clause-two g c κs within = (c.in_ok-put_movie.ensures.holds.made, c.in_ok-put_movie.ensures.holds.seen)
 
 pub returns-clause-ends : goal.returns-clause-ends
 returns-clause-ends g c = λ own.

@@ -4,11 +4,9 @@ use Rattle.tas_desk.specs.declared.runs.Plan.{Plan}
 use Rattle.tas_desk.specs.Exports.{IsInRange}
 use Rattle.tas_desk.specs.History.{movie_of}
 use Rattle.tas_engines.specs.declared.fault.RunFault.TheVariants.{Memory}
-use Rattle.tas_engines.specs.Output.{Ends}
-use Rattle.tas_tool.specs.Pixmaps.{IsPixmapsAnswer}
 use Rattle.tas_tool.specs.TwoEdits.{StandsAtOwn}
 use Rattle.tas_tool.proofs.TurnLemmas.{longer}
-use Rattle.tas_tool.proofs.ExportLemmas.{export_ends, export_own, export_room}
+use Rattle.tas_tool.proofs.ExportLemmas.{frames_end, export_own, export_room}
 use Rattle.tas_tool.proofs.exporting.write_frames.Goals as goal
 
 pub returns-clause-ends : goal.returns-clause-ends
@@ -17,8 +15,7 @@ returns-clause-ends g c = λ le.
     let seen = c.export-answer.ensures.seat.seen in
     let more = longer c.args.seat.now seat seen in
     let plan : Plan = record { from = c.args.frames.from; to = c.args.frames.to; workers = c.args.frames.workers } in
-    subst (λ r. Ends (IsPixmapsAnswer (movie_of seat.front) plan.from plan.to) _ _ r) (sym c.export_end.ensures)
-    (export_ends seat c.args.seat.now.zone plan _ _ c.export-answer.result (seen.made ∙ c.requires.two.0) (omega (arith, more, c.requires.two.1)) c.export-answer.ensures.reply le)
+    frames_end seat c.args.seat.now.zone plan _ _ c.export-answer.result c.export_end.result (seen.made ∙ c.requires.two.0) (omega (arith, more, c.requires.two.1)) c.export-answer.ensures.reply c.export_end.ensures le
 
 pub returns-clause-own : goal.returns-clause-own
 returns-clause-own g c =
