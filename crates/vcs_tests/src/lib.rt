@@ -1,5 +1,5 @@
 //! What the three chips and the console do when they run: the manual's tables, worked examples, the TIA against a slow one, cartridges,
-//! switches, frames and traces, and images that were made to break the machine.
+//! switches, frames, states and traces, and images that were made to break the machine.
 #![tactic(auto)]
 
 #[cfg(test)]
@@ -22,6 +22,8 @@ mod ranges;
 mod register_tests;
 #[cfg(test)]
 mod riot_tests;
+#[cfg(test)]
+mod state_tests;
 #[cfg(test)]
 mod tia_tests;
 #[cfg(test)]
