@@ -104,7 +104,7 @@ fits_learned x v w false shorter f g = f
 
 pub merges : {A : Type 0} (seat : ℕ) (v : ReaderView A) (other : ℕ) (w : ReaderView A) → Merges Holds seat v other w (learned v w) blank_view
 merges seat v other w x views h at apart there =
-    let theirs : HasSeenPrefix x w = ⊎_elim (λ (t : (other ≡ seat) × (w ≡ learned v w)). absurd (apart t.0)) (λ (t : (other ≢ seat) × (get_elem? views other ≡ some w)). h.fits other w t.1) (at_set views seat other (learned v w) w there) in
+    let theirs : HasSeenPrefix x w = ⊎_elim (λ (t : (other ≡ seat) × (learned v w ≡ w)). absurd (apart t.0)) (λ (t : (other ≢ seat) × (get_elem? views other ≡ some w)). h.fits other w t.1) (at_set views seat other (learned v w) w there) in
     let both = fits_learned x v w w.known (nat_lt (length w.seen) (length v.seen)) (h.fits seat v at) theirs in record {
       sound = h.sound;
       fits = fits_set x (set views seat (learned v w)) other blank_view (fits_set x views seat (learned v w) h.fits both) (fits_none x);
@@ -143,10 +143,6 @@ learned_all m = all_of (view_of m) (nat_lt (length m.history) 0) refl
 pub follows_on : {A : Type 0} (x was y : PublishedContent A) (c : ChangeContent A) → x ≡ was → y ≡ after was c → Follows was c → HasOneMore x y
 follows_on {A} x was y c same is f =
     subst (λ (p : PublishedContent A). HasOneMore p y) (sym same) (subst (λ (p : PublishedContent A). HasOneMore was p) (sym is) (record { registry = f.registry; entry = f.entry; one = f.one; sound = λ _. f.sound }))
-
--- the writer of a publisher has seen all that is published
-pub seen_all : {A : Type 0} (x : PublishedContent A) (pending : List (ChangeContent A)) (b : Book) (journal : List (Entry A)) (v : ReaderView A) → IsCurrent x pending b journal v.seen → HasSeenAll x v
-seen_all x pending b journal v s = s.view ∙ sym s.same
 
 -- a session that opens: nothing waits to be published, and what is published is the empty history
 pub opened_as : {A : Type 0} (x : PublishedContent A) (pending : List (ChangeContent A)) (newest : VersionContent A) (journal : List (Entry A)) (v : ReaderView A) → pending ≡ [] → x ≡ published_of blank_movie 0 newest → newest.history ≡ [] → journal ≡ [] → v ≡ blank_view → IsCurrent x pending newest.registry journal v.seen

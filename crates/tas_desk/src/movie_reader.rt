@@ -50,7 +50,7 @@ impl<A: Allocator> MovieReader<A> {
         MovieReader { ruled: reader }
     }
 
-    /// How many edits there are, and how many inputs.
+    /// How many edits there are, and how many inputs. `NoEntry` where the writer is gone; the reader is as it was.
     pub(crate) fn len(&mut self) -> Result<(u64, usize), NoEntry>
         ensures { FoundLen self.old self.new result }
     {
@@ -63,7 +63,8 @@ impl<A: Allocator> MovieReader<A> {
         )
     }
 
-    /// The input of frame `k`.
+    /// How many edits there are, and the input of frame `k`, counted from 0. `NoFrame` where the movie has no such frame; `NoEntry` where
+    /// the writer is gone, with the reader as it was.
     pub(crate) fn input(&mut self, k: usize) -> Result<(u64, Input), InputError>
         ensures { FoundInput self.old self.new k result }
     {
@@ -81,7 +82,9 @@ impl<A: Allocator> MovieReader<A> {
 }
 
 impl<A: Allocator + Copy> MovieReader<A> {
-    /// A copy of the movie, where it has a frame `k`; none where the history is the known one.
+    /// How many edits there are, and a copy of the movie, where it has a frame `k`, counted from 0; no copy where the history is the
+    /// known one. `NoFrame` where the movie has no such frame, `Memory` where memory is refused; `NoEntry` where the writer is gone, with
+    /// the reader as it was.
     pub(crate) fn copy(
         &mut self,
         alloc: A,

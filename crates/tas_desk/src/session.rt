@@ -73,7 +73,8 @@ impl<A: Allocator> Session<A> {
         publisher.close(rt)
     }
 
-    /// A reader of the published movie that has seen the whole history.
+    /// A reader of the published movie that has seen the whole history. `AllocError` where memory is refused or no place for a reader
+    /// is left. The session is as it was.
     pub(crate) fn reader<R: Wait>(&mut self, rt: &R) -> Result<MovieReader<A>, AllocError>
         ensures same { self.new ≡ self.old }
         ensures seen { IfOk result (λ reader. reader ≡ view_of (version_of self.old.registry self.old.journal)) }
@@ -81,7 +82,8 @@ impl<A: Allocator> Session<A> {
         self.publisher.reader(rt)
     }
 
-    /// Makes a reader enter until it sees the present history.
+    /// Makes a reader enter until it sees the present history. The reader must be of this session's registry, as those that
+    /// `reader` made are.
     pub(crate) fn show_to<R: Wait>(&self, rt: &R, reader: &mut MovieReader<A>)
         requires { KnowsRegistry reader.old self.now.registry }
         ensures seen { reader.new ≡ view_of (version_of self.now.registry self.now.journal) }
@@ -105,8 +107,8 @@ impl<A: Allocator + Copy> Session<A> {
         }
     }
 
-    /// A session as [`Session::new`] makes it, with places for so many readers. The writer is made last: it can't be dropped,
-    /// so nothing that may fail follows it.
+    /// A session as [`Session::new`] makes it, with places for so many readers, 1 to 2^32 - 1. `AllocError` where memory is refused.
+    /// The writer is made last: it can't be dropped, so nothing that may fail follows it.
     pub(crate) fn with_places(alloc: A, readers: usize) -> Result<Session<A>, AllocError>
         requires { (0 < readers) × (readers < 2 ^ 32) }
         ensures { IfOk result (λ session. session ≡ record { registry = session.registry; journal = []; movie = blank_movie; zone = [] }) }

@@ -4,7 +4,7 @@ use Rattle.tas_desk.proofs.WriteLemmas.{fault_of_runs}
 use Rattle.tas_desk.proofs.exporting.export_frames.Goals as goal
 
 pub returns-clause-fault : goal.returns-clause-fault
-returns-clause-fault g c = fault_of_runs _ _ _ _ _ c.export_runs.ensures.fault
+returns-clause-fault g c = fault_of_runs c.args.movie.now c.args.plan _ _ _ c.export_runs.ensures.fault
 
 pub export_runs-requires-clause-empty : goal.export_runs-requires-clause-empty
 export_runs-requires-clause-empty g c = grind (arith, common_steps)

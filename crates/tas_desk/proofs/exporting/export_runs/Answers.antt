@@ -39,8 +39,8 @@ pub returns-in-Ok-clause-drawn : goal.returns-in-Ok-clause-drawn
 returns-in-Ok-clause-drawn g c =
     (runs_drawn c.args.movie.now c.args.plan c.args.zone.now c.play_runs-end.new.runs c.play_runs-end.result c.requires.plan c.play_runs-end.ensures c.in-None.is).all
 
-pub returns-clause-fault : goal.returns-clause-fault
-returns-clause-fault g c =
+pub returns-in-Err-clause-fault : goal.returns-in-Err-clause-fault
+returns-in-Err-clause-fault g c =
     let drawn = runs_drawn c.args.movie.now c.args.plan c.args.zone.now c.play_runs-end.new.runs c.play_runs-end.result c.requires.plan c.play_runs-end.ensures c.in-None.is in (
       drawn.all,
       subst (λ (bytes : List ℕ). IsCutOff (g.W.Write.contents c.args.to.now) (g.W.Write.contents c.write_pixmaps.new.to) bytes c.in-Err.fault.written) drawn.are c.in-Err.ensures.cut,

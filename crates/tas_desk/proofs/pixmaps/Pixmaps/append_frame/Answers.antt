@@ -27,3 +27,9 @@ returns-clause-pixmap g c =
     let none = c.in_default.ensures.halted in
     let drawn = picture_drawn movie.cart movie.inputs c.args.frame c.args.frame c.args.state.now c.play.new.state _ c.play.new.picture (Ok tt) refl (rw (c.cart.ensures, c.inputs-inputs.ensures.inputs) at c.in_default.ensures.picture) none c.requires.start c.requires.within none in
     grown _ _ _ _ _ c.self.view_is c.in_default-ppm.ensures.ok (ap ppm_bytes drawn)
+
+pub returns-in-Err-ppm-clause-stop : goal.returns-in-Err-ppm-clause-stop
+returns-in-Err-ppm-clause-stop g c =
+    let movie = c.args.movie.now in
+    let next = after_more movie.cart movie.inputs c.args.frame c.args.state.now c.play.new.state _ (rw (c.cart.ensures, c.inputs-inputs.ensures.inputs) at c.play.ensures.state) c.requires.start c.requires.within in
+    rw (← next) c.in_default.ensures.halted

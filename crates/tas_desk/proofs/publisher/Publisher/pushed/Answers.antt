@@ -4,7 +4,6 @@ use Rattle.tas_desk.specs.Version.{VersionContent}
 use Rattle.tas_desk.specs.Session.{IsNextEntry}
 use Rattle.tas_desk.specs.Published.{PublisherContent}
 use Rattle.tas_desk.proofs.EntryLemmas.{follows, accepted_as, change_is, same_current, edited_as, pushed_as, left_as}
-use Rattle.tas_desk.proofs.PublishedRule.{seen_all}
 use Rattle.tas_desk.proofs.PublishLemmas.{where_ok, where_err, on_ok, on_err, not_ok, not_err}
 use Rattle.tas_desk.proofs.publisher.Publisher.pushed.Goals.{then-is_err, else-is_err}
 use Rattle.tas_desk.proofs.publisher.Publisher.pushed.Goals as goal
@@ -16,7 +15,7 @@ publish_edit-writer-requires-clause-follows g c =
     follows _ _ _ _ _ c.args.next c.new-change.result c.self.invariant may op
 
 pub publish_edit-writer-requires-clause-known : goal.publish_edit-writer-requires-clause-known
-publish_edit-writer-requires-clause-known g c = seen_all _ _ _ _ _ c.self.invariant
+publish_edit-writer-requires-clause-known g c = c.self.invariant.view ∙ sym c.self.invariant.same
 
 pub invariant_of-publisher : goal.invariant_of-publisher
 invariant_of-publisher g c =
