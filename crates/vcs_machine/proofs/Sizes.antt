@@ -1,8 +1,9 @@
 -- The sizes of cartridges.
-use Rattle.std.proofs.Common.{◌≡◌, ℕ, ◌-◌, ◌%◌, ◌<◌, ◌==◌, true, sym, subst, arith, ⊎_elim}
+use Rattle.std.proofs.Common.{◌≡◌, ℕ, ◌+◌, ◌-◌, ◌/◌, ◌%◌, ◌<◌, ◌≤◌, ◌==◌, true, sym, subst, arith, ⊎_elim}
 use Rattle.std.specs.Prelude.{bit_and}
-use Rattle.std.proofs.lemmas.Bool.{or_cases, eqb-true}
+use Rattle.std.proofs.lemmas.Bool.{or_cases, eqb-true, eq-eqb}
 use Rattle.std.proofs.lemmas.Nat.{and_mask}
+use Rattle.vcs_riot.specs.Address.{is_high}
 use Rattle.vcs_machine.specs.Cart.{is_cart_size}
 
 -- what holds of both sizes
@@ -16,3 +17,15 @@ low_lines n addr is = by_size (λ m. bit_and addr (m - 1) ≡ addr % m) n is (an
 
 pub some_bytes : (n : ℕ) → is_cart_size n ≡ true → 0 < n
 some_bytes n is = by_size (λ m. 0 < m) n is (omega arith) (omega arith)
+
+-- where four bytes stand side by side from an address's place on, the next addresses show the next of them
+pub next_place : (n pc i : ℕ) → is_cart_size n ≡ true → pc % n + 3 < n → i ≤ 3 → (pc + i) % 65536 % n ≡ pc % n + i
+next_place n pc i is four few =
+    by_size (λ m. pc % m + 3 < m → (pc + i) % 65536 % m ≡ pc % m + i) n is (λ f. omega (arith, f, few)) (λ f. omega (arith, f, few)) four
+
+-- and A12 stays high
+pub still_high : (n pc i : ℕ) → is_cart_size n ≡ true → pc % n + 3 < n → i ≤ 3 → is_high 12 pc ≡ true → is_high 12 ((pc + i) % 65536) ≡ true
+still_high n pc i is four few high =
+    let one = eqb-true (pc / 4096 % 2) 1 high in
+    eq-eqb ((pc + i) % 65536 / 4096 % 2) 1
+    (by_size (λ m. pc % m + 3 < m → (pc + i) % 65536 / 4096 % 2 ≡ 1) n is (λ f. omega (arith, f, few, one)) (λ f. omega (arith, f, few, one)) four)
