@@ -32,11 +32,7 @@ struct Frames {
 }
 
 /// What a desk's answer is told as: one that tells of the movie's frames is compared with the two edits that made it.
-fn export_end(
-    from: usize,
-    to: usize,
-    answer: Result<Exported, ExportError>,
-) -> Result<(), RunFault>
+fn export_end(from: usize, to: usize, answer: Result<Exported, ExportError>) -> Result<(), RunFault>
     ensures { result ≡ export_end from to answer }
 {
     match answer {
