@@ -70,7 +70,7 @@ stopped_at movie first frame end bytes (Halted halted) low high so_far is = reco
   halt = ap (λ (n : ℕ). (state_after movie (n + 1)).halt) is.0 ∙ is.1;
   before = λ f le lt. so_far f le (omega (arith, is.0));
 }
-stopped_at movie first frame end bytes Memory low high so_far is = tt
+stopped_at movie first frame end bytes Memory low high so_far is = record { frame = frame; above = low; below = high; drawn = drawn_more movie first frame so_far is }
 
 -- all frames
 pub shown_all : (movie : MovieContent) (first frame end : ℕ) (bytes : List ℕ) → frame ≡ end → AllDrawn movie first frame → bytes ≡ pixmaps_of movie first (frame - first) → Shows movie first end bytes None

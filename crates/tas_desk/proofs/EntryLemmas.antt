@@ -41,7 +41,7 @@ sound_pushed {A} x log e b same s may =
 pub follows : {A : Type 0} (x : PublishedContent A) (pending : List (ChangeContent A)) (b : Book) (log seen : List (Entry A)) (e : Entry A) (c : ChangeContent A) → IsCurrent x pending b log seen → IsNextEntry log e → c ≡ change_of e.edit (version_of b (log ++ e ∷ [])) → Follows x c
 follows {A} x pending b log seen e c s may is =
     subst (λ (d : ChangeContent A). Follows x d) (sym is)
-    (record { registry = s.registry; longer = (e ∷ [], ap (λ (l : List (Entry A)). l ++ e ∷ []) s.same); sound = sound_pushed x log e b s.same s.sound may })
+    (record { registry = s.registry; entry = e; one = ap (λ (l : List (Entry A)). l ++ e ∷ []) (sym s.same); sound = sound_pushed x log e b s.same s.sound may })
 
 accepted : {A : Type 0} (x y : PublishedContent A) (pending now : List (ChangeContent A)) (b : Book) (log seen : List (Entry A)) (e : Entry A) (c : ChangeContent A) (v : ReaderView A) → IsCurrent x pending b log seen → IsNextEntry log e → c ≡ change_of e.edit (version_of b (log ++ e ∷ []))
     → now ≡ [] → y ≡ after x c → v ≡ view_of y.version → IsCurrent y now b (log ++ e ∷ []) v.seen

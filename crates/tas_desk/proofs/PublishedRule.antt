@@ -1,5 +1,8 @@
 -- The steps that keep the rule.
-use Rattle.std.proofs.Common.{◌≡◌, ℕ, ◌≢◌, true, false, true≢false, List, [], ◌∷◌, set, refl, ap, subst, sym, ◌∙◌, ⊎_elim, zero, suc, length, arith}
+use Rattle.std.proofs.Common.{◌≡◌, ℕ, ◌≢◌, Bool, true, false, true≢false, List, [], ◌∷◌, ◌++◌, set, refl, ap, subst, sym, ◌∙◌, ⊎_elim, zero, suc, length, arith}
+use Rattle.std.specs.Prelude.{nat_lt, if◌then◌else◌}
+use Rattle.std.proofs.lemmas.Bool.Decides.{nat_tests}
+use Rattle.logbook.specs.Pages.{Book}
 use mathlib.Core.Option.{some, some-ne-none, some-injective}
 use mathlib.Core.List.{IsPrefix}
 use lib.ListN.{get_elem?}
@@ -10,8 +13,8 @@ use Rattle.tas_desk.specs.declared.entry.Entry.{Entry}
 use Rattle.tas_desk.specs.declared.reader_view.ReaderView.{ReaderView}
 use Rattle.tas_desk.specs.Version.{VersionContent}
 use Rattle.tas_desk.specs.History.{movie_of, IsLegal}
-use Rattle.tas_desk.specs.Published.{PublishedContent, published_of, IsSoundPublished, HasSeenPrefix, Holds, Sees, view_of, blank_view, ChangeContent, after, GoesOn, Follows, IsCurrent}
-use Rattle.tas_desk.proofs.PrefixLemmas.{prefix_trans, prefix_self}
+use Rattle.tas_desk.specs.Published.{PublishedContent, published_of, IsSoundPublished, HasSeenPrefix, HasSeenAll, HasSeenMore, HasOneMore, Holds, Sees, PublishesOne, PublishesNothing, learned, view_of, blank_view, ChangeContent, after, Follows, IsCurrent}
+use Rattle.tas_desk.proofs.PrefixLemmas.{prefix_trans, prefix_self, prefix_shorter}
 use Rattle.tas_desk.proofs.HistoryLemmas.{legal_none, movie_of-none}
 
 off : false ≡ true → ⊥
@@ -51,19 +54,41 @@ fits_set : {A : Type 0} (x : PublishedContent A) (views : List (ReaderView A)) (
 fits_set x views seat w others mine j u e =
     ⊎_elim (λ (t : (j ≡ seat) × (w ≡ u)). subst (HasSeenPrefix x) t.1 mine) (λ (t : (j ≢ seat) × (get_elem? views j ≡ some u)). others j u t.1) (at_set views seat j w u e)
 
-pub turns : {A : Type 0} (seat : ℕ) (v : ReaderView A) (x y : PublishedContent A) → x.version.registry ≡ y.version.registry → IsPrefix x.version.history y.version.history → (IsSoundPublished x → IsSoundPublished y) → TurnsAt Holds seat v x y Sees
-turns seat v x y same up sound views h at = (
-  view_of y.version,
-  record {
-    sound = sound h.sound;
-    fits = fits_set y views seat (view_of y.version) (λ j u e. fits_more x y u same up (h.fits j u e)) (fits_seen y);
-  },
-  record { fits = h.fits seat v at; seen = refl; sound = sound h.sound },
-)
+moves : {A : Type 0} (seat : ℕ) (x y : PublishedContent A) (views : List (ReaderView A)) → x.version.registry ≡ y.version.registry → IsPrefix x.version.history y.version.history → (IsSoundPublished x → IsSoundPublished y) → Holds x views → Holds y (set views seat (view_of y.version))
+moves seat x y views same up sound h = record {
+  sound = sound h.sound;
+  fits = fits_set y views seat (view_of y.version) (λ j u e. fits_more x y u same up (h.fits j u e)) (fits_seen y);
+}
 
 -- a look at what is published
 pub looks : {A : Type 0} (seat : ℕ) (v : ReaderView A) (x : PublishedContent A) → TurnsAt Holds seat v x x Sees
-looks seat v x = turns seat v x x refl (prefix_self x.version.history) (λ s. s)
+looks seat v x views h at = (
+  view_of x.version,
+  moves seat x x views refl (prefix_self x.version.history) (λ s. s) h,
+  record { same = refl; fits = h.fits seat v at; seen = refl; sound = h.sound },
+)
+
+-- one entry more is published
+one_more_turns : {A : Type 0} (seat : ℕ) (v : ReaderView A) (x y : PublishedContent A) → HasSeenAll x v → HasOneMore x y → TurnsAt Holds seat v x y PublishesOne
+one_more_turns seat v x y known more views h at = (
+  view_of y.version,
+  moves seat x y views more.registry (more.entry ∷ [], sym more.one) more.sound h,
+  record { known = known; more = more; seen = refl; sound = more.sound h.sound },
+)
+
+pub publishes_one : {A : Type 0} (seat : ℕ) (v : ReaderView A) (x y next : PublishedContent A) → next ≡ y → HasSeenAll x v → HasOneMore x y → TurnsAt Holds seat v x next PublishesOne
+publishes_one {A} seat v x y next is known more = subst (λ (p : PublishedContent A). TurnsAt Holds seat v x p PublishesOne) (sym is) (one_more_turns seat v x y known more)
+
+-- nothing is published
+same_turns : {A : Type 0} (seat : ℕ) (v : ReaderView A) (x : PublishedContent A) → HasSeenAll x v → TurnsAt Holds seat v x x PublishesNothing
+same_turns seat v x known views h at = (
+  view_of x.version,
+  moves seat x x views refl (prefix_self x.version.history) (λ s. s) h,
+  record { same = refl; known = known; seen = refl; sound = h.sound },
+)
+
+pub publishes_nothing : {A : Type 0} (seat : ℕ) (v : ReaderView A) (x next : PublishedContent A) → next ≡ x → HasSeenAll x v → TurnsAt Holds seat v x next PublishesNothing
+publishes_nothing {A} seat v x next is known = subst (λ (p : PublishedContent A). TurnsAt Holds seat v x p PublishesNothing) (sym is) (same_turns seat v x known)
 
 pub forks : {A : Type 0} (seat : ℕ) (v : ReaderView A) → Forks Holds seat v v v
 forks seat v x views h at = record {
@@ -71,25 +96,57 @@ forks seat v x views h at = record {
   fits = λ j u e. ⊎_elim (fits_set x views seat v h.fits (h.fits seat v at) j u) (λ (same : v ≡ u). subst (HasSeenPrefix x) same (h.fits seat v at)) (at_snoc (set views seat v) v u j e);
 }
 
-pub merges : {A : Type 0} (seat : ℕ) (v : ReaderView A) (other : ℕ) (w : ReaderView A) → Merges Holds seat v other w w blank_view
+-- what is learned begins what is published, as both parts do
+fits_learned : {A : Type 0} (x : PublishedContent A) (v w : ReaderView A) (told shorter : Bool) → HasSeenPrefix x v → HasSeenPrefix x w → HasSeenPrefix x (if told then (if shorter then v else w) else v)
+fits_learned x v w true true f g = f
+fits_learned x v w true false f g = g
+fits_learned x v w false shorter f g = f
+
+pub merges : {A : Type 0} (seat : ℕ) (v : ReaderView A) (other : ℕ) (w : ReaderView A) → Merges Holds seat v other w (learned v w) blank_view
 merges seat v other w x views h at apart there =
-    let theirs : HasSeenPrefix x w = ⊎_elim (λ (t : (other ≡ seat) × (w ≡ w)). absurd (apart t.0)) (λ (t : (other ≢ seat) × (get_elem? views other ≡ some w)). h.fits other w t.1) (at_set views seat other w w there) in record {
+    let theirs : HasSeenPrefix x w = ⊎_elim (λ (t : (other ≡ seat) × (w ≡ learned v w)). absurd (apart t.0)) (λ (t : (other ≢ seat) × (get_elem? views other ≡ some w)). h.fits other w t.1) (at_set views seat other (learned v w) w there) in
+    let both = fits_learned x v w w.known (nat_lt (length w.seen) (length v.seen)) (h.fits seat v at) theirs in record {
       sound = h.sound;
-      fits = fits_set x (set views seat w) other blank_view (fits_set x views seat w h.fits theirs) (fits_none x);
+      fits = fits_set x (set views seat (learned v w)) other blank_view (fits_set x views seat (learned v w) h.fits both) (fits_none x);
     }
 
--- what goes on is published
-pub publishes : {A : Type 0} (seat : ℕ) (v : ReaderView A) (x y next : PublishedContent A) → next ≡ y → GoesOn x y → TurnsAt Holds seat v x next Sees
-publishes {A} seat v x y next is on = subst (λ (p : PublishedContent A). TurnsAt Holds seat v x p Sees) (sym is) (turns seat v x y on.registry on.longer on.sound)
+-- of two beginnings of what is published the longer is learned, so no view shrinks
+no_less : {A : Type 0} (x : PublishedContent A) (v w : ReaderView A) (told shorter : Bool) → w.known ≡ told → nat_lt (length w.seen) (length v.seen) ≡ shorter → HasSeenPrefix x v → HasSeenPrefix x w → HasSeenMore v (if told then (if shorter then v else w) else v)
+no_less x v w true true is lt f g = record { begins = prefix_self v.seen; knows = λ b k. k }
+no_less x v w true false is lt f g = record {
+  begins = prefix_shorter v.seen w.seen x.version.history f.begins g.begins (grind (arith, nat_tests));
+  knows = λ b k. record { known = is; registry = g.registry is ∙ sym (f.registry k.known) ∙ k.registry };
+}
+no_less x v w false shorter is lt f g = record { begins = prefix_self v.seen; knows = λ b k. k }
 
--- what stays the same goes on
-pub stays : {A : Type 0} (x y : PublishedContent A) → y ≡ x → GoesOn x y
-stays {A} x y is = subst (λ (p : PublishedContent A). GoesOn x p) (sym is) (record { registry = refl; longer = prefix_self x.version.history; sound = λ s. s })
+pub learned_more : {A : Type 0} (x : PublishedContent A) (v w : ReaderView A) → HasSeenPrefix x v → HasSeenPrefix x w → HasSeenMore v (learned v w)
+learned_more x v w = no_less x v w w.known (nat_lt (length w.seen) (length v.seen)) refl refl
 
--- what follows goes on
-pub follows_on : {A : Type 0} (x was y : PublishedContent A) (c : ChangeContent A) → x ≡ was → y ≡ after was c → Follows was c → GoesOn x y
+-- who had seen no more learns all
+grown : {A : Type 0} (v w : ReaderView A) (told shorter : Bool) → IsPrefix v.seen w.seen → IsPrefix v.seen (if told then (if shorter then v else w) else v).seen
+grown v w true true p = prefix_self v.seen
+grown v w true false p = p
+grown v w false shorter p = prefix_self v.seen
+
+pub learned_grows : {A : Type 0} (v w : ReaderView A) → IsPrefix v.seen w.seen → IsPrefix v.seen (learned v w).seen
+learned_grows v w = grown v w w.known (nat_lt (length w.seen) (length v.seen))
+
+all_of : {A : Type 0} (w : ReaderView A) (shorter : Bool) → nat_lt (length w.seen) 0 ≡ shorter → (if shorter then blank_view else w) ≡ w
+all_of w true lt = absurd (grind (arith, nat_tests))
+all_of w false lt = refl
+
+-- who has seen nothing learns all that is known
+pub learned_all : {A : Type 0} (m : VersionContent A) → learned blank_view (view_of m) ≡ view_of m
+learned_all m = all_of (view_of m) (nat_lt (length m.history) 0) refl
+
+-- what follows is one entry more
+pub follows_on : {A : Type 0} (x was y : PublishedContent A) (c : ChangeContent A) → x ≡ was → y ≡ after was c → Follows was c → HasOneMore x y
 follows_on {A} x was y c same is f =
-    subst (λ (p : PublishedContent A). GoesOn p y) (sym same) (subst (λ (p : PublishedContent A). GoesOn was p) (sym is) (record { registry = f.registry; longer = f.longer; sound = λ _. f.sound }))
+    subst (λ (p : PublishedContent A). HasOneMore p y) (sym same) (subst (λ (p : PublishedContent A). HasOneMore was p) (sym is) (record { registry = f.registry; entry = f.entry; one = f.one; sound = λ _. f.sound }))
+
+-- the writer of a publisher has seen all that is published
+pub seen_all : {A : Type 0} (x : PublishedContent A) (pending : List (ChangeContent A)) (b : Book) (journal : List (Entry A)) (v : ReaderView A) → IsCurrent x pending b journal v.seen → HasSeenAll x v
+seen_all x pending b journal v s = s.view ∙ sym s.same
 
 -- a session that opens: nothing waits to be published, and what is published is the empty history
 pub opened_as : {A : Type 0} (x : PublishedContent A) (pending : List (ChangeContent A)) (newest : VersionContent A) (journal : List (Entry A)) (v : ReaderView A) → pending ≡ [] → x ≡ published_of blank_movie 0 newest → newest.history ≡ [] → journal ≡ [] → v ≡ blank_view → IsCurrent x pending newest.registry journal v.seen

@@ -74,7 +74,12 @@ shows_joined movie from mid to a b low high (Some (Halted x)) k left right = rec
   halt = left.halt;
   before = left.before;
 }
-shows_joined movie from mid to a b low high (Some Memory) k left right = tt
+shows_joined movie from mid to a b low high (Some Memory) k left right = record {
+  frame = left.frame;
+  above = left.above;
+  below = omega (arith, left.below);
+  drawn = left.drawn;
+}
 shows_joined movie from mid to a b low high None None left right = record {
   all = drawn_joined movie from mid to left.all right.all;
   are =
@@ -90,7 +95,12 @@ shows_joined movie from mid to a b low high None (Some (Halted x)) left right = 
     | inr back ↦ right.before f back lt
   ];
 }
-shows_joined movie from mid to a b low high None (Some Memory) left right = tt
+shows_joined movie from mid to a b low high None (Some Memory) left right = record {
+  frame = right.frame;
+  above = omega (arith, right.above);
+  below = right.below;
+  drawn = drawn_joined movie from mid (right.frame + 1) left.all right.drawn;
+}
 
 -- ---- runs, joined
 

@@ -1,5 +1,6 @@
 -- Bytes in pieces, one after the other, and pixmaps.
 use Rattle.std.proofs.Common.{◌≡◌, ℕ, zero, suc, ◌+◌, ◌*◌, ◌-◌, ◌<◌, ◌≤◌, List, [], ◌∷◌, ◌++◌, length, get_or, take, drop, Option, Some, None, refl, sym, ap, subst, ◌∙◌, arith, zero-add, suc-add, take_all}
+use Rattle.std.specs.Prelude.{Result, Ok, Err, IfErr}
 use Rattle.std.specs.List.{concat}
 use Rattle.std.proofs.lemmas.List.{length-append, length-map, get_or-map, take-append-drop, take-append-le, take_more, append-nil}
 use Rattle.std.proofs.lemmas.List.Folds.{concat-append}
@@ -12,11 +13,14 @@ use Rattle.tas_green.specs.Run.{picture_of}
 use Rattle.tas_green.specs.declared.savestate.Savestate.{Savestate}
 use Rattle.tas_desk.specs.declared.pixmaps.HaltedFrame.{HaltedFrame}
 use Rattle.tas_desk.specs.declared.pixmaps.Stop.{Stop}
-use Rattle.tas_desk.specs.declared.pixmaps.Stop.TheVariants.{Halted}
+use Rattle.tas_desk.specs.declared.pixmaps.Stop.TheVariants.{Halted, Memory}
 use Rattle.tas_desk.specs.declared.runs.Plan.{Plan}
 use Rattle.tas_desk.specs.declared.runs.Run.{Run}
 use Rattle.tas_desk.specs.declared.runs.RunEnd.{RunEnd}
-use Rattle.tas_desk.specs.Frames.{AreDrawn, IsLeastHalted, Shows, pixmaps_of}
+use Rattle.tas_desk.specs.declared.exporting.ExportFault.{ExportFault}
+use Rattle.tas_desk.specs.declared.exporting.ExportFault.TheVariants.{Memory as MemoryFault, Halted as HaltedFault, Write as WriteFault}
+use Rattle.tas_desk.specs.Frames.{AreDrawn, IsLeastHalted, IsRefused, Shows, pixmaps_of}
+use Rattle.tas_desk.specs.Exporting.{IsExportFault, IsRunsFault}
 use Rattle.tas_desk.specs.Runs.{IsPlan, pixmaps_in, AreRunsEnd}
 use Rattle.tas_desk.proofs.RunLemmas.{runs_shown}
 
@@ -80,18 +84,22 @@ shown_drawn movie from to bytes (Some x) none shown = absurd cc
 pub shown_halted : (movie : MovieContent) (from to : ℕ) (bytes : List ℕ) (stop : Option Stop) (halted : HaltedFrame) → stop ≡ Some (Halted halted) → Shows movie from to bytes stop → IsLeastHalted movie from to halted
 shown_halted movie from to bytes stop halted is shown = subst (λ (s : Option Stop). Shows movie from to bytes s) is shown
 
--- a list that was written back whole
-written_back : {X : Type 0} (new rest out : List X) (n : ℕ) → out ≡ take n (new ++ rest) → length new ≡ n → out ≡ new
-written_back new rest out n is size = is ∙ take-append-le n new rest (omega arith) ∙ take_all n new (omega arith)
+-- what is shown where memory was refused
+pub shown_refused : (movie : MovieContent) (from to : ℕ) (bytes : List ℕ) (stop : Option Stop) → stop ≡ Some Memory → Shows movie from to bytes stop → IsRefused movie from to
+shown_refused movie from to bytes stop is shown = subst (λ (s : Option Stop). Shows movie from to bytes s) is shown
 
--- the pixmaps that are written where no run stopped
-pub runs_drawn : {A : Type 0} (movie : MovieContent) (plan : Plan) (zone : List Savestate) (new rest out : List (Run A)) (n : ℕ) (end : RunEnd) → IsPlan movie plan
-    → AreRunsEnd movie zone plan plan.workers (pixmaps_in new) end → end.stop ≡ None
-    → out ≡ take n (new ++ rest) → length new ≡ n → AreDrawn movie plan.from plan.to (concat (pixmaps_in out))
-runs_drawn {A = A} movie plan zone new rest out n end plans runs none is size =
-    let back = written_back new rest out n is size in
-    let drawn = shown_drawn movie plan.from plan.to (concat (pixmaps_in new)) end.stop none (runs_shown movie zone plan (pixmaps_in new) end plans runs) in
-    subst (λ (xs : List (Run A)). AreDrawn movie plan.from plan.to (concat (pixmaps_in xs))) (sym back) drawn
+-- the pixmaps of runs of which none stopped
+pub runs_drawn : {A : Type 0} (movie : MovieContent) (plan : Plan) (zone : List Savestate) (runs : List (Run A)) (end : RunEnd) → IsPlan movie plan
+    → AreRunsEnd movie zone plan plan.workers (pixmaps_in runs) end → end.stop ≡ None → AreDrawn movie plan.from plan.to (concat (pixmaps_in runs))
+runs_drawn {A = A} movie plan zone runs end plans ended none =
+    shown_drawn movie plan.from plan.to (concat (pixmaps_in runs)) end.stop none (runs_shown movie zone plan (pixmaps_in runs) end plans ended)
+
+-- a fault of runs is one of an export
+pub fault_of_runs : {X : Type 0} (movie : MovieContent) (plan : Plan) (old new : Option (List ℕ)) (r : Result X ExportFault) → IfErr r (IsRunsFault movie plan old new) → IfErr r (IsExportFault movie plan old new)
+fault_of_runs movie plan old new (Ok x) is = tt
+fault_of_runs movie plan old new (Err MemoryFault) is = is.1
+fault_of_runs movie plan old new (Err (HaltedFault halted)) is = is
+fault_of_runs movie plan old new (Err (WriteFault written error)) is = is
 
 -- a run's pixmaps stand at its place
 pub pixmaps_at : {A : Type 0} (runs : List (Run A)) (i : ℕ) (run : Run A) → i < length runs → run ≡ get_or runs i run → run.pixmaps ≡ get_or (pixmaps_in runs) i run.pixmaps

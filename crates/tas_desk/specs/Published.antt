@@ -1,5 +1,5 @@
 -- What is published, and the rule between what is published and what readers have seen (own).
-use Rattle.std.specs.Prelude.{◌≡◌, ℕ, ◌+◌, ◌≤◌, nat_lt, if◌then◌else◌, List, [], length, true, false}
+use Rattle.std.specs.Prelude.{◌≡◌, ℕ, ◌+◌, ◌≤◌, nat_lt, if◌then◌else◌, List, [], ◌∷◌, ◌++◌, length, true, false}
 use mathlib.Core.Option.{some}
 use mathlib.Core.List.{IsPrefix}
 use lib.ListN.{get_elem?}
@@ -68,11 +68,43 @@ pub record Holds {A : Type 0} (x : PublishedContent A) (views : List (ReaderView
   pub sound : IsSoundPublished x
   pub fits : (seat : ℕ) (v : ReaderView A) → get_elem? views seat ≡ some v → HasSeenPrefix x v
 
--- what is published began with what was seen, and its last state is what is seen from now on
+-- a reader's entry: what it had seen begins what is published, which stays as it is and is what it has seen from then on
 pub record Sees {A : Type 0} (v : ReaderView A) (x y : PublishedContent A) (w : ReaderView A) : Type 0 where
+  pub same : y ≡ x
   pub fits : HasSeenPrefix x v
   pub seen : w ≡ view_of y.version
   pub sound : IsSoundPublished y
+
+-- all of the published history was seen
+abbrev pub HasSeenAll : {A : Type 0} → PublishedContent A → ReaderView A → Type 0
+HasSeenAll x v = v.seen ≡ x.version.history
+
+-- just one entry more in the same registry, which leaves what is published sound
+pub record HasOneMore {A : Type 0} (x y : PublishedContent A) : Type 0 where
+  pub registry : x.version.registry ≡ y.version.registry
+  pub entry : Entry A
+  pub one : y.version.history ≡ x.version.history ++ entry ∷ []
+  pub sound : IsSoundPublished x → IsSoundPublished y
+
+-- a publish of one edit by the writer, which had seen all that was published and has then seen the one entry more, too
+pub record PublishesOne {A : Type 0} (v : ReaderView A) (x y : PublishedContent A) (w : ReaderView A) : Type 0 where
+  pub known : HasSeenAll x v
+  pub more : HasOneMore x y
+  pub seen : w ≡ view_of y.version
+  pub sound : IsSoundPublished y
+
+-- a publish of nothing by the writer: what is published stays as it is, and the writer, which had seen all of it, knows its
+-- registry from then on
+pub record PublishesNothing {A : Type 0} (v : ReaderView A) (x y : PublishedContent A) (w : ReaderView A) : Type 0 where
+  pub same : y ≡ x
+  pub known : HasSeenAll x v
+  pub seen : w ≡ view_of y.version
+  pub sound : IsSoundPublished y
+
+-- what one has seen who learns what another has seen of the same published movie: the longer of the two histories, so no view
+-- ever shrinks
+abbrev pub learned : {A : Type 0} → ReaderView A → ReaderView A → ReaderView A
+learned v w = if w.known then (if nat_lt (length w.seen) (length v.seen) then v else w) else v
 
 -- nothing waits to be published, what is published is the journal, in the registry that numbers it, and it is what the writer has seen
 pub record IsCurrent {A : Type 0} (x : PublishedContent A) (pending : List (ChangeContent A)) (numbering : Book) (journal writers : List (Entry A)) : Type 0 where
@@ -82,16 +114,11 @@ pub record IsCurrent {A : Type 0} (x : PublishedContent A) (pending : List (Chan
   pub view : writers ≡ journal
   pub sound : IsSoundPublished x
 
--- the history goes on in the same registry, and stays sound
-pub record GoesOn {A : Type 0} (x y : PublishedContent A) : Type 0 where
-  pub registry : x.version.registry ≡ y.version.registry
-  pub longer : IsPrefix x.version.history y.version.history
-  pub sound : IsSoundPublished x → IsSoundPublished y
-
--- a change of what is published that leaves it sound
+-- a change of what is published that adds just one entry and leaves it sound
 pub record Follows {A : Type 0} (x : PublishedContent A) (c : ChangeContent A) : Type 0 where
   pub registry : x.version.registry ≡ c.version.registry
-  pub longer : IsPrefix x.version.history c.version.history
+  pub entry : Entry A
+  pub one : c.version.history ≡ x.version.history ++ entry ∷ []
   pub sound : IsSoundPublished (after x c)
 
 -- who has this view knows the registry

@@ -161,7 +161,7 @@ impl<A: Allocator> Protocol<PublishedMovie<A>, ReaderView<A>> for PrefixRule {
     ghost first = { blank_view };
 }
 
-/// A step after which what is published has been seen: a reader's entry, or a publish for the writer.
+/// A reader's entry: what is published has been seen, and stays as it is.
 pub struct Look;
 
 impl<A: Allocator> Outcome<PublishedMovie<A>, ReaderView<A>> for Look {
@@ -170,7 +170,25 @@ impl<A: Allocator> Outcome<PublishedMovie<A>, ReaderView<A>> for Look {
     ghost then = { Sees };
 }
 
-/// The writer tells a new reader all that it has seen, and keeps it.
+/// The writer publishes one edit: the published history gains just one entry.
+pub struct PublishOne;
+
+impl<A: Allocator> Outcome<PublishedMovie<A>, ReaderView<A>> for PublishOne {
+    ghost use Rattle.tas_desk.specs.Published.{PublishesOne};
+
+    ghost then = { PublishesOne };
+}
+
+/// The writer publishes nothing, by which it comes to know the registry of what is published, for a new reader.
+pub struct PublishNothing;
+
+impl<A: Allocator> Outcome<PublishedMovie<A>, ReaderView<A>> for PublishNothing {
+    ghost use Rattle.tas_desk.specs.Published.{PublishesNothing};
+
+    ghost then = { PublishesNothing };
+}
+
+/// The writer tells a reader all that it has seen, and keeps it. The reader keeps what it had seen where that is more.
 pub struct TellAll;
 
 impl<A: Allocator> Split<ReaderView<A>> for TellAll {
@@ -180,9 +198,9 @@ impl<A: Allocator> Split<ReaderView<A>> for TellAll {
 }
 
 impl<A: Allocator> Join<ReaderView<A>> for TellAll {
-    ghost use Rattle.tas_desk.specs.Published.{blank_view};
+    ghost use Rattle.tas_desk.specs.Published.{blank_view, learned};
 
-    ghost both = { λ v w. w };
+    ghost both = { learned };
 
     ghost spent = { blank_view };
 }

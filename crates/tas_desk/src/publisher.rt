@@ -8,11 +8,13 @@ ghost use Rattle.tas_movie.specs.Edit.{edited};
 ghost use Rattle.tas_desk.specs.declared.entry.Entry.{Entry};
 ghost use Rattle.tas_desk.specs.Session.{IsNextEntry};
 ghost use Rattle.tas_desk.specs.Version.{version_of};
-ghost use Rattle.tas_desk.specs.Published.{published_of, blank_view, after, GoesOn, Follows, view_of, KnowsRegistry};
+ghost use Rattle.tas_desk.specs.Published.{published_of, blank_view, after, HasSeenAll, HasOneMore, Follows, learned, view_of, KnowsRegistry};
 
 use crate::Entry;
 use crate::movie_reader::MovieReader;
-use crate::published::{Look, PrefixRule, PublishedEdit, PublishedMovie, TellAll};
+use crate::published::{
+    Look, PrefixRule, PublishNothing, PublishOne, PublishedEdit, PublishedMovie, TellAll,
+};
 use crate::reader_view::ReaderView;
 use crate::version::{LatestVersion, Version, VersionRule};
 use core::mem::replace_with;
@@ -125,14 +127,29 @@ fn take_back<A: Allocator>(journal: &mut Vec<Entry<A>, A>)
     journal.pop();
 }
 
-/// Publishes what is pending, by value, so that the writer has seen what is published.
-fn publish<A: Allocator, R: Wait>(writer: MovieWriter<A>, rt: &R) -> MovieWriter<A>
-    requires { GoesOn writer.desk.shown.value (fold after writer.desk.shown.value (drop writer.behind writer.log.items)) }
+/// Publishes the one edit that is pending, by value, so that the writer has seen it.
+fn publish_one<A: Allocator, R: Wait>(writer: MovieWriter<A>, rt: &R) -> MovieWriter<A>
+    requires known { HasSeenAll writer.desk.shown.value (view writer.desk.place) }
+    requires more { HasOneMore writer.desk.shown.value (fold after writer.desk.shown.value (drop writer.behind writer.log.items)) }
     ensures none { drop result.behind result.log.items ≡ [] }
     ensures value { result.desk.shown.value ≡ fold after writer.desk.shown.value (drop writer.behind writer.log.items) }
+    ensures one { HasOneMore writer.desk.shown.value result.desk.shown.value }
     ensures view { view result.desk.place ≡ view_of result.desk.shown.value.version }
 {
-    let (writer, _) = writer.publish_as::<Look, R>(rt);
+    let (writer, _) = writer.publish_as::<PublishOne, R>(rt);
+    writer
+}
+
+/// Publishes nothing, by value: what is published stays. A new writer doesn't know the registry of its histories, which a reader has
+/// to learn from it; such a publish tells it.
+fn publish_nothing<A: Allocator, R: Wait>(writer: MovieWriter<A>, rt: &R) -> MovieWriter<A>
+    requires none { drop writer.behind writer.log.items ≡ [] }
+    requires known { HasSeenAll writer.desk.shown.value (view writer.desk.place) }
+    ensures none { drop result.behind result.log.items ≡ [] }
+    ensures same { result.desk.shown.value ≡ writer.desk.shown.value }
+    ensures view { view result.desk.place ≡ view_of writer.desk.shown.value.version }
+{
+    let (writer, _) = writer.publish_as::<PublishNothing, R>(rt);
     writer
 }
 
@@ -143,16 +160,31 @@ fn publish_edit<A: Allocator, R: Wait>(
     change: PublishedEdit<A>,
 ) -> (MovieWriter<A>, Result<(), AllocError>)
     requires none { drop writer.behind writer.log.items ≡ [] }
+    requires known { HasSeenAll writer.desk.shown.value (view writer.desk.place) }
     requires follows { Follows writer.desk.shown.value change }
     ensures none { drop result.0.behind result.0.log.items ≡ [] }
     ensures value { MatchResult result.1 (λ _. result.0.desk.shown.value ≡ after writer.desk.shown.value change) (λ _. result.0.desk.shown.value ≡ writer.desk.shown.value) }
+    ensures one { OnOk result.1 (HasOneMore writer.desk.shown.value result.0.desk.shown.value) }
     ensures view { MatchResult result.1 (λ _. view result.0.desk.place ≡ view_of result.0.desk.shown.value.version) (λ _. view result.0.desk.place ≡ view writer.desk.place) }
 {
     let mut writer = writer;
     if let Err(_) = writer.append(change) {
         return (writer, Err(AllocError));
     }
-    (publish(writer, rt), Ok(()))
+    (publish_one(writer, rt), Ok(()))
+}
+
+/// Tells a reader of this writer all that the writer has seen. The reader has seen no less than before.
+fn tell_all<A: Allocator>(writer: &mut MovieWriter<A>, reader: &mut RuledReader<A>)
+    requires own { reader.old.place.table_id ≡ writer.old.desk.place.table_id }
+    requires begins { IsPrefix (view reader.old.place).seen (view writer.old.desk.place).seen }
+    ensures none { drop writer.new.behind writer.new.log.items ≡ drop writer.old.behind writer.old.log.items }
+    ensures value { writer.new.desk.shown.value ≡ writer.old.desk.shown.value }
+    ensures view { view writer.new.desk.place ≡ view writer.old.desk.place }
+    ensures learned { view reader.new.place ≡ learned (view reader.old.place) (view writer.old.desk.place) }
+    ensures grows { IsPrefix (view reader.old.place).seen (view reader.new.place).seen }
+{
+    reader.learn::<TellAll>(writer.tell::<TellAll>());
 }
 
 /// A reader that has seen what is published, or an error where there is no place for it.
@@ -160,16 +192,17 @@ fn make_reader<A: Allocator, R: Wait>(
     writer: MovieWriter<A>,
     rt: &R,
 ) -> (MovieWriter<A>, Result<RuledReader<A>, AllocError>)
-    requires { drop writer.behind writer.log.items ≡ [] }
+    requires none { drop writer.behind writer.log.items ≡ [] }
+    requires known { HasSeenAll writer.desk.shown.value (view writer.desk.place) }
     ensures none { drop result.0.behind result.0.log.items ≡ [] }
     ensures value { result.0.desk.shown.value ≡ writer.desk.shown.value }
     ensures own { view result.0.desk.place ≡ view_of writer.desk.shown.value.version }
     ensures view { IfOk result.1 (λ r. view r.place ≡ view_of writer.desk.shown.value.version) }
 {
-    let mut writer = publish(writer, rt);
+    let mut writer = publish_nothing(writer, rt);
     match writer.factory().reader() {
         Ok(mut reader) => {
-            reader.learn::<TellAll>(writer.tell::<TellAll>());
+            tell_all(&mut writer, &mut reader);
             (writer, Ok(reader))
         }
         Err(error) => (writer, Err(error)),
@@ -260,7 +293,7 @@ impl<A: Allocator> Publisher<A> {
                 MovieWriter<A>,
                 Result<RuledReader<A>, AllocError>,
             )
-                requires { drop writer.behind writer.log.items ≡ [] }
+                requires { (drop writer.behind writer.log.items ≡ []) × HasSeenAll writer.desk.shown.value (view writer.desk.place) }
                 ensures none { drop result.0.behind result.0.log.items ≡ [] }
                 ensures value { result.0.desk.shown.value ≡ writer.desk.shown.value }
                 ensures own { view result.0.desk.place ≡ view_of writer.desk.shown.value.version }

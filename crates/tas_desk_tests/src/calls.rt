@@ -7,7 +7,7 @@ use crate::answers::{Refused, edit, export, shoot};
 use crate::changes::Change;
 use crate::checks::check_that;
 use crate::desks::{Task, lend};
-use crate::gates::Open;
+use crate::gates::{InOrder, Open};
 use std::alloc::Global;
 use std::process::Abort;
 use std::sync::Wait;
@@ -33,7 +33,7 @@ pub enum Call {
     Drawn(u32, usize, u64, u64, usize),
     /// A shot of a frame that isn't drawn.
     NotDrawn(u32, usize, ShotError),
-    /// Work on some targets.
+    /// Work on some targets, each of which passes the gate with its index.
     Work(u32, &'static [usize], Worked),
     /// How many states the seat's zone gained.
     Share(u32, usize),
@@ -109,7 +109,9 @@ fn is_answered<N: Name, W: CloseOnDrop, R: Threads + Wait + Abort + Sync>(
         }
         Call::Refused(_, change, error) => edit(rt, alloc, desk, seat, change) == Err(error),
         Call::Work(_, targets, worked) => {
-            desk.work(rt, alloc, seat, targets, &Open) == Ok(worked)
+            let gate = InOrder::new();
+            let told = desk.work(rt, alloc, seat, targets, &gate);
+            told == Ok(worked) && gate.was_passed_by(targets.len())
         }
         Call::Share(_, gained) => desk.share(rt, seat).ok() == Some(gained),
         Call::Exported(_, (from, to), workers, at, played) => {

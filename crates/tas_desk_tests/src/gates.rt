@@ -106,3 +106,35 @@ impl Gate for Counting {
             .fetch_add(piece.wrapping_mul(piece), Ordering::SeqCst);
     }
 }
+
+/// It is passed by pieces in order, from 0 on, on one thread.
+#[derive(Drop)]
+pub struct InOrder {
+    next: AtomicU64,
+}
+
+impl InOrder {
+    /// Nobody has passed.
+    pub fn new() -> InOrder {
+        InOrder {
+            next: AtomicU64::new(0),
+        }
+    }
+
+    /// Whether so many pieces have passed, in order.
+    pub fn was_passed_by(&self, pieces: usize) -> bool {
+        self.next.load(Ordering::SeqCst) == pieces as u64
+    }
+}
+
+impl Gate for InOrder {
+    fn pass(&self, piece: usize) {
+        let is_next = self.next.load(Ordering::SeqCst) == piece as u64;
+        let next = if is_next {
+            (piece as u64).saturating_add(1)
+        } else {
+            u64::MAX
+        };
+        self.next.store(next, Ordering::SeqCst);
+    }
+}

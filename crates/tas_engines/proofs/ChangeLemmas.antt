@@ -6,7 +6,7 @@ use Rattle.std.proofs.lemmas.List.{length-replicate}
 use lib.Seq.{take-append_seam, drop-append-add}
 use Rattle.vcs_machine.specs.declared.input.Input.{Input}
 use Rattle.tas_movie.specs.Content.{MovieContent, most_inputs}
-use Rattle.tas_movie.specs.Edit.{edited, IsAllowed, spliced}
+use Rattle.tas_movie.specs.Edit.{edited, IsAllowed, length_refusal, first_refusal, spliced}
 use Rattle.tas_movie.specs.declared.edit.EditRefusal.{EditRefusal}
 use Rattle.tas_movie.specs.declared.edit.EditRefusal.TheVariants.{Place}
 use Rattle.tas_language.specs.declared.command.Command.{Command}
@@ -102,15 +102,13 @@ movie_of cart inputs = record { cart = cart; inputs = inputs }
 pub cut : (k : ℕ) (p new q : List Input) → spliced (length p) k new (p ++ q) ≡ p ++ new ++ drop k q
 cut k p new q = rw (take-append_seam p q, drop-append-add p q k) refl
 
-allowed_place : (len at : ℕ) (rest : Option EditRefusal) → at ≤ len → (if nat_lt len at then Some (Place at len) else rest) ≡ rest
-allowed_place len at rest le = rw (le-ltb len at le) refl
-
 allowed_length : (most all : ℕ) (refused : Option EditRefusal) → all ≤ most → (if nat_lt most all then refused else None) ≡ None
 allowed_length most all refused le = rw (le-ltb most all le) refl
 
 pub insert_allowed : (A : Type 0) (cart : List ℕ) (inputs : List Input) (at count : ℕ) (input : Input) → at ≤ length inputs → length inputs + count ≤ most_inputs → IsAllowed (movie_of cart inputs) (edit_of A (Insert at count input))
 insert_allowed A cart inputs at count input place long =
-    allowed_place (length inputs) at _ place ∙ allowed_length most_inputs (length inputs + length (replicate count input)) _ (omega (arith, length-replicate count input))
+    ap (λ (r : Option EditRefusal). first_refusal r (length_refusal (length inputs) (length inputs + length (replicate count input)))) (allowed_length (length inputs) at (Some (Place at (length inputs))) place)
+    ∙ allowed_length most_inputs (length inputs + length (replicate count input)) _ (omega (arith, length-replicate count input))
 
 pub replace_allowed : (A : Type 0) (cart : List ℕ) (inputs : List Input) (at count : ℕ) (input : Input) → at + count ≤ length inputs → IsAllowed (movie_of cart inputs) (edit_of A (Replace at count input))
 replace_allowed A cart inputs at count input place = allowed_length (length inputs) (at + length (replicate count input)) _ (omega (arith, length-replicate count input))

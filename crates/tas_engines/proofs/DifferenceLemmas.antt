@@ -1,7 +1,7 @@
 -- The changes that make one list of inputs of another.
-use Rattle.std.proofs.Common.{◌≡◌, ℕ, suc, ◌+◌, ◌-◌, ◌<◌, ◌≤◌, Bool, true, false, eqb, List, [], ◌∷◌, ◌++◌, length, take, drop, get_or, refl, sym, ap, subst, ◌∙◌, arith}
+use Rattle.std.proofs.Common.{◌≡◌, ℕ, suc, ◌+◌, ◌-◌, ◌<◌, ◌≤◌, Bool, true, false, eqb, List, [], ◌∷◌, ◌++◌, length, take, drop, get_or, refl, sym, ap, subst, ◌∙◌, arith, append_assoc}
 use Rattle.std.specs.Prelude.{replicate, slice_get, if◌then◌else◌}
-use Rattle.std.proofs.lemmas.Bool.{eqb-true, false≢true}
+use Rattle.std.proofs.lemmas.Bool.{eqb-true, eqb-false, false≢true}
 use Rattle.std.proofs.lemmas.List.{length-append, length-replicate, length-drop, take-append-drop, append-nil}
 use Rattle.std.proofs.lemmas.List.{take_rest, drop_more, take-take}
 use lib.Seq.{take-add, drop-drop, length-take-le}
@@ -13,7 +13,8 @@ use Rattle.tas_green.specs.Front.{IsCommonFront}
 use Rattle.tas_engines.specs.declared.change.Change.{Change}
 use Rattle.tas_engines.specs.declared.change.Change.TheVariants.{Insert, Replace, Delete}
 use Rattle.tas_engines.specs.Changes.{HaveNumbers, edit_of, changed_by, AreAllowed}
-use Rattle.tas_engines.specs.Differences.{IsCommonEnd, IsDifference, taken_out, put_in}
+use Rattle.tas_engines.specs.Differences.{IsCommonEnd, AreInOrder, DeletionsDiffer, IsDifference, taken_out, put_in}
+use Rattle.tas_engines.proofs.LineLemmas.{run_line, lines_from, head_of, with_head, none_left, whole_in_order, whole_differ}
 use Rattle.tas_engines.proofs.ChangeLemmas.{movie_of, changed_more, allowed_more, none_made, none_asked, cut, insert_allowed, replace_allowed, delete_allowed, made_insert, made_replace, made_delete, numbers_more, no_numbers, nothing_out, nothing_in, out_insert, out_replace, in_insert, in_replace, one_deletion}
 
 -- how many of the old inputs behind the common beginning are gone, where the place `at` is reached
@@ -131,6 +132,7 @@ pub record Places (old new : List Input) (replaces : Bool) (front end gone behin
   pub short : length new ≤ most_inputs
   pub short_old : length old ≤ most_inputs
   pub as_many : replaces ≡ true → front + gone ≡ behind
+  pub others : replaces ≡ false → front + gone ≡ behind → ⊥
 
 pub places : (old new : List Input) (front end : ℕ) → IsCommonFront old new front → IsCommonEnd (drop front old) (drop front new) end → length old ≤ most_inputs → length new ≤ most_inputs
     → Places old new (eqb (length old - end - front) (length new - end - front)) front end (length old - end - front) (length new - end)
@@ -148,6 +150,7 @@ places old new front end common ends short_old short =
       short = short;
       short_old = short_old;
       as_many = λ e. let same = eqb-true _ _ e in omega (arith, same, fits_old, in_old, length-drop front old, fits_new, in_new, length-drop front new);
+      others = λ e same. eqb-false _ _ e (omega (arith, same, fits_old, in_old, length-drop front old, fits_new, in_new, length-drop front new));
     }
 
 -- the new inputs stand up to the place `at`, by these changes
@@ -158,6 +161,7 @@ pub record Reached (A : Type 0) (old new : List Input) (replaces : Bool) (front 
   pub out : taken_out changes ≡ gone_by replaces front at gone
   pub into : put_in changes ≡ at - front
   pub numbers : HaveNumbers changes
+  pub said : changes ++ lines_from replaces new at behind ≡ head_of replaces front gone ++ lines_from replaces new front behind
   pub none : gone ≡ 0 → behind ≡ front → changes ≡ []
 
 -- before any change
@@ -170,9 +174,14 @@ reached_first A old new replaces front end gone behind p zero = record {
   out = nothing_out ∙ sym zero;
   into = nothing_in ∙ minus;
   numbers = no_numbers;
+  said = sym (ap (λ (l : List Change). l ++ lines_from replaces new front behind) (no_head replaces zero));
   none = λ a b. refl;
 }
   where
+    no_head : (replaces : Bool) → gone_by replaces front front gone ≡ 0 → head_of replaces front gone ≡ []
+    no_head true none = refl
+    no_head false none = ap (head_of false front) none
+
     minus : 0 ≡ front - front
     minus = omega arith
 
@@ -189,6 +198,7 @@ reached_deletion A old new front end gone behind p some =
       out = one.0;
       into = one.1 ∙ minus;
       numbers = numbers_more [] (Delete front gone) no_numbers (omega (arith, whole, short), omega (arith, whole, short));
+      said = sym (ap (λ (l : List Change). l ++ lines_from false new front behind) (with_head front gone some));
       none = λ a b. absurd (omega (arith, some, a));
     }
   where
@@ -213,8 +223,9 @@ first_insertion A old new false front end gone behind changes none p is = rw is 
 -- after a run
 pub reached_next : (A : Type 0) (old new : List Input) (replaces : Bool) (front end gone behind at count : ℕ) (input : Input) (changes : List Change) → Places old new replaces front end gone behind
     → Reached A old new replaces front gone behind at changes → 0 < count → at + count ≤ behind → take count (drop at new) ≡ replicate count input
+    → lines_from replaces new at behind ≡ run_line replaces at count input ∷ lines_from replaces new (at + count) behind
     → Reached A old new replaces front gone behind (at + count) (changes ++ (if replaces then Replace at count input else Insert at count input) ∷ [])
-reached_next A old new true front end gone behind at count input changes p r some fits run =
+reached_next A old new true front end gone behind at count input changes p r some fits run line =
     let old_len = p.out in
     let new_len = p.into in
     let short = p.short in
@@ -233,9 +244,10 @@ reached_next A old new true front end gone behind at count input changes p r som
       out = out_replace changes at count input ∙ ap (λ (n : ℕ). n + count) out ∙ next;
       into = in_replace changes at count input ∙ ap (λ (n : ℕ). n + count) into ∙ next;
       numbers = numbers_more changes (Replace at count input) r.numbers (omega (arith, new_len, fits, short), omega (arith, new_len, fits, short));
+      said = append_assoc changes (Replace at count input ∷ []) (lines_from true new (at + count) behind) ∙ ap (λ (l : List Change). changes ++ l) (sym line) ∙ r.said;
       none = λ a b. absurd (omega (arith, begins, b, fits, some));
     }
-reached_next A old new false front end gone behind at count input changes p r some fits run =
+reached_next A old new false front end gone behind at count input changes p r some fits run line =
     let old_len = p.out in
     let new_len = p.into in
     let short = p.short in
@@ -252,6 +264,7 @@ reached_next A old new false front end gone behind at count input changes p r so
       out = out_insert changes at count input ∙ out;
       into = in_insert changes at count input ∙ ap (λ (n : ℕ). n + count) into ∙ next;
       numbers = numbers_more changes (Insert at count input) r.numbers (omega (arith, new_len, fits, short), omega (arith, new_len, fits, short));
+      said = append_assoc changes (Insert at count input ∷ []) (lines_from false new (at + count) behind) ∙ ap (λ (l : List Change). changes ++ l) (sym line) ∙ r.said;
       none = λ a b. absurd (omega (arith, begins, b, fits, some));
     }
 
@@ -267,6 +280,8 @@ reached_last A old new replaces front end gone behind at changes p r last =
     let begins = p.begins in
     let out = r.out ∙ all in
     let into = r.into in
+    let whole : changes ≡ head_of replaces front gone ++ lines_from replaces new front behind =
+    sym (append-nil changes) ∙ ap (λ (l : List Change). changes ++ l) (sym (none_left replaces new at behind last)) ∙ r.said in
     record {
       allowed = r.stands.allowed;
       made = finished A old new _ at changes r.stands (ap (λ (n : ℕ). drop n (drop front old)) all ∙ behind_all there);
@@ -278,6 +293,9 @@ reached_last A old new replaces front end gone behind at changes p r last =
         out = omega (arith, out, whole_old);
         into = omega (arith, into, there, whole_new, begins);
       };
+      order = subst AreInOrder (sym whole) (whole_in_order replaces new front gone behind);
+      deletions = subst DeletionsDiffer (sym whole)
+          (whole_differ replaces new front gone behind begins (omega (arith, whole_new)) (λ off same. p.others off (omega (arith, same, begins))));
       numbers = r.numbers;
       none = λ same. r.none (gone_none same) (come_none same);
     }

@@ -11,7 +11,7 @@ use Rattle.tas_engines.specs.declared.change.Change.{Change}
 use Rattle.tas_engines.specs.declared.making.ChangeError.{ChangeError}
 use Rattle.tas_engines.specs.declared.making.ChangeError.TheVariants.{Refused, Memory}
 use Rattle.tas_engines.specs.declared.scripts.ScriptFault.{ScriptFault}
-use Rattle.tas_engines.specs.Changes.{HasNumbers, HaveNumbers, IsChangeLine, Makes}
+use Rattle.tas_engines.specs.Changes.{HasNumbers, HaveNumbers, IsChangeLine, BringsCopies, Makes}
 use Rattle.tas_engines.proofs.ChangeLemmas.{numbers_more}
 use Rattle.tas_engines.specs.Scripts.{change_line, Reads, IsUnclear, IsStop, fault_at}
 
@@ -52,19 +52,20 @@ unclear_line rest first after is none never = λ said more change n is' says.
     never change (subst (λ (s : List ℕ). IsChangeLine s change) (same_front 10 said first more after n none (sym is' ∙ is)).0 says)
 
 refused_line : (A : Type 0) (old new : MovieContent) (rest after : List ℕ) (number : ℕ) (change : Change) (error : ChangeError) → rest ≡ change_line change ++ after → HasNumbers change
-    → Makes A old change (Err error) new → IsStop A new rest number (fault_at number error)
-refused_line A old new rest after number change (Refused (Place at len)) is numbers makes =
+    → Makes A old change (Err error) new → (error ≡ Memory → BringsCopies change) → IsStop A new rest number (fault_at number error)
+refused_line A old new rest after number change (Refused (Place at len)) is numbers makes copies =
     (refl, (at, len, rw makes.1 (record { change = change; more = after; text = is; numbers = numbers; is = makes.0 })))
-refused_line A old new rest after number change (Refused (Long len)) is numbers makes =
+refused_line A old new rest after number change (Refused (Long len)) is numbers makes copies =
     (refl, (len, rw makes.1 (record { change = change; more = after; text = is; numbers = numbers; is = makes.0 })))
-refused_line A old new rest after number change Memory is numbers makes = tt
+refused_line A old new rest after number change Memory is numbers makes copies =
+    rw makes.1 (record { change = change; more = after; text = is; numbers = numbers; copies = copies refl; allowed = makes.0 })
 
 pub stopped : (A : Type 0) (old new : MovieContent) (rest first after : List ℕ) (number : ℕ) (change : Change) (error : ChangeError) (fault : ScriptFault) → rest ≡ first ++ 10 ∷ after → IsChangeLine first change
-    → Makes A old change (Err error) new → fault ≡ fault_at number error → IsStop A new rest number fault
-stopped A old new rest first after number change error fault is says makes told =
-    rw told (refused_line A old new rest after number change error (first_line rest first after change is says) says.1 makes)
+    → Makes A old change (Err error) new → (error ≡ Memory → BringsCopies change) → fault ≡ fault_at number error → IsStop A new rest number fault
+stopped A old new rest first after number change error fault is says makes copies told =
+    rw told (refused_line A old new rest after number change error (first_line rest first after change is says) says.1 makes copies)
 
 -- a change that isn't made leaves the movie as it was
 pub same_movie : (A : Type 0) (old new : MovieContent) (change : Change) (error : ChangeError) → Makes A old change (Err error) new → new ≡ old
 same_movie A old new change (Refused refused) makes = makes.1
-same_movie A old new change Memory makes = makes
+same_movie A old new change Memory makes = makes.1

@@ -46,11 +46,17 @@ edit_of A (Insert at count input) = edit.Insert at (replicate count input)
 edit_of A (Replace at count input) = edit.Replace at (replicate count input)
 edit_of A (Delete at count) = edit.Delete at count
 
--- an edit is made where it is allowed, else refused with nothing changed
+-- the change puts copies of an input in, or in the place of others: only then is memory asked for
+abbrev pub BringsCopies : Change → Type 0
+BringsCopies (Insert at count input) = Unit {0}
+BringsCopies (Replace at count input) = Unit {0}
+BringsCopies (Delete at count) = ⊥
+
+-- an edit is made where it is allowed, else refused; where memory is refused it is allowed. Nothing is changed but where it is made
 abbrev pub MakesEdit : {A : Type 0} → MovieContent → Edit A → Result (Unit {0}) ChangeError → MovieContent → Type 0
 MakesEdit old edit (Ok _) new = IsAllowed old edit × (new ≡ edited old edit)
 MakesEdit old edit (Err (Refused refused)) new = (refusal old edit ≡ Some refused) × (new ≡ old)
-MakesEdit old edit (Err Memory) new = new ≡ old
+MakesEdit old edit (Err Memory) new = IsAllowed old edit × (new ≡ old)
 
 -- the same of a change
 abbrev pub Makes : (A : Type 0) → MovieContent → Change → Result (Unit {0}) ChangeError → MovieContent → Type 0

@@ -1,5 +1,5 @@
 -- What makes one list of inputs of another (own).
-use Rattle.std.specs.Prelude.{◌≡◌, ◌≢◌, ℕ, ◌+◌, ◌-◌, ◌<◌, ◌≤◌, List, [], ◌∷◌, length, drop, slice_get}
+use Rattle.std.specs.Prelude.{◌≡◌, ◌≢◌, ℕ, ◌+◌, ◌-◌, ◌<◌, ◌≤◌, ◌==◌, if◌then◌else◌, List, [], ◌∷◌, length, drop, slice_get}
 use Rattle.vcs_machine.specs.declared.input.Input.{Input}
 use Rattle.tas_green.specs.Front.{IsCommonFront}
 use Rattle.tas_engines.specs.declared.change.Change.{Change}
@@ -26,6 +26,56 @@ put_in (Insert at count input ∷ changes) = count + put_in changes
 put_in (Replace at count input ∷ changes) = count + put_in changes
 put_in (Delete at count ∷ changes) = put_in changes
 
+-- the place at which a change begins, and the place after what it puts in
+abbrev pub place_of : Change → ℕ
+place_of (Insert at count input) = at
+place_of (Replace at count input) = at
+place_of (Delete at count) = at
+
+abbrev pub end_of : Change → ℕ
+end_of (Insert at count input) = at + count
+end_of (Replace at count input) = at + count
+end_of (Delete at count) = at
+
+-- how many inputs a change is of
+abbrev pub count_of : Change → ℕ
+count_of (Insert at count input) = count
+count_of (Replace at count input) = count
+count_of (Delete at count) = count
+
+-- a change may begin where another one ends: replacements follow replacements, insertions follow a deletion or insertions, and the
+-- inputs are other ones, so that the two couldn't be one
+abbrev pub MayTouch : Change → Change → Type 0
+MayTouch (Replace at count input) (Replace next more other) = input ≢ other
+MayTouch (Insert at count input) (Insert next more other) = input ≢ other
+MayTouch (Delete at count) (Insert next more other) = Unit {0}
+MayTouch _ _ = ⊥
+
+-- a change follows another one, further on or right after it
+pub record Follows (before after : Change) : Type 0 where
+  pub later : end_of before ≤ place_of after
+  pub touching : end_of before ≡ place_of after → MayTouch before after
+
+-- changes go on from the beginning to the end, each of one input at least
+unfoldable pub AreInOrder : List Change → Type 0
+AreInOrder [] = Unit {0}
+AreInOrder (change ∷ []) = 1 ≤ count_of change
+AreInOrder (change ∷ next ∷ changes) = (1 ≤ count_of change) × Follows change next × AreInOrder (next ∷ changes)
+
+-- how many inputs the insertions at the head of some changes put in from a place on, one right after the other
+unfoldable pub put_in_from : ℕ → List Change → ℕ
+put_in_from place [] = 0
+put_in_from place (Insert at count input ∷ changes) = if place == at then count + put_in_from (at + count) changes else 0
+put_in_from place (Replace at count input ∷ changes) = 0
+put_in_from place (Delete at count ∷ changes) = 0
+
+-- in the place of inputs that are taken out come more or fewer: where as many come, they are replaced
+unfoldable pub DeletionsDiffer : List Change → Type 0
+DeletionsDiffer [] = Unit {0}
+DeletionsDiffer (Insert at count input ∷ changes) = DeletionsDiffer changes
+DeletionsDiffer (Replace at count input ∷ changes) = DeletionsDiffer changes
+DeletionsDiffer (Delete at count ∷ changes) = (put_in_from at changes ≢ count) × DeletionsDiffer changes
+
 -- no more is taken out and put in than what stands between the common beginning and the common end
 pub record IsBetween (old new : List Input) (changes : List Change) : Type 0 where
   pub front : ℕ
@@ -35,10 +85,12 @@ pub record IsBetween (old new : List Input) (changes : List Change) : Type 0 whe
   pub out : front + taken_out changes + end ≡ length old
   pub into : front + put_in changes + end ≡ length new
 
--- the changes make `new` of `old`, whatever the cartridge: each is allowed; and they are no more than needed
+-- the changes make `new` of `old`, whatever the cartridge: each is allowed; they are no more than needed, and none could be longer
 pub record IsDifference (A : Type 0) (old new : List Input) (changes : List Change) : Type 0 where
   pub allowed : (cart : List ℕ) → AreAllowed A (record { cart = cart; inputs = old }) changes
   pub made : (cart : List ℕ) → changed_by A (record { cart = cart; inputs = old }) changes ≡ record { cart = cart; inputs = new }
   pub between : IsBetween old new changes
+  pub order : AreInOrder changes
+  pub deletions : DeletionsDiffer changes
   pub numbers : HaveNumbers changes
   pub none : old ≡ new → changes ≡ []

@@ -19,12 +19,17 @@ script_fault (OutOfPlace number) = EditPlace number
 script_fault (TooLong number) = EditLong number
 script_fault Memory = OutOfMemory
 
--- the text of the movie that the script's changes, all of them and in order, make of the movie that was read; or why there
--- is none: the faults of the movie come before those of the script. A is the allocator, on which no answer depends
+-- the text of the movie that a script's changes, all of them and in order, make of this one; or why there is none: the script's
+-- fault, or the text of the movie that all of them made was refused memory. A is the allocator, on which no answer depends
+abbrev pub IsScriptAnswer : Type 0 → MovieContent → List ℕ → Result (List ℕ) RunFault → Type 0
+IsScriptAnswer A old script (Ok out) = (new : MovieContent) × MakesAll A old script new (Ok tt) × (out ≡ text2 new)
+IsScriptAnswer A old script (Err e) =
+    ((new : MovieContent) × (fault : ScriptFault) × MakesAll A old script new (Err fault) × (e ≡ script_fault fault)) ⊎ ((new : MovieContent) × MakesAll A old script new (Ok tt) × (e ≡ OutOfMemory))
+
+-- the same of the movie whose cartridge and text these are, or why there is no movie, which comes before the script
 abbrev pub IsEditAnswer : Type 0 → List ℕ → List ℕ → List ℕ → Result (List ℕ) RunFault → Type 0
-IsEditAnswer A image script bytes (Ok out) = (old new : MovieContent) × IsMovieOf image bytes old × MakesAll A old script new (Ok tt) × (out ≡ text2 new)
-IsEditAnswer A image script bytes (Err e) =
-    IsMovieFault image bytes e ⊎ ((old new : MovieContent) × (fault : ScriptFault) × IsMovieOf image bytes old × MakesAll A old script new (Err fault) × (e ≡ script_fault fault))
+IsEditAnswer A image script bytes (Ok out) = (old : MovieContent) × IsMovieOf image bytes old × IsScriptAnswer A old script (Ok out)
+IsEditAnswer A image script bytes (Err e) = IsMovieFault image bytes e ⊎ ((old : MovieContent) × IsMovieOf image bytes old × IsScriptAnswer A old script (Err e))
 
 -- `tas edit`, from what its readers (a cartridge, a script and a movie text) have and the writer holds before to what they
 -- have and hold afterwards

@@ -5,14 +5,14 @@ use Rattle.tas_movie.specs.Content.{MovieContent}
 use Rattle.tas_movie.specs.Text.{line}
 use Rattle.tas_movie.specs.declared.edit.EditRefusal.{EditRefusal}
 use Rattle.tas_movie.specs.declared.edit.EditRefusal.TheVariants.{Place, Long}
-use Rattle.tas_movie.specs.Edit.{refusal}
+use Rattle.tas_movie.specs.Edit.{refusal, IsAllowed}
 use Rattle.tas_language.specs.Commands.{NoByte}
 use Rattle.tas_engines.specs.declared.change.Change.{Change}
 use Rattle.tas_engines.specs.declared.making.ChangeError.{ChangeError}
 use Rattle.tas_engines.specs.declared.making.ChangeError.TheVariants.{Refused, Memory as NoRoom}
 use Rattle.tas_engines.specs.declared.scripts.ScriptFault.{ScriptFault}
 use Rattle.tas_engines.specs.declared.scripts.ScriptFault.TheVariants.{Line, OutOfPlace, TooLong, Memory}
-use Rattle.tas_engines.specs.Changes.{change_text, HasNumbers, HaveNumbers, IsChangeLine, edit_of, changed_by, AreAllowed}
+use Rattle.tas_engines.specs.Changes.{change_text, HasNumbers, HaveNumbers, IsChangeLine, BringsCopies, edit_of, changed_by, AreAllowed}
 
 -- the line of a change, with its newline
 abbrev pub change_line : Change → List ℕ
@@ -35,6 +35,15 @@ pub record IsRefused (A : Type 0) (movie : MovieContent) (bytes : List ℕ) (ref
   pub numbers : HasNumbers change
   pub is : refusal movie (edit_of A change) ≡ Some refused
 
+-- the first line says a change that is allowed, and brings copies of an input, for which memory is asked
+pub record AsksForMemory (A : Type 0) (movie : MovieContent) (bytes : List ℕ) : Type 0 where
+  pub change : Change
+  pub more : List ℕ
+  pub text : bytes ≡ change_line change ++ more
+  pub numbers : HasNumbers change
+  pub copies : BringsCopies change
+  pub allowed : IsAllowed movie (edit_of A change)
+
 -- the fault of a line whose change isn't made
 abbrev pub fault_at : ℕ → ChangeError → ScriptFault
 fault_at number (Refused (Place at len)) = OutOfPlace number
@@ -42,12 +51,12 @@ fault_at number (Refused (Long len)) = TooLong number
 fault_at number NoRoom = Memory
 
 -- why no change is made of the rest of a script: its first line, of this number, isn't understood, or is refused; or
--- memory was refused
+-- is allowed and was refused memory
 abbrev pub IsStop : Type 0 → MovieContent → List ℕ → ℕ → ScriptFault → Type 0
 IsStop A movie rest number (Line at) = (at ≡ number) × (0 < length rest) × IsUnclear rest
 IsStop A movie rest number (OutOfPlace at) = (at ≡ number) × ((place len : ℕ) × IsRefused A movie rest (Place place len))
 IsStop A movie rest number (TooLong at) = (at ≡ number) × ((len : ℕ) × IsRefused A movie rest (Long len))
-IsStop A movie rest number Memory = Unit {0}
+IsStop A movie rest number Memory = AsksForMemory A movie rest
 
 -- what a script makes of a movie: all its changes are made, in order, or those up to the first line at fault
 abbrev pub MakesAll : Type 0 → MovieContent → List ℕ → MovieContent → Result (Unit {0}) ScriptFault → Type 0

@@ -2,12 +2,12 @@
 
 ghost use Rattle.std.specs.Prelude.{◌≡◌, Ok, Err, IfOk, IfErr};
 ghost use Rattle.tas_engines.specs.Output.{Ends};
-ghost use Rattle.tas_engines.specs.Editing.{script_fault, IsEditAnswer, IsEditRun};
+ghost use Rattle.tas_engines.specs.Editing.{script_fault, IsScriptAnswer, IsEditAnswer, IsEditRun};
 
 use crate::{RunFault, ScriptFault, ToolFault, edit_movie, movie_of, read_three, write_all};
 use std::alloc::Allocator;
 use std::io::{Read, Write};
-use tas_movie::print_text;
+use tas_movie::{Movie, print_text};
 
 /// How a script's fault is told.
 fn script_fault(fault: ScriptFault) -> RunFault
@@ -21,6 +21,20 @@ fn script_fault(fault: ScriptFault) -> RunFault
     }
 }
 
+/// The text of the movie that a script makes of this one, or why there is none. `Memory` comes only at a line whose
+/// change is allowed and brings copies of an input, and for the text of a movie that all lines have made.
+fn text_made<A: Allocator + Copy>(
+    alloc: A,
+    movie: &mut Movie<A>,
+    script: &[u8],
+) -> Result<Vec<u8, A>, RunFault>
+    ensures text { IfOk result (λ text. IsScriptAnswer A movie.old script.now (Ok text.items)) }
+    ensures fault { IfErr result (λ fault. IsScriptAnswer A movie.old script.now (Err fault)) }
+{
+    edit_movie(alloc, movie, script).map_err(script_fault)?;
+    Ok(print_text(alloc, movie)?)
+}
+
 /// The text of the movie that a script makes of the one whose cartridge and text these are, or why there is none.
 fn edited_text<A: Allocator + Copy>(
     alloc: A,
@@ -32,8 +46,7 @@ fn edited_text<A: Allocator + Copy>(
     ensures fault { IfErr result (λ fault. IsEditAnswer A image.now script.now bytes.now (Err fault)) }
 {
     let mut movie = movie_of(alloc, image, bytes)?;
-    edit_movie(alloc, &mut movie, script).map_err(script_fault)?;
-    Ok(print_text(alloc, &movie)?)
+    text_made(alloc, &mut movie, script)
 }
 
 /// Writes the text of the movie that a script makes of the one whose cartridge and text these are.

@@ -1,8 +1,8 @@
 //! Making a change.
 
-ghost use Rattle.std.specs.Prelude.{◌≡◌, IfOk};
+ghost use Rattle.std.specs.Prelude.{◌≡◌, Err, IfOk, OnErr};
 ghost use Rattle.tas_movie.specs.Edit.{refusal, check_answer};
-ghost use Rattle.tas_engines.specs.Changes.{edit_of, Makes};
+ghost use Rattle.tas_engines.specs.Changes.{edit_of, BringsCopies, Makes};
 
 use crate::Change;
 use std::alloc::{AllocError, Allocator};
@@ -32,7 +32,8 @@ fn check_change<A: Allocator>(movie: &Movie<A>, change: Change) -> Result<(), Ed
 
 /// The edit that a change asks for. `AllocError` where the room for the copies of the input is refused.
 fn edit_of<A: Allocator>(alloc: A, change: Change) -> Result<Edit<A>, AllocError>
-    ensures { IfOk result (λ edit. edit ≡ edit_of A change) }
+    ensures edit { IfOk result (λ edit. edit ≡ edit_of A change) }
+    ensures memory { OnErr result (BringsCopies change) }
 {
     match change {
         Change::Insert { at, count, input } => {
@@ -49,13 +50,15 @@ fn edit_of<A: Allocator>(alloc: A, change: Change) -> Result<Edit<A>, AllocError
 
 /// Makes a change on a movie, where it is allowed (own): `Refused` as `tas_movie::check` refuses the
 /// edit, and this comes before memory is asked for; `Memory` where the room for the copies of the input
-/// was refused. Both leave the movie as it was.
+/// of a change that is allowed was refused. Both leave the movie as it was.
 pub fn make_change<A: Allocator, B: Allocator>(
     alloc: B,
     movie: &mut Movie<A>,
     change: Change,
 ) -> Result<(), ChangeError>
-    ensures { Makes B movie.old change result movie.new }
+    ensures made { Makes B movie.old change result movie.new }
+    // A deletion asks for none.
+    ensures memory { result ≡ Err ChangeError.Memory → BringsCopies change }
 {
     check_change(movie, change).map_err(ChangeError::Refused)?;
     let edit = edit_of(alloc, change).map_err(|_| ChangeError::Memory)?;

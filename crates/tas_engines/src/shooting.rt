@@ -1,6 +1,6 @@
 //! `tas shot`.
 
-ghost use Rattle.std.specs.Prelude.{◌≡◌, ◌⊎◌, Ok, Err, IfOk, IfErr};
+ghost use Rattle.std.specs.Prelude.{◌≡◌, ◌<◌, ◌⊎◌, length, Ok, Err, IfOk, IfErr};
 ghost use Rattle.vcs_tia.specs.Image.{ppm_bytes};
 ghost use Rattle.tas_engines.specs.declared.fault.RunFault.TheVariants.{Memory};
 ghost use Rattle.tas_engines.specs.Output.{Ends};
@@ -25,14 +25,18 @@ pub fn halt_fault(halt: Halt) -> RunFault
     }
 }
 
-/// The picture of frame `k` of a movie, or why there is none.
+/// The picture of frame `k` of a movie, or why there is none. The new meter rises by the frames that were played: after
+/// `Memory`, which never comes in place of `NoFrame`, by none, so it never comes in place of `Halted` either.
 fn draw_frame<A: Allocator + Copy>(
     alloc: A,
     movie: &Movie<A>,
     k: usize,
+    meter: &mut Meter,
 ) -> Result<Picture<A>, RunFault>
+    requires { meter.old ≡ 0 }
     ensures drawn { IfOk result (λ picture. IsShot movie.now k (ppm_bytes picture)) }
     ensures fault { IfErr result (λ fault. (fault ≡ Memory) ⊎ IsShotFault movie.now k fault) }
+    ensures memory { IfErr result (λ fault. fault ≡ Memory → (k < length movie.now.inputs) × (meter.new ≡ 0)) }
 {
     let len = movie.len();
     if k >= len {
@@ -40,8 +44,7 @@ fn draw_frame<A: Allocator + Copy>(
     }
     let mut picture = Picture::blank(alloc)?;
     let mut green = Green::new(alloc);
-    let mut meter = Meter::new();
-    match green.shot(movie, k, &mut picture, &mut meter)? {
+    match green.shot(movie, k, &mut picture, meter)? {
         Ok(()) => Ok(picture),
         Err(halt) => Err(halt_fault(halt)),
     }
@@ -58,7 +61,8 @@ fn picture_of<A: Allocator + Copy>(
     ensures fault { IfErr result (λ fault. IsShotAnswer k image.now bytes.now (Err fault)) }
 {
     let movie = movie_of(alloc, image, bytes)?;
-    draw_frame(alloc, &movie, k)
+    let mut meter = Meter::new();
+    draw_frame(alloc, &movie, k, &mut meter)
 }
 
 /// Writes the picture of frame `k` of the movie whose cartridge and text these are.

@@ -1,12 +1,20 @@
 -- A desk's seat that makes a movie by its first two edits (own). Private functions cite this file.
-use Rattle.std.specs.Prelude.{◌≡◌, ◌≤◌, length, take, Result, Ok, Err}
+use Rattle.std.specs.Prelude.{◌≡◌, ℕ, ◌≤◌, ◌==◌, if◌then◌else◌, length, take, None, Result, Ok, Err}
 use Rattle.tas_movie.specs.Content.{MovieContent}
+use Rattle.tas_movie.specs.declared.edit.Edit.{Edit}
+use Rattle.tas_movie.specs.declared.edit.Edit.TheVariants.{Load, Insert}
+use Rattle.tas_desk.specs.declared.export.Exported.{Exported}
+use Rattle.tas_desk.specs.declared.export.ExportError.{ExportError}
+use Rattle.tas_desk.specs.declared.export.ExportError.TheVariants.{Range as OffRange, Memory as OutOfRoom, Halted as HaltedAt, Write as WriteFailed}
+use Rattle.tas_desk.specs.Session.{refusal_at}
 use Rattle.tas_desk.specs.History.{movie_of, entries_of}
 use Rattle.tas_desk.specs.Seats.{SeatContent}
 use Rattle.tas_desk.specs.declared.replies.EditError.{EditError}
 use Rattle.tas_desk.specs.declared.replies.EditError.TheVariants.{Memory as NoRoom}
 use Rattle.tas_engines.specs.declared.fault.RunFault.{RunFault}
-use Rattle.tas_engines.specs.declared.fault.RunFault.TheVariants.{Range, Halted, Foreign, Memory}
+use Rattle.tas_engines.specs.declared.fault.RunFault.TheVariants.{Range, Halted, Write, Foreign, Memory}
+use Rattle.tas_engines.specs.Shooting.{halt_fault}
+use Rattle.tas_tool.specs.Checking.{checked_end}
 use Rattle.tas_tool.specs.Turns.{HasForeign}
 
 -- the seat made two edits, which are the first ones of what it has seen, and make this movie
@@ -26,6 +34,22 @@ abbrev pub IsMakingFault : {A : Type 0} → SeatContent A → RunFault → Type 
 IsMakingFault seat Memory = Unit {0}
 IsMakingFault seat Foreign = HasForeign seat
 IsMakingFault seat _ = ⊥
+
+-- the edit of the two that comes after so many of them
+abbrev pub next_edit : (A : Type 0) → MovieContent → ℕ → Edit A
+next_edit A movie made = if made == 0 then Load movie.cart else Insert 0 movie.inputs
+
+-- nothing refuses the edit that the seat makes next
+abbrev pub IsUnrefused : (A : Type 0) → SeatContent A → MovieContent → Type 0
+IsUnrefused A seat movie = refusal_at seat.front seat.number seat.made (next_edit A movie seat.made) ≡ None
+
+-- what a desk's answer to an export is told as: one that tells of the movie's frames is compared with the two edits
+abbrev pub export_end : ℕ → ℕ → Result Exported ExportError → Result (Unit {0}) RunFault
+export_end from to (Ok exported) = checked_end 2 exported.at (Ok tt)
+export_end from to (Err (OffRange at len)) = checked_end 2 at (Err (Range from to len))
+export_end from to (Err OutOfRoom) = Err Memory
+export_end from to (Err (HaltedAt at frame halt)) = checked_end 2 at (Err (halt_fault halt))
+export_end from to (Err (WriteFailed written error)) = Err (Write written)
 
 -- an answer that tells of the movie's frames stands at just the seat's own edits, and one that tells of others' edits doesn't
 abbrev pub StandsAtOwn : {A : Type 0} → SeatContent A → Result (Unit {0}) RunFault → Type 0

@@ -1,12 +1,15 @@
 //! `tas export`.
 
-ghost use Rattle.std.specs.Prelude.{◌≡◌, ◌≤◌, [], length};
+ghost use Rattle.std.specs.Prelude.{◌≡◌, ◌≤◌, [], length, IfErr};
 ghost use Rattle.tas_desk.specs.Runs.{most_workers};
-ghost use Rattle.tas_desk.specs.Seats.{name_of};
+ghost use Rattle.tas_desk.specs.Exports.{IsInRange};
+ghost use Rattle.tas_desk.specs.History.{movie_of};
+ghost use Rattle.tas_desk.specs.Seats.{name_of, HasSeen};
+ghost use Rattle.tas_engines.specs.declared.fault.RunFault.TheVariants.{Memory};
 ghost use Rattle.tas_engines.specs.Movies.{IsMovieRun};
 ghost use Rattle.tas_engines.specs.Output.{Ends};
 ghost use Rattle.tas_tool.specs.Pixmaps.{IsPixmapsAnswer, IsExportAnswer};
-ghost use Rattle.tas_tool.specs.TwoEdits.{StandsAtOwn};
+ghost use Rattle.tas_tool.specs.TwoEdits.{export_end, StandsAtOwn};
 
 use crate::answering::{OpenGate, checked};
 use crate::making::{MOVIE_EDITS, put_movie};
@@ -16,7 +19,7 @@ use std::io::{Read, Write};
 use std::marker::Brand;
 use std::sync::Wait;
 use std::thread::Threads;
-use tas_desk::{CloseOnDrop, Desk, ExportError, MAX_WORKERS, Name, Seat, Unopened};
+use tas_desk::{CloseOnDrop, Desk, ExportError, Exported, MAX_WORKERS, Name, Seat, Unopened};
 use tas_engines::{RunFault, ToolFault, halt_fault, movie_of, read_two};
 use tas_movie::Movie;
 
@@ -26,6 +29,59 @@ struct Frames {
     from: usize,
     to: usize,
     workers: usize,
+}
+
+/// What a desk's answer is told as: one that tells of the movie's frames is compared with the two edits that made it.
+fn export_end(
+    from: usize,
+    to: usize,
+    answer: Result<Exported, ExportError>,
+) -> Result<(), RunFault>
+    ensures { result ≡ export_end from to answer }
+{
+    match answer {
+        Ok(exported) => checked(MOVIE_EDITS, exported.at, Ok(())),
+        Err(ExportError::Range { at, len }) => checked(
+            MOVIE_EDITS,
+            at,
+            Err(RunFault::Range { from, to, len }),
+        ),
+        Err(ExportError::Memory) => Err(RunFault::Memory),
+        Err(ExportError::Halted { at, frame: _, halt }) => checked(
+            MOVIE_EDITS,
+            at,
+            Err(halt_fault(halt)),
+        ),
+        Err(ExportError::Write { written, error: _ }) => Err(RunFault::Write { written }),
+    }
+}
+
+/// Writes the pictures of some frames of the movie that the seat made by two edits. `Memory` never comes where the movie
+/// hasn't these frames.
+fn write_frames<
+    N: Name,
+    C: CloseOnDrop,
+    A: Allocator + Copy + Send + Sync,
+    R: Wait + Threads + Sync,
+    W: Write,
+>(
+    rt: &R,
+    alloc: A,
+    desk: &Desk<N, C, A>,
+    seat: &mut Seat<N, A>,
+    frames: Frames,
+    output: &mut W,
+) -> Result<(), RunFault>
+    requires two { (seat.old.made ≡ 2) × (2 ≤ length seat.old.front) }
+    requires workers { (1 ≤ frames.workers) × (frames.workers ≤ most_workers) }
+    ensures seen { HasSeen seat.old seat.new }
+    ensures own { StandsAtOwn seat.new result }
+    ensures ends { length seat.new.front ≤ seat.new.made → Ends (IsPixmapsAnswer (movie_of seat.new.front) frames.from frames.to) (W.contents output.old) (W.contents output.new) result }
+    ensures memory { IfErr result (λ fault. fault ≡ Memory → IsInRange (length (movie_of seat.new.front).inputs) frames.from frames.to) }
+{
+    let Frames { from, to, workers } = frames;
+    let answer = desk.export(rt, alloc, seat, from, to, workers, &OpenGate, output);
+    export_end(from, to, answer)
 }
 
 /// Makes a movie by the seat's first two edits, and writes the pictures of some of its frames.
@@ -51,22 +107,7 @@ fn export_made<
     ensures ends { length seat.new.front ≤ seat.new.made → Ends (IsPixmapsAnswer movie.now frames.from frames.to) (W.contents output.old) (W.contents output.new) result }
 {
     put_movie(rt, alloc, desk, seat, movie)?;
-    let Frames { from, to, workers } = frames;
-    match desk.export(rt, alloc, seat, from, to, workers, &OpenGate, output) {
-        Ok(exported) => checked(MOVIE_EDITS, exported.at, Ok(())),
-        Err(ExportError::Range { at, len }) => checked(
-            MOVIE_EDITS,
-            at,
-            Err(RunFault::Range { from, to, len }),
-        ),
-        Err(ExportError::Memory) => Err(RunFault::Memory),
-        Err(ExportError::Halted { at, frame: _, halt }) => checked(
-            MOVIE_EDITS,
-            at,
-            Err(halt_fault(halt)),
-        ),
-        Err(ExportError::Write { written, error: _ }) => Err(RunFault::Write { written }),
-    }
+    write_frames(rt, alloc, desk, seat, frames, output)
 }
 
 /// Makes a movie on a desk of one seat, writes the pictures of some of its frames, and closes the desk.

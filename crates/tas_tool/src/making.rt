@@ -2,7 +2,8 @@
 
 ghost use Rattle.std.specs.Prelude.{◌≡◌, ◌≤◌, [], length, OnOk, IfOk, IfErr};
 ghost use Rattle.tas_movie.specs.Content.{most_inputs};
-ghost use Rattle.tas_tool.specs.TwoEdits.{edit_fault, HoldsMovie, IsMakingFault};
+ghost use Rattle.tas_engines.specs.declared.fault.RunFault.TheVariants.{Memory};
+ghost use Rattle.tas_tool.specs.TwoEdits.{edit_fault, HoldsMovie, IsMakingFault, IsUnrefused};
 
 use crate::answering::checked;
 use std::alloc::{AllocError, Allocator};
@@ -40,7 +41,7 @@ fn parts_of<A: Allocator + Copy>(
 
 /// Gives a desk without edits its movie, by a seat's first two edits: the cartridge is loaded, then the inputs are put in.
 ///
-/// Faults: `Memory`, and `Foreign` where the desk has other edits.
+/// Faults: `Memory`, where the desk refuses neither edit, and `Foreign` where it has other edits.
 pub fn put_movie<N: Name, W: CloseOnDrop, A: Allocator + Copy, R: Wait>(
     rt: &R,
     alloc: A,
@@ -53,6 +54,7 @@ pub fn put_movie<N: Name, W: CloseOnDrop, A: Allocator + Copy, R: Wait>(
     ensures zone { seat.new.zone ≡ seat.old.zone }
     ensures holds { OnOk result (HoldsMovie seat.new movie.now) }
     ensures fault { IfErr result (IsMakingFault seat.new) }
+    ensures memory { IfErr result (λ fault. fault ≡ Memory → IsUnrefused A seat.new movie.now) }
 {
     let (cart, inputs) = parts_of(alloc, movie)?;
     match desk.edit(rt, seat, Edit::Load(cart)) {

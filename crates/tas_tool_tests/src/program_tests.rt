@@ -1,7 +1,9 @@
 //! What each command writes, and what it tells of faults.
 
 use crate::checks::{check_same, check_that};
-use crate::movies::{HALTING, PLAYFIELD, image_of, joined, playfield_picture};
+use crate::movies::{
+    HALTING, IDLE, PLAYFIELD, Program, image_of, joined, playfield_picture, text_of,
+};
 use crate::programs::{ONE_FRAME, TWO_FRAMES, TwoFiles, check_run, check_unread, only_game, run};
 use std::alloc::Global;
 use std::io::ErrorKind;
@@ -215,48 +217,31 @@ fn faults_end_with_status_1(rt: HostRuntime) {
     check_cases(&rt, alloc, b"1234567", SIZE_FAULT.as_slice());
 }
 
-/// `000=4C0C00 FFC=00F0`: goes on at the address 000C, which tells the left fire button.
-const AT_THE_BUTTON: &[u8] = b"\x4c\x0c\x00";
+/// `000=4C0C00 FFC=00F0`: goes on at the address 000C, which shows the left fire button.
+const AT_THE_BUTTON: Program = Program {
+    bytes: b"\x4c\x0c\x00",
+    digest: "30f49a6ef25379cf93c2f36ddbf9988035ff9a5bd05acdca15e753c18fecd9e5",
+};
 
-/// A movie of its cartridge, with one frame of nothing pressed. The digest comes from another program, as the next one does.
-const BUTTON_FRAME: &[u8] =
-    b"a26movie 2\ncart 30f49a6ef25379cf93c2f36ddbf9988035ff9a5bd05acdca15e753c18fecd9e5\n..... ..... .....\n";
-
-/// A movie of five frames, whose fourth one halts.
-const FIVE_FRAMES: &[u8] =
-    b"a26movie 2\ncart c914dfbc057cd1e5dd9cefcba07cec773cc85a8be3a04676377b60ded704d22d\n..... ..... ..... x5\n";
-
-/// Programs of cartridges, and commands over them that meet a halt.
-static HALTS: [(&[u8], Case<'static>); 3] = [
+/// Programs of cartridges, how many frames of nothing pressed their movies have, the words, and the line of the halt that they meet.
+static HALTS: [(Program, usize, &[&str], &[u8]); 3] = [
     (
-        HALTING.bytes,
-        (
-            &["shot", "game.bin", "3"],
-            b"",
-            FIVE_FRAMES,
-            b"",
-            b"fault: halted at F00D by 02\n",
-        ),
+        HALTING,
+        5,
+        &["shot", "game.bin", "3"],
+        b"fault: halted at F00D by 02\n",
     ),
     (
-        HALTING.bytes,
-        (
-            &["export", "game.bin", "1", "5", "2"],
-            b"",
-            FIVE_FRAMES,
-            b"",
-            b"fault: halted at F00D by 02\n",
-        ),
+        HALTING,
+        5,
+        &["export", "game.bin", "1", "5", "2"],
+        b"fault: halted at F00D by 02\n",
     ),
     (
         AT_THE_BUTTON,
-        (
-            &["shot", "game.bin", "0"],
-            b"",
-            BUTTON_FRAME,
-            b"",
-            b"fault: halted at 000C by 80\n",
-        ),
+        1,
+        &["shot", "game.bin", "0"],
+        b"fault: halted at 000C by 80\n",
     ),
 ];
 
@@ -264,9 +249,12 @@ static HALTS: [(&[u8], Case<'static>); 3] = [
 #[test]
 fn halts_end_with_status_1(rt: HostRuntime) {
     let alloc = rt.alloc();
-    for (program, case) in HALTS.iter() {
-        let game = image_of(&rt, alloc, *program);
-        check_case(&rt, alloc, game.as_slice(), *case);
+    for row in HALTS.iter() {
+        let (program, frames, words, line) = *row;
+        let game = image_of(&rt, alloc, program.bytes);
+        let text = text_of(&rt, alloc, program, frames, IDLE);
+        let case: Case = (words, b"", text.as_bytes(), b"", line);
+        check_case(&rt, alloc, game.as_slice(), case);
     }
 }
 

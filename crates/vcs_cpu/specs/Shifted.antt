@@ -1,5 +1,15 @@
--- Differences of digits as the code has them: 16 or 256 more than the whole numbers, so that none is below 0. Only private functions cite this file.
-use Rattle.std.specs.Prelude.{ℕ, ◌+◌, ◌-◌, ◌*◌, ◌/◌, ◌%◌, nat_lt, if◌then◌else◌}
+-- Sums and differences of digits as the code has them: 16, 128 or 256 more than the whole numbers, so that none is below 0. Only private
+-- functions cite this file.
+use Rattle.std.specs.Prelude.{ℕ, ◌+◌, ◌-◌, ◌*◌, ◌/◌, ◌%◌, nat_lt, ◌||◌, Bool, if◌then◌else◌}
+use Rattle.vcs_cpu.specs.Arithmetic.{corrected_low_sum}
+
+-- 128 more than a byte's high digit, read as a signed byte
+abbrev pub shifted_high_digit : ℕ → ℕ
+shifted_high_digit a = (16 * (a / 16) + 128) % 256
+
+-- V of a decimal ADC, by a sum that is 256 more
+abbrev pub shifted_overflow : ℕ → ℕ → ℕ → Bool
+shifted_overflow a b c = let sum = shifted_high_digit a + shifted_high_digit b + corrected_low_sum a b c in nat_lt sum 128 || nat_lt 383 sum
 
 -- 16 more than the corrected difference of the low digits
 abbrev pub shifted_low_difference : ℕ → ℕ → ℕ → ℕ

@@ -2,10 +2,11 @@
 #![tactic(auto)]
 
 use crate::addressing::{
-    Addressing, Operand, at, branch_place, index, read_jump_pointer, read_operand_byte,
-    read_operand_word, read_zero_page_pointer, word_of,
+    Addressing, Operand, at, branch_place, index, read_jump_pointer, read_zero_page_pointer,
+    word_of,
 };
 use crate::bus::Bus;
+use crate::code::{operand_byte, operand_word};
 use crate::regs::Regs;
 
 /// There is no operand.
@@ -18,7 +19,7 @@ impl Addressing for Implied {
     ghost mode = { λ m. mode.Implied };
 
     #[inline(always)]
-    fn locate<B: Bus>(self, pc: u16, _regs: &Regs, _bus: &B) -> (Operand, u16) {
+    fn locate<B: Bus>(self, _code: u32, pc: u16, _regs: &Regs, _bus: &B) -> (Operand, u16) {
         (Operand::Nowhere, pc.wrapping_add(1))
     }
 }
@@ -33,7 +34,7 @@ impl Addressing for Accumulator {
     ghost mode = { λ m. mode.Accumulator };
 
     #[inline(always)]
-    fn locate<B: Bus>(self, pc: u16, _regs: &Regs, _bus: &B) -> (Operand, u16) {
+    fn locate<B: Bus>(self, _code: u32, pc: u16, _regs: &Regs, _bus: &B) -> (Operand, u16) {
         (Operand::Accumulator, pc.wrapping_add(1))
     }
 }
@@ -48,9 +49,9 @@ impl Addressing for Immediate {
     ghost mode = { λ m. mode.Immediate };
 
     #[inline(always)]
-    fn locate<B: Bus>(self, pc: u16, _regs: &Regs, bus: &B) -> (Operand, u16) {
+    fn locate<B: Bus>(self, code: u32, pc: u16, _regs: &Regs, bus: &B) -> (Operand, u16) {
         (
-            Operand::Immediate(read_operand_byte(pc, bus)),
+            Operand::Immediate(operand_byte(code, pc, bus)),
             pc.wrapping_add(2),
         )
     }
@@ -66,8 +67,8 @@ impl Addressing for ZeroPage {
     ghost mode = { λ m. mode.ZeroPage };
 
     #[inline(always)]
-    fn locate<B: Bus>(self, pc: u16, _regs: &Regs, bus: &B) -> (Operand, u16) {
-        (at(read_operand_byte(pc, bus) as u16), pc.wrapping_add(2))
+    fn locate<B: Bus>(self, code: u32, pc: u16, _regs: &Regs, bus: &B) -> (Operand, u16) {
+        (at(operand_byte(code, pc, bus) as u16), pc.wrapping_add(2))
     }
 }
 
@@ -81,8 +82,8 @@ impl Addressing for ZeroPageX {
     ghost mode = { λ m. mode.ZeroPageX };
 
     #[inline(always)]
-    fn locate<B: Bus>(self, pc: u16, regs: &Regs, bus: &B) -> (Operand, u16) {
-        let zero = read_operand_byte(pc, bus).wrapping_add(regs.x);
+    fn locate<B: Bus>(self, code: u32, pc: u16, regs: &Regs, bus: &B) -> (Operand, u16) {
+        let zero = operand_byte(code, pc, bus).wrapping_add(regs.x);
         (at(zero as u16), pc.wrapping_add(2))
     }
 }
@@ -97,8 +98,8 @@ impl Addressing for ZeroPageY {
     ghost mode = { λ m. mode.ZeroPageY };
 
     #[inline(always)]
-    fn locate<B: Bus>(self, pc: u16, regs: &Regs, bus: &B) -> (Operand, u16) {
-        let zero = read_operand_byte(pc, bus).wrapping_add(regs.y);
+    fn locate<B: Bus>(self, code: u32, pc: u16, regs: &Regs, bus: &B) -> (Operand, u16) {
+        let zero = operand_byte(code, pc, bus).wrapping_add(regs.y);
         (at(zero as u16), pc.wrapping_add(2))
     }
 }
@@ -113,8 +114,8 @@ impl Addressing for Absolute {
     ghost mode = { λ m. mode.Absolute };
 
     #[inline(always)]
-    fn locate<B: Bus>(self, pc: u16, _regs: &Regs, bus: &B) -> (Operand, u16) {
-        (at(read_operand_word(pc, bus)), pc.wrapping_add(3))
+    fn locate<B: Bus>(self, code: u32, pc: u16, _regs: &Regs, bus: &B) -> (Operand, u16) {
+        (at(operand_word(code, pc, bus)), pc.wrapping_add(3))
     }
 }
 
@@ -128,9 +129,9 @@ impl Addressing for AbsoluteX {
     ghost mode = { λ m. mode.AbsoluteX };
 
     #[inline(always)]
-    fn locate<B: Bus>(self, pc: u16, regs: &Regs, bus: &B) -> (Operand, u16) {
+    fn locate<B: Bus>(self, code: u32, pc: u16, regs: &Regs, bus: &B) -> (Operand, u16) {
         (
-            index(read_operand_word(pc, bus), regs.x),
+            index(operand_word(code, pc, bus), regs.x),
             pc.wrapping_add(3),
         )
     }
@@ -146,9 +147,9 @@ impl Addressing for AbsoluteY {
     ghost mode = { λ m. mode.AbsoluteY };
 
     #[inline(always)]
-    fn locate<B: Bus>(self, pc: u16, regs: &Regs, bus: &B) -> (Operand, u16) {
+    fn locate<B: Bus>(self, code: u32, pc: u16, regs: &Regs, bus: &B) -> (Operand, u16) {
         (
-            index(read_operand_word(pc, bus), regs.y),
+            index(operand_word(code, pc, bus), regs.y),
             pc.wrapping_add(3),
         )
     }
@@ -164,8 +165,8 @@ impl Addressing for Indirect {
     ghost mode = { λ m. mode.Indirect };
 
     #[inline(always)]
-    fn locate<B: Bus>(self, pc: u16, _regs: &Regs, bus: &B) -> (Operand, u16) {
-        let pointer = read_operand_word(pc, bus);
+    fn locate<B: Bus>(self, code: u32, pc: u16, _regs: &Regs, bus: &B) -> (Operand, u16) {
+        let pointer = operand_word(code, pc, bus);
         (at(read_jump_pointer(pointer, bus)), pc.wrapping_add(3))
     }
 }
@@ -180,8 +181,8 @@ impl Addressing for IndexedIndirect {
     ghost mode = { λ m. mode.IndexedIndirect };
 
     #[inline(always)]
-    fn locate<B: Bus>(self, pc: u16, regs: &Regs, bus: &B) -> (Operand, u16) {
-        let zero = read_operand_byte(pc, bus).wrapping_add(regs.x);
+    fn locate<B: Bus>(self, code: u32, pc: u16, regs: &Regs, bus: &B) -> (Operand, u16) {
+        let zero = operand_byte(code, pc, bus).wrapping_add(regs.x);
         (at(read_zero_page_pointer(zero, bus)), pc.wrapping_add(2))
     }
 }
@@ -196,8 +197,8 @@ impl Addressing for IndirectIndexed {
     ghost mode = { λ m. mode.IndirectIndexed };
 
     #[inline(always)]
-    fn locate<B: Bus>(self, pc: u16, regs: &Regs, bus: &B) -> (Operand, u16) {
-        let zero = read_operand_byte(pc, bus);
+    fn locate<B: Bus>(self, code: u32, pc: u16, regs: &Regs, bus: &B) -> (Operand, u16) {
+        let zero = operand_byte(code, pc, bus);
         (
             index(read_zero_page_pointer(zero, bus), regs.y),
             pc.wrapping_add(2),
@@ -215,8 +216,8 @@ impl Addressing for Relative {
     ghost mode = { λ m. mode.Relative };
 
     #[inline(always)]
-    fn locate<B: Bus>(self, pc: u16, _regs: &Regs, bus: &B) -> (Operand, u16) {
-        let offset = read_operand_byte(pc, bus);
+    fn locate<B: Bus>(self, code: u32, pc: u16, _regs: &Regs, bus: &B) -> (Operand, u16) {
+        let offset = operand_byte(code, pc, bus);
         let next = pc.wrapping_add(2);
         (branch_place(next, offset), next)
     }
@@ -232,7 +233,7 @@ impl Addressing for Vector {
     ghost mode = { λ m. mode.Vector };
 
     #[inline(always)]
-    fn locate<B: Bus>(self, pc: u16, _regs: &Regs, bus: &B) -> (Operand, u16) {
+    fn locate<B: Bus>(self, _code: u32, pc: u16, _regs: &Regs, bus: &B) -> (Operand, u16) {
         let low = bus.peek(0xfffe);
         let high = bus.peek(0xffff);
         (at(word_of(low, high)), pc.wrapping_add(2))

@@ -2,11 +2,13 @@
 #![tactic(auto)]
 
 ghost use Rattle.std.specs.Prelude.{◌≡◌, IfSome, IfNone, Some, None};
+ghost use Rattle.vcs_cpu.specs.Operands.{IsCode};
 ghost use Rattle.vcs_cpu.specs.Rows.{instruction_of};
 ghost use Rattle.vcs_cpu.specs.Runs.{HasEnded, IsLedTo, RunEnd, Settling, SettlesBy, run_within};
 
 use crate::addressing::Addressing;
 use crate::bus::Settle;
+use crate::code::opcode_of;
 use crate::halt::Halt;
 use crate::instruction::perform;
 use crate::op::{Branch, Implied, Modify, Read, Store};
@@ -15,11 +17,12 @@ use crate::operation::Operation;
 use crate::regs::Regs;
 use crate::{mode, operation};
 
-/// Executes the instruction at the program counter, whose opcode and row are given, and answers
+/// Executes the instruction at the program counter, whose opcode, code and row are given, and answers
 /// whether the run is over once the bus has settled.
 #[inline(always)]
 fn perform_and_settle<O: Operation, M: Addressing, B: Settle>(
     opcode: u8,
+    code: u32,
     op: O,
     mode: M,
     cycles: u8,
@@ -28,26 +31,35 @@ fn perform_and_settle<O: Operation, M: Addressing, B: Settle>(
     bus: &mut B,
 ) -> bool
     requires opcode { opcode ≡ B.device.byte_at (B.content bus.old) regs.old.pc }
+    requires code { IsCode code regs.old.pc (B.device.byte_at (B.content bus.old)) }
     requires row { instruction_of opcode ≡ Some (record { op = O.op op; mode = M.mode mode; cycles = cycles; crossing = crossing }) }
     requires ready { B.Ready bus.old }
     ensures { IsLedTo B.device B.content B.Settles B.Ready B.fixed regs.old bus.old result regs.new bus.new }
 {
-    perform(opcode, op, mode, cycles, crossing, regs, bus);
+    perform(opcode, code, op, mode, cycles, crossing, regs, bus);
     bus.settle()
 }
 
-/// Goes on by the instruction of an opcode whose row is given; returns where the run is over.
-macro_rules! go_on {
-    ($opcode:ident, $op:expr, $mode:expr, $cycles:expr, $crossing:expr, $regs:ident, $bus:ident) => {
-        if perform_and_settle($opcode, $op, $mode, $cycles, $crossing, &mut $regs, $bus) {
-            return $regs;
+/// Goes on by the instruction of an opcode that a row has: opcode, operation, mode, cycles and whether a crossed page
+/// adds one. Returns where the run is over.
+macro_rules! go_on_by_row {
+    ($opcode:ident, $code:ident, $regs:ident, $bus:ident;
+     $($number:literal => $op:expr, $mode:expr, $cycles:literal, $crossing:literal;)* _ => $rest:block) => {
+        match $opcode {
+            $($number => {
+                if perform_and_settle($opcode, $code, $op, $mode, $cycles, $crossing, &mut $regs, $bus) {
+                    return $regs;
+                }
+            })*
+            _ => $rest
         }
     };
 }
 
 /// Executes the instruction of any opcode, and answers whether the run is over; `None` where the opcode is undocumented.
-fn perform_any<B: Settle>(opcode: u8, regs: &mut Regs, bus: &mut B) -> Option<bool>
+fn perform_any<B: Settle>(opcode: u8, code: u32, regs: &mut Regs, bus: &mut B) -> Option<bool>
     requires opcode { opcode ≡ B.device.byte_at (B.content bus.old) regs.old.pc }
+    requires code { IsCode code regs.old.pc (B.device.byte_at (B.content bus.old)) }
     requires ready { B.Ready bus.old }
     ensures led { IfSome result (λ over. IsLedTo B.device B.content B.Settles B.Ready B.fixed regs.old bus.old over regs.new bus.new) }
     ensures none { IfNone result ((instruction_of opcode ≡ None) × (regs.new ≡ regs.old) × (bus.new ≡ bus.old)) }
@@ -58,114 +70,7 @@ fn perform_any<B: Settle>(opcode: u8, regs: &mut Regs, bus: &mut B) -> Option<bo
         cycles,
         crossing,
     } = look_up(opcode)?;
-    Some(perform_and_settle(opcode, op, mode, cycles, crossing, regs, bus))
-}
-
-/// As [`perform_any`], with an arm of its own for 37 opcodes from 8A on.
-#[tactic(auto, unfolding(crate::specs::Rows::instruction_of, crate::specs::Rows::row_of))]
-fn perform_high<B: Settle>(opcode: u8, regs: &mut Regs, bus: &mut B) -> Option<bool>
-    requires opcode { opcode ≡ B.device.byte_at (B.content bus.old) regs.old.pc }
-    requires ready { B.Ready bus.old }
-    ensures led { IfSome result (λ over. IsLedTo B.device B.content B.Settles B.Ready B.fixed regs.old bus.old over regs.new bus.new) }
-    ensures none { IfNone result ((instruction_of opcode ≡ None) × (regs.new ≡ regs.old) × (bus.new ≡ bus.old)) }
-{
-    Some(match opcode {
-        0x8a => perform_and_settle(opcode, Implied::Txa, mode::Implied, 2, false, regs, bus),
-        0x8c => perform_and_settle(opcode, Store::Sty, mode::Absolute, 4, false, regs, bus),
-        0x8d => perform_and_settle(opcode, Store::Sta, mode::Absolute, 4, false, regs, bus),
-        0x8e => perform_and_settle(opcode, Store::Stx, mode::Absolute, 4, false, regs, bus),
-        0x91 => perform_and_settle(
-            opcode,
-            Store::Sta,
-            mode::IndirectIndexed,
-            6,
-            false,
-            regs,
-            bus,
-        ),
-        0x94 => perform_and_settle(opcode, Store::Sty, mode::ZeroPageX, 4, false, regs, bus),
-        0x99 => perform_and_settle(opcode, Store::Sta, mode::AbsoluteY, 5, false, regs, bus),
-        0x9a => perform_and_settle(opcode, Implied::Txs, mode::Implied, 2, false, regs, bus),
-        0x9d => perform_and_settle(opcode, Store::Sta, mode::AbsoluteX, 5, false, regs, bus),
-        0xa4 => perform_and_settle(opcode, Read::Ldy, mode::ZeroPage, 3, false, regs, bus),
-        0xa6 => perform_and_settle(opcode, Read::Ldx, mode::ZeroPage, 3, false, regs, bus),
-        0xaa => perform_and_settle(opcode, Implied::Tax, mode::Implied, 2, false, regs, bus),
-        0xac => perform_and_settle(opcode, Read::Ldy, mode::Absolute, 4, false, regs, bus),
-        0xae => perform_and_settle(opcode, Read::Ldx, mode::Absolute, 4, false, regs, bus),
-        0xb4 => perform_and_settle(opcode, Read::Ldy, mode::ZeroPageX, 4, false, regs, bus),
-        0xb5 => perform_and_settle(opcode, Read::Lda, mode::ZeroPageX, 4, false, regs, bus),
-        0xba => perform_and_settle(opcode, Implied::Tsx, mode::Implied, 2, false, regs, bus),
-        0xbc => perform_and_settle(opcode, Read::Ldy, mode::AbsoluteX, 4, true, regs, bus),
-        0xbe => perform_and_settle(opcode, Read::Ldx, mode::AbsoluteY, 4, true, regs, bus),
-        0xc0 => perform_and_settle(opcode, Read::Cpy, mode::Immediate, 2, false, regs, bus),
-        0xc4 => perform_and_settle(opcode, Read::Cpy, mode::ZeroPage, 3, false, regs, bus),
-        0xc5 => perform_and_settle(opcode, Read::Cmp, mode::ZeroPage, 3, false, regs, bus),
-        0xc6 => perform_and_settle(opcode, Modify::Dec, mode::ZeroPage, 5, false, regs, bus),
-        0xcd => perform_and_settle(opcode, Read::Cmp, mode::Absolute, 4, false, regs, bus),
-        0xd5 => perform_and_settle(opcode, Read::Cmp, mode::ZeroPageX, 4, false, regs, bus),
-        0xd8 => perform_and_settle(opcode, Implied::Cld, mode::Implied, 2, false, regs, bus),
-        0xd9 => perform_and_settle(opcode, Read::Cmp, mode::AbsoluteY, 4, true, regs, bus),
-        0xdd => perform_and_settle(opcode, Read::Cmp, mode::AbsoluteX, 4, true, regs, bus),
-        0xe0 => perform_and_settle(opcode, Read::Cpx, mode::Immediate, 2, false, regs, bus),
-        0xe4 => perform_and_settle(opcode, Read::Cpx, mode::ZeroPage, 3, false, regs, bus),
-        0xe5 => perform_and_settle(opcode, Read::Sbc, mode::ZeroPage, 3, false, regs, bus),
-        0xe6 => perform_and_settle(opcode, Modify::Inc, mode::ZeroPage, 5, false, regs, bus),
-        0xe9 => perform_and_settle(opcode, Read::Sbc, mode::Immediate, 2, false, regs, bus),
-        0xea => perform_and_settle(opcode, Implied::Nop, mode::Implied, 2, false, regs, bus),
-        0xf5 => perform_and_settle(opcode, Read::Sbc, mode::ZeroPageX, 4, false, regs, bus),
-        0xf9 => perform_and_settle(opcode, Read::Sbc, mode::AbsoluteY, 4, true, regs, bus),
-        0xfd => perform_and_settle(opcode, Read::Sbc, mode::AbsoluteX, 4, true, regs, bus),
-        _ => return perform_any(opcode, regs, bus),
-    })
-}
-
-/// As [`perform_any`], with an arm of its own for 36 opcodes below 80; the others go on to [`perform_high`].
-#[tactic(auto, unfolding(crate::specs::Rows::instruction_of, crate::specs::Rows::row_of))]
-fn perform_low<B: Settle>(opcode: u8, regs: &mut Regs, bus: &mut B) -> Option<bool>
-    requires opcode { opcode ≡ B.device.byte_at (B.content bus.old) regs.old.pc }
-    requires ready { B.Ready bus.old }
-    ensures led { IfSome result (λ over. IsLedTo B.device B.content B.Settles B.Ready B.fixed regs.old bus.old over regs.new bus.new) }
-    ensures none { IfNone result ((instruction_of opcode ≡ None) × (regs.new ≡ regs.old) × (bus.new ≡ bus.old)) }
-{
-    Some(match opcode {
-        0x05 => perform_and_settle(opcode, Read::Ora, mode::ZeroPage, 3, false, regs, bus),
-        0x06 => perform_and_settle(opcode, Modify::Asl, mode::ZeroPage, 5, false, regs, bus),
-        0x09 => perform_and_settle(opcode, Read::Ora, mode::Immediate, 2, false, regs, bus),
-        0x0d => perform_and_settle(opcode, Read::Ora, mode::Absolute, 4, false, regs, bus),
-        0x11 => perform_and_settle(opcode, Read::Ora, mode::IndirectIndexed, 5, true, regs, bus),
-        0x15 => perform_and_settle(opcode, Read::Ora, mode::ZeroPageX, 4, false, regs, bus),
-        0x19 => perform_and_settle(opcode, Read::Ora, mode::AbsoluteY, 4, true, regs, bus),
-        0x1d => perform_and_settle(opcode, Read::Ora, mode::AbsoluteX, 4, true, regs, bus),
-        0x24 => perform_and_settle(opcode, Read::Bit, mode::ZeroPage, 3, false, regs, bus),
-        0x25 => perform_and_settle(opcode, Read::And, mode::ZeroPage, 3, false, regs, bus),
-        0x26 => perform_and_settle(opcode, Modify::Rol, mode::ZeroPage, 5, false, regs, bus),
-        0x2a => perform_and_settle(opcode, Modify::Rol, mode::Accumulator, 2, false, regs, bus),
-        0x2c => perform_and_settle(opcode, Read::Bit, mode::Absolute, 4, false, regs, bus),
-        0x2d => perform_and_settle(opcode, Read::And, mode::Absolute, 4, false, regs, bus),
-        0x30 => perform_and_settle(opcode, Branch::Bmi, mode::Relative, 2, false, regs, bus),
-        0x31 => perform_and_settle(opcode, Read::And, mode::IndirectIndexed, 5, true, regs, bus),
-        0x35 => perform_and_settle(opcode, Read::And, mode::ZeroPageX, 4, false, regs, bus),
-        0x39 => perform_and_settle(opcode, Read::And, mode::AbsoluteY, 4, true, regs, bus),
-        0x3d => perform_and_settle(opcode, Read::And, mode::AbsoluteX, 4, true, regs, bus),
-        0x46 => perform_and_settle(opcode, Modify::Lsr, mode::ZeroPage, 5, false, regs, bus),
-        0x48 => perform_and_settle(opcode, operation::Pha, mode::Implied, 3, false, regs, bus),
-        0x49 => perform_and_settle(opcode, Read::Eor, mode::Immediate, 2, false, regs, bus),
-        0x50 => perform_and_settle(opcode, Branch::Bvc, mode::Relative, 2, false, regs, bus),
-        0x51 => perform_and_settle(opcode, Read::Eor, mode::IndirectIndexed, 5, true, regs, bus),
-        0x65 => perform_and_settle(opcode, Read::Adc, mode::ZeroPage, 3, false, regs, bus),
-        0x66 => perform_and_settle(opcode, Modify::Ror, mode::ZeroPage, 5, false, regs, bus),
-        0x68 => perform_and_settle(opcode, operation::Pla, mode::Implied, 4, false, regs, bus),
-        0x69 => perform_and_settle(opcode, Read::Adc, mode::Immediate, 2, false, regs, bus),
-        0x6a => perform_and_settle(opcode, Modify::Ror, mode::Accumulator, 2, false, regs, bus),
-        0x6c => perform_and_settle(opcode, operation::Jmp, mode::Indirect, 5, false, regs, bus),
-        0x6d => perform_and_settle(opcode, Read::Adc, mode::Absolute, 4, false, regs, bus),
-        0x70 => perform_and_settle(opcode, Branch::Bvs, mode::Relative, 2, false, regs, bus),
-        0x75 => perform_and_settle(opcode, Read::Adc, mode::ZeroPageX, 4, false, regs, bus),
-        0x78 => perform_and_settle(opcode, Implied::Sei, mode::Implied, 2, false, regs, bus),
-        0x79 => perform_and_settle(opcode, Read::Adc, mode::AbsoluteY, 4, true, regs, bus),
-        0x7d => perform_and_settle(opcode, Read::Adc, mode::AbsoluteX, 4, true, regs, bus),
-        _ => return perform_high(opcode, regs, bus),
-    })
+    Some(perform_and_settle(opcode, code, op, mode, cycles, crossing, regs, bus))
 }
 
 /// Executes instructions until the run is over, and answers the halt that ended it if one did.
@@ -190,7 +95,7 @@ pub fn run_until_over<B: Settle>(regs: &mut Regs, bus: &mut B, most: u32) -> Opt
 }
 
 /// As [`run_until_over`], with the registers in a local variable: no reference to it leaves the function, so that
-/// the compiler can keep it in the processor's own registers. The commonest opcodes have an arm of
+/// the compiler can keep it in the processor's own registers. The opcodes that programs use have an arm of
 /// their own, which is compiled for that one instruction; an arm says what the opcode's row says.
 /// A halt, which comes once in a run at most, goes out by `halt`: the result is the registers alone.
 #[tactic(auto, unfolding(crate::specs::Rows::instruction_of, crate::specs::Rows::row_of))]
@@ -205,45 +110,120 @@ fn run_by_value<B: Settle>(mut regs: Regs, bus: &mut B, most: u32, halt: &mut Op
     let mut left = most;
     while left > 0 {
         left -= 1;
-        let opcode = bus.peek(regs.pc);
-        match opcode {
-            0x0a => go_on!(opcode, Modify::Asl, mode::Accumulator, 2, false, regs, bus),
-            0x10 => go_on!(opcode, Branch::Bpl, mode::Relative, 2, false, regs, bus),
-            0x18 => go_on!(opcode, Implied::Clc, mode::Implied, 2, false, regs, bus),
-            0x20 => go_on!(opcode, operation::Jsr, mode::Absolute, 6, false, regs, bus),
-            0x29 => go_on!(opcode, Read::And, mode::Immediate, 2, false, regs, bus),
-            0x38 => go_on!(opcode, Implied::Sec, mode::Implied, 2, false, regs, bus),
-            0x45 => go_on!(opcode, Read::Eor, mode::ZeroPage, 3, false, regs, bus),
-            0x4a => go_on!(opcode, Modify::Lsr, mode::Accumulator, 2, false, regs, bus),
-            0x4c => go_on!(opcode, operation::Jmp, mode::Absolute, 3, false, regs, bus),
-            0x60 => go_on!(opcode, operation::Rts, mode::Implied, 6, false, regs, bus),
-            0x84 => go_on!(opcode, Store::Sty, mode::ZeroPage, 3, false, regs, bus),
-            0x85 => go_on!(opcode, Store::Sta, mode::ZeroPage, 3, false, regs, bus),
-            0x86 => go_on!(opcode, Store::Stx, mode::ZeroPage, 3, false, regs, bus),
-            0x88 => go_on!(opcode, Implied::Dey, mode::Implied, 2, false, regs, bus),
-            0x90 => go_on!(opcode, Branch::Bcc, mode::Relative, 2, false, regs, bus),
-            0x95 => go_on!(opcode, Store::Sta, mode::ZeroPageX, 4, false, regs, bus),
-            0x98 => go_on!(opcode, Implied::Tya, mode::Implied, 2, false, regs, bus),
-            0xa0 => go_on!(opcode, Read::Ldy, mode::Immediate, 2, false, regs, bus),
-            0xa2 => go_on!(opcode, Read::Ldx, mode::Immediate, 2, false, regs, bus),
-            0xa5 => go_on!(opcode, Read::Lda, mode::ZeroPage, 3, false, regs, bus),
-            0xa8 => go_on!(opcode, Implied::Tay, mode::Implied, 2, false, regs, bus),
-            0xa9 => go_on!(opcode, Read::Lda, mode::Immediate, 2, false, regs, bus),
-            0xad => go_on!(opcode, Read::Lda, mode::Absolute, 4, false, regs, bus),
-            0xb0 => go_on!(opcode, Branch::Bcs, mode::Relative, 2, false, regs, bus),
-            0xb1 => go_on!(opcode, Read::Lda, mode::IndirectIndexed, 5, true, regs, bus),
-            0xb9 => go_on!(opcode, Read::Lda, mode::AbsoluteY, 4, true, regs, bus),
-            0xbd => go_on!(opcode, Read::Lda, mode::AbsoluteX, 4, true, regs, bus),
-            0xc8 => go_on!(opcode, Implied::Iny, mode::Implied, 2, false, regs, bus),
-            0xc9 => go_on!(opcode, Read::Cmp, mode::Immediate, 2, false, regs, bus),
-            0xca => go_on!(opcode, Implied::Dex, mode::Implied, 2, false, regs, bus),
-            0xd0 => go_on!(opcode, Branch::Bne, mode::Relative, 2, false, regs, bus),
-            0xe8 => go_on!(opcode, Implied::Inx, mode::Implied, 2, false, regs, bus),
-            0xf0 => go_on!(opcode, Branch::Beq, mode::Relative, 2, false, regs, bus),
+        let code = bus.fetch(regs.pc);
+        let opcode = opcode_of(code, regs.pc, bus);
+        go_on_by_row! {
+            opcode, code, regs, bus;
+            0x05 => Read::Ora, mode::ZeroPage, 3, false;
+            0x06 => Modify::Asl, mode::ZeroPage, 5, false;
+            0x09 => Read::Ora, mode::Immediate, 2, false;
+            0x0a => Modify::Asl, mode::Accumulator, 2, false;
+            0x0d => Read::Ora, mode::Absolute, 4, false;
+            0x10 => Branch::Bpl, mode::Relative, 2, false;
+            0x11 => Read::Ora, mode::IndirectIndexed, 5, true;
+            0x15 => Read::Ora, mode::ZeroPageX, 4, false;
+            0x18 => Implied::Clc, mode::Implied, 2, false;
+            0x19 => Read::Ora, mode::AbsoluteY, 4, true;
+            0x1d => Read::Ora, mode::AbsoluteX, 4, true;
+            0x20 => operation::Jsr, mode::Absolute, 6, false;
+            0x24 => Read::Bit, mode::ZeroPage, 3, false;
+            0x25 => Read::And, mode::ZeroPage, 3, false;
+            0x26 => Modify::Rol, mode::ZeroPage, 5, false;
+            0x29 => Read::And, mode::Immediate, 2, false;
+            0x2a => Modify::Rol, mode::Accumulator, 2, false;
+            0x2c => Read::Bit, mode::Absolute, 4, false;
+            0x2d => Read::And, mode::Absolute, 4, false;
+            0x30 => Branch::Bmi, mode::Relative, 2, false;
+            0x31 => Read::And, mode::IndirectIndexed, 5, true;
+            0x35 => Read::And, mode::ZeroPageX, 4, false;
+            0x38 => Implied::Sec, mode::Implied, 2, false;
+            0x39 => Read::And, mode::AbsoluteY, 4, true;
+            0x3d => Read::And, mode::AbsoluteX, 4, true;
+            0x45 => Read::Eor, mode::ZeroPage, 3, false;
+            0x46 => Modify::Lsr, mode::ZeroPage, 5, false;
+            0x48 => operation::Pha, mode::Implied, 3, false;
+            0x49 => Read::Eor, mode::Immediate, 2, false;
+            0x4a => Modify::Lsr, mode::Accumulator, 2, false;
+            0x4c => operation::Jmp, mode::Absolute, 3, false;
+            0x50 => Branch::Bvc, mode::Relative, 2, false;
+            0x51 => Read::Eor, mode::IndirectIndexed, 5, true;
+            0x60 => operation::Rts, mode::Implied, 6, false;
+            0x65 => Read::Adc, mode::ZeroPage, 3, false;
+            0x66 => Modify::Ror, mode::ZeroPage, 5, false;
+            0x68 => operation::Pla, mode::Implied, 4, false;
+            0x69 => Read::Adc, mode::Immediate, 2, false;
+            0x6a => Modify::Ror, mode::Accumulator, 2, false;
+            0x6c => operation::Jmp, mode::Indirect, 5, false;
+            0x6d => Read::Adc, mode::Absolute, 4, false;
+            0x70 => Branch::Bvs, mode::Relative, 2, false;
+            0x75 => Read::Adc, mode::ZeroPageX, 4, false;
+            0x78 => Implied::Sei, mode::Implied, 2, false;
+            0x79 => Read::Adc, mode::AbsoluteY, 4, true;
+            0x7d => Read::Adc, mode::AbsoluteX, 4, true;
+            0x84 => Store::Sty, mode::ZeroPage, 3, false;
+            0x85 => Store::Sta, mode::ZeroPage, 3, false;
+            0x86 => Store::Stx, mode::ZeroPage, 3, false;
+            0x88 => Implied::Dey, mode::Implied, 2, false;
+            0x8a => Implied::Txa, mode::Implied, 2, false;
+            0x8c => Store::Sty, mode::Absolute, 4, false;
+            0x8d => Store::Sta, mode::Absolute, 4, false;
+            0x8e => Store::Stx, mode::Absolute, 4, false;
+            0x90 => Branch::Bcc, mode::Relative, 2, false;
+            0x91 => Store::Sta, mode::IndirectIndexed, 6, false;
+            0x94 => Store::Sty, mode::ZeroPageX, 4, false;
+            0x95 => Store::Sta, mode::ZeroPageX, 4, false;
+            0x98 => Implied::Tya, mode::Implied, 2, false;
+            0x99 => Store::Sta, mode::AbsoluteY, 5, false;
+            0x9a => Implied::Txs, mode::Implied, 2, false;
+            0x9d => Store::Sta, mode::AbsoluteX, 5, false;
+            0xa0 => Read::Ldy, mode::Immediate, 2, false;
+            0xa2 => Read::Ldx, mode::Immediate, 2, false;
+            0xa4 => Read::Ldy, mode::ZeroPage, 3, false;
+            0xa5 => Read::Lda, mode::ZeroPage, 3, false;
+            0xa6 => Read::Ldx, mode::ZeroPage, 3, false;
+            0xa8 => Implied::Tay, mode::Implied, 2, false;
+            0xa9 => Read::Lda, mode::Immediate, 2, false;
+            0xaa => Implied::Tax, mode::Implied, 2, false;
+            0xac => Read::Ldy, mode::Absolute, 4, false;
+            0xad => Read::Lda, mode::Absolute, 4, false;
+            0xae => Read::Ldx, mode::Absolute, 4, false;
+            0xb0 => Branch::Bcs, mode::Relative, 2, false;
+            0xb1 => Read::Lda, mode::IndirectIndexed, 5, true;
+            0xb4 => Read::Ldy, mode::ZeroPageX, 4, false;
+            0xb5 => Read::Lda, mode::ZeroPageX, 4, false;
+            0xb9 => Read::Lda, mode::AbsoluteY, 4, true;
+            0xba => Implied::Tsx, mode::Implied, 2, false;
+            0xbc => Read::Ldy, mode::AbsoluteX, 4, true;
+            0xbd => Read::Lda, mode::AbsoluteX, 4, true;
+            0xbe => Read::Ldx, mode::AbsoluteY, 4, true;
+            0xc0 => Read::Cpy, mode::Immediate, 2, false;
+            0xc4 => Read::Cpy, mode::ZeroPage, 3, false;
+            0xc5 => Read::Cmp, mode::ZeroPage, 3, false;
+            0xc6 => Modify::Dec, mode::ZeroPage, 5, false;
+            0xc8 => Implied::Iny, mode::Implied, 2, false;
+            0xc9 => Read::Cmp, mode::Immediate, 2, false;
+            0xca => Implied::Dex, mode::Implied, 2, false;
+            0xcd => Read::Cmp, mode::Absolute, 4, false;
+            0xd0 => Branch::Bne, mode::Relative, 2, false;
+            0xd5 => Read::Cmp, mode::ZeroPageX, 4, false;
+            0xd8 => Implied::Cld, mode::Implied, 2, false;
+            0xd9 => Read::Cmp, mode::AbsoluteY, 4, true;
+            0xdd => Read::Cmp, mode::AbsoluteX, 4, true;
+            0xe0 => Read::Cpx, mode::Immediate, 2, false;
+            0xe4 => Read::Cpx, mode::ZeroPage, 3, false;
+            0xe5 => Read::Sbc, mode::ZeroPage, 3, false;
+            0xe6 => Modify::Inc, mode::ZeroPage, 5, false;
+            0xe8 => Implied::Inx, mode::Implied, 2, false;
+            0xe9 => Read::Sbc, mode::Immediate, 2, false;
+            0xea => Implied::Nop, mode::Implied, 2, false;
+            0xf0 => Branch::Beq, mode::Relative, 2, false;
+            0xf5 => Read::Sbc, mode::ZeroPageX, 4, false;
+            0xf9 => Read::Sbc, mode::AbsoluteY, 4, true;
+            0xfd => Read::Sbc, mode::AbsoluteX, 4, true;
             _ => {
                 // A copy, so that the registers themselves are lent to no call that stays one.
                 let mut copy = regs;
-                let followed = perform_low(opcode, &mut copy, bus);
+                let followed = perform_any(opcode, code, &mut copy, bus);
                 regs = copy;
                 match followed {
                     Some(true) => return regs,

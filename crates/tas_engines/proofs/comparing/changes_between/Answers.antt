@@ -2,6 +2,7 @@ use Rattle.std.proofs.Common.{◌≤◌, ◌+◌, ◌-◌, ◌++◌, ◌∷◌, 
 use Rattle.std.proofs.lemmas.Bool.{ne_eqb, eq-eqb}
 use Rattle.tas_engines.specs.declared.change.Change.TheVariants.{Delete}
 use Rattle.tas_engines.proofs.DifferenceLemmas.{places, plain_end, run_of, first_deletion, first_replacement, first_insertion, reached_next, reached_last}
+use Rattle.tas_engines.proofs.LineLemmas.{first_line_of}
 use Rattle.tas_engines.proofs.comparing.changes_between.Goals.{then-removed-gt0+then-not-replaces+in_ok-push, else-removed-gt0, else-removed-gt0-via-then-removed-gt0+else-not-replaces, else-removed-gt0-via-else-removed-gt0}
 use Rattle.tas_engines.proofs.comparing.changes_between.Goals as goal
 
@@ -36,7 +37,8 @@ loop-at-preserved g c =
     let here = c.loop-at-test.true in
     let room : more ≤ behind - (at + 1) = let bound = c.run_length-count.ensures.bound in omega (arith, bound, length-take (behind - (at + 1)) (drop (at + 1) new)) in
     rw (c.in_ok-push-2.ensures.items, c.run_change.ensures)
-    (reached_next g.row.A.Denot old new _ front end _ behind at (1 + more) _ c.loop-at.changes.items p r (omega arith) (omega (arith, room, here)) (run_of new at behind more _ (omega (arith, here, new_len)) refl room c.run_length-count.ensures.same))
+    (reached_next g.row.A.Denot old new _ front end _ behind at (1 + more) _ c.loop-at.changes.items p r (omega arith) (omega (arith, room, here)) (run_of new at behind more _ (omega (arith, here, new_len)) refl room c.run_length-count.ensures.same)
+    (first_line_of _ new at behind more _ here (omega (arith, new_len)) refl c.run_length-count.ensures.same room c.run_length-count.ensures.longest))
 
 pub returns : goal.returns
 returns g c =

@@ -1,5 +1,5 @@
 use Rattle.std.proofs.lemmas.Grind.{common_steps}
-use Rattle.std.proofs.Common.{◌++◌, ◌∷◌, [], refl, sym, subst, ◌∙◌, ap, arith}
+use Rattle.std.proofs.Common.{Err, ◌++◌, ◌∷◌, [], refl, sym, subst, ◌∙◌, ap, arith}
 use Rattle.std.proofs.lemmas.Bool.{eqb-false}
 use Rattle.tas_movie.specs.Edit.{edited, IsAllowed}
 use Rattle.tas_engines.specs.Changes.{edit_of}
@@ -30,16 +30,16 @@ returns-in-Err g c =
       c.loop-rest.rest.now,
       i.reads,
       i.allowed,
-      same_movie g.row.B.Denot _ _ c.in-Some-read_change.change c.in-Err.error c.in-Err.ensures ∙ sym i.made,
+      same_movie g.row.B.Denot _ _ c.in-Some-read_change.change c.in-Err.error c.in-Err.ensures.made ∙ sym i.made,
       subst (λ n. IsStop g.row.B.Denot c.make_change.new.movie c.loop-rest.rest.now n c.fault_at.result) i.number
-          (stopped g.row.B.Denot _ _ _ c.in-Some.line.now c.in-Some.after.now _ c.in-Some-read_change.change c.in-Err.error _ c.in-Some.ensures.some.0 c.in-Some-read_change.ensures.some c.in-Err.ensures c.fault_at.ensures),
+          (stopped g.row.B.Denot _ _ _ c.in-Some.line.now c.in-Some.after.now _ c.in-Some-read_change.change c.in-Err.error _ c.in-Some.ensures.some.0 c.in-Some-read_change.ensures.some c.in-Err.ensures.made (λ e. c.in-Err.ensures.memory (ap Err e)) c.fault_at.ensures),
     )
 
 pub loop-rest-preserved : goal.loop-rest-preserved
 loop-rest-preserved g c =
     let (changes, i) = c.loop-rest.invariant in
     let change = c.in-Some-read_change.change in
-    let makes = c.in_default-make_change.ensures in
+    let makes = c.in_default-make_change.ensures.made in
     let shorter = split_length c.loop-rest.rest.now c.in-Some.line.now c.in-Some.after.now c.in-Some.ensures.some.0 in (
       changes ++ change ∷ [],
       record {

@@ -4,6 +4,7 @@ use Rattle.tas_desk.specs.Version.{VersionContent}
 use Rattle.tas_desk.specs.Session.{IsNextEntry}
 use Rattle.tas_desk.specs.Published.{PublisherContent}
 use Rattle.tas_desk.proofs.EntryLemmas.{follows, accepted_as, change_is, same_current, edited_as, pushed_as, left_as}
+use Rattle.tas_desk.proofs.PublishedRule.{seen_all}
 use Rattle.tas_desk.proofs.PublishLemmas.{where_ok, where_err, on_ok, on_err, not_ok, not_err}
 use Rattle.tas_desk.proofs.publisher.Publisher.pushed.Goals.{then-is_err, else-is_err}
 use Rattle.tas_desk.proofs.publisher.Publisher.pushed.Goals as goal
@@ -13,6 +14,9 @@ publish_edit-writer-requires-clause-follows g c =
     let may = subst (λ (s : PublisherContent _). IsNextEntry s.journal c.args.next) (sym c.self.view_is) c.requires in
     let op = change_is c.self.inside.latest.registry c.self.inside.journal.items _ c.args.next _ _ _ _ _ c.in-Ok.ensures.edit c.in-Ok.ensures.journal c.copy-version.ensures c.version.ensures c.renew.ensures c.new-change.ensures in
     follows _ _ _ _ _ c.args.next c.new-change.result c.self.invariant may op
+
+pub publish_edit-writer-requires-clause-known : goal.publish_edit-writer-requires-clause-known
+publish_edit-writer-requires-clause-known g c = seen_all _ _ _ _ _ c.self.invariant
 
 pub invariant_of-publisher : goal.invariant_of-publisher
 invariant_of-publisher g c =
