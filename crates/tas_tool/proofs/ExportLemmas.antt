@@ -1,5 +1,6 @@
 -- The export of a movie that was made by two edits.
 use Rattle.std.proofs.Common.{◌≡◌, ℕ, ◌-◌, ◌≤◌, List, length, take, Option, Result, Ok, Err, inl, inr, refl, sym, ap, subst, ◌∙◌, arith}
+use Rattle.std.specs.Prelude.{IfErr}
 use Rattle.std.proofs.lemmas.List.{take-append-le, take_all}
 use Rattle.std.proofs.KnownBytes.{Keeps-refl}
 use Rattle.std.specs.Io.KnownBytes.{Keeps}
@@ -10,7 +11,8 @@ use Rattle.tas_movie.specs.Content.{MovieContent}
 use Rattle.tas_desk.specs.declared.entry.Entry.{Entry}
 use Rattle.tas_desk.specs.declared.export.Exported.{Exported}
 use Rattle.tas_desk.specs.declared.runs.Plan.{Plan}
-use Rattle.tas_desk.specs.declared.export.ExportError.TheVariants.{Range as OffRange, Memory as OutOfRoom, Halted as HaltedAt}
+use Rattle.tas_desk.specs.declared.export.ExportError.{ExportError}
+use Rattle.tas_desk.specs.declared.export.ExportError.TheVariants.{Range as OffRange, Memory as OutOfRoom, Halted as HaltedAt, Write as WriteFailed}
 use Rattle.tas_desk.specs.History.{movie_of, entries_of}
 use Rattle.tas_desk.specs.Seats.{SeatContent, HasSeen}
 use Rattle.tas_desk.specs.Zones.{ZoneContent}
@@ -23,7 +25,7 @@ use Rattle.tas_engines.specs.Shooting.{halt_fault}
 use Rattle.tas_engines.specs.Output.{Ends}
 use Rattle.tas_tool.specs.Pixmaps.{IsPixmapsAnswer, IsExportAnswer}
 use Rattle.tas_tool.specs.Checking.{checked_end}
-use Rattle.tas_tool.specs.TwoEdits.{HoldsMovie, IsMakingFault, StandsAtOwn}
+use Rattle.tas_tool.specs.TwoEdits.{export_end, HoldsMovie, IsMakingFault, StandsAtOwn}
 use Rattle.tas_tool.proofs.TurnLemmas.{longer, more_than, checked_cases}
 
 pub still_holds : {A : Type 0} (before now : SeatContent A) (movie : MovieContent) → HasSeen before now → HoldsMovie before movie → HoldsMovie now movie
@@ -49,26 +51,27 @@ pub at_movie : {A : Type 0} (seat : SeatContent A) (movie : MovieContent) (from 
     → Ends (IsPixmapsAnswer (movie_of seat.front) from to) old new end → length seat.front ≤ seat.made → Ends (IsPixmapsAnswer movie from to) old new end
 at_movie {A} seat movie from to old new end holds ends le = subst (λ (m : MovieContent). Ends (IsPixmapsAnswer m from to) old new end) (own_movie seat movie holds le) ends
 
--- the same where the answer was compared
-pub told_at : {A : Type 0} (seat : SeatContent A) (movie : MovieContent) (at from to : ℕ) (old new : Option (List ℕ)) (end told : Result (Unit {0}) RunFault) → HoldsMovie seat movie → at ≡ length seat.front
-    → Ends (IsPixmapsAnswer (movie_of seat.front) from to) old new end → told ≡ checked_end 2 at end → length seat.front ≤ seat.made → Ends (IsPixmapsAnswer movie from to) old new told
-told_at {A} seat movie at from to old new end told holds is ends same le =
-    let two = holds.seen in
-    let made = holds.made in
-    checked_cases 2 at end told (Ends (IsPixmapsAnswer movie from to) old new) same (λ (here : at ≡ 2). at_movie seat movie from to old new end holds ends le)
+-- an answer that names the front at which it stands, where the seat made two edits
+ends_here : {A : Type 0} (seat : SeatContent A) (movie : MovieContent) (at from to : ℕ) (old new : Option (List ℕ)) (end : Result (Unit {0}) RunFault) → seat.made ≡ 2 → 2 ≤ length seat.front → at ≡ length seat.front
+    → length seat.front ≤ seat.made → Ends (IsPixmapsAnswer movie from to) old new end → Ends (IsPixmapsAnswer movie from to) old new (checked_end 2 at end)
+ends_here seat movie at from to old new end made two is le ends =
+    checked_cases 2 at end (checked_end 2 at end) (Ends (IsPixmapsAnswer movie from to) old new) refl (λ (here : at ≡ 2). ends)
     (λ (other : at ≡ 2 → ⊥). absurd (other (omega (arith, two, made, is, le))))
 
--- where it stands
-pub own_at : {A : Type 0} (seat : SeatContent A) (movie : MovieContent) (at : ℕ) (end told : Result (Unit {0}) RunFault) → HoldsMovie seat movie → at ≡ length seat.front → (length seat.front ≡ seat.made → StandsAtOwn seat end)
-    → told ≡ checked_end 2 at end → StandsAtOwn seat told
-own_at seat movie at end told holds is stands same =
-    let two = holds.seen in
-    let made = holds.made in
-    checked_cases 2 at end told (StandsAtOwn seat) same (λ (here : at ≡ 2). stands (omega (arith, is, here, made)))
+own_here : {A : Type 0} (seat : SeatContent A) (at : ℕ) (end : Result (Unit {0}) RunFault) → seat.made ≡ 2 → 2 ≤ length seat.front → at ≡ length seat.front → (length seat.front ≡ seat.made → StandsAtOwn seat end)
+    → StandsAtOwn seat (checked_end 2 at end)
+own_here seat at end made two is stands =
+    checked_cases 2 at end (checked_end 2 at end) (StandsAtOwn seat) refl (λ (here : at ≡ 2). stands (omega (arith, is, here, made)))
     (λ (other : at ≡ 2 → ⊥). more_than seat.made (length seat.front) (omega (arith, two, made)) (λ (own : length seat.front ≡ seat.made). other (omega (arith, is, own, made))))
 
-pub halted_own : {A : Type 0} (seat : SeatContent A) (halt : Halt) (fault : RunFault) → fault ≡ halt_fault halt → length seat.front ≡ seat.made → StandsAtOwn seat (Err fault)
-halted_own seat (Undocumented address opcode) fault is own = subst (λ (f : RunFault). StandsAtOwn seat (Err f)) (sym is) own
+foreign_room : ◌≡◌ {A = RunFault} Foreign Memory → ⊥
+foreign_room e = cc
+
+-- an end that isn't want of memory is none where it is compared
+other_here : (X : Type 0) (at : ℕ) (fault : RunFault) → (fault ≡ Memory → ⊥) → IfErr (checked_end {X = Unit {0}} 2 at (Err fault)) (λ (f : RunFault). f ≡ Memory → X)
+other_here X at fault ne =
+    checked_cases {X = Unit {0}} 2 at (Err fault) (checked_end 2 at (Err fault)) (λ (r : Result (Unit {0}) RunFault). IfErr r (λ (f : RunFault). f ≡ Memory → X)) refl
+    (λ (here : at ≡ 2). λ e. absurd (ne e)) (λ (other : at ≡ 2 → ⊥). λ e. absurd (foreign_room e))
 
 kept : (old new : Option (List ℕ)) → new ≡ old → Keeps old new
 kept old new same = subst (λ (o : Option (List ℕ)). Keeps old o) (sym same) (Keeps-refl old)
@@ -99,6 +102,38 @@ write_ends movie plan old new written range drawn cut =
       answer = record { range = range; drawn = drawn; pixmaps = refl };
       stops = record { written = written; is_write = refl; cut = cut };
     })
+
+-- what a desk answers is told so
+pub export_ends : {A : Type 0} (seat : SeatContent A) (zone : ZoneContent A) (plan : Plan) (old new : Option (List ℕ)) (answer : Result Exported ExportError) → seat.made ≡ 2 → 2 ≤ length seat.front
+    → IsExport zone (movie_of seat.front) (length seat.front) plan old new answer → length seat.front ≤ seat.made
+    → Ends (IsPixmapsAnswer (movie_of seat.front) plan.from plan.to) old new (export_end plan.from plan.to answer)
+export_ends seat zone plan old new (Ok exported) made two is le =
+    ends_here seat (movie_of seat.front) exported.at plan.from plan.to old new (Ok tt) made two is.0 le (pixmaps_end zone (movie_of seat.front) (length seat.front) plan old new exported is)
+export_ends seat zone plan old new (Err (OffRange at len)) made two is le =
+    ends_here seat (movie_of seat.front) at plan.from plan.to old new (Err (Range plan.from plan.to len)) made two is.0 le (range_ends zone (movie_of seat.front) (length seat.front) plan old new at len is)
+export_ends seat zone plan old new (Err OutOfRoom) made two is le = memory_ends zone (movie_of seat.front) (length seat.front) plan old new is
+export_ends seat zone plan old new (Err (HaltedAt at frame halt)) made two is le =
+    ends_here seat (movie_of seat.front) at plan.from plan.to old new (Err (halt_fault halt)) made two is.0 le (halted_ends zone (movie_of seat.front) (length seat.front) plan old new at frame halt (halt_fault halt) is refl)
+export_ends seat zone plan old new (Err (WriteFailed written error)) made two is le = write_ends (movie_of seat.front) plan old new written is.0 is.1 is.2
+
+pub export_own : {A : Type 0} (seat : SeatContent A) (zone : ZoneContent A) (plan : Plan) (old new : Option (List ℕ)) (answer : Result Exported ExportError) → seat.made ≡ 2 → 2 ≤ length seat.front
+    → IsExport zone (movie_of seat.front) (length seat.front) plan old new answer → StandsAtOwn seat (export_end plan.from plan.to answer)
+export_own seat zone plan old new (Ok exported) made two is = own_here seat exported.at (Ok tt) made two is.0 (λ own. own)
+export_own seat zone plan old new (Err (OffRange at len)) made two is = own_here seat at (Err (Range plan.from plan.to len)) made two is.0 (λ own. own)
+export_own seat zone plan old new (Err OutOfRoom) made two is = tt
+export_own seat zone plan old new (Err (HaltedAt at frame (Undocumented address opcode))) made two is = own_here seat at (Err (Halted address opcode)) made two is.0 (λ own. own)
+export_own seat zone plan old new (Err (WriteFailed written error)) made two is = tt
+
+-- and as out of memory only where the movie has the frames
+pub export_room : {A : Type 0} (zone : ZoneContent A) (movie : MovieContent) (edits : ℕ) (plan : Plan) (old new : Option (List ℕ)) (answer : Result Exported ExportError) → IsExport zone movie edits plan old new answer
+    → IfErr (export_end plan.from plan.to answer) (λ (fault : RunFault). fault ≡ Memory → IsInRange (length movie.inputs) plan.from plan.to)
+export_room zone movie edits plan old new (Ok exported) is =
+    checked_cases {X = Unit {0}} 2 exported.at (Ok tt) (checked_end 2 exported.at (Ok tt)) (λ (r : Result (Unit {0}) RunFault). IfErr r (λ (f : RunFault). f ≡ Memory → IsInRange (length movie.inputs) plan.from plan.to)) refl
+    (λ (here : exported.at ≡ 2). tt) (λ (other : exported.at ≡ 2 → ⊥). λ e. absurd (foreign_room e))
+export_room zone movie edits plan old new (Err (OffRange at len)) is = other_here (IsInRange (length movie.inputs) plan.from plan.to) at (Range plan.from plan.to len) (λ e. cc)
+export_room zone movie edits plan old new (Err OutOfRoom) is = λ e. is.0
+export_room zone movie edits plan old new (Err (HaltedAt at frame (Undocumented address opcode))) is = other_here (IsInRange (length movie.inputs) plan.from plan.to) at (Halted address opcode) (λ e. cc)
+export_room zone movie edits plan old new (Err (WriteFailed written error)) is = λ e. absurd cc
 
 -- the movie isn't made
 pub unmade_ends : {A : Type 0} (seat : SeatContent A) (movie : MovieContent) (from to : ℕ) (old : Option (List ℕ)) (fault : RunFault) → IsMakingFault seat fault → length seat.front ≤ seat.made

@@ -20,9 +20,10 @@ use Rattle.tas_desk.specs.Seats.{SeatContent, seat_of, entry_of, IsEdited}
 use Rattle.tas_desk.specs.Zones.{ZoneContent}
 use Rattle.tas_desk.proofs.HistoryLemmas.{movie_of-push, movie_of-none}
 use Rattle.tas_engines.specs.declared.fault.RunFault.{RunFault}
+use Rattle.tas_engines.specs.declared.fault.RunFault.TheVariants.{Foreign, Memory}
 use Rattle.tas_tool.specs.Turns.{HasForeign}
 use Rattle.tas_tool.specs.Checking.{checked_end}
-use Rattle.tas_tool.specs.TwoEdits.{edit_fault, HoldsMovie, IsMakingFault}
+use Rattle.tas_tool.specs.TwoEdits.{edit_fault, HoldsMovie, IsMakingFault, next_edit, IsUnrefused}
 use Rattle.tas_tool.proofs.TurnLemmas.{entries_push, more_than, checked_cases}
 
 -- ---- the first edit
@@ -220,3 +221,42 @@ pub insert_refused : {A : Type 0} (before now : SeatContent A) (cart : List ℕ)
 insert_refused {A} before now cart inputs error few first edit =
     subst (λ (s : SeatContent A). IsMakingFault s (edit_fault error)) (sym edit.seat)
     (making_fault (seat_of before.number before.made edit.at before.zone) (Insert 0 inputs) error edit.refusal (second_allowed before edit.at cart inputs few first edit.begins))
+
+-- ---- out of memory
+
+not_room : ◌≡◌ {A = RunFault} Foreign Memory → ⊥
+not_room e = cc
+
+-- where memory refuses an edit nothing else does
+room_alone : {A : Type 0} (before now : SeatContent A) (edit : Edit A) (error : EditError) → IsEdited before now edit (Err error) → edit_fault error ≡ Memory → refusal_at now.front now.number now.made edit ≡ None
+room_alone {A} before now edit NoRoom e is = subst (λ (s : SeatContent A). refusal_at s.front s.number s.made edit ≡ None) (sym e.seat) e.refusal
+room_alone before now edit (Serial at counted) e is = absurd (not_room is)
+room_alone before now edit (Full at) e is = absurd (not_room is)
+room_alone before now edit (Place at place len) e is = absurd (not_room is)
+room_alone before now edit (Long at len) e is = absurd (not_room is)
+
+as_before : {A : Type 0} (before now : SeatContent A) (edit : Edit A) (error : EditError) → IsEdited before now edit (Err error) → now.made ≡ before.made
+as_before {A} before now edit error e = ap (λ (s : SeatContent A). s.made) e.seat
+
+unrefused_next : {A : Type 0} (seat : SeatContent A) (movie : MovieContent) (made : ℕ) (edit : Edit A) → seat.made ≡ made → next_edit A movie made ≡ edit → refusal_at seat.front seat.number seat.made edit ≡ None → IsUnrefused A seat movie
+unrefused_next {A} seat movie made edit so_many next none =
+    ap (λ (e : Edit A). refusal_at seat.front seat.number seat.made e) (ap (λ (n : ℕ). next_edit A movie n) so_many ∙ next) ∙ none
+
+pub unrefused_at_first : {A : Type 0} (seat : SeatContent A) (movie : MovieContent) → seat.number ≡ 0 → seat.made ≡ 0 → seat.front ≡ [] → IsUnrefused A seat movie
+unrefused_at_first {A} seat movie number made front = unrefused_next seat movie 0 (Load movie.cart) made refl (rw (front, number, made) refl)
+
+pub load_unrefused : {A : Type 0} (before now : SeatContent A) (movie : MovieContent) (cart : List ℕ) (inputs : List Input) (error : EditError) → movie ≡ record { cart = cart; inputs = inputs } → before.made ≡ 0
+    → IsEdited before now (Load cart) (Err error) → edit_fault error ≡ Memory → IsUnrefused A now movie
+load_unrefused {A} before now movie cart inputs error whole none edit is =
+    unrefused_next now movie 0 (Load cart) (as_before before now (load_of A cart) error edit ∙ none) (ap (λ (m : MovieContent). next_edit A m 0) whole) (room_alone before now (Load cart) error edit is)
+
+pub insert_unrefused : {A : Type 0} (before now : SeatContent A) (movie : MovieContent) (cart : List ℕ) (inputs : List Input) (error : EditError) → movie ≡ record { cart = cart; inputs = inputs } → before.made ≡ 1
+    → IsEdited before now (Insert 0 inputs) (Err error) → edit_fault error ≡ Memory → IsUnrefused A now movie
+insert_unrefused {A} before now movie cart inputs error whole one edit is =
+    unrefused_next now movie 1 (Insert 0 inputs) (as_before before now (insert_of A inputs) error edit ∙ one) (ap (λ (m : MovieContent). next_edit A m 1) whole) (room_alone before now (Insert 0 inputs) error edit is)
+
+-- an answer that was compared is none of memory
+pub compared : {A : Type 0} (seat : SeatContent A) (movie : MovieContent) (at : ℕ) (r : Result (Unit {0}) RunFault) → r ≡ checked_end 2 at (Ok tt) → IfErr r (λ (f : RunFault). f ≡ Memory → IsUnrefused A seat movie)
+compared {A} seat movie at r is =
+    checked_cases 2 at (Ok tt) r (λ (x : Result (Unit {0}) RunFault). IfErr x (λ (f : RunFault). f ≡ Memory → IsUnrefused A seat movie)) is
+    (λ (here : at ≡ 2). tt) (λ (other : at ≡ 2 → ⊥). λ e. absurd (not_room e))

@@ -304,6 +304,37 @@ fn frames_of_an_edit(rt: HostRuntime) {
     check_ends(&rt, alloc, b"", SCRIPT, SCRIPTS.as_slice());
 }
 
+/// How a script of changes ends that has 12,000 lines before this one: it is made, it is refused, or it isn't understood.
+static LATE_CHANGES: [(&[u8], End); 3] = [
+    (
+        b"replace 2 1 .L... ..... .....\n",
+        End::Writes(
+            135,
+            b"\n..... ..... .....\nR.... ..... .....\n.L... ..... .....\n",
+        ),
+    ),
+    (
+        b"delete 3 1\n",
+        End::Faults(b"fault: script line 12001: place\n"),
+    ),
+    (
+        b"delete 3  1\n",
+        End::Faults(b"fault: script line 12001\n"),
+    ),
+];
+
+/// Scripts of changes with many lines, of a movie of three frames.
+#[test]
+fn many_changes_are_made(rt: HostRuntime) {
+    let alloc = rt.alloc();
+    let lines = repeated(&rt, alloc, b"", b"replace 1 1 R.... ..... .....\n", 12_000);
+    for (last, end) in LATE_CHANGES.iter() {
+        let script = repeated(&rt, alloc, lines.as_slice(), last, 1);
+        let script = script.as_slice();
+        check_ends(&rt, alloc, script, THREE_FRAMES, &[(EDIT, *end)]);
+    }
+}
+
 /// Exports of a movie of 1025 frames.
 static EXPORTS: [Case; 2] = [
     (

@@ -119,6 +119,19 @@ static BY_HAND: [(&str, &[u8], &[u8]); 7] = [
     ("small", SMALL, SMALL_REPLIES),
 ];
 
+/// Shots far on in a long movie whose frames are soon played: its program ends frame after frame by vertical sync. A shot of frame K keeps the
+/// states at the multiples of 64 up to K + 1, so the second one starts from 960 and the third one from 10,048.
+static FAR: &[u8] =
+    b"load 000=A9028500A90085004C00F0 FFC=00F0\ninsert 0 20000 ..... ..... .....\nshot 1001\nshot 10050\nshot 19999\n";
+
+static FAR_REPLIES: &[u8] =
+    b"edit 1 len 0\nedit 2 len 20000\nshot 2 1001 ran 1002 lit 0\nshot 2 10050 ran 9091 lit 0\nshot 2 19999 ran 9952 lit 0\n";
+
+#[test]
+fn frames_far_on_are_drawn(rt: HostRuntime) {
+    check_replies(&rt, rt.alloc(), "far", FAR, FAR_REPLIES);
+}
+
 #[test]
 fn shots_are_answered_as_by_hand(rt: HostRuntime) {
     let alloc = rt.alloc();

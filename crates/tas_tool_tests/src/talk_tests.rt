@@ -96,6 +96,30 @@ fn pictures_are_told_whole(rt: HostRuntime) {
     );
 }
 
+/// Pictures far on in a long movie whose frames are soon played: its program ends frame after frame by vertical sync, and
+/// draws nothing.
+#[test]
+fn pictures_far_on_are_told(rt: HostRuntime) {
+    let alloc = rt.alloc();
+    let black = repeated(&rt, alloc, b"P6\n160 210\n255\n", b"\0", 100_800);
+    check_pieces(
+        &rt,
+        alloc,
+        &[
+            b"load 000=A9028500A90085004C00F0 FFC=00F0\ninsert 0 20000 ..... ..... .....\n",
+            b"picture 1001\npicture 10001\npicture 19999\n",
+        ],
+        &[
+            b"edit 1 len 0\nedit 2 len 20000\npicture 2 1001 100815\n",
+            black.as_slice(),
+            b"picture 2 10001 100815\n",
+            black.as_slice(),
+            b"picture 2 19999 100815\n",
+            black.as_slice(),
+        ],
+    );
+}
+
 /// The blank cartridge halts in its first frame: it goes on at the address 0000, which tells the collisions of missile 0. Without one it
 /// reads 00, which is `BRK`, whose pushes go down through RAM into the picture's registers. In the 68th missile 0 meets player 1, and so the next
 /// opcode is 80.

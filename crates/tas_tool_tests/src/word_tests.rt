@@ -203,6 +203,35 @@ fn other_words_end_with_status_2(rt: HostRuntime) {
     check_unread(&rt, alloc, kind, only_game(cart), ONE_FRAME, end);
 }
 
+/// Words of which one is missing, and the beginning of the text, which names it.
+static MISSING: [(&[&str], &[u8]); 4] = [
+    (
+        &["script", "--cart", "game.bin"],
+        b"error: the following required arguments were not provided:\n  --movie <MOVIE>\n",
+    ),
+    (
+        &["script", "--movie", "other"],
+        b"error: the following required arguments were not provided:\n  --cart <CART>\n",
+    ),
+    (
+        &["shot", "game.bin"],
+        b"error: the following required arguments were not provided:\n  <K>\n",
+    ),
+    (
+        &["edit", "game.bin"],
+        b"error: the following required arguments were not provided:\n  <SCRIPT>\n",
+    ),
+];
+
+#[test]
+fn a_missing_word_is_named(rt: HostRuntime) {
+    let alloc = rt.alloc();
+    for (number, (words, text)) in MISSING.iter().enumerate() {
+        let end = (2, b"".as_slice(), *text);
+        check_begins(&rt, alloc, ("missing", number), words, (b"", b""), end);
+    }
+}
+
 /// Words that ask for help, and the beginning of the text.
 static HELPS: [(&[&str], &[u8]); 11] = [
     (

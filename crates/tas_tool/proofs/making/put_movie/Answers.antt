@@ -2,7 +2,7 @@ use Rattle.tas_tool.proofs.TurnLemmas.{edited_number}
 use Rattle.std.proofs.Common.{Ok, Err, subst, sym, ◌∙◌}
 use Rattle.std.proofs.lemmas.Result.{err_from_is_err_and}
 use Rattle.tas_tool.specs.TwoEdits.{IsMakingFault}
-use Rattle.tas_tool.proofs.MakingLemmas.{loaded, movie_made, insert_refused, load_refused}
+use Rattle.tas_tool.proofs.MakingLemmas.{loaded, movie_made, insert_refused, load_refused, unrefused_at_first, load_unrefused, insert_unrefused, compared}
 use Rattle.tas_tool.proofs.GreenLemmas.{edited_zone}
 use Rattle.tas_tool.proofs.making.put_movie.Goals as goal
 
@@ -47,3 +47,20 @@ pub returns-in_err-cart-clause-fault : goal.returns-in_err-cart-clause-fault
 returns-in_err-cart-clause-fault g c =
     let p = err_from_is_err_and c.from_residual.result c.from_residual.ensures.1 in
     rw (p.1, p.2) tt
+
+pub returns-in_err-cart-clause-memory : goal.returns-in_err-cart-clause-memory
+returns-in_err-cart-clause-memory g c =
+    let p = err_from_is_err_and c.from_residual.result c.from_residual.ensures.1 in
+    rw (p.1, p.2) (λ e. unrefused_at_first c.args.seat.now c.args.movie.now c.requires.first.0 c.requires.first.1 c.requires.first.2)
+
+pub returns-in-Err-clause-memory : goal.returns-in-Err-clause-memory
+returns-in-Err-clause-memory g c = λ e.
+    load_unrefused c.args.seat.now c.edit.new.seat c.args.movie.now c.in_ok-cart.cart c.in_ok-cart.inputs c.in-Err.error c.in_ok-cart.ensures.whole c.requires.first.1 c.in-Err.ensures (sym c.edit_fault.ensures ∙ e)
+
+pub returns-in-Err-edit-clause-memory : goal.returns-in-Err-edit-clause-memory
+returns-in-Err-edit-clause-memory g c = λ e.
+    let first = loaded c.args.seat.now c.edit.new.seat c.in_ok-cart.cart c.in-Ok.field-0 c.requires.first.0 c.requires.first.1 c.in-Ok.ensures in
+    insert_unrefused c.edit.new.seat c.edit-2.new.seat c.args.movie.now c.in_ok-cart.cart c.in_ok-cart.inputs c.in-Err-edit.error c.in_ok-cart.ensures.whole first.made c.in-Err-edit.ensures (sym c.edit_fault-in-Err-edit.ensures ∙ e)
+
+pub returns-in-Ok-edit-clause-memory : goal.returns-in-Ok-edit-clause-memory
+returns-in-Ok-edit-clause-memory g c = compared c.edit-2.new.seat c.args.movie.now _ c.checked.result c.checked.ensures
