@@ -3,6 +3,7 @@ pub mod DrawingLemmas
 pub mod EditLemmas
 pub mod EntryLemmas
 pub mod HistoryLemmas
+pub mod LockedLemmas
 pub mod PrefixLemmas
 pub mod PublishLemmas
 pub mod PublishedRule

@@ -1,8 +1,9 @@
 -- What a session's answers say of the history under the lock, and why a job isn't stale.
 use Rattle.std.proofs.Common.{◌≡◌, ◌≢◌, ℕ, ◌+◌, List, length, take, min, refl, ap, sym, ◌∙◌, subst, Option, Some, None, Result, Ok, Err}
 use mathlib.Core.List.{IsPrefix}
-use Rattle.std.specs.Prelude.{IfOk}
+use Rattle.std.specs.Prelude.{IfOk, OnOk, OnErr, MatchResult}
 use Rattle.tas_movie.specs.Content.{MovieContent}
+use Rattle.tas_green.specs.declared.savestate.Savestate.{Savestate}
 use Rattle.tas_green.specs.Batch.{JobContent, BatchContent}
 use Rattle.tas_green.specs.Front.{IsCommonFront}
 use Rattle.tas_green.specs.Green.{IsLawful}
@@ -13,26 +14,65 @@ use Rattle.tas_desk.specs.declared.replies.Offered.{Offered}
 use Rattle.tas_desk.specs.declared.work.Worked.{Worked}
 use Rattle.tas_desk.specs.History.{movie_of}
 use Rattle.tas_desk.specs.Session.{SessionContent}
-use Rattle.tas_desk.specs.Work.{IsJobOf, IsTaken, with_job, KeepsCart}
+use Rattle.tas_desk.specs.Locked.{LockedContent, locked_of}
+use Rattle.tas_desk.specs.Work.{IsJobFrom, IsJobOf, Takes, IsTaken, with_job, KeepsCart}
+use Rattle.tas_desk.specs.Zones.{ZoneContent, IsMadeFor, IsShared, Shares}
 use Rattle.tas_desk.proofs.PrefixLemmas.{prefix_self, prefix_trans}
 
-pub job_of : {A E : Type 0} (session : SessionContent A) (movie : MovieContent) (near : ℕ) (r : Result JobContent E) → session.movie ≡ movie → IsLawful session.movie session.zone
+-- a session's job is one from the states under the lock
+pub job_from : {A E : Type 0} (session : SessionContent A) (locked : LockedContent A) (near : ℕ) (r : Result JobContent E) → session.movie ≡ movie_of session.journal → locked_of session.journal session.zone ≡ locked
     → IfOk r (λ job. job.cart ≡ session.movie.cart) → IfOk r (λ job. job.inputs ≡ take (min near (length session.movie.inputs)) session.movie.inputs)
     → IfOk r (λ job. job.stride ≡ stride (length session.movie.inputs)) → IfOk r (λ job. job.start ≡ nearest (min near (length session.movie.inputs)) session.zone)
-    → IfOk r (IsJobOf movie near)
-job_of session movie near (Ok job) same lawful cart inputs step start =
-    subst (λ (m : MovieContent). IsJobOf m near job) same (record { cart = cart; inputs = inputs; step = step; kept = session.zone; lawful = lawful; start = start })
-job_of session movie near (Err e) same lawful cart inputs step start = tt
+    → IfOk r (IsJobFrom locked.zone (movie_of locked.journal) near)
+job_from {A} session locked near (Ok job) movie view cart inputs step start =
+    subst (λ (l : LockedContent A). IsJobFrom l.zone (movie_of l.journal) near job) view
+    (subst (λ (m : MovieContent). IsJobFrom session.zone m near job) movie (record { cart = cart; inputs = inputs; step = step; start = start }))
+job_from session locked near (Err e) movie view cart inputs step start = tt
 
-pub taken_of : {A E : Type 0} (old new : SessionContent A) (movie : MovieContent) (batch : BatchContent) (r : Result Offered E) → old.movie ≡ movie → IsLawful old.movie old.zone → IsLawful new.movie new.zone → new.movie ≡ old.movie
+-- what a session takes is what the states under the lock take
+pub takes_as : {A E : Type 0} (old new : SessionContent A) (locked : LockedContent A) (batch : BatchContent) (r : Result Offered E) → old.movie ≡ movie_of old.journal → locked_of old.journal old.zone ≡ locked
     → IfOk r (λ offered. IsCommonFront batch.inputs old.movie.inputs offered.front)
     → IfOk r (λ offered. (f : ℕ) → state_at f new.zone ≡ first_of (state_at f old.zone) (where_true (is_on_grid (stride (length old.movie.inputs)) offered.front f) (state_at f batch.states)))
     → IfOk r (λ offered. length new.zone ≡ length old.zone + offered.kept)
-    → IfOk r (IsTaken movie batch)
-taken_of old new movie batch (Ok offered) is before now same front states gained =
-    subst (λ (m : MovieContent). IsTaken m batch offered) is
-    (record { front = front; before = old.zone; lawful = before; now = new.zone; states = states; gained = gained; lawful_now = subst (λ (m : MovieContent). IsLawful m new.zone) same now })
-taken_of old new movie batch (Err e) is before now same front states gained = tt
+    → IfOk r (Takes locked.zone new.zone (movie_of locked.journal) batch)
+takes_as {A} old new locked batch (Ok offered) movie view front states gained =
+    subst (λ (l : LockedContent A). Takes l.zone new.zone (movie_of l.journal) batch offered) view
+    (subst (λ (m : MovieContent). Takes old.zone new.zone m batch offered) movie (record { front = front; states = states; gained = gained }))
+takes_as old new locked batch (Err e) movie view front states gained = tt
+
+-- the states of a session are lawful for the movie of the history under the lock
+pub lawful_as : {A : Type 0} (session : SessionContent A) (locked : LockedContent A) → session.movie ≡ movie_of session.journal → locked_of session.journal session.zone ≡ locked → IsLawful session.movie session.zone
+    → IsLawful (movie_of locked.journal) locked.zone
+lawful_as {A} session locked movie view lawful =
+    subst (λ (l : LockedContent A). IsLawful (movie_of l.journal) l.zone) view (subst (λ (m : MovieContent). IsLawful m session.zone) movie lawful)
+
+-- so are those of the same session once it has taken others
+pub lawful_still : {A : Type 0} (old new : SessionContent A) (locked : LockedContent A) → old.movie ≡ movie_of old.journal → locked_of old.journal old.zone ≡ locked → new.movie ≡ old.movie → IsLawful new.movie new.zone
+    → IsLawful (movie_of locked.journal) new.zone
+lawful_still {A} old new locked movie view same lawful =
+    subst (λ (l : LockedContent A). IsLawful (movie_of l.journal) new.zone) view (subst (λ (m : MovieContent). IsLawful m new.zone) (same ∙ movie) lawful)
+
+-- a job from the states under the lock is one from a lawful zone
+pub job_of : {A E : Type 0} (locked : LockedContent A) (front : List (Entry A)) (near : ℕ) (r : Result JobContent E) → front ≡ locked.journal → IsLawful (movie_of locked.journal) locked.zone
+    → IfOk r (IsJobFrom locked.zone (movie_of locked.journal) near) → IfOk r (IsJobOf (movie_of front) near)
+job_of {A} locked front near (Ok job) same lawful is = subst (λ (h : List (Entry A)). IsJobOf (movie_of h) near job) (sym same) (record { kept = locked.zone; lawful = lawful; is = is })
+job_of locked front near (Err e) same lawful is = tt
+
+-- what the states under the lock take is taken by a lawful zone
+pub taken_of : {A E : Type 0} (locked : LockedContent A) (now : List Savestate) (front : List (Entry A)) (batch : BatchContent) (r : Result Offered E) → front ≡ locked.journal → IsLawful (movie_of locked.journal) locked.zone → IsLawful (movie_of locked.journal) now
+    → IfOk r (Takes locked.zone now (movie_of locked.journal) batch) → IfOk r (IsTaken (movie_of front) batch)
+taken_of {A} locked now front batch (Ok offered) same lawful lawful_now takes =
+    subst (λ (h : List (Entry A)). IsTaken (movie_of h) batch offered) (sym same) (record { before = locked.zone; lawful = lawful; now = now; lawful_now = lawful_now; takes = takes })
+taken_of locked now front batch (Err e) same lawful lawful_now takes = tt
+
+-- a share of the states under the lock is one of a lawful zone
+pub shared_of : {A E : Type 0} (locked : LockedContent A) (before now : ZoneContent A) (front : List (Entry A)) (r : Result ℕ E) → front ≡ locked.journal → IsLawful (movie_of locked.journal) locked.zone → OnOk r (IsMadeFor now locked.journal)
+    → IfOk r (Shares before.movie now.movie before.states locked.zone now.states) → OnErr r (now ≡ before)
+    → MatchResult r (IsShared before now front) (λ _. now ≡ before)
+shared_of {A} locked before now front (Ok gained) same lawful made gain memory =
+    subst (λ (h : List (Entry A)). IsShared before now h gained) (sym same)
+    (record { made = made; other = locked.zone; others = subst (λ (m : MovieContent). IsLawful m locked.zone) (sym made.movie) lawful; gain = gain })
+shared_of locked before now front (Err e) same lawful made gain memory = memory
 
 -- the histories up to one in between have the first one's cartridge, too
 pub keeps_before : {A : Type 0} (one other last : List (Entry A)) → IsPrefix other last → KeepsCart one last → KeepsCart one other

@@ -4,6 +4,7 @@ pub mod Exporting
 pub mod Exports
 pub mod Frames
 pub mod History
+pub mod Locked
 pub mod Published
 pub mod Registry
 pub mod Runs

@@ -16,25 +16,33 @@ use Rattle.tas_desk.specs.declared.work.WorkError.TheVariants.{Memory}
 use Rattle.tas_desk.specs.History.{movie_of}
 
 -- a job for the first `near` frames of a movie: it has the cartridge, these inputs and the movie's stride, and starts from the
--- nearest state among them of a zone that is lawful for the movie
-pub record IsJobOf (movie : MovieContent) (near : ℕ) (job : JobContent) : Type 0 where
+-- nearest of these states among them
+pub record IsJobFrom (kept : List Savestate) (movie : MovieContent) (near : ℕ) (job : JobContent) : Type 0 where
   pub cart : job.cart ≡ movie.cart
   pub inputs : job.inputs ≡ take (min near (length movie.inputs)) movie.inputs
   pub step : job.stride ≡ stride (length movie.inputs)
-  pub kept : List Savestate
-  pub lawful : IsLawful movie kept
   pub start : job.start ≡ nearest (min near (length movie.inputs)) kept
 
--- a batch that is taken under a movie: a zone that is lawful for the movie gains exactly the batch's states on its grid up to the
--- common front, and those that it lacked are counted
-pub record IsTaken (movie : MovieContent) (batch : BatchContent) (offered : Offered) : Type 0 where
+-- the same from the states of a zone that is lawful for the movie
+pub record IsJobOf (movie : MovieContent) (near : ℕ) (job : JobContent) : Type 0 where
+  pub kept : List Savestate
+  pub lawful : IsLawful movie kept
+  pub is : IsJobFrom kept movie near job
+
+-- a batch that a zone takes under a movie: it gains exactly the batch's states on the movie's grid up to the common front, and
+-- those that it lacked are counted
+pub record Takes (before now : List Savestate) (movie : MovieContent) (batch : BatchContent) (offered : Offered) : Type 0 where
   pub front : IsCommonFront batch.inputs movie.inputs offered.front
+  pub states : (f : ℕ) → state_at f now ≡ first_of (state_at f before) (where_true (is_on_grid (stride (length movie.inputs)) offered.front f) (state_at f batch.states))
+  pub gained : length now ≡ length before + offered.kept
+
+-- the same of a zone that is lawful for the movie before and afterwards
+pub record IsTaken (movie : MovieContent) (batch : BatchContent) (offered : Offered) : Type 0 where
   pub before : List Savestate
   pub lawful : IsLawful movie before
   pub now : List Savestate
-  pub states : (f : ℕ) → state_at f now ≡ first_of (state_at f before) (where_true (is_on_grid (stride (length movie.inputs)) offered.front f) (state_at f batch.states))
-  pub gained : length now ≡ length before + offered.kept
   pub lawful_now : IsLawful movie now
+  pub takes : Takes before now movie batch offered
 
 -- what was worked, once there was one job more: it gained so many states, which are counted up to what a `usize` holds, or it
 -- was stale

@@ -3,7 +3,8 @@
 //! Each call that takes a seat gives it back with its number, and with a front, the history that the seat has now seen, which
 //! begins with the one that it had seen before. In every reply `at` is the length of this front.
 //!
-//! What is said of the kept states under the lock, of gates and of threads no clause can say; docs/PROOFS.md lists it.
+//! A desk's clauses can't name the kept states under the lock; those of the locked session say what each call makes of them. Of gates and
+//! of threads no clause says anything; docs/PROOFS.md lists what is so.
 
 ghost use Rattle.std.specs.Prelude.{◌≡◌, ◌≢◌, ◌↔◌, ◌⊎◌, ℕ, ◌+◌, ◌<◌, ◌≤◌, ◌==◌, [], length, slice_get, Some, count_by, IsTrue, IfOk, IfErr, Err, MatchResult, All};
 ghost use Rattle.tas_desk.specs.declared.replies.OfferError.TheVariants.{Cartridge, Memory};
@@ -17,6 +18,7 @@ ghost use Rattle.tas_desk.specs.Closing.{made_by};
 ghost use Rattle.tas_desk.specs.Seats.{most_seats, name_of, seat_of, HasSeen, KeepsZone, IsZoneShot, IsEdited, IsWhole, IsSettled, IsInput};
 ghost use Rattle.tas_desk.specs.Work.{IsJobOf, IsTaken};
 
+use crate::desk_lock::DeskLock;
 use crate::locked_session::{CloseOnDrop, LockedSession};
 use crate::seating::new_seats;
 use crate::{
@@ -25,8 +27,8 @@ use crate::{
 };
 use std::alloc::{AllocError, Allocator, Global};
 use std::marker::Model;
+use std::sync::Wait;
 use std::sync::ledger::Blank;
-use std::sync::{Mutex, Wait};
 use tas_green::{Batch, Job};
 use tas_movie::Edit;
 use vcs_machine::Input;
@@ -76,7 +78,7 @@ impl<A: Allocator + Copy> Unopened<A> {
 /// that it has as many seats as its ledger has parts.
 #[derive(Drop)]
 pub struct Desk<N: Name, W: CloseOnDrop, A: Allocator = Global> {
-    pub(crate) locked: Mutex<LockedSession<N, W, A>>,
+    pub(crate) locked: DeskLock<LockedSession<N, W, A>>,
     seats: u32,
 }
 
@@ -103,7 +105,7 @@ impl<N: Name, W: CloseOnDrop, A: Allocator> Desk<N, W, A> {
         guard.show(rt, other)
     }
 
-    /// How many edits there are, and how many inputs. It waits for nobody. `NoEntry`, where the seat's reader got no entry,
+    /// How many edits there are, and how many inputs. It takes no lock. `NoEntry`, where the seat's reader got no entry,
     /// leaves the seat as it was.
     pub fn len(&self, seat: &mut Seat<N, A>) -> Result<(u64, usize), NoEntry>
         ensures seat { KeepsZone seat.old seat.new }
@@ -112,7 +114,7 @@ impl<N: Name, W: CloseOnDrop, A: Allocator> Desk<N, W, A> {
         seat.len()
     }
 
-    /// The number of edits, and the input of frame `k`, counted from 0. It waits for nobody. `NoFrame` comes exactly where the
+    /// The number of edits, and the input of frame `k`, counted from 0. It takes no lock. `NoFrame` comes exactly where the
     /// movie isn't that long; `NoEntry` leaves the seat as it was.
     pub fn input(&self, seat: &mut Seat<N, A>, k: usize) -> Result<(u64, Input), InputError>
         ensures seat { KeepsZone seat.old seat.new }
@@ -173,7 +175,7 @@ impl<N: Name, W: CloseOnDrop + Wait, A: Allocator + Copy> Desk<N, W, A> {
         match new_seats(&rt, alloc, &mut session, &mut rest, count) {
             Ok(seats) => {
                 let desk = Desk {
-                    locked: Mutex::new(LockedSession::new(session, book, rest, rt)),
+                    locked: DeskLock::new(LockedSession::new(session, book, rest, rt)),
                     seats: count,
                 };
                 Ok((desk, seats))
@@ -202,7 +204,7 @@ impl<N: Name, W: CloseOnDrop, A: Allocator + Copy> Desk<N, W, A> {
         self.locked.lock(rt).edit(rt, seat, edit)
     }
 
-    /// Draws frame `k`, counted from 0, played from the nearest state of the seat's own zone. It waits for nobody. The zone is
+    /// Draws frame `k`, counted from 0, played from the nearest state of the seat's own zone. It takes no lock. The zone is
     /// first cut at the common front of the inputs that it was made for and the present ones, and emptied where the cartridge
     /// differs; then it gains the states on the way that stand on the grid. The picture takes its memory from `alloc`.
     ///

@@ -6,6 +6,7 @@
 
 mod counts;
 mod desk;
+mod desk_lock;
 mod drawing;
 mod entry;
 mod export;

@@ -1,15 +1,17 @@
 //! What lies under the lock of a desk.
 
-ghost use Rattle.std.specs.Prelude.{◌≡◌, ◌≢◌, ◌↔◌, ◌⊎◌, ◌+◌, ◌<◌, ◌≤◌, ◌++◌, ◌∷◌, [], length, None, IfOk, IfErr, Err, MatchResult, All};
+ghost use Rattle.std.specs.Prelude.{◌≡◌, ◌≢◌, ◌↔◌, ◌⊎◌, ◌+◌, ◌≤◌, [], length, None, IfOk, IfErr, OnOk, OnErr, Err, MatchResult, All};
 ghost use mathlib.Core.List.{IsPrefix};
 ghost use Rattle.tas_movie.specs.Edit.{edited};
+ghost use Rattle.tas_green.specs.Grid.{most_states};
+ghost use Rattle.tas_green.specs.Green.{IsLawful};
 ghost use Rattle.tas_desk.specs.declared.replies.OfferError.TheVariants.{Cartridge, Memory};
 ghost use Rattle.tas_desk.specs.History.{movie_of, entries_of, IsLegal};
 ghost use Rattle.tas_desk.specs.Session.{refusal_at, IsEditError};
-ghost use Rattle.tas_desk.specs.Zones.{IsShared};
+ghost use Rattle.tas_desk.specs.Locked.{locked_of, locked_after};
+ghost use Rattle.tas_desk.specs.Zones.{IsMadeFor, Shares};
 ghost use Rattle.tas_desk.specs.Exporting.{FoundRange};
-ghost use Rattle.tas_desk.specs.Work.{IsJobOf, IsTaken};
-ghost use Rattle.tas_green.specs.Grid.{most_states};
+ghost use Rattle.tas_desk.specs.Work.{IsJobFrom, Takes};
 ghost use Rattle.tas_desk.specs.Closing.{made_by};
 ghost use Rattle.tas_desk.specs.Seats.{seat_of, entry_of, IsWhole, IsSettled, AnswersEdit};
 
@@ -35,8 +37,8 @@ impl<R: Wait + Drop> CloseOnDrop for R {
     }
 }
 
-/// The session, with the book of what the seats made. Contracts see its history. It keeps its part for waiting, since a
-/// session can't be dropped: it is closed then.
+/// The session, with the book of what the seats made. Contracts see its history and its kept states; the movie is the
+/// history's. It keeps its part for waiting, since a session can't be dropped: it is closed then.
 pub struct LockedSession<N: Name, W: CloseOnDrop, A: Allocator = Global> {
     session: Session<A>,
     book: Book<N>,
@@ -57,12 +59,12 @@ impl<N: Name, W: CloseOnDrop, A: Allocator> Drop for LockedSession<N, W, A> {
 }
 
 impl<N: Name, W: CloseOnDrop, A: Allocator> Model for LockedSession<N, W, A> {
-    ghost use Rattle.std.specs.Prelude.{◌≡◌, List, length};
-    ghost use Rattle.tas_desk.specs.declared.entry.Entry.{Entry};
+    ghost use Rattle.std.specs.Prelude.{◌≡◌, length};
+    ghost use Rattle.tas_desk.specs.Locked.{LockedContent, locked_of};
 
-    ghost Value = { List (Entry A) };
+    ghost Value = { LockedContent A };
 
-    ghost view = { λ l. l.session.journal };
+    ghost view = { λ l. locked_of l.session.journal l.session.zone };
 
     ghost invariant = { λ l. (l.session.registry ≡ N.registry) × (l.book.total ≡ length l.session.journal) × (l.rest.parts ≡ 0) × (l.rest.amount ≡ 0) };
 }
@@ -74,7 +76,7 @@ impl<N: Name, W: CloseOnDrop, A: Allocator> LockedSession<N, W, A> {
         requires session { (session.registry ≡ N.registry) × (session.journal ≡ []) }
         requires book { book.total ≡ 0 }
         requires rest { (rest.parts ≡ 0) × (rest.amount ≡ 0) }
-        ensures { result ≡ [] }
+        ensures { result ≡ locked_of [] session.zone }
     {
         LockedSession {
             session,
@@ -86,9 +88,9 @@ impl<N: Name, W: CloseOnDrop, A: Allocator> LockedSession<N, W, A> {
 
     /// Lets a seat see the history, and answers its length.
     pub fn show<R: Wait>(&self, rt: &R, seat: &mut Seat<N, A>) -> u64
-        ensures seat { seat.new ≡ seat_of seat.old.number seat.old.made self.now seat.old.zone }
-        ensures begins { IsPrefix seat.old.front self.now }
-        ensures at { result ≡ length self.now }
+        ensures seat { seat.new ≡ seat_of seat.old.number seat.old.made self.now.journal seat.old.zone }
+        ensures begins { IsPrefix seat.old.front self.now.journal }
+        ensures at { result ≡ length self.now.journal }
     {
         self.session.show_to(rt, &mut seat.reader);
         self.session.at()
@@ -97,11 +99,11 @@ impl<N: Name, W: CloseOnDrop, A: Allocator> LockedSession<N, W, A> {
     /// Ends the session, with all seats.
     pub fn close<R: Wait>(self, rt: &R, seats: Vec<Seat<N, A>, A>) -> Closed<A>
         requires whole { IsWhole N.parts seats.items }
-        ensures journal { result.journal.items ≡ self }
-        ensures movie { result.movie ≡ movie_of self }
-        ensures legal { IsLegal self }
-        ensures count { length self ≡ made_by seats.items }
-        ensures seats { All (IsSettled self) seats.items }
+        ensures journal { result.journal.items ≡ self.journal }
+        ensures movie { result.movie ≡ movie_of self.journal }
+        ensures legal { IsLegal self.journal }
+        ensures count { length self.journal ≡ made_by seats.items }
+        ensures seats { All (IsSettled self.journal) seats.items }
     {
         let LockedSession {
             session,
@@ -144,19 +146,27 @@ fn join_seat<N: Name, A: Allocator, R: Wait>(
 }
 
 impl<N: Name, W: CloseOnDrop, A: Allocator + Copy> LockedSession<N, W, A> {
-    /// Takes an edit of a seat.
+    /// Takes an edit of a seat. Exactly the states that it leaves are kept; a refusal leaves history and kept states as they were.
     pub fn edit<R: Wait>(
         &mut self,
         rt: &R,
         seat: &mut Seat<N, A>,
         edit: Edit<A>,
     ) -> Result<Receipt, EditError>
-        ensures begins { IsPrefix seat.old.front self.old }
-        ensures receipt { IfOk result (λ receipt. receipt ≡ record { at = length self.old + 1; len = length (edited (movie_of self.old) edit).inputs }) }
-        ensures refusal { MatchResult result (λ _. refusal_at self.old seat.old.number seat.old.made edit ≡ None) (IsEditError (refusal_at self.old seat.old.number seat.old.made edit)) }
-        ensures answered { AnswersEdit (movie_of self.old) edit result }
-        ensures journal { MatchResult result (λ _. self.new ≡ self.old ++ entry_of seat.old.number seat.old.made edit ∷ []) (λ _. self.new ≡ self.old) }
-        ensures seat { MatchResult result (λ _. seat.new ≡ seat_of seat.old.number (seat.old.made + 1) self.new seat.old.zone) (λ _. seat.new ≡ seat_of seat.old.number seat.old.made self.new seat.old.zone) }
+        ensures begins { IsPrefix seat.old.front self.old.journal }
+        ensures receipt { IfOk result (λ receipt. receipt ≡ record {
+          at = length self.old.journal + 1;
+          len = length (edited (movie_of self.old.journal) edit).inputs;
+        }) }
+        ensures refusal { MatchResult result
+            (λ _. refusal_at self.old.journal seat.old.number seat.old.made edit ≡ None)
+            (IsEditError (refusal_at self.old.journal seat.old.number seat.old.made edit)) }
+        ensures answered { AnswersEdit (movie_of self.old.journal) edit result }
+        ensures done { OnOk result (self.new ≡ locked_after self.old (entry_of seat.old.number seat.old.made edit)) }
+        ensures refused { OnErr result (self.new ≡ self.old) }
+        ensures seat { MatchResult result
+            (λ _. seat.new ≡ seat_of seat.old.number (seat.old.made + 1) self.new.journal seat.old.zone)
+            (λ _. seat.new ≡ seat_of seat.old.number seat.old.made self.new.journal seat.old.zone) }
     {
         self.session.show_to(rt, &mut seat.reader);
         let receipt = self.session.edit(rt, seat.number, seat.made, edit)?;
@@ -175,9 +185,9 @@ impl<N: Name, W: CloseOnDrop, A: Allocator + Copy> LockedSession<N, W, A> {
         from: usize,
         to: usize,
     ) -> Result<(u64, Movie<B>), ExportError>
-        ensures begins { IsPrefix seat.old.front self.now }
-        ensures seat { seat.new ≡ seat_of seat.old.number seat.old.made self.now seat.old.zone }
-        ensures reply { FoundRange (movie_of self.now) (length self.now) from to result }
+        ensures begins { IsPrefix seat.old.front self.now.journal }
+        ensures seat { seat.new ≡ seat_of seat.old.number seat.old.made self.now.journal seat.old.zone }
+        ensures reply { FoundRange (movie_of self.now.journal) (length self.now.journal) from to result }
     {
         self.session.show_to(rt, &mut seat.reader);
         let at = self.session.at();
@@ -191,11 +201,15 @@ impl<N: Name, W: CloseOnDrop, A: Allocator + Copy> LockedSession<N, W, A> {
         }
     }
 
-    /// Lets a seat's zone gain the kept states.
+    /// Lets a seat's zone gain exactly the kept states that it lacks, and answers how many.
     pub fn share<R: Wait>(&self, rt: &R, seat: &mut Seat<N, A>) -> Result<usize, AllocError>
-        ensures begins { IsPrefix seat.old.front self.now }
-        ensures seat { seat.new ≡ seat_of seat.old.number seat.old.made self.now seat.new.zone }
-        ensures zone { MatchResult result (IsShared seat.old.zone seat.new.zone self.now) (λ _. seat.new.zone ≡ seat.old.zone) }
+        ensures begins { IsPrefix seat.old.front self.now.journal }
+        ensures seat { seat.new ≡ seat_of seat.old.number seat.old.made self.now.journal seat.new.zone }
+        ensures made { OnOk result (IsMadeFor seat.new.zone self.now.journal) }
+        ensures gained { IfOk result (Shares seat.old.zone.movie seat.new.zone.movie
+            seat.old.zone.states self.now.zone seat.new.zone.states) }
+        ensures lawful { IsLawful (movie_of self.now.journal) self.now.zone }
+        ensures memory { OnErr result (seat.new.zone ≡ seat.old.zone) }
     {
         self.session.show_to(rt, &mut seat.reader);
         seat.zone.share(
@@ -205,7 +219,7 @@ impl<N: Name, W: CloseOnDrop, A: Allocator + Copy> LockedSession<N, W, A> {
         )
     }
 
-    /// A job for a part of the movie.
+    /// A job for a part of the movie, from the nearest kept state.
     pub fn job<B: Allocator + Copy, R: Wait>(
         &self,
         rt: &R,
@@ -213,28 +227,34 @@ impl<N: Name, W: CloseOnDrop, A: Allocator + Copy> LockedSession<N, W, A> {
         seat: &mut Seat<N, A>,
         near: usize,
     ) -> Result<Job<B>, AllocError>
-        ensures begins { IsPrefix seat.old.front self.now }
-        ensures seat { seat.new ≡ seat_of seat.old.number seat.old.made self.now seat.old.zone }
-        ensures job { IfOk result (IsJobOf (movie_of self.now) near) }
+        ensures begins { IsPrefix seat.old.front self.now.journal }
+        ensures seat { seat.new ≡ seat_of seat.old.number seat.old.made self.now.journal seat.old.zone }
+        ensures job { IfOk result (IsJobFrom self.now.zone (movie_of self.now.journal) near) }
+        ensures lawful { IsLawful (movie_of self.now.journal) self.now.zone }
     {
         self.session.show_to(rt, &mut seat.reader);
         self.session.job(alloc, near)
     }
 
-    /// Takes what a job made.
+    /// Takes what a job made: the kept states gain exactly those on the grid up to the common front. An error leaves them.
     pub fn offer<B: Allocator, R: Wait>(
         &mut self,
         rt: &R,
         seat: &mut Seat<N, A>,
         batch: Batch<B>,
     ) -> Result<Offered, OfferError<B>>
-        ensures begins { IsPrefix seat.old.front self.old }
-        ensures same { self.new ≡ self.old }
-        ensures seat { seat.new ≡ seat_of seat.old.number seat.old.made self.old seat.old.zone }
-        ensures cartridge { (result ≡ Err (Cartridge (length self.old))) ↔ (batch.cart ≢ (movie_of self.old).cart) }
-        ensures error { IfErr result (λ error. (error ≡ Cartridge (length self.old)) ⊎ (error ≡ Memory batch)) }
-        ensures at { IfOk result (λ offered. offered.at ≡ length self.old) }
-        ensures taken { IfOk result (IsTaken (movie_of self.old) batch) }
+        ensures begins { IsPrefix seat.old.front self.old.journal }
+        ensures journal { self.new.journal ≡ self.old.journal }
+        ensures seat { seat.new ≡ seat_of seat.old.number seat.old.made self.old.journal seat.old.zone }
+        ensures cartridge { (result ≡ Err (Cartridge (length self.old.journal)))
+            ↔ (batch.cart ≢ (movie_of self.old.journal).cart) }
+        ensures error { IfErr result (λ error.
+            (error ≡ Cartridge (length self.old.journal)) ⊎ (error ≡ Memory batch)) }
+        ensures at { IfOk result (λ offered. offered.at ≡ length self.old.journal) }
+        ensures taken { IfOk result (Takes self.old.zone self.new.zone (movie_of self.old.journal) batch) }
+        ensures lawful { IsLawful (movie_of self.old.journal) self.old.zone }
+        ensures lawful_now { IsLawful (movie_of self.old.journal) self.new.zone }
+        ensures refused { OnErr result (self.new ≡ self.old) }
         ensures few { IfOk result (λ offered. offered.kept ≤ most_states) }
     {
         self.session.show_to(rt, &mut seat.reader);

@@ -18,4 +18,4 @@ returns-in-Err-Cartridge-clause-current g c = λ keeps _.
     let front = c.offer.new.seat.front in
     let same : c.in-Err-Cartridge.field-0 ≡ Cartridge (length front) = elim c.in-Err-Cartridge.ensures.error [ inl same ↦ same | inr memory ↦ cc (memory, c.in-Err-Cartridge.field-0-is) ] in
     never_stale c.args.seat.now.front c.job.new.seat.front front c.run.result.cart c.job.ensures.seat.seen.begins c.offer.ensures.seat.seen.begins
-    (c.run.ensures.cart ∙ c.in_ok-job.ensures.job.cart) (c.offer.ensures.cartridge.0 (c.in-Err-Cartridge.is ∙ ap Err same)) keeps
+    (c.run.ensures.cart ∙ c.in_ok-job.ensures.job.is.cart) (c.offer.ensures.cartridge.0 (c.in-Err-Cartridge.is ∙ ap Err same)) keeps

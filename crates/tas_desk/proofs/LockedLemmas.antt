@@ -1,0 +1,45 @@
+-- What lies under the lock after an edit, and what its seat sees.
+use Rattle.std.proofs.Common.{◌≡◌, ℕ, ◌+◌, [], ◌∷◌, ◌++◌, length, ap, ◌∙◌, Result, Ok, Err}
+use Rattle.std.specs.Prelude.{None, IfOk, OnOk, OnErr, MatchResult}
+use mathlib.Core.List.{IsPrefix}
+use Rattle.tas_movie.specs.Content.{MovieContent}
+use Rattle.tas_movie.specs.declared.edit.Edit.{Edit}
+use Rattle.tas_movie.specs.Edit.{edited}
+use Rattle.tas_desk.specs.declared.replies.Receipt.{Receipt}
+use Rattle.tas_desk.specs.declared.replies.EditError.{EditError}
+use Rattle.tas_desk.specs.History.{movie_of}
+use Rattle.tas_desk.specs.Session.{SessionContent, left_by, after_entry, refusal_at, IsEditError}
+use Rattle.tas_desk.specs.Locked.{LockedContent, locked_of, locked_after}
+use Rattle.tas_desk.specs.Seats.{SeatContent, seat_of, entry_of, AnswersEdit, IsEdited}
+
+-- what lies under the lock after an entry of its session
+pub locked_edited : {A : Type 0} (old new : SessionContent A) (locked : LockedContent A) (seat made seat' made' : ℕ) (edit : Edit A) → new ≡ after_entry old (record { seat = seat; serial = made; edit = edit })
+    → old.movie ≡ movie_of old.journal → locked_of old.journal old.zone ≡ locked → seat ≡ seat' → made ≡ made' → locked_of new.journal new.zone ≡ locked_after locked (entry_of seat' made' edit)
+locked_edited {A} old new locked seat made seat' made' edit done movie view s m =
+    ap (λ (c : SessionContent A). locked_of c.journal c.zone) done
+    ∙ ap (λ (t : MovieContent). locked_of (old.journal ++ entry_of seat made edit ∷ []) (left_by t edit old.zone)) movie
+    ∙ (λ i. locked_after (view i) (entry_of (s i) (m i) edit))
+
+-- an edit under the lock is one that is answered at the history there
+pub edited_at : {A : Type 0} (old new : LockedContent A) (before now : SeatContent A) (edit : Edit A) (r : Result Receipt EditError) → IsPrefix before.front old.journal
+    → IfOk r (λ receipt. receipt ≡ record { at = length old.journal + 1; len = length (edited (movie_of old.journal) edit).inputs })
+    → MatchResult r (λ _. refusal_at old.journal before.number before.made edit ≡ None) (IsEditError (refusal_at old.journal before.number before.made edit))
+    → AnswersEdit (movie_of old.journal) edit r → OnOk r (new ≡ locked_after old (entry_of before.number before.made edit)) → OnErr r (new ≡ old)
+    → MatchResult r (λ _. now ≡ seat_of before.number (before.made + 1) new.journal before.zone) (λ _. now ≡ seat_of before.number before.made new.journal before.zone)
+    → IsEdited before now edit r
+edited_at {A} old new before now edit (Ok receipt) begins is refusal answered done refused seat = record {
+  at = old.journal;
+  begins = begins;
+  receipt = is;
+  refusal = refusal;
+  answered = answered;
+  seat = seat ∙ ap (λ (l : LockedContent A). seat_of before.number (before.made + 1) l.journal before.zone) done;
+}
+edited_at {A} old new before now edit (Err error) begins is refusal answered done refused seat = record {
+  at = old.journal;
+  begins = begins;
+  receipt = tt;
+  refusal = refusal;
+  answered = answered;
+  seat = seat ∙ ap (λ (l : LockedContent A). seat_of before.number before.made l.journal before.zone) refused;
+}
