@@ -14,6 +14,7 @@ use tas_program::{Folder, run_program};
 use test_streams::Giver;
 
 /// A folder with one file, `game.bin`.
+#[derive(Drop)]
 struct OneFile<'a> {
     game: &'a [u8],
 }

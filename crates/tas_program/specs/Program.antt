@@ -96,9 +96,9 @@ CarriesOut files NoMemory old new status = (status ≡ Fault) × (new ≡ old)
 
 -- what may be asked for by what the system gave: a task by its words alone
 abbrev pub IsAskedBy : {A : Type 0} → Result (IntoIter (String A) A) Error → Request A → Type 0
-IsAskedBy given (Do chosen) = (words : List Text) × AreGiven given words × IsRequest words (Do chosen)
+IsAskedBy {A = A} given (Do chosen) = (words : List Text) × AreGiven given words × IsRequest {A = A} words (Do chosen)
 IsAskedBy given _ = Unit {0}
 
 -- the program carries out what the words may ask for
 abbrev pub ProgramEnds : {A : Type 0} → Result (IntoIter (String A) A) Error → (List ℕ → Option (List ℕ)) → Streams → Streams → Status → Type 0
-ProgramEnds given files old new status = (request : Request A) × IsAskedBy given request × CarriesOut files request old new status
+ProgramEnds {A = A} given files old new status = (request : Request A) × IsAskedBy given request × CarriesOut files request old new status
