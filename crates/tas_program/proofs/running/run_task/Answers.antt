@@ -1,4 +1,3 @@
-use Rattle.std.proofs.Common.{arith}
 use Rattle.tas_engines.specs.Movies.{IsMovieRun}
 use Rattle.tas_engines.specs.Checking.{IsCheckAnswer}
 use Rattle.tas_engines.specs.Migrating.{IsMigrateAnswer}
