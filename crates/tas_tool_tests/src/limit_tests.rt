@@ -317,10 +317,7 @@ static LATE_CHANGES: [(&[u8], End); 3] = [
         b"delete 3 1\n",
         End::Faults(b"fault: script line 12001: place\n"),
     ),
-    (
-        b"delete 3  1\n",
-        End::Faults(b"fault: script line 12001\n"),
-    ),
+    (b"delete 3  1\n", End::Faults(b"fault: script line 12001\n")),
 ];
 
 /// Scripts of changes with many lines, of a movie of three frames.
