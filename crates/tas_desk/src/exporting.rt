@@ -66,12 +66,7 @@ pub fn export_frames<
 }
 
 /// Draws the runs of a plan and writes them, as [`export_frames`]; the room for their pixmaps is there.
-fn export_runs<
-    A: Allocator + Send + Sync,
-    R: Threads + Sync,
-    G: Gate + Sync,
-    W: Write,
->(
+fn export_runs<A: Allocator + Send + Sync, R: Threads + Sync, G: Gate + Sync, W: Write>(
     rt: &R,
     movie: &Movie<A>,
     zone: &Green<A>,
