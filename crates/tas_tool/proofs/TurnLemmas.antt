@@ -22,7 +22,7 @@ use Rattle.tas_desk.specs.Session.{refusal_at, error_at, IsEditError}
 use Rattle.tas_desk.specs.Seats.{SeatContent, seat_of, entry_of, HasSeen, IsEdited}
 use Rattle.tas_desk.proofs.HistoryLemmas.{movie_of-push}
 use Rattle.tas_engines.specs.declared.fault.RunFault.{RunFault}
-use Rattle.tas_engines.specs.declared.fault.RunFault.TheVariants.{Foreign}
+use Rattle.tas_engines.specs.declared.fault.RunFault.TheVariants.{Foreign, NoEntry}
 use Rattle.tas_language.specs.declared.command.Command.{Command}
 use Rattle.tas_language.specs.declared.command.Command.TheVariants.{Load, Insert, Replace, Delete}
 use Rattle.tas_language.specs.declared.image.Image.{Image}
@@ -216,6 +216,14 @@ refused_at seat made at error reply r edit own m told place is found =
     checked_ends made at reply r (λ reply'. IsEditTurn (own_edits_of seat) edit reply' (own_edits_of seat)) (IsDeskFault seat) is
     (λ (same : at ≡ made). turn_refused (own_edits_of seat) edit reply (own_told seat edit (Some error) own (sym here ∙ same ∙ m) found ∙ told))
     (λ (other : at ≡ made → ⊥). foreign seat seat made at own (seen_self seat) m here other)
+
+-- a reply that is checked is no missing entry
+checked_reply : (own : Bool) (reply : Reply) → (if own then Ok reply else Err Foreign) ≡ Err NoEntry → ⊥
+checked_reply true reply e = absurd (cc e)
+checked_reply false reply e = absurd (cc e)
+
+pub checked_has_entry : (made at : ℕ) (reply : Reply) (r : Result Reply RunFault) → r ≡ checked_end made at (Ok reply) → r ≡ Err NoEntry → ⊥
+checked_has_entry made at reply r is none = checked_reply (at == made) reply (sym is ∙ none)
 
 -- another number of the seat's entries than it made
 pub refused_serial : {A : Type 0} (seat : SeatContent A) (at counted : ℕ) (edit : Edit A) → BeginsWithOwn seat → refusal_at seat.front seat.number seat.made edit ≡ Some (Serial at counted) → HasForeign seat

@@ -1,8 +1,10 @@
 //! Answering a command on a desk whose one seat is the script's.
 
-ghost use Rattle.std.specs.Prelude.{◌≡◌, ◌+◌, Err, IfOk, MatchResult, length};
+ghost use Rattle.std.specs.Prelude.{◌≡◌, ℕ, ◌+◌, Err, IfOk, MatchResult, length};
 ghost use Rattle.tas_movie.specs.declared.edit.Edit.{Edit as EditContent};
+ghost use Rattle.tas_desk.specs.declared.replies.EditError.TheVariants.{Serial, Memory as OutOfMemory};
 ghost use Rattle.tas_desk.specs.Session.{refusal_at, IsEditError};
+ghost use Rattle.tas_engines.specs.declared.fault.RunFault.TheVariants.{Foreign, NoEntry};
 ghost use Rattle.tas_desk.specs.Seats.{HasSeen};
 ghost use Rattle.tas_desk.specs.Shots.{IsShotAt};
 ghost use Rattle.tas_tool.specs.Turns.{own_edits_of, refused_reply, halted_reply, BeginsWithOwn, IsDeskFault, IsEditTurn, IsTurn};
@@ -75,6 +77,9 @@ fn refused_edit<N: Name, W: CloseOnDrop, A: Allocator>(
     ensures zone { seat.new.zone ≡ seat.old.zone }
     ensures reply { (edit : EditContent A) → IsEditError (refusal_at seat.old.front seat.old.number seat.old.made edit) error
         → MatchResult result (λ reply. IsEditTurn (own_edits_of seat.old) edit reply (own_edits_of seat.new)) (IsDeskFault seat.new) }
+    // A wrong serial is another's edit, and only want of memory needs a look, which may find no entry.
+    ensures serial { (at counted : ℕ) → error ≡ Serial at counted → result ≡ Err Foreign }
+    ensures entry { result ≡ Err NoEntry → error ≡ OutOfMemory }
 {
     match error {
         EditError::Serial { .. } => Err(RunFault::Foreign),

@@ -1,6 +1,6 @@
 use Rattle.std.proofs.Common.{◌∙◌, refl}
 use Rattle.tas_desk.specs.declared.replies.EditError.TheVariants.{Full as AllMade, Place as OutOfPlace, Long as OverLong}
-use Rattle.tas_tool.proofs.TurnLemmas.{error_is, refused_at, refused_serial, refused_memory, seen_self}
+use Rattle.tas_tool.proofs.TurnLemmas.{error_is, refused_at, refused_serial, refused_memory, seen_self, checked_has_entry}
 use Rattle.tas_tool.proofs.answering.refused_edit.Goals as goal
 
 pub returns-in-Serial-clause-reply : goal.returns-in-Serial-clause-reply
@@ -33,3 +33,12 @@ returns-in-Place-clause-seen g c = seen_self c.args.seat.now
 
 pub returns-in-Long-clause-seen : goal.returns-in-Long-clause-seen
 returns-in-Long-clause-seen g c = seen_self c.args.seat.now
+
+pub returns-in-Full-clause-entry : goal.returns-in-Full-clause-entry
+returns-in-Full-clause-entry g c = λ none. absurd (checked_has_entry c.args.made c.in-Full.at _ _ c.checked.ensures none)
+
+pub returns-in-Place-clause-entry : goal.returns-in-Place-clause-entry
+returns-in-Place-clause-entry g c = λ none. absurd (checked_has_entry c.args.made c.in-Place.at _ _ c.checked-in-Place.ensures none)
+
+pub returns-in-Long-clause-entry : goal.returns-in-Long-clause-entry
+returns-in-Long-clause-entry g c = λ none. absurd (checked_has_entry c.args.made c.in-Long.at _ _ c.checked-in-Long.ensures none)
