@@ -57,6 +57,7 @@ macro_rules! go_on_by_row {
 }
 
 /// Executes the instruction of any opcode, and answers whether the run is over; `None` where the opcode is undocumented.
+#[inline(never)]
 fn perform_any<B: Settle>(opcode: u8, code: u32, regs: &mut Regs, bus: &mut B) -> Option<bool>
     requires opcode { opcode ≡ B.device.byte_at (B.content bus.old) regs.old.pc }
     requires code { IsCode code regs.old.pc (B.device.byte_at (B.content bus.old)) }
@@ -99,13 +100,15 @@ pub fn run_until_over<B: Settle>(regs: &mut Regs, bus: &mut B, most: u32) -> Opt
 /// their own, which is compiled for that one instruction; an arm says what the opcode's row says.
 /// A halt, which comes once in a run at most, goes out by `halt`: the result is the registers alone.
 #[tactic(auto, unfolding(crate::specs::Rows::instruction_of, crate::specs::Rows::row_of))]
-fn run_by_value<B: Settle>(mut regs: Regs, bus: &mut B, most: u32, halt: &mut Option<Halt>) -> Regs
+fn run_by_value<B: Settle>(first: Regs, bus: &mut B, most: u32, halt: &mut Option<Halt>) -> Regs
     ghost settling: { Settling B.Content }
     requires settles { SettlesBy B.content B.Settles settling }
     requires ready { B.Ready bus.old }
-    requires ends { (e : RunEnd B.Content) × (run_within B.device settling most regs (B.content bus.old) ≡ Some e) }
-    ensures { HasEnded B.device B.content B.fixed settling most regs bus.old result bus.new halt.new }
+    requires ends { (e : RunEnd B.Content) × (run_within B.device settling most first (B.content bus.old) ≡ Some e) }
+    ensures { HasEnded B.device B.content B.fixed settling most first bus.old result bus.new halt.new }
 {
+    // A variable of its own: an argument would stay in memory.
+    let mut regs = first;
     *halt = None;
     let mut left = most;
     while left > 0 {

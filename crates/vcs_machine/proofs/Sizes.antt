@@ -18,14 +18,17 @@ low_lines n addr is = by_size (λ m. bit_and addr (m - 1) ≡ addr % m) n is (an
 pub some_bytes : (n : ℕ) → is_cart_size n ≡ true → 0 < n
 some_bytes n is = by_size (λ m. 0 < m) n is (omega arith) (omega arith)
 
--- where four bytes stand side by side from an address's place on, the next addresses show the next of them
-pub next_place : (n pc i : ℕ) → is_cart_size n ≡ true → pc % n + 3 < n → i ≤ 3 → (pc + i) % 65536 % n ≡ pc % n + i
-next_place n pc i is four few =
-    by_size (λ m. pc % m + 3 < m → (pc + i) % 65536 % m ≡ pc % m + i) n is (λ f. omega (arith, f, few)) (λ f. omega (arith, f, few)) four
+pub least_bytes : (n : ℕ) → is_cart_size n ≡ true → 2048 ≤ n
+least_bytes n is = by_size (λ m. 2048 ≤ m) n is (omega arith) (omega arith)
 
--- and A12 stays high
-pub still_high : (n pc i : ℕ) → is_cart_size n ≡ true → pc % n + 3 < n → i ≤ 3 → is_high 12 pc ≡ true → is_high 12 ((pc + i) % 65536) ≡ true
-still_high n pc i is four few high =
-    let one = eqb-true (pc / 4096 % 2) 1 high in
-    eq-eqb ((pc + i) % 65536 / 4096 % 2) 1
-    (by_size (λ m. pc % m + 3 < m → (pc + i) % 65536 / 4096 % 2 ≡ 1) n is (λ f. omega (arith, f, few, one)) (λ f. omega (arith, f, few, one)) four)
+pub most_bytes : (n : ℕ) → is_cart_size n ≡ true → n ≤ 4096
+most_bytes n is = by_size (λ m. m ≤ 4096) n is (omega arith) (omega arith)
+
+-- the last addresses of 8,192 show a cartridge's bytes in order
+pub code_shows : (n start place addr : ℕ) → is_cart_size n ≡ true → start + n ≡ 8192 → place + start ≡ addr % 8192 → addr % n ≡ place
+code_shows n start place addr is last from =
+    by_size (λ m. start + m ≡ 8192 → addr % m ≡ place) n is (λ l. omega (arith, l, from)) (λ l. omega (arith, l, from)) last
+
+-- and A12 is high there
+pub code_high : (n start place addr : ℕ) → is_cart_size n ≡ true → start + n ≡ 8192 → place + start ≡ addr % 8192 → is_high 12 addr ≡ true
+code_high n start place addr is last from = let most = most_bytes n is in eq-eqb (addr / 4096 % 2) 1 (omega (arith, last, from, most))

@@ -4,7 +4,7 @@ use Rattle.vcs_cpu.proofs.running.run_by_value.Given as goal
 -- the run has come here
 abbrev pub invariant-loop-left : goal.invariant-loop-left
 invariant-loop-left g l = record {
-  come : HasCome g.B.Bus.device g.B.Bus.content g.B.Bus.fixed g.settling l.most l.fn.regs l.fn.bus l.left l.regs l.bus l.halt;
+  come : HasCome g.B.Bus.device g.B.Bus.content g.B.Bus.fixed g.settling l.most l.fn.first l.fn.bus l.left l.regs l.bus l.halt;
   ready : g.B.Settle.Ready l.bus;
 }
 

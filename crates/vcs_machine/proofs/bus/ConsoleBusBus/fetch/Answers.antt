@@ -1,7 +1,7 @@
-use Rattle.std.proofs.Common.{◌≡◌, ℕ, ◌+◌, ◌%◌, ◌<◌, ◌∙◌, length, ap, sym, arith}
+use Rattle.std.proofs.Common.{◌≡◌, ℕ, ◌+◌, ◌%◌, ◌<◌, ◌≤◌, ◌∙◌, length, sym, arith}
 use Rattle.vcs_machine.specs.Console.{content_of}
 use Rattle.vcs_machine.proofs.Fetching.{shown-rom}
-use Rattle.vcs_machine.proofs.Sizes.{next_place, still_high}
+use Rattle.vcs_machine.proofs.Sizes.{code_shows, code_high, most_bytes}
 use Rattle.vcs_machine.proofs.bus.ConsoleBusBus.fetch.Goals as goal
 
 pub returns-then-place-self : goal.returns-then-place-self
@@ -10,16 +10,17 @@ returns-then-place-self g c =
     let pc = c.args.pc in
     let board = (content_of b).board in
     let size = length b.rom.now in
-    let place = c.rom_place-place.result in
-    let is = sym c.rom_place-place.ensures.place in
+    let place = c.code_place-place.result in
+    let start = b.start_is in
+    let sides = b.sides_is in
     let side = c.if-place-self.true in
-    let four = ap (λ n. n + 3) is in
-    let few : pc % size + 3 < size = omega (arith, four, side) in
-    let high = sym c.is_high.ensures ∙ c.if-is_high.true in
+    let most = most_bytes size b.rom_size in
+    let from : place + b.start ≡ pc % 8192 = c.code_place-place.ensures (omega (arith, start)) (omega (arith, side, sides, most)) in
+    let next : (place + 1) + b.start ≡ (pc + 1) % 65536 % 8192 = omega (arith, from, start, side, sides) in
+    let third : (place + 2) + b.start ≡ (pc + 2) % 65536 % 8192 = omega (arith, from, start, side, sides) in
+    let shown = λ (k addr : ℕ) (same : k + b.start ≡ addr % 8192). shown-rom board addr k (code_high size b.start k addr b.rom_size start same) (code_shows size b.start k addr b.rom_size start same) in
     record {
-      opcode = c.rom_code.ensures.first ∙ shown-rom board pc place high is;
-      low = c.rom_code.ensures.second
-          ∙ shown-rom board ((pc + 1) % 65536) (place + 1) (still_high size pc 1 b.rom_size few (omega arith) high) (next_place size pc 1 b.rom_size few (omega arith) ∙ ap (λ n. n + 1) is);
-      high = c.rom_code.ensures.third
-          ∙ shown-rom board ((pc + 2) % 65536) (place + 2) (still_high size pc 2 b.rom_size few (omega arith) high) (next_place size pc 2 b.rom_size few (omega arith) ∙ ap (λ n. n + 2) is);
+      opcode = c.rom_code.ensures.first ∙ shown place pc from;
+      low = c.rom_code.ensures.second ∙ shown (place + 1) ((pc + 1) % 65536) next;
+      high = c.rom_code.ensures.third ∙ shown (place + 2) ((pc + 2) % 65536) third;
     }
