@@ -1,9 +1,12 @@
 //! An allocator that refuses one of its growths, so that a test can see what a call leaves behind where memory is refused in
-//! its middle. Threads may share it.
+//! its middle, and one that holds a growth up, so that a test can see what others do meanwhile. Threads may share both.
 #![tactic(auto)]
 
 ghost use Rattle.std.specs.Prelude.{◌≡◌, ◌↔◌, ◌≤◌, ◌-◌, IsTrue};
 
+mod holding;
+
+pub use holding::Holding;
 use std::alloc::{AllocError, Allocator};
 use std::sync::atomic::{AtomicU64, Ordering};
 
