@@ -12,7 +12,7 @@ returns-in-Some-clause-answer g c =
 pub returns-in-Ok-clause-answer : goal.returns-in-Ok-clause-answer
 returns-in-Ok-clause-answer g c =
     after_look g.row.A.Denot c.args.seat.now c.own_len.new.seat c.make_edit.new.seat (EditLine c.args.change) _ c.requires.own c.in_ok-len.ensures.seen
-    (change_answer g.row.A.Denot c.own_len.new.seat c.make_edit.new.seat c.args.change c.in-Ok.edit _ c.in-Ok.ensures c.make_edit.ensures.answer)
+    (change_answer g.row.A.Denot c.own_len.new.seat c.make_edit.new.seat c.args.change c.in-Ok.edit _ c.in-Ok.ensures.edit c.make_edit.ensures.answer)
 
 pub returns-in-Err-clause-answer : goal.returns-in-Err-clause-answer
 returns-in-Err-clause-answer g c =
