@@ -25,8 +25,6 @@ mod gates;
 #[cfg(test)]
 mod job_tests;
 #[cfg(test)]
-mod lock_tests;
-#[cfg(test)]
 mod model;
 #[cfg(test)]
 mod pictures;
