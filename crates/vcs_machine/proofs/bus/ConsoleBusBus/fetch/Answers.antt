@@ -20,7 +20,7 @@ returns-then-place-self g c =
     let third : (place + 2) + b.start ≡ (pc + 2) % 65536 % 8192 = omega (arith, from, start, side, sides) in
     let shown = λ (k addr : ℕ) (same : k + b.start ≡ addr % 8192). shown-rom board addr k (code_high size b.start k addr b.rom_size start same) (code_shows size b.start k addr b.rom_size start same) in
     record {
-      opcode = c.rom_code.ensures.first ∙ shown place pc from;
-      low = c.rom_code.ensures.second ∙ shown (place + 1) ((pc + 1) % 65536) next;
-      high = c.rom_code.ensures.third ∙ shown (place + 2) ((pc + 2) % 65536) third;
+      opcode = c.code_at.ensures.first ∙ shown place pc from;
+      low = c.code_at.ensures.second ∙ shown (place + 1) ((pc + 1) % 65536) next;
+      high = c.code_at.ensures.third ∙ shown (place + 2) ((pc + 2) % 65536) third;
     }
