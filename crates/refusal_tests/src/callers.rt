@@ -88,7 +88,7 @@ impl<'a, N: Name> Caller<'a, N> {
         is_extended
     }
 
-    /// An edit: whether it is made, behind the history that was seen before it; nothing where memory is refused. The receipt of a
+    /// An edit: whether it is made, after the history that was seen before it; nothing where memory is refused. The receipt of a
     /// refused one, given again, is the next one of the seat.
     fn edit<R: Wait>(&mut self, rt: &R, desk: &Desk<N, &R, &'a Heap>) -> Option<bool> {
         let Some(edit) = self.edits.pop() else {
@@ -138,7 +138,7 @@ impl<'a, N: Name> Caller<'a, N> {
         }
     }
 
-    /// A share: whether the seat's zone gains what is told; nothing where memory is refused.
+    /// A share: whether the seat's zone gains what is reported; nothing where memory is refused.
     fn share<R: Wait>(&mut self, rt: &R, desk: &Desk<N, &R, &'a Heap>) -> Option<bool> {
         let kept = self.seat.kept();
         match desk.share(rt, &mut self.seat) {

@@ -57,7 +57,7 @@ fn make_edit<'a, N: Name, R: Wait + Abort>(
     }
 }
 
-/// A shot: whether it is of a black frame, played so many, and the seat's zone keeps six states then.
+/// A shot: whether it is of a black frame, after this many frames were played, and the seat's zone keeps six states then.
 fn shoot<'a, N: Name, R: Wait>(
     heap: &'a Heap,
     desk: &Desk<N, &R, &'a Heap>,
@@ -118,7 +118,7 @@ const ALL: Offered = Offered {
     kept: 4,
 };
 
-/// An offer of the batch that is held: whether it gains what it should. At want of memory the batch that was handed back is held.
+/// An offer of the batch that is held: whether it gains what it should. Out of memory, the batch that was handed back is held.
 fn offer<'a, N: Name, R: Wait + Abort>(
     rt: &R,
     heap: &'a Heap,
@@ -144,7 +144,7 @@ fn starts_at_the_second(batch: &Batch) -> bool {
     !batch.holds(128) && batch.holds(192)
 }
 
-/// Whether history and movie are as before the call, and so are the zones: the seat's keeps so many states, and the desk's two, so that
+/// Whether history and movie are as before the call, and so are the zones: the seat's keeps n states, and the desk's two, so that
 /// a job starts at the second of them.
 fn is_as_before<'a, N: Name, R: Wait + Abort>(
     rt: &R,
@@ -218,7 +218,7 @@ fn take_held<'a, N: Name, R: Wait + Abort>(
     take_twice(rt, alloc, heap, desk, seat, &mut held, call, number)
 }
 
-/// So many jobs, none of them stale, and so many states.
+/// This many jobs, none of them stale, and this many states.
 const fn worked(jobs: usize, kept: usize) -> Worked {
     Worked {
         jobs,

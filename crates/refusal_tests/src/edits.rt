@@ -18,15 +18,15 @@ pub enum Change {
     LoadPlayfield,
     /// The cartridge that adds up inputs, unless nothing is pressed.
     LoadFolding,
-    /// So many inputs with nothing pressed, at a place.
+    /// This many inputs with nothing pressed, at a place.
     Insert(usize, usize),
-    /// So many inputs with the left stick pushed right, at a place.
+    /// This many inputs with the left stick pushed right, at a place.
     InsertRight(usize, usize),
     /// One input with the left stick pushed up, at a place.
     InsertUp(usize),
-    /// So many inputs with the left stick pushed right over those from a place on.
+    /// This many inputs with the left stick pushed right over those from a place on.
     ReplaceRight(usize, usize),
-    /// So many inputs taken out at a place.
+    /// This many inputs taken out at a place.
     Delete(usize, usize),
 }
 
@@ -51,7 +51,7 @@ fn load_of<A: Allocator>(alloc: A, program: &[u8]) -> Result<Edit<A>, AllocError
     }
 }
 
-/// The edit that puts in so many of an input.
+/// The edit that puts in this many of an input.
 fn insert_of<A: Allocator>(
     alloc: A,
     at: usize,
@@ -64,7 +64,7 @@ fn insert_of<A: Allocator>(
     }
 }
 
-/// The edit that writes so many of an input over others.
+/// The edit that writes this many of an input over others.
 fn replace_of<A: Allocator>(
     alloc: A,
     at: usize,

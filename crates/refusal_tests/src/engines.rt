@@ -26,7 +26,7 @@ pub enum Engine {
     DiffReplaced,
     Script,
     MovieScript,
-    /// By so many workers.
+    /// By this many workers.
     Export(usize),
     Talk,
     CartTalk,
@@ -51,7 +51,7 @@ pub static ENGINES: [Engine; 10] = [
 pub static CONVERSATIONS: [Engine; 3] = [Engine::Talk, Engine::CartTalk, Engine::MovieTalk];
 
 impl Engine {
-    /// The input that it reads at this place, counted from 0; an empty one behind its last.
+    /// The input that it reads at this place, counted from 0; an empty one after its last.
     pub fn input<'a>(self, bytes: &'a Bytes, place: usize) -> &'a [u8] {
         match (self, place) {
             (Engine::Script, 0) | (Engine::MovieScript, 2) => bytes.script.as_slice(),
@@ -100,7 +100,7 @@ impl Engine {
 /// What an engine reads, and how.
 #[derive(Clone, Copy)]
 pub struct Given<'a> {
-    /// Its inputs; those behind its last one are empty.
+    /// Its inputs; those after its last one are empty.
     pub inputs: [&'a [u8]; 3],
     /// How many bytes each read gives at most.
     pub at_once: usize,

@@ -19,10 +19,10 @@ use tas_movie::Movie;
 use vcs_machine::{Meter, State, play};
 use vcs_tia::{Picture, ppm};
 
-/// The frames that are exported, from the first one to the one before the second, behind the first place of the grid.
+/// The frames that are exported, from the first one to the one before the second, after the first place of the grid.
 const FRAMES: (usize, usize) = (66, 70);
 
-/// What seat 1 does behind the edits of seat 0, so that seat 0's zone is of an older movie.
+/// What seat 1 does after the edits of seat 0, so that seat 0's zone is of an older movie.
 static BEHIND: [Change; 1] = [Change::InsertUp(10)];
 
 /// The zone of the seat that exports. It keeps the state after 64 frames.
@@ -63,7 +63,7 @@ fn pixmaps_of<R: Abort>(rt: &R, alloc: Global, movie: &Movie) -> Vec<u8> {
     pixmaps
 }
 
-/// What is wanted where an export plays so many frames.
+/// What is wanted where an export plays this many frames.
 fn wanted_of<R: Abort>(rt: &R, alloc: Global, zone: Zone, played: u64) -> Wanted {
     let mut movie = expect_ok(rt, Movie::blank(alloc));
     make_all(rt, alloc, &mut movie, &FOLDING_OF_72);
@@ -115,7 +115,7 @@ fn export<'a, N: Name, R: Threads + Wait + Abort + Sync>(
     is_exported(end, passed, out.as_slice(), workers, wanted)
 }
 
-/// Whether an export's end is right, where so many workers passed the gate and this was written.
+/// Whether an export's end is right, where this many workers passed the gate and this was written.
 fn is_exported(
     end: Result<Exported, ExportError>,
     passed: u64,
@@ -171,7 +171,7 @@ fn is_last<R: Abort>(rt: &R, alloc: Global, shot: &Shot<&Heap>, wanted: &Wanted)
     is_told && wanted.pixmaps.ends_with(pixmap.as_slice())
 }
 
-/// An export by so many workers with one growth refused, the same export after it, and a shot.
+/// An export by this many workers with one growth refused, the same export after it, and a shot.
 fn try_export<'a, N: Name, R: Threads + Wait + Abort + Sync>(
     rt: &R,
     alloc: Global,
@@ -265,7 +265,7 @@ fn run_export<R: Threads + Wait + Abort + Sync>(
     export_at::<Brand, R>(rt, alloc, &heap, unopened, zone, workers, wanted, number)
 }
 
-/// Refuses each growth of an export by so many workers, which plays so many frames.
+/// Refuses each growth of an export by this many workers, which plays this many frames.
 fn refuse_each<R: Threads + Wait + Abort + Sync>(
     rt: &R,
     alloc: Global,

@@ -56,7 +56,7 @@ pub fn make<R: Abort>(rt: &R, movie: &mut Movie, edit: &Edit) {
     apply(movie, edit);
 }
 
-/// A movie of so many frames of one input.
+/// A movie of this many frames of one input.
 pub fn movie_of<R: Abort>(
     rt: &R,
     alloc: Global,

@@ -123,7 +123,7 @@ fn is_untouched(picture: &Picture, meter: &Meter) -> bool {
     picture.lit() == 1680 && meter.count() == 0
 }
 
-/// Whether a black frame was drawn, and so many frames were played.
+/// Whether a black frame was drawn, and this many frames were played.
 fn shows(picture: &Picture, meter: &Meter, ran: u64) -> bool {
     picture.lit() == 0 && meter.count() == ran
 }

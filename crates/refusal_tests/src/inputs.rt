@@ -34,7 +34,7 @@ const SCRIPT: &[u8] =
 const TALK: &[u8] =
     b"load 000=A9028500A90085004C00F0 FFC=00F0\ninsert 0 3 R.... ..... .....\nreplace 1 1 .L... ..... .....\nlen\ninput 1\nshot 2\ndelete 0 1\nwork 1\nlen\npicture 1\nmovie\nstates\nwhat\n";
 
-/// The text of a movie with so many frames of one input.
+/// The text of a movie with this many frames of one input.
 fn text_of<R: Abort>(rt: &R, alloc: Global, input: Input, count: usize) -> Vec<u8> {
     expect_ok(
         rt,

@@ -44,7 +44,7 @@ fn are_alike(one: &End, other: &End) -> bool {
     one.status == other.status && one.written == other.written && one.told == other.told
 }
 
-/// Whether it ended by want of memory, with nothing written.
+/// Whether it ended out of memory, with nothing written.
 fn is_refused(end: &End) -> bool {
     let line = b"fault: out of memory\n".as_slice();
     end.status == 1 && end.written.is_empty() && end.told.as_slice() == line

@@ -42,7 +42,7 @@ fn written_before(engine: Engine, input: usize, read: usize, whole: &[u8]) -> &[
     }
 }
 
-/// How often each input is read where no read fails: so many times for its bytes, and once at its end.
+/// How often each input is read where no read fails: n times for its bytes, and once at its end.
 fn whole_reads(engine: Engine, bytes: &Bytes) -> [usize; 3] {
     let mut reads = [0; 3];
     for input in 0..engine.count() {

@@ -75,7 +75,7 @@ fn set_up<'a, R: Wait + Abort>(
     check_that(rt, "a frame that is drawn", matches!(drawn, Ok(true)));
 }
 
-/// A shot: whether it is of a black frame and says that so many were played, and the meter counts as many; at want of memory it counts
+/// A shot: whether it is of a black frame and says that this many were played, and the meter counts as many; out of memory, it counts
 /// none.
 fn shoot<A: Allocator + Copy, B: Allocator>(
     alloc: B,
@@ -140,7 +140,7 @@ fn batch_of_all<A: Allocator, R: Abort>(rt: &R, alloc: Global, session: &Session
     expect_ok(rt, Job::take(alloc, session.movie(), &green, 400)).run()
 }
 
-/// An offer of the batch that is held: whether it gains what it should. At want of memory the batch that was handed back is held.
+/// An offer of the batch that is held: whether it gains what it should. Out of memory, the batch that was handed back is held.
 fn offer<A: Allocator + Copy, R: Abort>(
     rt: &R,
     session: &mut Session<A>,

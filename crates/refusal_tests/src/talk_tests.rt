@@ -28,7 +28,7 @@ static LOOKS: [&[u8]; 5] = [
 const EDITS: &[u8] =
     b"load 000=A9028500A90085004C00F0 FFC=00F0\ninsert 0 3 R.... ..... .....\nreplace 1 1 .L... ..... .....\ndelete 0 1\nlen\n";
 
-/// The answers where one of the first three is refused its memory: those behind it are of a movie without it.
+/// The answers where one of the first three is refused its memory: those after it are of a movie without it.
 static REFUSED_EDITS: [&[u8]; 3] = [
     b"out of memory\nedit 1 len 3\nedit 2 len 3\nedit 3 len 2\nlen 3 2\n",
     b"edit 1 len 0\nout of memory\nplace 1 len 0\nplace 1 len 0\nlen 1 0\n",
@@ -53,7 +53,7 @@ fn looks_of<R: Abort>(rt: &R, alloc: Global, looks: &[&[u8]]) -> Vec<u8> {
     lines
 }
 
-/// Writes the answer to a look behind others, where the answers to the lines that make the movie have so many bytes.
+/// Writes the answer to a look after others, where the answers to the lines that make the movie have this many bytes.
 fn push_answer<T: Wait + Abort>(
     rt: &T,
     alloc: Global,
@@ -67,7 +67,7 @@ fn push_answer<T: Wait + Abort>(
     expect_ok(rt, told.extend_from_slice(behind));
 }
 
-/// The answers to the lines that make the movie, and to all looks, the one at this place told as want of memory.
+/// The answers to the lines that make the movie, and to all looks, the one at this place reported as out of memory.
 fn answers_but<T: Wait + Abort>(rt: &T, alloc: Global, refused: usize) -> Vec<u8> {
     let mut told = answers(rt, alloc, MADE);
     let made = told.len();
@@ -111,8 +111,8 @@ fn times_begun(told: &[Vec<u8>], start: &[u8]) -> usize {
         .count()
 }
 
-/// Each look's want of memory is told in its place, byte by byte, and the looks behind it are answered as ever; where the movie is made,
-/// nothing else is told.
+/// Each look that is out of memory says so in its place, byte by byte, and the looks after it are answered as ever; where the movie is made,
+/// nothing else is reported.
 #[test]
 fn looks_without_memory(rt: HostRuntime) {
     let alloc = rt.alloc();
@@ -133,7 +133,7 @@ fn looks_without_memory(rt: HostRuntime) {
     check_same(&rt, "all looks", times, begun);
 }
 
-/// An edit's want of memory is told in its place, byte by byte, and the movie is as it was; nothing else is told.
+/// An edit that is out of memory says so in its place, byte by byte, and the movie is as it was; nothing else is reported.
 #[test]
 fn edits_without_memory(rt: HostRuntime) {
     let alloc = rt.alloc();

@@ -50,7 +50,7 @@ static FAILURES: [(Failure, &str); 3] = [
     (Failure::Nothing, "nothing taken"),
 ];
 
-/// Each write of an engine fails in turn, into a writer that takes so many bytes at most at each write. A failed write is the
+/// Each write of an engine fails in turn, into a writer that takes this many bytes at most at each write. A failed write is the
 /// last one, and what `Write` counts is just what was taken before it: the answer's first bytes.
 fn fail_each<T: Wait + Threads + Abort + Sync>(
     rt: &T,

@@ -57,7 +57,7 @@ impl<A: Allocator> Model for Unopened<A> {
 }
 
 impl<A: Allocator + Copy> Unopened<A> {
-    /// A desk with so many seats, 1 to [`MAX_SEATS`]; the caller shows it. `Memory` where memory is refused.
+    /// A desk with this many seats, 1 to [`MAX_SEATS`]; the caller shows it. `Memory` where memory is refused.
     pub fn new(alloc: A, seats: u32) -> Result<Unopened<A>, OpenError>
         requires { (1 ≤ seats) × (seats ≤ most_seats) }
         ensures seats { IfOk result (λ unopened. unopened.seats ≡ seats) }
@@ -93,7 +93,7 @@ impl<N: Name, W: CloseOnDrop, A: Allocator> Model for Desk<N, W, A> {
 }
 
 impl<N: Name, W: CloseOnDrop, A: Allocator> Desk<N, W, A> {
-    /// Lets two seats see one history, and answers its length: how many edits it has.
+    /// Lets two seats see one history, and returns its length: how many edits it has.
     pub fn meet<R: Wait>(&self, rt: &R, one: &mut Seat<N, A>, other: &mut Seat<N, A>) -> u64
         ensures one { KeepsZone one.old one.new }
         ensures other { KeepsZone other.old other.new }
@@ -138,7 +138,7 @@ impl<N: Name, W: CloseOnDrop, A: Allocator> Desk<N, W, A> {
         true
     }
 
-    /// Ends the desk, with all its seats, for which [`Desk::whole`] is the test. It answers the movie and the history that made it,
+    /// Ends the desk, with all its seats, for which [`Desk::whole`] is the test. It returns the movie and the history that made it,
     /// in which each seat has just as many entries as edits that it made, and nobody else has any.
     pub fn close<R: Wait>(self, rt: &R, seats: Vec<Seat<N, A>, A>) -> Closed<A>
         requires whole { IsWhole N.parts seats.items }
@@ -206,7 +206,7 @@ impl<N: Name, W: CloseOnDrop, A: Allocator + Copy> Desk<N, W, A> {
 
     /// Draws frame `k`, counted from 0, played from the nearest state of the seat's own zone. It takes no lock. The zone is
     /// first cut at the common front of the inputs that it was made for and the present ones, and emptied where the cartridge
-    /// differs; then it gains the states on the way that stand on the grid. The picture takes its memory from `alloc`.
+    /// differs; then it gains the states on the way that are on the grid. The picture takes its memory from `alloc`.
     ///
     /// `NoEntry` leaves the seat as it was, `NoFrame` and `Memory` its zone; after `Halted` the zone is as after an answer.
     pub fn shot<B: Allocator>(
@@ -223,7 +223,7 @@ impl<N: Name, W: CloseOnDrop, A: Allocator + Copy> Desk<N, W, A> {
         seat.shot(alloc, k)
     }
 
-    /// Lets the seat's zone gain the desk's kept states, once it is cut for the movie as a shot cuts it, and answers how many it
+    /// Lets the seat's zone gain the desk's kept states, once it is cut for the movie as a shot cuts it, and returns how many it
     /// lacked. After `AllocError` the zone is as it was.
     pub fn share<R: Wait>(&self, rt: &R, seat: &mut Seat<N, A>) -> Result<usize, AllocError>
         ensures seat { HasSeen seat.old seat.new }

@@ -27,13 +27,13 @@ pub fn play_up_to<A: Allocator>(
     let inputs = movie.inputs();
     let mut state = start.state;
     for frame in start.frame..end {
-        // A halted machine stays as it is: its state tells the halt.
+        // A halted machine stays as it is: its state has the halt.
         let _ = play_unseen(movie.cart(), &mut state, inputs[frame], meter);
     }
     state
 }
 
-/// Shoots the frames from `first` to the one before `end`, up to where it has to stop, and answers
+/// Shoots the frames from `first` to the one before `end`, up to where it has to stop, and returns
 /// why.
 pub fn draw_frames<A: Allocator, B: Allocator>(
     movie: &Movie<A>,

@@ -55,7 +55,7 @@ pub enum ExportError {
         /// Where and why it halted.
         halt: Halt,
     },
-    /// A write failed, or took no byte, after so many bytes.
+    /// A write failed, or took no byte, after this many bytes.
     Write {
         /// How many bytes had gone out: fewer than all.
         written: usize,
@@ -138,7 +138,7 @@ fn export_movie<
     }
 }
 
-/// How the export ends of a movie that so many edits made.
+/// How the export ends of a movie that this many edits made.
 fn end_at(at: u64, end: Result<u64, ExportFault>) -> Result<Exported, ExportError>
     ensures { result ≡ end_of at end }
 {

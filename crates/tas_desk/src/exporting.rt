@@ -25,7 +25,7 @@ pub enum ExportFault {
     Memory,
     /// A frame is halted; this is the least one. Nothing was written.
     Halted(HaltedFrame),
-    /// A write failed, or took no byte, after so many bytes.
+    /// A write failed, or took no byte, after this many bytes.
     Write {
         /// How many bytes had gone out: fewer than all.
         written: usize,

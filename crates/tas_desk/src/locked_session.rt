@@ -86,7 +86,7 @@ impl<N: Name, W: CloseOnDrop, A: Allocator> LockedSession<N, W, A> {
         }
     }
 
-    /// Lets a seat see the history, and answers its length.
+    /// Lets a seat see the history, and returns its length.
     pub fn show<R: Wait>(&self, rt: &R, seat: &mut Seat<N, A>) -> u64
         ensures seat { seat.new ≡ seat_of seat.old.number seat.old.made self.now.journal seat.old.zone }
         ensures begins { IsPrefix seat.old.front self.now.journal }
@@ -201,7 +201,7 @@ impl<N: Name, W: CloseOnDrop, A: Allocator + Copy> LockedSession<N, W, A> {
         }
     }
 
-    /// Lets a seat's zone gain exactly the kept states that it lacks, and answers how many.
+    /// Lets a seat's zone gain exactly the kept states that it lacks, and returns how many.
     pub fn share<R: Wait>(&self, rt: &R, seat: &mut Seat<N, A>) -> Result<usize, AllocError>
         ensures begins { IsPrefix seat.old.front self.now.journal }
         ensures seat { seat.new ≡ seat_of seat.old.number seat.old.made self.now.journal seat.new.zone }

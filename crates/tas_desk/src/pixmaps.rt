@@ -45,7 +45,7 @@ impl<A: Allocator> Model for Pixmaps<A> {
 }
 
 impl<A: Allocator + Copy> Pixmaps<A> {
-    /// No pixmap yet, and room for those of so many frames.
+    /// No pixmap yet, and room for those of this many frames.
     pub fn new(alloc: A, frames: usize) -> Result<Pixmaps<A>, AllocError>
         requires { frames ≤ most_inputs }
         ensures { IfOk result (λ pixmaps. pixmaps ≡ []) }

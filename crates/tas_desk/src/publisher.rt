@@ -73,7 +73,7 @@ where
     ghost invariant = { λ p. IsCurrent p.writer.desk.shown.value (drop p.writer.behind p.writer.log.items) p.latest.registry p.journal.items (known_by p.writer.desk.place).seen };
 }
 
-/// A writer of the blank movie, of the empty history that has this version, with places for so many readers.
+/// A writer of the blank movie, of the empty history that has this version, with places for this many readers.
 fn new_writer<A: Allocator + Copy>(
     alloc: A,
     readers: usize,
@@ -107,7 +107,7 @@ fn renew<A: Allocator, R: Wait>(rt: &R, latest: &mut LatestVersion<A>, journal: 
     unreachable!()
 }
 
-/// Adds an entry to a journal, and answers a second copy of its edit. Where a growth is refused the journal is as it was.
+/// Adds an entry to a journal, and returns a second copy of its edit. Where a growth is refused the journal is as it was.
 fn add_entry<A: Allocator + Copy>(
     journal: &mut Vec<Entry<A>, A>,
     next: Entry<A>,
@@ -210,7 +210,7 @@ fn make_reader<A: Allocator, R: Wait>(
 }
 
 impl<A: Allocator + Copy> Publisher<A> {
-    /// The blank movie, with no edits, with places for so many readers. The writer is made last.
+    /// The blank movie, with no edits, with places for this many readers. The writer is made last.
     pub fn new(alloc: A, readers: usize) -> Result<Publisher<A>, AllocError>
         requires { (0 < readers) × (readers < 2 ^ 32) }
         ensures { IfOk result (λ publisher. publisher ≡ record { registry = publisher.registry; journal = []; movie = blank_movie }) }
@@ -352,7 +352,7 @@ impl<A: Allocator> Publisher<A> {
         )
     }
 
-    /// Ends it, and answers its movie and history.
+    /// Ends it, and returns its movie and history.
     pub fn close<R: Wait>(self, rt: &R) -> Closed<A>
         ensures journal { result.journal.items ≡ self.journal }
         ensures movie { result.movie ≡ self.movie }

@@ -134,7 +134,7 @@ impl<A: Allocator + Copy> SeatZone<A> {
         }
     }
 
-    /// Gains the states of another greenzone, once it is cut for that one's movie, and answers how many. After `AllocError`
+    /// Gains the states of another greenzone, once it is cut for that one's movie, and returns how many. After `AllocError`
     /// nothing is changed.
     pub fn share(
         &mut self,

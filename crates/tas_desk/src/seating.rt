@@ -34,7 +34,7 @@ fn new_seat<N: Name, R: Wait, A: Allocator + Copy>(
     }
 }
 
-/// So many seats, numbered from 0, at a session without edits, each with one part of the ledger, which has no more.
+/// This many seats, numbered from 0, at a session without edits, each with one part of the ledger, which has no more.
 pub fn new_seats<N: Name, R: Wait, A: Allocator + Copy>(
     rt: &R,
     alloc: A,

@@ -58,7 +58,7 @@ impl<A: Allocator> Model for Session<A> {
 }
 
 impl<A: Allocator> Session<A> {
-    /// Ends the session, and answers its movie and history.
+    /// Ends the session, and returns its movie and history.
     pub fn close<R: Wait>(self, rt: &R) -> Closed<A>
         ensures journal { result.journal.items ≡ self.journal }
         ensures movie { result.movie ≡ self.movie }
@@ -107,7 +107,7 @@ impl<A: Allocator + Copy> Session<A> {
         }
     }
 
-    /// A session as [`Session::new`] makes it, with places for so many readers, 1 to 2^32 - 1. `AllocError` where memory is refused.
+    /// A session as [`Session::new`] makes it, with places for this many readers, 1 to 2^32 - 1. `AllocError` where memory is refused.
     /// The writer is made last: it can't be dropped, so nothing that may fail follows it.
     pub(crate) fn with_places(alloc: A, readers: usize) -> Result<Session<A>, AllocError>
         requires { (0 < readers) × (readers < 2 ^ 32) }

@@ -37,7 +37,7 @@ fn on_threads_from<R: Threads + Sync, T: Send, F: Fn(usize, &mut T) + Sync>(
     }
 }
 
-/// The call with one item, and those with the items behind it.
+/// The call with one item, and those with the items after it.
 #[cycle(threads)]
 fn first_and_others<R: Threads + Sync, T: Send, F: Fn(usize, &mut T) + Sync>(
     rt: &R,

@@ -30,7 +30,7 @@ pub struct Worked {
 }
 
 impl Worked {
-    /// What was worked with one job more, which gained so many states, or was of another cartridge than the movie's.
+    /// What was worked with one job more, which gained this many states, or was of another cartridge than the movie's.
     fn and(self, gained: Option<usize>) -> Worked
         requires tally { IsTally self }
         requires room { self.jobs + 1 < 2 ^ 64 }
@@ -98,7 +98,7 @@ impl<N: Name, W: CloseOnDrop, A: Allocator + Copy> Desk<N, W, A> {
         Ok(done)
     }
 
-    /// Works the target of this number, for so many frames. Answers how many states were gained, or nothing where the job was
+    /// Works the target of this number, for this many frames. Answers how many states were gained, or nothing where the job was
     /// of another cartridge than the movie's.
     fn work_one<G: Gate, B: Allocator + Copy, R: Wait>(
         &self,

@@ -24,7 +24,7 @@ fn batch<N: Name, W: CloseOnDrop, R: Wait + Abort>(
     expect_ok(rt, desk.job(rt, alloc, seat, 200)).run()
 }
 
-/// Makes edits and offers a batch behind them: the answer, and how many states the seat's zone gains then.
+/// Makes edits and offers a batch after them: the answer, and how many states the seat's zone gains then.
 fn offer_behind<N: Name, W: CloseOnDrop, R: Wait + Abort>(
     rt: &R,
     alloc: Global,

@@ -185,7 +185,7 @@ impl<N: Name> Caller<N> {
         }
     }
 
-    /// Works for the desk, and takes over what it keeps.
+    /// Works for the desk, and gains what it keeps.
     pub fn work<W: CloseOnDrop, R: Wait + Abort>(
         &mut self,
         rt: &R,
@@ -286,7 +286,7 @@ impl<N: Name> Caller<N> {
         }
     }
 
-    /// So many turns.
+    /// This many turns.
     pub fn turns<W: CloseOnDrop, R: Threads + Wait + Abort + Sync>(
         &mut self,
         rt: &R,

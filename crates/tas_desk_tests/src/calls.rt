@@ -37,13 +37,13 @@ pub enum Call {
     Work(u32, &'static [usize], Worked),
     /// How many states the seat's zone gained.
     Share(u32, usize),
-    /// An export of some frames by so many workers: how many edits there are, and frames played.
+    /// An export of some frames by this many workers: how many edits there are, and frames played.
     Exported(u32, (usize, usize), usize, u64, u64),
     /// An export of frames that aren't all there: how many edits and frames there are.
     OutOfRange(u32, (usize, usize), u64, usize),
     /// How many states the seat's zone has.
     Keeps(u32, usize),
-    /// The two seats meet, at so many edits.
+    /// The two seats meet, at this many edits.
     Meet(u64),
     /// Whether the seats from one number to the one before another are all seats of the desk.
     Whole(usize, usize, bool),
@@ -145,7 +145,7 @@ fn caller(call: Call) -> u32 {
     }
 }
 
-/// Whether seats 0 and 1 meet at so many edits.
+/// Whether seats 0 and 1 meet at this many edits.
 fn is_met<N: Name, W: CloseOnDrop, R: Wait>(
     rt: &R,
     desk: &Desk<N, W>,
@@ -203,7 +203,7 @@ pub fn take_calls<N: Name + Send + Sync, R: Threads + Wait + Abort + Sync>(
     }
 }
 
-/// Takes calls in order at a desk of so many seats, and answers what it leaves.
+/// Takes calls in order at a desk of this many seats, and returns what it leaves.
 pub fn play_calls<R: Threads + Wait + Abort + Sync>(
     rt: &R,
     alloc: Global,

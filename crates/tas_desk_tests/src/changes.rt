@@ -37,17 +37,17 @@ pub const HALT: Halt = Halt::Undocumented {
 pub enum Change {
     /// Another cartridge with this program at F000.
     Load(&'static [u8]),
-    /// So many inputs with nothing pressed, at a place.
+    /// This many inputs with nothing pressed, at a place.
     Insert(usize, usize),
-    /// So many inputs with the left stick pushed right, at a place.
+    /// This many inputs with the left stick pushed right, at a place.
     InsertRight(usize, usize),
     /// One input with the left fire pressed, at a place.
     InsertFire(usize),
-    /// So many inputs with nothing pressed over those at a place.
+    /// This many inputs with nothing pressed over those at a place.
     Replace(usize, usize),
     /// One input with the left stick pushed right over that at a place.
     ReplaceRight(usize),
-    /// So many inputs taken out at a place.
+    /// This many inputs taken out at a place.
     Delete(usize, usize),
 }
 
@@ -75,18 +75,18 @@ pub fn fire() -> Input {
     input
 }
 
-/// So many equal inputs.
+/// This many equal inputs.
 fn copies<R: Abort>(rt: &R, alloc: Global, input: Input, count: usize) -> Inputs {
     Inputs::from_vec(expect_ok(rt, vec![in alloc; input; count]))
 }
 
-/// So many equal inputs put in at a place.
+/// This many equal inputs put in at a place.
 fn insert<R: Abort>(rt: &R, alloc: Global, at: usize, input: Input, count: usize) -> Edit {
     let inputs = copies(rt, alloc, input, count);
     Edit::Insert { at, inputs }
 }
 
-/// So many equal inputs over those at a place.
+/// This many equal inputs over those at a place.
 fn replace<R: Abort>(rt: &R, alloc: Global, at: usize, input: Input, count: usize) -> Edit {
     let inputs = copies(rt, alloc, input, count);
     Edit::Replace { at, inputs }

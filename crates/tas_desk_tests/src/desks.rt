@@ -31,7 +31,7 @@ pub enum Task<'a> {
     Calls(&'a [Call]),
     /// Three batches are offered, with edits between them.
     ThreeBatches,
-    /// Exports of so many frames by each number of workers.
+    /// Exports of this many frames by each number of workers.
     ExportByEach(usize),
     /// Exports whose workers wait for each other.
     ExportThroughGates,
@@ -113,7 +113,7 @@ fn play_at<N: Name + Send + Sync, R: Threads + Wait + Abort + Sync>(
     desk.close(rt, seats)
 }
 
-/// Does a task at a desk of so many seats: what the desk leaves.
+/// Does a task at a desk of this many seats: what the desk leaves.
 pub fn play<R: Threads + Wait + Abort + Sync>(
     rt: &R,
     alloc: Global,
@@ -127,7 +127,7 @@ pub fn play<R: Threads + Wait + Abort + Sync>(
     play_at::<Brand, R>(rt, alloc, unopened, task, told)
 }
 
-/// Does a task of which nothing is told: what the desk leaves.
+/// Does a task of which nothing is reported: what the desk leaves.
 pub fn lend<R: Threads + Wait + Abort + Sync>(
     rt: &R,
     alloc: Global,

@@ -73,7 +73,7 @@ fn wanted_pixmaps<R: Abort>(
     expect_ok(rt, drawn)
 }
 
-/// So many frames, from frame 2 on, by each number of workers.
+/// This many frames, from frame 2 on, by each number of workers.
 pub fn export_by_each<N: Name + Send + Sync, R: Threads + Wait + Abort + Sync>(
     rt: &R,
     alloc: Global,
@@ -136,11 +136,11 @@ fn workers_run_at_once(rt: HostRuntime) {
 /// An export with its answer, into a writer with room for all where it doesn't say otherwise.
 #[derive(Clone, Copy, Debug)]
 pub enum Case {
-    /// Of frames by workers, behind so many edits: this frame is told as halted.
+    /// Of frames by workers, after this many edits: this frame is reported as halted.
     Halted(u64, (usize, usize), usize, usize),
     /// Of the three frames before the halt.
     BeforeTheHalt,
-    /// Of the first two frames, into a writer that fails after so many bytes.
+    /// Of the first two frames, into a writer that fails after this many bytes.
     Full(usize),
     /// Of frames that a movie of 1,030 frames hasn't, or that are too many.
     OutOfRange(usize, usize),
@@ -148,7 +148,7 @@ pub enum Case {
     Nothing(usize),
 }
 
-/// A case's frames, workers and room, what is told, and how many bytes are written.
+/// A case's frames, workers and room, what is reported, and how many bytes are written.
 fn wanted(
     case: Case,
 ) -> (
@@ -252,7 +252,7 @@ fn writers_fail_and_ranges_end(rt: HostRuntime) {
     lend(&rt, rt.alloc(), 1, Task::Exports(&LONG, &ENDS));
 }
 
-/// How many of 1,024 frames so many runs play that start from the kept states of every 64th frame.
+/// How many of 1,024 frames this many runs play that start from the kept states of every 64th frame.
 fn played_from_the_grid(workers: usize) -> u64
     requires { (1 ≤ workers) × (workers ≤ most_workers) }
 {
@@ -319,7 +319,7 @@ fn keep_all<N: Name, R: Threads + Wait + Abort + Sync>(
     check_same(rt, "desk", desk.share(rt, seat).ok(), Some(16));
 }
 
-/// 1,024 frames by so many workers, whose runs start at kept states, have these bytes.
+/// 1,024 frames by this many workers, whose runs start at kept states, have these bytes.
 fn export_from_the_grid<N: Name, R: Threads + Wait + Abort + Sync>(
     rt: &R,
     alloc: Global,

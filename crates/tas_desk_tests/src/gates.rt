@@ -35,7 +35,7 @@ impl Flag {
         self.set.store(1, Ordering::SeqCst);
     }
 
-    /// Waits until the flag is set, for so many turns at most.
+    /// Waits until the flag is set, for this many turns at most.
     pub fn wait(&self) {
         for _turn in 0..MOST_TURNS {
             if self.set.load(Ordering::SeqCst) == 1 {
@@ -121,7 +121,7 @@ impl InOrder {
         }
     }
 
-    /// Whether so many pieces have passed, in order.
+    /// Whether this many pieces have passed, in order.
     pub fn was_passed_by(&self, pieces: usize) -> bool {
         self.next.load(Ordering::SeqCst) == pieces as u64
     }

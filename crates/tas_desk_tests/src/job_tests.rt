@@ -109,7 +109,7 @@ fn three_batches_are_offered_in_turn(rt: HostRuntime) {
     lend(&rt, rt.alloc(), &ThreeBatches);
 }
 
-/// Two batches of 200 frames, an edit, and the batches' answers behind it.
+/// Two batches of 200 frames, an edit, and the batches' answers after it.
 #[derive(Clone, Copy)]
 struct OfferedAfter {
     change: Change,

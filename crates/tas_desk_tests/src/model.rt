@@ -153,7 +153,7 @@ impl Model {
         }))
     }
 
-    /// The seat's zone is of the movie's first inputs now, up to so many, and keeps these states; a job starts from this frame.
+    /// The seat's zone is of the movie's first inputs now, up to this many, and keeps these states; a job starts from this frame.
     fn put<R: Abort>(
         &mut self,
         rt: &R,

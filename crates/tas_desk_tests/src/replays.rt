@@ -29,7 +29,7 @@ pub enum Told {
     Len(usize),
     /// An input.
     Input(usize, Input),
-    /// There is no such frame of so many.
+    /// There is no such frame in a movie of this length.
     NoFrame(usize, usize),
     /// How far a batch's inputs and the movie's agree, with these inputs.
     Taken(Vec<Input>, usize),
@@ -37,7 +37,7 @@ pub enum Told {
     OtherCartridge(Vec<u8>),
     /// The pixmaps of some frames: of a shot's one, or of an export's.
     Drawn((usize, usize), Pixmaps),
-    /// Not all of some frames are among so many, or they are too many.
+    /// Not all of some frames are in a movie of this length, or they are too many.
     OutOfRange((usize, usize), usize),
     /// Two seats met.
     Met,
@@ -175,7 +175,7 @@ impl Notes {
     }
 }
 
-/// The notes that stand at a front, from the one with this number on, are right. It answers the number of the next one.
+/// The notes that stand at a front, from the one with this number on, are right. It returns the number of the next one.
 fn judge_front<R: Abort>(
     rt: &R,
     alloc: Global,

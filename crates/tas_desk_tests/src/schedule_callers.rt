@@ -104,7 +104,7 @@ impl<N: Name> Caller<N> {
         expect_ok(rt, self.replies.push(Reply { step, answer }));
     }
 
-    /// Takes a job in one step, for so many frames, and has it run and offered in a later one. Seat 1 calls `job` and `offer`, the
+    /// Takes a job in one step, for this many frames, and has it run and offered in a later one. Seat 1 calls `job` and `offer`, the
     /// others `work`.
     fn start<W: CloseOnDrop, R: Wait + Abort>(
         &mut self,

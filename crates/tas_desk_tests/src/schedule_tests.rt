@@ -131,7 +131,7 @@ fn is_replayed<R: Abort>(rt: &R, alloc: Global, journal: &[Entry], movie: &Movie
     made.inputs() == movie.inputs() && made.cart() == movie.cart()
 }
 
-/// Whether the entries behind the first two are those of the steps that edit: their seats, and their serials.
+/// Whether the entries after the first two are those of the steps that edit: their seats, and their serials.
 fn are_in_order(journal: &[Entry], steps: &[Step]) -> bool {
     let mut made = [0u64; 8];
     let mut place = BEFORE.len();

@@ -220,7 +220,7 @@ fn movies_have_at_most_262144_inputs(rt: HostRuntime) {
     check_same(&rt, "closed.journal", closed.journal.len(), 2);
 }
 
-/// So many edits of seat 4 that change nothing, and the edits behind them, which are refused.
+/// This many edits of seat 4 that change nothing, and the edits after them, which are refused.
 struct Million;
 
 impl Lent for Million {

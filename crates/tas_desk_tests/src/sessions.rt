@@ -15,7 +15,7 @@ use vcs_machine::Meter;
 pub enum Turn {
     /// An edit that seat 0 makes: the number of edits and the length then. Seat 0 has made all edits before.
     Made(Change, u64, usize),
-    /// An edit of a seat that says it has made so many, and its answer. Where it is refused, all is as it was.
+    /// An edit of a seat that says it has made this many, and its answer. Where it is refused, all is as it was.
     Tried(u32, u64, Change, Result<Receipt, EditError>),
     /// A shot of a frame: the number of edits, of frames that are played, and of lit pixels.
     Drawn(usize, u64, u64, usize),
@@ -135,7 +135,7 @@ pub fn take_turns<R: Wait + Abort>(rt: &R, alloc: Global, session: &mut Session,
     }
 }
 
-/// Takes the turns, one after the other, on a new session, and answers what it leaves.
+/// Takes the turns, one after the other, on a new session, and returns what it leaves.
 pub fn play_turns<R: Wait + Abort>(rt: &R, alloc: Global, turns: &[Turn]) -> Closed {
     let mut session: Session = expect_ok(rt, Session::new(alloc));
     take_turns(rt, alloc, &mut session, turns);
@@ -155,7 +155,7 @@ pub fn lend<L: Lent, R: Wait + Abort>(rt: &R, alloc: Global, lent: &L) -> Closed
     session.close(rt)
 }
 
-/// Gives a new session a movie: so many frames of a program.
+/// Gives a new session a movie: this many frames of a program.
 pub fn open_movie<R: Wait + Abort>(
     rt: &R,
     alloc: Global,

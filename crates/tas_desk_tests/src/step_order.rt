@@ -20,7 +20,7 @@ impl StepOrder {
         }
     }
 
-    /// Waits until all steps before this one are taken, for so many turns at most. Who has waited in vain says so, and then
+    /// Waits until all steps before this one are taken, for this many turns at most. Who has waited in vain says so, and then
     /// nobody waits any more.
     pub fn wait_for(&self, step: usize) {
         for _turn in 0..MOST_TURNS {
@@ -40,7 +40,7 @@ impl StepOrder {
             .store((step as u64).saturating_add(1), Ordering::SeqCst);
     }
 
-    /// Whether all waited no longer than they may, and so many steps were taken.
+    /// Whether all waited no longer than they may, and this many steps were taken.
     pub fn was_played(&self, steps: usize) -> bool {
         let has_given_up = self.has_given_up.load(Ordering::SeqCst) == 1;
         !has_given_up && self.next.load(Ordering::SeqCst) == steps as u64

@@ -10,7 +10,7 @@ use tas_desk::{EditError, NoEntry, Receipt, ShotError, WorkError, Worked};
 /// What a seat does in a step.
 #[derive(Clone, Copy)]
 pub enum Action {
-    /// It takes a job for so many frames, which then waits in its gate.
+    /// It takes a job for this many frames, which then waits in its gate.
     Start(usize),
     /// The job is run, and its batch offered.
     Offer,
@@ -22,7 +22,7 @@ pub enum Action {
     Len,
     /// It asks for a picture.
     Shot(usize),
-    /// It takes over what the desk keeps.
+    /// It gains what the desk keeps.
     Share,
 }
 
@@ -33,7 +33,7 @@ pub struct Step {
     pub action: Action,
 }
 
-/// What is told in a step.
+/// What is reported in a step.
 #[derive(Clone, Copy, Debug, PartialEq, Eq)]
 pub enum Answer {
     /// To an edit.

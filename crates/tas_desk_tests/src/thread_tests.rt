@@ -129,7 +129,7 @@ pub struct Turns<'a> {
     pub rounds: usize,
 }
 
-/// Each seat, on a thread of its own, takes so many turns; then pairs of them do, and meet.
+/// Each seat, on a thread of its own, takes this many turns; then pairs of them do, and meet.
 pub fn take_turns_at_once<N: Name + Send + Sync, R: Threads + Wait + Abort + Sync>(
     rt: &R,
     alloc: Global,
@@ -170,7 +170,7 @@ fn judge_all<R: Abort>(rt: &R, alloc: Global, closed: &Closed, all: &[Notes], le
     check_same(rt, "made", made, closed.journal.len() as u64);
 }
 
-/// Eight seats with these habits take so many turns, and all that they were told is right.
+/// Eight seats with these habits take this many turns, and all that they were told is right.
 fn judge_turns<R: Threads + Wait + Abort + Sync>(
     rt: &R,
     alloc: Global,
@@ -202,7 +202,7 @@ fn shots_while_others_edit(rt: HostRuntime) {
 /// The edits that make 200 frames.
 static FILLED: [Change; 2] = [Change::Load(PLAYFIELD), Change::Insert(0, 200)];
 
-/// Edits, how many states are kept behind them, and how many jobs are stale.
+/// Edits, how many states are kept after them, and how many jobs are stale.
 static IN_THE_GATE: [(Change, usize, usize); 3] = [
     (Change::Insert(200, 1), 3, 0),
     (Change::ReplaceRight(100), 1, 0),

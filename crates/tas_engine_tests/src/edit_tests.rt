@@ -83,7 +83,7 @@ fn a_difference_that_is_made_gives_the_new_text(rt: HostRuntime) {
     }
 }
 
-/// So many frames, all alike but one.
+/// This many frames, all alike but one.
 fn long_movie<R: Abort>(rt: &R, alloc: Global, len: usize, other: usize) -> Vec<u8> {
     let mut letters = expect_ok(rt, vec![in alloc; b'.'; len]);
     if let Some(letter) = letters.get_mut(other) {
@@ -153,7 +153,7 @@ fn a_line_at_fault_leaves_nothing_written(rt: HostRuntime) {
     }
 }
 
-/// A movie text that is cut off, and what is told of it.
+/// A movie text that is cut off, and what is reported of it.
 const CUT: &[u8] = b"a26movie 2\n";
 
 const END: ToolFault = ToolFault::Text(TextError {

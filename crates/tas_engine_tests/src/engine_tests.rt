@@ -67,7 +67,7 @@ fn a_trace_goes_out_in_small_pieces(rt: HostRuntime) {
     check_same(&rt, "output.taken", output.taken.as_slice(), TRACE);
 }
 
-/// Fails where a writer that stops has other bytes than the wanted ones, is told of in another way, or was written to
+/// Fails where a writer that stops has other bytes than the wanted ones, is reported in another way, or was written to
 /// more or less often.
 fn check_stop<R: Abort>(
     rt: &R,
@@ -300,7 +300,7 @@ fn check_length<R: Abort>(
     }
 }
 
-/// The frames of movies, how many bytes their older and newer texts have, and what is told of both.
+/// The frames of movies, how many bytes their older and newer texts have, and what is reported of both.
 static LENGTHS: [(&[u8], [usize; 2], &str); 3] = [
     (b"", [81, 81], "ok 0 frames\n"),
     (b".", [99, 99], "ok 1 frames\n"),

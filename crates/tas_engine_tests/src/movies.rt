@@ -72,7 +72,7 @@ fn head_of<R: Abort>(rt: &R, alloc: Global, version: u8, digest: &str) -> Vec<u8
     expect_ok(rt, Vec::from_slice(alloc, head.as_bytes()))
 }
 
-/// Writes the line of a run of frames behind a text.
+/// Writes the line of a run of frames at a text's end.
 fn push_run<R: Abort>(rt: &R, alloc: Global, text: &mut Vec<u8>, letter: u8, count: usize) {
     expect_ok(rt, text.extend_from_slice(frame_of(letter)));
     if count > 1 {

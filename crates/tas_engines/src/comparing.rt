@@ -33,7 +33,7 @@ fn run_change(replaces: bool, at: usize, count: usize, input: Input) -> Change
     }
 }
 
-/// The changes that make `new` of `old`, in order (own): behind the common beginning and in front of the
+/// The changes that make `new` of `old`, in order (own): after the common beginning and in front of the
 /// common end, replacements where as many inputs come as go, else a deletion of those that go, if any
 /// do, and insertions of those that come. A replacement or an insertion is of as many copies of an input
 /// as follow one another. There are none where the lists are equal. `AllocError` where memory is refused.

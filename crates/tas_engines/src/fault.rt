@@ -30,7 +30,7 @@ pub enum RunFault {
         /// How many bytes of the whole run had gone out: the first ones of the answer.
         written: usize,
     },
-    /// The cartridge hasn't 2,048 or 4,096 bytes, but so many.
+    /// The cartridge hasn't 2,048 or 4,096 bytes, but this many.
     Size(usize),
     /// The bytes aren't a text of a movie with the cartridge.
     Text(TextError),
@@ -45,7 +45,7 @@ pub enum RunFault {
     Range {
         /// The first frame, counted from 0.
         from: usize,
-        /// The frame behind the last one.
+        /// The frame after the last one.
         to: usize,
         /// The movie's length in frames.
         len: usize,
@@ -101,7 +101,7 @@ pub enum ToolFault {
         /// How many bytes of the whole run had gone out: the first ones of the answer.
         written: usize,
     },
-    /// The cartridge hasn't 2,048 or 4,096 bytes, but so many. Nothing was written.
+    /// The cartridge hasn't 2,048 or 4,096 bytes, but this many. Nothing was written.
     #[error("fault: cartridge has {0} bytes")]
     Size(usize),
     /// The bytes aren't a text of a movie with the cartridge. Nothing was written.
@@ -121,7 +121,7 @@ pub enum ToolFault {
     Range {
         /// The first frame, counted from 0.
         from: usize,
-        /// The frame behind the last one.
+        /// The frame after the last one.
         to: usize,
         /// The movie's length in frames.
         len: usize,

@@ -6,7 +6,7 @@ ghost use Rattle.tas_engines.specs.declared.fault.RunFault.{RunFault};
 ghost use Rattle.tas_engines.specs.declared.fault.RunFault.TheVariants.{Memory};
 ghost use Rattle.tas_engines.specs.Movies.{IsMovieOf, IsMovieFault};
 
-/// A cartridge and a text make one movie at most; and where they make one, no fault but want of memory says that
+/// A cartridge and a text make one movie at most; and where they make one, no fault but `Memory` says that
 /// they don't (own).
 pub fn one_movie_per_cartridge_and_text()
     ensures movie { (image bytes : List ℕ) (a b : MovieContent) → IsMovieOf image bytes a → IsMovieOf image bytes b → a ≡ b }

@@ -27,7 +27,7 @@ fn read_some<R: Read>(reader: &mut R, buffer: &mut [u8]) -> Option<usize>
     reader.read(buffer).ok()
 }
 
-/// Reads an input to its end, and answers its bytes: at most [`INPUT_LIMIT`] (own).
+/// Reads an input to its end, and returns its bytes: at most [`INPUT_LIMIT`] (own).
 ///
 /// Reading ends at the first read that fails (`Read`) or gives no bytes, or with the byte past the
 /// limit (`TooLong`); at most the limit and one byte leave the reader. No read is tried again (no
@@ -83,7 +83,7 @@ pub struct ThreeInputs<A: Allocator> {
     pub third: Vec<u8, A>,
 }
 
-/// Reads three inputs, each as [`read_input`] does (own). Where reading one fails, those behind it are
+/// Reads three inputs, each as [`read_input`] does (own). Where reading one fails, those after it are
 /// left untouched.
 pub fn read_three<A: Allocator + Copy, F: Read, S: Read, T: Read>(
     alloc: A,

@@ -27,7 +27,7 @@ fn push_pixmap<A: Allocator, B: Allocator>(
     }
 }
 
-/// The answer to `picture K`: `picture AT K BYTES`, a newline, and the picture as a binary portable pixmap of so many bytes
+/// The answer to `picture K`: `picture AT K BYTES`, a newline, and the picture as a binary portable pixmap of this many bytes
 /// (own). `AllocError` where memory is refused.
 pub fn picture_answer<A: Allocator + Copy, B: Allocator>(
     alloc: A,
@@ -42,7 +42,7 @@ pub fn picture_answer<A: Allocator + Copy, B: Allocator>(
     Ok(bytes)
 }
 
-/// The answer to `movie`: `movie AT BYTES`, a newline, and the movie's text of so many bytes, with a line for each run of equal
+/// The answer to `movie`: `movie AT BYTES`, a newline, and the movie's text of this many bytes, with a line for each run of equal
 /// frames (own). `AllocError` where memory is refused.
 pub fn movie_answer<A: Allocator + Copy, B: Allocator>(
     alloc: A,

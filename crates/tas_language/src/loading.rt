@@ -93,7 +93,7 @@ fn first_word(bytes: &[u8]) -> (&[u8], &[u8])
     }
 }
 
-/// Writes the first part of the text into the image, and answers what follows it.
+/// Writes the first part of the text into the image, and returns what follows it.
 fn read_part<'a>(text: &'a [u8], image: &mut [u8]) -> Option<&'a [u8]>
     requires { length image.old ≤ CART_SIZE }
     ensures some { IfSome result (λ rest. (part : Part) × IsPart (length image.old) part × IsWordEnd rest.now × (text.entry.now ≡ part_text part ++ rest.now) × (image.new ≡ overwritten part image.old)) }
@@ -125,7 +125,7 @@ fn write_parts(text: &[u8], image: &mut [u8]) -> Option<()>
     Some(())
 }
 
-/// The image of so many bytes that the parts of a `load` or `load2` line give, over zeros; nothing where the text names no parts.
+/// The image of this many bytes that the parts of a `load` or `load2` line give, over zeros; nothing where the text names no parts.
 pub fn load_image<const SIZE: usize>(text: &[u8]) -> Option<[u8; SIZE]>
     requires { SIZE ≤ CART_SIZE }
     ensures some { IfSome result (IsImageOf SIZE text.now) }

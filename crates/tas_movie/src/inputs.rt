@@ -30,7 +30,7 @@ impl<A: Allocator> Inputs<A> {
         Self { list }
     }
 
-    /// So many equal inputs. `AllocError` where memory is refused.
+    /// This many equal inputs. `AllocError` where memory is refused.
     pub fn repeated(alloc: A, input: Input, count: usize) -> Result<Inputs<A>, AllocError>
         ensures { IfOk result (λ inputs. inputs ≡ replicate count input) }
     {

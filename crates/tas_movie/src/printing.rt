@@ -16,7 +16,7 @@ use vcs_machine::{Cart, Input};
 /// How many characters a frame has.
 pub const FRAME_TEXT_SIZE: usize = 17;
 
-/// How many bytes stand before the digest in the line that names a cartridge: `cart ` has so many.
+/// How many bytes stand before the digest in the line that names a cartridge: `cart ` has this many.
 const DIGEST_PLACE: usize = 5;
 
 /// How many bytes the line that names a cartridge has, without its newline.

@@ -133,7 +133,7 @@ fn after_digest<'a, B: Allocator>(bytes: &'a [u8], cart: &Cart<B>) -> Result<&'a
     Ok(rest)
 }
 
-/// Reads a text of a movie with this cartridge, and answers its inputs in the empty list.
+/// Reads a text of a movie with this cartridge, and returns its inputs in the empty list.
 fn read_lines<A: Allocator, B: Allocator>(
     list: &mut Vec<Input, A>,
     bytes: &[u8],
@@ -171,7 +171,7 @@ pub fn read_text<A: Allocator + Copy, B: Allocator>(
 ) -> Result<Movie<A>, ReadError>
     // What is read is the movie of this text.
     ensures found { IfOk result (λ movie. (movie.cart ≡ cart.now) × IsText bytes.now movie) }
-    // A text is never refused, but for want of memory.
+    // A text is refused only out of memory.
     ensures all { (movie : MovieContent) → movie.cart ≡ cart.now →
         length movie.inputs ≤ most_inputs → IsText bytes.now movie →
         MatchResult result (λ read. read ≡ movie) (λ e. e ≡ ReadError.Memory) }

@@ -4,7 +4,7 @@ ghost use Rattle.std.specs.Prelude.{◌≡◌, ◌≢◌, ◌<◌, ◌≤◌, le
 
 use vcs_machine::Input;
 
-/// So many frames with one input, one behind the other (own).
+/// This many frames with one input, one after the other (own).
 #[derive(Clone, Copy)]
 pub struct FrameRun {
     /// The input of each of them.

@@ -19,7 +19,7 @@ use vcs_machine::Input;
 /// The least number of frames that a line counts; one frame has no count.
 const LEAST_COUNT: usize = 2;
 
-/// How often a frame comes, by the bytes behind its 17 characters: once where there are none, else as often as
+/// How often a frame comes, by the bytes after its 17 characters: once where there are none, else as often as
 /// the number behind ` x` says, which is 2 at least and as many as a movie has frames at most.
 fn read_count(bytes: &[u8]) -> Option<usize>
     ensures some { IfSome result (λ count. (bytes.now ≡ count_text count) × (1 ≤ count) × (count ≤ most_inputs)) }
@@ -66,7 +66,7 @@ fn is_repeated(before: &[Input], input: Input) -> bool
     before.last().is_some_and(|last| *last == input)
 }
 
-/// The run that a line says behind the frames with these inputs, or what is wrong with it.
+/// The run that a line says after the frames with these inputs, or what is wrong with it.
 fn next_run(before: &[Input], line: &[u8]) -> Result<FrameRun, TextErrorKind>
     ensures said { IfOk result (IsRunLine line.now) }
     ensures other { IfOk result (λ run. is_repeated (slice_get before.now (length before.now - 1)) run.input ≡ false) }

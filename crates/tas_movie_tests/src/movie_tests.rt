@@ -16,7 +16,7 @@ fn make(movie: &mut Movie, edit: &Edit) -> Result<(), EditRefusal> {
     Ok(())
 }
 
-/// Puts so many inputs with nothing pressed in at a place.
+/// Puts this many inputs with nothing pressed in at a place.
 fn insert<R: Abort>(
     rt: &R,
     alloc: Global,
@@ -31,7 +31,7 @@ fn insert<R: Abort>(
 /// How an edit ends.
 type Made = Result<(), EditRefusal>;
 
-/// Where so many inputs are put in, one after the other, how each ends, and how long the movie is then.
+/// Where this many inputs are put in, one after the other, how each ends, and how long the movie is then.
 static INSERTIONS: [(usize, usize, Made, usize); 4] = [
     (0, 262145, Err(EditRefusal::Long { len: 0 }), 0),
     (0, 262144, Ok(()), 262144),
@@ -73,7 +73,7 @@ fn limits(rt: HostRuntime) {
 
 const FAR: usize = usize::MAX;
 
-/// Where so many inputs are taken out of a movie that has none, and how this ends.
+/// Where this many inputs are taken out of a movie that has none, and how this ends.
 static DELETIONS: [(usize, usize, Made); 3] = [
     (0, 0, Ok(())),
     (0, 1, Err(EditRefusal::Place { at: 0, len: 0 })),

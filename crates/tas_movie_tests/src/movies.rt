@@ -21,7 +21,7 @@ pub fn cart_of<R: Abort>(rt: &R, alloc: Global, program: &[u8]) -> Cart {
     expect_ok(rt, Cart::from_bytes(alloc, &image))
 }
 
-/// So many inputs with nothing pressed.
+/// This many inputs with nothing pressed.
 pub fn idle<R: Abort>(rt: &R, alloc: Global, count: usize) -> Inputs {
     expect_ok(rt, Inputs::repeated(alloc, Input::none(), count))
 }

@@ -23,7 +23,7 @@ fn check_read<R: Abort, C: Copy + Debug>(rt: &R, alloc: Global, case: C, text: &
     check_same(rt, case, read(alloc, text, cart), wanted);
 }
 
-/// Reads a text of so many bytes and frames that is cut off anywhere.
+/// Reads a text of this many bytes and frames that is cut off anywhere.
 fn check_cuts<R: Abort>(
     rt: &R,
     alloc: Global,

@@ -11,7 +11,7 @@ use std::process::Abort;
 use tas_movie::{ReadError, TextErrorKind, read_text};
 use vcs_machine::Cart;
 
-/// Checks that the text of runs with this second line and these frames has so many bytes, and is read as so many frames and
+/// Checks that the text of runs with this second line and these frames has this many bytes, and is read as this many frames and
 /// printed again.
 fn check_text<R: Abort>(
     rt: &R,
@@ -160,7 +160,7 @@ fn lines_that_are_no_run(rt: HostRuntime) {
     }
 }
 
-/// Lines of runs, and what is told of them.
+/// Lines of runs, and what is reported of them.
 static RUNS: [(&[u8], Told); 9] = [
     (
         b"..... ..... .....\n..... ..... .....\n",
@@ -211,7 +211,7 @@ const FULL: &[u8] = b"..... ..... ..... x262144\n";
 /// One frame less.
 const SOME: &[u8] = b"..... ..... ..... x262143\n";
 
-/// A run, the line behind it, the one at fault, and how.
+/// A run, the line after it, the one at fault, and how.
 static LAST_LINES: [(&[u8], &[u8], usize, TextErrorKind); 5] = [
     (FULL, b"..\n", 4, TextErrorKind::TooMany),
     (FULL, NONE, 4, TextErrorKind::TooMany),
@@ -231,7 +231,7 @@ fn the_first_fault_of_a_line_is_told(rt: HostRuntime) {
     }
 }
 
-/// How many frames with nothing pressed, what follows them, and what is told of that.
+/// How many frames with nothing pressed, what follows them, and what is reported of that.
 static MANY_FRAMES: [(usize, &[u8], Told); 5] = [
     (65536, b"", Ok(65536)),
     (65537, b"", Err((65539, TextErrorKind::TooMany))),
@@ -286,7 +286,7 @@ fn older_texts_are_printed_as_runs(rt: HostRuntime) {
     check_older_text(&rt, alloc, &cart, (200, [3681, 104]), older, runs);
 }
 
-/// So many times the line of nothing pressed and that of the left fire, behind the first two lines.
+/// This many times the line of nothing pressed and that of the left fire, after the first two lines.
 fn alternating<R: Abort>(rt: &R, alloc: Global, count: usize) -> Vec<u8> {
     let mut text = joined(rt, alloc, &[HEAD2, CART_LINE]);
     for _ in 0..count {

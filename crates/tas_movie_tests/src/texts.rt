@@ -53,7 +53,7 @@ pub fn at(line: usize, kind: TextErrorKind) -> Result<usize, ReadError> {
     Err(text_error(line, kind))
 }
 
-/// What is told of a text: how many frames it has, or the line at fault and what is wrong with it.
+/// What is reported of a text: how many frames it has, or the line at fault and what is wrong with it.
 pub type Told = Result<usize, (usize, TextErrorKind)>;
 
 /// What reading such a text answers.
@@ -64,7 +64,7 @@ fn answer(told: Told) -> Result<usize, ReadError> {
     }
 }
 
-/// Whether a text is read as a movie with this cartridge and so many frames, and printed again.
+/// Whether a text is read as a movie with this cartridge and this many frames, and printed again.
 pub fn is_read_and_printed<R: Abort>(
     rt: &R,
     alloc: Global,
@@ -83,7 +83,7 @@ pub fn is_printed<R: Abort>(rt: &R, alloc: Global, movie: &Movie, text: &[u8]) -
     expect_ok(rt, print_text(alloc, movie)).as_slice() == text
 }
 
-/// Fails where something else is told of a text of these lines, with the playfield's cartridge.
+/// Fails where something else is reported of a text of these lines, with the playfield's cartridge.
 pub fn check_told<R: Abort>(
     rt: &R,
     alloc: Global,
@@ -96,7 +96,7 @@ pub fn check_told<R: Abort>(
     check_same(rt, case, read(alloc, &text, &cart), answer(want));
 }
 
-/// So many lines of a frame with nothing pressed, and then these bytes.
+/// This many lines of a frame with nothing pressed, and then these bytes.
 pub fn idle_lines<R: Abort>(rt: &R, alloc: Global, count: usize, end: &[u8]) -> Vec<u8> {
     let mut lines = Vec::new(alloc);
     for _ in 0..count {

@@ -243,7 +243,7 @@ fn show<W: Write>(output: &mut W, text: &str) -> Result<(), ToolFault>
     Ok(write_all(output, text.as_bytes())?)
 }
 
-/// Carries a request out, and answers the program's status (own): 0 where it was done, 1 after a fault, whose
+/// Carries a request out, and returns the program's status (own): 0 where it was done, 1 after a fault, whose
 /// line is written to `errors`, and 2 where the words weren't understood, whose text goes there too.
 pub fn carry_out<
     T: Wait + Threads + Sync,

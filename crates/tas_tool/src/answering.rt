@@ -25,7 +25,7 @@ use vcs_machine::Cart;
 /// The answer to a command.
 #[derive(Clone, Copy)]
 pub struct Answered {
-    /// What is told.
+    /// What is reported.
     pub reply: Reply,
     /// How many edits the script has made with it.
     pub made: u64,
@@ -93,7 +93,7 @@ fn refused_edit<N: Name, W: CloseOnDrop, A: Allocator>(
     }
 }
 
-/// Makes an edit right behind the script's own edits.
+/// Makes an edit right after the script's own edits.
 pub fn make_edit<N: Name, W: CloseOnDrop, A: Allocator + Copy, R: Wait>(
     rt: &R,
     desk: &Desk<N, W, A>,
@@ -217,7 +217,7 @@ fn show_input<N: Name, W: CloseOnDrop, A: Allocator>(
     }
 }
 
-/// The reply that tells a halt, at so many edits.
+/// The reply that reports a halt, at this many edits.
 fn halted_reply(at: u64, halt: Halt) -> Reply
     ensures { result ≡ halted_reply at halt }
 {
@@ -331,7 +331,7 @@ fn looked(reply: Result<Reply, RunFault>, made: u64) -> Result<Answered, RunFaul
     Ok(Answered { reply, made })
 }
 
-/// Does what a command asks for, as the seat that has made so many edits, all of the script, and answers it. `OutOfMemory`
+/// Does what a command asks for, as the seat that has made this many edits, all of the script, and answers it. `OutOfMemory`
 /// changes nothing of the movie.
 ///
 /// Faults: `Foreign` where the seat's front isn't just the script's own edits; `NoEntry`.

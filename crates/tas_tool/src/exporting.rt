@@ -31,7 +31,7 @@ struct Frames {
     workers: usize,
 }
 
-/// What a desk's answer is told as: one that tells of the movie's frames is compared with the two edits that made it.
+/// What a desk's answer is reported as: one that tells of the movie's frames is compared with the two edits that made it.
 fn export_end(from: usize, to: usize, answer: Result<Exported, ExportError>) -> Result<(), RunFault>
     ensures { result ≡ export_end from to answer }
 {

@@ -16,7 +16,7 @@ use vcs_machine::Cart;
 /// How many edits [`put_movie`] makes.
 pub const MOVIE_EDITS: u64 = 2;
 
-/// What a refused edit is told as: only want of memory can refuse one, where the desk has no other edits.
+/// What a refused edit is reported as: only being out of memory can refuse one, where the desk has no other edits.
 fn edit_fault(error: EditError) -> RunFault
     ensures { result ≡ edit_fault error }
 {

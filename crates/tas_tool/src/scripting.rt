@@ -15,7 +15,7 @@ use tas_desk::{CloseOnDrop, Desk, Name, Seat, Unopened};
 use tas_engines::{RunFault, ToolFault, read_input, write_all};
 use tas_language::{parse_line, reply_line, split_once};
 
-/// Does what the lines ask for, as a seat that has made so many edits, and puts the replies into the empty text. `Foreign` comes
+/// Does what the lines ask for, as a seat that has made this many edits, and puts the replies into the empty text. `Foreign` comes
 /// only where the seat has seen more than its own edits.
 pub fn answer_lines<N: Name, W: CloseOnDrop, A: Allocator + Copy, R: Wait>(
     rt: &R,

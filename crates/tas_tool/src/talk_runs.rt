@@ -122,7 +122,7 @@ fn read_movie<A: Allocator + Copy, C: Read, M: Read>(
 
 /// Reads lines and answers each of them, from a blank cartridge with no inputs on (own): an answer is handed out whole before more
 /// is read. The lines are those of a script, `picture K`, `movie`, `states` and `quit`; another line, or one of more than
-/// [`MAX_LINE`](tas_language::MAX_LINE) bytes, is answered `unknown` and changes nothing, and so is what stands behind the last
+/// [`MAX_LINE`](tas_language::MAX_LINE) bytes, is answered `unknown` and changes nothing, and so is what stands after the last
 /// newline. It runs on a desk of one seat, and ends with `quit` or with the input.
 ///
 /// Faults: `Read` where a read failed, with each whole line answered; `Write`, with the first bytes of the answers written, and how

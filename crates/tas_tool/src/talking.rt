@@ -30,7 +30,7 @@ pub struct Progress {
     pub written: usize,
 }
 
-/// Hands an answer out whole, and answers how many bytes have gone out with those before.
+/// Hands an answer out whole, and returns how many bytes have gone out with those before.
 fn hand_out<W: Write>(output: &mut W, bytes: &[u8], before: usize) -> Result<usize, RunFault>
     ensures out { OnOk result (Appends (W.contents output.old) (W.contents output.new) bytes.now) }
     ensures count { IfOk result (λ n. n ≡ min (before + length bytes.now) most_counted) }
@@ -41,7 +41,7 @@ fn hand_out<W: Write>(output: &mut W, bytes: &[u8], before: usize) -> Result<usi
             written: before.saturating_add(fault.written),
         });
     }
-    // A flush that fails isn't told: a writer that can't pass on what it holds may fail at its next write, and behind the
+    // A flush that fails isn't reported: a writer that can't pass on what it holds may fail at its next write, and after the
     // last answer there is none.
     let _ = output.flush();
     Ok(before.saturating_add(bytes.len()))
@@ -91,7 +91,7 @@ fn answer_line<N: Name, C: CloseOnDrop, A: Allocator + Copy, R: Wait, W: Write>(
 }
 
 /// Answers each line that ends in a part of the input, the first of which may have begun before it, and holds what stands
-/// behind the last newline; nothing comes back where a line asks for the end.
+/// after the last newline; nothing comes back where a line asks for the end.
 fn answer_part<N: Name, C: CloseOnDrop, A: Allocator + Copy, R: Wait, W: Write>(
     rt: &R,
     alloc: A,
@@ -124,7 +124,7 @@ fn answer_part<N: Name, C: CloseOnDrop, A: Allocator + Copy, R: Wait, W: Write>(
     Ok(Some(reached))
 }
 
-/// Answers what stands behind the last newline.
+/// Answers what stands after the last newline.
 fn answer_last<A: Allocator, W: Write>(
     line: &Line<A>,
     written: usize,
@@ -141,7 +141,7 @@ fn answer_last<A: Allocator, W: Write>(
     Ok(())
 }
 
-/// Reads lines and answers each before it reads on, as a seat that has made so many edits, until one asks for the end or no more
+/// Reads lines and answers each before it reads on, as a seat that has made this many edits, until one asks for the end or no more
 /// bytes come. `Foreign` comes only where the seat has seen more than its own edits.
 pub fn converse<N: Name, C: CloseOnDrop, A: Allocator + Copy, T: Wait, R: Read, W: Write>(
     rt: &T,

@@ -85,7 +85,7 @@ fn tell_picture<N: Name, W: CloseOnDrop, A: Allocator + Copy>(
     }
 }
 
-/// Cuts the seat's greenzone for the movie of the conversation's own edits, lets it gain the desk's kept states, and answers
+/// Cuts the seat's greenzone for the movie of the conversation's own edits, lets it gain the desk's kept states, and returns
 /// the movie's length; nothing where memory is refused.
 fn bring_zone<N: Name, W: CloseOnDrop, A: Allocator + Copy, R: Wait>(
     rt: &R,
@@ -186,7 +186,7 @@ fn tell_states<N: Name, W: CloseOnDrop, A: Allocator + Copy, R: Wait>(
     }
 }
 
-/// Does what a request asks for, as the seat that has made so many edits, all of the conversation, and answers it; `quit` alone is
+/// Does what a request asks for, as the seat that has made this many edits, all of the conversation, and answers it; `quit` alone is
 /// answered nothing. Where memory is refused for a picture, a text or a list of frames, the answer is `out of memory`.
 ///
 /// Faults: `Foreign` where the seat's front isn't just the conversation's own edits; `NoEntry`; `Memory` where it is refused for

@@ -8,7 +8,7 @@ use tas_tool::{
     ToolFault, cart_talk_run, export_run, movie_script_run, movie_talk_run, script_run, talk_run,
 };
 
-/// Exports frames `from` to the one before `to` by so many workers.
+/// Exports frames `from` to the one before `to` by this many workers.
 pub fn export<R: Wait + Threads + Sync, C: Read, I: Read, W: Write>(
     rt: &R,
     alloc: Global,

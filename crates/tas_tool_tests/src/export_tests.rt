@@ -82,7 +82,7 @@ fn one_frame_is_its_shot(rt: HostRuntime) {
     }
 }
 
-/// Ranges that movies of so many frames haven't, or that are too long.
+/// Ranges that movies of this many frames haven't, or that are too long.
 static OTHER_RANGES: [(usize, usize, usize); 8] = [
     (0, 2, 1),
     (1, 0, 1),

@@ -29,7 +29,7 @@ const MOST_BYTES: usize = 16_777_216;
 /// How the program ends.
 #[derive(Clone, Copy)]
 enum End {
-    /// It writes so many bytes, these last.
+    /// It writes this many bytes, these last.
     Writes(usize, &'static [u8]),
     /// It writes nothing and tells a fault.
     Faults(&'static [u8]),
@@ -92,7 +92,7 @@ fn check_ends<R: Threads + Wait + Abort + Sync>(
     }
 }
 
-/// The same over the older text of a movie with so many frames of nothing pressed.
+/// The same over the older text of a movie with this many frames of nothing pressed.
 fn check_older<R: Threads + Wait + Abort + Sync>(
     rt: &R,
     alloc: Global,
@@ -350,7 +350,7 @@ fn frames_of_one_export(rt: HostRuntime) {
     check_runs(&rt, rt.alloc(), lines, EXPORTS.as_slice());
 }
 
-/// How many bytes the replies to so many edits have that leave the movie empty.
+/// How many bytes the replies to this many edits have that leave the movie empty.
 fn bytes_of_replies(edits: usize) -> usize {
     let mut bytes = edits.saturating_mul(12);
     let mut least = 1usize;
@@ -378,7 +378,7 @@ fn edits_of_a_script(rt: HostRuntime) {
 enum Bytes {
     /// The cartridge of brief frames.
     Brief,
-    /// So many zeros.
+    /// This many zeros.
     Zeros(usize),
 }
 
@@ -423,7 +423,7 @@ fn bytes_of_one_input(rt: HostRuntime) {
     }
 }
 
-/// A line that loads a cartridge of so many bytes EA.
+/// A line that loads a cartridge of this many bytes EA.
 fn load_line<R: Abort>(rt: &R, alloc: Global, bytes: usize) -> Vec<u8> {
     let mut line = repeated(rt, alloc, b"load 000=", b"EA", bytes);
     expect_ok(rt, line.push(b'\n'));

@@ -224,7 +224,7 @@ shot 0|no frame 73 len 0
 len|len 73 0
 ";
 
-/// The first of these turns, as its line and its reply, and those behind it.
+/// The first of these turns, as its line and its reply, and those after it.
 fn next_turn<'a, R: Abort>(rt: &R, turns: &'a [u8]) -> (&'a [u8], &'a [u8], &'a [u8]) {
     let (turn, later) = expect_some(rt, split_once(turns, b'\n'));
     let (line, reply) = expect_some(rt, split_once(turn, b'|'));

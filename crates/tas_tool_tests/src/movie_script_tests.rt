@@ -29,7 +29,7 @@ fn check_over_movie<R: Wait + Abort, C: Copy + Debug>(
     check_answer(rt, case, (output.as_slice(), end), wanted);
 }
 
-/// The same over a movie of so many frames of nothing pressed with the playfield's cartridge.
+/// The same over a movie of this many frames of nothing pressed with the playfield's cartridge.
 fn check_over_frames<R: Wait + Abort, C: Copy + Debug>(
     rt: &R,
     alloc: Global,

@@ -64,7 +64,7 @@ fn frame_of<'a>(frame: usize, third: &'a str) -> &'a str {
     if frame % 3 == 1 { third } else { IDLE }
 }
 
-/// Writes the line of a run of frames behind a text.
+/// Writes the line of a run of frames at a text's end.
 fn push_run<R: Abort>(rt: &R, alloc: Global, text: &mut String, line: &str, count: usize) {
     let run = if count == 1 {
         expect_ok(rt, format!(in alloc; "{line}\n"))
@@ -74,7 +74,7 @@ fn push_run<R: Abort>(rt: &R, alloc: Global, text: &mut String, line: &str, coun
     expect_ok(rt, text.push_str(run.as_str()));
 }
 
-/// The text of a movie of so many frames, as [`frame_of`] has them, with a line for each run of equal ones.
+/// The text of a movie of this many frames, as [`frame_of`] has them, with a line for each run of equal ones.
 pub fn text_of<R: Abort>(
     rt: &R,
     alloc: Global,
@@ -123,7 +123,7 @@ pub fn joined<R: Abort>(rt: &R, alloc: Global, parts: &[&[u8]]) -> Vec<u8> {
     bytes
 }
 
-/// Some bytes and then so many copies of others.
+/// Some bytes and then this many copies of others.
 pub fn repeated<R: Abort>(
     rt: &R,
     alloc: Global,

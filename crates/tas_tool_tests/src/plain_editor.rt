@@ -134,7 +134,7 @@ impl Editor {
         self.told(rt, alloc, "edit")
     }
 
-    /// The reply to a change: so many frames from a place on go, and copies of one come.
+    /// The reply to a change: this many frames from a place on go, and copies of one come.
     fn edit<R: Abort>(
         &mut self,
         rt: &R,
@@ -191,7 +191,7 @@ impl Editor {
         }
     }
 
-    /// Answers the first of some lines, and gives those behind it; nothing where it isn't understood.
+    /// Answers the first of some lines, and gives those after it; nothing where it isn't understood.
     fn answer_first<'a, R: Abort>(
         &mut self,
         rt: &R,

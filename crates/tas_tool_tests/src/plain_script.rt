@@ -30,7 +30,7 @@ pub enum Line {
     Work(usize),
 }
 
-/// What stands before and behind the first such byte, if there is one.
+/// What stands before and after the first such byte, if there is one.
 pub fn split_once(text: &[u8], byte: u8) -> Option<(&[u8], &[u8])> {
     let end = text.iter().position(|other| *other == byte)?;
     let (front, others) = text.split_at(end);
@@ -93,7 +93,7 @@ fn write_part(word: &[u8], image: &mut [u8]) -> Option<()> {
     Some(())
 }
 
-/// The image of so many bytes with these parts.
+/// The image of this many bytes with these parts.
 fn image_of(size: usize, parts: &[&[u8]]) -> Option<Image> {
     let mut bytes = [0u8; 4096];
     for part in parts {
@@ -135,7 +135,7 @@ fn frames(words: &[&[u8]]) -> Option<(usize, usize, Frame)> {
     Some((number(place)?, number(count)?, frame_of(frame)?))
 }
 
-/// What a line of at most two words behind a name asks for.
+/// What a line of at most two words after a name asks for.
 fn short_line(name: &[u8], words: &[&[u8]]) -> Option<Line> {
     match words {
         [] if name == b"len".as_slice() => Some(Line::Len),
@@ -149,7 +149,7 @@ fn short_line(name: &[u8], words: &[&[u8]]) -> Option<Line> {
     }
 }
 
-/// What a line of these words behind its name asks for.
+/// What a line of these words after its name asks for.
 fn line_of(name: &[u8], words: &[&[u8]]) -> Option<Line> {
     if name == b"load".as_slice() {
         Some(Line::Load(image_of(4096, words)?))

@@ -71,7 +71,7 @@ fn conversations_go_on_from_a_movie(rt: HostRuntime) {
     }
 }
 
-/// Fails where a cartridge of this wrong size is told of in another way, or something is read of the input.
+/// Fails where a cartridge of this wrong size is reported in another way, or something is read of the input.
 fn check_size<R: Wait + Abort>(rt: &R, alloc: Global, image: &[u8], size: usize) {
     let cart = &image[..image.len().min(size)];
     let fault = ToolFault::Size(size);

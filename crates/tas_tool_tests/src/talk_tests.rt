@@ -41,7 +41,7 @@ fn check_pieces<R: Wait + Abort>(rt: &R, alloc: Global, lines: &[&[u8]], answers
     check_said(rt, alloc, lines.as_slice(), answers.as_slice());
 }
 
-/// Fails where lines that come so many bytes at a time are answered in another way.
+/// Fails where lines that come this many bytes at a time are answered in another way.
 fn check_at_once<R: Wait + Abort>(
     rt: &R,
     alloc: Global,
@@ -133,7 +133,7 @@ fn blank_cartridge_halts_in_its_first_frame(rt: HostRuntime) {
     );
 }
 
-/// The greenzone after shots, an edit, and the edit that takes it back: states behind the edited place are gone where they are told.
+/// The greenzone after shots, an edit, and the edit that takes it back: states after the edited place are gone where they are listed.
 #[test]
 fn states_are_those_of_the_movie(rt: HostRuntime) {
     check_pieces(
@@ -200,7 +200,7 @@ fn small_cartridges_are_talked_of(rt: HostRuntime) {
     );
 }
 
-/// A million edits and no more are made; what refuses the next ones, and looks behind them, are told at these.
+/// A million edits and no more are made; what refuses the next ones, and looks after them, are told at these.
 #[test]
 fn edits_are_bounded(rt: HostRuntime) {
     let alloc = rt.alloc();
@@ -213,7 +213,7 @@ fn edits_are_bounded(rt: HostRuntime) {
     let last =
         b"edit 1000000 len 0\nfull 1000000\nfull 1000000\nlen 1000000 0\nno frame 1000000 len 0\nstates 1000000 0\n";
     check_that(&rt, "output", output.as_slice().ends_with(last));
-    // 12 bytes and its number's digits for each edit, and 80 behind them.
+    // 12 bytes and its number's digits for each edit, and 80 after them.
     check_same(&rt, "output, 2", output.len(), 12_000_000 + 5_888_896 + 80);
 }
 
@@ -226,7 +226,7 @@ static ENDS: [(&[u8], &[u8]); 5] = [
     (b"quit\nlen\nlen", b""),
 ];
 
-/// Lines that aren't understood are answered `unknown`, and so is what stands behind the last newline, whatever it says.
+/// Lines that aren't understood are answered `unknown`, and so is what stands after the last newline, whatever it says.
 #[test]
 fn unknown_lines_change_nothing(rt: HostRuntime) {
     let alloc = rt.alloc();
@@ -241,7 +241,7 @@ fn unknown_lines_change_nothing(rt: HostRuntime) {
     }
 }
 
-/// A `load` line of so many parts, each of so many bytes of 00.
+/// A `load` line of this many parts, each of this many bytes of 00.
 fn load_line<R: Abort>(rt: &R, alloc: Global, parts: &[usize]) -> Vec<u8> {
     let mut line = joined(rt, alloc, &[b"load"]);
     for count in parts {
@@ -349,7 +349,7 @@ impl<'a> Read for Asking<'a> {
     }
 }
 
-/// Whole lines, parts of lines and several lines at once, with so many bytes of answers.
+/// Whole lines, parts of lines and several lines at once, with this many bytes of answers.
 static ASKED: [(&[u8], usize); 10] = [
     (START, 28),
     (b"len\n", 10),

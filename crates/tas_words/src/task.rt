@@ -19,7 +19,7 @@ pub enum Task<'a> {
         /// How many, 0 to 1,000,000.
         instructions: u32,
     },
-    /// Tell the length of the movie on standard input.
+    /// Report the length of the movie on standard input.
     Check {
         /// The name of the cartridge's file.
         cart: &'a str,
@@ -79,7 +79,7 @@ pub enum Task<'a> {
         cart: &'a str,
         /// The first frame, counted from 0, up to 9,999,999.
         from: u32,
-        /// The frame behind the last one, up to 9,999,999.
+        /// The frame after the last one, up to 9,999,999.
         to: u32,
         /// How many workers play them, 1 to [`MAX_WORKERS`].
         workers: u32,

@@ -107,7 +107,7 @@ impl<N: Name> Caller<N> {
         Ok(Some(format!(in alloc; "edit {}, {} frames", made.at, made.len)?))
     }
 
-    /// Presses fire in 20 frames behind the last one.
+    /// Presses fire in 20 frames after the last one.
     fn add_fire<W: CloseOnDrop, R: Wait>(
         &mut self,
         rt: &R,
@@ -121,7 +121,7 @@ impl<N: Name> Caller<N> {
         Ok(Some(format!(in alloc; "edit {}, {} frames", made.at, made.len)?))
     }
 
-    /// Plays up to frames 64 and 128. The edit of the same round is behind them, so their states stay valid.
+    /// Plays up to frames 64 and 128. The edit of the same round is after them, so their states stay valid.
     fn work<W: CloseOnDrop, R: Wait>(
         &mut self,
         rt: &R,

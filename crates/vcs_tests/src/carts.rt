@@ -17,7 +17,7 @@ pub fn cart_with<R: Abort>(rt: &R, alloc: Global, parts: &[Part<'_>]) -> Cart {
     cart_of_size(rt, alloc, 4096, parts)
 }
 
-/// A cartridge of so many zeros with these bytes.
+/// A cartridge of this many zeros with these bytes.
 pub fn cart_of_size<R: Abort>(rt: &R, alloc: Global, size: usize, parts: &[Part<'_>]) -> Cart {
     let mut image = expect_ok(rt, vec![in alloc; 0u8; size]);
     set_parts(&mut image, parts);
@@ -61,7 +61,7 @@ pub fn check_lines<R: Abort, C: Copy + Debug>(
 /// The parts of a cartridge, how many instructions, and the text of their trace by hand.
 pub type Traced = (&'static [Part<'static>], u32, &'static [u8]);
 
-/// Compares the traces of cartridges of so many bytes with these.
+/// Compares the traces of cartridges of this many bytes with these.
 pub fn check_traces<R: Abort>(rt: &R, alloc: Global, size: usize, rows: &[Traced]) {
     for (row, (parts, count, wanted)) in rows.iter().enumerate() {
         let cart = cart_of_size(rt, alloc, size, *parts);

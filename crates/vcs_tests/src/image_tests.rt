@@ -26,7 +26,7 @@ fn code_runs_in_the_ports(rt: HostRuntime) {
 /// A program that never halts, by its name.
 type Endless = (&'static str, &'static [u8]);
 
-/// Plays frames of a program that never halts, and answers how many pixels of the last one aren't black.
+/// Plays frames of a program that never halts, and returns how many pixels of the last one aren't black.
 fn lit_after<R: Abort>(rt: &R, alloc: Global, (name, code): Endless, frames: u32) -> usize {
     let cart = program(rt, alloc, code);
     let (halt, lit) = frames_of(rt, alloc, name, &cart, frames);
@@ -79,7 +79,7 @@ fn halts_at_once<R: Abort>(rt: &R, alloc: Global, cart: &Cart, byte: u8) -> bool
     traced(rt, alloc, cart, 1).as_slice() == halt.as_slice()
 }
 
-/// Plays two frames of an image of this byte, and answers whether it starts in the cartridge and halts at once.
+/// Plays two frames of an image of this byte, and returns whether it starts in the cartridge and halts at once.
 fn is_halt<R: Abort>(rt: &R, alloc: Global, byte: u8) -> bool {
     let cart = cart_with(rt, alloc, &[(0, &[byte; 4096])]);
     let (halt, _lit) = frames_of(rt, alloc, byte, &cart, 2);

@@ -23,7 +23,7 @@ pub fn frames_of<R: Abort, C: Copy + Debug>(
     (halt, picture.lit())
 }
 
-/// Plays the frames, and answers the halt and whether each is the same without a picture.
+/// Plays the frames, and returns the halt and whether each is the same without a picture.
 fn play_frames<R: Abort>(
     rt: &R,
     cart: &Cart,

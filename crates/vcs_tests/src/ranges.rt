@@ -6,7 +6,7 @@ use crate::checks::check_same;
 use std::process::Abort;
 use vcs_tia::Picture;
 
-/// The first pixel of some, and the one behind them.
+/// The first pixel of some, and the one after them.
 pub type Range = (usize, usize);
 
 /// Whether a column is in one of these ranges.

@@ -173,7 +173,7 @@ fn vsync_pairs<R: Abort>(rt: &R, alloc: Global) -> Cart {
     program(rt, alloc, &code)
 }
 
-// 1,000 frames end, and the next one halts behind the last pair.
+// 1,000 frames end, and the next one halts after the last pair.
 #[test]
 fn each_instruction_writes_vsync(rt: HostRuntime) {
     let alloc = rt.alloc();

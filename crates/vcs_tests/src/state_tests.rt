@@ -27,7 +27,7 @@ fn after<R: Abort>(rt: &R, alloc: Global, code: &[u8], frames: u8) -> State {
     state
 }
 
-/// Fails where two programs leave equal states after so many frames, or one of them leaves two that aren't equal.
+/// Fails where two programs leave equal states after this many frames, or one of them leaves two that aren't equal.
 fn check_differ<R: Abort, C: Copy + Debug>(
     rt: &R,
     alloc: Global,

@@ -95,7 +95,7 @@ static WORKED_PROGRAMS: [Traced; 9] = [
         F01A C0 00 80 01 FD 37 2\n\
         F01C 02 halt\n",
     ),
-    // LDA #81, STA 80; LSR, ROR, ASL and ROL of 80, and LDX 80 behind each; ROR, ROL, LSR, ASL, ASL and ROR of A
+    // LDA #81, STA 80; LSR, ROR, ASL and ROL of 80, and LDX 80 after each; ROR, ROL, LSR, ASL, ASL and ROR of A
     (
         &[
             (

@@ -26,7 +26,7 @@ impl Lagging {
         }
     }
 
-    /// So many clocks more are owed; all pass first where there are many already.
+    /// This many clocks more are owed; all pass first where there are many already.
     fn owe(&mut self, clocks: u16, picture: &mut Picture) {
         if self.owed > 30000 {
             self.catch_up(picture);

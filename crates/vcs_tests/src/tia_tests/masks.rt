@@ -34,7 +34,7 @@ impl Pair {
         }
     }
 
-    /// A write to both, and then the clocks behind it.
+    /// A write to both, and then the clocks after it.
     fn step(&mut self, state: u32) {
         let (number, value, clocks) = random_step(state);
         self.tia.write(number, value);

@@ -12,7 +12,7 @@ use vcs_tia::{Picture, ppm};
 /// it tells the writer's fault.
 type Refused = Option<(usize, usize, usize, bool)>;
 
-/// How a pixmap ends whose writer takes so many bytes a call, for so many calls, and then fails so.
+/// How a pixmap ends whose writer takes this many bytes a call, for this many calls, and then fails so.
 fn refused_pixmap(
     alloc: Global,
     picture: &Picture,
