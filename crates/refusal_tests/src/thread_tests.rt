@@ -1,4 +1,4 @@
-//! Desks whose seats call on threads of their own, with one growth of them all refused: the call that met it returns out of
+//! Desks whose seats call on threads of their own, with one growth of them all refused: the call that met it reports out of
 //! memory and is right when it is made again, and each other call is right.
 
 ghost use Rattle.std.specs.Prelude.{◌≡◌};
