@@ -1,4 +1,4 @@
-use Rattle.std.proofs.Common.{◌∙◌, length, arith}
+use Rattle.std.proofs.Common.{length, arith}
 use Rattle.vcs_machine.proofs.Sizes.{low_lines, some_bytes}
 use Rattle.vcs_machine.proofs.cart.rom_place.Goals as goal
 
