@@ -1,8 +1,8 @@
 -- Steps don't see the beam's line, VSYNC's rise or, where nothing is pressed, a new frame.
-use Rattle.std.proofs.Common.{◌≡◌, ℕ, zero, suc, ◌+◌, ◌-◌, ◌*◌, ◌/◌, ◌==◌, Bool, true, false, ◌&&◌, ◌||◌, ◌∙◌, ap, sym, refl, subst, if◌then◌else◌, nat_lt, Result, Ok, Err}
-use Rattle.vcs_cpu.specs.Steps.{Step, step_of}
+use Rattle.std.proofs.Common.{◌≡◌, ℕ, zero, suc, ◌+◌, ◌-◌, ◌*◌, ◌/◌, ◌==◌, Bool, true, false, ◌&&◌, ◌||◌, ◌∙◌, ap, sym, refl, subst, if◌then◌else◌, nat_lt}
+use Rattle.vcs_cpu.specs.Reads.{addresses_read}
+use Rattle.vcs_cpu.specs.Steps.{step_of}
 use Rattle.vcs_cpu.specs.declared.regs.Regs.{Regs}
-use Rattle.vcs_cpu.specs.declared.halt.Halt.{Halt}
 use Rattle.vcs_riot.specs.declared.chip.Riot.{Riot}
 use Rattle.vcs_riot.specs.Address.{is_high}
 use Rattle.vcs_riot.specs.Chip.{riot_after_ticks, riot_after_load, riot_after_write}
@@ -17,11 +17,11 @@ use Rattle.vcs_tia.specs.Tia.{written, written_at, after_clock, latches_at, cloc
 use Rattle.vcs_tia.specs.Trace.{after_clocks}
 use Rattle.vcs_tia.proofs.Later.{fire-after_clocks}
 use Rattle.vcs_machine.specs.Bus.{Board, Observed, board_byte_at, board_after_load, board_after_write, bus_device, after_time, after_wait, nothing_seen}
-use Rattle.vcs_machine.specs.Step.{console_step, with_wait}
+use Rattle.vcs_machine.specs.Step.{console_step}
 use Rattle.vcs_machine.specs.Frame.{is_frame_over}
 use Rattle.vcs_machine.specs.TraceFrames.{board_into_next_frame}
-use Rattle.vcs_machine.proofs.AlikeSteps.{EndAlike, instruction-alike}
-use Rattle.vcs_machine.proofs.Clocks.{kept-board_after_write, tia-board_after_load}
+use Rattle.vcs_machine.proofs.AlikeSteps.{EndAlike, instruction-alike, none_tells, with_wait-alike}
+use Rattle.vcs_machine.proofs.Clocks.{kept-board_after_write, load-changed, tia-board_after_load}
 
 -- ---- the TIA without the beam's line and VSYNC's rise
 
@@ -157,15 +157,8 @@ reads-alike o p h = let reads : Board → ℕ → ℕ = λ b addr. board_byte_at
 pub byte-alike : (addr : ℕ) (o p : Observed (Unit {0})) → BoardsAlike o p → board_byte_at o.board addr ≡ board_byte_at p.board addr
 byte-alike addr o p h = ap (λ (m : ℕ → ℕ). m addr) (reads-alike o p h)
 
-loaded-by_region : (cart riot : Bool) (b : Board) (r : Riot) →
-    board_without_line (if cart then b else (if riot then record b { riot = r } else b))
-    ≡ (if cart then board_without_line b else (if riot then record (board_without_line b) { riot = r } else board_without_line b))
-loaded-by_region true riot b r = refl
-loaded-by_region false true b r = refl
-loaded-by_region false false b r = refl
-
 board_load-without_line : (b : Board) (addr : ℕ) → board_without_line (board_after_load b addr) ≡ board_after_load (board_without_line b) addr
-board_load-without_line b addr = loaded-by_region (is_high 12 addr) (is_high 7 addr) b (riot_after_load addr b.riot)
+board_load-without_line b addr = load-changed board_without_line (λ c r. refl) (is_high 12 addr) (is_high 7 addr) b (riot_after_load addr b.riot)
 
 loads-alike : (o p : Observed (Unit {0})) (addr : ℕ) → BoardsAlike o p →
     BoardsAlike ((bus_device nothing_seen).after_load o addr) ((bus_device nothing_seen).after_load p addr)
@@ -212,18 +205,14 @@ wait-alike o p h =
     subst (λ k. BoardsAlike (after_wait nothing_seen o) (after_time nothing_seen (k / 3) k (cleared p))) (ap (λ (b : Board). clocks_owed b.tia) h.same)
     (time-alike (clocks_owed o.board.tia / 3) (clocks_owed o.board.tia) (cleared o) (cleared p) (cleared-alike o p h))
 
-with_wait-alike : (a b : Result (Step (Observed (Unit {0}))) Halt) → EndAlike BoardsAlike a b → EndAlike BoardsAlike (with_wait nothing_seen a) (with_wait nothing_seen b)
-with_wait-alike (Ok a) (Ok b) h = record { regs = h.regs; cycles = h.cycles; content = wait-alike a.content b.content h.content }
-with_wait-alike (Ok a) (Err halt) h = absurd h
-with_wait-alike (Err halt) (Ok b) h = absurd h
-with_wait-alike (Err halt) (Err other) h = h
-
 -- one step of the console from boards that are alike
 pub console_step-alike : (r : Regs) (o p : Observed (Unit {0})) → BoardsAlike o p → EndAlike BoardsAlike (console_step nothing_seen r o) (console_step nothing_seen r p)
 unfolding console_step
 console_step-alike r o p h =
     let bus = bus_device nothing_seen in
-    with_wait-alike (step_of bus r o) (step_of bus r p) (instruction-alike BoardsAlike bus reads-alike loads-alike pokes-alike (λ x y n. time-alike n (3 * n) x y) r o p h)
+    with_wait-alike BoardsAlike nothing_seen wait-alike (step_of bus r o) (step_of bus r p)
+    (instruction-alike BoardsAlike bus (λ x addr. false) (λ x y addr alike none. byte-alike addr x y alike) loads-alike pokes-alike
+    (λ x y n. time-alike n (3 * n) x y) (λ x addr. refl) (λ x n. refl) r o p h (none_tells (addresses_read r (bus.byte_at o))))
 
 -- ---- a new frame
 

@@ -15,6 +15,8 @@ mod frame_tests;
 #[cfg(test)]
 mod image_tests;
 #[cfg(test)]
+mod lag_tests;
+#[cfg(test)]
 mod played;
 #[cfg(test)]
 mod ranges;

@@ -1,4 +1,4 @@
-use Rattle.std.proofs.Common.{◌≡◌, ℕ, ◌+◌, ◌%◌, ◌<◌, ◌≤◌, ◌∙◌, length, sym, arith}
+use Rattle.std.proofs.Common.{◌≡◌, ℕ, ◌+◌, ◌%◌, ◌∙◌, length, arith}
 use Rattle.vcs_machine.specs.Console.{content_of}
 use Rattle.vcs_machine.proofs.Fetching.{shown-rom}
 use Rattle.vcs_machine.proofs.Sizes.{code_shows, code_high, most_bytes}

@@ -1,0 +1,44 @@
+-- Lag frames: frames whose input nothing reads (own).
+use Rattle.std.specs.Prelude.{◌≡◌, ℕ, zero, suc, Bool, true, false, not, ◌&&◌, ◌||◌, if◌then◌else◌, List, Result, Ok, Err}
+use Rattle.std.specs.List.{list_any}
+use Rattle.vcs_cpu.specs.Reads.{addresses_read}
+use Rattle.vcs_cpu.specs.Steps.{Step}
+use Rattle.vcs_cpu.specs.declared.regs.Regs.{Regs}
+use Rattle.vcs_cpu.specs.declared.halt.Halt.{Halt}
+use Rattle.vcs_riot.specs.Address.{is_high}
+use Rattle.vcs_riot.specs.Chip as riot
+use Rattle.vcs_tia.specs.declared.chip.Tia.{Tia}
+use Rattle.vcs_tia.specs.Tia as tia
+use Rattle.vcs_machine.specs.declared.input.Input.{Input}
+use Rattle.vcs_machine.specs.Bus.{Board, Observed, board_byte_at, nothing_seen}
+use Rattle.vcs_machine.specs.Step.{console_step}
+use Rattle.vcs_machine.specs.Frame.{is_frame_over}
+use Rattle.vcs_machine.specs.Machine.{Machine, frame_start, unless_halted, frame, frame_picture}
+
+-- whether a read at an address shows a pin of a port or a fire button: with A12 low, with A7 high of the RIOT, else of the TIA
+abbrev pub shows_input : Board → ℕ → Bool
+shows_input b addr = if is_high 12 addr then false else (if is_high 7 addr then riot.shows_pin addr b.riot else tia.shows_button addr)
+
+-- no press sets a latch, and no read of the next instruction shows a pin or a fire button
+abbrev pub ignores_input : Regs → Board → Bool
+ignores_input regs b = not (tia.latches_presses b.tia || list_any (shows_input b) (addresses_read regs (board_byte_at b)))
+
+-- after a halt nothing is read; after the frame's last step no press sets a latch; else the steps go on
+abbrev pub last_or_next : {Seen : Type 0} → Result (Step (Observed Seen)) Halt → (Step (Observed Seen) → Bool) → Bool
+last_or_next (Err halt) next = true
+last_or_next (Ok step) next = if is_frame_over step.content.board.tia then not (tia.latches_presses step.content.board.tia) else next step
+
+module _ {Seen : Type 0} (observe : List Tia → Seen → Seen) where
+  -- the frame ends within n steps, and each of them ignores the input
+  unfoldable pub is_ignored_within : ℕ → Regs → Observed Seen → Bool
+  is_ignored_within zero regs o = false
+  is_ignored_within (suc n) regs o = ignores_input regs o.board && last_or_next (console_step observe regs o) (λ step. is_ignored_within n step.regs step.content)
+
+-- a frame whose steps all ignore the input; a halted machine has none
+unfoldable pub is_lag_frame : List ℕ → Machine → Input → Bool
+is_lag_frame rom m input = unless_halted m.halt (is_ignored_within nothing_seen 12160 m.regs (frame_start rom m input tt)) true
+
+-- two inputs make the same of a frame: the next machine and the picture
+pub record IsSameFrame (rom : List ℕ) (m : Machine) (input other : Input) : Type 0 where
+  pub state : frame rom m input ≡ frame rom m other
+  pub picture : frame_picture rom m input ≡ frame_picture rom m other

@@ -1,0 +1,192 @@
+//! Lag frames: frames whose input nothing reads.
+#![tactic(auto)]
+
+ghost use Rattle.std.specs.Prelude.{◌≡◌, ◌+◌, ◌*◌, ◌^◌, ◌<◌, true, false, length, Some};
+ghost use Rattle.vcs_machine.specs.Bus.{observed_of, nothing_seen};
+ghost use Rattle.vcs_machine.specs.Cart.{is_cart_size};
+ghost use Rattle.vcs_machine.specs.Console.{chips_of, content_of, fixed_of};
+ghost use Rattle.vcs_machine.specs.Frame.{end_within};
+ghost use Rattle.vcs_machine.specs.Lag.{ignores_input, is_ignored_within, is_lag_frame, IsSameFrame};
+ghost use Rattle.vcs_machine.specs.Machine.{frame};
+ghost use Rattle.vcs_machine.specs.Noting.{LeadsTo};
+ghost use Rattle.vcs_machine.specs.declared.input.Input.{Input};
+ghost use Rattle.vcs_tia.specs.Tia.{clocks_passed, shows_button};
+
+use crate::bus::{ConsoleBus, Nobody, Observer};
+use crate::cart::{Cart, code_sides, code_start};
+use crate::frame::{MOST_INSTRUCTIONS, console_step, is_frame_over};
+use crate::input::Input;
+use crate::meter::Meter;
+use crate::state::State;
+use std::alloc::Allocator;
+use vcs_cpu::{Halt, Regs, Watch, reads_watched};
+use vcs_riot::{Pins, Riot, is_high};
+use vcs_tia::Tia;
+
+/// What is noted of a step.
+#[derive(Clone, Copy)]
+pub(crate) struct Noted {
+    /// The frame is over after it.
+    pub over: bool,
+    /// It ignored the input.
+    pub ignored: bool,
+    /// The halt that came in its place, if one did.
+    pub halt: Option<Halt>,
+}
+
+impl<O: Observer> Watch for ConsoleBus<'_, O> {
+    ghost use Rattle.vcs_machine.specs.Console.{content_of};
+    ghost use Rattle.vcs_machine.specs.Lag.{shows_input};
+
+    ghost is_watched = { λ b address. shows_input (content_of b).board address };
+
+    fn is_watched(&self, address: u16) -> bool {
+        if is_high(12, address) {
+            false
+        } else if is_high(7, address) {
+            self.riot.shows_pin(address)
+        } else {
+            shows_button(address)
+        }
+    }
+}
+
+/// Whether a read of the TIA at this address shows a fire button: INPT4 and INPT5
+/// (Stella Programmer's Guide, "Input Ports").
+fn shows_button(address: u16) -> bool
+    ensures { result ≡ shows_button address }
+{
+    let low = address % 16;
+    low == 12 || low == 13
+}
+
+/// Whether the next instruction reads nothing that shows the input, and no press sets a fire latch before it.
+fn ignores_input<O: Observer>(regs: &Regs, bus: &ConsoleBus<'_, O>) -> bool
+    ensures { result ≡ ignores_input regs.now (content_of bus.now).board }
+{
+    !(bus.tia.latches_presses() | reads_watched(regs, bus))
+}
+
+/// One step of a frame, and whether it ignored the input.
+fn step_noting<O: Observer>(regs: &mut Regs, bus: &mut ConsoleBus<'_, O>) -> Noted
+    requires { clocks_passed bus.old.tia.now + bus.old.clocks < 320 * 228 }
+    ensures led { LeadsTo O.observe regs.old (content_of bus.old) result regs.new (content_of bus.new) }
+    ensures low { result.over ≡ false → clocks_passed bus.new.tia.now + bus.new.clocks < 320 * 228 }
+    ensures fixed { fixed_of bus.new ≡ fixed_of bus.old }
+{
+    let ignored = ignores_input(regs, bus);
+    match console_step(regs, bus) {
+        Err(halt) => Noted {
+            over: true,
+            ignored,
+            halt: Some(halt),
+        },
+        Ok(_cycles) => {
+            let over = is_frame_over(bus);
+            Noted {
+                over,
+                ignored: ignored & !(over & bus.tia.latches_presses()),
+                halt: None,
+            }
+        }
+    }
+}
+
+/// Steps until the frame ends, and answers the halt that ended it if one did, and whether all steps ignored the
+/// input. Then the chips don't lag behind any more.
+fn run_noting<O: Observer>(regs: &mut Regs, bus: &mut ConsoleBus<'_, O>) -> (Option<Halt>, bool)
+    requires beam { clocks_passed bus.old.tia.now < 228 }
+    requires fresh { bus.old.clocks ≡ 0 }
+    ensures ended { end_within O.observe 12160 regs.old (chips_of bus.old)
+        ≡ Some (record {
+          regs = regs.new;
+          halt = result.0;
+          observed = chips_of bus.new;
+        }) }
+    ensures ignored { result.1 ≡ is_ignored_within O.observe 12160 regs.old (chips_of bus.old) }
+    ensures fixed { fixed_of bus.new ≡ fixed_of bus.old }
+{
+    let mut ignored = true;
+    let mut left = MOST_INSTRUCTIONS;
+    while left > 0 {
+        left -= 1;
+        let noted = step_noting(regs, bus);
+        ignored &= noted.ignored;
+        if noted.over {
+            bus.catch_up();
+            return (noted.halt, ignored);
+        }
+    }
+    (None, ignored)
+}
+
+/// Runs the chips on a bus of their own until the frame ends, and notes whether the input was ignored.
+fn run_chips_noting(
+    rom: &[u8],
+    pins: Pins,
+    regs: &mut Regs,
+    riot: &mut Riot,
+    tia: &mut Tia,
+) -> (Option<Halt>, bool)
+    requires rom_size { is_cart_size (length rom.now) ≡ true }
+    requires beam { clocks_passed tia.old < 228 }
+    ensures ended { end_within nothing_seen 12160 regs.old (observed_of rom.now pins riot.old tia.old tt)
+        ≡ Some (record { regs = regs.new; halt = result.0; observed = observed_of rom.now pins riot.new tia.new tt }) }
+    ensures ignored { result.1 ≡ is_ignored_within nothing_seen 12160 regs.old (observed_of rom.now pins riot.old tia.old tt) }
+{
+    let mut nobody = Nobody;
+    let mut bus = ConsoleBus {
+        rom,
+        start: code_start(rom),
+        sides: code_sides(rom),
+        pins,
+        riot,
+        tia,
+        observer: &mut nobody,
+        ticks: 0,
+        clocks: 0,
+        quiet: 0,
+    };
+    run_noting(regs, &mut bus)
+}
+
+/// Plays one frame without a picture, as [`play_unseen`](crate::play_unseen) does, and returns whether it is a
+/// lag frame: no read in it shows a pin of SWCHA or SWCHB or a fire button, and VBLANK's D6 is off all along.
+/// Whatever the input of such a frame, the next state and the picture are the same. A halted machine reads
+/// nothing: its frames are lag frames. (own)
+pub fn play_for_lag<C: Allocator>(
+    cart: &Cart<C>,
+    state: &mut State,
+    input: Input,
+    meter: &mut Meter,
+) -> bool
+    requires { meter.old + 1 < 2 ^ 64 }
+    ensures state { state.new ≡ frame cart.now state.old input }
+    ensures lag { result ≡ is_lag_frame cart.now state.old input }
+    ensures law { result ≡ true → (other : Input) → IsSameFrame cart.now state.old input other }
+    ensures meter { meter.new ≡ meter.old + 1 }
+{
+    meter.rise();
+    if let Some(_halt) = state.halt {
+        return true;
+    }
+    let mut regs = state.regs;
+    let mut riot = state.riot;
+    let mut tia = state.tia;
+    tia.start_frame(input.left.fire, input.right.fire);
+    let (halt, ignored) = run_chips_noting(
+        cart.bytes(),
+        input.pins(),
+        &mut regs,
+        &mut riot,
+        &mut tia,
+    );
+    tia.end_frame();
+    *state = State {
+        regs,
+        riot,
+        tia,
+        halt,
+    };
+    ignored
+}
