@@ -1,3 +1,2 @@
 mod Heap
-mod HoldingHeap
 mod Walks

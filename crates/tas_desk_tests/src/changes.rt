@@ -1,7 +1,7 @@
 //! Edits in short, and the cartridges that the tests play.
 
 use crate::checks::expect_ok;
-use std::alloc::Global;
+use std::alloc::{Allocator, Global};
 use std::process::Abort;
 use tas_movie::{Edit, Inputs};
 use vcs_cpu::Halt;
@@ -52,7 +52,7 @@ pub enum Change {
 }
 
 /// The cartridge with a program at F000.
-pub fn cart<R: Abort>(rt: &R, alloc: Global, program: &[u8]) -> Cart {
+pub fn cart<R: Abort, A: Allocator>(rt: &R, alloc: A, program: &[u8]) -> Cart<A> {
     let mut image = [0u8; 4096];
     for (cell, byte) in image.iter_mut().zip(program) {
         *cell = *byte;

@@ -25,6 +25,8 @@ mod gates;
 #[cfg(test)]
 mod job_tests;
 #[cfg(test)]
+mod lock_tests;
+#[cfg(test)]
 mod model;
 #[cfg(test)]
 mod pictures;

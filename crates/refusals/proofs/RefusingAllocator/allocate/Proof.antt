@@ -6,7 +6,7 @@ use Rattle.std.specs.Allocator.{HasLayout, block_if_ok}
 use base.Logic.{ent, emp}
 use types.Logic.{sem}
 use denote.RawPtr.{block_ptr}
-use Rattle.refusals.proofs.Heap.{arguments, self, count_at, inner_at}
+use Rattle.refusals.proofs.Heap.{arguments, self, gate_at, inner_at}
 use Rattle.refusals.specs.contracts.RefusingAllocator.allocate as f
 use Rattle.refusals.proofs.RefusingAllocator.allocate.Statement.{statement}
 use Rattle.refusals.proofs.RefusingAllocator.allocate.Code as code
@@ -38,14 +38,14 @@ allocate_spec 𝓤 𝓛 𝓜 𝓡 wired B laws ghosts dict drops inner_met _ =
     qed 𝓛 (((‵ (flft κ q) ⊛ ‵ (flft κs.1.0 qs.1.0) ⊛ ‵ ftrue) ⊛ ‵ (owns (types_at T.signature.params κs) a y.0.4))
     ∷ (raw (fact 𝓤 (κs.1.0 ⊑ B.lives)) ⊛ raw (fact 𝓤 (HasLayout τ n al))) ∷ []) ∵
     move ! (1 ∷ []) $ split ! $ heard ! (κs.1.0 ⊑ B.lives) (λ lives. heard ! (HasLayout τ n al) (λ layout.
-    -- [the count; what is behind it; .. ; two tokens]
+    -- [the gate; what is behind it; .. ; two tokens]
     split ! $ split ! $ move ! (2 ∷ []) $ fsplit ! $ fsplit ! $ move ! (1 ∷ []) $ unhide ! $ fsplit ! $ fsplit ! $
     move ! (1 ∷ []) $ fsplit ! $ keep ! (0 ∷ 2 ∷ 6 ∷ 7 ∷ []) $ use1 𝓛 (‵ (seen inner κ (inner_at inner at) handle)) (id⊢ 𝓤 _) $ move ! (1 ∷ 2 ∷ []) $
-    -- [the count; its token; the inner allocator; the other token]
+    -- [the gate; its token; the inner allocator; the other token]
     enter ! 𝓣.C 𝓣.Λ here _ _ $ alloc_all ! (λ l. pass_all ! refl ((tt, tt), ((tt, record { fits = are.1.0.1 }), ((tt, record { fits = are.1.1.0.1 }), tt))) $
     sets ! (addr ! (through ! refl (fld ! refl (stop !)))) refl (tt, tt) $
-    let G = triple_of 𝓛 g.signature (g.spec 𝓛 𝓜.mem 𝓡.returns) in let p = count_at inner at in
-    let z : G.Ghost = (((κ, tt), (q, tt), tt, (record { ref_ptr = p; now = tt }, tt), (vptr p.0 p.1 ∷ [], tt)), tt) in
+    let G = triple_of 𝓛 g.signature (g.spec 𝓛 𝓜.mem 𝓡.returns) in let p = gate_at inner at in
+    let z : G.Ghost = (((κ, tt), (q, tt), tt, (record { ref_ptr = p; now = a.0.now.gate }, tt), (vptr p.0 p.1 ∷ [], tt)), tt) in
     feq_i ! (List Val) (vptr p.0 p.1 ∷ []) (vptr p.0 p.1 ∷ []) refl $ fjoin ! $ nothing ! $ move ! (1 ∷ 0 ∷ []) $ fjoin ! $
     nothing ! $ move ! (2 ∷ 0 ∷ []) $ join ! $ join ! $ nothing ! $ move ! (1 ∷ 0 ∷ []) $ use2 𝓛 (raw (G.pre z)) (id⊢ 𝓤 _) $
     calls_at ! (framed 𝓤 𝓛.H 𝓜 𝓣) G (met 𝓤 𝓛 𝓜 𝓡 (code.calls-refusals::refuses_next 𝓡.env wired)) z (and_then ! (get ! refl) (no_more !)) (λ u.

@@ -32,7 +32,7 @@ deallocate_spec 𝓤 𝓛 𝓜 𝓡 wired B laws ghosts dict drops inner_met _ =
     qed 𝓛 (((‵ (flft κ q) ⊛ ‵ (flft κs.1.0 qs.1.0) ⊛ ‵ ftrue) ⊛ ‵ (owns (types_at T.signature.params κs) a (y a.1.0).0.4))
     ∷ (raw (fact 𝓤 (κs.1.0 ⊑ B.lives)) ⊛ raw (fact 𝓤 (HasLayout τ n al)) ⊛ ‵ (block a.1.0)) ∷ []) ∵
     move ! (1 ∷ []) $ split3 ! $ heard ! (κs.1.0 ⊑ B.lives) (λ lives. heard ! (HasLayout τ n al) (λ layout. move ! (1 ∷ []) $
-    -- [what is behind the count; the count; .. ; two tokens; the block]
+    -- [what is behind the gate; the gate; .. ; two tokens; the block]
     split ! $ split ! $ move ! (2 ∷ []) $ fsplit ! $ fsplit ! $ move ! (1 ∷ []) $ unhide ! $ fsplit ! $ fsplit ! $
     move ! (1 ∷ []) $ fsplit ! $ keep ! (0 ∷ 6 ∷ 7 ∷ 8 ∷ []) $ use1 𝓛 (‵ (seen inner κ (inner_at inner at) handle)) (id⊢ 𝓤 _) $ move ! (3 ∷ []) $
     -- [the block; the inner allocator; its token; the other token]
