@@ -6,3 +6,5 @@ pub mod ChangeLemmas
 pub mod LineLemmas
 pub mod DifferenceLemmas
 pub mod ScriptLemmas
+pub mod StreamLemmas
+pub mod PassingLemmas
