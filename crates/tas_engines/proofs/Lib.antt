@@ -8,3 +8,4 @@ pub mod DifferenceLemmas
 pub mod ScriptLemmas
 pub mod StreamLemmas
 pub mod PassingLemmas
+pub mod CompareLemmas

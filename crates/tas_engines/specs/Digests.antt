@@ -33,9 +33,13 @@ stretch_line movie from to =
 abbrev pub line_of_stretch : ℕ → MovieContent → ℕ → List ℕ
 line_of_stretch every movie i = stretch_line movie (i * every) (min ((i + 1) * every) (length movie.inputs))
 
+-- a line of a name and the digest of some bytes
+abbrev pub digest_line : List ℕ → List ℕ → List ℕ
+digest_line name bytes = name ++ digest_of bytes ++ codes "\n"
+
 -- the first four lines: what it is, the machine's profile, the cartridge's digest, and that of the movie's text of runs
 abbrev pub digest_head : MovieContent → List ℕ
-digest_head movie = codes "a26digest 1\nprofile 2\ncart " ++ digest_of movie.cart ++ codes "\nmovie " ++ digest_of (text2 movie) ++ codes "\n"
+digest_head movie = codes "a26digest 1\nprofile 2\n" ++ digest_line (codes "cart ") movie.cart ++ digest_line (codes "movie ") (text2 movie)
 
 -- the last line
 abbrev pub digest_end : ℕ → List ℕ

@@ -12,6 +12,7 @@ ghost use Rattle.tas_engines.specs.Digests.{
   digest_of,
   ram_of_frames,
   line_of_stretch,
+  digest_line,
   digest_head,
   digest_end,
   digest_text,
@@ -59,7 +60,7 @@ fn hash_ram(state: &State, hasher: &mut Sha256) -> Result<(), Halt>
     if let Some(halt) = state.halted() {
         return Err(halt);
     }
-    hasher.update(&state.ram());
+    hasher.update(state.ram());
     Ok(())
 }
 
@@ -199,17 +200,28 @@ fn push_stretches<A: Allocator + Copy>(
     Ok(())
 }
 
+/// Adds a line of a name and the digest of some bytes.
+fn push_digest<A: Allocator>(
+    out: &mut Vec<u8, A>,
+    name: &[u8],
+    bytes: &[u8],
+) -> Result<(), AllocError>
+    ensures { OnOk result (out.new.items ≡ out.old.items ++ digest_line name.now bytes.now) }
+{
+    out.extend_from_slice(name)?;
+    out.extend_from_slice(&digest_of(bytes))?;
+    out.push(b'\n')?;
+    Ok(())
+}
+
 /// The first lines: what it is, the machine's profile, and the digests of the cartridge and of the movie's text of runs.
 fn digest_head<A: Allocator + Copy>(alloc: A, movie: &Movie<A>) -> Result<Vec<u8, A>, AllocError>
     ensures { IfOk result (λ out. out.items ≡ digest_head movie.now) }
 {
     let text = print_text(alloc, movie)?;
-    let mut out = Vec::new(alloc);
-    out.extend_from_slice(b"a26digest 1\nprofile 2\ncart ")?;
-    out.extend_from_slice(&digest_of(movie.cart().bytes()))?;
-    out.extend_from_slice(b"\nmovie ")?;
-    out.extend_from_slice(&digest_of(text.as_slice()))?;
-    out.push(b'\n')?;
+    let mut out = Vec::from_slice(alloc, b"a26digest 1\nprofile 2\n")?;
+    push_digest(&mut out, b"cart ", movie.cart().bytes())?;
+    push_digest(&mut out, b"movie ", text.as_slice())?;
     Ok(out)
 }
 

@@ -1,4 +1,4 @@
-use Rattle.std.proofs.Common.{◌+◌, ◌-◌, ◌≤◌, ◌++◌, ℕ, List, length, length-append, refl, sym, ap, subst, ◌∙◌, arith}
+use Rattle.std.proofs.Common.{◌≡◌, ◌+◌, ◌-◌, ◌≤◌, ◌++◌, ℕ, List, length, length-append, refl, sym, ap, subst, ◌∙◌, arith}
 use Rattle.std.specs.Io.KnownBytes.{Appends}
 use Rattle.std.proofs.KnownBytes.{Appends-nil, Appends-trans}
 use Rattle.std.proofs.lemmas.Result.{err_from_is_err_and}
@@ -27,7 +27,9 @@ pub returns-in_err-written-clause-fault : goal.returns-in_err-written-clause-fau
 returns-in_err-written-clause-fault g c =
     let p = err_from_is_err_and c.from_residual.result c.from_residual.ensures.1 in
     let line = ram_line c.args.movie.now in
-    let (from, k, to) = (c.args.from, c.loop-k.k, c.args.to) in
+    let from = c.args.from in
+    let k = c.loop-k.k in
+    let to = c.args.to in
     let same = ap (numbered_bytes k) (c.ram.ensures ∙ ap (λ (s : State). s.riot.ram) c.loop-k.invariant.state) in
     let cut = subst (λ (bs : List ℕ). IsCutOff _ _ bs _) same c.in_err-written.ensures.cut in
     let whole = cut_within _ _ _ (pieces line from k) (line k) (pieces line (k + 1) to) c.loop-k.written _ c.loop-k.invariant.count c.in_err-written.ensures.from c.loop-k.invariant.out cut in
@@ -40,7 +42,8 @@ returns-in_err-written-clause-fault g c =
 pub loop-k-preserved : goal.loop-k-preserved
 loop-k-preserved g c =
     let line = ram_line c.args.movie.now in
-    let (from, k) = (c.args.from, c.loop-k.k) in
+    let from = c.args.from in
+    let k = c.loop-k.k in
     let same = ap (numbered_bytes k) (c.ram.ensures ∙ ap (λ (s : State). s.riot.ram) c.loop-k.invariant.state) in
     let more = ap (λ (bs : List ℕ). pieces line from k ++ bs) same ∙ pieces_more line from k (omega (arith, c.loop-k.auto.k)) in
     record {
@@ -52,4 +55,6 @@ loop-k-preserved g c =
     }
 
 pub returns-clause-ok : goal.returns-clause-ok
-returns-clause-ok g c = c.loop-k.invariant.out
+returns-clause-ok g c =
+    let ended : c.loop-k.k ≡ c.args.to = omega (arith, c.loop-k-test.false, c.loop-k.auto.k-end, c.requires.range.order) in
+    subst (λ (k : ℕ). Appends (g.W.Write.contents c.args.output.now) (g.W.Write.contents c.loop-k.output) (pieces (ram_line c.args.movie.now) c.args.from k)) ended c.loop-k.invariant.out
