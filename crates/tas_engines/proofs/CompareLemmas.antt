@@ -1,6 +1,6 @@
 -- Where two movies begin to differ.
 use Rattle.std.proofs.Common.{◌≡◌, ◌≢◌, ℕ, zero, suc, ◌+◌, ◌<◌, ◌≤◌, Bool, true, false, List, [], ◌∷◌, length, take, get_or, Option, Some, None, refl, sym, ap, subst, ◌∙◌, inl, inr, arith}
-use Rattle.std.specs.Prelude.{slice_get, nat_lt, min, if◌then◌else◌}
+use Rattle.std.specs.Prelude.{slice_get, nat_lt, min, max, if◌then◌else◌}
 use Rattle.std.proofs.lemmas.Bool.{cases_eq, cases_lt, lt-ltb, le-ltb}
 use Rattle.std.proofs.lemmas.List.{get_or-take}
 use Rattle.std.proofs.lemmas.Option.{slice_get-get_or, slice_get_past}
@@ -39,13 +39,13 @@ other_there {A = A} old new k x y lt less other = λ e. other (some_same x y (sy
 
 pub up_to_more : {A : Type 0} (old new : ℕ → A) (n : ℕ) (found : Option ℕ) (is_same : Bool) → IsFirstUpTo old new n found → (is_same ≡ true → old n ≡ new n) → (is_same ≡ false → old n ≢ new n)
     → IsFirstUpTo old new (n + 1) (first_of found is_same n)
-up_to_more {A = A} old new n (Some place) is_same so_far yes no = so_far
-up_to_more {A = A} old new n None true so_far yes no = λ j lt.
+up_to_more {A = A} old new n (Some place) is_same so_far if_same if_other = so_far
+up_to_more {A = A} old new n None true so_far if_same if_other = λ j lt.
     elim (cases_eq j n) [
-      | inl same ↦ subst (λ (i : ℕ). old i ≡ new i) (sym same) (yes refl)
+      | inl same ↦ subst (λ (i : ℕ). old i ≡ new i) (sym same) (if_same refl)
       | inr apart ↦ so_far j (omega (arith, lt, apart))
     ]
-up_to_more {A = A} old new n None false so_far yes no = (no refl, so_far)
+up_to_more {A = A} old new n None false so_far if_same if_other = (if_other refl, so_far)
 
 -- a place that is known is right however far one looks
 pub known : {A : Type 0} (old new : ℕ → A) (n m : ℕ) (found : Option ℕ) → found ≢ None → IsFirstUpTo old new n found → IsFirstUpTo old new m found
@@ -56,19 +56,19 @@ known {A = A} old new n m None some so_far = absurd (some refl)
 pub at_end : {A : Type 0} (old new : MovieContent) (x y : ℕ → A) (end : ℕ) (found : Option ℕ) (is_same : Bool) → end ≡ min (length old.inputs) (length new.inputs)
     → (is_same ≡ true → length old.inputs ≡ length new.inputs) → (is_same ≡ false → length old.inputs ≢ length new.inputs)
     → IsFirstUpTo (λ k. where_played old k (x k)) (λ k. where_played new k (y k)) end found → IsFirstDifference (λ k. where_played old k (x k)) (λ k. where_played new k (y k)) (first_of found is_same end)
-at_end {A = A} old new x y end (Some place) is_same is yes no so_far = so_far
-at_end {A = A} old new x y end None true is yes no so_far = λ j.
+at_end {A = A} old new x y end (Some place) is_same is if_same if_other so_far = so_far
+at_end {A = A} old new x y end None true is if_same if_other so_far = λ j.
     elim (cases_lt j end) [
       | inl lt ↦ so_far j lt
-      | inr le ↦ not_played old j (x j) (omega (arith, is, yes refl, le)) ∙ sym (not_played new j (y j) (omega (arith, is, yes refl, le)))
+      | inr le ↦ not_played old j (x j) (omega (arith, is, if_same refl, le)) ∙ sym (not_played new j (y j) (omega (arith, is, if_same refl, le)))
     ]
-at_end {A = A} old new x y end None false is yes no so_far = (apart, so_far)
+at_end {A = A} old new x y end None false is if_same if_other so_far = (apart, so_far)
   where
     apart : where_played old end (x end) ≢ where_played new end (y end)
     apart = λ e.
         elim (cases_lt (length old.inputs) (length new.inputs)) [
           | inl shorter ↦ some_no_none (y end) (sym (played new end (y end) (omega (arith, is, shorter))) ∙ sym e ∙ not_played old end (x end) (omega (arith, is, shorter)))
-          | inr longer ↦ some_no_none (x end) (sym (played old end (x end) (omega (arith, is, longer, no refl))) ∙ e ∙ not_played new end (y end) (omega (arith, is, longer)))
+          | inr longer ↦ some_no_none (x end) (sym (played old end (x end) (omega (arith, is, longer, if_other refl))) ∙ e ∙ not_played new end (y end) (omega (arith, is, longer)))
         ]
 
 -- ---- the common front
@@ -108,14 +108,14 @@ module _ (old new : MovieContent) (front : ℕ) (carts : new.cart ≡ old.cart) 
       slice_get-get_or old.inputs j no_input (omega (arith, lt, common.within_a)) ∙ ap Some (shared_input j no_input lt) ∙ sym (slice_get-get_or new.inputs j no_input (omega (arith, lt, common.within_b)))
 
   -- the inputs differ at its end, but for two movies that both end there
-  pub first_input : (is_same : Bool) → (is_same ≡ true → (length old.inputs ≡ length new.inputs) × (front ≡ length old.inputs)) → (is_same ≡ false → length old.inputs ≡ length new.inputs → front ≢ length old.inputs)
+  pub first_input : (is_same : Bool) → (is_same ≡ true → front ≡ max (length old.inputs) (length new.inputs)) → (is_same ≡ false → front ≢ max (length old.inputs) (length new.inputs))
       → IsFirstDifference (input_at old) (input_at new) (first_of None is_same front)
-  first_input true yes no = λ j.
+  first_input true if_same if_other = λ j.
       elim (cases_lt j front) [
         | inl lt ↦ input_below j lt
-        | inr le ↦ slice_get_past old.inputs j (omega (arith, le, (yes refl).1)) ∙ sym (slice_get_past new.inputs j (omega (arith, le, (yes refl).0, (yes refl).1)))
+        | inr le ↦ slice_get_past old.inputs j (omega (arith, le, if_same refl)) ∙ sym (slice_get_past new.inputs j (omega (arith, le, if_same refl)))
       ]
-  first_input false yes no = (apart, input_below)
+  first_input false if_same if_other = (apart, input_below)
     where
       apart : input_at old front ≢ input_at new front
       apart = λ e.
@@ -126,6 +126,6 @@ module _ (old new : MovieContent) (front : ℕ) (carts : new.cart ≡ old.cart) 
             ]
             | inr past ↦ elim (cases_lt front (length new.inputs)) [
               | inl less ↦ some_no_none _ (sym (slice_get-get_or new.inputs front no_input less) ∙ sym e ∙ slice_get_past old.inputs front past)
-              | inr both ↦ no refl (omega (arith, past, both, common.within_a, common.within_b)) (omega (arith, past, common.within_a))
+              | inr both ↦ if_other refl (omega (arith, past, both, common.within_a, common.within_b))
             ]
           ]

@@ -9,3 +9,4 @@ pub mod ScriptLemmas
 pub mod StreamLemmas
 pub mod PassingLemmas
 pub mod CompareLemmas
+pub mod DigestLemmas

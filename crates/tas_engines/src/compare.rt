@@ -1,6 +1,6 @@
 //! `tas compare`.
 
-ghost use Rattle.std.specs.Prelude.{◌≡◌, ◌+◌, ◌≤◌, ◌<◌, ◌++◌, length, codes, Ok, Err, IfOk, IfErr, OnOk};
+ghost use Rattle.std.specs.Prelude.{◌≡◌, ◌≢◌, ◌+◌, ◌≤◌, ◌<◌, ◌++◌, length, codes, IsTrue, None, Ok, Err, IfOk, IfErr, OnOk};
 ghost use Rattle.tas_green.specs.Run.{state_after};
 ghost use Rattle.tas_green.specs.Front.{IsCommonFront};
 ghost use Rattle.tas_engines.specs.Output.{Ends};
@@ -92,6 +92,13 @@ fn first_of(found: Option<usize>, is_same: bool, k: usize) -> Option<usize>
     }
 }
 
+/// Whether both are known.
+fn is_found(found: Places) -> bool
+    ensures { IsTrue result → (found.ram ≢ None) × (found.picture ≢ None) }
+{
+    found.ram.is_some() && found.picture.is_some()
+}
+
 /// Plays frame `k` of two movies, and compares what it left and showed.
 fn compare_frame<A: Allocator, B: Allocator>(
     old: &Movie<A>,
@@ -141,7 +148,7 @@ fn compare_frames<A: Allocator, B: Allocator + Copy>(
         picture: None,
     };
     let mut k = front;
-    while k < end && (found.ram.is_none() || found.picture.is_none()) {
+    while k < end && !is_found(found) {
         found = compare_frame(old, new, k, &mut old_side, &mut new_side, found)?;
         k += 1;
     }
@@ -163,7 +170,7 @@ fn find_differences<A: Allocator, B: Allocator + Copy>(
     let found = compare_frames(alloc, old, new, front, end)?;
     let is_same = old_len == new_len;
     Ok(Differences {
-        input: first_of(None, is_same && front == end, front),
+        input: first_of(None, front == old_len.max(new_len), front),
         ram: first_of(found.ram, is_same, end),
         picture: first_of(found.picture, is_same, end),
     })

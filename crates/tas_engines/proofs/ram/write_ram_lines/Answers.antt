@@ -31,13 +31,14 @@ returns-in_err-written-clause-fault g c =
     let k = c.loop-k.k in
     let to = c.args.to in
     let same = ap (numbered_bytes k) (c.ram.ensures ∙ ap (λ (s : State). s.riot.ram) c.loop-k.invariant.state) in
-    let cut = subst (λ (bs : List ℕ). IsCutOff _ _ bs _) same c.in_err-written.ensures.cut in
-    let whole = cut_within _ _ _ (pieces line from k) (line k) (pieces line (k + 1) to) c.loop-k.written _ c.loop-k.invariant.count c.in_err-written.ensures.from c.loop-k.invariant.out cut in
-    rw (p.1, p.2) (record {
-      written = c.in_err-written.field-0.0.written;
-      is_write = refl;
-      cut = subst (λ (bs : List ℕ). IsCutOff _ _ bs _) (pieces_around line from k to (omega (arith, c.loop-k.auto.k)) (omega (arith, c.loop-k-test.true))) whole;
-    })
+    let old = g.W.Write.contents c.args.output.now in
+    let mid = g.W.Write.contents c.loop-k.output in
+    let new = g.W.Write.contents c.write_ram_line.new.output in
+    let w = c.in_err-written.field-0.0.written in
+    let cut = subst (λ (bs : List ℕ). IsCutOff mid new bs (w - c.loop-k.written)) same c.in_err-written.ensures.cut in
+    let whole = cut_within old mid new (pieces line from k) (line k) (pieces line (k + 1) to) c.loop-k.written w c.loop-k.invariant.count c.in_err-written.ensures.from c.loop-k.invariant.out cut in
+    let around = pieces_around line from k to (omega (arith, c.loop-k.auto.k)) (omega (arith, c.loop-k-test.true)) in
+    rw (p.1, p.2) (record { written = w; is_write = refl; cut = subst (λ (bs : List ℕ). IsCutOff old new bs w) around whole })
 
 pub loop-k-preserved : goal.loop-k-preserved
 loop-k-preserved g c =
