@@ -125,7 +125,12 @@ fn cut_lines_of_ram_are_told_by_their_bytes(rt: HostRuntime) {
         let mut cart = image.as_slice();
         let mut text = movie.as_slice();
         let answer = ram_run(alloc, 0, 6, &mut cart, &mut text, &mut lines);
-        check_same(&rt, ("room", room), answer, Err(ToolFault::Write { written: room }));
+        check_same(
+            &rt,
+            ("room", room),
+            answer,
+            Err(ToolFault::Write { written: room }),
+        );
         let is_first = Some(lines.taken.as_slice()) == whole.get(..room);
         check_that(&rt, ("the first bytes", room), is_first);
         check_same(&rt, ("failed writes", room), lines.failed, 1);
@@ -164,7 +169,8 @@ fn a_digest_has_a_line_for_each_stretch(rt: HostRuntime) {
 }
 
 /// The digest of the movie of the blank cartridge without frames.
-static NO_FRAMES_DIGEST: &[u8] = b"a26digest 1\nprofile 2\ncart ad7facb2586fc6e966c004d7d1d16b024f5805ff7cb47c7a85dabd8b48892ca7\nmovie 28a712194b8e9737b187764449c5d5d97c62e6f7f4c5c55bccef3f5aed831e72\nend 0 frames\n";
+static NO_FRAMES_DIGEST: &[u8] =
+    b"a26digest 1\nprofile 2\ncart ad7facb2586fc6e966c004d7d1d16b024f5805ff7cb47c7a85dabd8b48892ca7\nmovie 28a712194b8e9737b187764449c5d5d97c62e6f7f4c5c55bccef3f5aed831e72\nend 0 frames\n";
 
 #[test]
 fn a_movie_without_frames_has_a_digest(rt: HostRuntime) {

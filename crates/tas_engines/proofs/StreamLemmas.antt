@@ -1,5 +1,5 @@
 -- A text that is written piece by piece.
-use Rattle.std.proofs.Common.{◌≡◌, ℕ, zero, suc, ◌+◌, ◌-◌, ◌≤◌, List, [], ◌∷◌, ◌++◌, length, take, drop, take_all, Option, refl, sym, ap, subst, ◌∙◌, arith}
+use Rattle.std.proofs.Common.{◌≡◌, ℕ, zero, suc, ◌+◌, ◌-◌, ◌≤◌, List, [], ◌∷◌, ◌++◌, length, take, drop, take_all, append_assoc, Option, refl, sym, ap, subst, ◌∙◌, arith}
 use Rattle.std.specs.Prelude.{decimal}
 use Rattle.std.specs.List.{range_with_len, flat_map}
 use Rattle.std.proofs.lemmas.Grind.{flat_map-append}
@@ -66,12 +66,18 @@ module _ (piece : ℕ → List ℕ) where
   pub pieces_around : (from k to : ℕ) → from ≤ k → k + 1 ≤ to → (pieces from k ++ piece k) ++ pieces (k + 1) to ≡ pieces from to
   pieces_around from k to low high = ap (λ (bs : List ℕ). bs ++ pieces (k + 1) to) (pieces_more from k low) ∙ pieces_joined from (k + 1) to (omega arith) high
 
+-- ---- a text that grows piece by piece
+
+pub next_piece : (old so_far piece now next : List ℕ) → now ≡ old ++ so_far → next ≡ now ++ piece → next ≡ old ++ (so_far ++ piece)
+next_piece old so_far piece now next is grown = grown ∙ ap (λ (bs : List ℕ). bs ++ piece) is ∙ append_assoc old so_far piece
+
 -- ---- a line whose number ends at byte 20 of 278
 
 pub last_bytes : (buf : List ℕ) (start k : ℕ) (digits : List ℕ) → length digits ≡ 256 → start + length (decimal k) ≡ 20 → drop start buf ≡ decimal k ++ (32 ∷ (digits ++ (10 ∷ [])))
-    → take (278 - start) (drop start buf) ≡ decimal k ++ (32 ∷ (digits ++ (10 ∷ [])))
+    → take (278 - start) (drop start buf) ≡ decimal k ++ (32 ∷ []) ++ digits ++ (10 ∷ [])
 last_bytes buf start k digits long place is =
     let all = ap (λ (bs : List ℕ). length bs) is in
     let parts = length-append (decimal k) (32 ∷ (digits ++ (10 ∷ []))) in
     let back = length-append digits (10 ∷ []) in
     take_all (278 - start) (drop start buf) (omega (arith, all, parts, back, long, place)) ∙ is
+    ∙ sym (append_assoc (decimal k) (32 ∷ []) (digits ++ (10 ∷ []))) ∙ sym (append_assoc (decimal k ++ (32 ∷ [])) digits (10 ∷ []))

@@ -23,11 +23,15 @@ digest_of bytes = encode_lower (sha256 bytes)
 abbrev pub ram_of_frames : MovieContent → ℕ → ℕ → List ℕ
 ram_of_frames movie from to = flat_map (λ f. ram_after movie (f + 1)) (range_with_len from (to - from))
 
--- the line of the frames from `from` to `to` - 1: the digest of RAM after each of them, and that of the last one's pixmap
+-- the line of a stretch of frames, from `from` to `to` - 1, with the digits of two digests
+abbrev pub stretch_text : ℕ → ℕ → List ℕ → List ℕ → List ℕ
+stretch_text from to ram picture =
+    codes "frames " ++ decimal from ++ codes " to " ++ decimal to ++ codes " ram " ++ ram ++ codes " picture " ++ picture ++ codes "\n"
+
+-- the digests are that of RAM after each of the frames, and that of the last one's pixmap
 abbrev pub stretch_line : MovieContent → ℕ → ℕ → List ℕ
 stretch_line movie from to =
-    codes "frames " ++ decimal from ++ codes " to " ++ decimal to ++ codes " ram " ++ digest_of (ram_of_frames movie from to)
-    ++ codes " picture " ++ digest_of (ppm_bytes (picture_of movie (to - 1))) ++ codes "\n"
+    stretch_text from to (digest_of (ram_of_frames movie from to)) (digest_of (ppm_bytes (picture_of movie (to - 1))))
 
 -- the line of stretch number i, where stretches have so many frames; the last one may have fewer
 abbrev pub line_of_stretch : ℕ → MovieContent → ℕ → List ℕ

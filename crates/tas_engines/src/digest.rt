@@ -1,6 +1,6 @@
 //! `tas digest`.
 
-ghost use Rattle.std.specs.Prelude.{◌≡◌, ℕ, ◌+◌, ◌-◌, ◌≤◌, ◌<◌, List, ◌++◌, length, codes, decimal, None, Some, Ok, Err, IfOk, IfErr, OnOk};
+ghost use Rattle.std.specs.Prelude.{◌≡◌, ℕ, ◌+◌, ◌-◌, ◌≤◌, ◌<◌, List, ◌++◌, length, decimal, None, Some, Ok, Err, IfOk, IfErr, OnOk};
 ghost use Rattle.std.specs.Int.{div_ceil};
 ghost use Rattle.std.specs.List.{flat_map, range_with_len};
 ghost use Rattle.hex.specs.Hex.{encode_lower};
@@ -11,6 +11,7 @@ ghost use Rattle.tas_engines.specs.Output.{Ends};
 ghost use Rattle.tas_engines.specs.Digests.{
   digest_of,
   ram_of_frames,
+  stretch_text,
   line_of_stretch,
   digest_line,
   digest_head,
@@ -123,8 +124,7 @@ struct Stretch {
 
 /// Adds the line of a stretch.
 fn push_stretch<A: Allocator>(out: &mut Vec<u8, A>, stretch: &Stretch) -> Result<(), AllocError>
-    ensures { OnOk result (out.new.items ≡ out.old.items ++ codes "frames " ++ decimal stretch.now.from ++ codes " to " ++ decimal stretch.now.to
-        ++ codes " ram " ++ stretch.now.ram ++ codes " picture " ++ stretch.now.picture ++ codes "\n") }
+    ensures { OnOk result (out.new.items ≡ out.old.items ++ stretch_text stretch.now.from stretch.now.to stretch.now.ram stretch.now.picture) }
 {
     out.extend_from_slice(b"frames ")?;
     push_number(out, stretch.from)?;

@@ -1,11 +1,10 @@
 use Rattle.std.proofs.Common.{◌≡◌, ◌+◌, ◌-◌, ◌*◌, ◌<◌, ◌++◌, ℕ, List, length, min, sym, ap, inl, inr, ◌∙◌, append-nil, append_assoc, arith}
-use Rattle.std.specs.Prelude.{codes, decimal}
 use Rattle.std.proofs.lemmas.Bool.{cases_lt}
 use Rattle.vcs_machine.specs.Machine.{power_on}
 use Rattle.tas_green.specs.Run.{state_after}
 use Rattle.tas_green.proofs.RunLemmas.{after_none}
 use Rattle.tas_engines.specs.declared.digest.Stretch.{Stretch}
-use Rattle.tas_engines.specs.Digests.{stretch_line, line_of_stretch}
+use Rattle.tas_engines.specs.Digests.{stretch_text, stretch_line, line_of_stretch}
 use Rattle.tas_engines.proofs.DigestLemmas.{begins, ends, covers}
 use Rattle.tas_engines.proofs.StreamLemmas.{pieces, pieces_more}
 use Rattle.tas_engines.proofs.digest.push_stretches.Goals as goal
@@ -30,11 +29,11 @@ loop-i-preserved g c =
     let movie = c.args.movie.now in
     let every = c.args.every in
     let i = c.loop-i.i in
-    let n = length movie.inputs in
-    let lt = begins every n i c.requires (omega (arith, c.loop-i-test.true, c.div_ceil-i-end.ensures, c.len-len.ensures.len)) in
+    let inside = begins every c.len-len.result i c.requires (omega (arith, c.loop-i-test.true, c.div_ceil-i-end.ensures)) in
+    let lt : c.loop-i.i * c.args.every < length c.args.movie.now.inputs = omega (arith, inside, c.len-len.ensures.len) in
     let to : c.loop-i.i * c.args.every + c.min.result ≡ min ((c.loop-i.i + 1) * c.args.every) (length c.args.movie.now.inputs) =
     omega (arith, ends c.args.every (length c.args.movie.now.inputs) c.loop-i.i c.requires lt, c.min.ensures, c.len-len.ensures.len) in
-    let shown = ap (λ (s : Stretch). c.loop-i.out.items ++ codes "frames " ++ decimal s.from ++ codes " to " ++ decimal s.to ++ codes " ram " ++ s.ram ++ codes " picture " ++ s.picture ++ codes "\n") c.in_ok-stretch.ensures.digests in
+    let shown = ap (λ (s : Stretch). c.loop-i.out.items ++ stretch_text s.from s.to s.ram s.picture) c.in_ok-stretch.ensures.digests in
     let line = ap (λ (end : ℕ). c.loop-i.out.items ++ stretch_line movie (i * every) end) to in
     record {
       state = c.in_ok-stretch.ensures.state ∙ ap (state_after movie) to;
