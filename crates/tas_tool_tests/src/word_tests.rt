@@ -8,7 +8,13 @@ use std::io::ErrorKind;
 use std::process::Abort;
 use std::sync::Wait;
 use std::thread::Threads;
-use tas_program::{Task, read_words};
+use tas_program::{MovieFiles, Start, Task, read_words};
+
+/// The files of a movie.
+const A_AND_B: MovieFiles<'static> = MovieFiles {
+    cart: "a.bin",
+    movie: "b",
+};
 
 /// Words that name a task, and the task.
 static TASKS: [(&[&str], Task<'static>); 18] = [
@@ -57,30 +63,21 @@ static TASKS: [(&[&str], Task<'static>); 18] = [
             old: "b",
         },
     ),
-    (&["script"], Task::Script),
+    (&["script"], Task::Script(None)),
     (
         &["script", "--cart", "a.bin", "--movie", "b"],
-        Task::MovieScript {
-            cart: "a.bin",
-            movie: "b",
-        },
+        Task::Script(Some(A_AND_B)),
     ),
     (
         &["script", "--movie=b", "--cart=a.bin"],
-        Task::MovieScript {
-            cart: "a.bin",
-            movie: "b",
-        },
+        Task::Script(Some(A_AND_B)),
     ),
-    (&["talk"], Task::Talk),
-    (&["talk", "a.bin"], Task::CartTalk { cart: "a.bin" }),
+    (&["talk"], Task::Talk(Start::Blank)),
     (
-        &["talk", "a.bin", "b"],
-        Task::MovieTalk {
-            cart: "a.bin",
-            movie: "b",
-        },
+        &["talk", "a.bin"],
+        Task::Talk(Start::Cart { cart: "a.bin" }),
     ),
+    (&["talk", "a.bin", "b"], Task::Talk(Start::Movie(A_AND_B))),
     (
         &["export", "a.bin", "0", "9999999", "1"],
         Task::Export {

@@ -11,5 +11,5 @@ mod task;
 mod words;
 
 pub use request::{Request, collect_words, read_request};
-pub use task::{MAX_FRAME_NUMBER, MAX_INSTRUCTIONS, MAX_WORKERS, Task};
+pub use task::{MAX_FRAME_NUMBER, MAX_INSTRUCTIONS, MAX_WORKERS, MovieFiles, Start, Task};
 pub use words::read_words;

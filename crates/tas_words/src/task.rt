@@ -11,6 +11,29 @@ pub const MAX_FRAME_NUMBER: u32 = MAX_NUMBER as u32;
 /// The most workers of one export (own).
 pub const MAX_WORKERS: u32 = tas_desk::MAX_WORKERS as u32;
 
+/// The names of a movie's two files (own).
+#[derive(Clone, Copy, Debug, PartialEq, Eq)]
+pub struct MovieFiles<'a> {
+    /// The name of the cartridge's file.
+    pub cart: &'a str,
+    /// The name of the file with the movie's text.
+    pub movie: &'a str,
+}
+
+/// What a conversation starts from (own).
+#[derive(Clone, Copy, Debug, PartialEq, Eq)]
+pub enum Start<'a> {
+    /// A blank cartridge with no frames.
+    Blank,
+    /// A cartridge with no frames.
+    Cart {
+        /// The name of the cartridge's file.
+        cart: &'a str,
+    },
+    /// A movie.
+    Movie(MovieFiles<'a>),
+}
+
 /// A command with its words (own).
 #[derive(Clone, Copy, Debug, PartialEq, Eq)]
 pub enum Task<'a> {
@@ -19,7 +42,7 @@ pub enum Task<'a> {
         /// How many, 0 to 1,000,000.
         instructions: u32,
     },
-    /// Tell the length of the movie on standard input.
+    /// Report the length of the movie on standard input.
     Check {
         /// The name of the cartridge's file.
         cart: &'a str,
@@ -34,7 +57,7 @@ pub enum Task<'a> {
         /// The name of the cartridge's file.
         cart: &'a str,
         /// The frame, counted from 0, up to 9,999,999.
-        frame: u32,
+        frame: usize,
     },
     /// Make the changes of a script on the movie on standard input.
     Edit {
@@ -50,38 +73,19 @@ pub enum Task<'a> {
         /// The name of the file with the older movie's text.
         old: &'a str,
     },
-    /// Run the script on standard input.
-    Script,
-    /// Run the script on standard input from a movie on.
-    MovieScript {
-        /// The name of the cartridge's file.
-        cart: &'a str,
-        /// The name of the file with the movie's text.
-        movie: &'a str,
-    },
+    /// Run the script on standard input, from a blank cartridge with no frames, or from this movie on.
+    Script(Option<MovieFiles<'a>>),
     /// Answer the lines on standard input, each before the next one is read.
-    Talk,
-    /// Answer lines from a cartridge on.
-    CartTalk {
-        /// The name of the cartridge's file.
-        cart: &'a str,
-    },
-    /// Answer lines from a movie on.
-    MovieTalk {
-        /// The name of the cartridge's file.
-        cart: &'a str,
-        /// The name of the file with the movie's text.
-        movie: &'a str,
-    },
+    Talk(Start<'a>),
     /// Draw some frames of the movie on standard input.
     Export {
         /// The name of the cartridge's file.
         cart: &'a str,
         /// The first frame, counted from 0, up to 9,999,999.
-        from: u32,
-        /// The frame behind the last one, up to 9,999,999.
-        to: u32,
+        from: usize,
+        /// The frame after the last one, up to 9,999,999.
+        to: usize,
         /// How many workers play them, 1 to [`MAX_WORKERS`].
-        workers: u32,
+        workers: usize,
     },
 }
