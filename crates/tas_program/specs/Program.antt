@@ -1,5 +1,5 @@
 -- How the program ends: what it writes, and its status (own).
-use Rattle.std.specs.Prelude.{◌≡◌, ℕ, List, ◌⊎◌, Option, Some, None, Result, Ok, Err, String, string_bytes}
+use Rattle.std.specs.Prelude.{◌≡◌, ℕ, max, List, ◌⊎◌, Option, Some, None, Result, Ok, Err, String, string_bytes}
 use Rattle.std.specs.declared.vec.IntoIter.{IntoIter}
 use Rattle.std.specs.declared.io.Error.{Error}
 use Rattle.std.specs.Io.KnownBytes.{Appends}
@@ -17,13 +17,17 @@ use Rattle.tas_tool.specs.Talk.{talk_state_from, IsTalk, IsCartTalk, IsMovieTalk
 use Rattle.tas_tool.specs.Pixmaps.{IsExportAnswer}
 use Rattle.tas_tool.specs.MovieScripts.{IsMovieScriptRun}
 use Rattle.tas_engines.specs.Diffing.{IsDiffRun}
+use Rattle.tas_engines.specs.Comparing.{IsCompareRun}
+use Rattle.tas_engines.specs.Digests.{IsDigestRun}
+use Rattle.tas_engines.specs.Ram.{IsRamRun}
+use Rattle.tas_tool.specs.Films.{IsFilmRun}
 use Rattle.tas_engines.specs.Editing.{IsEditRun}
 use Rattle.tas_words.specs.declared.request.Request.{Request}
 use Rattle.tas_words.specs.declared.request.Request.TheVariants.{Do, Show, Refuse, NoMemory}
 use Rattle.tas_program.specs.declared.status.Status.{Status}
 use Rattle.tas_program.specs.declared.status.Status.TheVariants.{Done, Fault, Misuse}
 use Rattle.tas_words.specs.declared.task.Task.{Task}
-use Rattle.tas_words.specs.declared.task.Task.TheVariants.{Trace, Check, Migrate, Shot, Edit, Diff, Script, Talk, Export}
+use Rattle.tas_words.specs.declared.task.Task.TheVariants.{Trace, Check, Migrate, Shot, Film, Export, Ram, Digest, Compare, Edit, Diff, Script, Talk}
 use Rattle.tas_words.specs.declared.task.Start.TheVariants.{Blank, Cart, Movie}
 use Rattle.clap.specs.Walk.{Text}
 use Rattle.tas_words.specs.Requests.{AreGiven, IsRequest}
@@ -63,6 +67,11 @@ DoesTask files (Trace n) old new end = IsTraceRun n old.input new.input old.outp
 DoesTask files (Check cart) old new end = EndsOver (files cart.now) (IsMovieRun IsCheckAnswer) old new end
 DoesTask files (Migrate cart) old new end = EndsOver (files cart.now) (IsMovieRun IsMigrateAnswer) old new end
 DoesTask files (Shot cart k) old new end = EndsOver (files cart.now) (IsMovieRun (IsShotAnswer k)) old new end
+DoesTask files (Film cart from to) old new end = EndsOver (files cart.now) (IsFilmRun from to) old new end
+DoesTask files (Export cart from to workers) old new end = EndsOver (files cart.now) (IsMovieRun (IsExportAnswer from to)) old new end
+DoesTask files (Ram cart from to) old new end = EndsOver (files cart.now) (IsRamRun from to) old new end
+DoesTask files (Digest cart every) old new end = EndsOver (files cart.now) (IsDigestRun (max every 1)) old new end
+DoesTask files (Compare cart before) old new end = EndsOverTwo (files cart.now) (files before.now) IsCompareRun old new end
 DoesTask files (Edit cart script) old new end = EndsOverTwo (files cart.now) (files script.now) IsEditRun old new end
 DoesTask files (Diff cart before) old new end = EndsOverTwo (files cart.now) (files before.now) IsDiffRun old new end
 DoesTask files (Script None) old new end = IsScriptRun old.input new.input old.output new.output end
@@ -70,7 +79,6 @@ DoesTask files (Script (Some start)) old new end = EndsOverTwo (files start.cart
 DoesTask files (Talk Blank) old new end = IsTalk (talk_state_from None) old.input new.input old.output new.output end
 DoesTask files (Talk (Cart cart)) old new end = EndsOver (files cart.now) IsCartTalk old new end
 DoesTask files (Talk (Movie start)) old new end = EndsOverTwo (files start.cart.now) (files start.movie.now) IsMovieTalk old new end
-DoesTask files (Export cart from to workers) old new end = EndsOver (files cart.now) (IsMovieRun (IsExportAnswer from to)) old new end
 
 -- the program's end after a task: done where the task is, else a fault
 abbrev pub TaskEnds : (List ℕ → Option (List ℕ)) → Task → StreamBytes → StreamBytes → Status → Type 0

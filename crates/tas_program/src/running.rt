@@ -15,8 +15,9 @@ use std::io::{Read, Write};
 use std::sync::Wait;
 use std::thread::Threads;
 use tas_tool::{
-    ToolFault, cart_talk_run, check_run, diff_run, edit_run, export_run, migrate_run,
-    movie_script_run, movie_talk_run, script_run, shot_run, talk_run, trace_run, write_all,
+    ToolFault, cart_talk_run, check_run, compare_run, diff_run, digest_run, edit_run, export_run,
+    film_run, migrate_run, movie_script_run, movie_talk_run, ram_run, script_run, shot_run,
+    talk_run, trace_run, write_all,
 };
 use tas_words::{MovieFiles, Request, Start, Task, collect_words, read_request};
 
@@ -99,6 +100,28 @@ fn run_engine<
         Task::Shot { cart, frame } => {
             shot_run(alloc, frame, &mut open(folder, cart)?, input, output)
         }
+        Task::Film { cart, from, to } => {
+            film_run(alloc, from, to, &mut open(folder, cart)?, input, output)
+        }
+        Task::Export {
+            cart,
+            from,
+            to,
+            workers,
+        } => {
+            let mut cart = open(folder, cart)?;
+            export_run(rt, alloc, from, to, workers, &mut cart, input, output)
+        }
+        Task::Ram { cart, from, to } => {
+            ram_run(alloc, from, to, &mut open(folder, cart)?, input, output)
+        }
+        Task::Digest { cart, every } => {
+            digest_run(alloc, every.max(1), &mut open(folder, cart)?, input, output)
+        }
+        Task::Compare { cart, old } => {
+            let (mut cart, mut old) = (open(folder, cart)?, open(folder, old)?);
+            compare_run(alloc, &mut cart, &mut old, input, output)
+        }
         Task::Edit { cart, script } => {
             let (mut cart, mut script) = (open(folder, cart)?, open(folder, script)?);
             edit_run(alloc, &mut cart, &mut script, input, output)
@@ -109,15 +132,6 @@ fn run_engine<
         }
         Task::Script(start) => run_script(rt, alloc, start, folder, input, output),
         Task::Talk(start) => run_talk(rt, alloc, start, folder, input, output),
-        Task::Export {
-            cart,
-            from,
-            to,
-            workers,
-        } => {
-            let mut cart = open(folder, cart)?;
-            export_run(rt, alloc, from, to, workers, &mut cart, input, output)
-        }
     }
 }
 

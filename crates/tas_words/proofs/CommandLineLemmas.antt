@@ -16,7 +16,7 @@ use Rattle.clap.proofs.OnLiterals.{clap_on_literals}
 use Rattle.clap.proofs.SimpleLemmas.{label_first}
 use Rattle.tas_words.specs.CommandLine.{command_names, labels, own_flags, rule_of_word, shape_with, HasRules, HasWordsOf, IsAsked, command_line, empty_line}
 use Rattle.tas_words.specs.Task.{IsNumberWord}
-use Rattle.tas_words.specs.declared.command_line.Word.{Word}
+use Rattle.tas_words.specs.declared.subcommands.Word.{Word}
 use Rattle.tas_words.specs.declared.task.Task.{Task}
 use Rattle.std.specs.Prelude.{Result, Ok, ℕ}
 use Rattle.std.specs.Str.Parse.{digits_value, without_leading_plus}

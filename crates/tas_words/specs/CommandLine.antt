@@ -10,12 +10,12 @@ use Rattle.clap.specs.declared.builder.command.Command.TheViews.{out-Command}
 use Rattle.clap.specs.declared.builder.value_parser.ValueParser.{ValueParser}
 use Rattle.tas_language.specs.Commands.{most_number}
 use Rattle.tas_desk.specs.Runs.{most_workers}
-use Rattle.tas_words.specs.declared.command_line.Subcommand.{Subcommand}
-use Rattle.tas_words.specs.declared.command_line.Word.{Word}
-use Rattle.tas_words.specs.declared.command_line.WordKind.{WordKind}
-use Rattle.tas_words.specs.declared.command_line.WordKind.TheVariants.{File, OptionalFile, Flag, Number}
+use Rattle.tas_words.specs.declared.subcommands.Subcommand.{Subcommand}
+use Rattle.tas_words.specs.declared.subcommands.Word.{Word}
+use Rattle.tas_words.specs.declared.subcommands.WordKind.{WordKind}
+use Rattle.tas_words.specs.declared.subcommands.WordKind.TheVariants.{File, OptionalFile, Flag, Number, OptionalNumber}
 use Rattle.tas_words.specs.declared.task.Task.{Task}
-use Rattle.tas_words.specs.Task.{HasWords}
+use Rattle.tas_words.specs.Task.{HasWords, most_every}
 
 -- ---- the commands. Public contracts cite `IsAsked`, at the end, and so `command_line` and `named_command`; private functions cite the rest
 
@@ -51,6 +51,14 @@ frame_rule name = number_rule name 0 most_number
 abbrev pub may_word_rule : Text → Rule
 may_word_rule name = record (new_rule name) { action = Some Set }
 
+-- a number in a range that may stand there
+abbrev pub may_number_rule : Text → ℕ → ℕ → Rule
+may_number_rule name least most = record (may_word_rule name) { parser = Some (numbers least most) }
+
+-- the number of a frame that may stand there
+abbrev pub may_frame_rule : Text → Rule
+may_frame_rule name = may_number_rule name 0 most_number
+
 -- a word after a flag, which goes with another one
 abbrev pub flag_rule : Text → Text → Rule
 flag_rule name flag = record (new_rule name) {
@@ -66,6 +74,7 @@ kind_rule name File = file_rule name
 kind_rule name OptionalFile = may_word_rule name
 kind_rule name (Flag flag other) = flag_rule name flag.now
 kind_rule name (Number least most) = number_rule name least most
+kind_rule name (OptionalNumber least most) = may_number_rule name least most
 
 abbrev pub rule_of_word : Word → Rule
 rule_of_word word = kind_rule word.name.now word.kind
@@ -107,11 +116,15 @@ command_line = record {
       ∷ shape_with (codes "check") (cart_rule ∷ [])
       ∷ shape_with (codes "migrate") (cart_rule ∷ [])
       ∷ shape_with (codes "shot") (cart_rule ∷ frame_rule (codes "K") ∷ [])
+      ∷ shape_with (codes "film") (cart_rule ∷ may_frame_rule (codes "FROM") ∷ may_frame_rule (codes "TO") ∷ [])
+      ∷ shape_with (codes "export") (cart_rule ∷ frame_rule (codes "FROM") ∷ frame_rule (codes "TO") ∷ number_rule (codes "WORKERS") 1 most_workers ∷ [])
+      ∷ shape_with (codes "ram") (cart_rule ∷ frame_rule (codes "FROM") ∷ frame_rule (codes "TO") ∷ [])
+      ∷ shape_with (codes "digest") (cart_rule ∷ may_number_rule (codes "EVERY") 1 most_every ∷ [])
+      ∷ shape_with (codes "compare") (cart_rule ∷ file_rule (codes "OLD") ∷ [])
       ∷ shape_with (codes "edit") (cart_rule ∷ file_rule (codes "SCRIPT") ∷ [])
       ∷ shape_with (codes "diff") (cart_rule ∷ file_rule (codes "OLD") ∷ [])
       ∷ shape_with (codes "script") (flag_rule (codes "CART") (codes "cart") ∷ flag_rule (codes "MOVIE") (codes "movie") ∷ [])
       ∷ shape_with (codes "talk") (may_word_rule (codes "CART") ∷ may_word_rule (codes "MOVIE") ∷ [])
-      ∷ shape_with (codes "export") (cart_rule ∷ frame_rule (codes "FROM") ∷ frame_rule (codes "TO") ∷ number_rule (codes "WORKERS") 1 most_workers ∷ [])
       ∷ [];
 }
 

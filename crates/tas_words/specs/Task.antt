@@ -1,5 +1,5 @@
 -- What the words of each command ask for (own).
-use Rattle.std.specs.Prelude.{◌≡◌, ℕ, ◌≤◌, List, Some, None, codes}
+use Rattle.std.specs.Prelude.{◌≡◌, ℕ, ◌≤◌, List, ◌⊎◌, Option, Some, None, codes}
 use Rattle.std.specs.Str.Parse.{digits_value, without_leading_plus}
 use Rattle.clap.specs.Walk.{Row, Text, first_of, one_of}
 use Rattle.tas_language.specs.Commands.{most_number}
@@ -7,7 +7,7 @@ use Rattle.tas_desk.specs.Runs.{most_workers}
 use Rattle.tas_words.specs.declared.task.Start.{Start}
 use Rattle.tas_words.specs.declared.task.Start.TheVariants.{Blank, Cart, Movie}
 use Rattle.tas_words.specs.declared.task.Task.{Task}
-use Rattle.tas_words.specs.declared.task.Task.TheVariants.{Trace, Check, Migrate, Shot, Edit, Diff, Script, Talk, Export}
+use Rattle.tas_words.specs.declared.task.Task.TheVariants.{Trace, Check, Migrate, Shot, Film, Export, Ram, Digest, Compare, Edit, Diff, Script, Talk}
 
 -- the word of this name is this text
 abbrev pub IsWord : List Row → Text → Text → Type 0
@@ -22,9 +22,29 @@ abbrev pub IsNumberWord : List Row → Text → ℕ → ℕ → ℕ → Type 0
 IsNumberWord rows name least most n =
     (least ≤ n) × (n ≤ most) × ((text : Text) × (one_of name rows ≡ Some text) × (n ≡ digits_value 10 (without_leading_plus text)))
 
+-- the same of a word that may be left out
+abbrev pub IsOptionalNumberWord : List Row → Text → ℕ → ℕ → Option ℕ → Type 0
+IsOptionalNumberWord rows name least most None = HasNoWord rows name
+IsOptionalNumberWord rows name least most (Some n) = IsNumberWord rows name least most n
+
 -- the word of this name is the number of a frame
 abbrev pub IsFrameWord : List Row → Text → ℕ → Type 0
 IsFrameWord rows name k = IsNumberWord rows name 0 most_number k
+
+-- the same of a word that may be left out
+abbrev pub IsOptionalFrameWord : List Row → Text → Option ℕ → Type 0
+IsOptionalFrameWord rows name said = IsOptionalNumberWord rows name 0 most_number said
+
+-- the most frames of a stretch of a digest, and how many it has where the words don't say it
+abbrev pub most_every : ℕ
+most_every = 262144
+
+abbrev pub usual_every : ℕ
+usual_every = 600
+
+-- the word EVERY is this number, or it is left out and the number is the usual one
+abbrev pub IsEvery : List Row → ℕ → Type 0
+IsEvery rows n = IsNumberWord rows (codes "EVERY") 1 most_every n ⊎ (HasNoWord rows (codes "EVERY") × (n ≡ usual_every))
 
 -- the words name what is started from: nothing, a cartridge, or a movie
 abbrev pub IsStart : List Row → Start → Type 0
@@ -38,11 +58,17 @@ HasWords name rows (Trace instructions) = (name ≡ codes "trace") × IsNumberWo
 HasWords name rows (Check cart) = (name ≡ codes "check") × IsWord rows (codes "CART") cart.now
 HasWords name rows (Migrate cart) = (name ≡ codes "migrate") × IsWord rows (codes "CART") cart.now
 HasWords name rows (Shot cart k) = (name ≡ codes "shot") × IsWord rows (codes "CART") cart.now × IsFrameWord rows (codes "K") k
+HasWords name rows (Film cart from to) =
+    (name ≡ codes "film") × IsWord rows (codes "CART") cart.now × IsOptionalFrameWord rows (codes "FROM") from × IsOptionalFrameWord rows (codes "TO") to
+HasWords name rows (Export cart from to workers) =
+    (name ≡ codes "export") × IsWord rows (codes "CART") cart.now × IsFrameWord rows (codes "FROM") from × IsFrameWord rows (codes "TO") to
+    × IsNumberWord rows (codes "WORKERS") 1 most_workers workers
+HasWords name rows (Ram cart from to) =
+    (name ≡ codes "ram") × IsWord rows (codes "CART") cart.now × IsFrameWord rows (codes "FROM") from × IsFrameWord rows (codes "TO") to
+HasWords name rows (Digest cart every) = (name ≡ codes "digest") × IsWord rows (codes "CART") cart.now × IsEvery rows every
+HasWords name rows (Compare cart old) = (name ≡ codes "compare") × IsWord rows (codes "CART") cart.now × IsWord rows (codes "OLD") old.now
 HasWords name rows (Edit cart script) = (name ≡ codes "edit") × IsWord rows (codes "CART") cart.now × IsWord rows (codes "SCRIPT") script.now
 HasWords name rows (Diff cart old) = (name ≡ codes "diff") × IsWord rows (codes "CART") cart.now × IsWord rows (codes "OLD") old.now
 HasWords name rows (Script None) = (name ≡ codes "script") × IsStart rows Blank
 HasWords name rows (Script (Some files)) = (name ≡ codes "script") × IsStart rows (Movie files)
 HasWords name rows (Talk start) = (name ≡ codes "talk") × IsStart rows start
-HasWords name rows (Export cart from to workers) =
-    (name ≡ codes "export") × IsWord rows (codes "CART") cart.now × IsFrameWord rows (codes "FROM") from × IsFrameWord rows (codes "TO") to
-    × IsNumberWord rows (codes "WORKERS") 1 most_workers workers

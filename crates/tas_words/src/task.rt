@@ -8,6 +8,12 @@ pub const MAX_INSTRUCTIONS: u32 = 1_000_000;
 /// The greatest number of a frame, which is that of a script's numbers (own).
 pub const MAX_FRAME_NUMBER: u32 = MAX_NUMBER as u32;
 
+/// The most frames of one stretch of a digest (own).
+pub const MAX_EVERY: u32 = 262_144;
+
+/// How many frames a stretch of a digest has, where the words don't say it (own).
+pub const USUAL_EVERY: u32 = 600;
+
 /// The most workers of one export (own).
 pub const MAX_WORKERS: u32 = tas_desk::MAX_WORKERS as u32;
 
@@ -59,6 +65,49 @@ pub enum Task<'a> {
         /// The frame, counted from 0, up to 9,999,999.
         frame: usize,
     },
+    /// Draw frames of the movie on standard input, any number of them, as they are played.
+    Film {
+        /// The name of the cartridge's file.
+        cart: &'a str,
+        /// The first frame, counted from 0, up to 9,999,999; the movie's first one if not given.
+        from: Option<usize>,
+        /// The frame after the last one, up to 9,999,999; that after the movie's last one if not given.
+        to: Option<usize>,
+    },
+    /// Draw some frames of the movie on standard input.
+    Export {
+        /// The name of the cartridge's file.
+        cart: &'a str,
+        /// The first frame, counted from 0, up to 9,999,999.
+        from: usize,
+        /// The frame after the last one, up to 9,999,999.
+        to: usize,
+        /// How many workers play them, 1 to [`MAX_WORKERS`].
+        workers: usize,
+    },
+    /// Write the RAM after some numbers of frames of the movie on standard input.
+    Ram {
+        /// The name of the cartridge's file.
+        cart: &'a str,
+        /// The first number of frames, up to 9,999,999.
+        from: usize,
+        /// The number after the last one, up to 9,999,999.
+        to: usize,
+    },
+    /// Write the digest of what the movie on standard input plays.
+    Digest {
+        /// The name of the cartridge's file.
+        cart: &'a str,
+        /// How many frames a stretch has, 1 to [`MAX_EVERY`]; 0 counts as 1.
+        every: usize,
+    },
+    /// Write where the movie on standard input first differs from an older one.
+    Compare {
+        /// The name of the cartridge's file.
+        cart: &'a str,
+        /// The name of the file with the older movie's text.
+        old: &'a str,
+    },
     /// Make the changes of a script on the movie on standard input.
     Edit {
         /// The name of the cartridge's file.
@@ -77,15 +126,4 @@ pub enum Task<'a> {
     Script(Option<MovieFiles<'a>>),
     /// Answer the lines on standard input, each before the next one is read.
     Talk(Start<'a>),
-    /// Draw some frames of the movie on standard input.
-    Export {
-        /// The name of the cartridge's file.
-        cart: &'a str,
-        /// The first frame, counted from 0, up to 9,999,999.
-        from: usize,
-        /// The frame after the last one, up to 9,999,999.
-        to: usize,
-        /// How many workers play them, 1 to [`MAX_WORKERS`].
-        workers: usize,
-    },
 }

@@ -2,14 +2,24 @@
 
 ghost use Rattle.std.specs.Prelude.{◌≡◌, IfOk, IfSome, codes, map, option_map, string_bytes};
 ghost use Rattle.clap.specs.Words.{first_of, found_of, rows_of, subcommand_rows_of};
-ghost use Rattle.tas_words.specs.Task.{HasWords, IsFrameWord, IsNumberWord};
+ghost use Rattle.tas_words.specs.Task.{HasWords, IsEvery, IsFrameWord, IsNumberWord, IsOptionalFrameWord, IsOptionalNumberWord};
 ghost use Rattle.tas_words.specs.CommandLine.{HasWordsOf, IsAsked, IsCommandLine};
 
 use crate::command_line::command_line;
-use crate::{MAX_FRAME_NUMBER, MAX_INSTRUCTIONS, MAX_WORKERS, MovieFiles, Start, Task};
+use crate::{
+    MAX_EVERY, MAX_FRAME_NUMBER, MAX_INSTRUCTIONS, MAX_WORKERS, MovieFiles, Start, Task,
+    USUAL_EVERY,
+};
 use clap::error::ErrorKind;
 use clap::{ArgMatches, Command, Error};
 use std::alloc::{Allocator, Global};
+
+/// The word of this name, where there is one.
+fn word_of<'a>(matches: &ArgMatches<'a>, name: &str) -> Option<&'a str>
+    ensures { option_map (λ word. word.now) result ≡ first_of name.now (rows_of (found_of matches.now)) }
+{
+    matches.get_str(name)
+}
 
 /// The number of this name, where it is in its range.
 fn number_of(matches: &ArgMatches<'_>, name: &str, least: u32, most: u32) -> Option<u32>
@@ -24,6 +34,21 @@ fn number_of(matches: &ArgMatches<'_>, name: &str, least: u32, most: u32) -> Opt
     }
 }
 
+/// The number of this name, in its range; `Some(None)` where there is none.
+fn optional_number_of(
+    matches: &ArgMatches<'_>,
+    name: &str,
+    least: u32,
+    most: u32,
+) -> Option<Option<u32>>
+    ensures { IfSome result (IsOptionalNumberWord (rows_of (found_of matches.now)) name.now least most) }
+{
+    match word_of(matches, name) {
+        Some(_) => Some(Some(number_of(matches, name, least, most)?)),
+        None => Some(None),
+    }
+}
+
 /// The number of a frame, of this name.
 fn frame_of(matches: &ArgMatches<'_>, name: &str) -> Option<usize>
     ensures { IfSome result (IsFrameWord (rows_of (found_of matches.now)) name.now) }
@@ -31,11 +56,24 @@ fn frame_of(matches: &ArgMatches<'_>, name: &str) -> Option<usize>
     Some(number_of(matches, name, 0, MAX_FRAME_NUMBER)? as usize)
 }
 
-/// The word of this name, where there is one.
-fn word_of<'a>(matches: &ArgMatches<'a>, name: &str) -> Option<&'a str>
-    ensures { option_map (λ word. word.now) result ≡ first_of name.now (rows_of (found_of matches.now)) }
+/// The number of a frame, of this name; `Some(None)` where there is none.
+fn optional_frame_of(matches: &ArgMatches<'_>, name: &str) -> Option<Option<usize>>
+    ensures { IfSome result (IsOptionalFrameWord (rows_of (found_of matches.now)) name.now) }
 {
-    matches.get_str(name)
+    match optional_number_of(matches, name, 0, MAX_FRAME_NUMBER)? {
+        Some(frame) => Some(Some(frame as usize)),
+        None => Some(None),
+    }
+}
+
+/// How many frames a stretch of a digest has.
+fn every_of(matches: &ArgMatches<'_>) -> Option<usize>
+    ensures { IfSome result (IsEvery (rows_of (found_of matches.now))) }
+{
+    match optional_number_of(matches, "EVERY", 1, MAX_EVERY)? {
+        Some(every) => Some(every as usize),
+        None => Some(USUAL_EVERY as usize),
+    }
 }
 
 /// What the words of `tas script` ask for; `None` where they name one file.
@@ -98,11 +136,29 @@ fn frames_task<'a>(name: &str, words: &ArgMatches<'a>) -> Option<Task<'a>>
             cart: word_of(words, "CART")?,
             frame: frame_of(words, "K")?,
         }),
+        "film" => Some(Task::Film {
+            cart: word_of(words, "CART")?,
+            from: optional_frame_of(words, "FROM")?,
+            to: optional_frame_of(words, "TO")?,
+        }),
         "export" => Some(Task::Export {
             cart: word_of(words, "CART")?,
             from: frame_of(words, "FROM")?,
             to: frame_of(words, "TO")?,
             workers: number_of(words, "WORKERS", 1, MAX_WORKERS)? as usize,
+        }),
+        "ram" => Some(Task::Ram {
+            cart: word_of(words, "CART")?,
+            from: frame_of(words, "FROM")?,
+            to: frame_of(words, "TO")?,
+        }),
+        "digest" => Some(Task::Digest {
+            cart: word_of(words, "CART")?,
+            every: every_of(words)?,
+        }),
+        "compare" => Some(Task::Compare {
+            cart: word_of(words, "CART")?,
+            old: word_of(words, "OLD")?,
         }),
         _ => None,
     }
