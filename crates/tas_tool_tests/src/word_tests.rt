@@ -17,7 +17,7 @@ const A_AND_B: MovieFiles<'static> = MovieFiles {
 };
 
 /// Words that name a task, and the task.
-static TASKS: [(&[&str], Task<'static>); 28] = [
+static TASKS: [(&[&str], Task<'static>); 29] = [
     (&["trace", "0"], Task::Trace { instructions: 0 }),
     (&["trace", "3"], Task::Trace { instructions: 3 }),
     (
