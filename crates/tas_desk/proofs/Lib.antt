@@ -2,6 +2,7 @@ pub mod CutLemmas
 pub mod DrawingLemmas
 pub mod EditLemmas
 pub mod EntryLemmas
+pub mod FilmLemmas
 pub mod HistoryLemmas
 pub mod LockedLemmas
 pub mod PrefixLemmas

@@ -2,6 +2,7 @@ pub mod Answers
 pub mod Counts
 pub mod Exporting
 pub mod Exports
+pub mod Films
 pub mod Frames
 pub mod History
 pub mod Locked

@@ -4,6 +4,7 @@ pub mod ScriptLemmas
 pub mod OneSeatLemmas
 pub mod MakingLemmas
 pub mod ExportLemmas
+pub mod FilmLemmas
 pub mod MovieScriptLemmas
 pub mod GreenLemmas
 pub mod TellingLemmas
