@@ -12,3 +12,6 @@ pub mod Differences
 pub mod Scripts
 pub mod Editing
 pub mod Diffing
+pub mod Ram
+pub mod Digests
+pub mod Comparing
