@@ -10,7 +10,7 @@ use std::io::{Error, ErrorKind};
 use std::process::Abort;
 use std::sync::Wait;
 use std::thread::Threads;
-use tas_program::{Folder, run_program};
+use tas_program::{Folder, Streams, run_program};
 use test_streams::Giver;
 
 /// A folder with one file, `game.bin`.
@@ -73,21 +73,15 @@ fn run_refused<T: Wait + Threads + Abort + Sync>(
 ) -> (End, bool) {
     let heap = refusing(alloc, NEVER);
     let words = words_of(rt, &heap, words);
-    let mut input = input;
     let mut written = Vec::new(alloc);
     let mut told = Vec::new(alloc);
     refuse(&heap, number);
-    let status = run_program(
-        rt,
-        alloc,
-        &heap,
-        words,
-        &OneFile { game },
-        &mut input,
-        &mut written,
-        &mut told,
-    )
-    .code();
+    let mut streams = Streams {
+        input,
+        output: &mut written,
+        errors: &mut told,
+    };
+    let status = run_program(rt, alloc, &heap, words, &OneFile { game }, &mut streams).code();
     let end = End {
         status,
         written,

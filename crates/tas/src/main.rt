@@ -3,20 +3,15 @@
 
 use std::env;
 use std::process::ExitCode;
-use tas_program::run_program;
+use tas_program::{Streams, run_program};
 
 fn main(rt: HostRuntime) -> ExitCode {
-    let (mut input, mut output, mut errors) = (rt.stdin(), rt.stdout(), rt.stderr());
     let words = env::args(&rt);
-    let status = run_program(
-        &rt,
-        rt.alloc(),
-        rt.alloc(),
-        words,
-        &rt,
-        &mut input,
-        &mut output,
-        &mut errors,
-    );
+    let mut streams = Streams {
+        input: rt.stdin(),
+        output: rt.stdout(),
+        errors: rt.stderr(),
+    };
+    let status = run_program(&rt, rt.alloc(), rt.alloc(), words, &rt, &mut streams);
     ExitCode::from(status.code())
 }

@@ -9,21 +9,24 @@ use Rattle.tas_words.specs.declared.request.Request.{Request}
 use Rattle.tas_words.specs.declared.request.Request.TheVariants.{Do, Show, Refuse, NoMemory}
 use Rattle.tas_words.specs.declared.task.Task.{Task}
 use Rattle.tas_words.specs.Requests.{AreGiven, IsNoTask, IsRequest}
-use Rattle.tas_program.specs.Program.{IsAskedBy, Streams, end_status, EndsOver, EndsOverTwo, DoesTask, TaskEnds}
+use Rattle.tas_program.specs.Program.{IsAskedBy, end_status, FileEngine, TwoFilesEngine, EndsOver, EndsOverTwo, DoesTask, TaskEnds}
+use Rattle.tas_program.specs.Streams.{StreamBytes}
 
-pub task_ends : (files : List ℕ → Option (List ℕ)) (chosen : Task) (old new : Streams) (end : Result (Unit {0}) ToolFault) → DoesTask files chosen old new end → TaskEnds files chosen old new (end_status end)
+pub task_ends : (files : List ℕ → Option (List ℕ)) (chosen : Task) (old new : StreamBytes) (end : Result (Unit {0}) ToolFault) → DoesTask files chosen old new end → TaskEnds files chosen old new (end_status end)
 task_ends files chosen old new (Ok u) does = does
 task_ends files chosen old new (Err fault) does = (fault, does)
 
 -- an engine ran over a file that was opened
-pub over_one : (runs : (file left : Option (List ℕ)) → Type 0) (one file left : Option (List ℕ)) (old new : Streams) (end : Result (Unit {0}) ToolFault) → file ≡ one → runs file left → EndsOver one runs old new end
-over_one runs one file left old new end is ran = inr (left, subst (λ (f : Option (List ℕ)). runs f left) is ran)
+pub over_one : (engine : FileEngine) (one file left : Option (List ℕ)) (old new : StreamBytes) (end : Result (Unit {0}) ToolFault) → file ≡ one
+    → engine file left old.input new.input old.output new.output end → EndsOver one engine old new end
+over_one engine one file left old new end is ran = inr (left, subst (λ (f : Option (List ℕ)). engine f left old.input new.input old.output new.output end) is ran)
 
 -- the same of two files
-pub over_two : (runs : (file left file' left' : Option (List ℕ)) → Type 0) (one two file left file' left' : Option (List ℕ)) (old new : Streams) (end : Result (Unit {0}) ToolFault) → file ≡ one → file' ≡ two
-    → runs file left file' left' → EndsOverTwo one two runs old new end
-over_two runs one two file left file' left' old new end is is' ran =
-    inr (left, left', subst (λ (f : Option (List ℕ)). runs f left two left') is (subst (λ (f : Option (List ℕ)). runs file left f left') is' ran))
+pub over_two : (engine : TwoFilesEngine) (one two file left file' left' : Option (List ℕ)) (old new : StreamBytes) (end : Result (Unit {0}) ToolFault) → file ≡ one → file' ≡ two
+    → engine file left file' left' old.input new.input old.output new.output end → EndsOverTwo one two engine old new end
+over_two engine one two file left file' left' old new end is is' ran =
+    let second = subst (λ (f : Option (List ℕ)). engine file left f left' old.input new.input old.output new.output end) is' ran in
+    inr (left, left', subst (λ (f : Option (List ℕ)). engine f left two left' old.input new.input old.output new.output end) is second)
 
 -- what listed words ask for is asked by what the system gave
 pub asked_by : {A : Type 0} (given : Result (IntoIter (String A) A) Error) (words : List Text) (request : Request A) → AreGiven given words → IsRequest words request → IsAskedBy given request

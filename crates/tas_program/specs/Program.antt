@@ -1,5 +1,5 @@
 -- How the program ends: what it writes, and its status (own).
-use Rattle.std.specs.Prelude.{◌≡◌, ℕ, List, ◌⊎◌, Option, None, Result, Ok, Err, String, string_bytes}
+use Rattle.std.specs.Prelude.{◌≡◌, ℕ, max, List, ◌⊎◌, Option, Some, None, Result, Ok, Err, String, string_bytes}
 use Rattle.std.specs.declared.vec.IntoIter.{IntoIter}
 use Rattle.std.specs.declared.io.Error.{Error}
 use Rattle.std.specs.Io.KnownBytes.{Appends}
@@ -17,15 +17,21 @@ use Rattle.tas_tool.specs.Talk.{talk_state_from, IsTalk, IsCartTalk, IsMovieTalk
 use Rattle.tas_tool.specs.Pixmaps.{IsExportAnswer}
 use Rattle.tas_tool.specs.MovieScripts.{IsMovieScriptRun}
 use Rattle.tas_engines.specs.Diffing.{IsDiffRun}
+use Rattle.tas_engines.specs.Comparing.{IsCompareRun}
+use Rattle.tas_engines.specs.Digests.{IsDigestRun}
+use Rattle.tas_engines.specs.Ram.{IsRamRun}
+use Rattle.tas_tool.specs.Films.{IsFilmRun}
 use Rattle.tas_engines.specs.Editing.{IsEditRun}
 use Rattle.tas_words.specs.declared.request.Request.{Request}
 use Rattle.tas_words.specs.declared.request.Request.TheVariants.{Do, Show, Refuse, NoMemory}
 use Rattle.tas_program.specs.declared.status.Status.{Status}
 use Rattle.tas_program.specs.declared.status.Status.TheVariants.{Done, Fault, Misuse}
 use Rattle.tas_words.specs.declared.task.Task.{Task}
-use Rattle.tas_words.specs.declared.task.Task.TheVariants.{Trace, Check, Migrate, Shot, Edit, Diff, Script, MovieScript, Talk, CartTalk, MovieTalk, Export}
+use Rattle.tas_words.specs.declared.task.Task.TheVariants.{Trace, Check, Migrate, Shot, Film, Export, Ram, Digest, Compare, Edit, Diff, Script, Talk}
+use Rattle.tas_words.specs.declared.task.Start.TheVariants.{Blank, Cart, Movie}
 use Rattle.clap.specs.Walk.{Text}
 use Rattle.tas_words.specs.Requests.{AreGiven, IsRequest}
+use Rattle.tas_program.specs.Streams.{StreamBytes}
 
 -- the number that the system is told
 abbrev pub status_code : Status → ℕ
@@ -38,45 +44,44 @@ abbrev pub end_status : Result (Unit {0}) ToolFault → Status
 end_status (Ok _) = Done
 end_status (Err fault) = Fault
 
--- what the program's streams hold and have before and after: the input's bytes that are left, and the output's bytes
-pub record Streams : Type 0 where
-  pub input : Option (List ℕ)
-  pub output : Option (List ℕ)
+-- an engine over a file and the streams: what is left of the file, and the bytes of the input and of the output, before and after
+abbrev pub FileEngine : Type 1
+FileEngine = (file left input input' output output' : Option (List ℕ)) → Result (Unit {0}) ToolFault → Type 0
 
--- an engine that reads a file first ends: the file can't be opened, and the streams are as before; or it ends over the file,
--- whatever it leaves of it
-abbrev pub EndsOver : Option (List ℕ) → (Option (List ℕ) → Option (List ℕ) → Type 0) → Streams → Streams → Result (Unit {0}) ToolFault → Type 0
-EndsOver file runs old new end = ((end ≡ Err Read) × (new ≡ old)) ⊎ ((left : Option (List ℕ)) × runs file left)
+-- the same over two files
+abbrev pub TwoFilesEngine : Type 1
+TwoFilesEngine = (file left : Option (List ℕ)) → FileEngine
 
--- the same of an engine that reads two files first
-abbrev pub EndsOverTwo : Option (List ℕ) → Option (List ℕ) → (Option (List ℕ) → Option (List ℕ) → Option (List ℕ) → Option (List ℕ) → Type 0) → Streams → Streams → Result (Unit {0}) ToolFault → Type 0
-EndsOverTwo one two runs old new end = ((end ≡ Err Read) × (new ≡ old)) ⊎ ((left left' : Option (List ℕ)) × runs one left two left')
+-- a file is opened first: it can't be, and the streams are as before; or an engine ends over it, whatever it leaves of it
+abbrev pub EndsOver : Option (List ℕ) → FileEngine → StreamBytes → StreamBytes → Result (Unit {0}) ToolFault → Type 0
+EndsOver file engine old new end = ((end ≡ Err Read) × (new ≡ old)) ⊎ ((left : Option (List ℕ)) × engine file left old.input new.input old.output new.output end)
 
--- a task ends as the definition of its command says, over its file and the streams
-abbrev pub DoesTask : (List ℕ → Option (List ℕ)) → Task → Streams → Streams → Result (Unit {0}) ToolFault → Type 0
+-- the same of two files
+abbrev pub EndsOverTwo : Option (List ℕ) → Option (List ℕ) → TwoFilesEngine → StreamBytes → StreamBytes → Result (Unit {0}) ToolFault → Type 0
+EndsOverTwo one two engine old new end =
+    ((end ≡ Err Read) × (new ≡ old)) ⊎ ((left left' : Option (List ℕ)) × engine one left two left' old.input new.input old.output new.output end)
+
+-- a task ends as the definition of its command says, over its files and the streams
+abbrev pub DoesTask : (List ℕ → Option (List ℕ)) → Task → StreamBytes → StreamBytes → Result (Unit {0}) ToolFault → Type 0
 DoesTask files (Trace n) old new end = IsTraceRun n old.input new.input old.output new.output end
-DoesTask files (Check cart) old new end =
-    EndsOver (files cart.now) (λ file left. IsMovieRun IsCheckAnswer file left old.input new.input old.output new.output end) old new end
-DoesTask files (Migrate cart) old new end =
-    EndsOver (files cart.now) (λ file left. IsMovieRun IsMigrateAnswer file left old.input new.input old.output new.output end) old new end
-DoesTask files (Shot cart k) old new end =
-    EndsOver (files cart.now) (λ file left. IsMovieRun (IsShotAnswer k) file left old.input new.input old.output new.output end) old new end
-DoesTask files (Edit cart script) old new end =
-    EndsOverTwo (files cart.now) (files script.now) (λ file left file' left'. IsEditRun file left file' left' old.input new.input old.output new.output end) old new end
-DoesTask files (Diff cart before) old new end =
-    EndsOverTwo (files cart.now) (files before.now) (λ file left file' left'. IsDiffRun file left file' left' old.input new.input old.output new.output end) old new end
-DoesTask files Script old new end = IsScriptRun old.input new.input old.output new.output end
-DoesTask files (MovieScript cart movie) old new end =
-    EndsOverTwo (files cart.now) (files movie.now) (λ file left file' left'. IsMovieScriptRun file left file' left' old.input new.input old.output new.output end) old new end
-DoesTask files Talk old new end = IsTalk (talk_state_from None) old.input new.input old.output new.output end
-DoesTask files (CartTalk cart) old new end = EndsOver (files cart.now) (λ file left. IsCartTalk file left old.input new.input old.output new.output end) old new end
-DoesTask files (MovieTalk cart movie) old new end =
-    EndsOverTwo (files cart.now) (files movie.now) (λ file left file' left'. IsMovieTalk file left file' left' old.input new.input old.output new.output end) old new end
-DoesTask files (Export cart from to workers) old new end =
-    EndsOver (files cart.now) (λ file left. IsMovieRun (IsExportAnswer from to) file left old.input new.input old.output new.output end) old new end
+DoesTask files (Check cart) old new end = EndsOver (files cart.now) (IsMovieRun IsCheckAnswer) old new end
+DoesTask files (Migrate cart) old new end = EndsOver (files cart.now) (IsMovieRun IsMigrateAnswer) old new end
+DoesTask files (Shot cart k) old new end = EndsOver (files cart.now) (IsMovieRun (IsShotAnswer k)) old new end
+DoesTask files (Film cart from to) old new end = EndsOver (files cart.now) (IsFilmRun from to) old new end
+DoesTask files (Export cart from to workers) old new end = EndsOver (files cart.now) (IsMovieRun (IsExportAnswer from to)) old new end
+DoesTask files (Ram cart from to) old new end = EndsOver (files cart.now) (IsRamRun from to) old new end
+DoesTask files (Digest cart every) old new end = EndsOver (files cart.now) (IsDigestRun (max every 1)) old new end
+DoesTask files (Compare cart before) old new end = EndsOverTwo (files cart.now) (files before.now) IsCompareRun old new end
+DoesTask files (Edit cart script) old new end = EndsOverTwo (files cart.now) (files script.now) IsEditRun old new end
+DoesTask files (Diff cart before) old new end = EndsOverTwo (files cart.now) (files before.now) IsDiffRun old new end
+DoesTask files (Script None) old new end = IsScriptRun old.input new.input old.output new.output end
+DoesTask files (Script (Some start)) old new end = EndsOverTwo (files start.cart.now) (files start.movie.now) IsMovieScriptRun old new end
+DoesTask files (Talk Blank) old new end = IsTalk (talk_state_from None) old.input new.input old.output new.output end
+DoesTask files (Talk (Cart cart)) old new end = EndsOver (files cart.now) IsCartTalk old new end
+DoesTask files (Talk (Movie start)) old new end = EndsOverTwo (files start.cart.now) (files start.movie.now) IsMovieTalk old new end
 
 -- the program's end after a task: done where the task is, else a fault
-abbrev pub TaskEnds : (List ℕ → Option (List ℕ)) → Task → Streams → Streams → Status → Type 0
+abbrev pub TaskEnds : (List ℕ → Option (List ℕ)) → Task → StreamBytes → StreamBytes → Status → Type 0
 TaskEnds files chosen old new Done = DoesTask files chosen old new (Ok tt)
 TaskEnds files chosen old new Fault = (fault : ToolFault) × DoesTask files chosen old new (Err fault)
 TaskEnds files chosen old new Misuse = ⊥
@@ -88,7 +93,7 @@ TextEnds text old new Fault = (fault : RunFault) × StopsWriting old new text fa
 TextEnds text old new Misuse = ⊥
 
 -- the program's end after a request: where there is no task, nothing is read, and where there is nothing to show, nothing is written
-abbrev pub CarriesOut : {A : Type 0} → (List ℕ → Option (List ℕ)) → Request A → Streams → Streams → Status → Type 0
+abbrev pub CarriesOut : {A : Type 0} → (List ℕ → Option (List ℕ)) → Request A → StreamBytes → StreamBytes → Status → Type 0
 CarriesOut files (Do chosen) old new status = TaskEnds files chosen old new status
 CarriesOut files (Show text) old new status = (new.input ≡ old.input) × TextEnds (string_bytes text) old.output new.output status
 CarriesOut files (Refuse text) old new status = (status ≡ Misuse) × (new ≡ old)
@@ -100,5 +105,5 @@ IsAskedBy {A = A} given (Do chosen) = (words : List Text) × AreGiven given word
 IsAskedBy given _ = Unit {0}
 
 -- the program carries out what the words may ask for
-abbrev pub ProgramEnds : {A : Type 0} → Result (IntoIter (String A) A) Error → (List ℕ → Option (List ℕ)) → Streams → Streams → Status → Type 0
+abbrev pub ProgramEnds : {A : Type 0} → Result (IntoIter (String A) A) Error → (List ℕ → Option (List ℕ)) → StreamBytes → StreamBytes → Status → Type 0
 ProgramEnds {A = A} given files old new status = (request : Request A) × IsAskedBy given request × CarriesOut files request old new status

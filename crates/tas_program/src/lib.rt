@@ -10,10 +10,13 @@
 mod folder;
 mod running;
 mod status;
+mod streams;
 
 pub use folder::Folder;
 pub use running::{carry_out, run_program, run_task};
 pub use status::Status;
+pub use streams::Streams;
 pub use tas_words::{
-    MAX_FRAME_NUMBER, MAX_INSTRUCTIONS, MAX_WORKERS, Request, Task, read_request, read_words,
+    MAX_EVERY, MAX_FRAME_NUMBER, MAX_INSTRUCTIONS, MAX_WORKERS, MovieFiles, Request, Start, Task,
+    USUAL_EVERY, read_request, read_words,
 };

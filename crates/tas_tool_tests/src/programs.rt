@@ -12,7 +12,7 @@ use std::io::{Error, ErrorKind, Write};
 use std::process::Abort;
 use std::sync::Wait;
 use std::thread::Threads;
-use tas_program::{Folder, run_program};
+use tas_program::{Folder, Streams, run_program};
 
 /// A folder with the files `game.bin` and `other`.
 #[derive(Clone, Copy)]
@@ -68,8 +68,12 @@ pub fn run_words<T: Threads + Wait + Sync, W: Write, E: Write>(
     output: &mut W,
     errors: &mut E,
 ) -> u8 {
-    let mut input = input;
-    run_program(rt, alloc, alloc, words, &folder, &mut input, output, errors).code()
+    let mut streams = Streams {
+        input,
+        output,
+        errors,
+    };
+    run_program(rt, alloc, alloc, words, &folder, &mut streams).code()
 }
 
 /// The same with words that are text.

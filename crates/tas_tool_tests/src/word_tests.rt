@@ -8,10 +8,16 @@ use std::io::ErrorKind;
 use std::process::Abort;
 use std::sync::Wait;
 use std::thread::Threads;
-use tas_program::{Task, read_words};
+use tas_program::{MovieFiles, Start, Task, read_words};
+
+/// The files of a movie.
+const A_AND_B: MovieFiles<'static> = MovieFiles {
+    cart: "a.bin",
+    movie: "b",
+};
 
 /// Words that name a task, and the task.
-static TASKS: [(&[&str], Task<'static>); 18] = [
+static TASKS: [(&[&str], Task<'static>); 29] = [
     (&["trace", "0"], Task::Trace { instructions: 0 }),
     (&["trace", "3"], Task::Trace { instructions: 3 }),
     (
@@ -44,6 +50,89 @@ static TASKS: [(&[&str], Task<'static>); 18] = [
         },
     ),
     (
+        &["film", "a.bin"],
+        Task::Film {
+            cart: "a.bin",
+            from: None,
+            to: None,
+        },
+    ),
+    (
+        &["film", "a.bin", "0"],
+        Task::Film {
+            cart: "a.bin",
+            from: Some(0),
+            to: None,
+        },
+    ),
+    (
+        &["film", "7", "9999999", "8"],
+        Task::Film {
+            cart: "7",
+            from: Some(9_999_999),
+            to: Some(8),
+        },
+    ),
+    (
+        &["film", "a.bin", "0", "9999999"],
+        Task::Film {
+            cart: "a.bin",
+            from: Some(0),
+            to: Some(9_999_999),
+        },
+    ),
+    (
+        &["ram", "a.bin", "0", "9999999"],
+        Task::Ram {
+            cart: "a.bin",
+            from: 0,
+            to: 9_999_999,
+        },
+    ),
+    (
+        &["ram", "7", "9999999", "0"],
+        Task::Ram {
+            cart: "7",
+            from: 9_999_999,
+            to: 0,
+        },
+    ),
+    (
+        &["digest", "a.bin"],
+        Task::Digest {
+            cart: "a.bin",
+            every: 600,
+        },
+    ),
+    (
+        &["digest", "a.bin", "1"],
+        Task::Digest {
+            cart: "a.bin",
+            every: 1,
+        },
+    ),
+    (
+        &["digest", "7", "262144"],
+        Task::Digest {
+            cart: "7",
+            every: 262_144,
+        },
+    ),
+    (
+        &["digest", "a.bin", "+0600"],
+        Task::Digest {
+            cart: "a.bin",
+            every: 600,
+        },
+    ),
+    (
+        &["compare", "a.bin", "b"],
+        Task::Compare {
+            cart: "a.bin",
+            old: "b",
+        },
+    ),
+    (
         &["edit", "a.bin", "b"],
         Task::Edit {
             cart: "a.bin",
@@ -57,30 +146,21 @@ static TASKS: [(&[&str], Task<'static>); 18] = [
             old: "b",
         },
     ),
-    (&["script"], Task::Script),
+    (&["script"], Task::Script(None)),
     (
         &["script", "--cart", "a.bin", "--movie", "b"],
-        Task::MovieScript {
-            cart: "a.bin",
-            movie: "b",
-        },
+        Task::Script(Some(A_AND_B)),
     ),
     (
         &["script", "--movie=b", "--cart=a.bin"],
-        Task::MovieScript {
-            cart: "a.bin",
-            movie: "b",
-        },
+        Task::Script(Some(A_AND_B)),
     ),
-    (&["talk"], Task::Talk),
-    (&["talk", "a.bin"], Task::CartTalk { cart: "a.bin" }),
+    (&["talk"], Task::Talk(Start::Blank)),
     (
-        &["talk", "a.bin", "b"],
-        Task::MovieTalk {
-            cart: "a.bin",
-            movie: "b",
-        },
+        &["talk", "a.bin"],
+        Task::Talk(Start::Cart { cart: "a.bin" }),
     ),
+    (&["talk", "a.bin", "b"], Task::Talk(Start::Movie(A_AND_B))),
     (
         &["export", "a.bin", "0", "9999999", "1"],
         Task::Export {
@@ -113,7 +193,7 @@ fn each_command_is_its_task(rt: HostRuntime) {
 
 /// Words that are no task: none, an unknown one, too few, too many, numbers past their ranges and
 /// texts that are no numbers, unknown flags.
-static MISUSES: [&[&str]; 44] = [
+static MISUSES: [&[&str]; 66] = [
     &[],
     &[""],
     &["play"],
@@ -158,6 +238,28 @@ static MISUSES: [&[&str]; 44] = [
     &["export", "game.bin", "10000000", "1", "1"],
     &["export", "game.bin", "0", "10000000", "1"],
     &["export", "game.bin", "0", "-1", "1"],
+    &["film"],
+    &["film", "game.bin", "x"],
+    &["film", "game.bin", ""],
+    &["film", "game.bin", "-1"],
+    &["film", "game.bin", "10000000"],
+    &["film", "game.bin", "0", "10000000"],
+    &["film", "game.bin", "0", "1", "1"],
+    &["ram"],
+    &["ram", "game.bin"],
+    &["ram", "game.bin", "0"],
+    &["ram", "game.bin", "10000000", "1"],
+    &["ram", "game.bin", "0", "10000000"],
+    &["ram", "game.bin", "0", "1", "1"],
+    &["digest"],
+    &["digest", "game.bin", "0"],
+    &["digest", "game.bin", "262145"],
+    &["digest", "game.bin", "-1"],
+    &["digest", "game.bin", "x"],
+    &["digest", "game.bin", "1", "1"],
+    &["compare"],
+    &["compare", "game.bin"],
+    &["compare", "game.bin", "other", "0"],
 ];
 
 /// Whether a text begins with another one; with an empty one only an empty text does.
@@ -204,7 +306,7 @@ fn other_words_end_with_status_2(rt: HostRuntime) {
 }
 
 /// Words of which one is missing, and the beginning of the text, which names it.
-static MISSING: [(&[&str], &[u8]); 4] = [
+static MISSING: [(&[&str], &[u8]); 5] = [
     (
         &["script", "--cart", "game.bin"],
         b"error: the following required arguments were not provided:\n  --movie <MOVIE>\n",
@@ -221,6 +323,10 @@ static MISSING: [(&[&str], &[u8]); 4] = [
         &["edit", "game.bin"],
         b"error: the following required arguments were not provided:\n  <SCRIPT>\n",
     ),
+    (
+        &["ram", "game.bin", "0"],
+        b"error: the following required arguments were not provided:\n  <TO>\n",
+    ),
 ];
 
 #[test]
@@ -233,7 +339,7 @@ fn a_missing_word_is_named(rt: HostRuntime) {
 }
 
 /// Words that ask for help, and the beginning of the text.
-static HELPS: [(&[&str], &[u8]); 11] = [
+static HELPS: [(&[&str], &[u8]); 15] = [
     (
         &["--help"],
         b"Replays movies of Atari 2600 cartridges, exactly and from power-on\n\nUsage: tas <COMMAND>\n",
@@ -277,6 +383,22 @@ static HELPS: [(&[&str], &[u8]); 11] = [
     (
         &["export", "--help"],
         b"Writes the pictures of some frames of a movie, one after the other\n\nUsage: tas export <CART> <FROM> <TO> <WORKERS>\n",
+    ),
+    (
+        &["film", "--help"],
+        b"Writes the pictures of a movie's frames as they are played, any number of them\n\nUsage: tas film <CART> [FROM] [TO]\n",
+    ),
+    (
+        &["ram", "--help"],
+        b"Writes the RAM after some numbers of frames of a movie, a line for each\n\nUsage: tas ram <CART> <FROM> <TO>\n",
+    ),
+    (
+        &["digest", "--help"],
+        b"Plays a movie and writes digests of its RAM and pictures\n\nUsage: tas digest <CART> [EVERY]\n",
+    ),
+    (
+        &["compare", "--help"],
+        b"Writes the first frames at which two movies differ\n\nUsage: tas compare <CART> <OLD>\n",
     ),
 ];
 

@@ -1,5 +1,5 @@
 -- What clap says of the command line.
-use Rattle.std.proofs.Common.{◌+◌, ◌<◌, get_or, length, take, ◌≡◌, List, [], ◌∷◌, ◌++◌, Bool, true, false, Option, Some, None, codes, map, refl, sym, subst, ap, ap₂, ◌∙◌, option_map}
+use Rattle.std.proofs.Common.{◌+◌, ◌<◌, ◌≤◌, get_or, length, take, ◌≡◌, List, [], ◌∷◌, ◌++◌, Bool, true, false, Option, Some, None, codes, map, refl, sym, subst, ap, ap₂, ◌∙◌, option_map}
 use Rattle.std.specs.Prelude.{IfSome, drop, find}
 use Rattle.std.proofs.lemmas.List.{map-append, take_more}
 use Rattle.std.proofs.lemmas.Slice.Eq.{bytes_eq-Decides}
@@ -7,16 +7,16 @@ use Rattle.std.specs.Str.{bytes_eq}
 use Rattle.std.specs.Borrow.{Bor}
 use Rattle.clap.specs.Built.{AddsArg, AddsSubcommand}
 use Rattle.clap.specs.Simple.{App, Shape, HasMatchesOf, app_of, app_of_fields, new_app, with_rule, with_subcommand, label_of, on_top, rows_at, entered, built, names_of, is_simple, subcommand_of, subcommand_rows_of}
-use Rattle.clap.specs.Walk.{Row, Rule, Text, answers_to, rows_of, rule_of, stop_after}
+use Rattle.clap.specs.Walk.{Row, Rule, Text, answers_to, one_of, rows_of, rule_of, stop_after}
 use Rattle.clap.specs.declared.builder.arg.Arg.{Arg}
 use Rattle.clap.specs.declared.builder.command.Command.{Command}
 use Rattle.clap.specs.declared.builder.command.Command.TheViews.{out-Command}
 use Rattle.clap.specs.declared.parser.matches.ArgMatches.{ArgMatches}
 use Rattle.clap.proofs.OnLiterals.{clap_on_literals}
 use Rattle.clap.proofs.SimpleLemmas.{label_first}
-use Rattle.tas_words.specs.CommandLine.{command_names, labels, own_flags, named_command, rule_of_word, shape_with, HasRules, IsAsked, command_line, empty_line}
-use Rattle.tas_words.specs.Task.{HasWordsOf, IsNumberWord, command_name}
-use Rattle.tas_words.specs.declared.command_line.Word.{Word}
+use Rattle.tas_words.specs.CommandLine.{command_names, labels, own_flags, rule_of_word, shape_with, HasRules, HasWordsOf, IsAsked, command_line, empty_line}
+use Rattle.tas_words.specs.Task.{IsNumberWord}
+use Rattle.tas_words.specs.declared.subcommands.Word.{Word}
 use Rattle.tas_words.specs.declared.task.Task.{Task}
 use Rattle.std.specs.Prelude.{Result, Ok, ℕ}
 use Rattle.std.specs.Str.Parse.{digits_value, without_leading_plus}
@@ -95,30 +95,33 @@ is_simple_line = refl
 has_names : names_of (built command_line) ≡ labels command_names
 has_names = refl
 
+-- the command that the words reach is the one that they name
+asked_at : (words : List Text) (reached : Option (Text × List Row)) (task : Task) → subcommand_of command_line words ≡ reached → HasWordsOf reached task → IsAsked words task
+asked_at words None task is has = absurd has
+asked_at words (Some p) task is has =
+    let app : App = command_line in
+    record {
+      name = p.0;
+      rows = p.1;
+      named = entered_by (built app) (stop_after own_flags (labels command_names) (drop 1 words)) p.0 has_names (ap (option_map (λ (q : Text × List Row). q.0)) is);
+      reached = is;
+      has = has;
+    }
+
 -- the command that a parse met, with its words, is the one that the words reach
 pub met_asked : (line : Command) (words : List Text) (m : ArgMatches) (task : Task) → app_of line ≡ command_line → HasMatchesOf (app_of line) words m → HasWordsOf (subcommand_rows_of m) task → IsAsked words task
 met_asked line words m task is matches met =
     let rows : subcommand_rows_of m ≡ subcommand_of command_line words = (matches (ap is_simple is ∙ is_simple_line)).1 ∙ ap (λ (a : App). subcommand_of a words) is in
-    subst (λ (reached : Option (Text × List Row)). HasWordsOf reached task) rows met
-
-name_reached : (reached : Option (Text × List Row)) (task : Task) → HasWordsOf reached task → option_map (λ (p : Text × List Row). p.0) reached ≡ Some (command_name task)
-name_reached None chosen has = absurd has
-name_reached (Some p) chosen has = ap Some has.0
-
--- and it is the one that they name
-pub asked_named : (words : List Text) (task : Task) → IsAsked words task → named_command words ≡ Some (command_name task)
-asked_named words task asked =
-    let app : App = command_line in
-    entered_by (built app) (stop_after own_flags (labels command_names) (drop 1 words)) (command_name task) has_names (name_reached (subcommand_of app words) task asked)
+    asked_at words (subcommand_rows_of m) task (sym rows) met
 
 -- ---- the words of a command
 
--- a number that was read
-pub number_read : {E : Type 0} (G : List ℕ → Result ℕ E → Type 0) (f : Found) (name : Text) (r : Option ℕ) (n : ℕ) → (one_text f name ≡ None → r ≡ None) → ((t : Text) → one_text f name ≡ Some t → ReadsOne G t r)
-    → ((t : Text) (v : ℕ) → G t (Ok v) → v ≡ digits_value 10 (without_leading_plus t)) → r ≡ Some n → IsNumberWord (rows_of f) name n
-number_read G f name r n none some value is = go (one_text f name) refl
+-- a number that was read, in its range
+pub number_read : {E : Type 0} (G : List ℕ → Result ℕ E → Type 0) (f : Found) (name : Text) (least most : ℕ) (r : Option ℕ) (n : ℕ) → (one_text f name ≡ None → r ≡ None) → ((t : Text) → one_text f name ≡ Some t → ReadsOne G t r)
+    → ((t : Text) (v : ℕ) → G t (Ok v) → v ≡ digits_value 10 (without_leading_plus t)) → r ≡ Some n → least ≤ n → n ≤ most → IsNumberWord (rows_of f) name least most n
+number_read G f name least most r n none some value is above below = (above, below, go (one_text f name) refl)
   where
-    go : (o : Option Text) → one_text f name ≡ o → IsNumberWord (rows_of f) name n
+    go : (o : Option Text) → one_text f name ≡ o → (text : Text) × (one_of name (rows_of f) ≡ Some text) × (n ≡ digits_value 10 (without_leading_plus text))
     go None e =
         let bad : Some n ≡ None = sym is ∙ none e in
         cc

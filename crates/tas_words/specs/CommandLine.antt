@@ -3,38 +3,21 @@ use Rattle.std.specs.Prelude.{◌≡◌, ℕ, pos, List, [], ◌∷◌, Option, 
 use Rattle.std.specs.Int.{int_max, int_min}
 use Rattle.clap.specs.Values.{signed_between}
 use Rattle.clap.specs.Simple.{App, Shape, app_of, filled_from, help_rule, version_rule, new_rule, new_shape, subcommand_of, with_subcommand}
-use Rattle.clap.specs.Walk.{Names, Rule, Text, stop_after}
+use Rattle.clap.specs.Walk.{Names, Row, Rule, Text, stop_after}
 use Rattle.clap.specs.declared.builder.action.ArgAction.TheVariants.{Set}
 use Rattle.clap.specs.declared.builder.command.Command.{Command}
 use Rattle.clap.specs.declared.builder.command.Command.TheViews.{out-Command}
 use Rattle.clap.specs.declared.builder.value_parser.ValueParser.{ValueParser}
 use Rattle.tas_language.specs.Commands.{most_number}
 use Rattle.tas_desk.specs.Runs.{most_workers}
-use Rattle.tas_words.specs.declared.command_line.Subcommand.{Subcommand}
-use Rattle.tas_words.specs.declared.command_line.Word.{Word}
-use Rattle.tas_words.specs.declared.command_line.WordKind.{WordKind}
-use Rattle.tas_words.specs.declared.command_line.WordKind.TheVariants.{File, OptionalFile, Flag, Number}
+use Rattle.tas_words.specs.declared.subcommands.Subcommand.{Subcommand}
+use Rattle.tas_words.specs.declared.subcommands.Word.{Word}
+use Rattle.tas_words.specs.declared.subcommands.WordKind.{WordKind}
+use Rattle.tas_words.specs.declared.subcommands.WordKind.TheVariants.{File, OptionalFile, Flag, Number, OptionalNumber}
 use Rattle.tas_words.specs.declared.task.Task.{Task}
-use Rattle.tas_words.specs.Task.{HasWordsOf}
+use Rattle.tas_words.specs.Task.{HasWords, most_every}
 
--- ---- which command some words name
-
-abbrev pub command_names : List Text
-command_names = codes "trace" ∷ codes "check" ∷ codes "migrate" ∷ codes "shot" ∷ codes "edit" ∷ codes "diff" ∷ codes "script" ∷ codes "talk" ∷ codes "export" ∷ []
-
--- names that no other names stand beside
-abbrev pub labels : List Text → Names
-labels names = map (λ name. (name, [])) names
-
--- the flags that stand before a command: help and version
-abbrev pub own_flags : List Rule
-own_flags = filled_from 1 (help_rule ∷ version_rule ∷ [])
-
--- the command that the words name, the first of which is the program's name
-abbrev pub named_command : List Text → Option Text
-named_command words = option_map (λ p. p.0) (stop_after own_flags (labels command_names) (drop 1 words))
-
--- ---- the commands. Public contracts cite `IsAsked`, at the end, and so `command_line`; private functions cite the rest
+-- ---- the commands. Public contracts cite `IsAsked`, at the end, and so `command_line` and `named_command`; private functions cite the rest
 
 -- a required word
 abbrev pub word_rule : Text → Option ValueParser → Rule
@@ -52,11 +35,31 @@ numbers least most = signed_between (int_max (pos 0) (pos least)) (int_min (pos 
 abbrev pub number_rule : Text → ℕ → ℕ → Rule
 number_rule name least most = word_rule name (Some (numbers least most))
 
+-- a file's name
+abbrev pub file_rule : Text → Rule
+file_rule name = word_rule name None
+
+-- the name of the cartridge's file
+abbrev pub cart_rule : Rule
+cart_rule = file_rule (codes "CART")
+
+-- the number of a frame
+abbrev pub frame_rule : Text → Rule
+frame_rule name = number_rule name 0 most_number
+
 -- a word that may stand there
 abbrev pub may_word_rule : Text → Rule
 may_word_rule name = record (new_rule name) { action = Some Set }
 
--- a word behind a flag, which goes with another one
+-- a number in a range that may stand there
+abbrev pub may_number_rule : Text → ℕ → ℕ → Rule
+may_number_rule name least most = record (may_word_rule name) { parser = Some (numbers least most) }
+
+-- the number of a frame that may stand there
+abbrev pub may_frame_rule : Text → Rule
+may_frame_rule name = may_number_rule name 0 most_number
+
+-- a word after a flag, which goes with another one
 abbrev pub flag_rule : Text → Text → Rule
 flag_rule name flag = record (new_rule name) {
   long = Some flag;
@@ -67,10 +70,11 @@ flag_rule name flag = record (new_rule name) {
 
 -- a word, as clap reads it
 abbrev pub kind_rule : Text → WordKind → Rule
-kind_rule name File = word_rule name None
+kind_rule name File = file_rule name
 kind_rule name OptionalFile = may_word_rule name
 kind_rule name (Flag flag other) = flag_rule name flag.now
 kind_rule name (Number least most) = number_rule name least most
+kind_rule name (OptionalNumber least most) = may_number_rule name least most
 
 abbrev pub rule_of_word : Word → Rule
 rule_of_word word = kind_rule word.name.now word.kind
@@ -94,7 +98,7 @@ empty_line = record {
   subs = [];
 }
 
--- a command line with these commands behind its own
+-- a command line with these commands after its own
 abbrev pub with_commands : App → List Subcommand → App
 with_commands line commands = fold (λ l command. with_subcommand l (shape_with command.name.now (map rule_of_word command.words.now))) line commands
 
@@ -109,20 +113,53 @@ command_line = record {
   };
   subs =
       shape_with (codes "trace") (number_rule (codes "N") 0 1000000 ∷ [])
-      ∷ shape_with (codes "check") (word_rule (codes "CART") None ∷ [])
-      ∷ shape_with (codes "migrate") (word_rule (codes "CART") None ∷ [])
-      ∷ shape_with (codes "shot") (word_rule (codes "CART") None ∷ number_rule (codes "K") 0 most_number ∷ [])
-      ∷ shape_with (codes "edit") (word_rule (codes "CART") None ∷ word_rule (codes "SCRIPT") None ∷ [])
-      ∷ shape_with (codes "diff") (word_rule (codes "CART") None ∷ word_rule (codes "OLD") None ∷ [])
+      ∷ shape_with (codes "check") (cart_rule ∷ [])
+      ∷ shape_with (codes "migrate") (cart_rule ∷ [])
+      ∷ shape_with (codes "shot") (cart_rule ∷ frame_rule (codes "K") ∷ [])
+      ∷ shape_with (codes "film") (cart_rule ∷ may_frame_rule (codes "FROM") ∷ may_frame_rule (codes "TO") ∷ [])
+      ∷ shape_with (codes "export") (cart_rule ∷ frame_rule (codes "FROM") ∷ frame_rule (codes "TO") ∷ number_rule (codes "WORKERS") 1 most_workers ∷ [])
+      ∷ shape_with (codes "ram") (cart_rule ∷ frame_rule (codes "FROM") ∷ frame_rule (codes "TO") ∷ [])
+      ∷ shape_with (codes "digest") (cart_rule ∷ may_number_rule (codes "EVERY") 1 most_every ∷ [])
+      ∷ shape_with (codes "compare") (cart_rule ∷ file_rule (codes "OLD") ∷ [])
+      ∷ shape_with (codes "edit") (cart_rule ∷ file_rule (codes "SCRIPT") ∷ [])
+      ∷ shape_with (codes "diff") (cart_rule ∷ file_rule (codes "OLD") ∷ [])
       ∷ shape_with (codes "script") (flag_rule (codes "CART") (codes "cart") ∷ flag_rule (codes "MOVIE") (codes "movie") ∷ [])
       ∷ shape_with (codes "talk") (may_word_rule (codes "CART") ∷ may_word_rule (codes "MOVIE") ∷ [])
-      ∷ shape_with (codes "export") (word_rule (codes "CART") None ∷ number_rule (codes "FROM") 0 most_number ∷ number_rule (codes "TO") 0 most_number ∷ number_rule (codes "WORKERS") 1 most_workers ∷ [])
       ∷ [];
 }
 
 abbrev pub IsCommandLine : Command → Type 0
 IsCommandLine command = app_of command ≡ command_line
 
--- the words reach the command of a task, whose own words are among those behind it
-abbrev pub IsAsked : List Text → Task → Type 0
-IsAsked words chosen = HasWordsOf (subcommand_of command_line words) chosen
+-- ---- which command some words name
+
+-- names that no other names stand beside
+abbrev pub labels : List Text → Names
+labels names = map (λ name. (name, [])) names
+
+-- the commands' names
+abbrev pub command_names : List Text
+command_names = map (λ s. s.name) command_line.subs
+
+-- the flags that stand before a command: help and version
+abbrev pub own_flags : List Rule
+own_flags = filled_from 1 (help_rule ∷ version_rule ∷ [])
+
+-- the command that the words name, the first of which is the program's name
+abbrev pub named_command : List Text → Option Text
+named_command words = option_map (λ p. p.0) (stop_after own_flags (labels command_names) (drop 1 words))
+
+-- ---- what they ask for
+
+-- the command that was reached has a task's words
+abbrev pub HasWordsOf : Option (Text × List Row) → Task → Type 0
+HasWordsOf None chosen = ⊥
+HasWordsOf (Some reached) chosen = HasWords reached.0 reached.1 chosen
+
+-- the words name a command and reach it with the words after it, which are a task's
+pub record IsAsked (words : List Text) (chosen : Task) : Type 0 where
+  pub name : Text
+  pub rows : List Row
+  pub named : named_command words ≡ Some name
+  pub reached : subcommand_of command_line words ≡ Some (name, rows)
+  pub has : HasWords name rows chosen

@@ -1,5 +1,5 @@
 -- What the words that the system gave ask for (own).
-use Rattle.std.specs.Prelude.{◌≡◌, List, Some, Result, Ok, Err, String, map, string_bytes}
+use Rattle.std.specs.Prelude.{◌≡◌, List, Result, Ok, Err, String, map, string_bytes}
 use Rattle.std.specs.Iterator.Runs.{WholeRun}
 use Rattle.std.specs.Vec.Iter.{into_iter_steps}
 use Rattle.std.specs.declared.vec.IntoIter.{IntoIter}
@@ -7,13 +7,12 @@ use Rattle.std.specs.declared.io.Error.{Error}
 use Rattle.tas_words.specs.declared.request.Request.{Request}
 use Rattle.tas_words.specs.declared.request.Request.TheVariants.{Do}
 use Rattle.clap.specs.Walk.{Text}
-use Rattle.tas_words.specs.CommandLine.{named_command, IsAsked}
-use Rattle.tas_words.specs.Task.{IsInRange, command_name}
+use Rattle.tas_words.specs.CommandLine.{IsAsked}
 
 -- what these words may ask for, the first of which is the program's name: the task of the command that they name, with its files and
 -- numbers, these in their ranges; or a text, or nothing that is understood, or memory was refused
 abbrev pub IsRequest : {A : Type 0} → List Text → Request A → Type 0
-IsRequest words (Do chosen) = (named_command words ≡ Some (command_name chosen)) × IsAsked words chosen × IsInRange chosen
+IsRequest words (Do chosen) = IsAsked words chosen
 IsRequest words _ = Unit {0}
 
 -- a request that is no task

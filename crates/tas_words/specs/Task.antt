@@ -1,71 +1,74 @@
--- The commands' names and the ranges of their numbers (own).
-use Rattle.std.specs.Prelude.{◌≡◌, ℕ, ◌≤◌, List, Option, Some, None, codes}
+-- What the words of each command ask for (own).
+use Rattle.std.specs.Prelude.{◌≡◌, ℕ, ◌≤◌, List, ◌⊎◌, Option, Some, None, codes}
 use Rattle.std.specs.Str.Parse.{digits_value, without_leading_plus}
 use Rattle.clap.specs.Walk.{Row, Text, first_of, one_of}
-use Rattle.tas_language.specs.Commands.{IsNumber}
+use Rattle.tas_language.specs.Commands.{most_number}
 use Rattle.tas_desk.specs.Runs.{most_workers}
+use Rattle.tas_words.specs.declared.task.Start.{Start}
+use Rattle.tas_words.specs.declared.task.Start.TheVariants.{Blank, Cart, Movie}
 use Rattle.tas_words.specs.declared.task.Task.{Task}
-use Rattle.tas_words.specs.declared.task.Task.TheVariants.{Trace, Check, Migrate, Shot, Edit, Diff, Script, MovieScript, Talk, CartTalk, MovieTalk, Export}
-
--- the word that names a command
-abbrev pub command_name : Task → List ℕ
-command_name (Trace instructions) = codes "trace"
-command_name (Check cart) = codes "check"
-command_name (Migrate cart) = codes "migrate"
-command_name (Shot cart frame) = codes "shot"
-command_name (Edit cart script) = codes "edit"
-command_name (Diff cart old) = codes "diff"
-command_name Script = codes "script"
-command_name (MovieScript cart movie) = codes "script"
-command_name Talk = codes "talk"
-command_name (CartTalk cart) = codes "talk"
-command_name (MovieTalk cart movie) = codes "talk"
-command_name (Export cart from to workers) = codes "export"
-
--- the numbers that the commands take
-abbrev pub IsInRange : Task → Type 0
-IsInRange (Trace instructions) = instructions ≤ 1000000
-IsInRange (Check cart) = Unit {0}
-IsInRange (Migrate cart) = Unit {0}
-IsInRange (Shot cart frame) = IsNumber frame
-IsInRange (Edit cart script) = Unit {0}
-IsInRange (Diff cart old) = Unit {0}
-IsInRange Script = Unit {0}
-IsInRange (MovieScript cart movie) = Unit {0}
-IsInRange Talk = Unit {0}
-IsInRange (CartTalk cart) = Unit {0}
-IsInRange (MovieTalk cart movie) = Unit {0}
-IsInRange (Export cart from to workers) = IsNumber from × IsNumber to × (1 ≤ workers) × (workers ≤ most_workers)
+use Rattle.tas_words.specs.declared.task.Task.TheVariants.{Trace, Check, Migrate, Shot, Film, Export, Ram, Digest, Compare, Edit, Diff, Script, Talk}
 
 -- the word of this name is this text
 abbrev pub IsWord : List Row → Text → Text → Type 0
 IsWord rows name text = first_of name rows ≡ Some text
 
--- the word of this name is this number
-abbrev pub IsNumberWord : List Row → Text → ℕ → Type 0
-IsNumberWord rows name n = (text : Text) × (one_of name rows ≡ Some text) × (n ≡ digits_value 10 (without_leading_plus text))
+-- there is no word of this name
+abbrev pub HasNoWord : List Row → Text → Type 0
+HasNoWord rows name = first_of name rows ≡ None
 
--- a task's files and numbers are the words of its command
-abbrev pub HasWords : List Row → Task → Type 0
-HasWords rows (Trace instructions) = IsNumberWord rows (codes "N") instructions
-HasWords rows (Check cart) = IsWord rows (codes "CART") cart.now
-HasWords rows (Migrate cart) = IsWord rows (codes "CART") cart.now
-HasWords rows (Shot cart frame) = IsWord rows (codes "CART") cart.now × IsNumberWord rows (codes "K") frame
-HasWords rows (Edit cart script) = IsWord rows (codes "CART") cart.now × IsWord rows (codes "SCRIPT") script.now
-HasWords rows (Diff cart old) = IsWord rows (codes "CART") cart.now × IsWord rows (codes "OLD") old.now
-HasWords rows Script = (first_of (codes "CART") rows ≡ None) × (first_of (codes "MOVIE") rows ≡ None)
-HasWords rows (MovieScript cart movie) = IsWord rows (codes "CART") cart.now × IsWord rows (codes "MOVIE") movie.now
-HasWords rows Talk = (first_of (codes "CART") rows ≡ None) × (first_of (codes "MOVIE") rows ≡ None)
-HasWords rows (CartTalk cart) = IsWord rows (codes "CART") cart.now × (first_of (codes "MOVIE") rows ≡ None)
-HasWords rows (MovieTalk cart movie) = IsWord rows (codes "CART") cart.now × IsWord rows (codes "MOVIE") movie.now
-HasWords rows (Export cart from to workers) =
-    IsWord rows (codes "CART") cart.now × IsNumberWord rows (codes "FROM") from × IsNumberWord rows (codes "TO") to × IsNumberWord rows (codes "WORKERS") workers
+-- the word of this name is this number, which is in a range
+abbrev pub IsNumberWord : List Row → Text → ℕ → ℕ → ℕ → Type 0
+IsNumberWord rows name least most n =
+    (least ≤ n) × (n ≤ most) × ((text : Text) × (one_of name rows ≡ Some text) × (n ≡ digits_value 10 (without_leading_plus text)))
 
--- a task is one of the command of this name: its numbers are in their ranges, and it has the command's words
-abbrev pub IsTaskOf : Text → List Row → Task → Type 0
-IsTaskOf name rows chosen = IsInRange chosen × (command_name chosen ≡ name) × HasWords rows chosen
+-- the same of a word that may be left out
+abbrev pub IsOptionalNumberWord : List Row → Text → ℕ → ℕ → Option ℕ → Type 0
+IsOptionalNumberWord rows name least most None = HasNoWord rows name
+IsOptionalNumberWord rows name least most (Some n) = IsNumberWord rows name least most n
 
--- the command that was reached is a task's, and has its words
-abbrev pub HasWordsOf : Option (Text × List Row) → Task → Type 0
-HasWordsOf None chosen = ⊥
-HasWordsOf (Some reached) chosen = (reached.0 ≡ command_name chosen) × HasWords reached.1 chosen
+-- the word of this name is the number of a frame
+abbrev pub IsFrameWord : List Row → Text → ℕ → Type 0
+IsFrameWord rows name k = IsNumberWord rows name 0 most_number k
+
+-- the same of a word that may be left out
+abbrev pub IsOptionalFrameWord : List Row → Text → Option ℕ → Type 0
+IsOptionalFrameWord rows name said = IsOptionalNumberWord rows name 0 most_number said
+
+-- the most frames of a stretch of a digest, and how many it has where the words don't say it
+abbrev pub most_every : ℕ
+most_every = 262144
+
+abbrev pub usual_every : ℕ
+usual_every = 600
+
+-- the word EVERY is this number, or it is left out and the number is the usual one
+abbrev pub IsEvery : List Row → ℕ → Type 0
+IsEvery rows n = IsNumberWord rows (codes "EVERY") 1 most_every n ⊎ (HasNoWord rows (codes "EVERY") × (n ≡ usual_every))
+
+-- the words name what is started from: nothing, a cartridge, or a movie
+abbrev pub IsStart : List Row → Start → Type 0
+IsStart rows Blank = HasNoWord rows (codes "CART") × HasNoWord rows (codes "MOVIE")
+IsStart rows (Cart cart) = IsWord rows (codes "CART") cart.now × HasNoWord rows (codes "MOVIE")
+IsStart rows (Movie files) = IsWord rows (codes "CART") files.cart.now × IsWord rows (codes "MOVIE") files.movie.now
+
+-- a task is that of the command of this name, and its files and numbers are the command's words, the numbers in their ranges
+abbrev pub HasWords : Text → List Row → Task → Type 0
+HasWords name rows (Trace instructions) = (name ≡ codes "trace") × IsNumberWord rows (codes "N") 0 1000000 instructions
+HasWords name rows (Check cart) = (name ≡ codes "check") × IsWord rows (codes "CART") cart.now
+HasWords name rows (Migrate cart) = (name ≡ codes "migrate") × IsWord rows (codes "CART") cart.now
+HasWords name rows (Shot cart k) = (name ≡ codes "shot") × IsWord rows (codes "CART") cart.now × IsFrameWord rows (codes "K") k
+HasWords name rows (Film cart from to) =
+    (name ≡ codes "film") × IsWord rows (codes "CART") cart.now × IsOptionalFrameWord rows (codes "FROM") from × IsOptionalFrameWord rows (codes "TO") to
+HasWords name rows (Export cart from to workers) =
+    (name ≡ codes "export") × IsWord rows (codes "CART") cart.now × IsFrameWord rows (codes "FROM") from × IsFrameWord rows (codes "TO") to
+    × IsNumberWord rows (codes "WORKERS") 1 most_workers workers
+HasWords name rows (Ram cart from to) =
+    (name ≡ codes "ram") × IsWord rows (codes "CART") cart.now × IsFrameWord rows (codes "FROM") from × IsFrameWord rows (codes "TO") to
+HasWords name rows (Digest cart every) = (name ≡ codes "digest") × IsWord rows (codes "CART") cart.now × IsEvery rows every
+HasWords name rows (Compare cart old) = (name ≡ codes "compare") × IsWord rows (codes "CART") cart.now × IsWord rows (codes "OLD") old.now
+HasWords name rows (Edit cart script) = (name ≡ codes "edit") × IsWord rows (codes "CART") cart.now × IsWord rows (codes "SCRIPT") script.now
+HasWords name rows (Diff cart old) = (name ≡ codes "diff") × IsWord rows (codes "CART") cart.now × IsWord rows (codes "OLD") old.now
+HasWords name rows (Script None) = (name ≡ codes "script") × IsStart rows Blank
+HasWords name rows (Script (Some files)) = (name ≡ codes "script") × IsStart rows (Movie files)
+HasWords name rows (Talk start) = (name ≡ codes "talk") × IsStart rows start

@@ -7,9 +7,13 @@
 
 mod command_line;
 mod request;
+mod subcommands;
 mod task;
 mod words;
 
 pub use request::{Request, collect_words, read_request};
-pub use task::{MAX_FRAME_NUMBER, MAX_INSTRUCTIONS, MAX_WORKERS, Task};
+pub use task::{
+    MAX_EVERY, MAX_FRAME_NUMBER, MAX_INSTRUCTIONS, MAX_WORKERS, MovieFiles, Start, Task,
+    USUAL_EVERY,
+};
 pub use words::read_words;

@@ -8,8 +8,37 @@ pub const MAX_INSTRUCTIONS: u32 = 1_000_000;
 /// The greatest number of a frame, which is that of a script's numbers (own).
 pub const MAX_FRAME_NUMBER: u32 = MAX_NUMBER as u32;
 
+/// The most frames of one stretch of a digest (own).
+pub const MAX_EVERY: u32 = 262_144;
+
+/// How many frames a stretch of a digest has, where the words don't say it (own).
+pub const USUAL_EVERY: u32 = 600;
+
 /// The most workers of one export (own).
 pub const MAX_WORKERS: u32 = tas_desk::MAX_WORKERS as u32;
+
+/// The names of a movie's two files (own).
+#[derive(Clone, Copy, Debug, PartialEq, Eq)]
+pub struct MovieFiles<'a> {
+    /// The name of the cartridge's file.
+    pub cart: &'a str,
+    /// The name of the file with the movie's text.
+    pub movie: &'a str,
+}
+
+/// What a conversation starts from (own).
+#[derive(Clone, Copy, Debug, PartialEq, Eq)]
+pub enum Start<'a> {
+    /// A blank cartridge with no frames.
+    Blank,
+    /// A cartridge with no frames.
+    Cart {
+        /// The name of the cartridge's file.
+        cart: &'a str,
+    },
+    /// A movie.
+    Movie(MovieFiles<'a>),
+}
 
 /// A command with its words (own).
 #[derive(Clone, Copy, Debug, PartialEq, Eq)]
@@ -34,7 +63,50 @@ pub enum Task<'a> {
         /// The name of the cartridge's file.
         cart: &'a str,
         /// The frame, counted from 0, up to 9,999,999.
-        frame: u32,
+        frame: usize,
+    },
+    /// Draw frames of the movie on standard input, any number of them, as they are played.
+    Film {
+        /// The name of the cartridge's file.
+        cart: &'a str,
+        /// The first frame, counted from 0, up to 9,999,999; the movie's first one if not given.
+        from: Option<usize>,
+        /// The frame after the last one, up to 9,999,999; that after the movie's last one if not given.
+        to: Option<usize>,
+    },
+    /// Draw some frames of the movie on standard input.
+    Export {
+        /// The name of the cartridge's file.
+        cart: &'a str,
+        /// The first frame, counted from 0, up to 9,999,999.
+        from: usize,
+        /// The frame after the last one, up to 9,999,999.
+        to: usize,
+        /// How many workers play them, 1 to [`MAX_WORKERS`].
+        workers: usize,
+    },
+    /// Write the RAM after some numbers of frames of the movie on standard input.
+    Ram {
+        /// The name of the cartridge's file.
+        cart: &'a str,
+        /// The first number of frames, up to 9,999,999.
+        from: usize,
+        /// The number after the last one, up to 9,999,999.
+        to: usize,
+    },
+    /// Write the digest of what the movie on standard input plays.
+    Digest {
+        /// The name of the cartridge's file.
+        cart: &'a str,
+        /// How many frames a stretch has, 1 to [`MAX_EVERY`]; 0 counts as 1.
+        every: usize,
+    },
+    /// Write where the movie on standard input first differs from an older one.
+    Compare {
+        /// The name of the cartridge's file.
+        cart: &'a str,
+        /// The name of the file with the older movie's text.
+        old: &'a str,
     },
     /// Make the changes of a script on the movie on standard input.
     Edit {
@@ -50,38 +122,8 @@ pub enum Task<'a> {
         /// The name of the file with the older movie's text.
         old: &'a str,
     },
-    /// Run the script on standard input.
-    Script,
-    /// Run the script on standard input from a movie on.
-    MovieScript {
-        /// The name of the cartridge's file.
-        cart: &'a str,
-        /// The name of the file with the movie's text.
-        movie: &'a str,
-    },
+    /// Run the script on standard input, from a blank cartridge with no frames, or from this movie on.
+    Script(Option<MovieFiles<'a>>),
     /// Answer the lines on standard input, each before the next one is read.
-    Talk,
-    /// Answer lines from a cartridge on.
-    CartTalk {
-        /// The name of the cartridge's file.
-        cart: &'a str,
-    },
-    /// Answer lines from a movie on.
-    MovieTalk {
-        /// The name of the cartridge's file.
-        cart: &'a str,
-        /// The name of the file with the movie's text.
-        movie: &'a str,
-    },
-    /// Draw some frames of the movie on standard input.
-    Export {
-        /// The name of the cartridge's file.
-        cart: &'a str,
-        /// The first frame, counted from 0, up to 9,999,999.
-        from: u32,
-        /// The frame after the last one, up to 9,999,999.
-        to: u32,
-        /// How many workers play them, 1 to [`MAX_WORKERS`].
-        workers: u32,
-    },
+    Talk(Start<'a>),
 }

@@ -1,21 +1,29 @@
 //! The words of the command line.
 
-ghost use Rattle.std.specs.Prelude.{◌≡◌, ◌≤◌, IfOk, IfSome, Some, codes, map, option_map, string_bytes};
+ghost use Rattle.std.specs.Prelude.{◌≡◌, IfOk, IfSome, codes, map, option_map, string_bytes};
 ghost use Rattle.clap.specs.Words.{first_of, found_of, rows_of, subcommand_rows_of};
-ghost use Rattle.tas_words.specs.Task.{HasWordsOf, IsInRange, IsNumberWord, IsTaskOf, command_name};
-ghost use Rattle.tas_words.specs.CommandLine.{named_command, IsAsked, IsCommandLine};
+ghost use Rattle.tas_words.specs.Task.{HasWords, IsEvery, IsFrameWord, IsNumberWord, IsOptionalFrameWord, IsOptionalNumberWord};
+ghost use Rattle.tas_words.specs.CommandLine.{HasWordsOf, IsAsked, IsCommandLine};
 
 use crate::command_line::command_line;
-use crate::{MAX_FRAME_NUMBER, MAX_INSTRUCTIONS, MAX_WORKERS, Task};
+use crate::{
+    MAX_EVERY, MAX_FRAME_NUMBER, MAX_INSTRUCTIONS, MAX_WORKERS, MovieFiles, Start, Task,
+    USUAL_EVERY,
+};
 use clap::error::ErrorKind;
 use clap::{ArgMatches, Command, Error};
 use std::alloc::{Allocator, Global};
 
+/// The word of this name, where there is one.
+fn word_of<'a>(matches: &ArgMatches<'a>, name: &str) -> Option<&'a str>
+    ensures { option_map (λ word. word.now) result ≡ first_of name.now (rows_of (found_of matches.now)) }
+{
+    matches.get_str(name)
+}
+
 /// The number of this name, where it is in its range.
 fn number_of(matches: &ArgMatches<'_>, name: &str, least: u32, most: u32) -> Option<u32>
-    ensures least { IfSome result (λ n. least ≤ n) }
-    ensures most { IfSome result (λ n. n ≤ most) }
-    ensures number { IfSome result (IsNumberWord (rows_of (found_of matches.now)) name.now) }
+    ensures { IfSome result (IsNumberWord (rows_of (found_of matches.now)) name.now least most) }
 {
     let n = matches.get_one::<u32>(name)?;
     // clap refuses other numbers before; no clause of `get_one` says so.
@@ -26,127 +34,149 @@ fn number_of(matches: &ArgMatches<'_>, name: &str, least: u32, most: u32) -> Opt
     }
 }
 
-/// The word of this name, where there is one.
-fn word_of<'a>(matches: &ArgMatches<'a>, name: &str) -> Option<&'a str>
-    ensures { option_map (λ word. word.now) result ≡ first_of name.now (rows_of (found_of matches.now)) }
+/// The number of this name, in its range; `Some(None)` where there is none.
+fn optional_number_of(
+    matches: &ArgMatches<'_>,
+    name: &str,
+    least: u32,
+    most: u32,
+) -> Option<Option<u32>>
+    ensures { IfSome result (IsOptionalNumberWord (rows_of (found_of matches.now)) name.now least most) }
 {
-    matches.get_str(name)
+    match word_of(matches, name) {
+        Some(_) => Some(Some(number_of(matches, name, least, most)?)),
+        None => Some(None),
+    }
 }
 
-/// What the words of `tas trace` ask for.
-fn trace_task<'a>(matches: &ArgMatches<'a>) -> Option<Task<'a>>
-    ensures { IfSome result (IsTaskOf (codes "trace") (rows_of (found_of matches.now))) }
+/// The number of a frame, of this name.
+fn frame_of(matches: &ArgMatches<'_>, name: &str) -> Option<usize>
+    ensures { IfSome result (IsFrameWord (rows_of (found_of matches.now)) name.now) }
 {
-    Some(Task::Trace {
-        instructions: number_of(matches, "N", 0, MAX_INSTRUCTIONS)?,
-    })
+    Some(number_of(matches, name, 0, MAX_FRAME_NUMBER)? as usize)
 }
 
-/// What the words of `tas check` ask for.
-fn check_task<'a>(matches: &ArgMatches<'a>) -> Option<Task<'a>>
-    ensures { IfSome result (IsTaskOf (codes "check") (rows_of (found_of matches.now))) }
+/// The number of a frame, of this name; `Some(None)` where there is none.
+fn optional_frame_of(matches: &ArgMatches<'_>, name: &str) -> Option<Option<usize>>
+    ensures { IfSome result (IsOptionalFrameWord (rows_of (found_of matches.now)) name.now) }
 {
-    Some(Task::Check {
-        cart: word_of(matches, "CART")?,
-    })
+    match optional_number_of(matches, name, 0, MAX_FRAME_NUMBER)? {
+        Some(frame) => Some(Some(frame as usize)),
+        None => Some(None),
+    }
 }
 
-/// What the words of `tas migrate` ask for.
-fn migrate_task<'a>(matches: &ArgMatches<'a>) -> Option<Task<'a>>
-    ensures { IfSome result (IsTaskOf (codes "migrate") (rows_of (found_of matches.now))) }
+/// How many frames a stretch of a digest has.
+fn every_of(matches: &ArgMatches<'_>) -> Option<usize>
+    ensures { IfSome result (IsEvery (rows_of (found_of matches.now))) }
 {
-    Some(Task::Migrate {
-        cart: word_of(matches, "CART")?,
-    })
-}
-
-/// What the words of `tas shot` ask for.
-fn shot_task<'a>(matches: &ArgMatches<'a>) -> Option<Task<'a>>
-    ensures { IfSome result (IsTaskOf (codes "shot") (rows_of (found_of matches.now))) }
-{
-    Some(Task::Shot {
-        cart: word_of(matches, "CART")?,
-        frame: number_of(matches, "K", 0, MAX_FRAME_NUMBER)?,
-    })
-}
-
-/// What the words of `tas edit` ask for.
-fn edit_task<'a>(matches: &ArgMatches<'a>) -> Option<Task<'a>>
-    ensures { IfSome result (IsTaskOf (codes "edit") (rows_of (found_of matches.now))) }
-{
-    Some(Task::Edit {
-        cart: word_of(matches, "CART")?,
-        script: word_of(matches, "SCRIPT")?,
-    })
-}
-
-/// What the words of `tas diff` ask for.
-fn diff_task<'a>(matches: &ArgMatches<'a>) -> Option<Task<'a>>
-    ensures { IfSome result (IsTaskOf (codes "diff") (rows_of (found_of matches.now))) }
-{
-    Some(Task::Diff {
-        cart: word_of(matches, "CART")?,
-        old: word_of(matches, "OLD")?,
-    })
+    match optional_number_of(matches, "EVERY", 1, MAX_EVERY)? {
+        Some(every) => Some(every as usize),
+        None => Some(USUAL_EVERY as usize),
+    }
 }
 
 /// What the words of `tas script` ask for; `None` where they name one file.
 fn script_task<'a>(matches: &ArgMatches<'a>) -> Option<Task<'a>>
-    ensures { IfSome result (IsTaskOf (codes "script") (rows_of (found_of matches.now))) }
+    ensures { IfSome result (HasWords (codes "script") (rows_of (found_of matches.now))) }
 {
     match (word_of(matches, "CART"), word_of(matches, "MOVIE")) {
-        (None, None) => Some(Task::Script),
-        (Some(cart), Some(movie)) => Some(Task::MovieScript { cart, movie }),
+        (None, None) => Some(Task::Script(None)),
+        (Some(cart), Some(movie)) => Some(Task::Script(Some(MovieFiles { cart, movie }))),
         _ => None,
     }
 }
 
 /// What the words of `tas talk` ask for; `None` where they name a movie alone.
 fn talk_task<'a>(matches: &ArgMatches<'a>) -> Option<Task<'a>>
-    ensures { IfSome result (IsTaskOf (codes "talk") (rows_of (found_of matches.now))) }
+    ensures { IfSome result (HasWords (codes "talk") (rows_of (found_of matches.now))) }
 {
     match (word_of(matches, "CART"), word_of(matches, "MOVIE")) {
-        (None, None) => Some(Task::Talk),
-        (Some(cart), None) => Some(Task::CartTalk { cart }),
-        (Some(cart), Some(movie)) => Some(Task::MovieTalk { cart, movie }),
+        (None, None) => Some(Task::Talk(Start::Blank)),
+        (Some(cart), None) => Some(Task::Talk(Start::Cart { cart })),
+        (Some(cart), Some(movie)) => Some(Task::Talk(Start::Movie(MovieFiles { cart, movie }))),
         (None, Some(_)) => None,
     }
 }
 
-/// What the words of `tas export` ask for.
-fn export_task<'a>(matches: &ArgMatches<'a>) -> Option<Task<'a>>
-    ensures { IfSome result (IsTaskOf (codes "export") (rows_of (found_of matches.now))) }
+/// What the command of this name asks for with its words; `None` where it is none of these, which write texts.
+fn text_task<'a>(name: &str, words: &ArgMatches<'a>) -> Option<Task<'a>>
+    ensures { IfSome result (HasWords name.now (rows_of (found_of words.now))) }
 {
-    Some(Task::Export {
-        cart: word_of(matches, "CART")?,
-        from: number_of(matches, "FROM", 0, MAX_FRAME_NUMBER)?,
-        to: number_of(matches, "TO", 0, MAX_FRAME_NUMBER)?,
-        workers: number_of(matches, "WORKERS", 1, MAX_WORKERS)?,
-    })
+    match name {
+        "trace" => Some(Task::Trace {
+            instructions: number_of(words, "N", 0, MAX_INSTRUCTIONS)?,
+        }),
+        "check" => Some(Task::Check {
+            cart: word_of(words, "CART")?,
+        }),
+        "migrate" => Some(Task::Migrate {
+            cart: word_of(words, "CART")?,
+        }),
+        "edit" => Some(Task::Edit {
+            cart: word_of(words, "CART")?,
+            script: word_of(words, "SCRIPT")?,
+        }),
+        "diff" => Some(Task::Diff {
+            cart: word_of(words, "CART")?,
+            old: word_of(words, "OLD")?,
+        }),
+        "script" => script_task(words),
+        "talk" => talk_task(words),
+        _ => None,
+    }
+}
+
+/// What the command of this name asks for with its words; `None` where it is none of these, which play frames.
+fn frames_task<'a>(name: &str, words: &ArgMatches<'a>) -> Option<Task<'a>>
+    ensures { IfSome result (HasWords name.now (rows_of (found_of words.now))) }
+{
+    match name {
+        "shot" => Some(Task::Shot {
+            cart: word_of(words, "CART")?,
+            frame: frame_of(words, "K")?,
+        }),
+        "film" => Some(Task::Film {
+            cart: word_of(words, "CART")?,
+            from: optional_frame_of(words, "FROM")?,
+            to: optional_frame_of(words, "TO")?,
+        }),
+        "export" => Some(Task::Export {
+            cart: word_of(words, "CART")?,
+            from: frame_of(words, "FROM")?,
+            to: frame_of(words, "TO")?,
+            workers: number_of(words, "WORKERS", 1, MAX_WORKERS)? as usize,
+        }),
+        "ram" => Some(Task::Ram {
+            cart: word_of(words, "CART")?,
+            from: frame_of(words, "FROM")?,
+            to: frame_of(words, "TO")?,
+        }),
+        "digest" => Some(Task::Digest {
+            cart: word_of(words, "CART")?,
+            every: every_of(words)?,
+        }),
+        "compare" => Some(Task::Compare {
+            cart: word_of(words, "CART")?,
+            old: word_of(words, "OLD")?,
+        }),
+        _ => None,
+    }
 }
 
 /// What the command of this name asks for with its words; `None` where it is no command of this program.
 fn command_task<'a>(name: &str, words: &ArgMatches<'a>) -> Option<Task<'a>>
-    ensures { IfSome result (IsTaskOf name.now (rows_of (found_of words.now))) }
+    ensures { IfSome result (HasWords name.now (rows_of (found_of words.now))) }
 {
-    match name {
-        "trace" => trace_task(words),
-        "check" => check_task(words),
-        "migrate" => migrate_task(words),
-        "shot" => shot_task(words),
-        "edit" => edit_task(words),
-        "diff" => diff_task(words),
-        "script" => script_task(words),
-        "talk" => talk_task(words),
-        "export" => export_task(words),
-        _ => None,
+    match text_task(name, words) {
+        Some(task) => Some(task),
+        None => frames_task(name, words),
     }
 }
 
 /// What matched words ask for; `None` where they are no command of this program.
 fn task_of<'a>(matches: &ArgMatches<'a>) -> Option<Task<'a>>
-    ensures range { IfSome result IsInRange }
-    ensures words { IfSome result (HasWordsOf (subcommand_rows_of matches.now)) }
+    ensures { IfSome result (HasWordsOf (subcommand_rows_of matches.now)) }
 {
     let (name, words) = matches.subcommand()?;
     command_task(name, words)
@@ -158,8 +188,7 @@ fn task_by<'a, A: Allocator>(
     words: &'a [String<A>],
 ) -> Result<Task<'a>, Error>
     requires { IsCommandLine line.now }
-    ensures range { IfOk result IsInRange }
-    ensures asked { IfOk result (IsAsked (map string_bytes words.entry.now)) }
+    ensures { IfOk result (IsAsked (map string_bytes words.entry.now)) }
 {
     let matches = line.try_get_matches_from_mut(words)?;
     match task_of(&matches) {
@@ -176,9 +205,7 @@ pub fn read_words<'a, A: Allocator>(
     global: Global,
     words: &'a [String<A>],
 ) -> Result<Task<'a>, Error>
-    ensures range { IfOk result IsInRange }
-    ensures named { IfOk result (λ task. named_command (map string_bytes words.entry.now) ≡ Some (command_name task)) }
-    ensures asked { IfOk result (IsAsked (map string_bytes words.entry.now)) }
+    ensures { IfOk result (IsAsked (map string_bytes words.entry.now)) }
 {
     let mut line = command_line(global)?;
     task_by(&mut line, words)

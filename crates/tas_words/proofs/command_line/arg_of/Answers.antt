@@ -11,3 +11,6 @@ returns-in-Flag-clause-rule c = rw c.in-Flag.is c.flag.ensures.rule
 
 pub returns-in-Number-clause-rule : goal.returns-in-Number-clause-rule
 returns-in-Number-clause-rule c = rw c.in-Number.is c.number.ensures.rule
+
+pub returns-in-OptionalNumber-clause-rule : goal.returns-in-OptionalNumber-clause-rule
+returns-in-OptionalNumber-clause-rule c = rw c.in-OptionalNumber.is c.optional_number.ensures.rule

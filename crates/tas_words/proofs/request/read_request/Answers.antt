@@ -1,4 +1,4 @@
 use Rattle.tas_words.proofs.request.read_request.Goals as goal
 
 pub returns-in-Ok : goal.returns-in-Ok
-returns-in-Ok g c = (c.in-Ok.ensures.named, c.in-Ok.ensures.asked, c.in-Ok.ensures.range)
+returns-in-Ok g c = c.in-Ok.ensures

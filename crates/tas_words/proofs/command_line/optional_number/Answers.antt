@@ -1,0 +1,6 @@
+use Rattle.std.proofs.Common.{arith}
+use Rattle.std.proofs.lemmas.Grind.{common_steps}
+use Rattle.tas_words.proofs.command_line.optional_number.Goals as goal
+
+pub returns-clause-local : goal.returns-clause-local
+returns-clause-local c = grind (arith, common_steps)

@@ -1,0 +1,410 @@
+//! The commands, with their help and their words.
+
+ghost use Rattle.std.specs.Prelude.{◌≡◌};
+ghost use Rattle.tas_words.specs.CommandLine.{command_line, empty_line, with_commands};
+
+use crate::{MAX_EVERY, MAX_FRAME_NUMBER, MAX_INSTRUCTIONS, MAX_WORKERS};
+
+/// What a word of a command is.
+#[derive(Clone, Copy)]
+pub(crate) enum WordKind {
+    /// The name of a file.
+    File,
+    /// The name of a file that may be left out.
+    OptionalFile,
+    /// The name of a file after a flag, which goes with another one.
+    Flag {
+        flag: &'static str,
+        other: &'static str,
+    },
+    /// A number from the least to the most.
+    Number {
+        least: u32,
+        most: u32,
+    },
+    /// A number from the least to the most that may be left out.
+    OptionalNumber {
+        least: u32,
+        most: u32,
+    },
+}
+
+/// A word of a command.
+#[derive(Clone, Copy)]
+pub(crate) struct Word {
+    pub(crate) name: &'static str,
+    pub(crate) help: &'static str,
+    pub(crate) kind: WordKind,
+}
+
+/// A command, what it does in a line and in a text, and its words.
+#[derive(Clone, Copy)]
+pub(crate) struct Subcommand {
+    pub(crate) name: &'static str,
+    pub(crate) about: &'static str,
+    pub(crate) help: &'static str,
+    pub(crate) words: &'static [Word],
+}
+
+const TRACE_HELP: &str = "\
+Standard input is the cartridge: its image of 4096 or 2048 bytes, as an assembler writes it.
+Standard output has one line for each instruction from power-on, with nothing pressed:
+its address, its opcode, the registers A X Y S P after it, and its CPU cycles.
+A byte that is no documented opcode ends the trace with a line such as 'F006 02 halt'.
+
+Example:
+  examples/cart counter | ./tas trace 3";
+
+const CHECK_HELP: &str = "\
+Standard input is the movie text: a line 'a26movie 2', a line 'cart ' with the SHA-256 of the
+cartridge, and a line for each run of equal frames: 'R.... ..... .....' is one frame, and
+'R.... ..... ..... x60' sixty. An older text, 'a26movie 1' with a line for each frame, is read too.
+Standard output is 'ok F frames', where the text is one of a movie of F frames with this cartridge.
+Otherwise the first line at fault is reported. Only the text is read: no frame is played, so a movie
+that halts is 'ok'. 'tas digest' plays it.
+
+Example:
+  examples/cart joystick > joystick.bin
+  ./tas check joystick.bin < examples/joystick.movie";
+
+const MIGRATE_HELP: &str = "\
+Standard input is a movie text, as for 'tas check'.
+Standard output is the same movie as a text of runs: 'a26movie 2', and a line for each run of equal
+frames.
+
+Example:
+  ./tas migrate joystick.bin < examples/older.movie > new.movie";
+
+const SHOT_HELP: &str = "\
+Standard input is the movie text, as for 'tas check'.
+Standard output is the picture of frame K, 160 by 210 pixels as a binary portable pixmap (P6),
+replayed from power-on.
+
+Example:
+  examples/cart joystick > joystick.bin
+  ./tas shot joystick.bin 60 < examples/joystick.movie > frame60.ppm";
+
+const FILM_HELP: &str = "\
+Standard input is the movie text, as for 'tas check'.
+Standard output is the pictures of the frames FROM to TO - 1, each as for 'tas shot', one after the
+other: any number of them, each written as soon as it is played. FROM is 0 and TO the movie's length
+if not given. A halted frame ends the film with its fault; the pictures of the frames before it are
+written.
+
+Example:
+  examples/cart joystick > joystick.bin
+  ./tas film joystick.bin < examples/joystick.movie |
+    ffmpeg -f ppm_pipe -framerate 60 -i - -vf scale=640:420:flags=neighbor -pix_fmt yuv420p film.mp4";
+
+const EXPORT_HELP: &str = "\
+Standard input is the movie text, as for 'tas check'.
+Standard output is the pictures of the frames FROM to TO - 1, at most 1024, each as for 'tas shot',
+one after the other. WORKERS threads replay the movie from power-on and share the frames; the
+pictures don't depend on their number. Nothing is written before all are ready. For a longer film
+there is 'tas film', which writes each picture as soon as it is played.
+
+Example:
+  examples/cart joystick > joystick.bin
+  ./tas export joystick.bin 0 120 4 < examples/joystick.movie |
+    ffmpeg -f ppm_pipe -framerate 60 -i - -vf scale=640:420:flags=neighbor -pix_fmt yuv420p film.mp4";
+
+const RAM_HELP: &str = "\
+Standard input is the movie text, as for 'tas check'.
+Standard output has a line 'K DIGITS' for each K from FROM to TO - 1: the 128 bytes of RAM after K
+frames from power-on, addresses 80 to FF, as 256 upper case hexadecimal digits. K is a number of
+frames: 0 is power-on, and TO is at most the movie's length and one. Frame K - 1 is the last one that
+is played before line K.
+
+Example, address 81 after each of the first ten frames:
+  examples/cart joystick > joystick.bin
+  ./tas ram joystick.bin 1 11 < examples/joystick.movie | awk '{ print $1, substr($2, 3, 2) }'";
+
+const DIGEST_HELP: &str = "\
+Standard input is the movie text, as for 'tas check'.
+Standard output is what to keep beside a movie, to show later that it still plays the same: the
+machine's version, the SHA-256 of the cartridge and of the movie's text of runs, and a line
+'frames A to B ram HEX picture HEX' for each stretch of EVERY frames, 600 if not given (B isn't
+included): the SHA-256 of RAM after each frame of the stretch, and that of the picture of its last
+frame. 'diff' of two digests shows the first stretch that plays differently. A halted frame is a
+fault, and nothing is written then.
+
+Example:
+  examples/cart joystick > joystick.bin
+  ./tas digest joystick.bin 60 < examples/joystick.movie > joystick.digest";
+
+const COMPARE_HELP: &str = "\
+Standard input is a movie text, as for 'tas check', and OLD is the file with the text of an older one.
+Standard output has three lines, 'input I', 'ram R' and 'picture P': the first frame, counted from 0,
+at which the inputs of the two movies differ, RAM after the frame, and the picture; or 'none'. Where
+one movie ends sooner, they differ at its end. Up to the first input that differs they are played as
+one.
+
+Example:
+  examples/cart joystick > joystick.bin
+  ./tas edit joystick.bin examples/mend.script < examples/joystick.movie > mended.movie
+  ./tas compare joystick.bin examples/joystick.movie < mended.movie";
+
+const EDIT_HELP: &str = "\
+Standard input is the movie text, as for 'tas check'. The script's file has changes, a line each:
+  insert PLACE COUNT FRAME   insert COUNT frames such as 'R.... ..... .....'
+  replace PLACE COUNT FRAME  replace COUNT frames
+  delete PLACE COUNT         delete COUNT frames
+Standard output is the text of the movie that they make, in order. A line that isn't understood, or
+whose change reaches past the last frame or makes the movie too long, ends the command with its fault
+and nothing written.
+
+Example:
+  ./tas edit joystick.bin examples/mend.script < examples/joystick.movie > mended.movie";
+
+const DIFF_HELP: &str = "\
+Standard input is a movie text, as for 'tas check', and OLD is the file with the text of an older one.
+Standard output is a script for 'tas edit' that turns the old movie into the new one: nothing where
+they are equal.
+
+Example:
+  ./tas diff joystick.bin examples/joystick.movie < mended.movie";
+
+const SCRIPT_HELP: &str = "\
+Standard input is the script: edits of a movie and looks at it, a line each:
+  load OFF=HEX ..            take a cartridge of 4096 zeros with these bytes
+  load2 OFF=HEX ..           take one of 2048 zeros
+  insert PLACE COUNT FRAME   insert COUNT frames such as 'R.... ..... .....'
+  replace PLACE COUNT FRAME  replace COUNT frames
+  delete PLACE COUNT         delete COUNT frames
+  len, input K, shot K       report the length, an input, or what frame K shows
+  work K                     keep states up to frame K
+Standard output has a reply for each line; refusals are replies, too. A line that isn't understood
+ends the script. With --cart and --movie the script starts from this movie, which counts as two
+edits; else from a blank cartridge with no frames.
+
+Examples:
+  ./tas script < examples/edits.script
+  echo shot 60 | ./tas script --cart joystick.bin --movie examples/joystick.movie";
+
+const TALK_HELP: &str = "\
+Standard input is lines, as of 'tas script', and standard output has the answer to each before the
+next one is read, so that another program can hold the conversation. It has these lines, too:
+  picture K                  a line 'picture AT K BYTES', then BYTES bytes: the pixmap of frame K
+  movie                      a line 'movie AT BYTES', then BYTES bytes: the movie's text
+  states                     'states AT N' and the N frames after which a machine state is kept
+  quit                       ends the conversation, as the end of standard input does
+AT is the number of edits so far. A line that isn't understood, or longer than 16384 bytes, is
+answered 'unknown' and changes nothing. With CART it starts from this cartridge, with MOVIE from this
+movie. That counts as two edits.
+
+Example:
+  printf 'len\\nshot 60\\nstates\\nquit\\n' | ./tas talk joystick.bin examples/joystick.movie";
+
+const CARTRIDGE: Word = Word {
+    name: "CART",
+    help: "The cartridge's file: its image of 4096 or 2048 bytes",
+    kind: WordKind::File,
+};
+
+const FRAME: WordKind = WordKind::Number {
+    least: 0,
+    most: MAX_FRAME_NUMBER,
+};
+
+const OPTIONAL_FRAME: WordKind = WordKind::OptionalNumber {
+    least: 0,
+    most: MAX_FRAME_NUMBER,
+};
+
+const OLD: Word = Word {
+    name: "OLD",
+    help: "The file with the older movie's text",
+    kind: WordKind::File,
+};
+
+/// The program's commands.
+static SUBCOMMANDS: [Subcommand; 13] = [
+    Subcommand {
+        name: "trace",
+        about: "Writes the first instructions of a cartridge, a line for each",
+        help: TRACE_HELP,
+        words: &[Word {
+            name: "N",
+            help: "How many instructions, 0 to 1000000",
+            kind: WordKind::Number {
+                least: 0,
+                most: MAX_INSTRUCTIONS,
+            },
+        }],
+    },
+    Subcommand {
+        name: "check",
+        about: "Checks a movie text and prints its length",
+        help: CHECK_HELP,
+        words: &[CARTRIDGE],
+    },
+    Subcommand {
+        name: "migrate",
+        about: "Writes a movie text, older ones too, as a text of runs ('a26movie 2')",
+        help: MIGRATE_HELP,
+        words: &[CARTRIDGE],
+    },
+    Subcommand {
+        name: "shot",
+        about: "Writes the picture of one frame of a movie",
+        help: SHOT_HELP,
+        words: &[
+            CARTRIDGE,
+            Word {
+                name: "K",
+                help: "The frame, counted from 0",
+                kind: FRAME,
+            },
+        ],
+    },
+    Subcommand {
+        name: "film",
+        about: "Writes the pictures of a movie's frames as they are played, any number of them",
+        help: FILM_HELP,
+        words: &[
+            CARTRIDGE,
+            Word {
+                name: "FROM",
+                help: "The first frame, counted from 0: 0 if not given",
+                kind: OPTIONAL_FRAME,
+            },
+            Word {
+                name: "TO",
+                help: "The frame after the last one: the movie's length if not given",
+                kind: OPTIONAL_FRAME,
+            },
+        ],
+    },
+    Subcommand {
+        name: "export",
+        about: "Writes the pictures of some frames of a movie, one after the other",
+        help: EXPORT_HELP,
+        words: &[
+            CARTRIDGE,
+            Word {
+                name: "FROM",
+                help: "The first frame, counted from 0",
+                kind: FRAME,
+            },
+            Word {
+                name: "TO",
+                help: "The frame after the last one",
+                kind: FRAME,
+            },
+            Word {
+                name: "WORKERS",
+                help: "How many threads play them, 1 to 16",
+                kind: WordKind::Number {
+                    least: 1,
+                    most: MAX_WORKERS,
+                },
+            },
+        ],
+    },
+    Subcommand {
+        name: "ram",
+        about: "Writes the RAM after some numbers of frames of a movie, a line for each",
+        help: RAM_HELP,
+        words: &[
+            CARTRIDGE,
+            Word {
+                name: "FROM",
+                help: "The first number of frames; 0 is power-on",
+                kind: FRAME,
+            },
+            Word {
+                name: "TO",
+                help: "The number after the last one",
+                kind: FRAME,
+            },
+        ],
+    },
+    Subcommand {
+        name: "digest",
+        about: "Plays a movie and writes digests of its RAM and pictures",
+        help: DIGEST_HELP,
+        words: &[
+            CARTRIDGE,
+            Word {
+                name: "EVERY",
+                help: "How many frames a line is for, 1 to 262144: 600 if not given",
+                kind: WordKind::OptionalNumber {
+                    least: 1,
+                    most: MAX_EVERY,
+                },
+            },
+        ],
+    },
+    Subcommand {
+        name: "compare",
+        about: "Writes the first frames at which two movies differ",
+        help: COMPARE_HELP,
+        words: &[CARTRIDGE, OLD],
+    },
+    Subcommand {
+        name: "edit",
+        about: "Makes the changes of a script on a movie and writes its text",
+        help: EDIT_HELP,
+        words: &[
+            CARTRIDGE,
+            Word {
+                name: "SCRIPT",
+                help: "The script's file: a change a line",
+                kind: WordKind::File,
+            },
+        ],
+    },
+    Subcommand {
+        name: "diff",
+        about: "Writes the script that turns one movie into another",
+        help: DIFF_HELP,
+        words: &[CARTRIDGE, OLD],
+    },
+    Subcommand {
+        name: "script",
+        about: "Edits a movie by a script and writes the replies",
+        help: SCRIPT_HELP,
+        words: &[
+            Word {
+                name: "CART",
+                help: "The cartridge's file of a movie to start from",
+                kind: WordKind::Flag {
+                    flag: "cart",
+                    other: "MOVIE",
+                },
+            },
+            Word {
+                name: "MOVIE",
+                help: "The file with this movie's text",
+                kind: WordKind::Flag {
+                    flag: "movie",
+                    other: "CART",
+                },
+            },
+        ],
+    },
+    Subcommand {
+        name: "talk",
+        about: "Answers lines, each before the next one is read",
+        help: TALK_HELP,
+        words: &[
+            Word {
+                name: "CART",
+                help: "The file of a cartridge to start from",
+                kind: WordKind::OptionalFile,
+            },
+            Word {
+                name: "MOVIE",
+                help: "The file with the text of a movie to start from",
+                kind: WordKind::OptionalFile,
+            },
+        ],
+    },
+];
+
+/// The program's commands, which make its command line.
+pub(crate) fn subcommands() -> &'static [Subcommand]
+    ensures { with_commands empty_line result.now ≡ command_line }
+{
+    &SUBCOMMANDS
+}
