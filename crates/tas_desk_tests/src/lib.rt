@@ -46,3 +46,5 @@ mod steps;
 mod sums;
 #[cfg(test)]
 mod thread_tests;
+#[cfg(test)]
+mod window_tests;
