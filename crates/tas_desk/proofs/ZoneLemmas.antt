@@ -54,3 +54,8 @@ made_for {A} z y list marked movie lawful near =
 pub seen_more : {A : Type 0} (v w : ReaderView A) (number made : ℕ) (before : SeatContent A) (z y : ZoneContent A) → seat_of number made v.seen z ≡ before → HasSeenMore v w → HasSeen before (seat_of number made w.seen y)
 seen_more {A} v w number made before z y view more =
     subst (λ (s : SeatContent A). HasSeen s (seat_of number made w.seen y)) view (record { number = refl; made = refl; begins = more.begins })
+
+-- what holds anyway holds where there is no error
+pub on_ok : {X E P : Type 0} (r : Result X E) → P → OnOk r P
+on_ok (Ok x) p = p
+on_ok (Err e) p = tt

@@ -13,7 +13,7 @@ use Rattle.tas_green.specs.Run.{state_after}
 use Rattle.tas_green.specs.Zone.{state_at, nearest, first_of, where_true, is_passed}
 use Rattle.tas_green.specs.Grid.{stride}
 use Rattle.tas_green.specs.Green.{HoldsGrid, IsMoved}
-use Rattle.tas_green.specs.Window.{is_near, is_gained, both, start_between, view_start, IsWindowMoved, IsFilled, IsViewFrom, IsOneAway}
+use Rattle.tas_green.specs.Window.{is_near, is_gained, BothContent, both, start_between, view_start, IsWindowMoved, IsFilled, IsViewFrom, IsOneAway}
 use Rattle.tas_green.proofs.ZoneLemmas.{at_same, at_other}
 use Rattle.tas_green.proofs.GridLemmas.{stride_rare, div_mono}
 use Rattle.tas_green.proofs.BoundLemmas.{nearest_close, nearest_ge, next_row}
@@ -157,6 +157,13 @@ view_is old new k ran start green left green' window near window' moved cut is c
       start = rw is at count;
       filled = rw is at filled;
     }
+
+-- no more frames are played than a shot would play
+pub view_less : (old new : MovieContent) (k : ℕ) (before now : BothContent) (ran : ℕ) (v : IsViewFrom old new k before now ran) → ran ≤ v.rose
+view_less old new k before now ran v =
+    let rise = v.shot.rise in
+    let start = v.start in
+    omega (arith, rise, start, start_ge (stride (length new.inputs)) (nearest k v.shot.left) (nearest k v.left))
 
 -- ---- how many frames the next view plays
 

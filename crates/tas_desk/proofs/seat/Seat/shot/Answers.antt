@@ -3,10 +3,10 @@ use Rattle.std.proofs.Common.{ap, sym, subst, subst₂, refl, arith}
 use Rattle.tas_green.specs.Green.{IsShotFrom}
 use Rattle.tas_desk.specs.Version.{VersionContent}
 use Rattle.tas_desk.specs.Seats.{SeatContent}
-use Rattle.tas_desk.specs.Zones.{ZoneContent, IsPlayed, IsShort}
+use Rattle.tas_desk.specs.Zones.{ZoneContent, CutsWindow, IsPlayed, IsShort}
 use Rattle.tas_desk.proofs.CutLemmas.{short_shot}
 use Rattle.tas_desk.proofs.ZoneLemmas.{seated_on, marked, made_for, seen_more}
-use Rattle.tas_desk.proofs.ShotLemmas.{shot_at, so_many, zone_shot}
+use Rattle.tas_desk.proofs.ShotLemmas.{shot_at, so_many, was_played, zone_shot}
 use Rattle.tas_desk.proofs.seat.Seat.shot.Goals as goal
 
 pub returns-clause-zone : goal.returns-clause-zone
@@ -70,3 +70,8 @@ returns-in_default-clause-zone g c = grind (arith, common_steps)
 
 pub shot-requires-clause-within : goal.shot-requires-clause-within
 shot-requires-clause-within g c = grind (arith, common_steps)
+
+pub returns-clause-window : goal.returns-clause-window
+returns-clause-window g c =
+    was_played c.args.k _ c.count.result _ c.in-Ok-shot.end _ _ _ c.shown.ensures.shot c.shown.ensures.halted
+    (subst (λ (z : ZoneContent _). CutsWindow z c.shot.new.self) (ap (λ (s : SeatContent _). s.zone) c.self.view_is) c.in-Ok-shot.ensures.cut)

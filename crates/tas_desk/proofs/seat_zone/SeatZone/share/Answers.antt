@@ -1,8 +1,10 @@
 use Rattle.std.proofs.lemmas.Grind.{common_steps}
-use Rattle.std.specs.Prelude.{IfOk}
+use Rattle.std.specs.Prelude.{IfOk, OnOk}
 use Rattle.std.proofs.Common.{◌≡◌, sym, subst, rules, arith}
 use Rattle.tas_desk.specs.Zones.{ZoneContent, Shares}
-use Rattle.tas_desk.proofs.ZoneLemmas.{shared_in_place}
+use Rattle.tas_green.specs.Window.{IsWindowMoved}
+use Rattle.tas_green.proofs.WindowLemmas.{window_moved_same}
+use Rattle.tas_desk.proofs.ZoneLemmas.{shared_in_place, on_ok}
 use Rattle.tas_desk.proofs.seat_zone.SeatZone.share.Goals as goal
 
 pub returns-then-is_same-clause-gained : goal.returns-then-is_same-clause-gained

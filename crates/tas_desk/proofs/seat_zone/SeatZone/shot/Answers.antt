@@ -3,7 +3,9 @@ use Rattle.std.specs.Prelude.{OnOk}
 use Rattle.std.proofs.Common.{subst, arith}
 use Rattle.tas_green.specs.Green.{IsShotFrom}
 use Rattle.tas_desk.specs.Zones.{ZoneContent}
-use Rattle.tas_desk.proofs.ZoneLemmas.{shot_in_place}
+use Rattle.tas_green.specs.Window.{IsWindowMoved}
+use Rattle.tas_green.proofs.WindowLemmas.{window_moved_same}
+use Rattle.tas_desk.proofs.ZoneLemmas.{shot_in_place, on_ok}
 use Rattle.tas_desk.proofs.seat_zone.SeatZone.shot.Goals as goal
 
 pub returns-in-None-clause-kept : goal.returns-in-None-clause-kept
@@ -29,3 +31,12 @@ returns-in-None-clause-memory g c = grind (arith, common_steps)
 
 pub invariant_of-self-in_err-answer-in-Some : goal.invariant_of-self-in_err-answer-in-Some
 invariant_of-self-in_err-answer-in-Some g c = grind (arith, common_steps)
+
+pub returns-in-None-clause-cut : goal.returns-in-None-clause-cut
+returns-in-None-clause-cut g c =
+    subst (λ (z : ZoneContent _). OnOk c.shot.result (IsWindowMoved z.movie c.self.inside.made_for.movie z.window c.self.inside.window)) c.self.view_is
+    (on_ok c.shot.result (window_moved_same c.self.inside.made_for.movie c.self.inside.window c.self.invariant.1))
+
+pub returns-in_ok-answer-in-Some-clause-cut : goal.returns-in_ok-answer-in-Some-clause-cut
+returns-in_ok-answer-in-Some-clause-cut g c =
+    subst (λ (z : ZoneContent _). IsWindowMoved z.movie c.in-Some.copied.movie z.window c.cut_for.new.self) c.self.view_is c.cut_for.ensures.moved
