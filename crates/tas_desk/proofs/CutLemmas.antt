@@ -8,8 +8,10 @@ use Rattle.tas_green.specs.declared.savestate.Savestate.{Savestate}
 use Rattle.tas_green.specs.Front.{IsCommonFront, IsSharedFront}
 use Rattle.tas_green.specs.Green.{IsMoved, IsShotFrom, HoldsGrid, is_left}
 use Rattle.tas_green.specs.Grid.{stride}
+use Rattle.tas_green.specs.Window.{IsViewFrom, both}
 use Rattle.tas_green.proofs.GridLemmas.{stride_rare}
 use Rattle.tas_green.proofs.BoundLemmas.{nearest_close}
+use Rattle.tas_green.proofs.ViewLemmas.{view_less}
 use Rattle.tas_desk.specs.Zones.{ZoneContent, IsShort}
 
 get_take : (xs : List Input) (m n : ℕ) → n < m → slice_get (take m xs) n ≡ slice_get xs n
@@ -50,3 +52,10 @@ short_shot before now k ran shot = record { most = few }
         let rise = shot.rise in
         let close = nearest_close shot.left k (stride (length now.movie.inputs)) (stride_rare (length now.movie.inputs)).0 there in
         omega (arith, rise, close)
+
+-- a view plays no more than a shot would
+pub short_view : {A : Type 0} (before now : ZoneContent A) (k ran : ℕ) → IsViewFrom before.movie now.movie k (both before.states before.window) (both now.states now.window) ran → IsShort before now k ran
+short_view before now k ran view =
+    let less = view_less before.movie now.movie k (both before.states before.window) (both now.states now.window) ran view in
+    let short = short_shot before now k view.rose view.shot in
+    record { most = λ left moved all. let few = short.most left moved all in omega (arith, less, few) }

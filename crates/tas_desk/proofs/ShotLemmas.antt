@@ -14,8 +14,8 @@ use Rattle.tas_desk.specs.Answers.{answer_shot, shown_of}
 use Rattle.tas_desk.specs.History.{movie_of}
 use Rattle.tas_desk.specs.Session.{SessionContent}
 use Rattle.tas_desk.specs.Shots.{IsShot, IsShotError, IsShotAt, MatchPlayed}
-use Rattle.tas_desk.specs.Seats.{SeatContent, IsZoneShot}
-use Rattle.tas_desk.specs.Zones.{IsPlayed}
+use Rattle.tas_desk.specs.Seats.{SeatContent, IsZoneShot, IsZoneViewed}
+use Rattle.tas_desk.specs.Zones.{IsPlayed, IsViewed}
 
 there : (k n : ℕ) (x : Result (List ℕ) Halt) → k < n → (if nat_lt k n then Some x else None) ≡ Some x
 there k n x lt =
@@ -83,3 +83,16 @@ pub zone_shot : {A B : Type 0} (before now : SeatContent A) (k at ran : ℕ) (pi
     → IsZoneShot before now k r
 zone_shot {A} {B} before now k at ran picture (Ok u) r shot halted p = subst (λ (a : Result (Shot B) ShotError). IsZoneShot before now k a) (sym shot) p
 zone_shot {A} {B} before now k at ran picture (Err halt) r shot halted p = subst (λ (a : Result (Shot B) ShotError). IsZoneShot before now k a) (sym halted) (ran, p)
+
+-- the same of a view
+pub zone_viewed : {A B : Type 0} (before now : SeatContent A) (k at ran : ℕ) (picture : List ℕ) (end : Result (Unit {0}) Halt) (r : Result (Shot B) ShotError)
+    → OnOk end (r ≡ Ok (record { at = at; frame = k; ran = ran; picture = picture })) → IfErr end (λ halt. r ≡ Err (Halted at halt)) → IsViewed before.zone now.zone now.front k ran
+    → IsZoneViewed before now k r
+zone_viewed {A} {B} before now k at ran picture (Ok u) r shot halted p = subst (λ (a : Result (Shot B) ShotError). IsZoneViewed before now k a) (sym shot) p
+zone_viewed {A} {B} before now k at ran picture (Err halt) r shot halted p = subst (λ (a : Result (Shot B) ShotError). IsZoneViewed before now k a) (sym halted) (ran, p)
+
+-- a fact is one of an answer that is no error
+pub where_shown : {B : Type 0} (k at ran : ℕ) (picture : List ℕ) (end : Result (Unit {0}) Halt) (r : Result (Shot B) ShotError) (P : Type 0)
+    → OnOk end (r ≡ Ok (record { at = at; frame = k; ran = ran; picture = picture })) → IfErr end (λ halt. r ≡ Err (Halted at halt)) → P → OnOk r P
+where_shown {B} k at ran picture (Ok u) r P shot halted p = subst (λ (a : Result (Shot B) ShotError). OnOk a P) (sym shot) p
+where_shown {B} k at ran picture (Err halt) r P shot halted p = subst (λ (a : Result (Shot B) ShotError). OnOk a P) (sym halted) tt

@@ -16,7 +16,7 @@ use Rattle.tas_desk.specs.History.{movie_of}
 use Rattle.tas_desk.specs.Session.{SessionContent}
 use Rattle.tas_desk.specs.Locked.{LockedContent, locked_of}
 use Rattle.tas_desk.specs.Work.{IsJobFrom, IsJobOf, Takes, IsTaken, with_job, KeepsCart}
-use Rattle.tas_desk.specs.Zones.{ZoneContent, IsMadeFor, IsShared, Shares}
+use Rattle.tas_desk.specs.Zones.{ZoneContent, CutsWindow, IsMadeFor, IsShared, Shares}
 use Rattle.tas_desk.proofs.PrefixLemmas.{prefix_self, prefix_trans}
 
 -- a session's job is one from the states under the lock
@@ -67,12 +67,12 @@ taken_of locked now front batch (Err e) same lawful lawful_now takes = tt
 
 -- a share of the states under the lock is one of a lawful zone
 pub shared_of : {A E : Type 0} (locked : LockedContent A) (before now : ZoneContent A) (front : List (Entry A)) (r : Result ℕ E) → front ≡ locked.journal → IsLawful (movie_of locked.journal) locked.zone → OnOk r (IsMadeFor now locked.journal)
-    → IfOk r (Shares before.movie now.movie before.states locked.zone now.states) → OnErr r (now ≡ before)
+    → IfOk r (Shares before.movie now.movie before.states locked.zone now.states) → OnOk r (CutsWindow before now) → OnErr r (now ≡ before)
     → MatchResult r (IsShared before now front) (λ _. now ≡ before)
-shared_of {A} locked before now front (Ok gained) same lawful made gain memory =
+shared_of {A} locked before now front (Ok gained) same lawful made gain cut memory =
     subst (λ (h : List (Entry A)). IsShared before now h gained) (sym same)
-    (record { made = made; other = locked.zone; others = subst (λ (m : MovieContent). IsLawful m locked.zone) (sym made.movie) lawful; gain = gain })
-shared_of locked before now front (Err e) same lawful made gain memory = memory
+    (record { made = made; other = locked.zone; others = subst (λ (m : MovieContent). IsLawful m locked.zone) (sym made.movie) lawful; gain = gain; cut = cut })
+shared_of locked before now front (Err e) same lawful made gain cut memory = memory
 
 -- the histories up to one in between have the first one's cartridge, too
 pub keeps_before : {A : Type 0} (one other last : List (Entry A)) → IsPrefix other last → KeepsCart one last → KeepsCart one other

@@ -8,6 +8,7 @@ use Rattle.tas_green.specs.Run.{state_after}
 use Rattle.tas_green.specs.Zone.{state_at, nearest, first_of, where_true, is_passed}
 use Rattle.tas_green.specs.Grid.{stride}
 use Rattle.tas_green.specs.Green.{IsLawful, IsMoved, IsShotFrom}
+use Rattle.tas_green.specs.Window.{AreMovieStates}
 use Rattle.tas_green.proofs.MovingLemmas.{moved_same}
 use Rattle.tas_desk.specs.declared.movie_copy.MovieCopy.{MovieCopy}
 use Rattle.tas_desk.specs.declared.entry.Entry.{Entry}
@@ -45,11 +46,16 @@ pub shared_in_place : {E : Type 0} (old new : MovieContent) (zone other now : Li
 shared_in_place old new zone other now (Ok gained) lawful same states count = (zone, subst (λ (m : MovieContent). IsMoved old m zone zone) (sym same) (moved_same old zone lawful), states, count)
 shared_in_place old new zone other now (Err e) lawful same states count = tt
 
-pub made_for : {A : Type 0} (z y : ZoneContent A) (list : List (Entry A)) → y.made_for ≡ version_of z.made_for.registry list → y.movie ≡ movie_of y.made_for.history → IsLawful y.movie y.states → IsMadeFor y list
-made_for {A} z y list marked movie lawful =
-    let same = ap (λ (m : VersionContent A). m.history) marked in record { list = same; movie = movie ∙ ap (λ (h : List (Entry A)). movie_of h) same; lawful = lawful }
+pub made_for : {A : Type 0} (z y : ZoneContent A) (list : List (Entry A)) → y.made_for ≡ version_of z.made_for.registry list → y.movie ≡ movie_of y.made_for.history → IsLawful y.movie y.states → AreMovieStates y.movie y.window → IsMadeFor y list
+made_for {A} z y list marked movie lawful near =
+    let same = ap (λ (m : VersionContent A). m.history) marked in record { list = same; movie = movie ∙ ap (λ (h : List (Entry A)). movie_of h) same; lawful = lawful; near = near }
 
 -- a seat whose reader has seen more, and which made no edit
 pub seen_more : {A : Type 0} (v w : ReaderView A) (number made : ℕ) (before : SeatContent A) (z y : ZoneContent A) → seat_of number made v.seen z ≡ before → HasSeenMore v w → HasSeen before (seat_of number made w.seen y)
 seen_more {A} v w number made before z y view more =
     subst (λ (s : SeatContent A). HasSeen s (seat_of number made w.seen y)) view (record { number = refl; made = refl; begins = more.begins })
+
+-- what holds anyway holds where there is no error
+pub on_ok : {X E P : Type 0} (r : Result X E) → P → OnOk r P
+on_ok (Ok x) p = p
+on_ok (Err e) p = tt

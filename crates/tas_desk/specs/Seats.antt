@@ -21,7 +21,7 @@ use Rattle.tas_desk.specs.Published.{KnowsRegistry}
 use Rattle.tas_desk.specs.declared.replies.Shot.{Shot}
 use Rattle.tas_desk.specs.declared.replies.ShotError.{ShotError}
 use Rattle.tas_desk.specs.declared.replies.ShotError.TheVariants.{NoEntry as NoShotEntry, NoFrame as NoShotFrame, Memory as NoShotMemory, Halted as ShotHalted}
-use Rattle.tas_desk.specs.Zones.{ZoneContent, IsPlayed}
+use Rattle.tas_desk.specs.Zones.{ZoneContent, IsPlayed, IsViewed}
 
 -- how many seats a desk has at most (own)
 abbrev pub most_seats : ℕ
@@ -115,3 +115,11 @@ IsZoneShot before now k (Err NoShotEntry) = now ≡ before
 IsZoneShot before now k (Err (NoShotFrame at len)) = now.zone ≡ before.zone
 IsZoneShot before now k (Err NoShotMemory) = now.zone ≡ before.zone
 IsZoneShot before now k (Err (ShotHalted at halt)) = (ran : ℕ) × IsPlayed before.zone now.zone now.front k ran
+
+-- what a view of frame k leaves in the seat's zone and its window. Where the reader got no entry the seat is as it was
+abbrev pub IsZoneViewed : {A B : Type 0} → SeatContent A → SeatContent A → ℕ → Result (Shot B) ShotError → Type 0
+IsZoneViewed before now k (Ok shot) = IsViewed before.zone now.zone now.front k shot.ran
+IsZoneViewed before now k (Err NoShotEntry) = now ≡ before
+IsZoneViewed before now k (Err (NoShotFrame at len)) = now.zone ≡ before.zone
+IsZoneViewed before now k (Err NoShotMemory) = now.zone ≡ before.zone
+IsZoneViewed before now k (Err (ShotHalted at halt)) = (ran : ℕ) × IsViewed before.zone now.zone now.front k ran

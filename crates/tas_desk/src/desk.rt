@@ -6,16 +6,16 @@
 //! A desk's clauses can't name the kept states under the lock; those of the locked session say what each call makes of them. Of gates and
 //! of threads no clause says anything; docs/PROOFS.md lists what is so.
 
-ghost use Rattle.std.specs.Prelude.{◌≡◌, ◌≢◌, ◌↔◌, ◌⊎◌, ℕ, ◌+◌, ◌<◌, ◌≤◌, ◌==◌, [], length, slice_get, Some, count_by, IsTrue, IfOk, IfErr, Err, MatchResult, All};
+ghost use Rattle.std.specs.Prelude.{◌≡◌, ◌≢◌, ◌↔◌, ◌⊎◌, ℕ, ◌+◌, ◌<◌, ◌≤◌, ◌==◌, [], length, slice_get, Some, count_by, IsTrue, IfOk, IfErr, OnOk, Err, MatchResult, All};
 ghost use Rattle.tas_desk.specs.declared.replies.OfferError.TheVariants.{Cartridge, Memory};
 ghost use Rattle.tas_desk.specs.declared.replies.OpenError.TheVariants.{Memory as OutOfMemory};
 ghost use Rattle.tas_desk.specs.Answers.{answer_len};
 ghost use Rattle.tas_desk.specs.History.{movie_of, IsLegal};
-ghost use Rattle.tas_desk.specs.Shots.{IsShotAt};
-ghost use Rattle.tas_desk.specs.Zones.{IsShared, IsShort, blank_zone};
+ghost use Rattle.tas_desk.specs.Shots.{IsShotAt, MatchPlayed};
+ghost use Rattle.tas_desk.specs.Zones.{CutsWindow, IsShared, IsShort, IsZoneAway, blank_zone};
 ghost use Rattle.tas_green.specs.Grid.{most_states};
 ghost use Rattle.tas_desk.specs.Closing.{made_by};
-ghost use Rattle.tas_desk.specs.Seats.{most_seats, name_of, seat_of, HasSeen, KeepsZone, IsZoneShot, IsEdited, IsWhole, IsSettled, IsInput};
+ghost use Rattle.tas_desk.specs.Seats.{most_seats, name_of, seat_of, HasSeen, KeepsZone, IsZoneShot, IsZoneViewed, IsEdited, IsWhole, IsSettled, IsInput};
 ghost use Rattle.tas_desk.specs.Work.{IsJobOf, IsTaken};
 
 use crate::desk_lock::DeskLock;
@@ -206,7 +206,8 @@ impl<N: Name, W: CloseOnDrop, A: Allocator + Copy> Desk<N, W, A> {
 
     /// Draws frame `k`, counted from 0, played from the nearest state of the seat's own zone. It takes no lock. The zone is
     /// first cut at the common front of the inputs that it was made for and the present ones, and emptied where the cartridge
-    /// differs; then it gains the states on the way that are on the grid. The picture takes its memory from `alloc`.
+    /// differs, and so is its window; then the zone gains the states on the way that are on the grid. The picture takes its
+    /// memory from `alloc`.
     ///
     /// `NoEntry` leaves the seat as it was, `NoFrame` and `Memory` its zone; after `Halted` the zone is as after an answer.
     pub fn shot<B: Allocator>(
@@ -219,8 +220,29 @@ impl<N: Name, W: CloseOnDrop, A: Allocator + Copy> Desk<N, W, A> {
         ensures reply { IsShotAt seat.new.front k result }
         ensures zone { IsZoneShot seat.old seat.new k result }
         ensures short { IfOk result (λ shot. IsShort seat.old.zone seat.new.zone k shot.ran) }
+        ensures window { MatchPlayed result (CutsWindow seat.old.zone seat.new.zone) (seat.new.zone ≡ seat.old.zone) }
     {
         seat.shot(alloc, k)
+    }
+
+    /// Draws frame `k` as [`Desk::shot`] does, but played from the nearest state of the seat's zone and its window, and fills the
+    /// window: it then has the states around this frame, so that a step to the next frame plays one, and so does a step back to one
+    /// of the 167 frames before, as far as they were played. The zone is left as by a shot. It takes no lock.
+    ///
+    /// `NoEntry` leaves the seat as it was, `NoFrame` and `Memory` its zone and window; after `Halted` both are as after an answer.
+    pub fn picture<B: Allocator>(
+        &self,
+        alloc: B,
+        seat: &mut Seat<N, A>,
+        k: usize,
+    ) -> Result<Shot<B>, ShotError>
+        ensures seat { HasSeen seat.old seat.new }
+        ensures reply { IsShotAt seat.new.front k result }
+        ensures zone { IsZoneViewed seat.old seat.new k result }
+        ensures short { IfOk result (λ shot. IsShort seat.old.zone seat.new.zone k shot.ran) }
+        ensures forward { OnOk result (IsZoneAway seat.new.zone (k + 1)) }
+    {
+        seat.picture(alloc, k)
     }
 
     /// Lets the seat's zone gain the desk's kept states, once it is cut for the movie as a shot cuts it, and returns how many it

@@ -9,7 +9,7 @@ ghost use Rattle.tas_desk.specs.declared.replies.OfferError.TheVariants.{Cartrid
 ghost use Rattle.tas_desk.specs.History.{movie_of, entries_of, IsLegal};
 ghost use Rattle.tas_desk.specs.Session.{refusal_at, IsEditError};
 ghost use Rattle.tas_desk.specs.Locked.{locked_of, locked_after};
-ghost use Rattle.tas_desk.specs.Zones.{IsMadeFor, Shares};
+ghost use Rattle.tas_desk.specs.Zones.{CutsWindow, IsMadeFor, Shares};
 ghost use Rattle.tas_desk.specs.Exporting.{FoundRange};
 ghost use Rattle.tas_desk.specs.Work.{IsJobFrom, Takes};
 ghost use Rattle.tas_desk.specs.Closing.{made_by};
@@ -208,6 +208,7 @@ impl<N: Name, W: CloseOnDrop, A: Allocator + Copy> LockedSession<N, W, A> {
         ensures made { OnOk result (IsMadeFor seat.new.zone self.now.journal) }
         ensures gained { IfOk result (Shares seat.old.zone.movie seat.new.zone.movie
             seat.old.zone.states self.now.zone seat.new.zone.states) }
+        ensures cut { OnOk result (CutsWindow seat.old.zone seat.new.zone) }
         ensures lawful { IsLawful (movie_of self.now.journal) self.now.zone }
         ensures memory { OnErr result (seat.new.zone ≡ seat.old.zone) }
     {

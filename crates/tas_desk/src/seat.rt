@@ -1,14 +1,14 @@
 //! Seats.
 
-ghost use Rattle.std.specs.Prelude.{◌≡◌, ◌≤◌, length, is_some, MatchResult, IfOk};
+ghost use Rattle.std.specs.Prelude.{◌≡◌, ◌+◌, ◌≤◌, length, is_some, MatchResult, IfOk, OnOk};
 ghost use Rattle.tas_green.specs.Grid.{most_states};
 ghost use Rattle.tas_green.specs.Zone.{state_at};
-ghost use Rattle.tas_desk.specs.Shots.{IsShotAt};
+ghost use Rattle.tas_desk.specs.Shots.{IsShotAt, MatchPlayed};
 ghost use Rattle.tas_desk.specs.Answers.{answer_len};
 ghost use Rattle.tas_desk.specs.History.{movie_of};
 ghost use Rattle.tas_desk.specs.Published.{KnowsRegistry};
-ghost use Rattle.tas_desk.specs.Zones.{IsShort};
-ghost use Rattle.tas_desk.specs.Seats.{seat_of, HasSeen, KeepsZone, IsInput, IsZoneShot};
+ghost use Rattle.tas_desk.specs.Zones.{CutsWindow, IsShort, IsZoneAway};
+ghost use Rattle.tas_desk.specs.Seats.{seat_of, HasSeen, KeepsZone, IsInput, IsZoneShot, IsZoneViewed};
 
 use crate::movie_reader::MovieReader;
 use crate::replies::shown;
@@ -117,6 +117,7 @@ impl<N: Name, A: Allocator + Copy> Seat<N, A> {
         ensures reply { IsShotAt self.new.front k result }
         ensures zone { IsZoneShot self.old self.new k result }
         ensures short { IfOk result (λ shot. IsShort self.old.zone self.new.zone k shot.ran) }
+        ensures window { MatchPlayed result (CutsWindow self.old.zone self.new.zone) (self.new.zone ≡ self.old.zone) }
     {
         let (at, copied) = self
             .reader
@@ -129,5 +130,24 @@ impl<N: Name, A: Allocator + Copy> Seat<N, A> {
             return Err(ShotError::Memory);
         };
         shown(at, k, meter.count(), picture, end)
+    }
+    /// Draws frame `k` from the seat's own zone and window.
+    pub(crate) fn picture<B: Allocator>(&mut self, alloc: B, k: usize) -> Result<Shot<B>, ShotError>
+        ensures seat { HasSeen self.old self.new }
+        ensures reply { IsShotAt self.new.front k result }
+        ensures zone { IsZoneViewed self.old self.new k result }
+        ensures short { IfOk result (λ shot. IsShort self.old.zone self.new.zone k shot.ran) }
+        ensures forward { OnOk result (IsZoneAway self.new.zone (k + 1)) }
+    {
+        let (at, copied) = self
+            .reader
+            .copy(self.zone.allocator(), self.zone.version(), k)?;
+        let Ok(mut picture) = Picture::blank(alloc) else {
+            return Err(ShotError::Memory);
+        };
+        let Ok(viewed) = self.zone.view(copied, k, &mut picture) else {
+            return Err(ShotError::Memory);
+        };
+        shown(at, k, viewed.ran, picture, viewed.end)
     }
 }

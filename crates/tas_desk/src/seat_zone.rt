@@ -1,10 +1,11 @@
-//! The greenzone of a seat, with the movie that it was made for.
+//! The greenzone of a seat and its window, with the movie that they were made for.
 
 ghost use Rattle.std.specs.Prelude.{◌≡◌, ◌+◌, ◌<◌, ◌≤◌, ◌^◌, [], length, is_some, Some, IfOk, OnOk, OnErr};
 ghost use Rattle.tas_green.specs.Grid.{most_states};
 ghost use Rattle.tas_green.specs.Run.{state_after, picture_of, answer_of};
 ghost use Rattle.tas_green.specs.Green.{IsLawful, IsMoved, IsShotFrom};
 ghost use Rattle.tas_green.specs.Zone.{state_at};
+ghost use Rattle.tas_green.specs.Window.{AreMovieStates, IsWindowMoved, IsViewFrom, IsOneAway, both};
 ghost use Rattle.tas_desk.specs.History.{movie_of};
 ghost use Rattle.tas_desk.specs.Zones.{Shares, version_after, blank_zone};
 
@@ -15,14 +16,14 @@ use logbook::Rule;
 use std::alloc::{AllocError, Allocator, Global};
 use std::collections::LinkedList;
 use std::marker::Model;
-use tas_green::Green;
+use tas_green::{Green, Viewed, Window};
 use tas_movie::Movie;
 use vcs_cpu::Halt;
 use vcs_machine::Meter;
 use vcs_tia::Picture;
 
-/// A greenzone with the movie that it was made for. The type keeps that it is lawful for this movie, and that the movie is
-/// that of the history whose version stands beside it.
+/// A greenzone and a window, with the movie that they were made for. The type keeps that the greenzone is lawful for this movie,
+/// that the window's states are its machine's, and that the movie is that of the history whose version stands beside it.
 #[derive(Drop)]
 pub struct SeatZone<A: Allocator = Global>
 where
@@ -31,6 +32,7 @@ where
     alloc: A,
     made_for: MovieCopy<A>,
     green: Green<A>,
+    window: Window<A>,
 }
 
 impl<A: Allocator> Model for SeatZone<A>
@@ -38,13 +40,14 @@ where
     VersionRule: Rule<LinkedList<Entry<A>, A>, u64>,
 {
     ghost use Rattle.tas_green.specs.Green.{IsLawful};
+    ghost use Rattle.tas_green.specs.Window.{AreMovieStates};
     ghost use Rattle.tas_desk.specs.Zones.{ZoneContent};
 
     ghost Value = { ZoneContent A };
 
-    ghost view = { λ z. record { made_for = z.made_for.version; movie = z.made_for.movie; states = z.green } };
+    ghost view = { λ z. record { made_for = z.made_for.version; movie = z.made_for.movie; states = z.green; window = z.window } };
 
-    ghost invariant = { λ z. IsLawful z.made_for.movie z.green };
+    ghost invariant = { λ z. IsLawful z.made_for.movie z.green × AreMovieStates z.made_for.movie z.window };
 }
 
 impl<A: Allocator> SeatZone<A> {
@@ -85,6 +88,7 @@ impl<A: Allocator + Copy> SeatZone<A> {
                 version: version.copy(),
             },
             green: Green::new(alloc),
+            window: Window::new(alloc),
         })
     }
 
@@ -100,9 +104,9 @@ impl<A: Allocator + Copy> SeatZone<A> {
         &self.made_for.version
     }
 
-    /// Shows frame `k` of the movie that was copied, or of the zone's own where none was: the zone is cut for it, the frames
-    /// are played from the nearest state that is left, and the zone is that movie's from then on. After `AllocError` nothing
-    /// is changed.
+    /// Shows frame `k` of the movie that was copied, or of the zone's own where none was: zone and window are cut for it, the
+    /// frames are played from the zone's nearest state that is left, and both are that movie's from then on. After `AllocError`
+    /// nothing is changed.
     pub fn shot<B: Allocator>(
         &mut self,
         copied: Option<MovieCopy<A>>,
@@ -118,6 +122,8 @@ impl<A: Allocator + Copy> SeatZone<A> {
         ensures movie { OnOk result (self.new.movie ≡ movie_of self.new.made_for.history) }
         ensures kept { OnOk result (IsShotFrom self.old.movie self.new.movie k self.old.states self.new.states meter.old meter.new) }
         ensures lawful { OnOk result (IsLawful self.new.movie self.new.states) }
+        ensures near { OnOk result (AreMovieStates self.new.movie self.new.window) }
+        ensures cut { OnOk result (IsWindowMoved self.old.movie self.new.movie self.old.window self.new.window) }
         ensures memory { OnErr result ((self.new ≡ self.old) × (meter.new ≡ meter.old)) }
     {
         let old = &self.made_for;
@@ -128,14 +134,49 @@ impl<A: Allocator + Copy> SeatZone<A> {
                 let answer = self
                     .green
                     .shot_from(&old.movie, &new.movie, k, picture, meter)?;
+                self.window.cut_for(&old.movie, &new.movie);
                 self.made_for = copied;
                 Ok(answer)
             }
         }
     }
 
-    /// Gains the states of another greenzone, once it is cut for that one's movie, and returns how many. After `AllocError`
-    /// nothing is changed.
+    /// Shows frame `k` as [`SeatZone::shot`] does, but played from the nearest state of zone and window; the window is then
+    /// filled around this frame. The zone is left as by a shot. After `AllocError` nothing is changed.
+    pub fn view<B: Allocator>(
+        &mut self,
+        copied: Option<MovieCopy<A>>,
+        k: usize,
+        picture: &mut Picture<B>,
+    ) -> Result<Viewed, AllocError>
+        requires { k < length (movie_of (version_after self.old.made_for copied).history).inputs }
+        ensures answer { IfOk result (λ viewed. viewed.end ≡ answer_of (state_after self.new.movie (k + 1)).halt) }
+        ensures picture { IfOk result (λ viewed. OnOk viewed.end (picture.new ≡ picture_of self.new.movie k)) }
+        ensures made_for { OnOk result (self.new.made_for ≡ version_after self.old.made_for copied) }
+        ensures movie { OnOk result (self.new.movie ≡ movie_of self.new.made_for.history) }
+        ensures kept { IfOk result (λ viewed. IsViewFrom self.old.movie self.new.movie k (both self.old.states self.old.window) (both self.new.states self.new.window) viewed.ran) }
+        ensures lawful { OnOk result (IsLawful self.new.movie self.new.states) }
+        ensures near { OnOk result (AreMovieStates self.new.movie self.new.window) }
+        ensures forward { OnOk result (IsOneAway self.new.movie (k + 1) (both self.new.states self.new.window)) }
+        ensures memory { OnErr result (self.new ≡ self.old) }
+    {
+        let old = &self.made_for;
+        match copied {
+            None => self.window.view(&mut self.green, &old.movie, k, picture),
+            Some(copied) => {
+                let green = &mut self.green;
+                let new = &copied;
+                let viewed = self
+                    .window
+                    .view_from(green, &old.movie, &new.movie, k, picture)?;
+                self.made_for = copied;
+                Ok(viewed)
+            }
+        }
+    }
+
+    /// Gains the states of another greenzone, once zone and window are cut for that one's movie, and returns how many. After
+    /// `AllocError` nothing is changed.
     pub fn share(
         &mut self,
         movie: &Movie<A>,
@@ -149,6 +190,8 @@ impl<A: Allocator + Copy> SeatZone<A> {
         ensures movie { OnOk result (self.new.movie ≡ movie.now) }
         ensures gained { IfOk result (Shares self.old.movie movie.now self.old.states other.now self.new.states) }
         ensures lawful { OnOk result (IsLawful self.new.movie self.new.states) }
+        ensures near { OnOk result (AreMovieStates self.new.movie self.new.window) }
+        ensures cut { OnOk result (IsWindowMoved self.old.movie self.new.movie self.old.window self.new.window) }
         ensures memory { OnErr result (self.new ≡ self.old) }
     {
         let old = &self.made_for;
@@ -161,6 +204,7 @@ impl<A: Allocator + Copy> SeatZone<A> {
         };
         let new = &copied;
         let gained = self.green.gain_from(&old.movie, &new.movie, other)?;
+        self.window.cut_for(&old.movie, &new.movie);
         self.made_for = copied;
         Ok(gained)
     }

@@ -12,7 +12,7 @@ use std::sync::Wait;
 use std::thread::Threads;
 use tas_desk::{
     CloseOnDrop, Desk, EditError, ExportError, Gate, Name, OfferError, Offered, Receipt, Seat,
-    ShotError,
+    Shot, ShotError,
 };
 use tas_green::Batch;
 use vcs_cpu::Halt;
@@ -62,14 +62,9 @@ pub fn edit<N: Name, W: CloseOnDrop, R: Wait + Abort>(
     desk.edit(rt, seat, edit_of(rt, alloc, change))
 }
 
-/// A shot.
-pub fn shoot<N: Name, W: CloseOnDrop>(
-    alloc: Global,
-    desk: &Desk<N, W>,
-    seat: &mut Seat<N>,
-    k: usize,
-) -> Result<Shown, ShotError> {
-    match desk.shot(alloc, seat, k) {
+/// What a shot's answer shows, or why nothing is shown.
+fn shown_by(answer: Result<Shot, ShotError>) -> Result<Shown, ShotError> {
+    match answer {
         Ok(shot) => Ok(Shown {
             at: shot.at,
             frame: shot.frame,
@@ -79,6 +74,26 @@ pub fn shoot<N: Name, W: CloseOnDrop>(
         }),
         Err(error) => Err(error),
     }
+}
+
+/// A shot.
+pub fn shoot<N: Name, W: CloseOnDrop>(
+    alloc: Global,
+    desk: &Desk<N, W>,
+    seat: &mut Seat<N>,
+    k: usize,
+) -> Result<Shown, ShotError> {
+    shown_by(desk.shot(alloc, seat, k))
+}
+
+/// A picture from the seat's zone and its window.
+pub fn view<N: Name, W: CloseOnDrop>(
+    alloc: Global,
+    desk: &Desk<N, W>,
+    seat: &mut Seat<N>,
+    k: usize,
+) -> Result<Shown, ShotError> {
+    shown_by(desk.picture(alloc, seat, k))
 }
 
 /// An offer's answer.

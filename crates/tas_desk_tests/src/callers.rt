@@ -2,7 +2,7 @@
 
 ghost use Rattle.std.specs.Prelude.{◌<◌};
 
-use crate::answers::{Answered, Refused, edit, export, offer, shoot};
+use crate::answers::{Answered, Refused, Shown, edit, export, offer, shoot, view};
 use crate::changes::{Change, FOLDING, HALTING, PLAYFIELD};
 use crate::checks::{check_same, expect_ok};
 use crate::gates::Open;
@@ -139,16 +139,27 @@ impl<N: Name> Caller<N> {
         }
     }
 
-    /// Asks for a picture.
-    pub fn shot<W: CloseOnDrop, R: Abort>(
+    /// Asks for a picture, by a shot or from its window.
+    pub fn look<W: CloseOnDrop, R: Abort>(
         &mut self,
         rt: &R,
         alloc: Global,
         desk: &Desk<N, W>,
         k: usize,
+        from_window: bool,
     ) {
+        let answer = if from_window {
+            view(alloc, desk, &mut self.seat, k)
+        } else {
+            shoot(alloc, desk, &mut self.seat, k)
+        };
+        self.shown(rt, k, answer);
+    }
+
+    /// Writes down what was shown.
+    fn shown<R: Abort>(&mut self, rt: &R, k: usize, answer: Result<Shown, ShotError>) {
         let range = (k, k.saturating_add(1));
-        match shoot(alloc, desk, &mut self.seat, k) {
+        match answer {
             Ok(shown) => {
                 check_same(rt, "shown.frame", shown.frame, k);
                 self.notes
@@ -281,7 +292,10 @@ impl<N: Name> Caller<N> {
                 let to = self.dice.roll(4).saturating_add(k);
                 self.export(rt, alloc, desk, (k, to));
             }
-            8 => self.shot(rt, alloc, desk, k),
+            8 => {
+                let from_window = self.dice.roll(2) == 0;
+                self.look(rt, alloc, desk, k, from_window);
+            }
             _ => self.insert_and_look(rt, alloc, desk),
         }
     }

@@ -3,7 +3,7 @@
 ghost use Rattle.std.specs.Prelude.{◌≤◌};
 ghost use Rattle.tas_desk.specs.Seats.{most_seats};
 
-use crate::answers::{Refused, edit, export, shoot};
+use crate::answers::{Refused, Shown, edit, export, shoot, view};
 use crate::changes::Change;
 use crate::checks::check_that;
 use crate::desks::{Task, lend};
@@ -33,6 +33,14 @@ pub enum Call {
     Drawn(u32, usize, u64, u64, usize),
     /// A shot of a frame that isn't drawn.
     NotDrawn(u32, usize, ShotError),
+    /// A picture of a frame from zone and window: the number of edits, of frames that are played, and of lit pixels.
+    Viewed(u32, usize, u64, u64, usize),
+    /// A picture of a frame that isn't drawn.
+    NotViewed(u32, usize, ShotError),
+    /// Pictures of each frame from one to another, forward or back: how many frames are played for all of them.
+    Stepped(u32, usize, usize, u64),
+    /// Pictures of each frame from one to another by two seats, that of the first from its window: they are the same.
+    Alike(u32, u32, usize, usize),
     /// Work on some targets, each of which passes the gate with its index.
     Work(u32, &'static [usize], Worked),
     /// How many states the seat's zone gained.
@@ -65,17 +73,39 @@ fn export_by<N: Name, W: CloseOnDrop, R: Threads + Wait + Sync>(
     Some((told, bytes))
 }
 
-/// What a shot shows: its frame, the number of edits, of frames that are played, and of lit pixels.
-fn shown<N: Name, W: CloseOnDrop>(
-    alloc: Global,
-    desk: &Desk<N, W>,
-    seat: &mut Seat<N>,
-    k: usize,
-) -> Result<(usize, u64, u64, usize), ShotError> {
-    match shoot(alloc, desk, seat, k) {
+/// What is shown: the frame, the number of edits, of frames that are played, and of lit pixels.
+fn shown(answer: Result<Shown, ShotError>) -> Result<(usize, u64, u64, usize), ShotError> {
+    match answer {
         Ok(shown) => Ok((shown.frame, shown.at, shown.ran, shown.lit)),
         Err(error) => Err(error),
     }
+}
+
+/// The frame so many steps from one to another.
+fn stepped(from: usize, to: usize, count: usize) -> usize {
+    if from < to {
+        from.saturating_add(count)
+    } else {
+        from.saturating_sub(count)
+    }
+}
+
+/// How many frames are played for pictures of each frame from one to another, or nothing where one isn't drawn.
+fn steps<N: Name, W: CloseOnDrop>(
+    alloc: Global,
+    desk: &Desk<N, W>,
+    seat: &mut Seat<N>,
+    from: usize,
+    to: usize,
+) -> Option<u64> {
+    let mut ran = 0u64;
+    for count in 0..=from.abs_diff(to) {
+        let Ok(shot) = desk.picture(alloc, seat, stepped(from, to, count)) else {
+            return None;
+        };
+        ran = ran.saturating_add(shot.ran);
+    }
+    Some(ran)
 }
 
 /// Whether a look is answered as it says.
@@ -88,8 +118,15 @@ fn is_seen<N: Name, W: CloseOnDrop>(
     match call {
         Call::Len(_, at, len) => desk.len(seat) == Ok((at, len)),
         Call::Input(_, k, answer) => desk.input(seat, k) == answer,
-        Call::Drawn(_, k, at, ran, lit) => shown(alloc, desk, seat, k) == Ok((k, at, ran, lit)),
-        Call::NotDrawn(_, k, error) => shown(alloc, desk, seat, k) == Err(error),
+        Call::Drawn(_, k, at, ran, lit) => {
+            shown(shoot(alloc, desk, seat, k)) == Ok((k, at, ran, lit))
+        }
+        Call::NotDrawn(_, k, error) => shown(shoot(alloc, desk, seat, k)) == Err(error),
+        Call::Viewed(_, k, at, ran, lit) => {
+            shown(view(alloc, desk, seat, k)) == Ok((k, at, ran, lit))
+        }
+        Call::NotViewed(_, k, error) => shown(view(alloc, desk, seat, k)) == Err(error),
+        Call::Stepped(_, from, to, ran) => steps(alloc, desk, seat, from, to) == Some(ran),
         Call::Keeps(_, count) => seat.kept() == count,
         _ => false,
     }
@@ -136,6 +173,10 @@ fn caller(call: Call) -> u32 {
         | Call::Input(seat, ..)
         | Call::Drawn(seat, ..)
         | Call::NotDrawn(seat, ..)
+        | Call::Viewed(seat, ..)
+        | Call::NotViewed(seat, ..)
+        | Call::Stepped(seat, ..)
+        | Call::Alike(seat, ..)
         | Call::Work(seat, ..)
         | Call::Share(seat, ..)
         | Call::Exported(seat, ..)
@@ -171,6 +212,45 @@ fn is_whole<N: Name, W: CloseOnDrop>(
     }
 }
 
+/// Whether a seat's pictures of each frame from one to another are those that another seat shoots.
+fn are_alike<N: Name, W: CloseOnDrop>(
+    alloc: Global,
+    desk: &Desk<N, W>,
+    seats: &mut [Seat<N>],
+    (one, other): (u32, u32),
+    (from, to): (usize, usize),
+) -> bool {
+    for count in 0..=from.abs_diff(to) {
+        let k = stepped(from, to, count);
+        let viewed = look(alloc, desk, seats, one, k, true);
+        if viewed.is_none() || viewed != look(alloc, desk, seats, other, k, false) {
+            return false;
+        }
+    }
+    true
+}
+
+/// The number of edits, and the sum of the picture that a seat sees of a frame: from its window, or by a shot.
+fn look<N: Name, W: CloseOnDrop>(
+    alloc: Global,
+    desk: &Desk<N, W>,
+    seats: &mut [Seat<N>],
+    number: u32,
+    k: usize,
+    from_window: bool,
+) -> Option<(u64, (usize, u64))> {
+    let seat = seats.get_mut(number as usize)?;
+    let answer = if from_window {
+        view(alloc, desk, seat, k)
+    } else {
+        shoot(alloc, desk, seat, k)
+    };
+    match answer {
+        Ok(shown) => Some((shown.at, shown.sum)),
+        Err(_) => None,
+    }
+}
+
 /// Whether the call is answered as it says.
 fn is_taken<N: Name, W: CloseOnDrop, R: Threads + Wait + Abort + Sync>(
     rt: &R,
@@ -182,6 +262,7 @@ fn is_taken<N: Name, W: CloseOnDrop, R: Threads + Wait + Abort + Sync>(
     match call {
         Call::Meet(at) => is_met(rt, desk, seats, at),
         Call::Whole(from, to, answer) => is_whole(desk, seats, (from, to), answer),
+        Call::Alike(one, other, from, to) => are_alike(alloc, desk, seats, (one, other), (from, to)),
         _ => match seats.get_mut(caller(call) as usize) {
             Some(seat) => is_answered(rt, alloc, desk, seat, call),
             None => false,

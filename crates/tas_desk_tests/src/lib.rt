@@ -48,3 +48,5 @@ mod steps;
 mod sums;
 #[cfg(test)]
 mod thread_tests;
+#[cfg(test)]
+mod window_tests;

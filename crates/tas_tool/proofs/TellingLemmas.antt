@@ -22,9 +22,10 @@ use Rattle.tas_desk.proofs.DrawingLemmas.{range_joined}
 use Rattle.tas_desk.specs.History.{movie_of}
 use Rattle.tas_desk.specs.declared.replies.ShotError.{ShotError}
 use Rattle.tas_desk.specs.declared.replies.ShotError.TheVariants.{NoEntry, NoFrame as NoShotFrame, Memory as NoShotMemory, Halted as ShotHalted}
-use Rattle.tas_desk.specs.Seats.{SeatContent, HasSeen, IsZoneShot}
+use Rattle.tas_desk.specs.Seats.{SeatContent, HasSeen, IsZoneShot, IsZoneViewed}
 use Rattle.tas_desk.specs.Shots.{IsShotAt}
-use Rattle.tas_desk.specs.Zones.{ZoneContent, IsPlayed, IsShared}
+use Rattle.tas_desk.specs.declared.entry.Entry.{Entry}
+use Rattle.tas_desk.specs.Zones.{ZoneContent, IsPlayed, IsShared, IsViewed}
 use Rattle.tas_engines.specs.declared.fault.RunFault.{RunFault}
 use Rattle.tas_engines.specs.declared.fault.RunFault.TheVariants.{Write, Size, Text, NoFrame as OffMovie, Range as OffRange, Halted as Stopped, HaltedFrame as StoppedFrame, Script, Place, Long, NoPlace, NoEntry as NoDeskEntry, Foreign, Memory}
 use Rattle.tas_language.specs.declared.command.Command.{Command}
@@ -92,6 +93,16 @@ shown_own before now made at k o own m seen shows here same = sym shows ∙ ap (
 played_own : {A : Type 0} (before now : SeatContent A) (made at k ran : ℕ) → BeginsWithOwn before → made ≡ before.made → HasSeen before now → at ≡ length now.front → at ≡ made → IsPlayed before.zone now.zone now.front k ran
     → Plays (talk_state_of before) (talk_state_of now) k ran
 played_own before now made at k ran own m seen here same played = plays_at before now now k ran (own_stays before now own seen) (seen_self now) refl (sym here ∙ same ∙ m ∙ sym seen.made) played
+
+-- a view leaves the zone as a shot does
+pub viewed_played : {A : Type 0} {before now : ZoneContent A} {front : List (Entry A)} {k ran : ℕ} → (v : IsViewed before now front k ran) → IsPlayed before now front k v.view.rose
+viewed_played v = record { made = v.made; shot = v.view.shot }
+
+pub viewed_error : {A : Type 0} (before now : SeatContent A) (k : ℕ) (error : ShotError) → IsZoneViewed {B = A} before now k (Err error) → IsZoneShot {B = A} before now k (Err error)
+viewed_error before now k NoEntry zone = zone
+viewed_error before now k (NoShotFrame at len) zone = zone
+viewed_error before now k NoShotMemory zone = zone
+viewed_error before now k (ShotHalted at halt) zone = (zone.1.view.rose, viewed_played zone.1)
 
 pub told_picture : (A : Type 0) (before now : SeatContent A) (made at k ran : ℕ) (picture bytes : List ℕ) → BeginsWithOwn before → made ≡ before.made → HasSeen before now → answer_shot (movie_of now.front) k ≡ Some (Ok picture)
     → at ≡ length now.front → at ≡ made → IsPlayed before.zone now.zone now.front k ran → bytes ≡ picture_text made k (ppm_bytes picture) → IsToldTo before now (Picture k) bytes made

@@ -53,8 +53,8 @@ pub record IsGreen (state : TalkState) : Type 0 where
   pub kept_for : state.kept_for ≡ state.own.movie
   pub lawful : IsLawful state.kept_for state.states
 
--- frame k was played: the greenzone was cut for the movie, `ran` frames were played from the nearest state that was left, and the
--- states on the way that stand on the grid are kept, too
+-- frame k was played: the greenzone was cut for the movie, and is as if `ran` frames were played from the nearest state that was left: the
+-- states on the way that stand on the grid are kept, too. `shot` tells `ran`; `picture` may have played fewer, from its window
 pub record Plays (old new : TalkState) (k ran : ℕ) : Type 0 where
   pub green : IsGreen new
   pub shot : IsShotFrom old.kept_for new.kept_for k old.states new.states 0 ran

@@ -58,7 +58,7 @@ fn tell_command<N: Name, W: CloseOnDrop, A: Allocator + Copy, R: Wait>(
     told_reply(alloc, answered.reply, answered.made)
 }
 
-/// A `picture` line.
+/// A `picture` line, from the seat's zone and its window.
 fn tell_picture<N: Name, W: CloseOnDrop, A: Allocator + Copy>(
     alloc: A,
     desk: &Desk<N, W, A>,
@@ -71,7 +71,7 @@ fn tell_picture<N: Name, W: CloseOnDrop, A: Allocator + Copy>(
     ensures number { seat.new.number ≡ seat.old.number }
     ensures answer { MatchResult result (λ told. IsToldTo seat.old seat.new (PictureLine frame) told.bytes.items told.made) (IsTalkFault seat.new) }
 {
-    let shot = match desk.shot(alloc, seat, frame) {
+    let shot = match desk.picture(alloc, seat, frame) {
         Ok(shot) => shot,
         Err(error) => {
             let reply = unshown(desk, seat, made, frame, error)?;

@@ -7,7 +7,7 @@ use Rattle.tas_desk.proofs.desk.Desk.share.Goals as goal
 pub returns-clause-zone : goal.returns-clause-zone
 returns-clause-zone g c =
     let e = c.share.ensures in
-    shared_of _ _ _ _ _ (ap (λ (s : SeatContent _). s.front) e.seat) e.lawful e.made e.gained e.memory
+    shared_of _ _ _ _ _ (ap (λ (s : SeatContent _). s.front) e.seat) e.lawful e.made e.gained e.cut e.memory
 
 pub returns-clause-seat : goal.returns-clause-seat
 returns-clause-seat g c = grind (arith, common_steps)

@@ -3,10 +3,10 @@ use Rattle.std.proofs.Common.{ap, sym, subst, subst₂, refl, arith}
 use Rattle.tas_green.specs.Green.{IsShotFrom}
 use Rattle.tas_desk.specs.Version.{VersionContent}
 use Rattle.tas_desk.specs.Seats.{SeatContent}
-use Rattle.tas_desk.specs.Zones.{ZoneContent, IsPlayed, IsShort}
+use Rattle.tas_desk.specs.Zones.{ZoneContent, CutsWindow, IsPlayed, IsShort}
 use Rattle.tas_desk.proofs.CutLemmas.{short_shot}
 use Rattle.tas_desk.proofs.ZoneLemmas.{seated_on, marked, made_for, seen_more}
-use Rattle.tas_desk.proofs.ShotLemmas.{shot_at, so_many, zone_shot}
+use Rattle.tas_desk.proofs.ShotLemmas.{shot_at, so_many, was_played, zone_shot}
 use Rattle.tas_desk.proofs.seat.Seat.shot.Goals as goal
 
 pub returns-clause-zone : goal.returns-clause-zone
@@ -15,7 +15,7 @@ returns-clause-zone g c =
     let zone = c.self.inside.zone in
     let new = marked c.version.result.now zone.made_for c.shot.new.self.made_for c.in_ok-at.copied c.copy.new.self.seen c.version.ensures c.in_ok-at.ensures.3 e.made_for in
     let kept = subst₂ (λ meter rose. IsShotFrom zone.movie c.shot.new.self.movie c.args.k zone.states c.shot.new.self.states meter rose) c.new-meter.ensures (sym c.count.ensures) e.kept in
-    let made = made_for zone c.shot.new.self c.copy.new.self.seen new e.movie e.lawful in
+    let made = made_for zone c.shot.new.self c.copy.new.self.seen new e.movie e.lawful e.near in
     zone_shot c.args.self.now _ _ _ c.count.result _ c.in-Ok-shot.end _ c.shown.ensures.shot c.shown.ensures.halted
     (subst (λ (z : ZoneContent _). IsPlayed z c.shot.new.self c.copy.new.self.seen c.args.k c.count.result) (ap (λ (s : SeatContent _). s.zone) c.self.view_is) (record { made = made; shot = kept }))
 
@@ -24,7 +24,7 @@ returns-clause-reply g c =
     let e = c.in-Ok-shot.ensures in
     let zone = c.self.inside.zone in
     let new = marked c.version.result.now zone.made_for c.shot.new.self.made_for c.in_ok-at.copied c.copy.new.self.seen c.version.ensures c.in_ok-at.ensures.3 e.made_for in
-    let made = made_for zone c.shot.new.self c.copy.new.self.seen new e.movie e.lawful in
+    let made = made_for zone c.shot.new.self c.copy.new.self.seen new e.movie e.lawful e.near in
     shot_at c.copy.new.self.seen c.shot.new.self.movie _ _ c.count.result _ c.in-Ok-shot.end _ made.movie c.in_ok-at.ensures.1 c.in_ok-at.ensures.2 e.answer e.picture c.shown.ensures.shot c.shown.ensures.halted
 
 pub returns-clause-short : goal.returns-clause-short
@@ -70,3 +70,8 @@ returns-in_default-clause-zone g c = grind (arith, common_steps)
 
 pub shot-requires-clause-within : goal.shot-requires-clause-within
 shot-requires-clause-within g c = grind (arith, common_steps)
+
+pub returns-clause-window : goal.returns-clause-window
+returns-clause-window g c =
+    was_played c.args.k _ c.count.result _ c.in-Ok-shot.end _ _ _ c.shown.ensures.shot c.shown.ensures.halted
+    (subst (λ (z : ZoneContent _). CutsWindow z c.shot.new.self) (ap (λ (s : SeatContent _). s.zone) c.self.view_is) c.in-Ok-shot.ensures.cut)

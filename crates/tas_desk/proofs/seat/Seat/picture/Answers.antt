@@ -1,0 +1,71 @@
+use Rattle.std.proofs.lemmas.Grind.{common_steps}
+use Rattle.std.proofs.Common.{ap, subst, refl, arith}
+use Rattle.tas_desk.specs.Version.{VersionContent}
+use Rattle.tas_desk.specs.Seats.{SeatContent}
+use Rattle.tas_desk.specs.Zones.{ZoneContent, IsShort, IsViewed}
+use Rattle.tas_desk.proofs.CutLemmas.{short_view}
+use Rattle.tas_desk.proofs.ZoneLemmas.{seated_on, marked, made_for, seen_more}
+use Rattle.tas_desk.proofs.ShotLemmas.{shot_at, so_many, where_shown, zone_viewed}
+use Rattle.tas_desk.proofs.seat.Seat.picture.Goals as goal
+
+pub returns-clause-zone : goal.returns-clause-zone
+returns-clause-zone g c =
+    let e = c.in-Ok-view.ensures in
+    let zone = c.self.inside.zone in
+    let new = marked c.version.result.now zone.made_for c.view.new.self.made_for c.in_ok-at.copied c.copy.new.self.seen c.version.ensures c.in_ok-at.ensures.3 e.made_for in
+    let made = made_for zone c.view.new.self c.copy.new.self.seen new e.movie e.lawful e.near in
+    zone_viewed c.args.self.now _ _ _ c.in-Ok-view.viewed.ran _ c.in-Ok-view.viewed.end _ c.shown.ensures.shot c.shown.ensures.halted
+    (subst (λ (z : ZoneContent _). IsViewed z c.view.new.self c.copy.new.self.seen c.args.k c.in-Ok-view.viewed.ran) (ap (λ (s : SeatContent _). s.zone) c.self.view_is) (record { made = made; view = e.kept }))
+
+pub returns-clause-reply : goal.returns-clause-reply
+returns-clause-reply g c =
+    let e = c.in-Ok-view.ensures in
+    let zone = c.self.inside.zone in
+    let new = marked c.version.result.now zone.made_for c.view.new.self.made_for c.in_ok-at.copied c.copy.new.self.seen c.version.ensures c.in_ok-at.ensures.3 e.made_for in
+    let made = made_for zone c.view.new.self c.copy.new.self.seen new e.movie e.lawful e.near in
+    shot_at c.copy.new.self.seen c.view.new.self.movie _ _ c.in-Ok-view.viewed.ran _ c.in-Ok-view.viewed.end _ made.movie c.in_ok-at.ensures.1 c.in_ok-at.ensures.2 e.answer e.picture c.shown.ensures.shot c.shown.ensures.halted
+
+pub returns-clause-short : goal.returns-clause-short
+returns-clause-short g c =
+    so_many _ _ c.in-Ok-view.viewed.ran _ c.in-Ok-view.viewed.end _ (IsShort c.args.self.now.zone c.view.new.self c.args.k) c.shown.ensures.shot c.shown.ensures.halted
+    (subst (λ (z : ZoneContent _). IsShort z c.view.new.self c.args.k c.in-Ok-view.viewed.ran) (ap (λ (s : SeatContent _). s.zone) c.self.view_is) (short_view c.self.inside.zone c.view.new.self c.args.k c.in-Ok-view.viewed.ran c.in-Ok-view.ensures.kept))
+
+pub returns-clause-forward : goal.returns-clause-forward
+returns-clause-forward g c = where_shown c.args.k _ c.in-Ok-view.viewed.ran _ c.in-Ok-view.viewed.end _ _ c.shown.ensures.shot c.shown.ensures.halted c.in-Ok-view.ensures.forward
+
+pub invariant_of-self-in_default : goal.invariant_of-self-in_default
+invariant_of-self-in_default g c = seated_on _ _ _ _ _ _ _ c.self.inside.zone c.self.inside.zone c.self.invariant c.in_ok-at.ensures.0 refl
+
+pub invariant_of-self-in_default-view : goal.invariant_of-self-in_default-view
+invariant_of-self-in_default-view g c =
+    seated_on _ _ _ _ _ _ _ c.self.inside.zone c.view.new.self c.self.invariant c.in_ok-at.ensures.0 (ap (λ (z : ZoneContent _). z.made_for.registry) c.in_default-view.ensures.memory)
+
+pub invariant_of-self-2 : goal.invariant_of-self-2
+invariant_of-self-2 g c =
+    let zone = c.self.inside.zone in
+    let new = marked c.version.result.now zone.made_for c.view.new.self.made_for c.in_ok-at.copied c.copy.new.self.seen c.version.ensures c.in_ok-at.ensures.3 c.in-Ok-view.ensures.made_for in
+    seated_on _ _ _ _ _ _ _ zone c.view.new.self c.self.invariant c.in_ok-at.ensures.0 (ap (λ (m : VersionContent _). m.registry) new)
+
+pub returns-clause-seat : goal.returns-clause-seat
+returns-clause-seat g c = seen_more c.self.inside.reader c.copy.new.self _ _ _ c.self.inside.zone c.view.new.self c.self.view_is c.in_ok-at.ensures.0
+
+pub returns-in_default-view-clause-seat : goal.returns-in_default-view-clause-seat
+returns-in_default-view-clause-seat g c = seen_more c.self.inside.reader c.copy.new.self _ _ _ c.self.inside.zone c.view.new.self c.self.view_is c.in_ok-at.ensures.0
+
+pub invariant_of-self : goal.invariant_of-self
+invariant_of-self g c = grind (arith, common_steps)
+
+pub returns-in_err-at-clause-seat : goal.returns-in_err-at-clause-seat
+returns-in_err-at-clause-seat g c = grind (arith, common_steps)
+
+pub returns-in_default-clause-seat : goal.returns-in_default-clause-seat
+returns-in_default-clause-seat g c = grind (arith, common_steps)
+
+pub returns-in_default-view-clause-zone : goal.returns-in_default-view-clause-zone
+returns-in_default-view-clause-zone g c = grind (arith, common_steps)
+
+pub returns-in_default-clause-zone : goal.returns-in_default-clause-zone
+returns-in_default-clause-zone g c = grind (arith, common_steps)
+
+pub view-requires : goal.view-requires
+view-requires g c = grind (arith, common_steps)
