@@ -70,7 +70,7 @@ impl<A: Allocator> Screen<A> {
     }
 }
 
-/// Plays a frame and writes its pixmap, after so many bytes of the frames before it.
+/// Plays a frame and writes its pixmap, after this many bytes of the frames before it.
 fn show_frame<A: Allocator, B: Allocator, W: Write>(
     movie: &Movie<A>,
     frame: usize,

@@ -81,7 +81,7 @@ fn shown(answer: Result<Shown, ShotError>) -> Result<(usize, u64, u64, usize), S
     }
 }
 
-/// The frame so many steps from one to another.
+/// The frame this many steps from one to another.
 fn stepped(from: usize, to: usize, count: usize) -> usize {
     if from < to {
         from.saturating_add(count)
@@ -262,7 +262,13 @@ fn is_taken<N: Name, W: CloseOnDrop, R: Threads + Wait + Abort + Sync>(
     match call {
         Call::Meet(at) => is_met(rt, desk, seats, at),
         Call::Whole(from, to, answer) => is_whole(desk, seats, (from, to), answer),
-        Call::Alike(one, other, from, to) => are_alike(alloc, desk, seats, (one, other), (from, to)),
+        Call::Alike(one, other, from, to) => are_alike(
+            alloc,
+            desk,
+            seats,
+            (one, other),
+            (from, to),
+        ),
         _ => match seats.get_mut(caller(call) as usize) {
             Some(seat) => is_answered(rt, alloc, desk, seat, call),
             None => false,

@@ -76,7 +76,7 @@ impl<'a, N: Name> Caller<'a, N> {
     }
 }
 
-/// Waits until a growth is held up, for so many turns at most.
+/// Waits until a growth is held up, for this many turns at most.
 fn wait_until_held(heap: &Heap) {
     for _turn in 0..MOST_TURNS {
         if heap.holds() {
@@ -95,7 +95,7 @@ fn is_drawn(answer: Result<Shot, ShotError>) -> bool {
     }
 }
 
-/// So many inputs with the left stick pushed right, put in at the beginning.
+/// This many inputs with the left stick pushed right, put in at the beginning.
 fn insert<'a, R: Abort>(rt: &R, heap: &'a Heap, count: usize) -> Edit<&'a Heap> {
     Edit::Insert {
         at: 0,

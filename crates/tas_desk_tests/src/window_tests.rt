@@ -66,7 +66,7 @@ static EDITED: [Call; 22] = [
     Call::Alike(0, 1, 290, 292),
     Call::Made(0, Change::Replace(20, 1), 9, 400),
     Call::Stepped(0, 293, 293, 278),
-    // Another length moves the frames behind the edit.
+    // Another length moves the frames after the edit.
     Call::Made(0, Change::Insert(100, 3), 10, 403),
     Call::Alike(0, 1, 290, 300),
     Call::Made(0, Change::Delete(295, 108), 11, 295),

@@ -137,7 +137,7 @@ fn cut_lines_of_ram_are_told_by_their_bytes(rt: HostRuntime) {
     }
 }
 
-/// The digests of the same movie, in stretches of so many frames.
+/// The digests of the same movie, in stretches of this many frames.
 static DIGESTS: [(usize, &[u8]); 4] = [
     (
         1,

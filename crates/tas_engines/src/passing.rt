@@ -18,7 +18,7 @@ pub(crate) fn pass_frame<A: Allocator>(movie: &Movie<A>, k: usize, state: &mut S
 {
     if k < movie.len() {
         let mut meter = Meter::new();
-        // A halted machine stays as it is: its state tells the halt.
+        // A halted machine stays as it is: its state has the halt.
         let _ = play_unseen(movie.cart(), state, movie.inputs()[k], &mut meter);
     }
 }

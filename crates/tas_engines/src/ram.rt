@@ -42,7 +42,7 @@ fn ram_digits(ram: &[u8; RAM_SIZE]) -> [u8; 2 * RAM_SIZE]
     digits
 }
 
-/// Writes the line of RAM after `k` frames, and answers how many bytes have gone out with those before it.
+/// Writes the line of RAM after `k` frames, and returns how many bytes have gone out with those before it.
 fn write_ram_line<W: Write>(
     k: usize,
     ram: &[u8; RAM_SIZE],

@@ -66,8 +66,8 @@ fn put_near<A: Allocator>(states: &mut Vec<Savestate, A>, kept: &Savestate, end:
     }
 }
 
-/// Plays the frames of a span, of which there is one at least, but for the last one, without pictures, and answers the state
-/// behind them. The states on the way are kept: in the greenzone's list those on the grid, in the window's those near the
+/// Plays the frames of a span, of which there is one at least, but for the last one, without pictures, and returns the state
+/// after them. The states on the way are kept: in the greenzone's list those on the grid, in the window's those near the
 /// span's end. Both have room for them.
 fn pass_both<A: Allocator, B: Allocator, C: Allocator>(
     cart: &Cart<A>,
@@ -105,7 +105,7 @@ fn pass_both<A: Allocator, B: Allocator, C: Allocator>(
 {
     let mut state = span.start.state;
     for frame in span.start.frame..span.end - 1 {
-        // A halted machine stays as it is: its state tells the halt.
+        // A halted machine stays as it is: its state has the halt.
         let _ = play_unseen(cart, &mut state, inputs[frame], meter);
         let kept = Savestate {
             frame: frame + 1,
@@ -177,7 +177,7 @@ pub fn make_room<A: Allocator>(states: &mut Vec<Savestate, A>) -> Result<(), All
     states.reserve_exact(ROOM - states.len())
 }
 
-/// Plays a movie from a state on and draws frame `k`. The greenzone's states gain those on the way that stand on the grid; of the
+/// Plays a movie from a state on and draws frame `k`. The greenzone's states gain those on the way that are on the grid; of the
 /// window's those near frame `k` are kept, and they gain those near it on the way. Both have room for them.
 pub fn play_near<A: Allocator, B: Allocator, C: Allocator, D: Allocator>(
     movie: &Movie<A>,
