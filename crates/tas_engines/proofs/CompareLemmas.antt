@@ -1,6 +1,6 @@
 -- Where two movies begin to differ.
 use Rattle.std.proofs.Common.{◌≡◌, ◌≢◌, ℕ, zero, suc, ◌+◌, ◌<◌, ◌≤◌, Bool, true, false, List, [], ◌∷◌, length, take, get_or, Option, Some, None, refl, sym, ap, subst, ◌∙◌, inl, inr, arith}
-use Rattle.std.specs.Prelude.{slice_get, nat_lt, min, max, if◌then◌else◌}
+use Rattle.std.specs.Prelude.{min, max}
 use Rattle.std.proofs.lemmas.Bool.{cases_eq, cases_lt, lt-ltb, le-ltb}
 use Rattle.std.proofs.lemmas.List.{get_or-take}
 use Rattle.std.proofs.lemmas.Option.{slice_get-get_or, slice_get_past}
@@ -12,8 +12,7 @@ use Rattle.vcs_machine.specs.Machine.{after, frame_picture}
 use Rattle.tas_movie.specs.Content.{MovieContent}
 use Rattle.tas_green.specs.Run.{state_after, picture_of}
 use Rattle.tas_green.specs.Front.{IsCommonFront}
-use Rattle.tas_engines.specs.declared.compare.Places.{Places}
-use Rattle.tas_engines.specs.Comparing.{where_played, input_at, ram_at, picture_at, pixmap_of, unless_halted, first_of, IsFirstDifference, IsFirstUpTo, AreFirstUpTo}
+use Rattle.tas_engines.specs.Comparing.{where_played, input_at, unless_halted, first_of, IsFirstDifference, IsFirstUpTo, AreFirstUpTo}
 
 -- ---- what a movie has at a frame
 

@@ -1,12 +1,8 @@
 -- Frames of a movie, one after the other.
-use Rattle.std.proofs.Common.{◌≡◌, ℕ, ◌+◌, ◌<◌, ◌≤◌, length, take, ap, sym, ◌∙◌, arith, take_all}
-use Rattle.vcs_machine.specs.declared.state.State.{State}
-use Rattle.vcs_machine.specs.declared.input.Input.{Input}
-use Rattle.vcs_machine.specs.Machine.{after, frame}
-use Rattle.std.specs.Prelude.{Option, Some, slice_get, get_or}
+use Rattle.std.proofs.Common.{◌≡◌, ℕ, ◌+◌, ◌≤◌, length, ap, sym, ◌∙◌, arith, take_all}
+use Rattle.vcs_machine.specs.Machine.{after}
 use Rattle.tas_movie.specs.Content.{MovieContent}
 use Rattle.tas_green.specs.Run.{state_after}
-use Rattle.tas_green.proofs.RunLemmas.{after_more}
 
 -- past the movie's end no frame is left
 pub past_end : (movie : MovieContent) (k : ℕ) → length movie.inputs ≤ k → state_after movie k ≡ state_after movie (k + 1)

@@ -1,8 +1,8 @@
-use Rattle.std.proofs.Common.{◌≡◌, ◌+◌, List, ℕ, Option, sym, ap, subst, ◌∙◌}
+use Rattle.std.proofs.Common.{◌≡◌, ◌+◌, sym, ap, subst, ◌∙◌}
 use Rattle.std.specs.Cmp.Lexicographic.{same_text, other_text}
 use Rattle.vcs_machine.specs.declared.state.State.{State}
 use Rattle.tas_engines.specs.Ram.{ram_after}
-use Rattle.tas_engines.specs.Comparing.{ram_at, picture_at, pixmap_of, IsFirstUpTo}
+use Rattle.tas_engines.specs.Comparing.{ram_at, picture_at, IsFirstUpTo}
 use Rattle.tas_engines.proofs.CompareLemmas.{up_to_more, same_there, other_there}
 use Rattle.tas_engines.proofs.compare.compare_frame.Goals as goal
 

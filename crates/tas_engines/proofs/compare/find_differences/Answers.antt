@@ -1,4 +1,4 @@
-use Rattle.std.proofs.Common.{◌≡◌, ◌+◌, ℕ, Option, length, min, sym, subst, arith}
+use Rattle.std.proofs.Common.{◌≡◌, ◌+◌, length, min, sym, subst, arith}
 use Rattle.std.proofs.lemmas.Bool.{eqb-true, eqb-false}
 use Rattle.tas_engines.specs.Ram.{ram_after}
 use Rattle.tas_engines.specs.Comparing.{input_at, ram_at, picture_at, pixmap_of, IsFirstDifference}

@@ -1,4 +1,4 @@
-use Rattle.std.proofs.Common.{◌≡◌, ◌≤◌, ℕ, ◌++◌, ◌-◌, List, [], ◌∷◌, length, drop, length-append, take_all, OnOk, IfErr, ◌∙◌, ap, subst, arith}
+use Rattle.std.proofs.Common.{ℕ, ◌++◌, ◌-◌, List, [], ◌∷◌, OnOk, IfErr, ◌∙◌, ap, subst, arith}
 use Rattle.std.specs.Prelude.{decimal}
 use Rattle.std.proofs.lemmas.Fmt.{length-decimal-le}
 use Rattle.std.specs.Io.KnownBytes.{Appends}
