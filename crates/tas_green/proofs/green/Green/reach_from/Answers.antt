@@ -3,7 +3,7 @@ use Rattle.vcs_machine.specs.Machine.{after}
 use Rattle.tas_green.specs.Zone.{where_true, is_passed}
 use Rattle.tas_green.specs.Grid.{stride}
 use Rattle.tas_green.proofs.GreenLemmas.{lawful_gained, shot_right}
-use Rattle.tas_green.proofs.reaching.Green.reach_from.Goals as goal
+use Rattle.tas_green.proofs.green.Green.reach_from.Goals as goal
 
 pub pass_span-requires-clause-start : goal.pass_span-requires-clause-start
 pass_span-requires-clause-start g c = rw (c.cart.ensures, c.inputs.ensures.inputs) c.start_of.ensures.state
