@@ -56,7 +56,8 @@ fn numbered(line: &[u8], front: &[u8]) -> Option<usize>
     ensures some { IfSome result (λ n. (line.now ≡ front.now ++ decimal n) × IsNumber n) }
     ensures none { IfNone result ((n : ℕ) → IsNumber n → line.now ≢ front.now ++ decimal n) }
 {
-    number(strip(line, front)?)
+    let rest = strip(line, front)?;
+    number(rest)
 }
 
 /// What a line of any length, without its newline, asks for; nothing where it isn't understood (own). Takes no memory.
