@@ -87,9 +87,9 @@ fn show_frame<A: Allocator, B: Allocator, W: Write>(
     ensures out { OnOk result (Appends (W.contents output.old) (W.contents output.new) (ppm_bytes (picture_of movie.now frame))) }
     ensures stop { IfErr result (IsFilmStop movie.now frame before (W.contents output.old) (W.contents output.new)) }
 {
-    let input = movie.input(frame);
+    let inputs = movie.inputs();
     let picture = &mut screen.picture;
-    if let Err(halt) = play(movie.cart(), state, input, picture, &mut Meter::new()) {
+    if let Err(halt) = play(movie.cart(), state, inputs[frame], picture, &mut Meter::new()) {
         return Err(FilmStop::Halted(HaltedFrame { frame, halt }));
     }
     match screen.write_picture(before, output) {

@@ -11,6 +11,8 @@ mod commands;
 #[cfg(test)]
 mod export_tests;
 #[cfg(test)]
+mod film_tests;
+#[cfg(test)]
 mod limit_tests;
 #[cfg(test)]
 mod long_script_tests;
