@@ -2,11 +2,13 @@ pub mod CutLemmas
 pub mod DrawingLemmas
 pub mod EditLemmas
 pub mod EntryLemmas
+pub mod FilmLemmas
 pub mod HistoryLemmas
 pub mod LockedLemmas
 pub mod PrefixLemmas
 pub mod PublishLemmas
 pub mod PublishedRule
+pub mod ReaderLemmas
 pub mod RegistryLemmas
 pub mod RunLemmas
 pub mod SeatLemmas

@@ -61,7 +61,7 @@ pieces_long xs i x before lt is count =
     let front = length-append (concat (take i xs)) x in
     omega arith
 
-length-pixmap : (movie : MovieContent) (f : ℕ) → length (ppm_bytes (picture_of movie f)) ≡ 100815
+pub length-pixmap : (movie : MovieContent) (f : ℕ) → length (ppm_bytes (picture_of movie f)) ≡ 100815
 length-pixmap movie f =
     let whole = length-frame_picture movie.cart (after movie.cart (take f movie.inputs)) _ in
     length-ppm_bytes (picture_of movie f) ∙ ap (λ (n : ℕ). 15 + 3 * n) whole

@@ -2,6 +2,7 @@ pub mod Answers
 pub mod Counts
 pub mod Exporting
 pub mod Exports
+pub mod Films
 pub mod Frames
 pub mod History
 pub mod Locked
@@ -13,6 +14,7 @@ pub mod Readings
 pub mod Closing
 pub mod Session
 pub mod Shots
+pub mod States
 pub mod Version
 pub mod Zones
 pub mod Work

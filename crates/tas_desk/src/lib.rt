@@ -11,6 +11,7 @@ mod drawing;
 mod entry;
 mod export;
 mod exporting;
+mod film;
 mod laws;
 mod locked_session;
 mod movie_copy;
@@ -34,12 +35,15 @@ mod writing;
 pub use desk::{Desk, MAX_SEATS, Unopened};
 pub use entry::Entry;
 pub use export::{ExportError, Exported, MAX_EXPORT, MAX_WORKERS};
+pub use film::{FilmStop, write_film};
 pub use laws::limits_are_exact;
 pub use locked_session::CloseOnDrop;
 pub use name::Name;
+pub use pixmaps::HaltedFrame;
 pub use publisher::Closed;
 pub use replies::{
-    EditError, InputError, NoEntry, OfferError, Offered, OpenError, Receipt, Shot, ShotError,
+    EditError, InputError, NoEntry, OfferError, Offered, OpenError, Reached, Receipt, Shot,
+    ShotError, StateError,
 };
 pub use seat::Seat;
 pub use session::{MAX_EDITS, Session};

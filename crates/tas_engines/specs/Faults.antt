@@ -7,9 +7,9 @@ use Rattle.tas_movie.specs.declared.error.ReadError.TheVariants as text
 use Rattle.tas_engines.specs.declared.fault.ReadFault.{ReadFault}
 use Rattle.tas_engines.specs.declared.fault.ReadFault.TheVariants.{TooLong as PastLimit, Read as ReadFailed, Memory as NoRoom}
 use Rattle.tas_engines.specs.declared.fault.RunFault.{RunFault}
-use Rattle.tas_engines.specs.declared.fault.RunFault.TheVariants.{Write as WriteFailed, Size as WrongSize, Text as WrongText, NoFrame as OffMovie, Range as OffRange, Halted as Stopped, Script as Unclear, Place as PastTheEnd, Long as OverLong, NoPlace as WithoutPlace, NoEntry as WithoutEntry, Foreign as OthersEdit, Memory as Refused}
+use Rattle.tas_engines.specs.declared.fault.RunFault.TheVariants.{Write as WriteFailed, Size as WrongSize, Text as WrongText, NoFrame as OffMovie, Range as OffRange, Halted as Stopped, HaltedFrame as StoppedFrame, Script as Unclear, Place as PastTheEnd, Long as OverLong, NoPlace as WithoutPlace, NoEntry as WithoutEntry, Foreign as OthersEdit, Memory as Refused}
 use Rattle.tas_engines.specs.declared.fault.ToolFault.{ToolFault}
-use Rattle.tas_engines.specs.declared.fault.ToolFault.TheVariants.{TooLong, Read, Write, Size, Text, NoFrame, Range, Halted, Script, Place, Long, NoPlace, NoEntry, Foreign, Memory}
+use Rattle.tas_engines.specs.declared.fault.ToolFault.TheVariants.{TooLong, Read, Write, Size, Text, NoFrame, Range, Halted, HaltedFrame, Script, Place, Long, NoPlace, NoEntry, Foreign, Memory}
 
 -- a fault of reading
 abbrev pub unread_fault : ReadFault → ToolFault
@@ -25,6 +25,7 @@ run_fault (WrongText error) = Text error
 run_fault (OffMovie frame len) = NoFrame frame len
 run_fault (OffRange from to len) = Range from to len
 run_fault (Stopped at opcode) = Halted at opcode
+run_fault (StoppedFrame frame at opcode) = HaltedFrame frame at opcode
 run_fault (Unclear line) = Script line
 run_fault (PastTheEnd line) = Place line
 run_fault (OverLong line) = Long line

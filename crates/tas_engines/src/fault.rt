@@ -4,7 +4,7 @@ ghost use Rattle.std.specs.Prelude.{◌≡◌};
 ghost use Rattle.tas_engines.specs.declared.fault.RunFault.TheVariants.{Write as WriteFailed, Memory as Refused};
 ghost use Rattle.tas_engines.specs.Faults.{unread_fault, run_fault, cart_fault, text_fault};
 
-use crate::fault_lines::{halted_line, no_frame_line, range_line};
+use crate::fault_lines::{halted_frame_line, halted_line, no_frame_line, range_line};
 use counted_write::WriteFault;
 use std::alloc::AllocError;
 use tas_movie::{ReadError, TextError};
@@ -53,6 +53,15 @@ pub enum RunFault {
     /// The machine is halted in the frame that was asked for, or in one of them; this is the least one's
     /// halt.
     Halted {
+        /// The address of the undocumented byte.
+        at: u16,
+        /// The byte.
+        opcode: u8,
+    },
+    /// A frame of a film is halted; this is the least one.
+    HaltedFrame {
+        /// The frame, counted from 0.
+        frame: usize,
         /// The address of the undocumented byte.
         at: u16,
         /// The byte.
@@ -130,6 +139,16 @@ pub enum ToolFault {
     /// halt. Nothing was written.
     #[error(fmt = halted_line)]
     Halted {
+        /// The address of the undocumented byte.
+        at: u16,
+        /// The byte.
+        opcode: u8,
+    },
+    /// A frame of a film is halted; this is the least one. The pictures of the frames before it are written.
+    #[error(fmt = halted_frame_line)]
+    HaltedFrame {
+        /// The frame, counted from 0.
+        frame: usize,
         /// The address of the undocumented byte.
         at: u16,
         /// The byte.
@@ -231,6 +250,9 @@ impl From<RunFault> for ToolFault {
             RunFault::NoFrame { frame, len } => ToolFault::NoFrame { frame, len },
             RunFault::Range { from, to, len } => ToolFault::Range { from, to, len },
             RunFault::Halted { at, opcode } => ToolFault::Halted { at, opcode },
+            RunFault::HaltedFrame { frame, at, opcode } => {
+                ToolFault::HaltedFrame { frame, at, opcode }
+            }
             RunFault::Script { line } => ToolFault::Script { line },
             RunFault::Place { line } => ToolFault::Place { line },
             RunFault::Long { line } => ToolFault::Long { line },

@@ -16,3 +16,13 @@ pub fn range_line<W: Write>(from: &usize, to: &usize, len: &usize, f: &mut Forma
 pub fn halted_line<W: Write>(at: &u16, opcode: &u8, f: &mut Formatter<W>) -> Result {
     write!(f, "fault: halted at {at:04X} by {opcode:02X}")
 }
+
+/// That of `ToolFault::HaltedFrame`.
+pub fn halted_frame_line<W: Write>(
+    frame: &usize,
+    at: &u16,
+    opcode: &u8,
+    f: &mut Formatter<W>,
+) -> Result {
+    write!(f, "fault: frame {frame} halted at {at:04X} by {opcode:02X}")
+}

@@ -4,8 +4,11 @@ pub mod ScriptLemmas
 pub mod OneSeatLemmas
 pub mod MakingLemmas
 pub mod ExportLemmas
+pub mod FilmLemmas
 pub mod MovieScriptLemmas
 pub mod GreenLemmas
 pub mod TellingLemmas
+pub mod StateLemmas
 pub mod TalkLemmas
 pub mod TalkRunLemmas
+pub mod StripLemmas

@@ -6,7 +6,7 @@ use Rattle.tas_movie.specs.Content.{MovieContent}
 use Rattle.tas_desk.specs.History.{movie_of, entries_of}
 use Rattle.tas_desk.specs.Seats.{SeatContent}
 use Rattle.tas_engines.specs.declared.fault.RunFault.{RunFault}
-use Rattle.tas_engines.specs.declared.fault.RunFault.TheVariants.{Write, Size, Text, NoFrame as OffMovie, Range as OffRange, Halted as Stopped, Script, Place, Long, NoPlace, NoEntry, Foreign, Memory}
+use Rattle.tas_engines.specs.declared.fault.RunFault.TheVariants.{Write, Size, Text, NoFrame as OffMovie, Range as OffRange, Halted as Stopped, HaltedFrame as StoppedFrame, Script, Place, Long, NoPlace, NoEntry, Foreign, Memory}
 use Rattle.tas_engines.specs.Movies.{IsMovieOf}
 use Rattle.tas_tool.specs.Turns.{OwnEdits, own_edits_of, BeginsWithOwn}
 use Rattle.tas_tool.specs.TwoEdits.{HoldsMovie, IsMakingFault}
@@ -42,6 +42,7 @@ unmade_by seat (Text error) is own = absurd is
 unmade_by seat (OffMovie frame len) is own = absurd is
 unmade_by seat (OffRange from to len) is own = absurd is
 unmade_by seat (Stopped at opcode) is own = absurd is
+unmade_by seat (StoppedFrame frame at opcode) is own = absurd is
 unmade_by seat (Script line) is own = absurd is
 unmade_by seat (Place line) is own = absurd is
 unmade_by seat (Long line) is own = absurd is

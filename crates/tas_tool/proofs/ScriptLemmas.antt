@@ -5,7 +5,7 @@ use Rattle.std.specs.List.{flat_map}
 use Rattle.std.specs.Io.KnownBytes.{Appends}
 use Rattle.std.proofs.KnownBytes.{Appends-nil}
 use Rattle.tas_engines.specs.declared.fault.RunFault.{RunFault}
-use Rattle.tas_engines.specs.declared.fault.RunFault.TheVariants.{Write, Size, Text, NoFrame as OffMovie, Range as OffRange, Halted as Stopped, Script, Place, Long, NoPlace, NoEntry, Foreign, Memory}
+use Rattle.tas_engines.specs.declared.fault.RunFault.TheVariants.{Write, Size, Text, NoFrame as OffMovie, Range as OffRange, Halted as Stopped, HaltedFrame as StoppedFrame, Script, Place, Long, NoPlace, NoEntry, Foreign, Memory}
 use Rattle.tas_engines.specs.declared.fault.ToolFault.{ToolFault}
 use Rattle.tas_engines.specs.Faults.{told}
 use Rattle.tas_engines.specs.Input.{IsReadWhole}
@@ -118,6 +118,7 @@ desk_stop seat (Text error) turns rest some is own = absurd is
 desk_stop seat (OffMovie frame len) turns rest some is own = absurd is
 desk_stop seat (OffRange from to len) turns rest some is own = absurd is
 desk_stop seat (Stopped at opcode) turns rest some is own = absurd is
+desk_stop seat (StoppedFrame frame at opcode) turns rest some is own = absurd is
 desk_stop seat (Script line) turns rest some is own = absurd is
 desk_stop seat (Place line) turns rest some is own = absurd is
 desk_stop seat (Long line) turns rest some is own = absurd is

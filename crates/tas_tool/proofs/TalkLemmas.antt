@@ -15,7 +15,7 @@ use Rattle.tas_desk.specs.Seats.{SeatContent}
 use Rattle.tas_desk.specs.Zones.{ZoneContent}
 use Rattle.tas_desk.proofs.HistoryLemmas.{movie_of-none}
 use Rattle.tas_engines.specs.declared.fault.RunFault.{RunFault}
-use Rattle.tas_engines.specs.declared.fault.RunFault.TheVariants.{Write, Size, Text, NoFrame as OffMovie, Range as OffRange, Halted as Stopped, Script, Place, Long, NoPlace, NoEntry, Foreign, Memory}
+use Rattle.tas_engines.specs.declared.fault.RunFault.TheVariants.{Write, Size, Text, NoFrame as OffMovie, Range as OffRange, Halted as Stopped, HaltedFrame as StoppedFrame, Script, Place, Long, NoPlace, NoEntry, Foreign, Memory}
 use Rattle.tas_engines.specs.declared.fault.ToolFault.{ToolFault}
 use Rattle.tas_engines.specs.declared.fault.ToolFault.TheVariants.{Read as ReadFailed, Memory as OutOfRoom, NoPlace as WithoutPlace}
 use Rattle.tas_engines.specs.Faults.{run_fault}
@@ -139,6 +139,7 @@ line_fault before now said told old (Text error) is = absurd is
 line_fault before now said told old (OffMovie frame len) is = absurd is
 line_fault before now said told old (OffRange from to len) is = absurd is
 line_fault before now said told old (Stopped at opcode) is = absurd is
+line_fault before now said told old (StoppedFrame frame at opcode) is = absurd is
 line_fault before now said told old (Script number) is = absurd is
 line_fault before now said told old (Place number) is = absurd is
 line_fault before now said told old (Long number) is = absurd is
@@ -399,6 +400,7 @@ stopped {A} start read now input input' output output' fault left s own = go fau
     go (OffMovie frame len) b = absurd b
     go (OffRange from to len) b = absurd b
     go (Stopped at opcode) b = absurd b
+    go (StoppedFrame frame at opcode) b = absurd b
     go (Script number) b = absurd b
     go (Place number) b = absurd b
     go (Long number) b = absurd b
@@ -431,6 +433,7 @@ unmade_talk start seat (Text error) input output is own = absurd is
 unmade_talk start seat (OffMovie frame len) input output is own = absurd is
 unmade_talk start seat (OffRange from to len) input output is own = absurd is
 unmade_talk start seat (Stopped at opcode) input output is own = absurd is
+unmade_talk start seat (StoppedFrame frame at opcode) input output is own = absurd is
 unmade_talk start seat (Script number) input output is own = absurd is
 unmade_talk start seat (Place number) input output is own = absurd is
 unmade_talk start seat (Long number) input output is own = absurd is

@@ -27,7 +27,7 @@ use Rattle.tas_desk.specs.Shots.{IsShotAt}
 use Rattle.tas_desk.specs.declared.entry.Entry.{Entry}
 use Rattle.tas_desk.specs.Zones.{ZoneContent, IsPlayed, IsShared, IsViewed}
 use Rattle.tas_engines.specs.declared.fault.RunFault.{RunFault}
-use Rattle.tas_engines.specs.declared.fault.RunFault.TheVariants.{Write, Size, Text, NoFrame as OffMovie, Range as OffRange, Halted as Stopped, Script, Place, Long, NoPlace, NoEntry as NoDeskEntry, Foreign, Memory}
+use Rattle.tas_engines.specs.declared.fault.RunFault.TheVariants.{Write, Size, Text, NoFrame as OffMovie, Range as OffRange, Halted as Stopped, HaltedFrame as StoppedFrame, Script, Place, Long, NoPlace, NoEntry as NoDeskEntry, Foreign, Memory}
 use Rattle.tas_language.specs.declared.command.Command.{Command}
 use Rattle.tas_language.specs.declared.command.Command.TheVariants.{Shot}
 use Rattle.tas_language.specs.declared.reply.Reply.{Reply}
@@ -55,6 +55,7 @@ talk_fault seat (Text error) is = absurd is
 talk_fault seat (OffMovie frame len) is = absurd is
 talk_fault seat (OffRange from to len) is = absurd is
 talk_fault seat (Stopped at opcode) is = absurd is
+talk_fault seat (StoppedFrame frame at opcode) is = absurd is
 talk_fault seat (Script line) is = absurd is
 talk_fault seat (Place line) is = absurd is
 talk_fault seat (Long line) is = absurd is

@@ -1,6 +1,7 @@
 pub mod Turns
 pub mod Checking
 pub mod Scripts
+pub mod Films
 pub mod Pixmaps
 pub mod TwoEdits
 pub mod MovieScripts

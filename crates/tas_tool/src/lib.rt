@@ -9,6 +9,8 @@
 
 mod answering;
 mod exporting;
+mod filming;
+mod looks;
 mod making;
 mod movie_scripting;
 mod opening;
@@ -18,6 +20,7 @@ mod talking;
 mod telling;
 
 pub use exporting::export_run;
+pub use filming::film_run;
 pub use movie_scripting::movie_script_run;
 pub use scripting::script_run;
 pub use talk_runs::{cart_talk_run, movie_talk_run, talk_run};

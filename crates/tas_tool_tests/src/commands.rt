@@ -1,11 +1,14 @@
 //! The commands, each called in one place: what is proved of them is long, and would be looked up again wherever a test called one itself.
 
+use crate::checks::check_same;
 use std::alloc::Global;
 use std::io::{Read, Write};
+use std::process::Abort;
 use std::sync::Wait;
 use std::thread::Threads;
 use tas_tool::{
-    ToolFault, cart_talk_run, export_run, movie_script_run, movie_talk_run, script_run, talk_run,
+    ToolFault, cart_talk_run, export_run, film_run, movie_script_run, movie_talk_run, script_run,
+    shot_run, talk_run,
 };
 
 /// Exports frames `from` to the one before `to` by so many workers.
@@ -30,8 +33,36 @@ pub fn answer_script<R: Wait, I: Read, W: Write>(
     script_run(rt, alloc, input, output)
 }
 
+/// Films the frames from the first of these to the one before the second, where they are given.
+pub fn film<C: Read, I: Read, W: Write>(
+    alloc: Global,
+    (from, to): (Option<usize>, Option<usize>),
+    cart: &mut C,
+    input: &mut I,
+    output: &mut W,
+) -> Result<(), ToolFault> {
+    film_run(alloc, from, to, cart, input, output)
+}
+
 /// A cartridge and the text of a movie.
 pub type Files<'a> = (&'a [u8], &'a [u8]);
+
+/// The pictures of a movie's frames, each by a shot of its own, which replays from power-on.
+pub fn shots<R: Abort>(
+    rt: &R,
+    alloc: Global,
+    (image, text): Files<'_>,
+    (from, to): (usize, usize),
+) -> Vec<u8> {
+    let mut output = Vec::new(alloc);
+    for frame in from..to {
+        let mut cart = image;
+        let mut input = text;
+        let end = shot_run(alloc, frame, &mut cart, &mut input, &mut output);
+        check_same(rt, ("shot", frame), end, Ok(()));
+    }
+    output
+}
 
 /// Answers a script over a movie.
 pub fn answer_over_movie<R: Wait, W: Write>(

@@ -1,8 +1,8 @@
 //! Exports of whole movies.
 
 use crate::checks::{check_same, check_that};
-use crate::commands::{Files, export};
-use crate::movies::{HALTING, IDLE, PICTURE, PLAYFIELD, Program, RIGHT, image_of, text_of};
+use crate::commands::{Files, export, shots};
+use crate::movies::{FOLDING, HALTING, IDLE, PICTURE, PLAYFIELD, RIGHT, image_of, text_of};
 use crate::programs::ONE_FRAME;
 use std::alloc::Global;
 use std::fmt::Debug;
@@ -10,15 +10,8 @@ use std::process::Abort;
 use std::sync::Wait;
 use std::thread::Threads;
 use tas_movie::{TextError, TextErrorKind};
-use tas_tool::{INPUT_LIMIT, ToolFault, shot_run};
+use tas_tool::{INPUT_LIMIT, ToolFault};
 use test_streams::{Failure, Filler, Giver, Room, Taker};
-
-/// `000=AD80026580858085094C00F0 FFC=00F0`: folds what the joysticks show into the background's colour, so
-/// that a picture depends on all inputs up to it.
-const FOLDING: Program = Program {
-    bytes: b"\xAD\x80\x02\x65\x80\x85\x80\x85\x09\x4C\x00\xF0",
-    digest: "01cd4f43e4064c0915ec1dde6c9364a0d994bc18d980d88e45a83ec89a41c425",
-};
 
 /// Fails where an export ends in another way, or writes other pictures, which are too long to be shown.
 fn check_export<R: Wait + Threads + Sync + Abort, C: Copy + Debug>(
@@ -36,23 +29,6 @@ fn check_export<R: Wait + Threads + Sync + Abort, C: Copy + Debug>(
     check_same(rt, case, ended, end);
     check_same(rt, case, output.len(), pictures.len());
     check_that(rt, case, output.as_slice() == pictures);
-}
-
-/// The pictures of a movie's frames, each by a shot of its own, which replays from power-on.
-fn shots<R: Abort>(
-    rt: &R,
-    alloc: Global,
-    (image, text): Files<'_>,
-    (from, to): (usize, usize),
-) -> Vec<u8> {
-    let mut output = Vec::new(alloc);
-    for frame in from..to {
-        let mut cart = image;
-        let mut input = text;
-        let end = shot_run(alloc, frame, &mut cart, &mut input, &mut output);
-        check_same(rt, ("shot", frame), end, Ok(()));
-    }
-    output
 }
 
 /// Fails where an export's pictures aren't the shots.

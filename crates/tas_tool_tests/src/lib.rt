@@ -11,6 +11,8 @@ mod commands;
 #[cfg(test)]
 mod export_tests;
 #[cfg(test)]
+mod film_tests;
+#[cfg(test)]
 mod limit_tests;
 #[cfg(test)]
 mod long_script_tests;
@@ -34,6 +36,8 @@ mod spoilt_script_tests;
 mod tails;
 #[cfg(test)]
 mod talk_file_tests;
+#[cfg(test)]
+mod talk_look_tests;
 #[cfg(test)]
 mod talk_tests;
 #[cfg(test)]

@@ -29,6 +29,13 @@ pub const HALTING: Program = Program {
     digest: "c914dfbc057cd1e5dd9cefcba07cec773cc85a8be3a04676377b60ded704d22d",
 };
 
+/// `000=AD80026580858085094C00F0 FFC=00F0`: folds what the joysticks show into the background's colour, so
+/// that a picture depends on all inputs up to it.
+pub const FOLDING: Program = Program {
+    bytes: b"\xAD\x80\x02\x65\x80\x85\x80\x85\x09\x4C\x00\xF0",
+    digest: "01cd4f43e4064c0915ec1dde6c9364a0d994bc18d980d88e45a83ec89a41c425",
+};
+
 /// Nothing pressed.
 pub const IDLE: &str = "..... ..... .....";
 
