@@ -3,7 +3,7 @@ use Rattle.std.proofs.Common.{◌≡◌, ℕ, suc, ◌+◌, ◌-◌, ◌<◌, �
 use Rattle.std.proofs.lemmas.List.{append-nil, length-append}
 use Rattle.tas_desk.specs.Seats.{SeatContent}
 use Rattle.tas_language.specs.declared.request.Request.TheVariants.{Picture, Pictures}
-use Rattle.tas_tool.specs.Turns.{BeginsWithOwn}
+use Rattle.tas_tool.specs.Turns.{OwnEdits, BeginsWithOwn}
 use Rattle.tas_tool.specs.Talk.{TalkState, StripAnswer, IsPictureAnswer, AreStrip, strip_answers}
 use Rattle.tas_tool.specs.Talking.{talk_state_of, IsToldTo}
 
@@ -52,6 +52,10 @@ shown_more before mid now from frame bytes more next made le shown told is =
       are = strip_more (talk_state_of before) (talk_state_of mid) from shown.strip one shown.are (subst (λ (n : ℕ). IsPictureAnswer (talk_state_of mid) n more (talk_state_of now)) (sym at) told.answer);
       told = is ∙ ap (λ (l : List ℕ). l ++ more) shown.told ∙ sym (answers_more shown.strip one);
     }
+
+-- a picture makes no edit
+pub told_made : {A : Type 0} (before now : SeatContent A) (frame made : ℕ) (bytes : List ℕ) → IsToldTo before now (Picture frame) bytes made → now.made ≡ before.made
+told_made before now frame made bytes told = ap (λ (f : OwnEdits). f.made) told.answer.2
 
 -- all of a strip was told
 pub told_strip : {A : Type 0} (before now : SeatContent A) (from to frame : ℕ) (bytes : List ℕ) (made : ℕ) → HasShown before now from frame bytes → frame - from ≡ to - from → made ≡ now.made → BeginsWithOwn now

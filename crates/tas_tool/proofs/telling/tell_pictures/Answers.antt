@@ -1,6 +1,6 @@
 use Rattle.std.proofs.Common.{◌≡◌, ◌-◌, ◌∙◌, sym, subst, refl, arith}
 use Rattle.std.proofs.lemmas.Result.{err_from_is_err_and}
-use Rattle.tas_tool.proofs.StripLemmas.{HasShown, nothing_shown, shown_more, told_strip}
+use Rattle.tas_tool.proofs.StripLemmas.{HasShown, nothing_shown, shown_more, told_made, told_strip}
 use Rattle.tas_tool.proofs.telling.tell_pictures.Goals as goal
 
 pub loop-frame-init : goal.loop-frame-init
@@ -14,7 +14,7 @@ loop-frame-init g c = record {
 pub loop-frame-preserved : goal.loop-frame-preserved
 loop-frame-preserved g c = record {
   number = c.tell_picture.ensures.number ∙ c.loop-frame.invariant.number;
-  made = ?;
+  made = c.loop-frame.invariant.made ∙ sym (told_made c.loop-frame.seat c.tell_picture.new.seat c.loop-frame.frame c.in_ok-told.told.made c.in_ok-told.told.bytes.items c.in_ok-told.ensures.answer);
   own = c.in_ok-told.ensures.answer.own;
   shown = shown_more c.args.seat.now c.loop-frame.seat c.tell_picture.new.seat c.args.from c.loop-frame.frame c.loop-frame.bytes.items c.in_ok-told.told.bytes.items c.extend_from_slice.new.self.items c.in_ok-told.told.made c.loop-frame.auto.frame c.loop-frame.invariant.shown c.in_ok-told.ensures.answer ?;
 }
