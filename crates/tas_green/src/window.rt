@@ -97,8 +97,8 @@ impl<A: Allocator> Window<A> {
         ensures moved { IsWindowMoved made_for.now movie.now self.old self.new }
         ensures lawful { AreMovieStates movie.now self.new }
     {
-        let front = shared_front(made_for, movie);
-        retain_up_to(&mut self.states, front);
+        let last = shared_front(made_for, movie);
+        retain_up_to(&mut self.states, last);
     }
 
     /// Where frame `k` is played from: the window's nearest state, where it is past the greenzone's and no place of the grid lies

@@ -1,7 +1,6 @@
 use Rattle.std.proofs.Common.{◌≡◌, ◌+◌, ◌-◌, ◌<◌, ◌≤◌, ◌∙◌, ap, length, take, arith, subst, ℕ, vec_len, vec_capacity}
 use Rattle.vcs_machine.specs.Machine.{after}
 use Rattle.tas_green.specs.Run.{answer_of}
-use Rattle.tas_green.proofs.GridLemmas.{div_mono}
 use Rattle.tas_green.proofs.RunLemmas.{HasKept, grid_test, near_test, after_more, answered, where_drawn, picture_drawn, kept_more, room_now}
 use Rattle.tas_green.proofs.WindowLemmas.{few_near, near_kept}
 use Rattle.tas_green.proofs.viewing.play_both.Goals as goal

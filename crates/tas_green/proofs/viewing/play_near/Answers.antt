@@ -1,4 +1,4 @@
-use Rattle.std.proofs.Common.{◌≡◌, ◌∙◌, ◌+◌, ◌/◌, ap, arith, length, take, filter, Some, refl}
+use Rattle.std.proofs.Common.{◌∙◌, ◌+◌, ap, arith, take, filter, Some, refl}
 use Rattle.vcs_machine.specs.Machine.{after}
 use Rattle.tas_green.specs.Zone.{where_true, is_passed}
 use Rattle.tas_green.specs.Grid.{stride}

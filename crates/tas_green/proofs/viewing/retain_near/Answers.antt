@@ -1,4 +1,4 @@
-use Rattle.std.proofs.Common.{arith, rules}
+use Rattle.std.proofs.Common.{rules}
 use Rattle.std.proofs.lemmas.Fn.{filter_same}
 use Rattle.tas_green.specs.Window.{is_near}
 use Rattle.tas_green.proofs.viewing.retain_near.Goals as goal

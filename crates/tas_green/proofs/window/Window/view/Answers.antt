@@ -1,4 +1,4 @@
-use Rattle.std.proofs.Common.{◌≡◌, ◌∙◌, ◌+◌, ◌<◌, ◌≤◌, ap, arith, inl, inr}
+use Rattle.std.proofs.Common.{◌≡◌, ◌+◌, arith, inl, inr}
 use Rattle.tas_green.specs.Window.{both, view_start}
 use Rattle.tas_green.proofs.MovingLemmas.{moved_same}
 use Rattle.tas_green.proofs.WindowLemmas.{window_moved_same, near_last}

@@ -1,4 +1,4 @@
-use Rattle.std.proofs.Common.{◌≡◌, ◌+◌, ◌<◌, ◌≤◌, arith, filter}
+use Rattle.std.proofs.Common.{◌≡◌, ◌+◌, ◌<◌, ◌≤◌, arith, filter, length, ap}
 use Rattle.std.specs.Prelude.{nat_le}
 use Rattle.tas_green.specs.Window.{both, view_start, AreMovieStates, IsWindowMoved}
 use Rattle.tas_green.proofs.ZoneLemmas.{rising_filter}
@@ -7,10 +7,22 @@ use Rattle.tas_green.proofs.ViewLemmas.{view_is, played_away}
 use Rattle.tas_green.proofs.window.Window.view_from.Given.{Over}
 use Rattle.tas_green.proofs.window.Window.view_from.Goals as goal
 
-pub start_of-requires-clause-states : goal.start_of-requires-clause-states
-start_of-requires-clause-states g c =
+pub start_of-start-requires-clause-states : goal.start_of-start-requires-clause-states
+start_of-start-requires-clause-states g c =
     rw (c.retain_up_to.ensures.states, c.make_room.ensures.items, c.self.view_is)
     (states_moved c.args.made_for.now c.args.movie.now c.shared_front-front.result c.args.self.now c.requires.states c.shared_front-front.ensures.agree c.shared_front-front.ensures.bound)
+
+pub play_near-requires-clause-states : goal.play_near-requires-clause-states
+play_near-requires-clause-states g c =
+    rw (c.retain_up_to.ensures.states, c.make_room.ensures.items, c.self.view_is)
+    (states_moved c.args.made_for.now c.args.movie.now c.shared_front-front.result c.args.self.now c.requires.states c.shared_front-front.ensures.agree c.shared_front-front.ensures.bound)
+
+pub invariant_of-self-2 : goal.invariant_of-self-2
+invariant_of-self-2 g c =
+    let same : length c.make_room.new.states.items ≡ length c.self.inside.states.items = ap length c.make_room.ensures.items in (
+      rw (c.retain_up_to.ensures.states, c.make_room.ensures.items) (rising_filter (λ kept. nat_le kept.frame c.shared_front-front.result) 0 c.self.inside.states.items c.self.invariant.0),
+      omega (arith, c.retain_up_to.ensures.bound, same, c.self.invariant.1),
+    )
 
 pub returns-clause-kept : goal.returns-clause-kept
 returns-clause-kept g c =
