@@ -89,7 +89,13 @@ fn show_frame<A: Allocator, B: Allocator, W: Write>(
 {
     let inputs = movie.inputs();
     let picture = &mut screen.picture;
-    if let Err(halt) = play(movie.cart(), state, inputs[frame], picture, &mut Meter::new()) {
+    if let Err(halt) = play(
+        movie.cart(),
+        state,
+        inputs[frame],
+        picture,
+        &mut Meter::new(),
+    ) {
         return Err(FilmStop::Halted(HaltedFrame { frame, halt }));
     }
     match screen.write_picture(before, output) {

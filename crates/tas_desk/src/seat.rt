@@ -138,9 +138,9 @@ impl<N: Name, A: Allocator + Copy> Seat<N, A> {
         ensures reply { IsStateAt self.new.front k result }
         ensures zone { IsZoneReached self.old self.new k result }
     {
-        let (at, copied) =
-            self.reader
-                .copy_of(self.zone.allocator(), self.zone.version(), k)?;
+        let (at, copied) = self
+            .reader
+            .copy_of(self.zone.allocator(), self.zone.version(), k)?;
         let mut meter = Meter::new();
         let Ok(state) = self.zone.reach(copied, k, &mut meter) else {
             return Err(StateError::Memory);

@@ -42,13 +42,7 @@ impl<A: Allocator> Green<A> {
             stride: stride(movie.len()),
         };
         self.states.reserve(span.room())?;
-        Ok(pass_span(
-            movie.cart(),
-            movie.inputs(),
-            span,
-            &mut self.states,
-            meter,
-        ))
+        Ok(pass_span(movie.cart(), movie.inputs(), span, &mut self.states, meter))
     }
 
     /// As [`Green::reach`], over a greenzone that was made for another movie: it is cut first, as [`Green::shot_from`] does.
@@ -78,12 +72,6 @@ impl<A: Allocator> Green<A> {
             end: k,
             stride: step,
         };
-        Ok(pass_span(
-            movie.cart(),
-            movie.inputs(),
-            span,
-            &mut self.states,
-            meter,
-        ))
+        Ok(pass_span(movie.cart(), movie.inputs(), span, &mut self.states, meter))
     }
 }

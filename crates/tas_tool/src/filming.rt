@@ -81,12 +81,5 @@ pub fn film_run<A: Allocator + Copy, C: Read, R: Read, W: Write>(
         (W.contents output.old) (W.contents output.new) result }
 {
     let (image, bytes) = read_two(alloc, cart, input)?;
-    Ok(film_movie(
-        alloc,
-        from,
-        to,
-        image.as_slice(),
-        bytes.as_slice(),
-        output,
-    )?)
+    Ok(film_movie(alloc, from, to, image.as_slice(), bytes.as_slice(), output)?)
 }

@@ -83,7 +83,13 @@ fn digest_frame<A: Allocator + Copy, B: Allocator>(
     let mut picture = Picture::blank(alloc)?;
     let mut state = begin;
     let inputs = movie.inputs();
-    if let Err(halt) = play(movie.cart(), &mut state, inputs[frame], &mut picture, &mut Meter::new()) {
+    if let Err(halt) = play(
+        movie.cart(),
+        &mut state,
+        inputs[frame],
+        &mut picture,
+        &mut Meter::new(),
+    ) {
         return Ok(Err(halt));
     }
     let bytes = digest_answer(alloc, made, frame, &state.ram(), &picture)?;

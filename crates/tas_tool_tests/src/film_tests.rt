@@ -169,7 +169,11 @@ fn a_writer_that_fails_has_the_first_bytes(rt: HostRuntime) {
     let files = (image.as_slice(), text.as_bytes());
     let pictures = shots(&rt, alloc, files, (1, 3));
     let pictures = pictures.as_slice();
-    for (from, to) in [(0, 17), (PICTURE - 3, PICTURE + 17), (2 * PICTURE - 3, 2 * PICTURE)] {
+    for (from, to) in [
+        (0, 17),
+        (PICTURE - 3, PICTURE + 17),
+        (2 * PICTURE - 3, 2 * PICTURE),
+    ] {
         for room in from..to {
             check_full(&rt, alloc, files, pictures, room);
         }

@@ -1,8 +1,8 @@
 //! The lines `ram` and `digest` of a conversation. The numbers come from the second machine in oracle/, and the digests from Python's hashlib.
 
 use crate::answers::check_answer;
-use crate::commands::talk;
 use crate::checks::expect_ok;
+use crate::commands::talk;
 use crate::movies::joined;
 use std::alloc::Global;
 use std::process::Abort;
@@ -20,12 +20,18 @@ fn check_said<R: Wait + Abort>(rt: &R, alloc: Global, lines: &[&[u8]], answers: 
     let answers = joined(rt, alloc, answers);
     let mut output = Vec::new(alloc);
     let end = talk(rt, alloc, &mut lines.as_slice(), &mut output);
-    check_answer(rt, "said", (output.as_slice(), end), (answers.as_slice(), Ok(())));
+    check_answer(
+        rt,
+        "said",
+        (output.as_slice(), end),
+        (answers.as_slice(), Ok(())),
+    );
 }
 
 /// The answer to `ram K` where the bytes between the first and the last one are 0.
 fn ram<R: Abort>(rt: &R, alloc: Global, head: &str, first: &str, last: &str) -> Vec<u8> {
-    let zeros = "000000000000000000000000000000000000000000000000000000000000000000000000000000000000000000000000000000000000000000000000000000";
+    let zeros =
+        "000000000000000000000000000000000000000000000000000000000000000000000000000000000000000000000000000000000000000000000000000000";
     let text = format!(in alloc; "{head} {first}{zeros}{zeros}{last}\n");
     expect_ok(rt, text).into_bytes()
 }
@@ -44,7 +50,10 @@ fn ram_is_told_after_so_many_frames(rt: HostRuntime) {
     check_said(
         &rt,
         alloc,
-        &[COUNTING, b"ram 0\nram 1\nram 130\nstates\nram 200\nram 201\nram 9999999\nstates\n"],
+        &[
+            COUNTING,
+            b"ram 0\nram 1\nram 130\nstates\nram 200\nram 201\nram 9999999\nstates\n",
+        ],
         &[
             COUNTED,
             none.as_slice(),
@@ -66,7 +75,10 @@ fn ram_is_the_edited_movies(rt: HostRuntime) {
     check_said(
         &rt,
         alloc,
-        &[COUNTING, b"ram 200\ndelete 100 100\nram 100\nstates\nram 101\n"],
+        &[
+            COUNTING,
+            b"ram 200\ndelete 100 100\nram 100\nstates\nram 101\n",
+        ],
         &[
             COUNTED,
             last.as_slice(),
@@ -109,7 +121,10 @@ fn digests_are_those_of_ram_and_picture(rt: HostRuntime) {
     check_said(
         &rt,
         alloc,
-        &[COUNTING, b"digest 0\ndigest 130\nstates\ndigest 199\ndigest 200\n"],
+        &[
+            COUNTING,
+            b"digest 0\ndigest 130\nstates\ndigest 199\ndigest 200\n",
+        ],
         &[
             COUNTED,
             b"digest 2 0 ram ae1ced82a004520774321ef0f382a78838a5e785e4e85e06ca810b017a5303b4 picture 589dd6620bac6e3bae3f75930faca7ea0a59bbd5c610a3536e12d4ba0ff71123\n",
@@ -141,7 +156,11 @@ fn other_lines_are_unknown(rt: HostRuntime) {
     check_said(
         &rt,
         rt.alloc(),
-        &[b"ram\nram \nram 01\nram 1 \nram 10000000\nRAM 0\ndigest\ndigest 0 1\ndigest +1\nrams 0\n"],
-        &[b"unknown\nunknown\nunknown\nunknown\nunknown\nunknown\nunknown\nunknown\nunknown\nunknown\n"],
+        &[
+            b"ram\nram \nram 01\nram 1 \nram 10000000\nRAM 0\ndigest\ndigest 0 1\ndigest +1\nrams 0\n",
+        ],
+        &[
+            b"unknown\nunknown\nunknown\nunknown\nunknown\nunknown\nunknown\nunknown\nunknown\nunknown\n",
+        ],
     );
 }

@@ -46,7 +46,10 @@ returns-in-Err-write_picture-clause-stop g c =
     let none = c.in_default.ensures.halted in
     let next = after_more movie.cart movie.inputs c.args.frame c.args.state.now c.play.new.state _ (rw (c.cart.ensures, c.inputs-inputs.ensures.inputs) at c.play.ensures.state) c.requires.start c.requires.within in
     let drawn : c.play.new.picture ≡ picture_of movie c.args.frame =
-    picture_drawn movie.cart movie.inputs c.args.frame c.args.frame c.args.state.now c.play.new.state _ c.play.new.picture (Ok tt) refl (rw (c.cart.ensures, c.inputs-inputs.ensures.inputs) at c.in_default.ensures.picture) none c.requires.start c.requires.within none in
-    (rw (← next) none, c.in-Err-write_picture.ensures.from, subst
-    (λ (p : List ℕ). IsCutOff (g.W.Write.contents c.args.output.now) (g.W.Write.contents c.write_picture.new.output) (ppm_bytes p) (c.in-Err-write_picture.fault.written - c.args.before))
-    drawn c.in-Err-write_picture.ensures.cut)
+    picture_drawn movie.cart movie.inputs c.args.frame c.args.frame c.args.state.now c.play.new.state _ c.play.new.picture (Ok tt) refl (rw (c.cart.ensures, c.inputs-inputs.ensures.inputs) at c.in_default.ensures.picture) none c.requires.start c.requires.within none in (
+      rw (← next) none,
+      c.in-Err-write_picture.ensures.from,
+      subst
+          (λ (p : List ℕ). IsCutOff (g.W.Write.contents c.args.output.now) (g.W.Write.contents c.write_picture.new.output) (ppm_bytes p) (c.in-Err-write_picture.fault.written - c.args.before))
+          drawn c.in-Err-write_picture.ensures.cut,
+    )
