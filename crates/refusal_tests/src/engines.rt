@@ -8,7 +8,7 @@ use std::process::Abort;
 use std::sync::Wait;
 use std::thread::Threads;
 use tas_tool::{
-    ToolFault, cart_talk_run, check_run, diff_run, edit_run, export_run, migrate_run,
+    ToolFault, cart_talk_run, check_run, diff_run, edit_run, export_run, film_run, migrate_run,
     movie_script_run, movie_talk_run, script_run, shot_run, talk_run, trace_run,
 };
 use test_streams::Giver;
@@ -20,6 +20,7 @@ pub enum Engine {
     Check,
     Migrate,
     Shot,
+    Film,
     Edit,
     Diff,
     /// Of two movies with as many frames.
@@ -34,11 +35,12 @@ pub enum Engine {
 }
 
 /// Those that read their inputs whole before they write anything.
-pub static ENGINES: [Engine; 10] = [
+pub static ENGINES: [Engine; 11] = [
     Engine::Trace,
     Engine::Check,
     Engine::Migrate,
     Engine::Shot,
+    Engine::Film,
     Engine::Edit,
     Engine::Diff,
     Engine::DiffReplaced,
@@ -86,8 +88,12 @@ impl Engine {
     pub fn count(self) -> usize {
         match self {
             Engine::Trace | Engine::Script | Engine::Talk => 1,
-            Engine::Check | Engine::Migrate | Engine::Shot | Engine::Export(_) | Engine::CartTalk =>
-                2,
+            Engine::Check
+            | Engine::Migrate
+            | Engine::Shot
+            | Engine::Film
+            | Engine::Export(_)
+            | Engine::CartTalk => 2,
             Engine::Edit
             | Engine::Diff
             | Engine::DiffReplaced
@@ -139,6 +145,7 @@ pub fn run<T: Wait + Threads + Sync, A: Allocator + Copy + Send + Sync, W: Write
         Engine::Check => check_run(alloc, first, second, output),
         Engine::Migrate => migrate_run(alloc, first, second, output),
         Engine::Shot => shot_run(alloc, 1, first, second, output),
+        Engine::Film => film_run(alloc, Some(1), Some(3), first, second, output),
         Engine::Edit => edit_run(alloc, first, second, third, output),
         Engine::Diff | Engine::DiffReplaced => diff_run(alloc, first, second, third, output),
         Engine::Script => script_run(rt, alloc, first, output),

@@ -144,7 +144,7 @@ fn check_engine<T: Wait + Threads + Sync + Abort>(
 /// inputs. A line is written piece by piece: its room is 8 bytes at first, and at least doubles. So:
 ///
 /// - `Trace`: an input and a cartridge. `Check`, `Migrate`, `Shot`: two inputs, a cartridge and a movie, and two of a line, a text
-///   or a picture.
+///   or a picture. `Film`: the same, and the room for a pixmap.
 /// - `Edit`: three inputs, a cartridge and a movie, the inputs of two changes, and a text.
 /// - `Diff`: three inputs, a cartridge and a movie twice, the list of changes, 2 and 3 of their lines and 2 of the script. A replacement
 ///   alone: 3 and 1.
@@ -160,11 +160,12 @@ fn check_engine<T: Wait + Threads + Sync + Abort>(
 ///   cartridge, a new movie of it, the 15 and the two edits without inputs to copy, 5.
 /// - `Export`: the first 27 of `MovieScript`; the movie's copy, the list of runs, and for each run a picture, and room for its pixmaps where
 ///   it has frames.
-static GROWTHS: [(Engine, u64, u64); 15] = [
+static GROWTHS: [(Engine, u64, u64); 16] = [
     (Engine::Trace, 2, 0),
     (Engine::Check, 7, 0),
     (Engine::Migrate, 6, 0),
     (Engine::Shot, 6, 0),
+    (Engine::Film, 7, 0),
     (Engine::Edit, 9, 0),
     (Engine::Diff, 17, 0),
     (Engine::DiffReplaced, 14, 0),

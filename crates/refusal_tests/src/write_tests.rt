@@ -124,6 +124,12 @@ fn each_write_of_a_shot(rt: HostRuntime) {
 }
 
 #[test]
+fn each_write_of_a_film(rt: HostRuntime) {
+    let bytes = make_inputs(&rt, rt.alloc());
+    fail_each(&rt, rt.alloc(), &bytes, Engine::Film, 1000);
+}
+
+#[test]
 fn each_write_of_an_export(rt: HostRuntime) {
     let bytes = make_inputs(&rt, rt.alloc());
     fail_each(&rt, rt.alloc(), &bytes, Engine::Export(2), 1000);

@@ -109,3 +109,61 @@ told_digest {A} before now made k no_memory found bytes own m seen there is leav
 pub few_told : {A : Type 0} (seat : SeatContent A) (made len : ℕ) (bytes : List ℕ) → made ≡ seat.made → len ≡ length (own_edits_of seat).movie.inputs → bytes ≡ reply_text (NoFrame made len)
     → bytes ≡ reply_text (NoFrame (own_edits_of seat).made (length (own_edits_of seat).movie.inputs))
 few_told {A} seat made len bytes m long is = is ∙ ap (λ (n : ℕ). reply_text (NoFrame n len)) m ∙ ap (λ (n : ℕ). reply_text (NoFrame seat.made n)) long
+
+-- a number of frames that the movie has, after a look at its length
+pub within_own : {A : Type 0} (before mid : SeatContent A) (len k : ℕ) → BeginsWithOwn before → HasSeen before mid → len ≡ length (own_edits_of before).movie.inputs → k ≤ len → k ≤ length (own_edits_of mid).movie.inputs
+within_own {A} before mid len k own seen long le = let same = ap (λ f. length f.movie.inputs) (own_edits_stay before mid own seen) in omega (arith, same, long, le)
+
+-- ---- `ram K`: there are too few frames; memory is refused for the state, or for the answer; and the answer
+
+pub few_ram : {A : Type 0} (before now : SeatContent A) (made len k : ℕ) (bytes : List ℕ) → BeginsWithOwn before → made ≡ before.made → HasSeen before now → now.zone ≡ before.zone → len ≡ length (own_edits_of before).movie.inputs → len < k
+    → bytes ≡ reply_text (NoFrame made len) → IsToldTo before now (Ram k) bytes made
+few_ram {A} before now made len k bytes own m seen same long few is =
+    told_ram before now made k false None bytes own m seen (ram_none (own_edits_of before).movie k (omega (arith, long, few))) (few_told before made len bytes m long is) (rests before now same)
+
+pub no_ram : {A : Type 0} (before now : SeatContent A) (made len k : ℕ) (bytes : List ℕ) → BeginsWithOwn before → made ≡ before.made → HasSeen before now → now.zone ≡ before.zone → len ≡ length (own_edits_of before).movie.inputs → k ≤ len
+    → bytes ≡ reply_text OutOfMemory → IsToldTo before now (Ram k) bytes made
+no_ram {A} before now made len k bytes own m seen same long within is =
+    told_ram before now made k true _ bytes own m seen (ram_there (own_edits_of before).movie k (omega (arith, long, within))) is (inl (rests before now same))
+
+pub lost_ram : {A : Type 0} (before now : SeatContent A) (made len k : ℕ) (state : State) (bytes : List ℕ) → BeginsWithOwn before → made ≡ before.made → HasSeen before now → len ≡ length (own_edits_of before).movie.inputs → k ≤ len
+    → IsReachedOwn before now k state → bytes ≡ reply_text OutOfMemory → IsToldTo before now (Ram k) bytes made
+lost_ram {A} before now made len k state bytes own m seen long within reached is =
+    told_ram before now made k true _ bytes own m seen (ram_there (own_edits_of before).movie k (omega (arith, long, within))) is (inr reached.reaches)
+
+pub got_ram : {A : Type 0} (before now : SeatContent A) (made len k : ℕ) (state : State) (ram bytes : List ℕ) → BeginsWithOwn before → made ≡ before.made → HasSeen before now → len ≡ length (own_edits_of before).movie.inputs → k ≤ len
+    → IsReachedOwn before now k state → ram ≡ state.riot.ram → bytes ≡ ram_text made k ram → IsToldTo before now (Ram k) bytes made
+got_ram {A} before now made len k state ram bytes own m seen long within reached same is =
+    let told = is ∙ ap (λ (n : ℕ). ram_text n k ram) m ∙ ap (ram_text before.made k) (same ∙ ap (λ (s : State). s.riot.ram) reached.state_is) in
+    told_ram before now made k false _ bytes own m seen (ram_there (own_edits_of before).movie k (omega (arith, long, within))) told reached.reaches
+
+-- ---- `digest K`: as above; or the frame is halted
+
+pub few_digest : {A : Type 0} (before now : SeatContent A) (made len k : ℕ) (bytes : List ℕ) → BeginsWithOwn before → made ≡ before.made → HasSeen before now → now.zone ≡ before.zone → len ≡ length (own_edits_of before).movie.inputs → len ≤ k
+    → bytes ≡ reply_text (NoFrame made len) → IsToldTo before now (Digest k) bytes made
+few_digest {A} before now made len k bytes own m seen same long few is =
+    told_digest before now made k false None bytes own m seen (shot_none (own_edits_of before).movie k (omega (arith, long, few))) (few_told before made len bytes m long is) (rests before now same)
+
+pub no_digest : {A : Type 0} (before now : SeatContent A) (made len k : ℕ) (bytes : List ℕ) → BeginsWithOwn before → made ≡ before.made → HasSeen before now → now.zone ≡ before.zone → len ≡ length (own_edits_of before).movie.inputs → k < len
+    → bytes ≡ reply_text OutOfMemory → IsToldTo before now (Digest k) bytes made
+no_digest {A} before now made len k bytes own m seen same long within is =
+    told_digest before now made k true _ bytes own m seen (shot_there (own_edits_of before).movie k (omega (arith, long, within))) is (inl (rests before now same))
+
+pub lost_digest : {A : Type 0} (before now : SeatContent A) (made len k : ℕ) (state : State) (bytes : List ℕ) → BeginsWithOwn before → made ≡ before.made → HasSeen before now → len ≡ length (own_edits_of before).movie.inputs → k < len
+    → IsReachedOwn before now k state → bytes ≡ reply_text OutOfMemory → IsToldTo before now (Digest k) bytes made
+lost_digest {A} before now made len k state bytes own m seen long within reached is =
+    told_digest before now made k true _ bytes own m seen (shot_there (own_edits_of before).movie k (omega (arith, long, within))) is (inr reached.reaches)
+
+pub got_digest : {A : Type 0} (before now : SeatContent A) (made k : ℕ) (state : State) (bytes : List ℕ) → BeginsWithOwn before → made ≡ before.made → HasSeen before now → IsReachedOwn before now k state → IsDigested made now.zone.movie k bytes
+    → IsToldTo before now (Digest k) bytes made
+got_digest {A} before now made k state bytes own m seen reached is =
+    let digested = subst (λ (x : MovieContent). IsDigested made x k bytes) reached.movie is in
+    let ram = (state_after (own_edits_of before).movie (k + 1)).riot.ram in
+    let pixmap = ppm_bytes (picture_of (own_edits_of before).movie k) in
+    told_digest before now made k false _ bytes own m seen digested.drawn (digested.text_is ∙ ap (λ (n : ℕ). frame_digest_text n k ram pixmap) m) reached.reaches
+
+pub halted_digest : {A : Type 0} (before now : SeatContent A) (made k : ℕ) (state : State) (halt : Halt) (bytes : List ℕ) → BeginsWithOwn before → made ≡ before.made → HasSeen before now → IsReachedOwn before now k state
+    → answer_shot now.zone.movie k ≡ Some (Err halt) → bytes ≡ reply_text (halted_reply made halt) → IsToldTo before now (Digest k) bytes made
+halted_digest {A} before now made k state halt bytes own m seen reached shown is =
+    let there = subst (λ (x : MovieContent). answer_shot x k ≡ Some (Err halt)) reached.movie shown in
+    told_digest before now made k false _ bytes own m seen there (is ∙ ap (λ (n : ℕ). reply_text (halted_reply n halt)) m) reached.reaches

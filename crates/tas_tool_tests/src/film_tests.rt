@@ -202,12 +202,12 @@ impl Write for Counter {
     }
 }
 
-/// More frames than an export has. Each picture is one write, so that a pipe takes it in few pieces.
+/// One frame more than an export has. Each picture is one write, so that a pipe takes it in few pieces.
 #[test]
-fn a_film_of_2000_frames_is_2000_writes(rt: HostRuntime) {
+fn a_film_of_1025_frames_is_1025_writes(rt: HostRuntime) {
     let alloc = rt.alloc();
     let image = image_of(&rt, alloc, PLAYFIELD.bytes);
-    let text = text_of(&rt, alloc, PLAYFIELD, 2000, RIGHT);
+    let text = text_of(&rt, alloc, PLAYFIELD, 1025, RIGHT);
     let mut output = Counter {
         bytes: 0,
         writes: 0,
@@ -215,8 +215,8 @@ fn a_film_of_2000_frames_is_2000_writes(rt: HostRuntime) {
     let (mut cart, mut input) = (image.as_slice(), text.as_bytes());
     let end = film(alloc, (None, None), &mut cart, &mut input, &mut output);
     check_same(&rt, "end", end, Ok(()));
-    check_same(&rt, "bytes", output.bytes, 2000 * PICTURE);
-    check_same(&rt, "writes", output.writes, 2000);
+    check_same(&rt, "bytes", output.bytes, 1025 * PICTURE);
+    check_same(&rt, "writes", output.writes, 1025);
 }
 
 /// The text of a movie of one frame with another cartridge.
