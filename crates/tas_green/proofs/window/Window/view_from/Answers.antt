@@ -1,10 +1,8 @@
-use Rattle.std.proofs.Common.{◌≡◌, ◌+◌, ◌<◌, ◌≤◌, arith, filter, length, ap}
+use Rattle.std.proofs.Common.{◌≡◌, ◌+◌, arith, length, ap}
 use Rattle.std.specs.Prelude.{nat_le}
-use Rattle.tas_green.specs.Window.{both, view_start, AreMovieStates, IsWindowMoved}
 use Rattle.tas_green.proofs.ZoneLemmas.{rising_filter}
 use Rattle.tas_green.proofs.WindowLemmas.{states_moved, near_last}
 use Rattle.tas_green.proofs.ViewLemmas.{view_is, played_away}
-use Rattle.tas_green.proofs.window.Window.view_from.Given.{Over}
 use Rattle.tas_green.proofs.window.Window.view_from.Goals as goal
 
 pub start_of-start-requires-clause-states : goal.start_of-start-requires-clause-states
