@@ -228,7 +228,7 @@ impl<N: Name, W: CloseOnDrop, A: Allocator + Copy> Desk<N, W, A> {
 
     /// Draws frame `k` as [`Desk::shot`] does, but played from the nearest state of the seat's zone and its window, and fills the
     /// window: it then has the states around this frame, so that a step to the next frame plays one, and so does a step back to one
-    /// of the 167 frames before, as far as they were played. The zone is left as by a shot. It takes no lock.
+    /// of the 63 frames before, as far as they were played. The zone is left as by a shot. It takes no lock.
     ///
     /// `NoEntry` leaves the seat as it was, `NoFrame` and `Memory` its zone and window; after `Halted` both are as after an answer.
     pub fn picture<B: Allocator>(
