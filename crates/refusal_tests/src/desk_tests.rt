@@ -9,7 +9,7 @@ use std::alloc::{AllocError, Global};
 use std::process::Abort;
 use std::sync::Wait;
 use tas_desk::{
-    Desk, EditError, Name, OfferError, Offered, Receipt, Seat, ShotError, WorkError, Worked,
+    Desk, EditError, Name, OfferError, Offered, Receipt, Seat, Shot, ShotError, WorkError, Worked,
 };
 use tas_green::Batch;
 
@@ -26,6 +26,10 @@ pub enum Call {
     FirstShot,
     /// Seat 0, whose zone keeps two states of the movie, shoots frame 383.
     Shot,
+    /// Seat 1, whose zone is that of the blank movie, shows frame 383 from its window.
+    FirstPicture,
+    /// Seat 0, whose zone keeps two states of the movie, does.
+    Picture,
     /// Seat 1, whose zone is empty, shares the desk's two states.
     Share,
     /// Seat 1 takes a job for all 400 frames.
@@ -66,10 +70,31 @@ fn shoot<'a, N: Name, R: Wait>(
     number: u64,
 ) -> Result<bool, AllocError> {
     refuse(heap, number);
-    match desk.shot(heap, seat, 383) {
+    is_shown(desk.shot(heap, seat, 383), ran, seat.kept())
+}
+
+/// The same of a picture by zone and window.
+fn view<'a, N: Name, R: Wait>(
+    heap: &'a Heap,
+    desk: &Desk<N, &R, &'a Heap>,
+    seat: &mut Seat<N, &'a Heap>,
+    ran: u64,
+    number: u64,
+) -> Result<bool, AllocError> {
+    refuse(heap, number);
+    is_shown(desk.picture(heap, seat, 383), ran, seat.kept())
+}
+
+/// Whether a black frame is shown, played so many, and the zone keeps six states then.
+fn is_shown(
+    answer: Result<Shot<&Heap>, ShotError>,
+    ran: u64,
+    kept: usize,
+) -> Result<bool, AllocError> {
+    match answer {
         Ok(shot) => {
             let is_told = shot.at == 4 && shot.ran == ran;
-            Ok(is_told && shot.picture.lit() == 0 && seat.kept() == 6)
+            Ok(is_told && shot.picture.lit() == 0 && kept == 6)
         }
         Err(ShotError::Memory) => Err(AllocError),
         Err(_) => Ok(false),
@@ -171,6 +196,8 @@ fn take<'a, N: Name, R: Wait + Abort>(
         Call::Edit(change) => make_edit(rt, heap, desk, seat, change, number),
         Call::FirstShot => shoot(heap, desk, seat, 384, number),
         Call::Shot => shoot(heap, desk, seat, 256, number),
+        Call::FirstPicture => view(heap, desk, seat, 384, number),
+        Call::Picture => view(heap, desk, seat, 256, number),
         Call::Share => share(rt, heap, desk, seat, number),
         Call::Job => work_all(rt, heap, desk, seat, number),
         Call::Offer => offer(rt, heap, desk, seat, held, number),
@@ -281,16 +308,17 @@ pub fn take_call<'a, N: Name, R: Wait + Abort>(
     match call {
         Call::Work => try_work(rt, heap, desk, other, number),
         Call::TwoJobs => try_two_jobs(rt, heap, desk, other, number),
-        Call::Shot => take_held(rt, alloc, heap, desk, one, call, number),
+        Call::Shot | Call::Picture => take_held(rt, alloc, heap, desk, one, call, number),
         _ => take_held(rt, alloc, heap, desk, other, call, number),
     }
 }
 
 /// Each call, and how many growths it has. An edit has those of its second copy and of the journal, as in a session. A shot has those of
-/// its picture and of its zone's list of states; the first one copies a movie before, which has two, and so does a share. A job has
+/// its picture and of its zone's list of states; the first one copies a movie before, which has two, and so does a share. A picture has
+/// that of its window's list, too. A job has
 /// those of its cartridge, its inputs and its list of states, an offer that of the desk's list, and work on two targets those of two
 /// jobs and of the list.
-static CALLS: [(Call, &str, u64); 10] = [
+static CALLS: [(Call, &str, u64); 12] = [
     (Call::Edit(Change::Load), "Edit(Load)", 2),
     (
         Call::Edit(Change::Insert(400, 3)),
@@ -309,6 +337,8 @@ static CALLS: [(Call, &str, u64); 10] = [
     ),
     (Call::FirstShot, "FirstShot", 4),
     (Call::Shot, "Shot", 2),
+    (Call::FirstPicture, "FirstPicture", 5),
+    (Call::Picture, "Picture", 3),
     (Call::Share, "Share", 3),
     (Call::Job, "Job", 3),
     (Call::Offer, "Offer", 1),

@@ -8,7 +8,7 @@ use crate::fixtures::{BRIEF, GRID, PLAYFIELD, has_lacked, movie_of, replaced};
 use crate::runs::{Heap, MOST, NEVER, NOT_AS_BEFORE, NOT_TOLD, Run, refuse, refusing};
 use std::alloc::{AllocError, Allocator, Global};
 use std::process::Abort;
-use tas_green::{Batch, Green, Job, MergeError, Merged};
+use tas_green::{Batch, Green, Job, MergeError, Merged, Viewed, Window};
 use tas_movie::Movie;
 use vcs_machine::{Input, Meter};
 use vcs_tia::Picture;
@@ -18,6 +18,8 @@ use vcs_tia::Picture;
 enum Seeking {
     Shot,
     ShotFrom,
+    View,
+    ViewFrom,
     Merge,
     Gain,
     GainFrom,
@@ -25,11 +27,13 @@ enum Seeking {
     TakeJob,
 }
 
-/// Each such call, its name, and how many growths it has: a zone's list of states has one, a job those of its cartridge, its inputs
-/// and its list of states.
-static SEEKINGS: [(Seeking, &str, u64); 7] = [
+/// Each such call, its name, and how many growths it has: a zone's list of states has one, a window's another, a job those of its
+/// cartridge, its inputs and its list of states.
+static SEEKINGS: [(Seeking, &str, u64); 9] = [
     (Seeking::Shot, "Shot", 1),
     (Seeking::ShotFrom, "ShotFrom", 1),
+    (Seeking::View, "View", 2),
+    (Seeking::ViewFrom, "ViewFrom", 2),
     (Seeking::Merge, "Merge", 1),
     (Seeking::Gain, "Gain", 1),
     (Seeking::GainFrom, "GainFrom", 1),
@@ -128,6 +132,11 @@ fn shows(picture: &Picture, meter: &Meter, ran: u64) -> bool {
     picture.lit() == 0 && meter.count() == ran
 }
 
+/// Whether a black frame was viewed, and so many frames were played.
+fn is_viewed(viewed: Viewed, ran: u64, picture: &Picture) -> bool {
+    viewed == Viewed { ran, end: Ok(()) } && picture.lit() == 0
+}
+
 /// What a merge of the batch gains.
 const MERGED: Merged = Merged {
     front: 384,
@@ -186,6 +195,14 @@ fn seek(
         Seeking::ShotFrom => {
             let drawn = green.shot_from(movie, other, 383, picture, meter)?;
             drawn.is_ok() && shows(picture, meter, 320) && is_full(green)
+        }
+        Seeking::View => {
+            let viewed = Window::new(heap).view(green, movie, 383, picture)?;
+            is_viewed(viewed, 256, picture) && is_full(green)
+        }
+        Seeking::ViewFrom => {
+            let viewed = Window::new(heap).view_from(green, movie, other, 383, picture)?;
+            is_viewed(viewed, 320, picture) && is_full(green)
         }
         Seeking::Merge => merge(green, movie, &given.batch)?,
         Seeking::Gain => green.gain(movie, &given.full)? == 4 && is_full(green),

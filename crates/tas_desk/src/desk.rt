@@ -12,6 +12,7 @@ ghost use Rattle.tas_desk.specs.declared.replies.OpenError.TheVariants.{Memory a
 ghost use Rattle.tas_desk.specs.Answers.{answer_len};
 ghost use Rattle.tas_desk.specs.History.{movie_of, IsLegal};
 ghost use Rattle.tas_desk.specs.Shots.{IsShotAt, MatchPlayed};
+ghost use Rattle.tas_desk.specs.States.{IsStateAt, IsZoneReached};
 ghost use Rattle.tas_desk.specs.Zones.{CutsWindow, IsShared, IsShort, IsZoneAway, blank_zone};
 ghost use Rattle.tas_green.specs.Grid.{most_states};
 ghost use Rattle.tas_desk.specs.Closing.{made_by};
@@ -22,8 +23,8 @@ use crate::desk_lock::DeskLock;
 use crate::locked_session::{CloseOnDrop, LockedSession};
 use crate::seating::new_seats;
 use crate::{
-    Closed, EditError, InputError, Name, NoEntry, OfferError, Offered, OpenError, Receipt, Seat,
-    Session, Shot, ShotError,
+    Closed, EditError, InputError, Name, NoEntry, OfferError, Offered, OpenError, Reached, Receipt,
+    Seat, Session, Shot, ShotError, StateError,
 };
 use std::alloc::{AllocError, Allocator, Global};
 use std::marker::Model;
@@ -227,7 +228,7 @@ impl<N: Name, W: CloseOnDrop, A: Allocator + Copy> Desk<N, W, A> {
 
     /// Draws frame `k` as [`Desk::shot`] does, but played from the nearest state of the seat's zone and its window, and fills the
     /// window: it then has the states around this frame, so that a step to the next frame plays one, and so does a step back to one
-    /// of the 167 frames before, as far as they were played. The zone is left as by a shot. It takes no lock.
+    /// of the 63 frames before, as far as they were played. The zone is left as by a shot. It takes no lock.
     ///
     /// `NoEntry` leaves the seat as it was, `NoFrame` and `Memory` its zone and window; after `Halted` both are as after an answer.
     pub fn picture<B: Allocator>(
@@ -243,6 +244,20 @@ impl<N: Name, W: CloseOnDrop, A: Allocator + Copy> Desk<N, W, A> {
         ensures forward { OnOk result (IsZoneAway seat.new.zone (k + 1)) }
     {
         seat.picture(alloc, k)
+    }
+
+    /// The machine after the movie's first `k` frames, halted or not: 0 to the movie's length. It takes no lock. The frames are
+    /// played from the nearest state of the seat's own zone at `k` or before it, once the zone is cut as a shot cuts it; it
+    /// gains the states on the way that are on the grid.
+    ///
+    /// `NoEntry` leaves the seat as it was, `NoFrame` and `Memory` its zone.
+    pub fn state(&self, seat: &mut Seat<N, A>, k: usize) -> Result<Reached, StateError>
+        ensures seat { HasSeen seat.old seat.new }
+        ensures reply { IsStateAt seat.new.front k result }
+        ensures zone { IsZoneReached seat.old seat.new k result }
+        ensures window { OnOk result (CutsWindow seat.old.zone seat.new.zone) }
+    {
+        seat.state(k)
     }
 
     /// Lets the seat's zone gain the desk's kept states, once it is cut for the movie as a shot cuts it, and returns how many it

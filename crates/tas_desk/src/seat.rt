@@ -7,13 +7,14 @@ ghost use Rattle.tas_desk.specs.Shots.{IsShotAt, MatchPlayed};
 ghost use Rattle.tas_desk.specs.Answers.{answer_len};
 ghost use Rattle.tas_desk.specs.History.{movie_of};
 ghost use Rattle.tas_desk.specs.Published.{KnowsRegistry};
+ghost use Rattle.tas_desk.specs.States.{IsStateAt, IsZoneReached};
 ghost use Rattle.tas_desk.specs.Zones.{CutsWindow, IsShort, IsZoneAway};
 ghost use Rattle.tas_desk.specs.Seats.{seat_of, HasSeen, KeepsZone, IsInput, IsZoneShot, IsZoneViewed};
 
 use crate::movie_reader::MovieReader;
 use crate::replies::shown;
 use crate::seat_zone::SeatZone;
-use crate::{InputError, Name, NoEntry, Shot, ShotError};
+use crate::{InputError, Name, NoEntry, Reached, Shot, ShotError, StateError};
 use std::alloc::{Allocator, Global};
 use std::marker::Model;
 use std::sync::ledger::Share;
@@ -131,6 +132,7 @@ impl<N: Name, A: Allocator + Copy> Seat<N, A> {
         };
         shown(at, k, meter.count(), picture, end)
     }
+
     /// Draws frame `k` from the seat's own zone and window.
     pub(crate) fn picture<B: Allocator>(&mut self, alloc: B, k: usize) -> Result<Shot<B>, ShotError>
         ensures seat { HasSeen self.old self.new }
@@ -149,5 +151,26 @@ impl<N: Name, A: Allocator + Copy> Seat<N, A> {
             return Err(ShotError::Memory);
         };
         shown(at, k, viewed.ran, picture, viewed.end)
+    }
+
+    /// The machine after `k` frames, from the seat's own zone.
+    pub(crate) fn state(&mut self, k: usize) -> Result<Reached, StateError>
+        ensures seat { HasSeen self.old self.new }
+        ensures reply { IsStateAt self.new.front k result }
+        ensures zone { IsZoneReached self.old self.new k result }
+        ensures window { OnOk result (CutsWindow self.old.zone self.new.zone) }
+    {
+        let (at, copied) = self
+            .reader
+            .copy_of(self.zone.allocator(), self.zone.version(), k)?;
+        let mut meter = Meter::new();
+        let Ok(state) = self.zone.reach(copied, k, &mut meter) else {
+            return Err(StateError::Memory);
+        };
+        Ok(Reached {
+            at,
+            ran: meter.count(),
+            state,
+        })
     }
 }

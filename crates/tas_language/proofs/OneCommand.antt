@@ -60,10 +60,10 @@ sizes_apart line small large image e is =
 
 -- ---- numbers and frames
 
-number_same : (m n : ℕ) → IsNumber m → IsNumber n → decimal m ≡ decimal n → m ≡ n
+pub number_same : (m n : ℕ) → IsNumber m → IsNumber n → decimal m ≡ decimal n → m ≡ n
 number_same m n lm ln e = decimal_injective m n (omega arith) (omega arith) e
 
-number_before : (m n : ℕ) (x y : List ℕ) → IsNumber m → IsNumber n → decimal m ++ 32 ∷ x ≡ decimal n ++ 32 ∷ y → (m ≡ n) × (x ≡ y)
+pub number_before : (m n : ℕ) (x y : List ℕ) → IsNumber m → IsNumber n → decimal m ++ 32 ∷ x ≡ decimal n ++ 32 ∷ y → (m ≡ n) × (x ≡ y)
 number_before m n x y lm ln e =
     let both = same_front 32 (decimal m) (decimal n) x y (decimal_no_space m (omega arith)) (decimal_no_space n (omega arith)) e in
     (number_same m n lm ln both.0, both.1)

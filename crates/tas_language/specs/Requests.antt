@@ -1,13 +1,24 @@
 -- The lines of a conversation (own).
-use Rattle.std.specs.Prelude.{◌≡◌, ℕ, ◌≤◌, List, ◌++◌, length, codes, decimal, Option, Some, None}
-use Rattle.tas_language.specs.Commands.{Says, IsNumber}
+use Rattle.std.specs.Prelude.{◌≡◌, ℕ, ◌+◌, ◌<◌, ◌≤◌, List, ◌++◌, length, codes, decimal, Option, Some, None}
+use Rattle.tas_language.specs.Commands.{Says, IsNumber, pair_text}
 use Rattle.tas_language.specs.declared.request.Request.{Request}
-use Rattle.tas_language.specs.declared.request.Request.TheVariants.{Do, Picture, Movie, States, Quit}
+use Rattle.tas_language.specs.declared.request.Request.TheVariants.{Do, Picture, Pictures, Ram, Digest, Movie, States, Quit}
+
+-- how many pictures one line asks for at most
+abbrev pub most_pictures : ℕ
+most_pictures = 1024
+
+-- frames of a strip: one at least, and not too many
+abbrev pub IsStrip : ℕ → ℕ → Type 0
+IsStrip from to = (from < to) × (to ≤ from + most_pictures)
 
 -- the line, without its newline, is this request: a script's command, or one that a script doesn't have
 abbrev pub Asks : List ℕ → Request → Type 0
 Asks said (Do command) = Says said command
 Asks said (Picture frame) = (said ≡ codes "picture " ++ decimal frame) × IsNumber frame
+Asks said (Pictures from to) = (said ≡ codes "pictures " ++ pair_text from to) × IsNumber from × IsNumber to × IsStrip from to
+Asks said (Ram frames) = (said ≡ codes "ram " ++ decimal frames) × IsNumber frames
+Asks said (Digest frame) = (said ≡ codes "digest " ++ decimal frame) × IsNumber frame
 Asks said Movie = said ≡ codes "movie"
 Asks said States = said ≡ codes "states"
 Asks said Quit = said ≡ codes "quit"

@@ -2,9 +2,9 @@
 
 ghost use Rattle.std.specs.Prelude.{◌≡◌, ◌≢◌, ◌++◌, ℕ, codes, decimal, IfSome, IfNone};
 ghost use Rattle.tas_language.specs.declared.command.Command.{Command as Asked};
-ghost use Rattle.tas_language.specs.Commands.{IsNumber, Says};
+ghost use Rattle.tas_language.specs.Commands.{IsNumber, Says, pair_text};
 ghost use Rattle.tas_language.specs.declared.request.Request.{Request as AskedFor};
-ghost use Rattle.tas_language.specs.Requests.{Asks};
+ghost use Rattle.tas_language.specs.Requests.{Asks, IsStrip};
 
 use crate::loading::load_image;
 use crate::words::{frames, number, pair, strip};
@@ -51,12 +51,31 @@ pub fn parse_line(line: &[u8]) -> Option<Command>
     Some(Command::Work { frame })
 }
 
-/// The frame of a `picture` line.
-fn picture_frame(line: &[u8]) -> Option<usize>
-    ensures some { IfSome result (λ frame. (line.now ≡ codes "picture " ++ decimal frame) × IsNumber frame) }
-    ensures none { IfNone result ((frame : ℕ) → IsNumber frame → line.now ≢ codes "picture " ++ decimal frame) }
+/// The number at the end of a line that begins so.
+fn numbered(line: &[u8], front: &[u8]) -> Option<usize>
+    ensures some { IfSome result (λ n. (line.now ≡ front.now ++ decimal n) × IsNumber n) }
+    ensures none { IfNone result ((n : ℕ) → IsNumber n → line.now ≢ front.now ++ decimal n) }
 {
-    number(strip(line, b"picture ")?)
+    let rest = strip(line, front)?;
+    number(rest)
+}
+
+/// How many pictures one line asks for at most (own).
+pub const MAX_PICTURES: usize = 1024;
+
+/// The frames of a `pictures` line.
+fn strip_frames(line: &[u8]) -> Option<(usize, usize)>
+    ensures some { IfSome result (λ found. (line.now ≡ codes "pictures " ++ pair_text found.0 found.1)
+        × IsNumber found.0 × IsNumber found.1 × IsStrip found.0 found.1) }
+    ensures none { IfNone result ((from to : ℕ) → IsNumber from → IsNumber to → IsStrip from to
+        → line.now ≢ codes "pictures " ++ pair_text from to) }
+{
+    let rest = strip(line, b"pictures ")?;
+    let (from, to) = pair(rest)?;
+    if from >= to || to - from > MAX_PICTURES {
+        return None;
+    }
+    Some((from, to))
 }
 
 /// What a line of any length, without its newline, asks for; nothing where it isn't understood (own). Takes no memory.
@@ -73,8 +92,17 @@ pub fn parse_request(line: &[u8]) -> Option<Request>
     if line == b"quit".as_slice() {
         return Some(Request::Quit);
     }
-    if let Some(frame) = picture_frame(line) {
+    if let Some(frame) = numbered(line, b"picture ") {
         return Some(Request::Picture { frame });
+    }
+    if let Some((from, to)) = strip_frames(line) {
+        return Some(Request::Pictures { from, to });
+    }
+    if let Some(frames) = numbered(line, b"ram ") {
+        return Some(Request::Ram { frames });
+    }
+    if let Some(frame) = numbered(line, b"digest ") {
+        return Some(Request::Digest { frame });
     }
     parse_line(line).map(Request::Do)
 }

@@ -7,12 +7,13 @@ ghost use Rattle.tas_green.specs.Zone.{state_at};
 ghost use Rattle.tas_desk.specs.Seats.{HasSeen};
 ghost use Rattle.tas_engines.specs.declared.fault.RunFault.TheVariants.{Memory};
 ghost use Rattle.tas_language.specs.Replies.{reply_text};
-ghost use Rattle.tas_language.specs.declared.request.Request.TheVariants.{Do as ScriptLine, Picture as PictureLine, Movie as MovieLine, States as StatesLine, Quit as QuitLine};
+ghost use Rattle.tas_language.specs.declared.request.Request.TheVariants.{Do as ScriptLine, Picture as PictureLine, Pictures as PicturesLine, Movie as MovieLine, States as StatesLine, Quit as QuitLine};
 ghost use Rattle.tas_tool.specs.Turns.{BeginsWithOwn, IsDeskFault};
 ghost use Rattle.tas_tool.specs.Talk.{kept_frames};
 ghost use Rattle.tas_tool.specs.Talking.{IsBrought, IsTalkFault, IsToldTo};
 
 use crate::answering::{answer_command, checked, own_len, unshown};
+use crate::looks::{tell_digest, tell_ram};
 use std::alloc::{AllocError, Allocator};
 use std::sync::Wait;
 use tas_desk::{CloseOnDrop, Desk, Name, Seat};
@@ -32,7 +33,7 @@ pub struct Told<A: Allocator> {
 }
 
 /// A script's reply as an answer.
-fn told_reply<A: Allocator>(alloc: A, reply: Reply, made: u64) -> Result<Told<A>, RunFault>
+pub fn told_reply<A: Allocator>(alloc: A, reply: Reply, made: u64) -> Result<Told<A>, RunFault>
     ensures { MatchResult result (λ told. (told.bytes.items ≡ reply_text reply) × (told.made ≡ made)) (λ fault. fault ≡ Memory) }
 {
     let bytes = reply_line(alloc, reply)?;
@@ -83,6 +84,29 @@ fn tell_picture<N: Name, W: CloseOnDrop, A: Allocator + Copy>(
         Ok(bytes) => Ok(Told { bytes, made }),
         Err(_) => told_reply(alloc, Reply::OutOfMemory, made),
     }
+}
+
+/// A `pictures` line: the answers that `picture` gives to the frames from one to the one before another, one after the other.
+/// Faults: as those of a `picture` line, and `Memory` where it is refused for the answers together.
+fn tell_pictures<N: Name, W: CloseOnDrop, A: Allocator + Copy>(
+    alloc: A,
+    desk: &Desk<N, W, A>,
+    seat: &mut Seat<N, A>,
+    made: u64,
+    from: usize,
+    to: usize,
+) -> Result<Told<A>, RunFault>
+    requires own { BeginsWithOwn seat.old }
+    requires made { made ≡ seat.old.made }
+    ensures number { seat.new.number ≡ seat.old.number }
+    ensures answer { MatchResult result (λ told. IsToldTo seat.old seat.new (PicturesLine from to) told.bytes.items told.made) (IsTalkFault seat.new) }
+{
+    let mut bytes = Vec::new(alloc);
+    for frame in from..to {
+        let told = tell_picture(alloc, desk, seat, made, frame)?;
+        bytes.extend_from_slice(told.bytes.as_slice())?;
+    }
+    Ok(Told { bytes, made })
 }
 
 /// Cuts the seat's greenzone for the movie of the conversation's own edits, lets it gain the desk's kept states, and returns
@@ -207,6 +231,11 @@ pub fn answer_request<N: Name, W: CloseOnDrop, A: Allocator + Copy, R: Wait>(
     match request {
         Request::Do(command) => Ok(Some(tell_command(rt, alloc, desk, seat, made, command)?)),
         Request::Picture { frame } => Ok(Some(tell_picture(alloc, desk, seat, made, frame)?)),
+        Request::Pictures { from, to } => {
+            Ok(Some(tell_pictures(alloc, desk, seat, made, from, to)?))
+        }
+        Request::Ram { frames } => Ok(Some(tell_ram(alloc, desk, seat, made, frames)?)),
+        Request::Digest { frame } => Ok(Some(tell_digest(alloc, desk, seat, made, frame)?)),
         Request::Movie => Ok(Some(tell_movie(rt, alloc, desk, seat, made)?)),
         Request::States => Ok(Some(tell_states(rt, alloc, desk, seat, made)?)),
         Request::Quit => Ok(None),

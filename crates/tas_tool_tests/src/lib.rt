@@ -38,6 +38,10 @@ mod tails;
 #[cfg(test)]
 mod talk_file_tests;
 #[cfg(test)]
+mod talk_look_tests;
+#[cfg(test)]
+mod talk_strip_tests;
+#[cfg(test)]
 mod talk_tests;
 #[cfg(test)]
 mod word_tests;

@@ -185,12 +185,16 @@ const TALK_HELP: &str = "\
 Standard input is lines, as of 'tas script', and standard output has the answer to each before the
 next one is read, so that another program can hold the conversation. It has these lines, too:
   picture K                  a line 'picture AT K BYTES', then BYTES bytes: the pixmap of frame K
+  pictures FROM TO           the answers to 'picture K' for FROM to TO - 1, 1 to 1024 of them
+  ram K                      'ram AT K' and 256 hexadecimal digits: RAM after K frames from power-on
+  digest K                   'digest AT K ram HEX picture HEX': SHA-256 of RAM after frame K, and of its pixmap
   movie                      a line 'movie AT BYTES', then BYTES bytes: the movie's text
   states                     'states AT N' and the N frames after which a machine state is kept
   quit                       ends the conversation, as the end of standard input does
 AT is the number of edits so far. A line that isn't understood, or longer than 16384 bytes, is
 answered 'unknown' and changes nothing. With CART it starts from this cartridge, with MOVIE from this
-movie. That counts as two edits.
+movie. That counts as two edits. A step from a picture to the next one plays one frame. Fill a long movie
+by 'work' in steps, as 'work 4096', 'work 8192': each answer is the progress.
 
 Example:
   printf 'len\\nshot 60\\nstates\\nquit\\n' | ./tas talk joystick.bin examples/joystick.movie";

@@ -11,3 +11,6 @@ returns-in_ok-tell_movie-in-Movie-clause-answer g c = rw c.in-Movie.is c.in_ok-t
 
 pub returns-in_ok-tell_states-in-States-clause-answer : goal.returns-in_ok-tell_states-in-States-clause-answer
 returns-in_ok-tell_states-in-States-clause-answer g c = rw c.in-States.is c.in_ok-tell_states-in-States.ensures.answer
+
+pub returns-in_ok-tell_pictures-in-Pictures-clause-answer : goal.returns-in_ok-tell_pictures-in-Pictures-clause-answer
+returns-in_ok-tell_pictures-in-Pictures-clause-answer g c = rw c.in-Pictures.is c.in_ok-tell_pictures-in-Pictures.ensures.answer

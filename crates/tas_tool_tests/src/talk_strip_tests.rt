@@ -1,0 +1,153 @@
+//! The lines `picture` and `pictures` of a conversation: steps, with edits between them, and strips.
+
+use crate::answers::check_answer;
+use crate::checks::{check_same, check_that};
+use crate::commands::talk;
+use crate::movies::joined;
+use std::alloc::Global;
+use std::process::Abort;
+use std::sync::Wait;
+
+/// `000=AD80026580858085094C00F0 FFC=00F0`: a picture depends on all inputs up to it; and 40 frames.
+const FOLDING: &[u8] =
+    b"load 000=AD80026580858085094C00F0 FFC=00F0\ninsert 0 40 ..... ..... .....\nreplace 3 1 R.... ..... .....\n";
+
+/// The answers of a conversation that ends well.
+fn answers<R: Wait + Abort>(rt: &R, alloc: Global, lines: &[&[u8]]) -> Vec<u8> {
+    let lines = joined(rt, alloc, lines);
+    let mut output = Vec::new(alloc);
+    let end = talk(rt, alloc, &mut lines.as_slice(), &mut output);
+    check_same(rt, "end", end, Ok(()));
+    output
+}
+
+/// Fails where two conversations aren't answered alike.
+fn check_alike<R: Wait + Abort>(rt: &R, alloc: Global, one: &[&[u8]], other: &[&[u8]]) {
+    let wanted = answers(rt, alloc, other);
+    let found = answers(rt, alloc, one);
+    check_that(rt, "something is answered", !wanted.is_empty());
+    check_answer(
+        rt,
+        "alike",
+        (found.as_slice(), Ok(())),
+        (wanted.as_slice(), Ok(())),
+    );
+}
+
+/// A strip is answered as `picture` answers each of its frames: past the movie's end, and after steps and edits.
+#[test]
+fn strips_are_answered_as_their_frames(rt: HostRuntime) {
+    let alloc = rt.alloc();
+    check_alike(
+        &rt,
+        alloc,
+        &[
+            FOLDING,
+            b"pictures 36 42\npictures 7 8\nreplace 5 1 R.... ..... .....\npictures 4 7\nstates\n",
+        ],
+        &[
+            FOLDING,
+            b"picture 36\npicture 37\npicture 38\npicture 39\npicture 40\npicture 41\npicture 7\n",
+            b"replace 5 1 R.... ..... .....\npicture 4\npicture 5\npicture 6\nstates\n",
+        ],
+    );
+}
+
+/// Three frames, then a halt: each frame of a strip has its own answer.
+#[test]
+fn halted_frames_of_a_strip_are_told(rt: HostRuntime) {
+    let alloc = rt.alloc();
+    let load = b"load 000=A203A9028500A9008500CAD0F502 FFC=00F0\ninsert 0 9 ..... ..... .....\n";
+    check_alike(
+        &rt,
+        alloc,
+        &[load, b"pictures 2 5\n"],
+        &[load, b"picture 2\nshot 3\nshot 4\n"],
+    );
+}
+
+/// Frames, and edits between them, by which frames before, inside and after the window change; then the same movie is loaded anew.
+static STEPS: [(&[u8], &[u8]); 8] = [
+    (b"", b"picture 20\npicture 21\npicture 22\npicture 21\n"),
+    (
+        b"replace 21 1 .F... ..... .....\n",
+        b"picture 20\npicture 21\npicture 22\n",
+    ),
+    (
+        b"replace 30 1 R.... ..... .....\n",
+        b"picture 23\npicture 31\npicture 30\n",
+    ),
+    (
+        b"replace 2 1 R.... ..... .....\n",
+        b"picture 30\npicture 29\n",
+    ),
+    (
+        b"replace 2 1 ..... ..... .....\nreplace 2 1 R.... ..... .....\n",
+        b"picture 30\n",
+    ),
+    (b"delete 10 5\n", b"picture 30\npicture 9\npicture 10\n"),
+    (
+        b"load 000=A910850DA91E85084C08F0 FFC=00F0\n",
+        b"picture 10\npicture 11\n",
+    ),
+    (
+        b"load 000=AD80026580858085094C00F0 FFC=00F0\n",
+        b"picture 11\npicture 10\n",
+    ),
+];
+
+/// What the edits up to a step are answered, and then its frames.
+fn check_step<R: Wait + Abort>(rt: &R, alloc: Global, step: usize, edits: &[u8], all: &[u8]) {
+    let Some((_, looks)) = STEPS.get(step) else {
+        return;
+    };
+    let told = answers(rt, alloc, &[FOLDING, edits]);
+    let fresh = answers(rt, alloc, &[FOLDING, edits, *looks]);
+    let shown = fresh.as_slice().strip_prefix(told.as_slice());
+    check_that(
+        rt,
+        (step, "frames"),
+        shown.is_some_and(|bytes| all.ends_with(bytes)),
+    );
+}
+
+/// Steps by a window, with edits between them, show what a conversation shows that asks for these frames first.
+#[test]
+fn steps_between_edits_show_what_a_first_look_shows(rt: HostRuntime) {
+    let alloc = rt.alloc();
+    let mut edits = Vec::new(alloc);
+    let mut lines = Vec::new(alloc);
+    for (step, (edit, looks)) in STEPS.iter().enumerate() {
+        edits.extend_from_slice(*edit).expect(&rt, "memory");
+        lines.extend_from_slice(*edit).expect(&rt, "memory");
+        lines.extend_from_slice(*looks).expect(&rt, "memory");
+        let all = answers(&rt, alloc, &[FOLDING, lines.as_slice()]);
+        check_step(&rt, alloc, step, edits.as_slice(), all.as_slice());
+    }
+}
+
+/// Lines that are nearly these, and strips of none or of too many.
+#[test]
+fn other_strips_are_unknown(rt: HostRuntime) {
+    let alloc = rt.alloc();
+    let found = answers(
+        &rt,
+        alloc,
+        &[
+            b"pictures\npictures 1\npictures 1 1\npictures 2 1\npictures 0 1025\npictures 01 2\npictures 1  2\npicturess 1 2\n",
+        ],
+    );
+    let wanted = b"unknown\nunknown\nunknown\nunknown\nunknown\nunknown\nunknown\nunknown\n";
+    check_answer(
+        &rt,
+        "unknown",
+        (found.as_slice(), Ok(())),
+        (wanted.as_slice(), Ok(())),
+    );
+    check_alike(
+        &rt,
+        alloc,
+        &[b"pictures 8975 9999\n"],
+        &[b"pictures 0 1024\n"],
+    );
+}
