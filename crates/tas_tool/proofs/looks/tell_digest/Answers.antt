@@ -41,7 +41,7 @@ returns-in-Ok-Ok-clause-answer g c =
     let now = c.own_state.new.seat in
     let seen = seen_more before mid now c.own_len.ensures.seen c.own_state.ensures.seen in
     let reached = reached_after before mid now c.args.frame c.in-Some.state c.requires.own c.own_len.ensures.seen c.own_len.ensures.zone (rw c.in-Some.is at c.in_ok-state.ensures.state) in
-    got_digest before now c.args.made c.args.frame c.in-Some.state c.in-Ok-Ok.bytes.items c.requires.own c.requires.made seen reached (rw c.zone_movie.ensures at c.in-Ok-Ok.ensures.bytes)
+    got_digest before now c.args.made c.args.frame c.in-Some.state c.in-Ok-Ok.bytes.items c.requires.own c.requires.made seen reached (rw (c.zone_movie.ensures, c.in-Ok-Ok.field-0-is) at c.in-Ok-Ok.ensures.bytes)
 
 pub returns-in-Ok-Err-clause-answer : goal.returns-in-Ok-Err-clause-answer
 returns-in-Ok-Err-clause-answer g c =
@@ -51,7 +51,7 @@ returns-in-Ok-Err-clause-answer g c =
     let halt = c.in-Ok-Err.halt in
     let seen = seen_more before mid now c.own_len.ensures.seen c.own_state.ensures.seen in
     let reached = reached_after before mid now c.args.frame c.in-Some.state c.requires.own c.own_len.ensures.seen c.own_len.ensures.zone (rw c.in-Some.is at c.in_ok-state.ensures.state) in
-    let shown = rw c.zone_movie.ensures at c.in-Ok-Err.ensures.halt in
+    let shown = rw (c.zone_movie.ensures, c.in-Ok-Err.field-0-is) at c.in-Ok-Err.ensures.halt in
     MatchResult-weaker c.told_reply-in-Ok-Err.result c.told_reply-in-Ok-Err.ensures
     (λ told is. halted_digest before now told.made c.args.frame c.in-Some.state halt told.bytes.items c.requires.own (is.1 ∙ c.requires.made) seen reached shown
     (is.0 ∙ ap reply_text c.halted_reply.ensures ∙ ap (λ (n : ℕ). reply_text (halted_reply n halt)) (sym is.1)))
