@@ -1,4 +1,4 @@
-use Rattle.std.proofs.Common.{◌∙◌, arith}
+use Rattle.std.proofs.Common.{◌≡◌, ◌∙◌, sym, ap, arith}
 use Rattle.std.proofs.lemmas.Result.{err_from_is_err_and}
 use Rattle.tas_green.proofs.RunLemmas.{after_none}
 use Rattle.tas_desk.proofs.DrawingLemmas.{drawn_none, drawn_more}
