@@ -1,5 +1,7 @@
 //! Which frames are lag frames, by hand; and that whatever the input of one, the next state and the picture are the same.
 
+ghost use Rattle.std.specs.Prelude.{◌<◌};
+
 use crate::carts::{START, cart_with};
 use crate::checks::{check_same, check_that, expect_ok};
 use std::alloc::Global;
@@ -11,6 +13,7 @@ use vcs_tia::Picture;
 type Row = (&'static str, &'static [u8], [bool; 3]);
 
 const LAG: [bool; 3] = [true; 3];
+
 const READS: [bool; 3] = [false; 3];
 /// Its first frame alone reads the input; then it stays in a loop.
 const ONCE: [bool; 3] = [false, true, true];
@@ -19,15 +22,31 @@ static ROWS: &[Row] = &[
     ("JMP to itself", &[0x4c, 0x00, 0xf0], LAG),
     ("LDA SWCHA", &[0xad, 0x80, 0x02, 0x4c, 0x00, 0xf0], READS),
     ("LDA SWCHB", &[0xad, 0x82, 0x02, 0x4c, 0x00, 0xf0], READS),
-    ("LDA SWCHB once", &[0xad, 0x82, 0x02, 0x4c, 0x03, 0xf0], ONCE),
+    (
+        "LDA SWCHB once",
+        &[0xad, 0x82, 0x02, 0x4c, 0x03, 0xf0],
+        ONCE,
+    ),
     ("LDA SWACNT", &[0xad, 0x81, 0x02, 0x4c, 0x00, 0xf0], LAG),
     ("LDA SWBCNT", &[0xad, 0x83, 0x02, 0x4c, 0x00, 0xf0], LAG),
     ("LDA INTIM", &[0xad, 0x84, 0x02, 0x4c, 0x00, 0xf0], LAG),
     ("LDA 80", &[0xa5, 0x80, 0x4c, 0x00, 0xf0], LAG),
-    ("LDA 1280 of the cartridge", &[0xad, 0x80, 0x12, 0x4c, 0x00, 0xf0], LAG),
-    ("LDA SWCHA at a mirror", &[0xad, 0x98, 0x0f, 0x4c, 0x00, 0xf0], READS),
+    (
+        "LDA 1280 of the cartridge",
+        &[0xad, 0x80, 0x12, 0x4c, 0x00, 0xf0],
+        LAG,
+    ),
+    (
+        "LDA SWCHA at a mirror",
+        &[0xad, 0x98, 0x0f, 0x4c, 0x00, 0xf0],
+        READS,
+    ),
     ("LDA INPT4", &[0xa5, 0x0c, 0x4c, 0x00, 0xf0], READS),
-    ("LDA INPT5 at a mirror", &[0xa5, 0x3d, 0x4c, 0x00, 0xf0], READS),
+    (
+        "LDA INPT5 at a mirror",
+        &[0xa5, 0x3d, 0x4c, 0x00, 0xf0],
+        READS,
+    ),
     ("LDA INPT3", &[0xa5, 0x0b, 0x4c, 0x00, 0xf0], LAG),
     ("LDA 0E", &[0xa5, 0x0e, 0x4c, 0x00, 0xf0], LAG),
     ("STA SWCHA", &[0x8d, 0x80, 0x02, 0x4c, 0x00, 0xf0], LAG),
@@ -35,30 +54,52 @@ static ROWS: &[Row] = &[
     // LDA #FF, STA SWACNT, LDA SWCHA; and the same with #FE
     (
         "SWCHA, all outputs",
-        &[0xa9, 0xff, 0x8d, 0x81, 0x02, 0xad, 0x80, 0x02, 0x4c, 0x05, 0xf0],
+        &[
+            0xa9, 0xff, 0x8d, 0x81, 0x02, 0xad, 0x80, 0x02, 0x4c, 0x05, 0xf0,
+        ],
         LAG,
     ),
     (
         "SWCHA, seven outputs",
-        &[0xa9, 0xfe, 0x8d, 0x81, 0x02, 0xad, 0x80, 0x02, 0x4c, 0x05, 0xf0],
+        &[
+            0xa9, 0xfe, 0x8d, 0x81, 0x02, 0xad, 0x80, 0x02, 0x4c, 0x05, 0xf0,
+        ],
         READS,
     ),
     // LDX #0B, TXS, PLA, and a loop: the byte at 10C is pulled
-    ("PLA of INPT4", &[0xa2, 0x0b, 0x9a, 0x68, 0x4c, 0x04, 0xf0], ONCE),
+    (
+        "PLA of INPT4",
+        &[0xa2, 0x0b, 0x9a, 0x68, 0x4c, 0x04, 0xf0],
+        ONCE,
+    ),
     // Pointers whose bytes are INPT4 and INPT5, and INPT3 and INPT4
     ("LDA (0C),Y", &[0xb1, 0x0c, 0x4c, 0x02, 0xf0], ONCE),
-    ("LDA (0B,X)", &[0xa2, 0x00, 0xa1, 0x0b, 0x4c, 0x04, 0xf0], ONCE),
+    (
+        "LDA (0B,X)",
+        &[0xa2, 0x00, 0xa1, 0x0b, 0x4c, 0x04, 0xf0],
+        ONCE,
+    ),
     // To 00FF, where a BRK in RAM leads to F003
     ("JMP (0280)", &[0x6c, 0x80, 0x02, 0x4c, 0x03, 0xf0], ONCE),
     // FF is no opcode: the machine halts, and then reads nothing
     ("JMP to SWCHA", &[0x4c, 0x80, 0x02], ONCE),
     // BRK at 27F: neither byte after it is read; the vector leads to F003
-    ("BRK before SWCHA", &[0x4c, 0x7f, 0x02, 0x4c, 0x03, 0xf0], LAG),
+    (
+        "BRK before SWCHA",
+        &[0x4c, 0x7f, 0x02, 0x4c, 0x03, 0xf0],
+        LAG,
+    ),
     // LDA #40, STA VBLANK; then with LDA #0, STA VBLANK
-    ("latches on", &[0xa9, 0x40, 0x85, 0x01, 0x4c, 0x04, 0xf0], READS),
+    (
+        "latches on",
+        &[0xa9, 0x40, 0x85, 0x01, 0x4c, 0x04, 0xf0],
+        READS,
+    ),
     (
         "latches on and off",
-        &[0xa9, 0x40, 0x85, 0x01, 0xa9, 0x00, 0x85, 0x01, 0x4c, 0x08, 0xf0],
+        &[
+            0xa9, 0x40, 0x85, 0x01, 0xa9, 0x00, 0x85, 0x01, 0x4c, 0x08, 0xf0,
+        ],
         ONCE,
     ),
 ];
@@ -88,9 +129,24 @@ fn inputs() -> [Input; 16] {
     inputs
 }
 
+/// Whether pixels all along a row of two pictures are equal.
+fn are_same_rows(a: &Picture, b: &Picture, row: usize) -> bool
+    requires { row < 210 }
+{
+    let mut same = true;
+    for x in 0..20 {
+        same &= a.pixel(row, 8 * x) == b.pixel(row, 8 * x);
+    }
+    same
+}
+
 /// Whether pixels in each part of two pictures are equal.
 fn are_same_pictures(a: &Picture, b: &Picture) -> bool {
-    (0..21).all(|row| (0..20).all(|x| a.pixel(10 * row, 8 * x) == b.pixel(10 * row, 8 * x)))
+    let mut same = true;
+    for row in 0..21 {
+        same &= are_same_rows(a, b, 10 * row);
+    }
+    same
 }
 
 /// Plays a frame of a state with each input and without one, which must come to the same.
@@ -112,13 +168,22 @@ fn check_input_is_ignored<R: Abort>(
         check_same(rt, (name, number), same, halt);
         check_that(rt, (name, number), state == still);
         if halt.is_ok() {
-            check_that(rt, (name, number), are_same_pictures(&pictures.0, &pictures.1));
+            check_that(
+                rt,
+                (name, number),
+                are_same_pictures(&pictures.0, &pictures.1),
+            );
         }
     }
 }
 
 /// Plays three frames and checks what is said of them; of the first lag frame, that the input makes no difference.
-fn check_row<R: Abort>(rt: &R, cart: &Cart, (name, _, lags): Row, pictures: &mut (Picture, Picture)) {
+fn check_row<R: Abort>(
+    rt: &R,
+    cart: &Cart,
+    (name, _, lags): Row,
+    pictures: &mut (Picture, Picture),
+) {
     let mut state = State::power_on(cart);
     let mut meter = Meter::new();
     let mut is_first = true;
