@@ -79,6 +79,14 @@ def random_inputs(rng, frames):
     return inputs[:frames]
 
 
+def changed_inputs(rng, inputs):
+    """Inputs that begin as these do: some are left out, replaced or put in at any place, or all are the same."""
+    at = rng.randrange(len(inputs) + 1)
+    gone = rng.choice((0, 0, 1, 2))
+    come = rng.choice((0, 1, gone))
+    return inputs[:at] + random_inputs(rng, come) + inputs[at + gone:]
+
+
 def movie_text(cartridge, inputs, is_old=False):
     head = "a26movie %d\ncart %s\n" % (1 if is_old else 2, sha256(cartridge).hexdigest())
     if is_old:

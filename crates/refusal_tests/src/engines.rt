@@ -8,8 +8,9 @@ use std::process::Abort;
 use std::sync::Wait;
 use std::thread::Threads;
 use tas_tool::{
-    ToolFault, cart_talk_run, check_run, diff_run, edit_run, export_run, migrate_run,
-    movie_script_run, movie_talk_run, script_run, shot_run, talk_run, trace_run,
+    ToolFault, cart_talk_run, check_run, compare_run, diff_run, digest_run, edit_run, export_run,
+    migrate_run, movie_script_run, movie_talk_run, ram_run, script_run, shot_run, talk_run,
+    trace_run,
 };
 use test_streams::Giver;
 
@@ -20,6 +21,9 @@ pub enum Engine {
     Check,
     Migrate,
     Shot,
+    Ram,
+    Digest,
+    Compare,
     Edit,
     Diff,
     /// Of two movies with as many frames.
@@ -34,11 +38,14 @@ pub enum Engine {
 }
 
 /// Those that read their inputs whole before they write anything.
-pub static ENGINES: [Engine; 10] = [
+pub static ENGINES: [Engine; 13] = [
     Engine::Trace,
     Engine::Check,
     Engine::Migrate,
     Engine::Shot,
+    Engine::Ram,
+    Engine::Digest,
+    Engine::Compare,
     Engine::Edit,
     Engine::Diff,
     Engine::DiffReplaced,
@@ -62,7 +69,7 @@ impl Engine {
             (Engine::Trace | Engine::Script | Engine::Talk, _) => bytes.none.as_slice(),
             (Engine::Edit, 1) => bytes.changes.as_slice(),
             (Engine::Edit, 2) | (_, 1) => bytes.old.as_slice(),
-            (Engine::Diff, 2) => bytes.new.as_slice(),
+            (Engine::Diff | Engine::Compare, 2) => bytes.new.as_slice(),
             (Engine::DiffReplaced, 2) => bytes.replaced.as_slice(),
             _ => bytes.none.as_slice(),
         }
@@ -86,9 +93,15 @@ impl Engine {
     pub fn count(self) -> usize {
         match self {
             Engine::Trace | Engine::Script | Engine::Talk => 1,
-            Engine::Check | Engine::Migrate | Engine::Shot | Engine::Export(_) | Engine::CartTalk =>
-                2,
-            Engine::Edit
+            Engine::Check
+            | Engine::Migrate
+            | Engine::Shot
+            | Engine::Ram
+            | Engine::Digest
+            | Engine::Export(_)
+            | Engine::CartTalk => 2,
+            Engine::Compare
+            | Engine::Edit
             | Engine::Diff
             | Engine::DiffReplaced
             | Engine::MovieScript
@@ -139,6 +152,9 @@ pub fn run<T: Wait + Threads + Sync, A: Allocator + Copy + Send + Sync, W: Write
         Engine::Check => check_run(alloc, first, second, output),
         Engine::Migrate => migrate_run(alloc, first, second, output),
         Engine::Shot => shot_run(alloc, 1, first, second, output),
+        Engine::Ram => ram_run(alloc, 1, 4, first, second, output),
+        Engine::Digest => digest_run(alloc, 2, first, second, output),
+        Engine::Compare => compare_run(alloc, first, second, third, output),
         Engine::Edit => edit_run(alloc, first, second, third, output),
         Engine::Diff | Engine::DiffReplaced => diff_run(alloc, first, second, third, output),
         Engine::Script => script_run(rt, alloc, first, output),

@@ -96,10 +96,13 @@ fn fail_so<T: Wait + Threads + Abort + Sync>(
 }
 
 /// Engines that write a text.
-static TEXTS: [Engine; 8] = [
+static TEXTS: [Engine; 11] = [
     Engine::Trace,
     Engine::Check,
     Engine::Migrate,
+    Engine::Ram,
+    Engine::Digest,
+    Engine::Compare,
     Engine::Edit,
     Engine::Diff,
     Engine::DiffReplaced,

@@ -19,7 +19,10 @@ pub const PLAYFIELD_MOVIE: &[u8] =
     b"a26movie 2\ncart 820c64e9933496de683a000c5e11f0510fb7b1699b2ce86471295236b284906d\n..... ..... .....\n";
 
 /// Ends three frames by vertical sync, and halts at F00D in the fourth.
-pub static HALTING: &[u8] = b"\xa2\x03\xa9\x02\x85\x00\xa9\x00\x85\x00\xca\xd0\xf5\x02";
+pub const HALTING: &[u8] = b"\xa2\x03\xa9\x02\x85\x00\xa9\x00\x85\x00\xca\xd0\xf5\x02";
+
+/// The SHA-256 of its cartridge.
+pub const HALTING_DIGEST: &str = "c914dfbc057cd1e5dd9cefcba07cec773cc85a8be3a04676377b60ded704d22d";
 
 /// The text of a movie of its cartridge and one frame with nothing pressed.
 pub const HALTING_MOVIE: &[u8] =

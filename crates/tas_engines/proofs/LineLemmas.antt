@@ -1,9 +1,9 @@
 -- The lines of a difference: one for each run of equal inputs.
-use Rattle.std.proofs.Common.{◌≡◌, ℕ, zero, suc, ◌+◌, ◌-◌, ◌<◌, ◌≤◌, Bool, true, false, eqb, cond, List, [], ◌∷◌, ◌++◌, length, take, drop, get_or, Some, refl, sym, ap, subst, ◌∙◌, arith, append_assoc, length-append}
+use Rattle.std.proofs.Common.{◌≡◌, ℕ, zero, suc, ◌+◌, ◌-◌, ◌<◌, ◌≤◌, Bool, true, false, cond, List, [], ◌∷◌, ◌++◌, length, take, drop, get_or, Some, refl, sym, ap, ◌∙◌, arith}
 use Rattle.std.specs.Prelude.{replicate, slice_get}
 use Rattle.std.specs.List.{flat_map}
-use Rattle.std.proofs.lemmas.Bool.{eq-eqb, eqb-true, ne_eqb, false≢true}
-use Rattle.std.proofs.lemmas.List.{append-nil, length-replicate, length-take-le, length-drop, drop_more, drop-take}
+use Rattle.std.proofs.lemmas.Bool.{eq-eqb}
+use Rattle.std.proofs.lemmas.List.{length-take-le, length-drop, drop_more, drop-take}
 use lib.Seq.{drop-drop}
 use Rattle.vcs_machine.specs.Input.{no_input}
 use Rattle.vcs_machine.specs.declared.input.Input.{Input}
@@ -12,7 +12,7 @@ use Rattle.tas_movie.specs.Runs.{run_inputs, runs_of, BeginOtherwise, AreLongest
 use Rattle.tas_movie.proofs.RunLemmas.{runs_longest, runs_made, runs_split, length-runs}
 use Rattle.tas_language.specs.declared.change.Change.{Change}
 use Rattle.tas_language.specs.declared.change.Change.TheVariants.{Insert, Replace, Delete}
-use Rattle.tas_engines.specs.Differences.{count_of, MayTouch, Follows, AreInOrder, put_in_from, DeletionsDiffer}
+use Rattle.tas_engines.specs.Differences.{count_of, Follows, AreInOrder, put_in_from, DeletionsDiffer}
 
 -- the line of a run, which is written over as many inputs or put in
 abbrev pub run_line : Bool → ℕ → ℕ → Input → Change

@@ -12,3 +12,7 @@ pub mod Differences
 pub mod Scripts
 pub mod Editing
 pub mod Diffing
+pub mod Ram
+pub mod Lag
+pub mod Digests
+pub mod Comparing

@@ -9,15 +9,20 @@
 #![tactic(auto)]
 
 mod checking;
+mod compare;
 mod comparing;
 mod diffing;
+mod digest;
 mod editing;
 mod fault;
 mod fault_lines;
+mod lag;
 mod laws;
 mod making;
 mod migrating;
 mod movies;
+mod passing;
+mod ram;
 mod reading;
 mod scripts;
 mod shooting;
@@ -25,14 +30,18 @@ mod tracing;
 mod writing;
 
 pub use checking::check_run;
+pub use compare::compare_run;
 pub use comparing::changes_between;
 pub use diffing::diff_run;
+pub use digest::digest_run;
 pub use editing::edit_run;
 pub use fault::{ReadFault, RunFault, ToolFault};
+pub use lag::lag_run;
 pub use laws::one_movie_per_cartridge_and_text;
 pub use making::{ChangeError, check_change, edit_of, make_change};
 pub use migrating::migrate_run;
 pub use movies::movie_of;
+pub use ram::ram_run;
 pub use reading::{INPUT_LIMIT, ThreeInputs, read_input, read_three, read_two};
 pub use scripts::{ScriptFault, edit_movie, print_changes};
 pub use shooting::{halt_fault, shot_run};

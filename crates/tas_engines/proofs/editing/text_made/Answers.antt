@@ -1,4 +1,4 @@
-use Rattle.std.proofs.Common.{inl, inr, refl, ◌∙◌, subst}
+use Rattle.std.proofs.Common.{inl, inr, refl, subst}
 use Rattle.std.proofs.lemmas.Result.{err_from_is_err_and}
 use Rattle.tas_engines.proofs.EngineEnds.{err-of_mapped, ok-of_mapped}
 use Rattle.tas_engines.specs.Editing.{script_fault}

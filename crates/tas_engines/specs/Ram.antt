@@ -1,0 +1,46 @@
+-- What `tas ram` answers (own).
+use Rattle.std.specs.Prelude.{◌≡◌, ℕ, ◌+◌, ◌-◌, ◌≤◌, List, length, ◌++◌, codes, decimal, ◌⊎◌, Option, Result, Ok, Err}
+use Rattle.std.specs.List.{range_with_len, flat_map}
+use Rattle.vcs_cpu.specs.Lines.{hex_byte}
+use Rattle.tas_movie.specs.Content.{MovieContent}
+use Rattle.tas_green.specs.Run.{state_after}
+use Rattle.tas_engines.specs.declared.fault.RunFault.{RunFault}
+use Rattle.tas_engines.specs.declared.fault.RunFault.TheVariants.{Range}
+use Rattle.tas_engines.specs.declared.fault.ToolFault.{ToolFault}
+use Rattle.tas_engines.specs.Movies.{IsMovieOf, IsMovieFault, IsMovieRun}
+
+-- the 128 bytes of RAM after the movie's first k frames, halted or not
+abbrev pub ram_after : MovieContent → ℕ → List ℕ
+ram_after movie k = (state_after movie k).riot.ram
+
+-- a line of a number, and each of some bytes as two upper case hexadecimal digits
+abbrev pub numbered_bytes : ℕ → List ℕ → List ℕ
+numbered_bytes k bytes = decimal k ++ codes " " ++ flat_map hex_byte bytes ++ codes "\n"
+
+-- the line of RAM after k frames
+abbrev pub ram_line : MovieContent → ℕ → List ℕ
+ram_line movie k = numbered_bytes k (ram_after movie k)
+
+-- the lines for k from `from` to `to` - 1
+abbrev pub ram_lines : MovieContent → ℕ → ℕ → List ℕ
+ram_lines movie from to = flat_map (ram_line movie) (range_with_len from (to - from))
+
+-- a movie of n frames has n + 1 such lines: the first one is power-on's
+pub record IsRamRange (movie : MovieContent) (from to : ℕ) : Type 0 where
+  pub order : from ≤ to
+  pub within : to ≤ length movie.inputs + 1
+
+-- why there are no such lines
+abbrev pub IsRamFault : ℕ → ℕ → MovieContent → RunFault → Type 0
+IsRamFault from to movie (Range first end len) = (first ≡ from) × (end ≡ to) × (len ≡ length movie.inputs) × (IsRamRange movie from to → ⊥)
+IsRamFault from to movie _ = ⊥
+
+-- the lines, or why there are none
+abbrev pub IsRamAnswer : ℕ → ℕ → List ℕ → List ℕ → Result (List ℕ) RunFault → Type 0
+IsRamAnswer from to image bytes (Ok text) = (movie : MovieContent) × IsMovieOf image bytes movie × IsRamRange movie from to × (text ≡ ram_lines movie from to)
+IsRamAnswer from to image bytes (Err e) = IsMovieFault image bytes e ⊎ ((movie : MovieContent) × IsMovieOf image bytes movie × IsRamFault from to movie e)
+
+-- `tas ram`, from what its readers (a cartridge and a movie text) have and the writer holds before to what they have and hold
+-- afterwards
+abbrev pub IsRamRun : ℕ → ℕ → (cart cart' input input' output output' : Option (List ℕ)) → Result (Unit {0}) ToolFault → Type 0
+IsRamRun from to cart cart' input input' output output' result = IsMovieRun (IsRamAnswer from to) cart cart' input input' output output' result

@@ -1,0 +1,143 @@
+//! `tas ram`.
+
+ghost use Rattle.std.specs.Prelude.{◌≡◌, ◌+◌, ◌-◌, ◌≤◌, ◌<◌, ◌^◌, Ok, Err, length, IfOk, IfErr, OnOk};
+ghost use Rattle.std.specs.List.{flat_map};
+ghost use Rattle.std.specs.Io.KnownBytes.{Appends};
+ghost use Rattle.counted_write.specs.CutOff.{IsCutOff};
+ghost use Rattle.vcs_cpu.specs.Lines.{hex_byte};
+ghost use Rattle.tas_movie.specs.Content.{most_inputs};
+ghost use Rattle.tas_engines.specs.Output.{Ends, StopsWriting};
+ghost use Rattle.tas_engines.specs.Movies.{IsMovieRun};
+ghost use Rattle.tas_engines.specs.Ram.{numbered_bytes, ram_lines, IsRamRange, IsRamAnswer, IsRamRun};
+
+use crate::passing::{pass_frame, pass_frames};
+use crate::{RunFault, ToolFault, movie_of, read_two};
+use counted_write::{WriteFault, write_counted};
+use itoa::write_digits;
+use std::alloc::Allocator;
+use std::io::{Read, Write};
+use tas_movie::Movie;
+use vcs_cpu::hex_digits;
+
+/// How many bytes of RAM there are.
+const RAM_SIZE: usize = 128;
+
+/// How many digits the greatest number has.
+const MOST_DIGITS: usize = 20;
+
+/// Where RAM's digits begin in a line whose number has the most digits.
+const RAM_PLACE: usize = MOST_DIGITS + 1;
+
+/// How many bytes the longest line has.
+const LINE_SIZE: usize = RAM_PLACE + 2 * RAM_SIZE + 1;
+
+/// RAM as two upper case hexadecimal digits for each byte.
+fn ram_digits(ram: &[u8; RAM_SIZE]) -> [u8; 2 * RAM_SIZE]
+    ensures { result ≡ flat_map hex_byte ram.now }
+{
+    let mut digits = [0; 2 * RAM_SIZE];
+    for (i, byte) in ram.iter().enumerate() {
+        digits[2 * i..2 * i + 2].copy_from_slice(&hex_digits(*byte));
+    }
+    digits
+}
+
+/// Writes the line of RAM after `k` frames, and answers how many bytes have gone out with those before it.
+fn write_ram_line<W: Write>(
+    k: usize,
+    ram: &[u8; RAM_SIZE],
+    before: usize,
+    output: &mut W,
+) -> Result<usize, WriteFault>
+    requires { before + LINE_SIZE < 2 ^ 64 }
+    ensures count { IfOk result (λ n. n ≡ before + length (numbered_bytes k ram.now)) }
+    ensures most { IfOk result (λ n. n ≤ before + LINE_SIZE) }
+    ensures all { OnOk result (Appends (W.contents output.old) (W.contents output.new) (numbered_bytes k ram.now)) }
+    ensures cut { IfErr result (λ f. IsCutOff (W.contents output.old) (W.contents output.new) (numbered_bytes k ram.now) (f.written - before)) }
+    ensures from { IfErr result (λ f. before ≤ f.written) }
+{
+    let mut line = [b'\n'; LINE_SIZE];
+    line[MOST_DIGITS] = b' ';
+    line[RAM_PLACE..LINE_SIZE - 1].copy_from_slice(&ram_digits(ram));
+    let start = write_digits(k as u64, &mut line, MOST_DIGITS);
+    write_counted(&line[start..], before, output)
+}
+
+/// Writes the lines of RAM after `from` to `to` - 1 frames of a movie, each before the next frame is played.
+fn write_ram_lines<A: Allocator, W: Write>(
+    movie: &Movie<A>,
+    from: usize,
+    to: usize,
+    output: &mut W,
+) -> Result<(), RunFault>
+    requires range { IsRamRange movie.now from to }
+    requires most { length movie.now.inputs ≤ most_inputs }
+    ensures ok { OnOk result (Appends (W.contents output.old) (W.contents output.new) (ram_lines movie.now from to)) }
+    ensures fault { IfErr result (StopsWriting (W.contents output.old) (W.contents output.new) (ram_lines movie.now from to)) }
+{
+    let mut state = pass_frames(movie, from);
+    let mut written = 0;
+    for k in from..to {
+        written = write_ram_line(k, &state.ram(), written, output)?;
+        pass_frame(movie, k, &mut state);
+    }
+    Ok(())
+}
+
+/// The movie whose cartridge and text these are, where it has the lines that are asked for, or why there is none.
+fn movie_with_lines<A: Allocator + Copy>(
+    alloc: A,
+    from: usize,
+    to: usize,
+    image: &[u8],
+    bytes: &[u8],
+) -> Result<Movie<A>, RunFault>
+    ensures lines { IfOk result (λ movie. IsRamAnswer from to image.now bytes.now (Ok (ram_lines movie from to))) }
+    ensures range { IfOk result (λ movie. IsRamRange movie from to) }
+    ensures most { IfOk result (λ movie. length movie.inputs ≤ most_inputs) }
+    ensures fault { IfErr result (λ fault. IsRamAnswer from to image.now bytes.now (Err fault)) }
+{
+    let movie = movie_of(alloc, image, bytes)?;
+    let len = movie.len();
+    if from <= to && to <= len + 1 {
+        Ok(movie)
+    } else {
+        Err(RunFault::Range { from, to, len })
+    }
+}
+
+/// Writes the lines of RAM of the movie whose cartridge and text these are.
+fn show_ram<A: Allocator + Copy, W: Write>(
+    alloc: A,
+    from: usize,
+    to: usize,
+    image: &[u8],
+    bytes: &[u8],
+    output: &mut W,
+) -> Result<(), RunFault>
+    ensures { Ends (IsRamAnswer from to image.now bytes.now) (W.contents output.old) (W.contents output.new) result }
+{
+    let movie = movie_with_lines(alloc, from, to, image, bytes)?;
+    write_ram_lines(&movie, from, to, output)
+}
+
+/// Reads a cartridge and a movie text, and writes RAM after K frames of the movie for each K from `from` to `to` - 1
+/// (own): lines `K DIGITS`, 256 upper case hexadecimal digits, each written before the next frame is played. K is a
+/// number of frames, so 0 is power-on and `to` is at most the movie's length and one. A halted machine has its RAM.
+///
+/// Faults, in order: those of [`read_two`], those of [`movie_of`], then `Range`, each with nothing written; `Write` with
+/// the first bytes of the lines written, and how many.
+pub fn ram_run<A: Allocator + Copy, C: Read, R: Read, W: Write>(
+    alloc: A,
+    from: usize,
+    to: usize,
+    cart: &mut C,
+    input: &mut R,
+    output: &mut W,
+) -> Result<(), ToolFault>
+    ensures { IsRamRun from to (C.remaining cart.old) (C.remaining cart.new) (R.remaining input.old) (R.remaining input.new)
+        (W.contents output.old) (W.contents output.new) result }
+{
+    let (image, bytes) = read_two(alloc, cart, input)?;
+    Ok(show_ram(alloc, from, to, image.as_slice(), bytes.as_slice(), output)?)
+}

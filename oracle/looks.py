@@ -1,0 +1,78 @@
+"""Looks at a played movie by the model of machine.py: RAM, digests, and where two movies begin to differ.
+
+docs/FORMATS.md, "RAM", "Digest" and "Comparison", says what the lines are.
+"""
+
+from collections import namedtuple
+from hashlib import sha256
+from itertools import zip_longest
+
+import cartridges
+import machine
+
+# What a frame left: the 128 bytes of RAM, and its pixmap; no bytes where the machine is halted.
+Frame = namedtuple("Frame", "ram pixmap")
+
+
+def read_inputs(text):
+    """The inputs of a movie text of either kind, which is taken to be one."""
+    inputs = []
+    for line in text.split("\n")[2:-1]:
+        frame, _, count = line.partition(" x")
+        inputs += [frame] * int(count or 1)
+    return inputs
+
+
+class Played:
+    """A movie that a new machine has played to its end."""
+
+    def __init__(self, model, inputs):
+        self.cartridge = model.cartridge
+        self.inputs = inputs
+        self.start = bytes(model.ram)
+        self.pictures = []
+        self.frames = [self.play(model, text) for text in inputs]
+        self.halt = model.halt
+
+    def play(self, model, text):
+        picture = model.play_frame(text)
+        self.pictures.append(picture)
+        return Frame(bytes(model.ram), b"" if picture is None else machine.ppm_bytes(picture))
+
+    def ram_after(self, count):
+        return self.frames[count - 1].ram if count else self.start
+
+
+# ---- the lines, as bytes ---------------------------------------------------------------------------------------------
+
+def ram_lines(played, first, last):
+    return "".join("%d %s\n" % (k, played.ram_after(k).hex().upper()) for k in range(first, last)).encode()
+
+
+def digest_lines(played, every):
+    """Where no frame is halted."""
+    text = cartridges.movie_text(played.cartridge, played.inputs).encode()
+    lines = ["a26digest 1", "profile 2", "cart " + hex_digest(played.cartridge), "movie " + hex_digest(text)]
+    for begin in range(0, len(played.frames), every):
+        stretch = played.frames[begin:begin + every]
+        lines.append("frames %d to %d ram %s picture %s" % (
+            begin, begin + len(stretch), hex_digest(b"".join(frame.ram for frame in stretch)), hex_digest(stretch[-1].pixmap)))
+    lines.append("end %d frames" % len(played.frames))
+    return "".join(line + "\n" for line in lines).encode()
+
+
+def hex_digest(data):
+    return sha256(data).hexdigest()
+
+
+def difference_lines(old, new):
+    rams, pixmaps = ([[frame[part] for frame in played.frames] for played in (old, new)] for part in (0, 1))
+    places = zip(("input", "ram", "picture"), ((old.inputs, new.inputs), rams, pixmaps))
+    return "".join("%s %s\n" % (name, first_difference(one, other)) for name, (one, other) in places).encode()
+
+
+def first_difference(one, other):
+    for place, (a, b) in enumerate(zip_longest(one, other)):
+        if a != b:
+            return place
+    return "none"
