@@ -12,6 +12,8 @@ mod engine_tests;
 #[cfg(test)]
 mod fault_tests;
 #[cfg(test)]
+mod lag_tests;
+#[cfg(test)]
 mod look_tests;
 #[cfg(test)]
 mod movies;

@@ -7,6 +7,7 @@ pub mod LineLemmas
 pub mod DifferenceLemmas
 pub mod ScriptLemmas
 pub mod StreamLemmas
+pub mod StretchLemmas
 pub mod PassingLemmas
 pub mod CompareLemmas
 pub mod DigestLemmas

@@ -13,5 +13,6 @@ pub mod Scripts
 pub mod Editing
 pub mod Diffing
 pub mod Ram
+pub mod Lag
 pub mod Digests
 pub mod Comparing

@@ -106,7 +106,7 @@ fn picture_digest<A: Allocator, B: Allocator>(
 }
 
 /// Adds a number in decimal digits.
-fn push_number<A: Allocator>(out: &mut Vec<u8, A>, n: usize) -> Result<(), AllocError>
+pub(crate) fn push_number<A: Allocator>(out: &mut Vec<u8, A>, n: usize) -> Result<(), AllocError>
     ensures { OnOk result (out.new.items ≡ out.old.items ++ decimal n) }
 {
     let mut buffer = Buffer::new();

@@ -1,0 +1,56 @@
+-- What `tas lag` answers (own).
+use Rattle.std.specs.Prelude.{◌≡◌, ℕ, zero, suc, ◌+◌, ◌-◌, ◌==◌, Bool, true, not, ◌&&◌, if◌then◌else◌, List, [], ◌++◌, length, codes, decimal, slice_index_or, Option, Result, Ok, Err}
+use Rattle.std.specs.List.{range_with_len, flat_map}
+use Rattle.vcs_machine.specs.Input.{no_input}
+use Rattle.vcs_machine.specs.declared.input.Input.{Input}
+use Rattle.vcs_machine.specs.Lag.{is_lag_frame, IsSameFrame}
+use Rattle.tas_movie.specs.Content.{MovieContent}
+use Rattle.tas_movie.specs.Text.{line}
+use Rattle.tas_green.specs.Run.{state_after}
+use Rattle.tas_engines.specs.declared.fault.RunFault.{RunFault}
+use Rattle.tas_engines.specs.declared.fault.ToolFault.{ToolFault}
+use Rattle.tas_engines.specs.Movies.{IsMovieOf, IsMovieFault, IsMovieRun}
+
+-- whether frame k of a movie is a lag frame
+abbrev pub is_lag : MovieContent → ℕ → Bool
+is_lag movie k = is_lag_frame movie.cart (state_after movie k) (slice_index_or movie.inputs k no_input)
+
+-- how many of the next n frames from a on are lag frames, up to the first that isn't one
+abbrev pub lag_length : (ℕ → Bool) → ℕ → ℕ → ℕ
+lag_length lag a zero = 0
+lag_length lag a (suc n) = if lag a then suc (lag_length lag (a + 1) n) else 0
+
+-- a stretch begins at a lag frame that comes after none
+abbrev pub begins_stretch : (ℕ → Bool) → ℕ → Bool
+begins_stretch lag zero = lag zero
+begins_stretch lag (suc a) = lag (suc a) && not (lag a)
+
+-- the line of the frames from a to b - 1
+abbrev pub stretch_line : ℕ → ℕ → List ℕ
+stretch_line a b = line (decimal a ++ codes " " ++ decimal b)
+
+-- the line of the frames from a to b - 1, where there are any
+abbrev pub stretch_or_none : ℕ → ℕ → List ℕ
+stretch_or_none a b = if a == b then [] else stretch_line a b
+
+-- the line of the stretch that begins at frame a of so many frames, where one does
+abbrev pub line_at : (ℕ → Bool) → ℕ → ℕ → List ℕ
+line_at lag len a = if begins_stretch lag a then stretch_line a (a + lag_length lag a (len - a)) else []
+
+-- the lines of all stretches of lag frames in a movie
+abbrev pub lag_lines : MovieContent → List ℕ
+lag_lines movie = flat_map (line_at (is_lag movie) (length movie.inputs)) (range_with_len 0 (length movie.inputs))
+
+-- whatever the input of a lag frame, the next state and the picture are the same
+abbrev pub LagFramesIgnoreInput : MovieContent → Type 0
+LagFramesIgnoreInput movie = (k : ℕ) (other : Input) → is_lag movie k ≡ true → IsSameFrame movie.cart (state_after movie k) (slice_index_or movie.inputs k no_input) other
+
+-- the lines, or why there are none
+abbrev pub IsLagAnswer : List ℕ → List ℕ → Result (List ℕ) RunFault → Type 0
+IsLagAnswer image bytes (Ok text) = (movie : MovieContent) × IsMovieOf image bytes movie × (text ≡ lag_lines movie) × LagFramesIgnoreInput movie
+IsLagAnswer image bytes (Err e) = IsMovieFault image bytes e
+
+-- `tas lag`, from what its readers (a cartridge and a movie text) have and the writer holds before to what they have and hold
+-- afterwards
+abbrev pub IsLagRun : (cart cart' input input' output output' : Option (List ℕ)) → Result (Unit {0}) ToolFault → Type 0
+IsLagRun cart cart' input input' output output' result = IsMovieRun IsLagAnswer cart cart' input input' output output' result

@@ -1,0 +1,122 @@
+//! `tas lag`.
+
+ghost use Rattle.std.specs.Prelude.{◌≡◌, ◌+◌, ◌^◌, ◌<◌, [], ◌++◌, if◌then◌else◌, Ok, Err, length, OnOk, IfOk, IfErr};
+ghost use Rattle.tas_green.specs.Run.{state_after};
+ghost use Rattle.tas_engines.specs.Output.{Ends};
+ghost use Rattle.tas_engines.specs.Lag.{is_lag, lag_lines, stretch_or_none, LagFramesIgnoreInput, IsLagAnswer, IsLagRun};
+
+use crate::digest::push_number;
+use crate::{RunFault, ToolFault, movie_of, read_two, write_all};
+use std::alloc::{AllocError, Allocator};
+use std::io::{Read, Write};
+use tas_movie::Movie;
+use vcs_machine::{Meter, State, play_for_lag};
+
+/// Plays a movie's frame `k` unseen, and answers whether it is a lag frame.
+fn pass_for_lag<A: Allocator>(movie: &Movie<A>, k: usize, state: &mut State) -> bool
+    requires within { k < length movie.now.inputs }
+    requires start { state.old ≡ state_after movie.now k }
+    ensures state { state.new ≡ state_after movie.now (k + 1) }
+    ensures lag { result ≡ is_lag movie.now k }
+{
+    let mut meter = Meter::new();
+    play_for_lag(movie.cart(), state, movie.inputs()[k], &mut meter)
+}
+
+/// Adds the line of the lag frames from `from` to `to` - 1, if there are any.
+fn push_stretch<A: Allocator>(
+    out: &mut Vec<u8, A>,
+    from: usize,
+    to: usize,
+) -> Result<(), AllocError>
+    ensures { OnOk result (out.new.items ≡ out.old.items ++ stretch_or_none from to) }
+{
+    if from == to {
+        return Ok(());
+    }
+    push_number(out, from)?;
+    out.push(b' ')?;
+    push_number(out, to)?;
+    out.push(b'\n')?;
+    Ok(())
+}
+
+/// Where the stretch begins that goes on after frame `k`, before which one began at `from`. Where frame `k` isn't a lag
+/// frame the line of that one is added.
+fn next_start<A: Allocator>(
+    out: &mut Vec<u8, A>,
+    is_lag: bool,
+    from: usize,
+    k: usize,
+) -> Result<usize, AllocError>
+    requires { k + 1 < 2 ^ 64 }
+    ensures next { IfOk result (λ next. next ≡ (if is_lag then from else k + 1)) }
+    ensures text { OnOk result (out.new.items ≡ out.old.items ++ (if is_lag then [] else stretch_or_none from k)) }
+{
+    if is_lag {
+        return Ok(from);
+    }
+    push_stretch(out, from, k)?;
+    Ok(k + 1)
+}
+
+/// The lines of a movie's lag frames.
+fn lag_text<A: Allocator + Copy>(alloc: A, movie: &Movie<A>) -> Result<Vec<u8, A>, AllocError>
+    ensures lines { IfOk result (λ text. text.items ≡ lag_lines movie.now) }
+    ensures law { LagFramesIgnoreInput movie.now }
+{
+    let mut out = Vec::new(alloc);
+    let mut state = State::power_on(movie.cart());
+    let mut from = 0;
+    for k in 0..movie.len() {
+        let is_lag = pass_for_lag(movie, k, &mut state);
+        from = next_start(&mut out, is_lag, from, k)?;
+    }
+    push_stretch(&mut out, from, movie.len())?;
+    Ok(out)
+}
+
+/// The lines of the lag frames of the movie whose cartridge and text these are, or why there are none.
+fn lag_answer<A: Allocator + Copy>(
+    alloc: A,
+    image: &[u8],
+    bytes: &[u8],
+) -> Result<Vec<u8, A>, RunFault>
+    ensures text { IfOk result (λ text. IsLagAnswer image.now bytes.now (Ok text.items)) }
+    ensures fault { IfErr result (λ fault. IsLagAnswer image.now bytes.now (Err fault)) }
+{
+    let movie = movie_of(alloc, image, bytes)?;
+    Ok(lag_text(alloc, &movie)?)
+}
+
+/// Writes the lines of the lag frames of the movie whose cartridge and text these are.
+fn show_lag<A: Allocator + Copy, W: Write>(
+    alloc: A,
+    image: &[u8],
+    bytes: &[u8],
+    output: &mut W,
+) -> Result<(), RunFault>
+    ensures { Ends (IsLagAnswer image.now bytes.now) (W.contents output.old) (W.contents output.new) result }
+{
+    let text = lag_answer(alloc, image, bytes)?;
+    write_all(output, text.as_slice())
+}
+
+/// Reads a cartridge and a movie text, and writes a line `A B` for each longest stretch of lag frames, those from A to
+/// B - 1 (own): frames that come to the same whatever their input. A halted machine reads nothing, so its frames are
+/// among them.
+///
+/// Faults, in order: those of [`read_two`] and those of [`movie_of`], each with nothing written; `Memory` with nothing
+/// written; `Write` with the first bytes of the lines written, and how many.
+pub fn lag_run<A: Allocator + Copy, C: Read, R: Read, W: Write>(
+    alloc: A,
+    cart: &mut C,
+    input: &mut R,
+    output: &mut W,
+) -> Result<(), ToolFault>
+    ensures { IsLagRun (C.remaining cart.old) (C.remaining cart.new) (R.remaining input.old) (R.remaining input.new)
+        (W.contents output.old) (W.contents output.new) result }
+{
+    let (image, bytes) = read_two(alloc, cart, input)?;
+    Ok(show_lag(alloc, image.as_slice(), bytes.as_slice(), output)?)
+}
