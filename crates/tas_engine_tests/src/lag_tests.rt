@@ -6,7 +6,8 @@ use std::alloc::Global;
 use tas_engines::{ToolFault, lag_run};
 
 /// Reads the sticks in each fourth frame: INC 80, LDA 80, AND #3, BNE F00B, LDA 280, LDA #2, STA VSYNC, LDA #0, STA VSYNC, JMP F000.
-const FOURTH: &[u8] = b"\xe6\x80\xa5\x80\x29\x03\xd0\x03\xad\x80\x02\xa9\x02\x85\x00\xa9\x00\x85\x00\x4c\x00\xf0";
+const FOURTH: &[u8] =
+    b"\xe6\x80\xa5\x80\x29\x03\xd0\x03\xad\x80\x02\xa9\x02\x85\x00\xa9\x00\x85\x00\x4c\x00\xf0";
 
 /// The SHA-256 of its cartridge.
 const FOURTH_DIGEST: &str = "8eebbc0eed08fe2bdc687927fea9d44c3840e460081cb8f33387185bd8766659";

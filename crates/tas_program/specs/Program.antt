@@ -18,6 +18,7 @@ use Rattle.tas_tool.specs.Pixmaps.{IsExportAnswer}
 use Rattle.tas_tool.specs.MovieScripts.{IsMovieScriptRun}
 use Rattle.tas_engines.specs.Diffing.{IsDiffRun}
 use Rattle.tas_engines.specs.Comparing.{IsCompareRun}
+use Rattle.tas_engines.specs.Lag.{IsLagRun}
 use Rattle.tas_engines.specs.Digests.{IsDigestRun}
 use Rattle.tas_engines.specs.Ram.{IsRamRun}
 use Rattle.tas_tool.specs.Films.{IsFilmRun}
@@ -27,7 +28,7 @@ use Rattle.tas_words.specs.declared.request.Request.TheVariants.{Do, Show, Refus
 use Rattle.tas_program.specs.declared.status.Status.{Status}
 use Rattle.tas_program.specs.declared.status.Status.TheVariants.{Done, Fault, Misuse}
 use Rattle.tas_words.specs.declared.task.Task.{Task}
-use Rattle.tas_words.specs.declared.task.Task.TheVariants.{Trace, Check, Migrate, Shot, Film, Export, Ram, Digest, Compare, Edit, Diff, Script, Talk}
+use Rattle.tas_words.specs.declared.task.Task.TheVariants.{Trace, Check, Migrate, Shot, Film, Export, Ram, Digest, Compare, Lag, Edit, Diff, Script, Talk}
 use Rattle.tas_words.specs.declared.task.Start.TheVariants.{Blank, Cart, Movie}
 use Rattle.clap.specs.Walk.{Text}
 use Rattle.tas_words.specs.Requests.{AreGiven, IsRequest}
@@ -72,6 +73,7 @@ DoesTask files (Export cart from to workers) old new end = EndsOver (files cart.
 DoesTask files (Ram cart from to) old new end = EndsOver (files cart.now) (IsRamRun from to) old new end
 DoesTask files (Digest cart every) old new end = EndsOver (files cart.now) (IsDigestRun (max every 1)) old new end
 DoesTask files (Compare cart before) old new end = EndsOverTwo (files cart.now) (files before.now) IsCompareRun old new end
+DoesTask files (Lag cart) old new end = EndsOver (files cart.now) IsLagRun old new end
 DoesTask files (Edit cart script) old new end = EndsOverTwo (files cart.now) (files script.now) IsEditRun old new end
 DoesTask files (Diff cart before) old new end = EndsOverTwo (files cart.now) (files before.now) IsDiffRun old new end
 DoesTask files (Script None) old new end = IsScriptRun old.input new.input old.output new.output end

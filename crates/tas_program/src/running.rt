@@ -16,8 +16,8 @@ use std::sync::Wait;
 use std::thread::Threads;
 use tas_tool::{
     ToolFault, cart_talk_run, check_run, compare_run, diff_run, digest_run, edit_run, export_run,
-    film_run, migrate_run, movie_script_run, movie_talk_run, ram_run, script_run, shot_run,
-    talk_run, trace_run, write_all,
+    film_run, lag_run, migrate_run, movie_script_run, movie_talk_run, ram_run, script_run,
+    shot_run, talk_run, trace_run, write_all,
 };
 use tas_words::{MovieFiles, Request, Start, Task, collect_words, read_request};
 
@@ -122,6 +122,7 @@ fn run_engine<
             let (mut cart, mut old) = (open(folder, cart)?, open(folder, old)?);
             compare_run(alloc, &mut cart, &mut old, input, output)
         }
+        Task::Lag { cart } => lag_run(alloc, &mut open(folder, cart)?, input, output),
         Task::Edit { cart, script } => {
             let (mut cart, mut script) = (open(folder, cart)?, open(folder, script)?);
             edit_run(alloc, &mut cart, &mut script, input, output)

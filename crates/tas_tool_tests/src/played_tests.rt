@@ -75,7 +75,7 @@ end 2 frames
 ";
 
 /// Commands over the playfield's cartridge and a movie of two frames: the words, the file `other`, and what they write.
-static ANSWERS: [(&[&str], &[u8], &[u8]); 6] = [
+static ANSWERS: [(&[&str], &[u8], &[u8]); 7] = [
     (&["digest", "game.bin", "1"], b"", BY_FRAME),
     (&["digest", "game.bin", "2"], b"", BY_STRETCH),
     (&["digest", "game.bin"], b"", BY_STRETCH),
@@ -94,6 +94,7 @@ static ANSWERS: [(&[&str], &[u8], &[u8]); 6] = [
         TWO_IDLE_FRAMES,
         b"input 1\nram none\npicture none\n",
     ),
+    (&["lag", "game.bin"], b"", b"0 2\n"),
 ];
 
 #[test]

@@ -17,7 +17,7 @@ const A_AND_B: MovieFiles<'static> = MovieFiles {
 };
 
 /// Words that name a task, and the task.
-static TASKS: [(&[&str], Task<'static>); 29] = [
+static TASKS: [(&[&str], Task<'static>); 30] = [
     (&["trace", "0"], Task::Trace { instructions: 0 }),
     (&["trace", "3"], Task::Trace { instructions: 3 }),
     (
@@ -132,6 +132,7 @@ static TASKS: [(&[&str], Task<'static>); 29] = [
             old: "b",
         },
     ),
+    (&["lag", "a.bin"], Task::Lag { cart: "a.bin" }),
     (
         &["edit", "a.bin", "b"],
         Task::Edit {
@@ -193,7 +194,7 @@ fn each_command_is_its_task(rt: HostRuntime) {
 
 /// Words that are no task: none, an unknown one, too few, too many, numbers past their ranges and
 /// texts that are no numbers, unknown flags.
-static MISUSES: [&[&str]; 66] = [
+static MISUSES: [&[&str]; 68] = [
     &[],
     &[""],
     &["play"],
@@ -260,6 +261,8 @@ static MISUSES: [&[&str]; 66] = [
     &["compare"],
     &["compare", "game.bin"],
     &["compare", "game.bin", "other", "0"],
+    &["lag"],
+    &["lag", "game.bin", "0"],
 ];
 
 /// Whether a text begins with another one; with an empty one only an empty text does.
@@ -339,7 +342,7 @@ fn a_missing_word_is_named(rt: HostRuntime) {
 }
 
 /// Words that ask for help, and the beginning of the text.
-static HELPS: [(&[&str], &[u8]); 15] = [
+static HELPS: [(&[&str], &[u8]); 16] = [
     (
         &["--help"],
         b"Replays movies of Atari 2600 cartridges, exactly and from power-on\n\nUsage: tas <COMMAND>\n",
@@ -399,6 +402,10 @@ static HELPS: [(&[&str], &[u8]); 15] = [
     (
         &["compare", "--help"],
         b"Writes the first frames at which two movies differ\n\nUsage: tas compare <CART> <OLD>\n",
+    ),
+    (
+        &["lag", "--help"],
+        b"Writes the frames of a movie whose input nothing reads\n\nUsage: tas lag <CART>\n",
     ),
 ];
 

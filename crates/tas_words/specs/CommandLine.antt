@@ -121,6 +121,7 @@ command_line = record {
       ∷ shape_with (codes "ram") (cart_rule ∷ frame_rule (codes "FROM") ∷ frame_rule (codes "TO") ∷ [])
       ∷ shape_with (codes "digest") (cart_rule ∷ may_number_rule (codes "EVERY") 1 most_every ∷ [])
       ∷ shape_with (codes "compare") (cart_rule ∷ file_rule (codes "OLD") ∷ [])
+      ∷ shape_with (codes "lag") (cart_rule ∷ [])
       ∷ shape_with (codes "edit") (cart_rule ∷ file_rule (codes "SCRIPT") ∷ [])
       ∷ shape_with (codes "diff") (cart_rule ∷ file_rule (codes "OLD") ∷ [])
       ∷ shape_with (codes "script") (flag_rule (codes "CART") (codes "cart") ∷ flag_rule (codes "MOVIE") (codes "movie") ∷ [])

@@ -7,7 +7,7 @@ use Rattle.tas_desk.specs.Runs.{most_workers}
 use Rattle.tas_words.specs.declared.task.Start.{Start}
 use Rattle.tas_words.specs.declared.task.Start.TheVariants.{Blank, Cart, Movie}
 use Rattle.tas_words.specs.declared.task.Task.{Task}
-use Rattle.tas_words.specs.declared.task.Task.TheVariants.{Trace, Check, Migrate, Shot, Film, Export, Ram, Digest, Compare, Edit, Diff, Script, Talk}
+use Rattle.tas_words.specs.declared.task.Task.TheVariants.{Trace, Check, Migrate, Shot, Film, Export, Ram, Digest, Compare, Lag, Edit, Diff, Script, Talk}
 
 -- the word of this name is this text
 abbrev pub IsWord : List Row → Text → Text → Type 0
@@ -67,6 +67,7 @@ HasWords name rows (Ram cart from to) =
     (name ≡ codes "ram") × IsWord rows (codes "CART") cart.now × IsFrameWord rows (codes "FROM") from × IsFrameWord rows (codes "TO") to
 HasWords name rows (Digest cart every) = (name ≡ codes "digest") × IsWord rows (codes "CART") cart.now × IsEvery rows every
 HasWords name rows (Compare cart old) = (name ≡ codes "compare") × IsWord rows (codes "CART") cart.now × IsWord rows (codes "OLD") old.now
+HasWords name rows (Lag cart) = (name ≡ codes "lag") × IsWord rows (codes "CART") cart.now
 HasWords name rows (Edit cart script) = (name ≡ codes "edit") × IsWord rows (codes "CART") cart.now × IsWord rows (codes "SCRIPT") script.now
 HasWords name rows (Diff cart old) = (name ≡ codes "diff") × IsWord rows (codes "CART") cart.now × IsWord rows (codes "OLD") old.now
 HasWords name rows (Script None) = (name ≡ codes "script") × IsStart rows Blank

@@ -144,6 +144,16 @@ Example:
   ./tas edit joystick.bin examples/mend.script < examples/joystick.movie > mended.movie
   ./tas compare joystick.bin examples/joystick.movie < mended.movie";
 
+const LAG_HELP: &str = "\
+Standard input is the movie text, as for 'tas check'.
+Standard output is the lag frames of the movie, those whose input nothing reads, as lines 'A B': frames
+A to B - 1, counted from 0. Whatever the input of such a frame, its picture and all that follows are
+the same.
+
+Example:
+  examples/cart joystick > joystick.bin
+  ./tas lag joystick.bin < examples/joystick.movie";
+
 const EDIT_HELP: &str = "\
 Standard input is the movie text, as for 'tas check'. The script's file has changes, a line each:
   insert PLACE COUNT FRAME   insert COUNT frames such as 'R.... ..... .....'
@@ -344,6 +354,12 @@ static SUBCOMMANDS: [Subcommand; 13] = [
         about: "Writes the first frames at which two movies differ",
         help: COMPARE_HELP,
         words: &[CARTRIDGE, OLD],
+    },
+    Subcommand {
+        name: "lag",
+        about: "Writes the frames of a movie whose input nothing reads",
+        help: LAG_HELP,
+        words: &[CARTRIDGE],
     },
     Subcommand {
         name: "edit",

@@ -108,6 +108,11 @@ pub enum Task<'a> {
         /// The name of the file with the older movie's text.
         old: &'a str,
     },
+    /// Write the frames of the movie on standard input whose input nothing reads.
+    Lag {
+        /// The name of the cartridge's file.
+        cart: &'a str,
+    },
     /// Make the changes of a script on the movie on standard input.
     Edit {
         /// The name of the cartridge's file.

@@ -160,6 +160,9 @@ fn frames_task<'a>(name: &str, words: &ArgMatches<'a>) -> Option<Task<'a>>
             cart: word_of(words, "CART")?,
             old: word_of(words, "OLD")?,
         }),
+        "lag" => Some(Task::Lag {
+            cart: word_of(words, "CART")?,
+        }),
         _ => None,
     }
 }

@@ -6,6 +6,7 @@ use Rattle.tas_engines.specs.Shooting.{IsShotAnswer}
 use Rattle.tas_engines.specs.Comparing.{IsCompareRun}
 use Rattle.tas_engines.specs.Digests.{IsDigestRun}
 use Rattle.tas_engines.specs.Ram.{IsRamRun}
+use Rattle.tas_engines.specs.Lag.{IsLagRun}
 use Rattle.tas_tool.specs.Films.{IsFilmRun}
 use Rattle.tas_engines.specs.Editing.{IsEditRun}
 use Rattle.tas_engines.specs.Diffing.{IsDiffRun}
@@ -52,6 +53,11 @@ pub returns-in_ok-old-in-Compare : goal.returns-in_ok-old-in-Compare
 returns-in_ok-old-in-Compare g c =
     rw c.in-Compare.is
     (over_two IsCompareRun (g.F.Folder.bytes_of c.args.folder.now c.in-Compare.cart.now) (g.F.Folder.bytes_of c.args.folder.now c.in-Compare.old.now) (g.F.File.Read.remaining c.in_ok-cart-in-Compare.cart) (g.F.File.Read.remaining c.compare_run.new.cart) (g.F.File.Read.remaining c.in_ok-old-in-Compare.old) (g.F.File.Read.remaining c.compare_run.new.before) (record { input = g.R.Read.remaining c.args.input.now; output = g.W.Write.contents c.args.output.now }) (record { input = g.R.Read.remaining c.compare_run.new.input; output = g.W.Write.contents c.compare_run.new.output }) c.compare_run.result c.in_ok-cart-in-Compare.ensures.file c.in_ok-old-in-Compare.ensures.file c.compare_run.ensures)
+
+pub returns-in_ok-open-in-Lag : goal.returns-in_ok-open-in-Lag
+returns-in_ok-open-in-Lag g c =
+    rw c.in-Lag.is
+    (over_one IsLagRun (g.F.Folder.bytes_of c.args.folder.now c.in-Lag.cart.now) (g.F.File.Read.remaining c.in_ok-open-in-Lag.field-0) (g.F.File.Read.remaining c.lag_run.new.cart) (record { input = g.R.Read.remaining c.args.input.now; output = g.W.Write.contents c.args.output.now }) (record { input = g.R.Read.remaining c.lag_run.new.input; output = g.W.Write.contents c.lag_run.new.output }) c.lag_run.result c.in_ok-open-in-Lag.ensures.file c.lag_run.ensures)
 
 pub returns-in_ok-script-in-Edit : goal.returns-in_ok-script-in-Edit
 returns-in_ok-script-in-Edit g c =
