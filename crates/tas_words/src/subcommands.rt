@@ -232,7 +232,7 @@ const OLD: Word = Word {
 };
 
 /// The program's commands.
-static SUBCOMMANDS: [Subcommand; 13] = [
+static SUBCOMMANDS: [Subcommand; 14] = [
     Subcommand {
         name: "trace",
         about: "Writes the first instructions of a cartridge, a line for each",
