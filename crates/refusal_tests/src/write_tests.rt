@@ -96,12 +96,11 @@ fn fail_so<T: Wait + Threads + Abort + Sync>(
 }
 
 /// Engines that write a text.
-static TEXTS: [Engine; 11] = [
+static TEXTS: [Engine; 10] = [
     Engine::Trace,
     Engine::Check,
     Engine::Migrate,
     Engine::Ram,
-    Engine::Digest,
     Engine::Compare,
     Engine::Edit,
     Engine::Diff,
@@ -117,6 +116,13 @@ fn each_write_of_a_text(rt: HostRuntime) {
     for engine in TEXTS.iter() {
         fail_each(&rt, rt.alloc(), &bytes, *engine, 7);
     }
+}
+
+/// A line or so at a time: each run plays, draws and hashes the movie anew.
+#[test]
+fn each_write_of_a_digest(rt: HostRuntime) {
+    let bytes = make_inputs(&rt, rt.alloc());
+    fail_each(&rt, rt.alloc(), &bytes, Engine::Digest, 150);
 }
 
 /// A row at a time.

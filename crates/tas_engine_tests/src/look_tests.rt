@@ -60,7 +60,7 @@ fn compared(alloc: Global, cart: &[u8], before: &[u8], after: &[u8]) -> Ran {
 }
 
 /// The lines of RAM whose first bytes alone aren't 0: a line for each row of a number and of these bytes' digits.
-fn ram_lines<R: Abort>(rt: &R, alloc: Global, rows: &[(usize, &str)]) -> Vec<u8> {
+fn ram_lines<R: Abort>(rt: &R, alloc: Global, rows: &[(usize, &'static str)]) -> Vec<u8> {
     let mut lines = Vec::new(alloc);
     for (number, digits) in rows {
         let line = expect_ok(rt, format!(in alloc; "{number} {digits:0<256}\n"));
@@ -70,7 +70,7 @@ fn ram_lines<R: Abort>(rt: &R, alloc: Global, rows: &[(usize, &str)]) -> Vec<u8>
 }
 
 /// RAM of the counting cartridge after 0 to 5 frames, of which the third and the fourth hold the stick right.
-static COUNTED: [(usize, &str); 6] = [
+static COUNTED: [(usize, &'static str); 6] = [
     (0, "0"),
     (1, "48FF"),
     (2, "8FFF"),
