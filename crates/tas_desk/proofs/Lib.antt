@@ -8,6 +8,7 @@ pub mod LockedLemmas
 pub mod PrefixLemmas
 pub mod PublishLemmas
 pub mod PublishedRule
+pub mod ReaderLemmas
 pub mod RegistryLemmas
 pub mod RunLemmas
 pub mod SeatLemmas

@@ -7,7 +7,7 @@ use Rattle.tas_green.specs.declared.savestate.Savestate.{Savestate}
 use Rattle.tas_green.specs.Run.{state_after}
 use Rattle.tas_green.specs.Zone.{state_at, nearest, first_of, where_true, is_passed}
 use Rattle.tas_green.specs.Grid.{stride}
-use Rattle.tas_green.specs.Green.{IsLawful, IsMoved, IsShotFrom}
+use Rattle.tas_green.specs.Green.{IsLawful, IsMoved, IsPlayedFrom}
 use Rattle.tas_green.proofs.MovingLemmas.{moved_same}
 use Rattle.tas_desk.specs.declared.movie_copy.MovieCopy.{MovieCopy}
 use Rattle.tas_desk.specs.declared.entry.Entry.{Entry}
@@ -32,12 +32,12 @@ pub marked : {A : Type 0} (known old new : VersionContent A) (copied : Option (M
 marked {A} known old new copied list same found is =
     is ∙ ap (λ (m : VersionContent A). version_after m copied) (sym same) ∙ found ∙ ap (λ (m : VersionContent A). version_of m.registry list) same
 
--- a shot of the movie that a zone was made for, which leaves all of its states
-pub shot_in_place : {X E : Type 0} (movie : MovieContent) (k : ℕ) (zone now : List Savestate) (meter rose : ℕ) (answer : Result X E) → IsLawful movie zone → OnOk answer (rose + nearest k zone ≡ meter + (k + 1))
-    → OnOk answer ((f : ℕ) → state_at f now ≡ first_of (state_at f zone) (where_true (is_passed (stride (length movie.inputs)) (nearest k zone) (k + 1) f) (Some (state_after movie f))))
-    → OnOk answer (IsShotFrom movie movie k zone now meter rose)
-shot_in_place movie k zone now meter rose (Ok x) lawful rise kept = record { left = zone; moved = moved_same movie zone lawful; rise = rise; kept = kept }
-shot_in_place movie k zone now meter rose (Err e) lawful rise kept = tt
+-- frames played of the movie that a zone was made for, which leaves all of its states
+pub played_in_place : {X E : Type 0} (movie : MovieContent) (near end : ℕ) (zone now : List Savestate) (meter rose : ℕ) (answer : Result X E) → IsLawful movie zone → OnOk answer (rose + nearest near zone ≡ meter + end)
+    → OnOk answer ((f : ℕ) → state_at f now ≡ first_of (state_at f zone) (where_true (is_passed (stride (length movie.inputs)) (nearest near zone) end f) (Some (state_after movie f))))
+    → OnOk answer (IsPlayedFrom movie movie near end zone now meter rose)
+played_in_place movie near end zone now meter rose (Ok x) lawful rise kept = record { left = zone; moved = moved_same movie zone lawful; rise = rise; kept = kept }
+played_in_place movie near end zone now meter rose (Err e) lawful rise kept = tt
 
 -- what such a zone gains of another one
 pub shared_in_place : {E : Type 0} (old new : MovieContent) (zone other now : List Savestate) (answer : Result ℕ E) → IsLawful old zone → new ≡ old

@@ -14,6 +14,7 @@ pub mod Readings
 pub mod Closing
 pub mod Session
 pub mod Shots
+pub mod States
 pub mod Version
 pub mod Zones
 pub mod Work

@@ -9,6 +9,8 @@ use Rattle.tas_desk.specs.declared.replies.InputError.{InputError}
 use Rattle.tas_desk.specs.declared.replies.InputError.TheVariants.{NoEntry, NoFrame}
 use Rattle.tas_desk.specs.declared.replies.ShotError.{ShotError}
 use Rattle.tas_desk.specs.declared.replies.ShotError.TheVariants.{NoEntry as NoShotEntry, NoFrame as NoShotFrame, Memory as NoShotMemory, Halted as ShotHalted}
+use Rattle.tas_desk.specs.declared.replies.StateError.{StateError}
+use Rattle.tas_desk.specs.declared.replies.StateError.TheVariants.{NoEntry as NoStateEntry, NoFrame as FewFrames, Memory as NoStateMemory}
 use Rattle.tas_desk.specs.History.{movie_of}
 use Rattle.tas_desk.specs.Answers.{answer_input}
 use Rattle.tas_desk.specs.Version.{VersionContent, version_of}
@@ -26,8 +28,15 @@ FoundInput v w k (Ok found) = HasSeenMore v w × (found.0 ≡ length w.seen) × 
 FoundInput v w k (Err (NoFrame at len)) = HasSeenMore v w × (at ≡ length w.seen) × (len ≡ length (movie_of w.seen).inputs) × (len ≤ k)
 FoundInput v w k (Err NoEntry) = w ≡ v
 
--- what a look at the published movie brings to the one who knows this history: a copy of the movie where another history is
--- published, of the same registry
+-- what a look at a published movie of so many frames or more brings to the one who knows this history: a copy of the movie where another
+-- history is published, of the same registry
+abbrev pub FoundMovie : {A : Type 0} → ReaderView A → ReaderView A → VersionContent A → ℕ → Result (ℕ × Option (MovieCopy A)) StateError → Type 0
+FoundMovie v w known frames (Ok found) = HasSeenMore v w × (found.0 ≡ length w.seen) × (frames ≤ length (movie_of w.seen).inputs) × (version_after known found.1 ≡ version_of known.registry w.seen) × (frames ≤ most_inputs)
+FoundMovie v w known frames (Err NoStateEntry) = w ≡ v
+FoundMovie v w known frames (Err (FewFrames at len)) = HasSeenMore v w × (at ≡ length w.seen) × (len ≡ length (movie_of w.seen).inputs) × (len < frames)
+FoundMovie v w known frames (Err NoStateMemory) = HasSeenMore v w × (frames ≤ length (movie_of w.seen).inputs) × (frames ≤ most_inputs)
+
+-- the same of a movie that has a frame k
 abbrev pub FoundCopy : {A : Type 0} → ReaderView A → ReaderView A → VersionContent A → ℕ → Result (ℕ × Option (MovieCopy A)) ShotError → Type 0
 FoundCopy v w known k (Ok found) = HasSeenMore v w × (found.0 ≡ length w.seen) × (k < length (movie_of w.seen).inputs) × (version_after known found.1 ≡ version_of known.registry w.seen) × (k < most_inputs)
 FoundCopy v w known k (Err NoShotEntry) = w ≡ v

@@ -12,6 +12,7 @@ ghost use Rattle.tas_desk.specs.declared.replies.OpenError.TheVariants.{Memory a
 ghost use Rattle.tas_desk.specs.Answers.{answer_len};
 ghost use Rattle.tas_desk.specs.History.{movie_of, IsLegal};
 ghost use Rattle.tas_desk.specs.Shots.{IsShotAt};
+ghost use Rattle.tas_desk.specs.States.{IsStateAt, IsZoneReached};
 ghost use Rattle.tas_desk.specs.Zones.{IsShared, IsShort, blank_zone};
 ghost use Rattle.tas_green.specs.Grid.{most_states};
 ghost use Rattle.tas_desk.specs.Closing.{made_by};
@@ -22,8 +23,8 @@ use crate::desk_lock::DeskLock;
 use crate::locked_session::{CloseOnDrop, LockedSession};
 use crate::seating::new_seats;
 use crate::{
-    Closed, EditError, InputError, Name, NoEntry, OfferError, Offered, OpenError, Receipt, Seat,
-    Session, Shot, ShotError,
+    Closed, EditError, InputError, Name, NoEntry, OfferError, Offered, OpenError, Reached, Receipt,
+    Seat, Session, Shot, ShotError, StateError,
 };
 use std::alloc::{AllocError, Allocator, Global};
 use std::marker::Model;
@@ -221,6 +222,19 @@ impl<N: Name, W: CloseOnDrop, A: Allocator + Copy> Desk<N, W, A> {
         ensures short { IfOk result (λ shot. IsShort seat.old.zone seat.new.zone k shot.ran) }
     {
         seat.shot(alloc, k)
+    }
+
+    /// The machine after the movie's first `k` frames, halted or not: 0 to the movie's length. It takes no lock. The frames are
+    /// played from the nearest state of the seat's own zone at `k` or before it, once the zone is cut as a shot cuts it; it
+    /// gains the states on the way that stand on the grid.
+    ///
+    /// `NoEntry` leaves the seat as it was, `NoFrame` and `Memory` its zone.
+    pub fn state(&self, seat: &mut Seat<N, A>, k: usize) -> Result<Reached, StateError>
+        ensures seat { HasSeen seat.old seat.new }
+        ensures reply { IsStateAt seat.new.front k result }
+        ensures zone { IsZoneReached seat.old seat.new k result }
+    {
+        seat.state(k)
     }
 
     /// Lets the seat's zone gain the desk's kept states, once it is cut for the movie as a shot cuts it, and answers how many it

@@ -42,7 +42,8 @@ pub use name::Name;
 pub use pixmaps::HaltedFrame;
 pub use publisher::Closed;
 pub use replies::{
-    EditError, InputError, NoEntry, OfferError, Offered, OpenError, Receipt, Shot, ShotError,
+    EditError, InputError, NoEntry, OfferError, Offered, OpenError, Reached, Receipt, Shot,
+    ShotError, StateError,
 };
 pub use seat::Seat;
 pub use session::{MAX_EDITS, Session};

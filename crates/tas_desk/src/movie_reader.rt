@@ -1,16 +1,16 @@
 //! What a seat sees of the published movie, without the lock. These calls wait for nobody.
 
-ghost use Rattle.std.specs.Prelude.{◌≡◌, ◌<◌};
+ghost use Rattle.std.specs.Prelude.{◌≡◌};
 ghost use Rattle.left_right.specs.Sides.{view};
 ghost use Rattle.tas_desk.specs.Published.{KnowsRegistry};
-ghost use Rattle.tas_desk.specs.Readings.{FoundLen, FoundInput, FoundCopy};
+ghost use Rattle.tas_desk.specs.Readings.{FoundLen, FoundInput, FoundMovie, FoundCopy};
 
 use crate::movie_copy::MovieCopy;
 use crate::published::{Look, PrefixRule, PublishedMovie};
 use crate::publisher::RuledReader;
 use crate::reader_view::ReaderView;
 use crate::version::{Version, VersionRule};
-use crate::{Entry, InputError, NoEntry, ShotError};
+use crate::{Entry, InputError, NoEntry, ShotError, StateError};
 use core::mem::replace_with;
 use crossbeam_utils::rule::Protocol;
 use logbook::Rule;
@@ -94,16 +94,33 @@ impl<A: Allocator + Copy> MovieReader<A> {
         requires { KnowsRegistry self.old known.now.registry }
         ensures { FoundCopy self.old self.new known.now k result }
     {
+        // No movie is as long as the greatest number.
+        match self.copy_of(alloc, known, k.saturating_add(1)) {
+            Ok(found) => Ok(found),
+            Err(error) => Err(ShotError::from(error)),
+        }
+    }
+
+    /// The same of a movie with so many frames or more.
+    pub(crate) fn copy_of(
+        &mut self,
+        alloc: A,
+        known: &Version<A>,
+        frames: usize,
+    ) -> Result<(u64, Option<MovieCopy<A>>), StateError>
+        requires { KnowsRegistry self.old known.now.registry }
+        ensures { FoundMovie self.old self.new known.now frames result }
+    {
         replace_with(
             &mut self.ruled,
             (),
             |reader: RuledReader<A>, _none: ()| -> (
                 RuledReader<A>,
-                Result<(u64, Option<MovieCopy<A>>), ShotError>,
+                Result<(u64, Option<MovieCopy<A>>), StateError>,
             )
                 requires { KnowsRegistry (view reader.place) known.now.registry }
-                ensures { FoundCopy (view reader.place) (view result.0.place) known.entry.now k result.1 }
-            { look_copy(reader, alloc, known, k) },
+                ensures { FoundMovie (view reader.place) (view result.0.place) known.entry.now frames result.1 }
+            { look_copy(reader, alloc, known, frames) },
         )
     }
 }
@@ -143,31 +160,31 @@ fn look_input<A: Allocator>(
     }
 }
 
-/// Copies the movie, where it has a frame `k` and its history isn't the known one.
+/// Copies the movie, where it has so many frames or more and its history isn't the known one.
 fn look_copy<A: Allocator + Copy>(
     reader: RuledReader<A>,
     alloc: A,
     known: &Version<A>,
-    k: usize,
+    frames: usize,
 ) -> (
     RuledReader<A>,
-    Result<(u64, Option<MovieCopy<A>>), ShotError>,
+    Result<(u64, Option<MovieCopy<A>>), StateError>,
 )
     requires { KnowsRegistry (view reader.place) known.now.registry }
-    ensures { FoundCopy (view reader.place) (view result.0.place) known.now k result.1 }
+    ensures { FoundMovie (view reader.place) (view result.0.place) known.now frames result.1 }
 {
     match reader.enter_as::<Look>() {
         Ok(reading) => {
             let published = reading.get();
             let (at, len) = (published.at(), published.movie().len());
-            if k >= len {
-                return (reading.leave(), Err(ShotError::NoFrame { at, len }));
+            if frames > len {
+                return (reading.leave(), Err(StateError::NoFrame { at, len }));
             }
             if known.is_same(published.version()) {
                 return (reading.leave(), Ok((at, None)));
             }
             let Ok(movie) = published.movie().copy(alloc) else {
-                return (reading.leave(), Err(ShotError::Memory));
+                return (reading.leave(), Err(StateError::Memory));
             };
             let version = published.version().copy();
             (
@@ -175,6 +192,6 @@ fn look_copy<A: Allocator + Copy>(
                 Ok((at, Some(MovieCopy { movie, version }))),
             )
         }
-        Err(reader) => (reader, Err(ShotError::NoEntry)),
+        Err(reader) => (reader, Err(StateError::NoEntry)),
     }
 }

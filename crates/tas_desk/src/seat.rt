@@ -7,13 +7,14 @@ ghost use Rattle.tas_desk.specs.Shots.{IsShotAt};
 ghost use Rattle.tas_desk.specs.Answers.{answer_len};
 ghost use Rattle.tas_desk.specs.History.{movie_of};
 ghost use Rattle.tas_desk.specs.Published.{KnowsRegistry};
+ghost use Rattle.tas_desk.specs.States.{IsStateAt, IsZoneReached};
 ghost use Rattle.tas_desk.specs.Zones.{IsShort};
 ghost use Rattle.tas_desk.specs.Seats.{seat_of, HasSeen, KeepsZone, IsInput, IsZoneShot};
 
 use crate::movie_reader::MovieReader;
 use crate::replies::shown;
 use crate::seat_zone::SeatZone;
-use crate::{InputError, Name, NoEntry, Shot, ShotError};
+use crate::{InputError, Name, NoEntry, Reached, Shot, ShotError, StateError};
 use std::alloc::{Allocator, Global};
 use std::marker::Model;
 use std::sync::ledger::Share;
@@ -129,5 +130,25 @@ impl<N: Name, A: Allocator + Copy> Seat<N, A> {
             return Err(ShotError::Memory);
         };
         shown(at, k, meter.count(), picture, end)
+    }
+
+    /// The machine after `k` frames, from the seat's own zone.
+    pub(crate) fn state(&mut self, k: usize) -> Result<Reached, StateError>
+        ensures seat { HasSeen self.old self.new }
+        ensures reply { IsStateAt self.new.front k result }
+        ensures zone { IsZoneReached self.old self.new k result }
+    {
+        let (at, copied) = self
+            .reader
+            .copy_of(self.zone.allocator(), self.zone.version(), k)?;
+        let mut meter = Meter::new();
+        let Ok(state) = self.zone.reach(copied, k, &mut meter) else {
+            return Err(StateError::Memory);
+        };
+        Ok(Reached {
+            at,
+            ran: meter.count(),
+            state,
+        })
     }
 }

@@ -3,7 +3,7 @@
 ghost use Rattle.std.specs.Prelude.{◌≡◌, ◌+◌, ◌<◌, ◌≤◌, ◌^◌, [], length, is_some, Some, IfOk, OnOk, OnErr};
 ghost use Rattle.tas_green.specs.Grid.{most_states};
 ghost use Rattle.tas_green.specs.Run.{state_after, picture_of, answer_of};
-ghost use Rattle.tas_green.specs.Green.{IsLawful, IsMoved, IsShotFrom};
+ghost use Rattle.tas_green.specs.Green.{IsLawful, IsMoved, IsShotFrom, IsReachedFrom};
 ghost use Rattle.tas_green.specs.Zone.{state_at};
 ghost use Rattle.tas_desk.specs.History.{movie_of};
 ghost use Rattle.tas_desk.specs.Zones.{Shares, version_after, blank_zone};
@@ -18,7 +18,7 @@ use std::marker::Model;
 use tas_green::Green;
 use tas_movie::Movie;
 use vcs_cpu::Halt;
-use vcs_machine::Meter;
+use vcs_machine::{Meter, State};
 use vcs_tia::Picture;
 
 /// A greenzone with the movie that it was made for. The type keeps that it is lawful for this movie, and that the movie is
@@ -130,6 +130,36 @@ impl<A: Allocator + Copy> SeatZone<A> {
                     .shot_from(&old.movie, &new.movie, k, picture, meter)?;
                 self.made_for = copied;
                 Ok(answer)
+            }
+        }
+    }
+
+    /// The state after `k` frames of the movie that was copied, or of the zone's own where none was: the zone is cut for it, the
+    /// frames are played from the nearest state that is left, and the zone is that movie's from then on. After `AllocError`
+    /// nothing is changed.
+    pub fn reach(
+        &mut self,
+        copied: Option<MovieCopy<A>>,
+        k: usize,
+        meter: &mut Meter,
+    ) -> Result<State, AllocError>
+        requires within { k ≤ length (movie_of (version_after self.old.made_for copied).history).inputs }
+        requires room { meter.old + k < 2 ^ 64 }
+        ensures state { IfOk result (λ state. state ≡ state_after self.new.movie k) }
+        ensures made_for { OnOk result (self.new.made_for ≡ version_after self.old.made_for copied) }
+        ensures movie { OnOk result (self.new.movie ≡ movie_of self.new.made_for.history) }
+        ensures kept { OnOk result (IsReachedFrom self.old.movie self.new.movie k self.old.states self.new.states meter.old meter.new) }
+        ensures lawful { OnOk result (IsLawful self.new.movie self.new.states) }
+        ensures memory { OnErr result ((self.new ≡ self.old) × (meter.new ≡ meter.old)) }
+    {
+        let old = &self.made_for;
+        match copied {
+            None => self.green.reach(&old.movie, k, meter),
+            Some(copied) => {
+                let new = &copied;
+                let state = self.green.reach_from(&old.movie, &new.movie, k, meter)?;
+                self.made_for = copied;
+                Ok(state)
             }
         }
     }

@@ -1,6 +1,9 @@
 -- The answers for which a script has no reply (own).
 use Rattle.std.specs.Prelude.{ℕ, List, ◌∷◌, ◌++◌, length, codes, decimal}
 use Rattle.std.specs.List.{flat_map}
+use Rattle.hex.specs.Hex.{encode_lower}
+use Rattle.sha2.specs.Sha256.{sha256}
+use Rattle.vcs_cpu.specs.Lines.{hex_byte}
 
 -- the answer to a line that isn't understood
 abbrev pub unknown_text : List ℕ
@@ -21,3 +24,12 @@ frame_word frame = 32 ∷ decimal frame
 -- the frames of kept states: how many they are, and each
 abbrev pub states_text : ℕ → List ℕ → List ℕ
 states_text made frames = codes "states " ++ decimal made ++ codes " " ++ decimal (length frames) ++ flat_map frame_word frames ++ codes "\n"
+
+-- RAM after so many frames: each byte as two upper case hexadecimal digits
+abbrev pub ram_text : ℕ → ℕ → List ℕ → List ℕ
+ram_text made frames ram = codes "ram " ++ decimal made ++ codes " " ++ decimal frames ++ codes " " ++ flat_map hex_byte ram ++ codes "\n"
+
+-- the SHA-256 of RAM after a frame, and that of the frame's pixmap: each as 64 lower case hexadecimal digits
+abbrev pub frame_digest_text : ℕ → ℕ → List ℕ → List ℕ → List ℕ
+frame_digest_text made k ram pixmap =
+    codes "digest " ++ decimal made ++ codes " " ++ decimal k ++ codes " ram " ++ encode_lower (sha256 ram) ++ codes " picture " ++ encode_lower (sha256 pixmap) ++ codes "\n"

@@ -2,12 +2,14 @@
 use Rattle.std.specs.Prelude.{◌≡◌, ℕ, ◌≤◌, List, ◌++◌, length, codes, decimal, Option, Some, None}
 use Rattle.tas_language.specs.Commands.{Says, IsNumber}
 use Rattle.tas_language.specs.declared.request.Request.{Request}
-use Rattle.tas_language.specs.declared.request.Request.TheVariants.{Do, Picture, Movie, States, Quit}
+use Rattle.tas_language.specs.declared.request.Request.TheVariants.{Do, Picture, Ram, Digest, Movie, States, Quit}
 
 -- the line, without its newline, is this request: a script's command, or one that a script doesn't have
 abbrev pub Asks : List ℕ → Request → Type 0
 Asks said (Do command) = Says said command
 Asks said (Picture frame) = (said ≡ codes "picture " ++ decimal frame) × IsNumber frame
+Asks said (Ram frames) = (said ≡ codes "ram " ++ decimal frames) × IsNumber frames
+Asks said (Digest frame) = (said ≡ codes "digest " ++ decimal frame) × IsNumber frame
 Asks said Movie = said ≡ codes "movie"
 Asks said States = said ≡ codes "states"
 Asks said Quit = said ≡ codes "quit"

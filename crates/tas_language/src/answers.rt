@@ -13,7 +13,7 @@ use vcs_tia::{PIXMAP_SIZE, Picture, ppm};
 
 /// Appends the pixmap of a picture. Room for it is made first, so that a write of [`ppm`] asks for no more memory; no clause of a
 /// writer says so.
-fn push_pixmap<A: Allocator, B: Allocator>(
+pub fn push_pixmap<A: Allocator, B: Allocator>(
     bytes: &mut Vec<u8, A>,
     picture: &Picture<B>,
 ) -> Result<(), AllocError>

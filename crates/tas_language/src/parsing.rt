@@ -1,6 +1,6 @@
 //! Parsing a line.
 
-ghost use Rattle.std.specs.Prelude.{◌≡◌, ◌≢◌, ◌++◌, ℕ, codes, decimal, IfSome, IfNone};
+ghost use Rattle.std.specs.Prelude.{◌≡◌, ◌≢◌, ◌++◌, ℕ, decimal, IfSome, IfNone};
 ghost use Rattle.tas_language.specs.declared.command.Command.{Command as Asked};
 ghost use Rattle.tas_language.specs.Commands.{IsNumber, Says};
 ghost use Rattle.tas_language.specs.declared.request.Request.{Request as AskedFor};
@@ -51,12 +51,13 @@ pub fn parse_line(line: &[u8]) -> Option<Command>
     Some(Command::Work { frame })
 }
 
-/// The frame of a `picture` line.
-fn picture_frame(line: &[u8]) -> Option<usize>
-    ensures some { IfSome result (λ frame. (line.now ≡ codes "picture " ++ decimal frame) × IsNumber frame) }
-    ensures none { IfNone result ((frame : ℕ) → IsNumber frame → line.now ≢ codes "picture " ++ decimal frame) }
+/// The number at the end of a line that begins so.
+fn numbered(line: &[u8], front: &[u8]) -> Option<usize>
+    ensures some { IfSome result (λ n. (line.now ≡ front.now ++ decimal n) × IsNumber n) }
+    ensures none { IfNone result ((n : ℕ) → IsNumber n → line.now ≢ front.now ++ decimal n) }
 {
-    number(strip(line, b"picture ")?)
+    let rest = strip(line, front)?;
+    number(rest)
 }
 
 /// What a line of any length, without its newline, asks for; nothing where it isn't understood (own). Takes no memory.
@@ -73,8 +74,14 @@ pub fn parse_request(line: &[u8]) -> Option<Request>
     if line == b"quit".as_slice() {
         return Some(Request::Quit);
     }
-    if let Some(frame) = picture_frame(line) {
+    if let Some(frame) = numbered(line, b"picture ") {
         return Some(Request::Picture { frame });
+    }
+    if let Some(frames) = numbered(line, b"ram ") {
+        return Some(Request::Ram { frames });
+    }
+    if let Some(frame) = numbered(line, b"digest ") {
+        return Some(Request::Digest { frame });
     }
     parse_line(line).map(Request::Do)
 }

@@ -12,6 +12,16 @@ pub enum Request {
         /// The frame, counted from 0.
         frame: usize,
     },
+    /// `ram K`: RAM after so many frames.
+    Ram {
+        /// The number of frames from power-on.
+        frames: usize,
+    },
+    /// `digest K`: the digests of RAM after one frame and of its pixmap.
+    Digest {
+        /// The frame, counted from 0.
+        frame: usize,
+    },
     /// `movie`: the movie's text.
     Movie,
     /// `states`: the frames of the kept states.

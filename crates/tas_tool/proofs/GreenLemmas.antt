@@ -32,14 +32,14 @@ edited_zone {A} before now edit (Err error) is = ap (λ (s : SeatContent A). s.z
 pub rests : {A : Type 0} (before now : SeatContent A) → now.zone ≡ before.zone → Rests (talk_state_of before) (talk_state_of now)
 rests {A} before now same = record { kept_for = ap (λ (z : ZoneContent A). z.movie) same; states = ap (λ (z : ZoneContent A). z.states) same }
 
-talk_state_stays : {A : Type 0} (mid now : SeatContent A) → BeginsWithOwn mid → HasSeen mid now → now.zone ≡ mid.zone → talk_state_of now ≡ talk_state_of mid
+pub talk_state_stays : {A : Type 0} (mid now : SeatContent A) → BeginsWithOwn mid → HasSeen mid now → now.zone ≡ mid.zone → talk_state_of now ≡ talk_state_of mid
 talk_state_stays {A} mid now own more same =
     ap (λ (f : OwnEdits). let x : TalkState = record { own = f; kept_for = now.zone.movie; states = now.zone.states } in x) (own_edits_stay mid now own more)
     ∙ ap (λ (z : ZoneContent A). let x : TalkState = record { own = own_edits_of mid; kept_for = z.movie; states = z.states } in x) same
 
 -- ---- a greenzone of the seat's own movie
 
-green_at : {A : Type 0} (mid now : SeatContent A) → BeginsWithOwn mid → HasSeen mid now → now.zone ≡ mid.zone → length mid.front ≡ mid.made → IsMadeFor mid.zone mid.front → IsGreen (talk_state_of now)
+pub green_at : {A : Type 0} (mid now : SeatContent A) → BeginsWithOwn mid → HasSeen mid now → now.zone ≡ mid.zone → length mid.front ≡ mid.made → IsMadeFor mid.zone mid.front → IsGreen (talk_state_of now)
 green_at {A} mid now own more same at made = record {
   kept_for = ap (λ (z : ZoneContent A). z.movie) same ∙ made.movie ∙ own_movie mid mid own (seen_self mid) at ∙ sym (ap (λ (f : OwnEdits). f.movie) (own_edits_stay mid now own more));
   lawful = subst (λ (z : ZoneContent A). IsLawful z.movie z.states) (sym same) made.lawful;

@@ -8,5 +8,6 @@ pub mod FilmLemmas
 pub mod MovieScriptLemmas
 pub mod GreenLemmas
 pub mod TellingLemmas
+pub mod StateLemmas
 pub mod TalkLemmas
 pub mod TalkRunLemmas

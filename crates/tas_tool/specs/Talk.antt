@@ -1,5 +1,5 @@
 -- Conversations: each line is answered at what the lines before it made (own).
-use Rattle.std.specs.Prelude.{◌≡◌, ℕ, ◌<◌, ◌≤◌, min, List, [], ◌∷◌, ◌++◌, length, filter, is_some, Bool, true, false, if◌then◌else◌, Option, Some, None, Result, Ok, Err, ◌⊎◌}
+use Rattle.std.specs.Prelude.{◌≡◌, ℕ, ◌+◌, ◌<◌, ◌≤◌, nat_le, min, List, [], ◌∷◌, ◌++◌, length, filter, is_some, Bool, true, false, if◌then◌else◌, Option, Some, None, Result, Ok, Err, ◌⊎◌}
 use Rattle.std.specs.List.{flat_map, range_with_len}
 use Rattle.std.specs.Io.KnownBytes.{Appends, Consumes, IsAtEnd, Keeps}
 use Rattle.counted_write.specs.CutOff.{IsCutOff}
@@ -9,7 +9,8 @@ use Rattle.vcs_machine.specs.Cart.{is_cart_size}
 use Rattle.tas_movie.specs.Content.{MovieContent, blank_movie}
 use Rattle.tas_movie.specs.Text.{line, text2}
 use Rattle.tas_green.specs.declared.savestate.Savestate.{Savestate}
-use Rattle.tas_green.specs.Green.{IsLawful, IsShotFrom}
+use Rattle.tas_green.specs.Green.{IsLawful, IsShotFrom, IsReachedFrom}
+use Rattle.tas_green.specs.Run.{state_after}
 use Rattle.tas_green.specs.Zone.{state_at}
 use Rattle.tas_desk.specs.Answers.{answer_shot}
 use Rattle.tas_desk.specs.Zones.{Shares}
@@ -28,9 +29,9 @@ use Rattle.tas_language.specs.declared.reply.Reply.TheVariants.{NoFrame, Drawn, 
 use Rattle.tas_language.specs.Commands.{NoByte}
 use Rattle.tas_language.specs.Replies.{reply_text}
 use Rattle.tas_language.specs.declared.request.Request.{Request}
-use Rattle.tas_language.specs.declared.request.Request.TheVariants.{Do, Picture, Movie, States, Quit}
+use Rattle.tas_language.specs.declared.request.Request.TheVariants.{Do, Picture, Ram, Digest, Movie, States, Quit}
 use Rattle.tas_language.specs.Requests.{IsHeard}
-use Rattle.tas_language.specs.Answers.{unknown_text, picture_text, movie_text, states_text}
+use Rattle.tas_language.specs.Answers.{unknown_text, picture_text, ram_text, frame_digest_text, movie_text, states_text}
 use Rattle.tas_tool.specs.Turns.{OwnEdits, halted_reply, IsTurn}
 use Rattle.tas_tool.specs.Scripts.{own_edits_at_start}
 use Rattle.tas_tool.specs.MovieScripts.{own_edits_of_movie}
@@ -59,6 +60,12 @@ pub record Plays (old new : TalkState) (k ran : ℕ) : Type 0 where
   pub green : IsGreen new
   pub shot : IsShotFrom old.kept_for new.kept_for k old.states new.states 0 ran
 
+-- the state after k frames was reached: the greenzone was cut for the movie, `ran` frames were played from the nearest state that was left, and the
+-- states on the way that stand on the grid are kept, too
+pub record Reaches (old new : TalkState) (k ran : ℕ) : Type 0 where
+  pub green : IsGreen new
+  pub reach : IsReachedFrom old.kept_for new.kept_for k old.states new.states 0 ran
+
 -- the greenzone was cut for the movie, and then gained so many other states of it
 pub record Gains (old new : TalkState) : Type 0 where
   pub green : IsGreen new
@@ -71,6 +78,11 @@ pub record Gains (old new : TalkState) : Type 0 where
 abbrev pub PlaysUnless : Bool → TalkState → TalkState → ℕ → Type 0
 PlaysUnless true old new k = Rests old new ⊎ ((ran : ℕ) × Plays old new k ran)
 PlaysUnless false old new k = (ran : ℕ) × Plays old new k ran
+
+-- the state after k frames was reached; where memory was refused, the greenzone may be as it was
+abbrev pub ReachesUnless : Bool → TalkState → TalkState → ℕ → Type 0
+ReachesUnless true old new k = Rests old new ⊎ ((ran : ℕ) × Reaches old new k ran)
+ReachesUnless false old new k = (ran : ℕ) × Reaches old new k ran
 
 -- the greenzone was brought; where memory was refused, it may be as it was
 abbrev pub GainsUnless : Bool → TalkState → TalkState → Type 0
@@ -99,6 +111,11 @@ abbrev pub PictureLeaves : Bool → TalkState → TalkState → ℕ → Option (
 PictureLeaves no_memory old new k None = Rests old new
 PictureLeaves no_memory old new k (Some shown) = PlaysUnless no_memory old new k
 
+-- what `ram K` and `digest K` leave of it, where the movie has the frame or hasn't
+abbrev pub LookLeaves : {X : Type 0} → Bool → TalkState → TalkState → ℕ → Option X → Type 0
+LookLeaves no_memory old new k None = Rests old new
+LookLeaves no_memory old new k (Some found) = ReachesUnless no_memory old new k
+
 -- ---- the answer to one line
 
 abbrev pub shown_answer : ℕ → ℕ → Result (List ℕ) Halt → List ℕ
@@ -109,6 +126,24 @@ shown_answer made k (Err halt) = reply_text (halted_reply made halt)
 abbrev pub picture_of_own : Bool → OwnEdits → ℕ → Option (Result (List ℕ) Halt) → List ℕ
 picture_of_own no_memory own k None = reply_text (NoFrame own.made (length own.movie.inputs))
 picture_of_own no_memory own k (Some shown) = if no_memory then reply_text OutOfMemory else shown_answer own.made k shown
+
+-- RAM after a movie's first k frames, halted or not, where it has so many
+abbrev pub answer_ram : MovieContent → ℕ → Option (List ℕ)
+answer_ram movie k = if nat_le k (length movie.inputs) then Some (state_after movie k).riot.ram else None
+
+-- the answer to `ram K`
+abbrev pub ram_of_own : Bool → OwnEdits → ℕ → Option (List ℕ) → List ℕ
+ram_of_own no_memory own k None = reply_text (NoFrame own.made (length own.movie.inputs))
+ram_of_own no_memory own k (Some ram) = if no_memory then reply_text OutOfMemory else ram_text own.made k ram
+
+abbrev pub digest_answer : OwnEdits → ℕ → Result (List ℕ) Halt → List ℕ
+digest_answer own k (Ok picture) = frame_digest_text own.made k (state_after own.movie (k + 1)).riot.ram (ppm_bytes picture)
+digest_answer own k (Err halt) = reply_text (halted_reply own.made halt)
+
+-- the answer to `digest K`: the digests of RAM after frame K and of its pixmap; else what `shot K` is told
+abbrev pub digest_of_own : Bool → OwnEdits → ℕ → Option (Result (List ℕ) Halt) → List ℕ
+digest_of_own no_memory own k None = reply_text (NoFrame own.made (length own.movie.inputs))
+digest_of_own no_memory own k (Some shown) = if no_memory then reply_text OutOfMemory else digest_answer own k shown
 
 -- the answer to `movie`
 abbrev pub text_of_own : Bool → OwnEdits → List ℕ
@@ -128,6 +163,10 @@ abbrev pub IsAnswerTo : TalkState → Request → List ℕ → TalkState → Typ
 IsAnswerTo state (Do command) answer next = (reply : Reply) × IsTurn state.own command reply next.own × (answer ≡ reply_text reply) × CommandLeaves state next command reply
 IsAnswerTo state (Picture k) answer next =
     (no_memory : Bool) × (answer ≡ picture_of_own no_memory state.own k (answer_shot state.own.movie k)) × (next.own ≡ state.own) × PictureLeaves no_memory state next k (answer_shot state.own.movie k)
+IsAnswerTo state (Ram k) answer next =
+    (no_memory : Bool) × (answer ≡ ram_of_own no_memory state.own k (answer_ram state.own.movie k)) × (next.own ≡ state.own) × LookLeaves no_memory state next k (answer_ram state.own.movie k)
+IsAnswerTo state (Digest k) answer next =
+    (no_memory : Bool) × (answer ≡ digest_of_own no_memory state.own k (answer_shot state.own.movie k)) × (next.own ≡ state.own) × LookLeaves no_memory state next k (answer_shot state.own.movie k)
 IsAnswerTo state Movie answer next = (no_memory : Bool) × (answer ≡ text_of_own no_memory state.own) × (next.own ≡ state.own) × GainsUnless no_memory state next
 IsAnswerTo state States answer next = (no_memory : Bool) × (answer ≡ states_of_own no_memory state.own next.states) × (next.own ≡ state.own) × GainsUnless no_memory state next
 IsAnswerTo state Quit answer next = ⊥

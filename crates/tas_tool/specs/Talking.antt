@@ -4,7 +4,11 @@ use Rattle.std.specs.Io.KnownBytes.{Appends}
 use Rattle.counted_write.specs.CutOff.{IsCutOff}
 use Rattle.tas_movie.specs.Content.{MovieContent}
 use Rattle.tas_movie.specs.Text.{line}
+use Rattle.vcs_machine.specs.declared.state.State.{State}
+use Rattle.vcs_tia.specs.Image.{ppm_bytes}
 use Rattle.tas_green.specs.Green.{IsLawful}
+use Rattle.tas_green.specs.Run.{state_after, picture_of}
+use Rattle.tas_desk.specs.Answers.{answer_shot}
 use Rattle.tas_desk.specs.declared.replies.ShotError.{ShotError}
 use Rattle.tas_desk.specs.declared.replies.ShotError.TheVariants.{NoEntry as NoShotEntry, NoFrame as NoShotFrame, Memory as NoShotMemory, Halted as ShotHalted}
 use Rattle.tas_desk.specs.Seats.{SeatContent}
@@ -20,10 +24,11 @@ use Rattle.tas_language.specs.Commands.{NoByte}
 use Rattle.tas_language.specs.declared.request.Request.{Request}
 use Rattle.tas_language.specs.declared.request.Request.TheVariants.{Quit}
 use Rattle.tas_language.specs.Requests.{IsHeard}
+use Rattle.tas_language.specs.Answers.{frame_digest_text}
 use Rattle.tas_language.specs.Held.{HoldsLine}
 use Rattle.tas_tool.specs.declared.talking.Progress.{Progress}
 use Rattle.tas_tool.specs.Turns.{own_edits_of, halted_reply, BeginsWithOwn, HasForeign}
-use Rattle.tas_tool.specs.Talk.{TalkState, Gains, ShotLeaves, Exchange, AreExchanges, IsAnswerTo, IsFirstAnswer, IsQuit, IsTalk, lines_of, answers_of, most_counted, talk_state_from}
+use Rattle.tas_tool.specs.Talk.{TalkState, Reaches, Gains, ShotLeaves, Exchange, AreExchanges, IsAnswerTo, IsFirstAnswer, IsQuit, IsTalk, lines_of, answers_of, most_counted, talk_state_from}
 
 -- what a seat's own edits made, and its greenzone
 abbrev pub talk_state_of : {A : Type 0} → SeatContent A → TalkState
@@ -60,6 +65,17 @@ pub record IsBrought {A : Type 0} (before now : SeatContent A) (len : ℕ) : Typ
   pub movie : now.zone.movie ≡ (own_edits_of before).movie
   pub lawful : IsLawful now.zone.movie now.zone.states
   pub gains : Gains (talk_state_of before) (talk_state_of now)
+
+-- the machine after k frames of the seat's own movie was reached, and its greenzone is that movie's
+pub record IsReachedOwn {A : Type 0} (before now : SeatContent A) (k : ℕ) (state : State) : Type 0 where
+  pub state_is : state ≡ state_after (own_edits_of before).movie k
+  pub movie : now.zone.movie ≡ (own_edits_of before).movie
+  pub reaches : (ran : ℕ) × Reaches (talk_state_of before) (talk_state_of now) k ran
+
+-- frame k of a movie is drawn, and this text answers `digest k` at so many edits
+pub record IsDigested (made : ℕ) (movie : MovieContent) (k : ℕ) (text : List ℕ) : Type 0 where
+  pub drawn : answer_shot movie k ≡ Some (Ok (picture_of movie k))
+  pub text_is : text ≡ frame_digest_text made k (state_after movie (k + 1)).riot.ram (ppm_bytes (picture_of movie k))
 
 -- a request is answered at just the seat's own edits, which are its first ones still
 pub record IsToldTo {A : Type 0} (before now : SeatContent A) (request : Request) (bytes : List ℕ) (made : ℕ) : Type 0 where

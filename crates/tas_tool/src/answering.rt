@@ -218,7 +218,7 @@ fn show_input<N: Name, W: CloseOnDrop, A: Allocator>(
 }
 
 /// The reply that tells a halt, at so many edits.
-fn halted_reply(at: u64, halt: Halt) -> Reply
+pub fn halted_reply(at: u64, halt: Halt) -> Reply
     ensures { result ≡ halted_reply at halt }
 {
     let Halt::Undocumented {

@@ -10,6 +10,7 @@
 mod answering;
 mod exporting;
 mod filming;
+mod looks;
 mod making;
 mod movie_scripting;
 mod opening;

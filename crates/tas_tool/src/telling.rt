@@ -13,6 +13,7 @@ ghost use Rattle.tas_tool.specs.Talk.{kept_frames};
 ghost use Rattle.tas_tool.specs.Talking.{IsBrought, IsTalkFault, IsToldTo};
 
 use crate::answering::{answer_command, checked, own_len, unshown};
+use crate::looks::{tell_digest, tell_ram};
 use std::alloc::{AllocError, Allocator};
 use std::sync::Wait;
 use tas_desk::{CloseOnDrop, Desk, Name, Seat};
@@ -32,7 +33,7 @@ pub struct Told<A: Allocator> {
 }
 
 /// A script's reply as an answer.
-fn told_reply<A: Allocator>(alloc: A, reply: Reply, made: u64) -> Result<Told<A>, RunFault>
+pub fn told_reply<A: Allocator>(alloc: A, reply: Reply, made: u64) -> Result<Told<A>, RunFault>
     ensures { MatchResult result (λ told. (told.bytes.items ≡ reply_text reply) × (told.made ≡ made)) (λ fault. fault ≡ Memory) }
 {
     let bytes = reply_line(alloc, reply)?;
@@ -207,6 +208,8 @@ pub fn answer_request<N: Name, W: CloseOnDrop, A: Allocator + Copy, R: Wait>(
     match request {
         Request::Do(command) => Ok(Some(tell_command(rt, alloc, desk, seat, made, command)?)),
         Request::Picture { frame } => Ok(Some(tell_picture(alloc, desk, seat, made, frame)?)),
+        Request::Ram { frames } => Ok(Some(tell_ram(alloc, desk, seat, made, frames)?)),
+        Request::Digest { frame } => Ok(Some(tell_digest(alloc, desk, seat, made, frame)?)),
         Request::Movie => Ok(Some(tell_movie(rt, alloc, desk, seat, made)?)),
         Request::States => Ok(Some(tell_states(rt, alloc, desk, seat, made)?)),
         Request::Quit => Ok(None),

@@ -37,6 +37,8 @@ mod tails;
 #[cfg(test)]
 mod talk_file_tests;
 #[cfg(test)]
+mod talk_look_tests;
+#[cfg(test)]
 mod talk_tests;
 #[cfg(test)]
 mod word_tests;

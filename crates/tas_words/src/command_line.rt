@@ -125,6 +125,8 @@ const TALK_HELP: &str = "\
 Standard input is lines, as of 'tas script', and standard output has the answer to each before the
 next one is read, so that another program can hold the conversation. It has these lines, too:
   picture K                  a line 'picture AT K BYTES', then BYTES bytes: the pixmap of frame K
+  ram K                      'ram AT K' and 256 hexadecimal digits: RAM after K frames from power-on
+  digest K                   'digest AT K ram HEX picture HEX': SHA-256 of RAM after frame K, and of its pixmap
   movie                      a line 'movie AT BYTES', then BYTES bytes: the movie's text
   states                     'states AT N' and the N frames after which a machine state is kept
   quit                       ends the conversation, as the end of standard input does

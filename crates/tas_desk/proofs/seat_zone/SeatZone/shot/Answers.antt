@@ -1,15 +1,15 @@
 use Rattle.std.proofs.lemmas.Grind.{common_steps}
 use Rattle.std.specs.Prelude.{OnOk}
-use Rattle.std.proofs.Common.{subst, arith}
+use Rattle.std.proofs.Common.{◌+◌, subst, arith}
 use Rattle.tas_green.specs.Green.{IsShotFrom}
 use Rattle.tas_desk.specs.Zones.{ZoneContent}
-use Rattle.tas_desk.proofs.ZoneLemmas.{shot_in_place}
+use Rattle.tas_desk.proofs.ZoneLemmas.{played_in_place}
 use Rattle.tas_desk.proofs.seat_zone.SeatZone.shot.Goals as goal
 
 pub returns-in-None-clause-kept : goal.returns-in-None-clause-kept
 returns-in-None-clause-kept g c =
     subst (λ (z : ZoneContent _). OnOk c.shot.result (IsShotFrom z.movie c.self.inside.made_for.movie c.args.k z.states c.shot.new.self c.args.meter.now c.shot.new.meter)) c.self.view_is
-    (shot_in_place c.self.inside.made_for.movie c.args.k c.self.inside.green c.shot.new.self c.args.meter.now c.shot.new.meter c.shot.result c.self.invariant c.shot.ensures.meter c.shot.ensures.kept)
+    (played_in_place c.self.inside.made_for.movie c.args.k (c.args.k + 1) c.self.inside.green c.shot.new.self c.args.meter.now c.shot.new.meter c.shot.result c.self.invariant c.shot.ensures.meter c.shot.ensures.kept)
 
 pub shot_from-requires-clause-lawful : goal.shot_from-requires-clause-lawful
 shot_from-requires-clause-lawful g c = c.self.invariant

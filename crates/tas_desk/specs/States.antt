@@ -1,0 +1,39 @@
+-- Replies to looks at the machine's state (own).
+use Rattle.std.specs.Prelude.{◌≡◌, ℕ, ◌<◌, ◌≤◌, List, length, Result, Ok, Err}
+use Rattle.tas_green.specs.Run.{state_after}
+use Rattle.tas_green.specs.Green.{IsReachedFrom}
+use Rattle.tas_desk.specs.declared.entry.Entry.{Entry}
+use Rattle.tas_desk.specs.declared.replies.Reached.{Reached}
+use Rattle.tas_desk.specs.declared.replies.ShotError.{ShotError}
+use Rattle.tas_desk.specs.declared.replies.ShotError.TheVariants.{NoEntry as NoShotEntry, NoFrame as NoShotFrame, Memory as NoShotMemory}
+use Rattle.tas_desk.specs.declared.replies.StateError.{StateError}
+use Rattle.tas_desk.specs.declared.replies.StateError.TheVariants.{NoEntry, NoFrame, Memory}
+use Rattle.tas_desk.specs.History.{movie_of}
+use Rattle.tas_desk.specs.Zones.{ZoneContent, IsMadeFor}
+use Rattle.tas_desk.specs.Seats.{SeatContent}
+
+-- the machine after k frames of a history's movie, halted or not, or why it wasn't reached; without an entry nothing is said
+abbrev pub IsStateAt : {A : Type 0} → List (Entry A) → ℕ → Result Reached StateError → Type 0
+IsStateAt history k (Ok reached) = (k ≤ length (movie_of history).inputs) × (reached.state ≡ state_after (movie_of history) k) × (reached.at ≡ length history)
+IsStateAt history k (Err NoEntry) = Unit {0}
+IsStateAt history k (Err (NoFrame at len)) = (at ≡ length history) × (len ≡ length (movie_of history).inputs) × (len < k)
+IsStateAt history k (Err Memory) = k ≤ length (movie_of history).inputs
+
+-- the state after k frames of a history's movie was reached from a zone: the zone was cut for that movie first, `ran` frames were played from the
+-- nearest state that was left, and the zone then has what was left and the states on the way that stand on the grid
+pub record IsReached {A : Type 0} (before now : ZoneContent A) (front : List (Entry A)) (k ran : ℕ) : Type 0 where
+  pub made : IsMadeFor now front
+  pub reach : IsReachedFrom before.movie now.movie k before.states now.states 0 ran
+
+-- what this leaves in the seat's zone. Where the reader got no entry the seat is as it was
+abbrev pub IsZoneReached : {A : Type 0} → SeatContent A → SeatContent A → ℕ → Result Reached StateError → Type 0
+IsZoneReached before now k (Ok reached) = IsReached before.zone now.zone now.front k reached.ran
+IsZoneReached before now k (Err NoEntry) = now ≡ before
+IsZoneReached before now k (Err (NoFrame at len)) = now.zone ≡ before.zone
+IsZoneReached before now k (Err Memory) = now.zone ≡ before.zone
+
+-- a shot's error that says the same
+abbrev pub shot_error : StateError → ShotError
+shot_error NoEntry = NoShotEntry
+shot_error (NoFrame at len) = NoShotFrame at len
+shot_error Memory = NoShotMemory

@@ -1,0 +1,11 @@
+use Rattle.std.proofs.Common.{arith}
+use Rattle.std.proofs.lemmas.Grind.{common_steps}
+use Rattle.vcs_cpu.specs.Lines.{hex_byte}
+use Rattle.tas_language.proofs.RequestLemmas.{each_more}
+use Rattle.tas_language.proofs.looks.push_digits.Goals as goal
+
+pub loop-byte-preserved : goal.loop-byte-preserved
+loop-byte-preserved g c = grind (arith, common_steps)
+
+pub returns : goal.returns
+returns g c = grind (arith, common_steps)

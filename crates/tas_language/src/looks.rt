@@ -1,0 +1,57 @@
+//! The answers to `ram K` and `digest K`.
+
+ghost use Rattle.std.specs.Prelude.{◌≡◌, ◌++◌, IfOk, OnOk};
+ghost use Rattle.std.specs.List.{flat_map};
+ghost use Rattle.vcs_cpu.specs.Lines.{hex_byte};
+ghost use Rattle.vcs_tia.specs.Image.{ppm_bytes};
+ghost use Rattle.tas_language.specs.Answers.{ram_text, frame_digest_text};
+
+use crate::answers::push_pixmap;
+use sha2::{Digest, Sha256};
+use std::alloc::{AllocError, Allocator};
+use vcs_cpu::hex_digits;
+use vcs_tia::Picture;
+
+/// Appends each byte as two upper case hexadecimal digits.
+fn push_digits<A: Allocator>(out: &mut Vec<u8, A>, bytes: &[u8]) -> Result<(), AllocError>
+    ensures { OnOk result (out.new.items ≡ out.old.items ++ flat_map hex_byte bytes.now) }
+{
+    for byte in bytes {
+        out.extend_from_slice(&hex_digits(*byte))?;
+    }
+    Ok(())
+}
+
+/// The answer to `ram K`: `ram AT K` and two upper case hexadecimal digits for each byte of RAM (own). `AllocError` where memory is
+/// refused.
+pub fn ram_answer<A: Allocator>(
+    alloc: A,
+    at: u64,
+    frames: usize,
+    ram: &[u8],
+) -> Result<Vec<u8, A>, AllocError>
+    ensures { IfOk result (λ bytes. bytes.items ≡ ram_text at frames ram.now) }
+{
+    let mut bytes = format!(in alloc; "ram {at} {frames} ")?.into_bytes();
+    push_digits(&mut bytes, ram)?;
+    bytes.push(b'\n')?;
+    Ok(bytes)
+}
+
+/// The answer to `digest K`: `digest AT K ram HEX picture HEX`, with the SHA-256 of RAM after the frame, and that of the picture's
+/// binary portable pixmap (own). `AllocError` where memory is refused.
+pub fn digest_answer<A: Allocator + Copy, B: Allocator>(
+    alloc: A,
+    at: u64,
+    frame: usize,
+    ram: &[u8],
+    picture: &Picture<B>,
+) -> Result<Vec<u8, A>, AllocError>
+    ensures { IfOk result (λ bytes. bytes.items ≡ frame_digest_text at frame ram.now (ppm_bytes picture.now)) }
+{
+    let mut pixmap = Vec::new(alloc);
+    push_pixmap(&mut pixmap, picture)?;
+    let ram = hex::encode(alloc, Sha256::digest(ram))?;
+    let picture = hex::encode(alloc, Sha256::digest(pixmap.as_slice()))?;
+    Ok(format!(in alloc; "digest {at} {frame} ram {ram} picture {picture}\n")?.into_bytes())
+}
