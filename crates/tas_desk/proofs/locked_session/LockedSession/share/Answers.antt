@@ -1,4 +1,7 @@
-use Rattle.std.proofs.Common.{arith}
+use Rattle.std.specs.Prelude.{OnOk}
+use Rattle.std.proofs.Common.{subst, arith}
+use Rattle.tas_green.specs.Window.{IsWindowMoved}
+use Rattle.tas_desk.specs.Seats.{SeatContent}
 use Rattle.std.proofs.lemmas.Grind.{common_steps}
 use Rattle.tas_desk.proofs.WorkLemmas.{lawful_as}
 use Rattle.tas_desk.proofs.locked_session.LockedSession.share.Goals as goal
@@ -17,3 +20,7 @@ share-requires-clause-lawful g c = grind (arith, common_steps)
 
 pub returns-clause-seat : goal.returns-clause-seat
 returns-clause-seat g c = grind (arith, common_steps)
+
+pub returns-clause-cut : goal.returns-clause-cut
+returns-clause-cut g c =
+    subst (λ (s : SeatContent _). OnOk c.share.result (IsWindowMoved s.zone.movie c.share.new.self.movie s.zone.window c.share.new.self.window)) c.seat.view_is c.share.ensures.cut

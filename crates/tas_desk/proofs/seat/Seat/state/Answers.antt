@@ -1,5 +1,5 @@
 use Rattle.std.proofs.lemmas.Grind.{common_steps}
-use Rattle.std.proofs.Common.{◌∙◌, ap, sym, subst, subst₂, refl, arith}
+use Rattle.std.proofs.Common.{◌∙◌, ap, sym, subst, subst₂, arith}
 use Rattle.tas_green.specs.Green.{IsReachedFrom}
 use Rattle.tas_green.specs.Run.{state_after}
 use Rattle.tas_desk.specs.Version.{VersionContent}
