@@ -63,7 +63,7 @@ fn next_start<A: Allocator>(
 /// The lines of a movie's lag frames.
 fn lag_text<A: Allocator + Copy>(alloc: A, movie: &Movie<A>) -> Result<Vec<u8, A>, AllocError>
     ensures lines { IfOk result (λ text. text.items ≡ lag_lines movie.now) }
-    ensures law { LagFramesIgnoreInput movie.now }
+    ensures law { OnOk result (LagFramesIgnoreInput movie.now) }
 {
     let mut out = Vec::new(alloc);
     let mut state = State::power_on(movie.cart());
