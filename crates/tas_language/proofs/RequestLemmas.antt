@@ -8,7 +8,7 @@ use Rattle.tas_language.specs.declared.command.Command.TheVariants.{Load, Edit, 
 use Rattle.tas_language.specs.declared.change.Change.TheVariants.{Insert, Replace, Delete}
 use Rattle.tas_language.specs.declared.image.Image.{Image}
 use Rattle.tas_language.specs.declared.image.Image.TheVariants.{Large, Small}
-use Rattle.tas_language.specs.Commands.{Says, Loads, IsNumber, pair_text}
+use Rattle.tas_language.specs.Commands.{Says, Loads, pair_text}
 use Rattle.tas_language.proofs.OneCommand.{number_same, number_before, one_command}
 use Rattle.tas_language.specs.declared.request.Request.{Request}
 use Rattle.tas_language.specs.declared.request.Request.TheVariants.{Do, Picture, Pictures, Ram, Digest, Movie, States, Quit}

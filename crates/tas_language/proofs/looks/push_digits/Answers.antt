@@ -1,7 +1,5 @@
 use Rattle.std.proofs.Common.{arith}
 use Rattle.std.proofs.lemmas.Grind.{common_steps}
-use Rattle.vcs_cpu.specs.Lines.{hex_byte}
-use Rattle.tas_language.proofs.RequestLemmas.{each_more}
 use Rattle.tas_language.proofs.looks.push_digits.Goals as goal
 
 pub loop-byte-preserved : goal.loop-byte-preserved
