@@ -1,6 +1,6 @@
 -- What `tas film` writes, and how it ends (own).
 use Rattle.std.specs.Prelude.{◌≡◌, ℕ, ◌-◌, ◌≤◌, List, length, unwrap_or, ◌⊎◌, Option, Result, Ok, Err}
-use Rattle.std.specs.Io.KnownBytes.{Appends, Keeps}
+use Rattle.std.specs.Io.KnownBytes.{Appends}
 use Rattle.vcs_cpu.specs.declared.halt.Halt.{Halt}
 use Rattle.vcs_cpu.specs.declared.halt.Halt.TheVariants.{Undocumented}
 use Rattle.tas_movie.specs.Content.{MovieContent}

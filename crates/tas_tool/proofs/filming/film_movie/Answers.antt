@@ -9,4 +9,5 @@ returns-in_err-movie g c =
     rw (p.1, p.2) (inl (c.in_err-movie.ensures, refl))
 
 pub returns : goal.returns
-returns g c = movie_films c.args.from c.args.to c.args.image.now c.args.bytes.now c.in_ok-movie.movie _ _ _ c.in_ok-movie.ensures c.film_frames.ensures
+returns g c = movie_films c.args.from c.args.to c.args.image.now c.args.bytes.now c.in_ok-movie.movie _ _ _ c.in_ok-movie.ensures
+    (rw (c.unwrap_or-from.ensures, c.unwrap_or-to.ensures, c.len.ensures.len) at c.film_frames.ensures)
