@@ -8,7 +8,8 @@ loop-frame-init g c = record {
   number = refl;
   made = c.requires.made;
   own = c.requires.own;
-  shown = ?;
+  most = omega arith;
+  shown = subst (HasShown c.args.seat.now c.args.seat.now c.args.from c.args.from) (sym c.new-bytes.ensures.items) (nothing_shown c.args.seat.now c.args.from);
 }
 
 pub loop-frame-preserved : goal.loop-frame-preserved
@@ -16,6 +17,7 @@ loop-frame-preserved g c = record {
   number = c.tell_picture.ensures.number ∙ c.loop-frame.invariant.number;
   made = c.loop-frame.invariant.made ∙ sym (told_made c.loop-frame.seat c.tell_picture.new.seat c.loop-frame.frame c.in_ok-told.told.made c.in_ok-told.told.bytes.items c.in_ok-told.ensures.answer);
   own = c.in_ok-told.ensures.answer.own;
+  most = omega (arith, c.loop-frame-test.true, c.loop-frame.auto.frame, c.loop-frame.invariant.most);
   shown = shown_more c.args.seat.now c.loop-frame.seat c.tell_picture.new.seat c.args.from c.loop-frame.frame c.loop-frame.bytes.items c.in_ok-told.told.bytes.items c.extend_from_slice.new.self.items c.in_ok-told.told.made c.loop-frame.auto.frame c.loop-frame.invariant.shown c.in_ok-told.ensures.answer
       (c.in_ok-extend_from_slice.ensures.items ∙ ap (λ (l : List ℕ). c.loop-frame.bytes.items ++ l) c.as_slice.ensures.value);
 }
@@ -28,4 +30,4 @@ returns-in_err-told-clause-answer g c =
 pub returns-clause-answer : goal.returns-clause-answer
 returns-clause-answer g c =
     told_strip c.args.seat.now c.loop-frame.seat c.args.from c.args.to c.loop-frame.frame c.loop-frame.bytes.items c.args.made c.loop-frame.invariant.shown
-    (let end : c.loop-frame.frame - c.args.from ≡ c.args.to - c.args.from = omega (arith, c.loop-frame-test.false, c.loop-frame.auto.frame, c.loop-frame.auto.frame-end) in end) c.loop-frame.invariant.made c.loop-frame.invariant.own
+    (let end : c.loop-frame.frame - c.args.from ≡ c.args.to - c.args.from = omega (arith, c.loop-frame-test.false, c.loop-frame.auto.frame, c.loop-frame.invariant.most) in end) c.loop-frame.invariant.made c.loop-frame.invariant.own
