@@ -1,4 +1,4 @@
-use Rattle.std.proofs.Common.{max}
+use Rattle.std.proofs.Common.{ℕ, max, subst}
 use Rattle.tas_engines.specs.Movies.{IsMovieRun}
 use Rattle.tas_engines.specs.Checking.{IsCheckAnswer}
 use Rattle.tas_engines.specs.Migrating.{IsMigrateAnswer}
@@ -47,7 +47,8 @@ returns-in_ok-open-in-Ram g c =
 pub returns-in_ok-open-in-Digest : goal.returns-in_ok-open-in-Digest
 returns-in_ok-open-in-Digest g c =
     rw c.in-Digest.is
-    (over_one (IsDigestRun (max c.in-Digest.every 1)) (g.F.Folder.bytes_of c.args.folder.now c.in-Digest.cart.now) (g.F.File.Read.remaining c.in_ok-open-in-Digest.field-0) (g.F.File.Read.remaining c.digest_run.new.cart) (record { input = g.R.Read.remaining c.args.input.now; output = g.W.Write.contents c.args.output.now }) (record { input = g.R.Read.remaining c.digest_run.new.input; output = g.W.Write.contents c.digest_run.new.output }) c.digest_run.result c.in_ok-open-in-Digest.ensures.file c.digest_run.ensures)
+    (over_one (IsDigestRun (max c.in-Digest.every 1)) (g.F.Folder.bytes_of c.args.folder.now c.in-Digest.cart.now) (g.F.File.Read.remaining c.in_ok-open-in-Digest.field-0) (g.F.File.Read.remaining c.digest_run.new.cart) (record { input = g.R.Read.remaining c.args.input.now; output = g.W.Write.contents c.args.output.now }) (record { input = g.R.Read.remaining c.digest_run.new.input; output = g.W.Write.contents c.digest_run.new.output }) c.digest_run.result c.in_ok-open-in-Digest.ensures.file
+    (subst (λ (n : ℕ). IsDigestRun n (g.F.File.Read.remaining c.in_ok-open-in-Digest.field-0) (g.F.File.Read.remaining c.digest_run.new.cart) (g.R.Read.remaining c.args.input.now) (g.R.Read.remaining c.digest_run.new.input) (g.W.Write.contents c.args.output.now) (g.W.Write.contents c.digest_run.new.output) c.digest_run.result) c.max.ensures c.digest_run.ensures))
 
 pub returns-in_ok-old-in-Compare : goal.returns-in_ok-old-in-Compare
 returns-in_ok-old-in-Compare g c =
