@@ -24,6 +24,7 @@ mod movies;
 mod plain_editor;
 #[cfg(test)]
 mod plain_script;
+#[cfg(test)]
 mod played_tests;
 #[cfg(test)]
 mod program_tests;
