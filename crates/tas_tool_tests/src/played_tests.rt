@@ -31,11 +31,9 @@ fn films_have_their_frames(rt: HostRuntime) {
     let alloc = rt.alloc();
     let game = image_of(&rt, alloc, PLAYFIELD.bytes);
     let picture = playfield_picture(&rt, alloc);
-    let picture = picture.as_slice();
-    let pictures: [&[&[u8]]; 3] = [&[], &[picture], &[picture, picture]];
     for row in FILMS.iter() {
         let (words, count) = *row;
-        let wanted = joined(&rt, alloc, pictures[count]);
+        let wanted = repeated(&rt, alloc, b"", picture.as_slice(), count);
         let end = (0, wanted.as_slice(), b"".as_slice());
         let folder = only_game(game.as_slice());
         check_run(&rt, alloc, words, folder, TWO_FRAMES, end);

@@ -1,9 +1,9 @@
 //! The lines `picture` and `pictures` of a conversation: steps, with edits between them, and strips.
 
 use crate::answers::check_answer;
-use crate::checks::{check_same, check_that};
+use crate::checks::{check_same, check_that, expect_ok};
 use crate::commands::talk;
-use crate::movies::joined;
+use crate::movies::{joined, repeated};
 use std::alloc::Global;
 use std::process::Abort;
 use std::sync::Wait;
@@ -96,33 +96,28 @@ static STEPS: [(&[u8], &[u8]); 8] = [
     ),
 ];
 
-/// What the edits up to a step are answered, and then its frames.
-fn check_step<R: Wait + Abort>(rt: &R, alloc: Global, step: usize, edits: &[u8], all: &[u8]) {
-    let Some((_, looks)) = STEPS.get(step) else {
-        return;
-    };
-    let told = answers(rt, alloc, &[FOLDING, edits]);
-    let fresh = answers(rt, alloc, &[FOLDING, edits, *looks]);
-    let shown = fresh.as_slice().strip_prefix(told.as_slice());
-    check_that(
-        rt,
-        (step, "frames"),
-        shown.is_some_and(|bytes| all.ends_with(bytes)),
-    );
+/// What the edits up to a step are answered, then these and its frames, and all lines up to its end: the frames are shown alike.
+fn check_step<R: Abort>(rt: &R, step: usize, told: &[u8], fresh: &[u8], all: &[u8]) {
+    check_that(rt, (step, "edits"), fresh.starts_with(told));
+    let shown = &fresh[told.len().min(fresh.len())..];
+    check_that(rt, (step, "frames"), all.ends_with(shown));
 }
 
 /// Steps by a window, with edits between them, show what a conversation shows that asks for these frames first.
 #[test]
 fn steps_between_edits_show_what_a_first_look_shows(rt: HostRuntime) {
     let alloc = rt.alloc();
-    let mut edits = Vec::new(alloc);
-    let mut lines = Vec::new(alloc);
+    let mut edits = repeated(&rt, alloc, FOLDING, b"", 0);
+    let mut lines = repeated(&rt, alloc, FOLDING, b"", 0);
     for (step, (edit, looks)) in STEPS.iter().enumerate() {
-        edits.extend_from_slice(*edit).expect(&rt, "memory");
-        lines.extend_from_slice(*edit).expect(&rt, "memory");
-        lines.extend_from_slice(*looks).expect(&rt, "memory");
-        let all = answers(&rt, alloc, &[FOLDING, lines.as_slice()]);
-        check_step(&rt, alloc, step, edits.as_slice(), all.as_slice());
+        expect_ok(&rt, edits.extend_from_slice(*edit));
+        expect_ok(&rt, lines.extend_from_slice(*edit));
+        expect_ok(&rt, lines.extend_from_slice(*looks));
+        let first = repeated(&rt, alloc, edits.as_slice(), *looks, 1);
+        let told = answers(&rt, alloc, &[edits.as_slice()]);
+        let fresh = answers(&rt, alloc, &[first.as_slice()]);
+        let all = answers(&rt, alloc, &[lines.as_slice()]);
+        check_step(&rt, step, told.as_slice(), fresh.as_slice(), all.as_slice());
     }
 }
 
