@@ -5,10 +5,10 @@ use mathlib.Core.List.{IsPrefix}
 use Rattle.tas_movie.specs.Content.{MovieContent}
 use Rattle.tas_movie.specs.declared.edit.Edit.{Edit}
 use Rattle.tas_movie.specs.Edit.{edited}
-use Rattle.tas_desk.specs.declared.replies.Receipt.{Receipt}
-use Rattle.tas_desk.specs.declared.replies.EditError.{EditError}
-use Rattle.tas_desk.specs.History.{movie_of}
-use Rattle.tas_desk.specs.Session.{SessionContent, left_by, after_entry, refusal_at, IsEditError}
+use Rattle.tas_session.specs.declared.replies.Receipt.{Receipt}
+use Rattle.tas_session.specs.declared.replies.EditError.{EditError}
+use Rattle.tas_session.specs.History.{movie_of}
+use Rattle.tas_session.specs.Session.{SessionContent, left_by, after_entry, refusal_at, IsEditError}
 use Rattle.tas_desk.specs.Locked.{LockedContent, locked_of, locked_after}
 use Rattle.tas_desk.specs.Seats.{SeatContent, seat_of, entry_of, AnswersEdit, IsEdited}
 

@@ -8,9 +8,9 @@ use Rattle.tas_green.specs.Green.{IsMoved}
 use Rattle.tas_desk.specs.declared.export.Exported.{Exported}
 use Rattle.tas_desk.specs.declared.export.ExportError.{ExportError}
 use Rattle.tas_desk.specs.declared.export.ExportError.TheVariants.{Range, Memory, Halted, Write}
-use Rattle.tas_desk.specs.declared.runs.Plan.{Plan}
-use Rattle.tas_desk.specs.Frames.{AllDrawn, IsLeastHalted, pixmaps_of}
-use Rattle.tas_desk.specs.Runs.{costs}
+use Rattle.tas_film.specs.declared.runs.Plan.{Plan}
+use Rattle.tas_film.specs.Frames.{AllDrawn, IsLeastHalted, pixmaps_of}
+use Rattle.tas_film.specs.Runs.{costs}
 use Rattle.tas_desk.specs.Zones.{ZoneContent}
 
 -- how many frames one export has at most (own)

@@ -1,9 +1,9 @@
 -- What lies under the lock of a desk (own).
 use Rattle.std.specs.Prelude.{List, [], ◌∷◌, ◌++◌}
 use Rattle.tas_green.specs.declared.savestate.Savestate.{Savestate}
-use Rattle.tas_desk.specs.declared.entry.Entry.{Entry}
-use Rattle.tas_desk.specs.History.{movie_of}
-use Rattle.tas_desk.specs.Session.{left_by}
+use Rattle.tas_session.specs.declared.entry.Entry.{Entry}
+use Rattle.tas_session.specs.History.{movie_of}
+use Rattle.tas_session.specs.Session.{left_by}
 
 -- the history, and the kept states
 pub record LockedContent (A : Type 0) : Type 0 where

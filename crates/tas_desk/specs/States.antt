@@ -2,13 +2,11 @@
 use Rattle.std.specs.Prelude.{◌≡◌, ℕ, ◌<◌, ◌≤◌, List, length, Result, Ok, Err}
 use Rattle.tas_green.specs.Run.{state_after}
 use Rattle.tas_green.specs.Green.{IsReachedFrom}
-use Rattle.tas_desk.specs.declared.entry.Entry.{Entry}
-use Rattle.tas_desk.specs.declared.replies.Reached.{Reached}
-use Rattle.tas_desk.specs.declared.replies.ShotError.{ShotError}
-use Rattle.tas_desk.specs.declared.replies.ShotError.TheVariants.{NoEntry as NoShotEntry, NoFrame as NoShotFrame, Memory as NoShotMemory}
-use Rattle.tas_desk.specs.declared.replies.StateError.{StateError}
-use Rattle.tas_desk.specs.declared.replies.StateError.TheVariants.{NoEntry, NoFrame, Memory}
-use Rattle.tas_desk.specs.History.{movie_of}
+use Rattle.tas_session.specs.declared.entry.Entry.{Entry}
+use Rattle.tas_session.specs.declared.replies.Reached.{Reached}
+use Rattle.tas_session.specs.declared.replies.StateError.{StateError}
+use Rattle.tas_session.specs.declared.replies.StateError.TheVariants.{NoEntry, NoFrame, Memory}
+use Rattle.tas_session.specs.History.{movie_of}
 use Rattle.tas_desk.specs.Zones.{ZoneContent, IsMadeFor}
 use Rattle.tas_desk.specs.Seats.{SeatContent}
 
@@ -31,9 +29,3 @@ IsZoneReached before now k (Ok reached) = IsReached before.zone now.zone now.fro
 IsZoneReached before now k (Err NoEntry) = now ≡ before
 IsZoneReached before now k (Err (NoFrame at len)) = now.zone ≡ before.zone
 IsZoneReached before now k (Err Memory) = now.zone ≡ before.zone
-
--- a shot's error that says the same
-abbrev pub shot_error : StateError → ShotError
-shot_error NoEntry = NoShotEntry
-shot_error (NoFrame at len) = NoShotFrame at len
-shot_error Memory = NoShotMemory

@@ -1,5 +1,5 @@
 -- The greenzone of a seat, and its window (own).
-use Rattle.std.specs.Prelude.{◌≡◌, ℕ, ◌+◌, ◌≤◌, List, [], length, Option, Some, None}
+use Rattle.std.specs.Prelude.{◌≡◌, ℕ, ◌+◌, ◌≤◌, List, [], length}
 use Rattle.logbook.specs.Pages.{Book}
 use Rattle.tas_movie.specs.Content.{MovieContent, blank_movie}
 use Rattle.tas_green.specs.declared.savestate.Savestate.{Savestate}
@@ -7,10 +7,9 @@ use Rattle.tas_green.specs.Zone.{state_at, first_of}
 use Rattle.tas_green.specs.Green.{IsLawful, IsMoved, IsShotFrom, HoldsGrid}
 use Rattle.tas_green.specs.Grid.{stride}
 use Rattle.tas_green.specs.Window.{AreMovieStates, IsWindowMoved, IsViewFrom, IsOneAway, both}
-use Rattle.tas_desk.specs.declared.movie_copy.MovieCopy.{MovieCopy}
-use Rattle.tas_desk.specs.declared.entry.Entry.{Entry}
-use Rattle.tas_desk.specs.Version.{VersionContent, version_of}
-use Rattle.tas_desk.specs.History.{movie_of}
+use Rattle.tas_session.specs.declared.entry.Entry.{Entry}
+use Rattle.tas_session.specs.Version.{VersionContent, version_of}
+use Rattle.tas_session.specs.History.{movie_of}
 
 -- the history that it was made for, with its movie, the states that are kept, and those of the window beside them
 pub record ZoneContent (A : Type 0) : Type 0 where
@@ -22,11 +21,6 @@ pub record ZoneContent (A : Type 0) : Type 0 where
 -- the zone of a seat that made no call yet
 abbrev pub blank_zone : {A : Type 0} → Book → ZoneContent A
 blank_zone b = record { made_for = version_of b []; movie = blank_movie; states = []; window = [] }
-
--- the history of a copy that was taken, or the one that was known where none was
-abbrev pub version_after : {A : Type 0} → VersionContent A → Option (MovieCopy A) → VersionContent A
-version_after known None = known
-version_after known (Some copied) = copied.version
 
 -- a zone is cut for the new movie and gains just the other's states, so many
 abbrev pub Shares : MovieContent → MovieContent → List Savestate → List Savestate → List Savestate → ℕ → Type 0

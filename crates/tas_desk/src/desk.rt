@@ -7,11 +7,11 @@
 //! of threads no clause says anything; docs/PROOFS.md lists what is so.
 
 ghost use Rattle.std.specs.Prelude.{◌≡◌, ◌≢◌, ◌↔◌, ◌⊎◌, ℕ, ◌+◌, ◌<◌, ◌≤◌, ◌==◌, [], length, slice_get, Some, count_by, IsTrue, IfOk, IfErr, OnOk, Err, MatchResult, All};
-ghost use Rattle.tas_desk.specs.declared.replies.OfferError.TheVariants.{Cartridge, Memory};
-ghost use Rattle.tas_desk.specs.declared.replies.OpenError.TheVariants.{Memory as OutOfMemory};
-ghost use Rattle.tas_desk.specs.Answers.{answer_len};
-ghost use Rattle.tas_desk.specs.History.{movie_of, IsLegal};
-ghost use Rattle.tas_desk.specs.Shots.{IsShotAt, MatchPlayed};
+ghost use Rattle.tas_session.specs.declared.replies.OfferError.TheVariants.{Cartridge, Memory};
+ghost use Rattle.tas_session.specs.declared.replies.OpenError.TheVariants.{Memory as OutOfMemory};
+ghost use Rattle.tas_session.specs.Answers.{answer_len};
+ghost use Rattle.tas_session.specs.History.{movie_of, IsLegal};
+ghost use Rattle.tas_session.specs.Shots.{IsShotAt, MatchPlayed};
 ghost use Rattle.tas_desk.specs.States.{IsStateAt, IsZoneReached};
 ghost use Rattle.tas_desk.specs.Zones.{CutsWindow, IsShared, IsShort, IsZoneAway, blank_zone};
 ghost use Rattle.tas_green.specs.Grid.{most_states};

@@ -1,29 +1,26 @@
 //! Exports of pictures.
 
 ghost use Rattle.std.specs.Prelude.{◌≡◌, ◌↔◌, ◌≤◌, IsTrue, IfOk, IfErr, length};
-ghost use Rattle.tas_desk.specs.History.{movie_of};
+ghost use Rattle.tas_session.specs.History.{movie_of};
 ghost use Rattle.tas_desk.specs.Seats.{KeepsZone};
-ghost use Rattle.tas_desk.specs.Runs.{most_workers, IsPlan};
-ghost use Rattle.tas_desk.specs.Exporting.{IsExportFault, end_at as end_of};
+ghost use Rattle.tas_film.specs.Runs.{most_workers, IsPlan};
+ghost use Rattle.tas_desk.specs.Exporting.{end_at as end_of};
+ghost use Rattle.tas_film.specs.Faults.{IsExportFault};
 ghost use Rattle.tas_desk.specs.Exports.{IsInRange, IsExported, IsExport};
 
-use crate::exporting::{ExportFault, export_frames};
 use crate::locked_session::CloseOnDrop;
-use crate::runs::Plan;
 use crate::seat_zone::SeatZone;
 use crate::{Desk, Gate, Name, Seat};
 use std::alloc::Allocator;
 use std::io::{Error, Write};
 use std::sync::Wait;
 use std::thread::Threads;
+use tas_film::{ExportFault, Plan, export_frames};
 use tas_movie::Movie;
 use vcs_cpu::Halt;
 
 /// How many frames one export has at most (own).
 pub const MAX_EXPORT: usize = 1024;
-
-/// How many workers one export has at most (own).
-pub const MAX_WORKERS: usize = 16;
 
 /// Frames were written (own).
 #[derive(Clone, Copy, Debug, PartialEq, Eq)]
@@ -80,7 +77,7 @@ impl<N: Name, W: CloseOnDrop, A: Allocator + Copy> Desk<N, W, A> {
     /// bytes a frame and so 103 MB for 1,024, is asked for before the first frame is played, all of it from `alloc`. The seat's
     /// zone isn't changed, nor is the history.
     ///
-    /// `workers` is 1 to [`MAX_WORKERS`]; the caller shows it. `Range` comes first, where the movie hasn't these frames or they are more
+    /// `workers` is 1 to [`MAX_WORKERS`](crate::MAX_WORKERS); the caller shows it. `Range` comes first, where the movie hasn't these frames or they are more
     /// than [`MAX_EXPORT`]; then `Memory`, or `Halted` with the least halted frame. Nothing was written then. `Write` tells
     /// how many bytes had gone out.
     pub fn export<

@@ -1,13 +1,14 @@
 //! The limits of histories, desks and exports are those of the definitions.
 
 ghost use Rattle.std.specs.Prelude.{◌≡◌};
-ghost use Rattle.tas_desk.specs.declared.session.TheConstants.{MAX_EDITS};
+ghost use Rattle.tas_session.specs.declared.session.TheConstants.{MAX_EDITS};
 ghost use Rattle.tas_desk.specs.declared.desk.TheConstants.{MAX_SEATS};
-ghost use Rattle.tas_desk.specs.declared.export.TheConstants.{MAX_EXPORT, MAX_WORKERS};
-ghost use Rattle.tas_desk.specs.History.{most_edits};
+ghost use Rattle.tas_desk.specs.declared.export.TheConstants.{MAX_EXPORT};
+ghost use Rattle.tas_film.specs.declared.runs.TheConstants.{MAX_WORKERS};
+ghost use Rattle.tas_session.specs.History.{most_edits};
 ghost use Rattle.tas_desk.specs.Seats.{most_seats};
 ghost use Rattle.tas_desk.specs.Exports.{most_exported};
-ghost use Rattle.tas_desk.specs.Runs.{most_workers};
+ghost use Rattle.tas_film.specs.Runs.{most_workers};
 
 /// The limits are those of the definitions: 1,000,000 edits of a history, 8 seats of a desk, 1,024 frames and
 /// 16 workers of an export (own).

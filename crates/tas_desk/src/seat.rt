@@ -3,22 +3,21 @@
 ghost use Rattle.std.specs.Prelude.{◌≡◌, ◌+◌, ◌≤◌, length, is_some, MatchResult, IfOk, OnOk};
 ghost use Rattle.tas_green.specs.Grid.{most_states};
 ghost use Rattle.tas_green.specs.Zone.{state_at};
-ghost use Rattle.tas_desk.specs.Shots.{IsShotAt, MatchPlayed};
-ghost use Rattle.tas_desk.specs.Answers.{answer_len};
-ghost use Rattle.tas_desk.specs.History.{movie_of};
-ghost use Rattle.tas_desk.specs.Published.{KnowsRegistry};
+ghost use Rattle.tas_session.specs.Shots.{IsShotAt, MatchPlayed};
+ghost use Rattle.tas_session.specs.Answers.{answer_len};
+ghost use Rattle.tas_session.specs.History.{movie_of};
+ghost use Rattle.tas_session.specs.Published.{KnowsRegistry};
 ghost use Rattle.tas_desk.specs.States.{IsStateAt, IsZoneReached};
 ghost use Rattle.tas_desk.specs.Zones.{CutsWindow, IsShort, IsZoneAway};
 ghost use Rattle.tas_desk.specs.Seats.{seat_of, HasSeen, KeepsZone, IsInput, IsZoneShot, IsZoneViewed};
 
-use crate::movie_reader::MovieReader;
-use crate::replies::shown;
 use crate::seat_zone::SeatZone;
 use crate::{InputError, Name, NoEntry, Reached, Shot, ShotError, StateError};
 use std::alloc::{Allocator, Global};
 use std::marker::Model;
 use std::sync::ledger::Share;
 use tas_movie::Movie;
+use tas_session::{MovieReader, shown};
 use vcs_machine::{Input, Meter};
 use vcs_tia::Picture;
 

@@ -6,17 +6,10 @@ ghost use Rattle.tas_desk.specs.Seats.{KeepsZone};
 ghost use Rattle.tas_desk.specs.Work.{with_job, IsTally, IsWorked, KeepsCart, stale_in};
 
 use crate::locked_session::CloseOnDrop;
-use crate::{Desk, Name, OfferError, Seat};
+use crate::{Desk, Gate, Name, OfferError, Seat};
 use std::alloc::{AllocError, Allocator};
 use std::sync::Wait;
 use thiserror::Error;
-
-/// Where work may be held up, outside the lock (own).
-pub trait Gate {
-    /// Comes back when this piece may go on: the index of a target in [`Desk::work`], of a worker's run of frames in
-    /// [`Desk::export`], each counted from 0.
-    fn pass(&self, piece: usize);
-}
 
 /// What was worked (own).
 #[derive(Clone, Copy, Debug, PartialEq, Eq)]

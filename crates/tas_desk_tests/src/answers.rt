@@ -1,7 +1,7 @@
 //! Calls of a desk, each in one place, and their answers without what takes memory.
 
 ghost use Rattle.std.specs.Prelude.{◌≤◌};
-ghost use Rattle.tas_desk.specs.Runs.{most_workers};
+ghost use Rattle.tas_film.specs.Runs.{most_workers};
 
 use crate::changes::{Change, edit_of};
 use crate::sums::{Sum, sum_of};

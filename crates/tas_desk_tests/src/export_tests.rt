@@ -1,7 +1,7 @@
 //! Exports: the same bytes for every number of workers, and what is left out of them.
 
 ghost use Rattle.std.specs.Prelude.{◌≤◌};
-ghost use Rattle.tas_desk.specs.Runs.{most_workers};
+ghost use Rattle.tas_film.specs.Runs.{most_workers};
 
 use crate::answers::{Refused, export};
 use crate::changes::{Change, FOLDING, HALT, HALTING, PLAYFIELD, WAITING, edit_of};

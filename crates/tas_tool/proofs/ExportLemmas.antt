@@ -8,16 +8,16 @@ use Rattle.counted_write.specs.CutOff.{IsCutOff}
 use Rattle.vcs_cpu.specs.declared.halt.Halt.{Halt}
 use Rattle.vcs_cpu.specs.declared.halt.Halt.TheVariants.{Undocumented}
 use Rattle.tas_movie.specs.Content.{MovieContent}
-use Rattle.tas_desk.specs.declared.entry.Entry.{Entry}
+use Rattle.tas_session.specs.declared.entry.Entry.{Entry}
 use Rattle.tas_desk.specs.declared.export.Exported.{Exported}
-use Rattle.tas_desk.specs.declared.runs.Plan.{Plan}
+use Rattle.tas_film.specs.declared.runs.Plan.{Plan}
 use Rattle.tas_desk.specs.declared.export.ExportError.{ExportError}
 use Rattle.tas_desk.specs.declared.export.ExportError.TheVariants.{Range as OffRange, Memory as OutOfRoom, Halted as HaltedAt, Write as WriteFailed}
-use Rattle.tas_desk.specs.History.{movie_of, entries_of}
+use Rattle.tas_session.specs.History.{movie_of, entries_of}
 use Rattle.tas_desk.specs.Seats.{SeatContent, HasSeen}
 use Rattle.tas_desk.specs.Zones.{ZoneContent}
 use Rattle.tas_desk.specs.Exports.{IsInRange, IsExport}
-use Rattle.tas_desk.specs.Frames.{AllDrawn, pixmaps_of}
+use Rattle.tas_film.specs.Frames.{AllDrawn, pixmaps_of}
 use Rattle.tas_engines.specs.declared.fault.RunFault.{RunFault}
 use Rattle.tas_engines.specs.declared.fault.RunFault.TheVariants.{Write, Size, Text, NoFrame, Range, Halted, HaltedFrame, Script, Place, Long, NoPlace, NoEntry, Foreign, Memory}
 use Rattle.tas_engines.specs.Movies.{IsMovieOf}

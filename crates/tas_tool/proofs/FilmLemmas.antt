@@ -4,10 +4,10 @@ use Rattle.std.specs.Io.KnownBytes.{Appends}
 use Rattle.vcs_cpu.specs.declared.halt.Halt.{Halt}
 use Rattle.vcs_cpu.specs.declared.halt.Halt.TheVariants.{Undocumented}
 use Rattle.tas_movie.specs.Content.{MovieContent}
-use Rattle.tas_desk.specs.declared.film.FilmStop.{FilmStop}
-use Rattle.tas_desk.specs.declared.film.FilmStop.TheVariants.{Memory as OutOfRoom, Halted as Stopped, Write as WriteFailed}
-use Rattle.tas_desk.specs.Frames.{IsLeastHalted, pixmaps_of}
-use Rattle.tas_desk.specs.Films.{IsFilm}
+use Rattle.tas_film.specs.declared.film.FilmStop.{FilmStop}
+use Rattle.tas_film.specs.declared.film.FilmStop.TheVariants.{Memory as OutOfRoom, Halted as Stopped, Write as WriteFailed}
+use Rattle.tas_film.specs.Frames.{IsLeastHalted, pixmaps_of}
+use Rattle.tas_film.specs.Films.{IsFilm}
 use Rattle.tas_engines.specs.declared.fault.RunFault.{RunFault}
 use Rattle.tas_engines.specs.declared.fault.ToolFault.{ToolFault}
 use Rattle.tas_engines.specs.Faults.{told}

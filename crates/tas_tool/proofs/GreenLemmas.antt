@@ -4,12 +4,12 @@ use Rattle.std.specs.Prelude.{IfOk, MatchResult}
 use Rattle.vcs_cpu.specs.declared.halt.Halt.TheVariants.{Undocumented}
 use Rattle.tas_movie.specs.declared.edit.Edit.{Edit}
 use Rattle.tas_green.specs.Green.{IsLawful, IsShotFrom}
-use Rattle.tas_desk.specs.declared.replies.Receipt.{Receipt}
-use Rattle.tas_desk.specs.declared.replies.EditError.{EditError}
-use Rattle.tas_desk.specs.declared.replies.ShotError.{ShotError}
-use Rattle.tas_desk.specs.declared.replies.ShotError.TheVariants.{NoEntry, NoFrame as NoShotFrame, Memory, Halted as ShotHalted}
+use Rattle.tas_session.specs.declared.replies.Receipt.{Receipt}
+use Rattle.tas_session.specs.declared.replies.EditError.{EditError}
+use Rattle.tas_session.specs.declared.replies.ShotError.{ShotError}
+use Rattle.tas_session.specs.declared.replies.ShotError.TheVariants.{NoEntry, NoFrame as NoShotFrame, Memory, Halted as ShotHalted}
 use Rattle.tas_desk.specs.Seats.{SeatContent, HasSeen, IsEdited, IsZoneShot}
-use Rattle.tas_desk.specs.Shots.{IsShotAt}
+use Rattle.tas_session.specs.Shots.{IsShotAt}
 use Rattle.tas_desk.specs.Zones.{ZoneContent, IsMadeFor, IsPlayed, IsShared, Shares}
 use Rattle.tas_engines.specs.declared.fault.RunFault.{RunFault}
 use Rattle.tas_language.specs.declared.command.Command.{Command}

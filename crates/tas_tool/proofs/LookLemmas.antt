@@ -7,12 +7,12 @@ use Rattle.vcs_cpu.specs.declared.halt.Halt.{Halt}
 use Rattle.vcs_tia.specs.Picture.{lit_count}
 use Rattle.vcs_machine.specs.declared.input.Input.{Input}
 use Rattle.tas_movie.specs.Content.{MovieContent}
-use Rattle.tas_desk.specs.declared.entry.Entry.{Entry}
-use Rattle.tas_desk.specs.History.{movie_of}
-use Rattle.tas_desk.specs.declared.replies.ShotError.{ShotError}
-use Rattle.tas_desk.specs.Shots.{IsShotAt}
-use Rattle.tas_desk.specs.Answers.{answer_input, answer_shot}
-use Rattle.tas_desk.specs.declared.replies.InputError.{InputError}
+use Rattle.tas_session.specs.declared.entry.Entry.{Entry}
+use Rattle.tas_session.specs.History.{movie_of}
+use Rattle.tas_session.specs.declared.replies.ShotError.{ShotError}
+use Rattle.tas_session.specs.Shots.{IsShotAt}
+use Rattle.tas_session.specs.Answers.{answer_input, answer_shot}
+use Rattle.tas_session.specs.declared.replies.InputError.{InputError}
 use Rattle.tas_desk.specs.Seats.{SeatContent, HasSeen, IsInput}
 use Rattle.tas_engines.specs.declared.fault.RunFault.{RunFault}
 use Rattle.tas_language.specs.declared.command.Command.{Command}

@@ -3,7 +3,7 @@ use Rattle.std.proofs.Common.{◌≡◌, ℕ, ◌≤◌, List, [], length, take,
 use Rattle.std.proofs.KnownBytes.{Appends-nil}
 use Rattle.std.specs.Io.KnownBytes.{Appends}
 use Rattle.tas_movie.specs.Content.{MovieContent}
-use Rattle.tas_desk.specs.History.{movie_of, entries_of}
+use Rattle.tas_session.specs.History.{movie_of, entries_of}
 use Rattle.tas_desk.specs.Seats.{SeatContent}
 use Rattle.tas_engines.specs.declared.fault.RunFault.{RunFault}
 use Rattle.tas_engines.specs.declared.fault.RunFault.TheVariants.{Write, Size, Text, NoFrame as OffMovie, Range as OffRange, Halted as Stopped, HaltedFrame as StoppedFrame, Script, Place, Long, NoPlace, NoEntry, Foreign, Memory}

@@ -7,8 +7,8 @@ use Rattle.vcs_machine.specs.declared.state.State.{State}
 use Rattle.vcs_tia.specs.Image.{ppm_bytes}
 use Rattle.tas_movie.specs.Content.{MovieContent}
 use Rattle.tas_green.specs.Run.{state_after, picture_of}
-use Rattle.tas_desk.specs.Answers.{answer_shot, shown_of}
-use Rattle.tas_desk.specs.History.{movie_of}
+use Rattle.tas_session.specs.Answers.{answer_shot, shown_of}
+use Rattle.tas_session.specs.History.{movie_of}
 use Rattle.tas_desk.specs.Seats.{SeatContent, HasSeen}
 use Rattle.tas_desk.specs.States.{IsReached}
 use Rattle.tas_language.specs.declared.reply.Reply.TheVariants.{NoFrame, OutOfMemory}

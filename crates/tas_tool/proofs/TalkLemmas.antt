@@ -9,11 +9,11 @@ use Rattle.counted_write.specs.CutOff.{IsCutOff}
 use Rattle.tas_movie.specs.Text.{line}
 use Rattle.tas_movie.specs.Content.{MovieContent, blank_movie}
 use Rattle.tas_green.specs.declared.savestate.Savestate.{Savestate}
-use Rattle.tas_desk.specs.declared.entry.Entry.{Entry}
-use Rattle.tas_desk.specs.History.{movie_of, entries_of}
+use Rattle.tas_session.specs.declared.entry.Entry.{Entry}
+use Rattle.tas_session.specs.History.{movie_of, entries_of}
 use Rattle.tas_desk.specs.Seats.{SeatContent}
 use Rattle.tas_desk.specs.Zones.{ZoneContent}
-use Rattle.tas_desk.proofs.HistoryLemmas.{movie_of-none}
+use Rattle.tas_session.proofs.HistoryLemmas.{movie_of-none}
 use Rattle.tas_engines.specs.declared.fault.RunFault.{RunFault}
 use Rattle.tas_engines.specs.declared.fault.RunFault.TheVariants.{Write, Size, Text, NoFrame as OffMovie, Range as OffRange, Halted as Stopped, HaltedFrame as StoppedFrame, Script, Place, Long, NoPlace, NoEntry, Foreign, Memory}
 use Rattle.tas_engines.specs.declared.fault.ToolFault.{ToolFault}

@@ -17,14 +17,14 @@ use Rattle.tas_green.specs.declared.savestate.Savestate.{Savestate}
 use Rattle.tas_green.specs.Grid.{stride}
 use Rattle.tas_green.specs.Green.{IsLawful}
 use Rattle.tas_green.specs.Zone.{state_at}
-use Rattle.tas_desk.specs.Answers.{answer_shot}
-use Rattle.tas_desk.proofs.DrawingLemmas.{range_joined}
-use Rattle.tas_desk.specs.History.{movie_of}
-use Rattle.tas_desk.specs.declared.replies.ShotError.{ShotError}
-use Rattle.tas_desk.specs.declared.replies.ShotError.TheVariants.{NoEntry, NoFrame as NoShotFrame, Memory as NoShotMemory, Halted as ShotHalted}
+use Rattle.tas_session.specs.Answers.{answer_shot}
+use Rattle.tas_film.proofs.DrawingLemmas.{range_joined}
+use Rattle.tas_session.specs.History.{movie_of}
+use Rattle.tas_session.specs.declared.replies.ShotError.{ShotError}
+use Rattle.tas_session.specs.declared.replies.ShotError.TheVariants.{NoEntry, NoFrame as NoShotFrame, Memory as NoShotMemory, Halted as ShotHalted}
 use Rattle.tas_desk.specs.Seats.{SeatContent, HasSeen, IsZoneShot, IsZoneViewed}
-use Rattle.tas_desk.specs.Shots.{IsShotAt}
-use Rattle.tas_desk.specs.declared.entry.Entry.{Entry}
+use Rattle.tas_session.specs.Shots.{IsShotAt}
+use Rattle.tas_session.specs.declared.entry.Entry.{Entry}
 use Rattle.tas_desk.specs.Zones.{ZoneContent, IsPlayed, IsShared, IsViewed}
 use Rattle.tas_engines.specs.declared.fault.RunFault.{RunFault}
 use Rattle.tas_engines.specs.declared.fault.RunFault.TheVariants.{Write, Size, Text, NoFrame as OffMovie, Range as OffRange, Halted as Stopped, HaltedFrame as StoppedFrame, Script, Place, Long, NoPlace, NoEntry as NoDeskEntry, Foreign, Memory}

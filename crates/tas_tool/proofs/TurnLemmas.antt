@@ -12,14 +12,14 @@ use Rattle.tas_movie.specs.declared.edit.Edit.TheVariants.{Load as LoadEdit}
 use Rattle.tas_movie.specs.declared.edit.EditRefusal.{EditRefusal}
 use Rattle.tas_movie.specs.declared.edit.EditRefusal.TheVariants.{Place as PlaceRefusal, Long as LongRefusal}
 use Rattle.tas_movie.specs.Edit.{refusal, check_answer, edited, edited_unless}
-use Rattle.tas_desk.specs.declared.entry.Entry.{Entry}
-use Rattle.tas_desk.specs.declared.replies.Receipt.{Receipt}
-use Rattle.tas_desk.specs.declared.replies.EditError.{EditError}
-use Rattle.tas_desk.specs.declared.replies.EditError.TheVariants.{Serial, Full as AllMade, Place as OutOfPlace, Long as OverLong, Memory as NoRoom}
-use Rattle.tas_desk.specs.History.{most_edits, movie_of, entries_of}
-use Rattle.tas_desk.specs.Session.{refusal_at, error_at, IsEditError}
+use Rattle.tas_session.specs.declared.entry.Entry.{Entry}
+use Rattle.tas_session.specs.declared.replies.Receipt.{Receipt}
+use Rattle.tas_session.specs.declared.replies.EditError.{EditError}
+use Rattle.tas_session.specs.declared.replies.EditError.TheVariants.{Serial, Full as AllMade, Place as OutOfPlace, Long as OverLong, Memory as NoRoom}
+use Rattle.tas_session.specs.History.{most_edits, movie_of, entries_of}
+use Rattle.tas_session.specs.Session.{refusal_at, error_at, IsEditError}
 use Rattle.tas_desk.specs.Seats.{SeatContent, seat_of, entry_of, HasSeen, IsEdited}
-use Rattle.tas_desk.proofs.HistoryLemmas.{movie_of-push}
+use Rattle.tas_session.proofs.HistoryLemmas.{movie_of-push}
 use Rattle.tas_engines.specs.declared.fault.RunFault.{RunFault}
 use Rattle.tas_engines.specs.declared.fault.RunFault.TheVariants.{Foreign, NoEntry}
 use Rattle.tas_language.specs.declared.command.Command.{Command}

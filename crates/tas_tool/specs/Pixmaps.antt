@@ -3,8 +3,8 @@ use Rattle.std.specs.Prelude.{◌≡◌, ℕ, ◌-◌, List, length, Result, Ok,
 use Rattle.vcs_cpu.specs.declared.halt.Halt.TheVariants.{Undocumented}
 use Rattle.tas_movie.specs.Content.{MovieContent}
 use Rattle.tas_desk.specs.Exports.{IsInRange}
-use Rattle.tas_desk.specs.Frames.{AllDrawn, IsLeastHalted, pixmaps_of}
-pub use Rattle.tas_desk.specs.Runs.{most_workers}
+use Rattle.tas_film.specs.Frames.{AllDrawn, IsLeastHalted, pixmaps_of}
+pub use Rattle.tas_film.specs.Runs.{most_workers}
 use Rattle.tas_engines.specs.Movies.{IsMovieOf, IsMovieFault}
 use Rattle.tas_engines.specs.declared.fault.RunFault.{RunFault}
 use Rattle.tas_engines.specs.declared.fault.RunFault.TheVariants.{Range, Halted, NoPlace, Memory}

@@ -12,7 +12,7 @@ use Rattle.tas_green.specs.declared.savestate.Savestate.{Savestate}
 use Rattle.tas_green.specs.Green.{IsLawful, IsShotFrom, IsReachedFrom}
 use Rattle.tas_green.specs.Run.{state_after}
 use Rattle.tas_green.specs.Zone.{state_at}
-use Rattle.tas_desk.specs.Answers.{answer_shot}
+use Rattle.tas_session.specs.Answers.{answer_shot}
 use Rattle.tas_desk.specs.Zones.{Shares}
 use Rattle.tas_engines.specs.declared.fault.ReadFault.{ReadFault}
 use Rattle.tas_engines.specs.declared.fault.RunFault.{RunFault}

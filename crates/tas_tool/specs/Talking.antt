@@ -8,9 +8,9 @@ use Rattle.vcs_machine.specs.declared.state.State.{State}
 use Rattle.vcs_tia.specs.Image.{ppm_bytes}
 use Rattle.tas_green.specs.Green.{IsLawful}
 use Rattle.tas_green.specs.Run.{state_after, picture_of}
-use Rattle.tas_desk.specs.Answers.{answer_shot}
-use Rattle.tas_desk.specs.declared.replies.ShotError.{ShotError}
-use Rattle.tas_desk.specs.declared.replies.ShotError.TheVariants.{NoEntry as NoShotEntry, NoFrame as NoShotFrame, Memory as NoShotMemory, Halted as ShotHalted}
+use Rattle.tas_session.specs.Answers.{answer_shot}
+use Rattle.tas_session.specs.declared.replies.ShotError.{ShotError}
+use Rattle.tas_session.specs.declared.replies.ShotError.TheVariants.{NoEntry as NoShotEntry, NoFrame as NoShotFrame, Memory as NoShotMemory, Halted as ShotHalted}
 use Rattle.tas_desk.specs.Seats.{SeatContent}
 use Rattle.tas_desk.specs.Zones.{IsShared}
 use Rattle.tas_engines.specs.declared.fault.RunFault.{RunFault}

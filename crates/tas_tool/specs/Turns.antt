@@ -10,8 +10,8 @@ use Rattle.tas_movie.specs.declared.edit.Edit.TheVariants.{Load as LoadEdit}
 use Rattle.tas_movie.specs.declared.edit.EditRefusal.{EditRefusal}
 use Rattle.tas_movie.specs.declared.edit.EditRefusal.TheVariants.{Place, Long}
 use Rattle.tas_movie.specs.Edit.{refusal, edited}
-use Rattle.tas_desk.specs.History.{most_edits, movie_of, entries_of}
-use Rattle.tas_desk.specs.Answers.{answer_input, answer_shot}
+use Rattle.tas_session.specs.History.{most_edits, movie_of, entries_of}
+use Rattle.tas_session.specs.Answers.{answer_input, answer_shot}
 use Rattle.tas_desk.specs.Seats.{SeatContent}
 use Rattle.tas_engines.specs.declared.fault.RunFault.{RunFault}
 use Rattle.tas_engines.specs.declared.fault.RunFault.TheVariants.{Foreign, NoEntry}

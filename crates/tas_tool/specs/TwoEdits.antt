@@ -6,11 +6,11 @@ use Rattle.tas_movie.specs.declared.edit.Edit.TheVariants.{Load, Insert}
 use Rattle.tas_desk.specs.declared.export.Exported.{Exported}
 use Rattle.tas_desk.specs.declared.export.ExportError.{ExportError}
 use Rattle.tas_desk.specs.declared.export.ExportError.TheVariants.{Range as OffRange, Memory as OutOfRoom, Halted as HaltedAt, Write as WriteFailed}
-use Rattle.tas_desk.specs.Session.{refusal_at}
-use Rattle.tas_desk.specs.History.{movie_of, entries_of}
+use Rattle.tas_session.specs.Session.{refusal_at}
+use Rattle.tas_session.specs.History.{movie_of, entries_of}
 use Rattle.tas_desk.specs.Seats.{SeatContent}
-use Rattle.tas_desk.specs.declared.replies.EditError.{EditError}
-use Rattle.tas_desk.specs.declared.replies.EditError.TheVariants.{Memory as NoRoom}
+use Rattle.tas_session.specs.declared.replies.EditError.{EditError}
+use Rattle.tas_session.specs.declared.replies.EditError.TheVariants.{Memory as NoRoom}
 use Rattle.tas_engines.specs.declared.fault.RunFault.{RunFault}
 use Rattle.tas_engines.specs.declared.fault.RunFault.TheVariants.{Range, Halted, Write, Foreign, Memory}
 use Rattle.tas_engines.specs.Shooting.{halt_fault}

@@ -2,11 +2,11 @@
 
 ghost use Rattle.std.specs.Prelude.{◌≡◌, ℕ, ◌+◌, Err, IfOk, MatchResult, length};
 ghost use Rattle.tas_movie.specs.declared.edit.Edit.{Edit as EditContent};
-ghost use Rattle.tas_desk.specs.declared.replies.EditError.TheVariants.{Serial, Memory as OutOfMemory};
-ghost use Rattle.tas_desk.specs.Session.{refusal_at, IsEditError};
+ghost use Rattle.tas_session.specs.declared.replies.EditError.TheVariants.{Serial, Memory as OutOfMemory};
+ghost use Rattle.tas_session.specs.Session.{refusal_at, IsEditError};
 ghost use Rattle.tas_engines.specs.declared.fault.RunFault.TheVariants.{Foreign, NoEntry};
 ghost use Rattle.tas_desk.specs.Seats.{HasSeen};
-ghost use Rattle.tas_desk.specs.Shots.{IsShotAt};
+ghost use Rattle.tas_session.specs.Shots.{IsShotAt};
 ghost use Rattle.tas_tool.specs.Turns.{own_edits_of, refused_reply, halted_reply, BeginsWithOwn, IsDeskFault, IsEditTurn, IsTurn};
 ghost use Rattle.tas_tool.specs.Checking.{checked_end, looked, IsAnswer, IsEditAnswer};
 ghost use Rattle.tas_tool.specs.Talk.{ShotLeaves};

@@ -2,7 +2,7 @@
 
 ghost use Rattle.std.specs.Prelude.{◌≡◌, ◌+◌, ◌≤◌, ◌<◌, length, Some, Ok, Err, IfOk, IfErr, MatchOption, MatchResult};
 ghost use Rattle.tas_green.specs.Run.{state_after};
-ghost use Rattle.tas_desk.specs.Answers.{answer_shot};
+ghost use Rattle.tas_session.specs.Answers.{answer_shot};
 ghost use Rattle.tas_desk.specs.Seats.{HasSeen};
 ghost use Rattle.tas_language.specs.declared.request.Request.TheVariants.{Ram as RamLine, Digest as DigestLine};
 ghost use Rattle.tas_tool.specs.Turns.{own_edits_of, BeginsWithOwn, IsDeskFault};

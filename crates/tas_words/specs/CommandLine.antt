@@ -9,7 +9,7 @@ use Rattle.clap.specs.declared.builder.command.Command.{Command}
 use Rattle.clap.specs.declared.builder.command.Command.TheViews.{out-Command}
 use Rattle.clap.specs.declared.builder.value_parser.ValueParser.{ValueParser}
 use Rattle.tas_language.specs.Commands.{most_number}
-use Rattle.tas_desk.specs.Runs.{most_workers}
+use Rattle.tas_film.specs.Runs.{most_workers}
 use Rattle.tas_words.specs.declared.subcommands.Subcommand.{Subcommand}
 use Rattle.tas_words.specs.declared.subcommands.Word.{Word}
 use Rattle.tas_words.specs.declared.subcommands.WordKind.{WordKind}

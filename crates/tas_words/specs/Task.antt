@@ -3,7 +3,7 @@ use Rattle.std.specs.Prelude.{◌≡◌, ℕ, ◌≤◌, List, ◌⊎◌, Option
 use Rattle.std.specs.Str.Parse.{digits_value, without_leading_plus}
 use Rattle.clap.specs.Walk.{Row, Text, first_of, one_of}
 use Rattle.tas_language.specs.Commands.{most_number}
-use Rattle.tas_desk.specs.Runs.{most_workers}
+use Rattle.tas_film.specs.Runs.{most_workers}
 use Rattle.tas_words.specs.declared.task.Start.{Start}
 use Rattle.tas_words.specs.declared.task.Start.TheVariants.{Blank, Cart, Movie}
 use Rattle.tas_words.specs.declared.task.Task.{Task}

@@ -15,7 +15,7 @@ pub const MAX_EVERY: u32 = 262_144;
 pub const USUAL_EVERY: u32 = 600;
 
 /// The most workers of one export (own).
-pub const MAX_WORKERS: u32 = tas_desk::MAX_WORKERS as u32;
+pub const MAX_WORKERS: u32 = tas_film::MAX_WORKERS as u32;
 
 /// The names of a movie's two files (own).
 #[derive(Clone, Copy, Debug, PartialEq, Eq)]

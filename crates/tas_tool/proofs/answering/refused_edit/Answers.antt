@@ -1,5 +1,5 @@
 use Rattle.std.proofs.Common.{◌∙◌, refl}
-use Rattle.tas_desk.specs.declared.replies.EditError.TheVariants.{Full as AllMade, Place as OutOfPlace, Long as OverLong}
+use Rattle.tas_session.specs.declared.replies.EditError.TheVariants.{Full as AllMade, Place as OutOfPlace, Long as OverLong}
 use Rattle.tas_tool.proofs.TurnLemmas.{error_is, refused_at, refused_serial, refused_memory, seen_self, checked_has_entry}
 use Rattle.tas_tool.proofs.answering.refused_edit.Goals as goal
 

@@ -1,5 +1,5 @@
 use Rattle.std.proofs.Common.{◌≡◌, length, ap, ◌∙◌, inl, inr, Err}
-use Rattle.tas_desk.specs.declared.replies.OfferError.TheVariants.{Cartridge}
+use Rattle.tas_session.specs.declared.replies.OfferError.TheVariants.{Cartridge}
 use Rattle.tas_desk.proofs.SeatLemmas.{looked_twice}
 use Rattle.tas_desk.proofs.WorkLemmas.{never_stale}
 use Rattle.tas_desk.proofs.desk.Desk.work_one.Goals as goal

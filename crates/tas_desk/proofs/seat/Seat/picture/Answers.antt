@@ -1,11 +1,12 @@
 use Rattle.std.proofs.lemmas.Grind.{common_steps}
 use Rattle.std.proofs.Common.{ap, subst, refl, arith}
-use Rattle.tas_desk.specs.Version.{VersionContent}
+use Rattle.tas_session.specs.Version.{VersionContent}
 use Rattle.tas_desk.specs.Seats.{SeatContent}
 use Rattle.tas_desk.specs.Zones.{ZoneContent, IsShort, IsViewed}
 use Rattle.tas_desk.proofs.CutLemmas.{short_view}
 use Rattle.tas_desk.proofs.ZoneLemmas.{seated_on, marked, made_for, seen_more}
-use Rattle.tas_desk.proofs.ShotLemmas.{shot_at, so_many, where_shown, zone_viewed}
+use Rattle.tas_session.proofs.ShotLemmas.{shot_at, so_many, where_shown}
+use Rattle.tas_desk.proofs.ZoneShotLemmas.{zone_viewed}
 use Rattle.tas_desk.proofs.seat.Seat.picture.Goals as goal
 
 pub returns-clause-zone : goal.returns-clause-zone

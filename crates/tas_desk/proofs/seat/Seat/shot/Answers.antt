@@ -1,12 +1,13 @@
 use Rattle.std.proofs.lemmas.Grind.{common_steps}
 use Rattle.std.proofs.Common.{ap, sym, subst, subst₂, refl, arith}
 use Rattle.tas_green.specs.Green.{IsShotFrom}
-use Rattle.tas_desk.specs.Version.{VersionContent}
+use Rattle.tas_session.specs.Version.{VersionContent}
 use Rattle.tas_desk.specs.Seats.{SeatContent}
 use Rattle.tas_desk.specs.Zones.{ZoneContent, CutsWindow, IsPlayed, IsShort}
 use Rattle.tas_desk.proofs.CutLemmas.{short_shot}
 use Rattle.tas_desk.proofs.ZoneLemmas.{seated_on, marked, made_for, seen_more}
-use Rattle.tas_desk.proofs.ShotLemmas.{shot_at, so_many, was_played, zone_shot}
+use Rattle.tas_session.proofs.ShotLemmas.{shot_at, so_many, was_played}
+use Rattle.tas_desk.proofs.ZoneShotLemmas.{zone_shot}
 use Rattle.tas_desk.proofs.seat.Seat.shot.Goals as goal
 
 pub returns-clause-zone : goal.returns-clause-zone

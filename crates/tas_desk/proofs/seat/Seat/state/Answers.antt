@@ -2,7 +2,7 @@ use Rattle.std.proofs.lemmas.Grind.{common_steps}
 use Rattle.std.proofs.Common.{◌∙◌, ap, sym, subst, subst₂, arith}
 use Rattle.tas_green.specs.Green.{IsReachedFrom}
 use Rattle.tas_green.specs.Run.{state_after}
-use Rattle.tas_desk.specs.Version.{VersionContent}
+use Rattle.tas_session.specs.Version.{VersionContent}
 use Rattle.tas_desk.specs.Seats.{SeatContent}
 use Rattle.tas_desk.specs.States.{IsReached}
 use Rattle.tas_desk.specs.Zones.{ZoneContent, CutsWindow}

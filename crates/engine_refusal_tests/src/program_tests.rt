@@ -1,0 +1,151 @@
+//! The whole program with one growth refused: of its words, of its texts, and of what it does.
+
+use crate::checks::{check_same, expect_ok};
+use crate::heaps::{Heap, NEVER, refuse, refusing};
+use crate::inputs::{Bytes, make_inputs};
+use std::alloc::Global;
+use std::env::Args;
+use std::io;
+use std::io::{Error, ErrorKind};
+use std::process::Abort;
+use std::sync::Wait;
+use std::thread::Threads;
+use tas_program::{Folder, Streams, run_program};
+use test_streams::Giver;
+
+/// A folder with one file, `game.bin`.
+#[derive(Drop)]
+struct OneFile<'a> {
+    game: &'a [u8],
+}
+
+impl<'a> Folder for OneFile<'a> {
+    type File = Giver<'a>;
+
+    fn open(&self, name: &str) -> io::Result<Giver<'a>> {
+        if name == "game.bin" {
+            Ok(Giver::new(self.game, usize::MAX, 0))
+        } else {
+            Err(Error::from(ErrorKind::NotFound))
+        }
+    }
+}
+
+/// How the program ended: its status, what it wrote, and what it told of faults.
+#[derive(Drop)]
+struct End {
+    status: u8,
+    written: Vec<u8>,
+    told: Vec<u8>,
+}
+
+/// Whether two ends are alike.
+fn are_alike(one: &End, other: &End) -> bool {
+    one.status == other.status && one.written == other.written && one.told == other.told
+}
+
+/// Whether it ended out of memory, with nothing written.
+fn is_refused(end: &End) -> bool {
+    let line = b"fault: out of memory\n".as_slice();
+    end.status == 1 && end.written.is_empty() && end.told.as_slice() == line
+}
+
+/// These words in memory of the heap; none stand for some that aren't text.
+fn words_of<'a, R: Abort>(rt: &R, heap: &'a Heap, words: &[&str]) -> io::Result<Args<&'a Heap>> {
+    if words.is_empty() {
+        return Err(Error::from(ErrorKind::InvalidData));
+    }
+    let mut all = Vec::new(heap);
+    for word in words {
+        let word = expect_ok(rt, String::from_str(heap, word));
+        expect_ok(rt, all.push(word));
+    }
+    Ok(all.into_iter())
+}
+
+/// A run with one growth refused, and whether it came to that one.
+fn run_refused<T: Wait + Threads + Abort + Sync>(
+    rt: &T,
+    alloc: Global,
+    words: &[&str],
+    (game, input): (&[u8], &[u8]),
+    number: u64,
+) -> (End, bool) {
+    let heap = refusing(alloc, NEVER);
+    let words = words_of(rt, &heap, words);
+    let mut written = Vec::new(alloc);
+    let mut told = Vec::new(alloc);
+    refuse(&heap, number);
+    let mut streams = Streams {
+        input,
+        output: &mut written,
+        errors: &mut told,
+    };
+    let status = run_program(rt, alloc, &heap, words, &OneFile { game }, &mut streams).code();
+    let end = End {
+        status,
+        written,
+        told,
+    };
+    (end, heap.has_refused())
+}
+
+/// No run grows so often here.
+const MOST: u64 = 100;
+
+/// Refuses a run its growths in turn, until it grows no more: how many of them ended it, and at how many it ended as ever. Else the first
+/// growth that went wrong.
+fn count_refused<T: Wait + Threads + Abort + Sync>(
+    rt: &T,
+    alloc: Global,
+    words: &[&str],
+    streams: (&[u8], &[u8]),
+) -> Result<(u64, u64), u64> {
+    let (whole, _) = run_refused(rt, alloc, words, streams, NEVER);
+    let (mut refused, mut ended) = (0u64, 0u64);
+    for number in 1..MOST {
+        let (end, has_refused) = run_refused(rt, alloc, words, streams, number);
+        match (has_refused, are_alike(&end, &whole), is_refused(&end)) {
+            (false, true, _) => return Ok((refused, ended)),
+            (true, true, _) => ended = ended.saturating_add(1),
+            (true, false, true) => refused = refused.saturating_add(1),
+            _ => return Err(number),
+        }
+    }
+    Err(MOST)
+}
+
+/// Words, whether the input is the cartridge or a movie of three frames, how many growths end the program, and at how many it ends as ever.
+///
+/// A text of clap's, or that the words aren't text, has one growth, and a task those of its engine: `trace` 2, `check` 7, `shot` 5 before it
+/// misses the frame, `export` by one worker 32 and by two 34. The list of words has one, for all of them, and where it is refused asks for less. A fault's
+/// line has two, its room and more of it; where they are refused it goes out in pieces.
+static RUNS: [(&[&str], bool, u64, u64); 8] = [
+    (&[], false, 1, 0),
+    (&["tas", "play"], false, 1, 1),
+    (&["tas", "--version"], false, 1, 1),
+    (&["tas", "trace", "3"], true, 2, 1),
+    (&["tas", "check", "game.bin"], false, 7, 1),
+    (&["tas", "shot", "game.bin", "9"], false, 5, 3),
+    (&["tas", "export", "game.bin", "1", "3", "1"], false, 32, 1),
+    (&["tas", "export", "game.bin", "1", "3", "2"], false, 34, 1),
+];
+
+/// The two streams of a run: the file `game.bin` and the input.
+fn streams_of(bytes: &Bytes, is_cart: bool) -> (&[u8], &[u8]) {
+    let cart = bytes.cart.as_slice();
+    let input = if is_cart { cart } else { bytes.old.as_slice() };
+    (cart, input)
+}
+
+#[test]
+fn each_growth_of_the_program(rt: HostRuntime) {
+    let alloc = rt.alloc();
+    let bytes = make_inputs(&rt, alloc);
+    for (number, row) in RUNS.iter().enumerate() {
+        let (words, is_cart, refused, ended) = *row;
+        let streams = streams_of(&bytes, is_cart);
+        let counts = count_refused(&rt, alloc, words, streams);
+        check_same(&rt, ("words", number), counts, Ok((refused, ended)));
+    }
+}

@@ -1,0 +1,16 @@
+use Rattle.std.proofs.lemmas.Grind.{common_steps}
+use Rattle.std.proofs.Common.{◌+◌, arith}
+use Rattle.tas_film.proofs.RunLemmas.{next_within}
+use Rattle.tas_film.proofs.runs.Run.play.Goals as goal
+
+pub play_run-self-requires-clause-within : goal.play_run-self-requires-clause-within
+play_run-self-requires-clause-within g c =
+    let p = c.requires.plan in
+    let high = next_within c.args.plan (c.args.number + 1) p.some p.order (omega arith) in
+    omega (arith, high, c.first_of_run-next.ensures, p.within)
+
+pub play_run-self-requires-clause-few : goal.play_run-self-requires-clause-few
+play_run-self-requires-clause-few g c = grind (arith, common_steps)
+
+pub play_run-self-requires-clause-order : goal.play_run-self-requires-clause-order
+play_run-self-requires-clause-order g c = grind (arith, common_steps)

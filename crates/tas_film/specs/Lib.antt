@@ -1,0 +1,4 @@
+pub mod Faults
+pub mod Films
+pub mod Frames
+pub mod Runs

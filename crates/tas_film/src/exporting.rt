@@ -1,0 +1,101 @@
+//! Pictures written in order.
+
+ghost use Rattle.std.specs.Prelude.{◌≡◌, ◌-◌, [], length, IfOk, IfErr, OnOk};
+ghost use Rattle.std.specs.List.{All};
+ghost use Rattle.std.specs.Io.KnownBytes.{Appends};
+ghost use Rattle.tas_green.specs.Green.{IsLawful};
+ghost use Rattle.tas_film.specs.Frames.{AllDrawn, pixmaps_of};
+ghost use Rattle.tas_film.specs.Runs.{IsPlan, costs};
+ghost use Rattle.tas_film.specs.Faults.{IsExportFault, IsRunsFault};
+
+use crate::Gate;
+use crate::pixmaps::{HaltedFrame, Stop};
+use crate::runs::{Plan, Run, play_runs};
+use crate::writing::write_pixmaps;
+use std::alloc::Allocator;
+use std::io::{Error, Write};
+use std::thread::Threads;
+use tas_green::Green;
+use tas_movie::Movie;
+
+/// Why an export isn't whole.
+#[derive(Drop)]
+pub enum ExportFault {
+    /// Memory was refused. Nothing was written.
+    Memory,
+    /// A frame is halted; this is the least one. Nothing was written.
+    Halted(HaltedFrame),
+    /// A write failed, or took no byte, after this many bytes.
+    Write {
+        /// How many bytes had gone out: fewer than all.
+        written: usize,
+        /// The writer's error.
+        error: Error,
+    },
+}
+
+/// Draws the frames of a plan, each run of them by a worker on a thread of its own, which passes the
+/// gate first and makes the pixmaps of its frames too, and writes all of these in order once they are there. A run
+/// starts from the nearest kept state at its first frame or before it. Answers how many frames were played.
+pub fn export_frames<
+    A: Allocator + Copy + Send + Sync,
+    R: Threads + Sync,
+    G: Gate + Sync,
+    W: Write,
+>(
+    rt: &R,
+    alloc: A,
+    movie: &Movie<A>,
+    zone: &Green<A>,
+    plan: Plan,
+    gate: &G,
+    to: &mut W,
+) -> Result<u64, ExportFault>
+    requires lawful { IsLawful movie.now zone.now }
+    requires plan { IsPlan movie.now plan }
+    ensures ok { OnOk result (Appends (W.contents to.old) (W.contents to.new)
+        (pixmaps_of movie.now plan.from (plan.to - plan.from))) }
+    ensures drawn { OnOk result (AllDrawn movie.now plan.from plan.to) }
+    ensures played { IfOk result (λ played. played ≡ costs zone.now plan 0 plan.workers) }
+    ensures fault { IfErr result (IsExportFault movie.now plan (W.contents to.old) (W.contents to.new)) }
+{
+    let Ok(mut runs) = plan.runs(alloc) else {
+        return Err(ExportFault::Memory);
+    };
+    export_runs(rt, movie, zone, plan, gate, runs.as_mut_slice(), to)
+}
+
+/// Draws the runs of a plan and writes them, as [`export_frames`]; the room for their pixmaps is there.
+fn export_runs<A: Allocator + Send + Sync, R: Threads + Sync, G: Gate + Sync, W: Write>(
+    rt: &R,
+    movie: &Movie<A>,
+    zone: &Green<A>,
+    plan: Plan,
+    gate: &G,
+    runs: &mut [Run<A>],
+    to: &mut W,
+) -> Result<u64, ExportFault>
+    requires lawful { IsLawful movie.now zone.now }
+    requires plan { IsPlan movie.now plan }
+    requires count { length runs.old ≡ plan.workers }
+    requires empty { All (λ run. run.pixmaps ≡ []) runs.old }
+    ensures ok { OnOk result (Appends (W.contents to.old) (W.contents to.new)
+        (pixmaps_of movie.now plan.from (plan.to - plan.from))) }
+    ensures drawn { OnOk result (AllDrawn movie.now plan.from plan.to) }
+    ensures played { IfOk result (λ played. played ≡ costs zone.now plan 0 plan.workers) }
+    ensures fault { IfErr result (IsRunsFault movie.now plan (W.contents to.old) (W.contents to.new)) }
+{
+    let end = play_runs(rt, movie, zone, gate, plan, runs);
+    match end.stop {
+        Some(Stop::Halted(halted)) => return Err(ExportFault::Halted(halted)),
+        Some(Stop::Memory) => return Err(ExportFault::Memory),
+        None => {}
+    }
+    match write_pixmaps(runs, to) {
+        Ok(()) => Ok(end.played),
+        Err(fault) => Err(ExportFault::Write {
+            written: fault.written,
+            error: fault.error,
+        }),
+    }
+}

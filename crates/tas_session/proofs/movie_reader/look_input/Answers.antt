@@ -1,0 +1,6 @@
+use Rattle.std.proofs.Common.{arith}
+use Rattle.tas_session.proofs.PublishedRule.{looks}
+use Rattle.tas_session.proofs.movie_reader.look_input.Goals as goal
+
+pub enter_as-requires : goal.enter_as-requires
+enter_as-requires g c = λ x. looks _ _ x

@@ -1,0 +1,26 @@
+use Rattle.tas_session.proofs.PublishedRule.{publishes_one}
+use Rattle.tas_session.proofs.PublishLemmas.{done_of}
+use Rattle.tas_session.proofs.publisher.publish_one.Goals as goal
+
+pub publish_as-writer-requires : goal.publish_as-writer-requires
+publish_as-writer-requires g c = λ next is. publishes_one _ _ _ _ next is c.requires.known c.requires.more
+
+pub returns-clause-none : goal.returns-clause-none
+returns-clause-none g c =
+    let e = c.publish_as-writer.ensures in
+    (done_of _ _ c.publish_as-writer.result.1 (e.succeeds tt) e.values).1
+
+pub returns-clause-value : goal.returns-clause-value
+returns-clause-value g c =
+    let e = c.publish_as-writer.ensures in
+    (done_of _ _ c.publish_as-writer.result.1 (e.succeeds tt) e.values).0
+
+pub returns-clause-one : goal.returns-clause-one
+returns-clause-one g c =
+    let e = c.publish_as-writer.ensures in
+    (done_of _ _ c.publish_as-writer.result.1 (e.succeeds tt) e.rule).more
+
+pub returns-clause-view : goal.returns-clause-view
+returns-clause-view g c =
+    let e = c.publish_as-writer.ensures in
+    (done_of _ _ c.publish_as-writer.result.1 (e.succeeds tt) e.rule).seen

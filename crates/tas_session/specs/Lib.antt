@@ -1,0 +1,9 @@
+pub mod Answers
+pub mod Counts
+pub mod History
+pub mod Published
+pub mod Readings
+pub mod Registry
+pub mod Session
+pub mod Shots
+pub mod Version

@@ -1,0 +1,27 @@
+//! The editor for one caller: one movie, the history of its edits, its greenzone, and the published movie, which readers see
+//! without waiting.
+//!
+//! "(own)" marks a rule that is this project's own; where a rule comes from a manual, its section is named.
+#![tactic(auto)]
+
+mod counts;
+mod entry;
+mod movie_copy;
+mod movie_reader;
+mod published;
+mod publisher;
+mod reader_view;
+mod replies;
+mod session;
+mod version;
+
+pub use entry::Entry;
+pub use movie_copy::MovieCopy;
+pub use movie_reader::MovieReader;
+pub use publisher::Closed;
+pub use replies::{
+    EditError, InputError, NoEntry, OfferError, Offered, OpenError, Reached, Receipt, Shot,
+    ShotError, StateError, shown,
+};
+pub use session::{MAX_EDITS, Session};
+pub use version::{Version, VersionRule};

@@ -1,0 +1,222 @@
+//! What a session or a desk answers. In every reply `at` is the number of edits in the history at which the reply stands.
+
+ghost use Rattle.std.specs.Prelude.{◌≡◌, Ok, Err, OnOk, IfErr};
+ghost use Rattle.tas_session.specs.declared.replies.ShotError.TheVariants.{Halted};
+ghost use Rattle.tas_session.specs.Shots.{shot_error};
+
+use std::alloc::{Allocator, Global};
+use tas_green::Batch;
+use thiserror::Error;
+use vcs_cpu::Halt;
+use vcs_machine::State;
+use vcs_tia::Picture;
+
+/// Why no session or desk was opened (own).
+#[derive(Clone, Copy, Debug, PartialEq, Eq, Error)]
+pub enum OpenError {
+    /// Memory was refused.
+    #[error("out of memory")]
+    Memory,
+    /// A seat's reader got no place to read from. A session never answers it.
+    #[error("no place")]
+    NoPlace,
+}
+
+/// The seat's reader found its writer gone; the seat is as it was (own). A desk that isn't closed has its writer, so this
+/// never comes, but no clause says so.
+#[derive(Clone, Copy, Debug, PartialEq, Eq, Error)]
+#[error("no entry")]
+pub struct NoEntry;
+
+/// Why there is no input (own).
+#[derive(Clone, Copy, Debug, PartialEq, Eq, Error)]
+pub enum InputError {
+    /// The seat's reader found its writer gone, as in [`NoEntry`](crate::NoEntry); the seat is as it was.
+    #[error("no entry")]
+    NoEntry,
+    /// The movie has no such frame.
+    #[error("no such frame of {len} at {at}")]
+    NoFrame {
+        /// How many edits the history has.
+        at: u64,
+        /// The movie's length in frames.
+        len: usize,
+    },
+}
+
+/// An edit was made (own).
+#[derive(Clone, Copy, Debug, PartialEq, Eq)]
+pub struct Receipt {
+    /// How many edits the history has, this one included.
+    pub at: u64,
+    /// The movie's length in frames after it.
+    pub len: usize,
+}
+
+/// Why an edit was refused; history, movie and greenzone are as they were (own).
+#[derive(Clone, Copy, Debug, PartialEq, Eq, Error)]
+pub enum EditError {
+    /// The history has another number of this seat's entries than the caller says.
+    #[error("seat has {counted} edits at {at}")]
+    Serial {
+        /// How many edits the history has.
+        at: u64,
+        /// How many of them are this seat's.
+        counted: u64,
+    },
+    /// The history has [`MAX_EDITS`](crate::MAX_EDITS) edits.
+    #[error("full at {at}")]
+    Full {
+        /// How many edits the history has.
+        at: u64,
+    },
+    /// The edit reaches past the movie's last input.
+    #[error("place {place} of {len} at {at}")]
+    Place {
+        /// How many edits the history has.
+        at: u64,
+        /// The edit's place in the movie's inputs.
+        place: usize,
+        /// The movie's length in frames.
+        len: usize,
+    },
+    /// The movie would have too many inputs.
+    #[error("too long: {len} at {at}")]
+    Long {
+        /// How many edits the history has.
+        at: u64,
+        /// The movie's length in frames.
+        len: usize,
+    },
+    /// Memory was refused.
+    #[error("out of memory")]
+    Memory,
+}
+
+/// A frame was drawn (own).
+#[derive(Drop)]
+pub struct Shot<A: Allocator = Global> {
+    /// How many edits the history has.
+    pub at: u64,
+    /// The frame, counted from 0.
+    pub frame: usize,
+    /// How many frames were played for it.
+    pub ran: u64,
+    /// Its picture.
+    pub picture: Picture<A>,
+}
+
+/// Why a frame wasn't drawn (own).
+#[derive(Clone, Copy, Debug, PartialEq, Eq, Error)]
+pub enum ShotError {
+    /// The seat's reader found its writer gone, as in [`NoEntry`](crate::NoEntry); the seat is as it was. A session never
+    /// answers it.
+    #[error("no entry")]
+    NoEntry,
+    /// The movie has no such frame.
+    #[error("no such frame of {len} at {at}")]
+    NoFrame {
+        /// How many edits the history has.
+        at: u64,
+        /// The movie's length in frames.
+        len: usize,
+    },
+    /// Memory was refused; the greenzone is as it was.
+    #[error("out of memory")]
+    Memory,
+    /// The machine has halted in the frame or before it.
+    #[error("halted at {at}")]
+    Halted {
+        /// How many edits the history has.
+        at: u64,
+        /// Where and why it halted.
+        halt: Halt,
+    },
+}
+
+/// The machine after some frames (own).
+#[derive(Clone, Copy, Debug)]
+pub struct Reached {
+    /// How many edits the history has.
+    pub at: u64,
+    /// How many frames were played for it.
+    pub ran: u64,
+    /// Its state, halted or not.
+    pub state: State,
+}
+
+/// Why a state wasn't reached (own).
+#[derive(Clone, Copy, Debug, PartialEq, Eq, Error)]
+pub enum StateError {
+    /// The seat's reader found its writer gone, as in [`NoEntry`](crate::NoEntry); the seat is as it was.
+    #[error("no entry")]
+    NoEntry,
+    /// The movie has fewer frames.
+    #[error("no such frame of {len} at {at}")]
+    NoFrame {
+        /// How many edits the history has.
+        at: u64,
+        /// The movie's length in frames.
+        len: usize,
+    },
+    /// Memory was refused; the greenzone is as it was.
+    #[error("out of memory")]
+    Memory,
+}
+
+impl From<StateError> for ShotError {
+    ghost from_gives = { λ error shot. shot ≡ shot_error error };
+
+    fn from(error: StateError) -> ShotError {
+        match error {
+            StateError::NoEntry => ShotError::NoEntry,
+            StateError::NoFrame { at, len } => ShotError::NoFrame { at, len },
+            StateError::Memory => ShotError::Memory,
+        }
+    }
+}
+
+/// The answer to a shot of a frame that this many frames were played for: the picture, or the halt that they ended at.
+pub fn shown<A: Allocator>(
+    at: u64,
+    frame: usize,
+    ran: u64,
+    picture: Picture<A>,
+    end: Result<(), Halt>,
+) -> Result<Shot<A>, ShotError>
+    ensures shot { OnOk end (result ≡ Ok (record { at = at; frame = frame; ran = ran; picture = picture })) }
+    ensures halted { IfErr end (λ halt. result ≡ Err (Halted at halt)) }
+{
+    match end {
+        Ok(()) => Ok(Shot {
+            at,
+            frame,
+            ran,
+            picture,
+        }),
+        Err(halt) => Err(ShotError::Halted { at, halt }),
+    }
+}
+
+/// A batch was taken (own).
+#[derive(Clone, Copy, Debug, PartialEq, Eq)]
+pub struct Offered {
+    /// How many edits the history has.
+    pub at: u64,
+    /// The length of the common beginning of the batch's inputs and the movie's, in frames.
+    pub front: usize,
+    /// How many states were gained that weren't kept before.
+    pub kept: usize,
+}
+
+/// Why a batch wasn't taken; the greenzone is as it was (own).
+#[derive(Drop)]
+pub enum OfferError<A: Allocator = Global> {
+    /// The batch's cartridge has other bytes than the movie's.
+    Cartridge {
+        /// How many edits the history has.
+        at: u64,
+    },
+    /// Memory was refused; the batch is handed back.
+    Memory(Batch<A>),
+}

@@ -1,0 +1,320 @@
+//! The editor for one caller.
+
+ghost use Rattle.std.specs.Prelude.{◌≡◌, ◌≢◌, ◌↔◌, ◌⊎◌, ℕ, ◌+◌, ◌<◌, ◌≤◌, ◌^◌, [], length, take, min, Some, None, IfOk, IfErr, OnOk, OnErr, MatchResult};
+ghost use mathlib.Core.List.{IsPrefix};
+ghost use Rattle.tas_movie.specs.Content.{blank_movie};
+ghost use Rattle.tas_movie.specs.Edit.{edited};
+ghost use Rattle.tas_green.specs.Run.{state_after};
+ghost use Rattle.tas_green.specs.Zone.{state_at, nearest, first_of, where_true, is_on_grid, is_passed};
+ghost use Rattle.tas_green.specs.Grid.{most_states, stride};
+ghost use Rattle.tas_green.specs.Front.{IsCommonFront};
+ghost use Rattle.tas_green.specs.Green.{IsLawful, HoldsGrid};
+ghost use Rattle.tas_session.specs.declared.replies.OfferError.TheVariants.{Cartridge, Memory};
+ghost use Rattle.tas_session.specs.declared.replies.OpenError.TheVariants.{Memory as OutOfMemory};
+ghost use Rattle.tas_session.specs.History.{most_edits, IsLegal, movie_of};
+ghost use Rattle.tas_session.specs.Session.{IsNextEntry, edit_refusal, IsEditError, after_entry};
+ghost use Rattle.tas_session.specs.Version.{version_of};
+ghost use Rattle.tas_session.specs.Published.{view_of, KnowsRegistry};
+ghost use Rattle.tas_session.specs.Shots.{IsShot, IsShotError, MatchPlayed};
+
+use crate::counts::EntryCounts;
+use crate::movie_reader::MovieReader;
+use crate::publisher::{Closed, Publisher};
+use crate::replies::shown;
+use crate::version::Version;
+use crate::{EditError, Entry, OfferError, Offered, OpenError, Receipt, Shot, ShotError};
+use std::alloc::{AllocError, Allocator, Global};
+use std::marker::Model;
+use std::sync::Wait;
+use tas_green::{Batch, Green, Job, MergeError};
+use tas_movie::{Edit, EditRefusal, Movie, check};
+use vcs_machine::Meter;
+use vcs_tia::Picture;
+
+/// How many edits a history has at most (own).
+pub const MAX_EDITS: u64 = 1_000_000;
+
+/// A movie, the history of its edits, and its greenzone (own). The type keeps that the history is legal, that the movie is
+/// the history's, and that each kept state is the movie's machine's.
+///
+/// It owns what is published to readers, so it can't be dropped: end it by `close`.
+pub struct Session<A: Allocator = Global> {
+    publisher: Publisher<A>,
+    counts: EntryCounts<A>,
+    green: Green<A>,
+}
+
+impl<A: Allocator> Model for Session<A> {
+    ghost use Rattle.std.specs.Prelude.{◌≡◌, ℕ};
+    ghost use Rattle.tas_session.specs.Counts.{count_in};
+    ghost use Rattle.tas_session.specs.History.{entries_of};
+    ghost use Rattle.tas_session.specs.Session.{SessionContent, IsSound};
+
+    ghost Value = { SessionContent A };
+
+    ghost view = { λ a. record { registry = a.publisher.registry; journal = a.publisher.journal; movie = a.publisher.movie; zone = a.green } };
+
+    ghost invariant = { λ a. IsSound a.publisher.journal a.publisher.movie a.green × ((seat : ℕ) → count_in a.counts seat ≡ entries_of seat a.publisher.journal) };
+}
+
+impl<A: Allocator> Session<A> {
+    /// Ends the session, and returns its movie and history.
+    pub fn close<R: Wait>(self, rt: &R) -> Closed<A>
+        ensures journal { result.journal.items ≡ self.journal }
+        ensures movie { result.movie ≡ self.movie }
+        ensures history { self.movie ≡ movie_of self.journal }
+        ensures legal { IsLegal self.journal }
+    {
+        let Session {
+            publisher,
+            counts: _,
+            green: _,
+        } = self;
+        publisher.close(rt)
+    }
+
+    /// A reader of the published movie that has seen the whole history. `AllocError` where memory is refused or no place for a reader
+    /// is left. The session is as it was.
+    pub fn reader<R: Wait>(&mut self, rt: &R) -> Result<MovieReader<A>, AllocError>
+        ensures same { self.new ≡ self.old }
+        ensures seen { IfOk result (λ reader. reader ≡ view_of (version_of self.old.registry self.old.journal)) }
+    {
+        self.publisher.reader(rt)
+    }
+
+    /// Makes a reader enter until it sees the present history. The reader must be of this session's registry, as those that
+    /// `reader` made are.
+    pub fn show_to<R: Wait>(&self, rt: &R, reader: &mut MovieReader<A>)
+        requires { KnowsRegistry reader.old self.now.registry }
+        ensures seen { reader.new ≡ view_of (version_of self.now.registry self.now.journal) }
+        ensures begins { IsPrefix reader.old.seen self.now.journal }
+        ensures history { self.now.movie ≡ movie_of self.now.journal }
+        ensures lawful { IsLawful self.now.movie self.now.zone }
+    {
+        self.publisher.show_to(rt, reader)
+    }
+}
+
+impl<A: Allocator + Copy> Session<A> {
+    /// The blank cartridge with no inputs, an empty history and no kept states. `Memory` where memory is refused.
+    pub fn new(alloc: A) -> Result<Session<A>, OpenError>
+        ensures fresh { IfOk result (λ session. (session.journal ≡ []) × (session.movie ≡ blank_movie) × (session.zone ≡ [])) }
+        ensures error { IfErr result (λ error. error ≡ OutOfMemory) }
+    {
+        match Session::with_places(alloc, 1) {
+            Ok(session) => Ok(session),
+            Err(_) => Err(OpenError::Memory),
+        }
+    }
+
+    /// A session as [`Session::new`] makes it, with places for this many readers, 1 to 2^32 - 1. `AllocError` where memory is refused.
+    /// The writer is made last: it can't be dropped, so nothing that may fail follows it.
+    pub fn with_places(alloc: A, readers: usize) -> Result<Session<A>, AllocError>
+        requires { (0 < readers) × (readers < 2 ^ 32) }
+        ensures { IfOk result (λ session. session ≡ record { registry = session.registry; journal = []; movie = blank_movie; zone = [] }) }
+    {
+        let counts = EntryCounts::new(alloc);
+        let green = Green::new(alloc);
+        Ok(Session {
+            publisher: Publisher::new(alloc, readers)?,
+            counts,
+            green,
+        })
+    }
+
+    /// Makes an edit, as `seat`, which says that it has made `made` edits before.
+    ///
+    /// It is refused, in this order, for `Serial`, `Full`, `Place`, `Long` and `Memory`; each refusal leaves history, movie
+    /// and greenzone as they were. Afterwards exactly the states up to the edited place on the grid of the new length are
+    /// kept.
+    pub fn edit<R: Wait>(
+        &mut self,
+        rt: &R,
+        seat: u32,
+        made: u64,
+        edit: Edit<A>,
+    ) -> Result<Receipt, EditError>
+        ensures receipt { IfOk result (λ receipt. receipt ≡ record { at = length self.old.journal + 1; len = length (edited self.old.movie edit).inputs }) }
+        ensures refusal { MatchResult result (λ _. edit_refusal self.old seat made edit ≡ None) (IsEditError (edit_refusal self.old seat made edit)) }
+        ensures done { OnOk result (self.new ≡ after_entry self.old (record { seat = seat; serial = made; edit = edit })) }
+        ensures next { OnOk result (IsNextEntry self.old.journal (record { seat = seat; serial = made; edit = edit })) }
+        ensures refused { OnErr result (self.new ≡ self.old) }
+    {
+        self.check_edit(seat, made, &edit)?;
+        let next = Entry {
+            seat,
+            serial: made,
+            edit,
+        };
+        if self.accept(rt, next).is_err() {
+            return Err(EditError::Memory);
+        }
+        Ok(Receipt {
+            at: self.at(),
+            len: self.movie().len(),
+        })
+    }
+
+    /// Whether the edit would be refused for another cause than memory.
+    fn check_edit(&self, seat: u32, made: u64, edit: &Edit<A>) -> Result<(), EditError>
+        ensures refusal { MatchResult result (λ _. edit_refusal self.now seat made edit.now ≡ None) (λ error. edit_refusal self.now seat made edit.now ≡ Some error) }
+        ensures next { OnOk result (IsNextEntry self.now.journal (record { seat = seat; serial = made; edit = edit.now })) }
+    {
+        let at = self.at();
+        let counted = self.counts.count(seat);
+        if counted != made {
+            return Err(EditError::Serial { at, counted });
+        }
+        if at == MAX_EDITS {
+            return Err(EditError::Full { at });
+        }
+        match check(self.movie(), edit) {
+            Ok(()) => Ok(()),
+            Err(EditRefusal::Place { at: place, len }) => Err(EditError::Place { at, place, len }),
+            Err(EditRefusal::Long { len }) => Err(EditError::Long { at, len }),
+        }
+    }
+
+    /// Makes an allowed edit: all growths come first, and then nothing can fail.
+    fn accept<R: Wait>(&mut self, rt: &R, next: Entry<A>) -> Result<(), AllocError>
+        requires { IsNextEntry self.old.journal next }
+        ensures done { OnOk result (self.new ≡ after_entry self.old next) }
+        ensures refused { OnErr result (self.new ≡ self.old) }
+    {
+        let (seat, place) = (next.seat, next.edit.place());
+        self.counts.reserve(seat)?;
+        self.publisher.push(rt, next)?;
+        self.green.cut(place, self.publisher.movie().len());
+        self.counts.add(seat);
+        Ok(())
+    }
+
+    /// Draws frame `k`, counted from 0, played from the nearest kept state, and keeps the states on the way that stand on the
+    /// grid, halted ones too.
+    ///
+    /// `NoFrame` and `Memory` leave session and meter as they were. After `Halted`, as after an answer, the meter has risen by
+    /// the frames that were played. The picture takes its memory from `alloc`. The caller shows that the meter has room for
+    /// the movie's length ([`Meter::room`]).
+    pub fn shot<B: Allocator>(
+        &mut self,
+        alloc: B,
+        k: usize,
+        meter: &mut Meter,
+    ) -> Result<Shot<B>, ShotError>
+        requires { meter.old + length self.old.movie.inputs < 2 ^ 64 }
+        ensures reply { MatchResult result (IsShot self.old k) (IsShotError self.old k) }
+        ensures same { (self.new.journal ≡ self.old.journal) × (self.new.movie ≡ self.old.movie) }
+        ensures registry { self.new.registry ≡ self.old.registry }
+        // Where all of the grid up to the frame is kept, no more than a stride's frames are played.
+        ensures short { IfOk result (λ shot. HoldsGrid (stride (length self.old.movie.inputs)) k self.old.zone → shot.ran ≤ stride (length self.old.movie.inputs)) }
+        ensures meter { MatchPlayed result (meter.new + nearest k self.old.zone ≡ meter.old + (k + 1)) (meter.new ≡ meter.old) }
+        ensures kept { MatchPlayed result
+            ((f : ℕ) → state_at f self.new.zone ≡ first_of (state_at f self.old.zone)
+            (where_true (is_passed (stride (length self.old.movie.inputs)) (nearest k self.old.zone) (k + 1) f) (Some (state_after self.old.movie f))))
+            (self.new.zone ≡ self.old.zone) }
+    {
+        let at = self.at();
+        let len = self.movie().len();
+        if k >= len {
+            return Err(ShotError::NoFrame { at, len });
+        }
+        let Ok(mut picture) = Picture::blank(alloc) else {
+            return Err(ShotError::Memory);
+        };
+        let ran = (k + 1 - self.green.nearest(k)) as u64;
+        let played = self
+            .green
+            .shot(self.publisher.movie(), k, &mut picture, meter);
+        let Ok(end) = played else {
+            return Err(ShotError::Memory);
+        };
+        shown(at, k, ran, picture, end)
+    }
+
+    /// A job for the movie's first `near` frames, or for all where there are fewer, from the nearest kept state among them.
+    /// `AllocError` where memory is refused.
+    pub fn job<B: Allocator + Copy>(&self, alloc: B, near: usize) -> Result<Job<B>, AllocError>
+        ensures cart { IfOk result (λ job. job.cart ≡ self.now.movie.cart) }
+        ensures inputs { IfOk result (λ job. job.inputs ≡ take (min near (length self.now.movie.inputs)) self.now.movie.inputs) }
+        ensures stride { IfOk result (λ job. job.stride ≡ stride (length self.now.movie.inputs)) }
+        ensures start { IfOk result (λ job. job.start ≡ nearest (min near (length self.now.movie.inputs)) self.now.zone) }
+    {
+        Job::take(alloc, self.movie(), &self.green, near)
+    }
+
+    /// Takes from a batch exactly the states on the movie's grid up to the end of the common beginning of the batch's inputs
+    /// and the movie's.
+    ///
+    /// `Cartridge` comes exactly where the two cartridges' bytes differ; `Memory` hands the same batch back. Both leave the
+    /// session as it was.
+    pub fn offer<B: Allocator>(&mut self, batch: Batch<B>) -> Result<Offered, OfferError<B>>
+        ensures cartridge { (result ≡ Err (Cartridge (length self.old.journal))) ↔ (batch.cart ≢ self.old.movie.cart) }
+        ensures error { IfErr result (λ error. (error ≡ Cartridge (length self.old.journal)) ⊎ (error ≡ Memory batch)) }
+        ensures at { IfOk result (λ offered. offered.at ≡ length self.old.journal) }
+        ensures front { IfOk result (λ offered. IsCommonFront batch.inputs self.old.movie.inputs offered.front) }
+        ensures states { IfOk result (λ offered. (f : ℕ) → state_at f self.new.zone ≡ first_of (state_at f self.old.zone)
+            (where_true (is_on_grid (stride (length self.old.movie.inputs)) offered.front f) (state_at f batch.states))) }
+        ensures kept { IfOk result (λ offered. length self.new.zone ≡ length self.old.zone + offered.kept) }
+        ensures same { (self.new.journal ≡ self.old.journal) × (self.new.movie ≡ self.old.movie) }
+        ensures registry { self.new.registry ≡ self.old.registry }
+        ensures lawful { IsLawful self.new.movie self.new.zone }
+        ensures err { OnErr result (self.new ≡ self.old) }
+        ensures few { IfOk result (λ offered. offered.kept ≤ most_states) }
+    {
+        let at = self.at();
+        match self.green.merge(self.publisher.movie(), &batch) {
+            Ok(merged) => {
+                // Called for its clause `bounded`: at most 512 states are kept, so no more were gained.
+                let _count = self.green.count();
+                Ok(Offered {
+                    at,
+                    front: merged.front,
+                    kept: merged.kept,
+                })
+            }
+            Err(MergeError::Cartridge) => Err(OfferError::Cartridge { at }),
+            Err(MergeError::Memory) => Err(OfferError::Memory(batch)),
+        }
+    }
+}
+
+impl<A: Allocator> Session<A> {
+    /// How many edits the history has.
+    pub fn at(&self) -> u64
+        ensures at { result ≡ length self.now.journal }
+        ensures most { result ≤ most_edits }
+    {
+        self.publisher.journal().len() as u64
+    }
+
+    /// The movie: that of the history.
+    pub fn movie(&self) -> &Movie<A>
+        ensures movie { result.now ≡ self.now.movie }
+        ensures history { self.now.movie ≡ movie_of self.now.journal }
+    {
+        self.publisher.movie()
+    }
+
+    /// The version of the history.
+    pub fn version(&self) -> &Version<A>
+        ensures { result.now ≡ version_of self.now.registry self.now.journal }
+    {
+        self.publisher.version()
+    }
+
+    /// The history, in order.
+    pub fn journal(&self) -> &[Entry<A>]
+        ensures journal { result.now ≡ self.now.journal }
+        ensures legal { IsLegal self.now.journal }
+    {
+        self.publisher.journal()
+    }
+
+    /// The greenzone.
+    pub fn green(&self) -> &Green<A>
+        ensures zone { result.now ≡ self.now.zone }
+        ensures lawful { IsLawful self.now.movie self.now.zone }
+    {
+        &self.green
+    }
+}
