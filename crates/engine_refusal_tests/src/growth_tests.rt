@@ -8,7 +8,7 @@ use std::alloc::Global;
 use std::process::Abort;
 use std::sync::Wait;
 use std::thread::Threads;
-use tas_tool::ToolFault;
+use tas_tool::{ReadFault, RunFault, ToolFault};
 
 /// No engine grows so often here.
 const MOST: u64 = 1000;
@@ -71,6 +71,14 @@ fn tells_refusal(engine: Engine, text: &[u8], whole: &[u8]) -> bool {
     }
 }
 
+/// Whether memory was refused, to reading or after it.
+fn is_out_of_memory(fault: ToolFault) -> bool {
+    matches!(
+        fault,
+        ToolFault::Read(ReadFault::Memory) | ToolFault::Run(RunFault::Memory)
+    )
+}
+
 /// What a run shows, of which a growth was refused or none was.
 fn run_of(
     engine: Engine,
@@ -84,8 +92,13 @@ fn run_of(
         (Ok(()), false) => Run::Wrong("another answer, and nothing was refused"),
         (Ok(()), true) if tells_refusal(engine, text, whole) => Run::Replied,
         (Ok(()), true) => Run::Wrong("the refusal isn't told, or an answer before it is wrong"),
-        (Err(ToolFault::Memory), true) if is_start(engine, text, whole) => Run::Refused,
-        (Err(ToolFault::Memory), true) => Run::Wrong("not the answers to the first lines"),
+        (Err(fault), true) if is_out_of_memory(fault) => {
+            if is_start(engine, text, whole) {
+                Run::Refused
+            } else {
+                Run::Wrong("not the answers to the first lines")
+            }
+        }
         _ => Run::Wrong("another fault"),
     }
 }

@@ -9,7 +9,7 @@ use std::process::Abort;
 use std::sync::Wait;
 use std::thread::Threads;
 use tas_movie::{TextError, TextErrorKind};
-use tas_tool::ToolFault;
+use tas_tool::{ReadFault, RunFault, ToolFault};
 
 /// No engine reads one input so often here.
 const MOST: usize = 100;
@@ -98,7 +98,10 @@ fn failed_reads<T: Wait + Threads + Sync + Abort>(
             check_ran(rt, case, found, ((Ok(()), reads), whole));
             break;
         }
-        let end = (Err(ToolFault::Read), reads_up_to(reads, input, read));
+        let end = (
+            Err(ToolFault::Read(ReadFault::Failed)),
+            reads_up_to(reads, input, read),
+        );
         let written = written_before(engine, input, read, whole);
         check_ran(rt, case, found, (end, written));
         failed = read;
@@ -174,13 +177,15 @@ fn cut_short(bytes: &[u8]) -> &[u8] {
 /// What is wrong with an input without its last byte: a cartridge, a script's ninth line, the third line of changes or of a movie's text.
 fn early_end(engine: Engine, input: usize) -> ToolFault {
     match (engine, input) {
-        (Engine::Script, _) | (Engine::MovieScript, 2) => ToolFault::Script { line: 9 },
-        (Engine::Edit, 1) => ToolFault::Script { line: 3 },
-        (_, 0) => ToolFault::Size(4095),
-        _ => ToolFault::Text(TextError {
+        (Engine::Script, _) | (Engine::MovieScript, 2) => ToolFault::Run(RunFault::Script {
+            line: 9,
+        }),
+        (Engine::Edit, 1) => ToolFault::Run(RunFault::Script { line: 3 }),
+        (_, 0) => ToolFault::Run(RunFault::Size(4095)),
+        _ => ToolFault::Run(RunFault::Text(TextError {
             line: 3,
             kind: TextErrorKind::End,
-        }),
+        })),
     }
 }
 

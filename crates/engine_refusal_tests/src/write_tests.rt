@@ -7,7 +7,7 @@ use std::alloc::Global;
 use std::process::Abort;
 use std::sync::Wait;
 use std::thread::Threads;
-use tas_tool::ToolFault;
+use tas_tool::{RunFault, ToolFault};
 use test_streams::{Failure, Room, Taker};
 
 /// No engine writes so often here.
@@ -26,7 +26,12 @@ fn check_failed<R: Abort>(
 ) {
     let (_engine, _failure, room) = case;
     let written = output.taken.len();
-    check_same(rt, case, end, Err(ToolFault::Write { written }));
+    check_same(
+        rt,
+        case,
+        end,
+        Err(ToolFault::Run(RunFault::Write { written })),
+    );
     let is_first = whole.starts_with(output.taken.as_slice());
     check_that(rt, ("the answer's first bytes", case), is_first);
     check_that(rt, ("not all of it", case), written < whole.len());

@@ -7,7 +7,7 @@ use crate::movies::{
 use crate::ran::{Ran, check_fault, check_ran};
 use std::alloc::Global;
 use std::process::Abort;
-use tas_engines::{INPUT_LIMIT, ToolFault, diff_run, edit_run};
+use tas_engines::{INPUT_LIMIT, ReadFault, RunFault, ToolFault, diff_run, edit_run};
 use tas_movie::{TextError, TextErrorKind};
 use test_streams::{Failure, Filler, Room, Taker};
 
@@ -107,7 +107,12 @@ fn the_longest_movies_are_edited_and_compared(rt: HostRuntime) {
     check_script(&rt, alloc, &full, NO_FRAMES, "delete 0 262144\n");
     let one_more = b"insert 262144 1 ..... ..... .....\n";
     let ran = edited(alloc, &BLANK, one_more, full.as_slice());
-    check_fault(&rt, "one more", ran, ToolFault::Long { line: 1 });
+    check_fault(
+        &rt,
+        "one more",
+        ran,
+        ToolFault::Run(RunFault::Long { line: 1 }),
+    );
     let other = long_movie(&rt, alloc, 262144, 40000);
     let replaced = "replace 40000 1 ....F ..... .....\n";
     check_script(&rt, alloc, &full, &other, replaced);
@@ -130,17 +135,29 @@ fn older_texts_are_edited_and_compared(rt: HostRuntime) {
 
 /// Scripts for a movie of two frames, and how each ends.
 static FAULTS: [(&[u8], ToolFault); 9] = [
-    (b"\n", ToolFault::Script { line: 1 }),
-    (b"len\n", ToolFault::Script { line: 1 }),
-    (b"load 000=A9\n", ToolFault::Script { line: 1 }),
-    (b"load2 000=A9\n", ToolFault::Script { line: 1 }),
-    (b"work 0\n", ToolFault::Script { line: 1 }),
-    (b"delete 0 1", ToolFault::Script { line: 1 }),
-    (b"delete 0 1\ndelete 1 1\n", ToolFault::Place { line: 2 }),
-    (b"delete 0 3\nlen\n", ToolFault::Place { line: 1 }),
+    (b"\n", ToolFault::Run(RunFault::Script { line: 1 })),
+    (b"len\n", ToolFault::Run(RunFault::Script { line: 1 })),
+    (
+        b"load 000=A9\n",
+        ToolFault::Run(RunFault::Script { line: 1 }),
+    ),
+    (
+        b"load2 000=A9\n",
+        ToolFault::Run(RunFault::Script { line: 1 }),
+    ),
+    (b"work 0\n", ToolFault::Run(RunFault::Script { line: 1 })),
+    (b"delete 0 1", ToolFault::Run(RunFault::Script { line: 1 })),
+    (
+        b"delete 0 1\ndelete 1 1\n",
+        ToolFault::Run(RunFault::Place { line: 2 }),
+    ),
+    (
+        b"delete 0 3\nlen\n",
+        ToolFault::Run(RunFault::Place { line: 1 }),
+    ),
     (
         b"delete 0 1\ninsert 0 262143 ..... ..... .....\ninsert 0 1 ..... ..... .....\n",
-        ToolFault::Long { line: 3 },
+        ToolFault::Run(RunFault::Long { line: 3 }),
     ),
 ];
 
@@ -156,27 +173,27 @@ fn a_line_at_fault_leaves_nothing_written(rt: HostRuntime) {
 /// A movie text that is cut off, and what is reported of it.
 const CUT: &[u8] = b"a26movie 2\n";
 
-const END: ToolFault = ToolFault::Text(TextError {
+const END: ToolFault = ToolFault::Run(RunFault::Text(TextError {
     line: 2,
     kind: TextErrorKind::End,
-});
+}));
 
 /// Three inputs, and the fault of an engine that reads them.
 type Faulty = (&'static [u8], &'static [u8], &'static [u8], ToolFault);
 
 static EDITS: [Faulty; 3] = [
-    (b"1234567", b"len\n", CUT, ToolFault::Size(7)),
+    (b"1234567", b"len\n", CUT, ToolFault::Run(RunFault::Size(7))),
     (&[0; 4096], b"len\n", CUT, END),
     (
         &[0; 4096],
         b"len\n",
         TWO_FRAMES,
-        ToolFault::Script { line: 1 },
+        ToolFault::Run(RunFault::Script { line: 1 }),
     ),
 ];
 
 static COMPARISONS: [Faulty; 3] = [
-    (b"", CUT, b"", ToolFault::Size(0)),
+    (b"", CUT, b"", ToolFault::Run(RunFault::Size(0))),
     (&[0; 4096], CUT, b"", END),
     (&[0; 4096], TWO_FRAMES, CUT, END),
 ];
@@ -196,22 +213,42 @@ fn faults_of_the_movies_come_in_order(rt: HostRuntime) {
 
 /// The inputs, how many reads of each succeed where it fails, the fault, and how many reads there were of each.
 static READS: [([usize; 3], [usize; 3], ToolFault, [usize; 3]); 6] = [
-    ([10, 10, 10], [1, 1, 1], ToolFault::Read, [1, 0, 0]),
-    ([10, 10, 10], [0, 2, 1], ToolFault::Read, [2, 2, 0]),
-    ([10, 10, 10], [0, 0, 2], ToolFault::Read, [2, 2, 2]),
+    (
+        [10, 10, 10],
+        [1, 1, 1],
+        ToolFault::Read(ReadFault::Failed),
+        [1, 0, 0],
+    ),
+    (
+        [10, 10, 10],
+        [0, 2, 1],
+        ToolFault::Read(ReadFault::Failed),
+        [2, 2, 0],
+    ),
+    (
+        [10, 10, 10],
+        [0, 0, 2],
+        ToolFault::Read(ReadFault::Failed),
+        [2, 2, 2],
+    ),
     (
         [INPUT_LIMIT + 1, 10, 10],
         [0, 1, 1],
-        ToolFault::TooLong,
+        ToolFault::Read(ReadFault::TooLong),
         [4097, 0, 0],
     ),
     (
         [10, INPUT_LIMIT + 1, 10],
         [0, 0, 1],
-        ToolFault::TooLong,
+        ToolFault::Read(ReadFault::TooLong),
         [2, 4097, 0],
     ),
-    ([10, 10, 10], [0, 0, 0], ToolFault::Size(10), [2, 2, 2]),
+    (
+        [10, 10, 10],
+        [0, 0, 0],
+        ToolFault::Run(RunFault::Size(10)),
+        [2, 2, 2],
+    ),
 ];
 
 #[test]
@@ -244,8 +281,8 @@ fn check_room<R: Abort>(rt: &R, alloc: Global, room: usize, end: Result<(), Tool
 /// For how many bytes there is room, and how the engine ends.
 static ROOMS: [(usize, Result<(), ToolFault>); 3] = [
     (1000, Ok(())),
-    (18, Err(ToolFault::Write { written: 18 })),
-    (0, Err(ToolFault::Write { written: 0 })),
+    (18, Err(ToolFault::Run(RunFault::Write { written: 18 }))),
+    (0, Err(ToolFault::Run(RunFault::Write { written: 0 }))),
 ];
 
 #[test]

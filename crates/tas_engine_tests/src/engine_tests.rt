@@ -9,12 +9,14 @@ use crate::ran::{Ran, check_fault, check_ran};
 use std::alloc::Global;
 use std::io::{ErrorKind, Read};
 use std::process::Abort;
-use tas_engines::{INPUT_LIMIT, ToolFault, check_run, migrate_run, shot_run, trace_run};
+use tas_engines::{
+    INPUT_LIMIT, ReadFault, RunFault, ToolFault, check_run, migrate_run, shot_run, trace_run,
+};
 use tas_movie::{TextError, TextErrorKind};
 use test_streams::{Failure, Filler, Giver, Room, Taker};
 
 fn text_fault(line: usize, kind: TextErrorKind) -> ToolFault {
-    ToolFault::Text(TextError { line, kind })
+    ToolFault::Run(RunFault::Text(TextError { line, kind }))
 }
 
 /// `tas trace` of three instructions.
@@ -77,7 +79,7 @@ fn check_stop<R: Abort>(
     writes: usize,
 ) {
     let written = wanted.len();
-    let fault = ToolFault::Write { written };
+    let fault = ToolFault::Run(RunFault::Write { written });
     let found = (answer, output.writes);
     check_same(rt, ("room", written), found, (Err(fault), writes));
     check_same(rt, ("room", written), output.taken.as_slice(), wanted);
@@ -106,7 +108,12 @@ fn other_sizes_are_refused(rt: HostRuntime) {
     let alloc = rt.alloc();
     for size in [0, 1, 7, 2047, 4095, 4097, INPUT_LIMIT] {
         let ran = traced(alloc, &mut Filler::new(0, size, 0));
-        check_fault(&rt, ("size", size), ran, ToolFault::Size(size));
+        check_fault(
+            &rt,
+            ("size", size),
+            ran,
+            ToolFault::Run(RunFault::Size(size)),
+        );
     }
 }
 
@@ -115,7 +122,12 @@ fn one_byte_past_the_limit_is_too_long(rt: HostRuntime) {
     let alloc = rt.alloc();
     for more in [1, 100_000] {
         let mut input = Filler::new(0, INPUT_LIMIT + more, 0);
-        check_fault(&rt, more, traced(alloc, &mut input), ToolFault::TooLong);
+        check_fault(
+            &rt,
+            more,
+            traced(alloc, &mut input),
+            ToolFault::Read(ReadFault::TooLong),
+        );
         check_same(&rt, "input.left", input.left, more - 1);
     }
 }
@@ -127,7 +139,12 @@ fn a_failed_read_is_the_last_one(rt: HostRuntime) {
         for fails_at in 1..3 {
             let mut input = Filler::new(0, 4096, fails_at);
             input.kind = kind;
-            check_fault(&rt, fails_at, traced(alloc, &mut input), ToolFault::Read);
+            check_fault(
+                &rt,
+                fails_at,
+                traced(alloc, &mut input),
+                ToolFault::Read(ReadFault::Failed),
+            );
             check_same(&rt, "input.reads", input.reads, fails_at);
         }
     }
@@ -191,7 +208,7 @@ fn no_engine_reads_on(rt: HostRuntime) {
         check_reads(&rt, alloc, files, (engine, (0, 0)), Ok(()), (2, texts));
         for fails_at in 1..3 {
             let fails = (fails_at, 0);
-            let end = Err(ToolFault::Read);
+            let end = Err(ToolFault::Read(ReadFault::Failed));
             check_reads(&rt, alloc, files, (engine, fails), end, (fails_at, 0));
         }
     }
@@ -205,7 +222,7 @@ fn a_failed_read_of_the_text_is_the_last_one(rt: HostRuntime) {
     for (engine, _texts) in ENGINES[1..].iter() {
         for fails_at in 1..3 {
             let fails = (0, fails_at);
-            let end = Err(ToolFault::Read);
+            let end = Err(ToolFault::Read(ReadFault::Failed));
             check_reads(&rt, alloc, files, (*engine, fails), end, (2, fails_at));
         }
     }
@@ -236,7 +253,13 @@ fn check_no_text<R: Abort>(rt: &R, alloc: Global, cart: &[u8], text: &[u8], faul
 fn faults_of_migrating(rt: HostRuntime) {
     let alloc = rt.alloc();
     let older = older_text_of(&rt, alloc, PLAYFIELD_DIGEST, &[b'.'; 200]);
-    check_no_text(&rt, alloc, b"1234567", &older, ToolFault::Size(7));
+    check_no_text(
+        &rt,
+        alloc,
+        b"1234567",
+        &older,
+        ToolFault::Run(RunFault::Size(7)),
+    );
     let digest = text_fault(2, TextErrorKind::Digest);
     check_no_text(&rt, alloc, &BLANK, &older, digest);
     let newer = text_of(&rt, alloc, PLAYFIELD_DIGEST, &[b'.'; 200]);
@@ -324,7 +347,12 @@ fn a_failed_read_comes_before_a_wrong_size(rt: HostRuntime) {
         let mut cart = Filler::new(0, 7, fails_at);
         let mut text = Filler::new(0, 10, 1);
         let ran = checked(alloc, &mut cart, &mut text);
-        check_fault(&rt, ("cartridge", fails_at), ran, ToolFault::Read);
+        check_fault(
+            &rt,
+            ("cartridge", fails_at),
+            ran,
+            ToolFault::Read(ReadFault::Failed),
+        );
         check_same(&rt, ("cartridge", fails_at), text.reads, reads);
     }
 }
@@ -339,7 +367,13 @@ fn check_unread<R: Abort>(rt: &R, alloc: Global, cart: &[u8], text: &[u8], fault
 #[test]
 fn faults_of_a_movie_come_in_order(rt: HostRuntime) {
     let alloc = rt.alloc();
-    check_unread(&rt, alloc, &[0; 7], HALTING_MOVIE, ToolFault::Size(7));
+    check_unread(
+        &rt,
+        alloc,
+        &[0; 7],
+        HALTING_MOVIE,
+        ToolFault::Run(RunFault::Size(7)),
+    );
     let cart = image_of(&rt, alloc, PLAYFIELD);
     let digest = text_fault(2, TextErrorKind::Digest);
     check_unread(&rt, alloc, &cart, HALTING_MOVIE, digest);

@@ -3,7 +3,7 @@
 use crate::checks::{check_same, expect_ok};
 use std::alloc::Global;
 use std::process::Abort;
-use tas_engines::ToolFault;
+use tas_engines::{ReadFault, RunFault, ToolFault};
 use tas_movie::{TextError, TextErrorKind};
 
 /// Fails where a fault is told by another line.
@@ -14,44 +14,53 @@ fn check_line<R: Abort>(rt: &R, alloc: Global, fault: ToolFault, line: &str) {
 
 /// Faults, and the line that tells each.
 static LINES: [(ToolFault, &str); 13] = [
-    (ToolFault::TooLong, "fault: input is too long"),
-    (ToolFault::Read, "fault: read failed"),
     (
-        ToolFault::Write { written: 20 },
+        ToolFault::Read(ReadFault::TooLong),
+        "fault: input is too long",
+    ),
+    (ToolFault::Read(ReadFault::Failed), "fault: read failed"),
+    (
+        ToolFault::Run(RunFault::Write { written: 20 }),
         "fault: write failed after 20 bytes",
     ),
-    (ToolFault::Size(7), "fault: cartridge has 7 bytes"),
     (
-        ToolFault::NoFrame { frame: 1, len: 1 },
+        ToolFault::Run(RunFault::Size(7)),
+        "fault: cartridge has 7 bytes",
+    ),
+    (
+        ToolFault::Run(RunFault::NoFrame { frame: 1, len: 1 }),
         "fault: no frame 1 of 1",
     ),
     (
-        ToolFault::Range {
+        ToolFault::Run(RunFault::Range {
             from: 0,
             to: 2,
             len: 1,
-        },
+        }),
         "fault: range 0 to 2 of 1",
     ),
     (
-        ToolFault::Halted {
+        ToolFault::Run(RunFault::Halted {
             at: 0xf00d,
             opcode: 2,
-        },
+        }),
         "fault: halted at F00D by 02",
     ),
     (
-        ToolFault::Halted {
+        ToolFault::Run(RunFault::Halted {
             at: 0x000c,
             opcode: 0x80,
-        },
+        }),
         "fault: halted at 000C by 80",
     ),
-    (ToolFault::Script { line: 12 }, "fault: script line 12"),
-    (ToolFault::NoPlace, "fault: no place"),
-    (ToolFault::NoEntry, "fault: no entry"),
-    (ToolFault::Foreign, "fault: foreign edit"),
-    (ToolFault::Memory, "fault: out of memory"),
+    (
+        ToolFault::Run(RunFault::Script { line: 12 }),
+        "fault: script line 12",
+    ),
+    (ToolFault::Run(RunFault::NoPlace), "fault: no place"),
+    (ToolFault::Run(RunFault::NoEntry), "fault: no entry"),
+    (ToolFault::Run(RunFault::Foreign), "fault: foreign edit"),
+    (ToolFault::Run(RunFault::Memory), "fault: out of memory"),
 ];
 
 #[test]
@@ -81,7 +90,7 @@ fn faults_of_a_movie_text_read_as_their_lines(rt: HostRuntime) {
     let alloc = rt.alloc();
     for (line, kind, words) in TEXT_LINES.iter() {
         let (line, kind) = (*line, *kind);
-        let fault = ToolFault::Text(TextError { line, kind });
+        let fault = ToolFault::Run(RunFault::Text(TextError { line, kind }));
         check_line(&rt, alloc, fault, *words);
     }
 }

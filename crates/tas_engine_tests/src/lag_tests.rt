@@ -3,7 +3,7 @@
 use crate::movies::{BLANK, HALTING, HALTING_DIGEST, NO_FRAMES, STORES, image_of, text_of};
 use crate::ran::{Ran, check_fault, check_ran};
 use std::alloc::Global;
-use tas_engines::{ToolFault, lag_run};
+use tas_engines::{RunFault, ToolFault, lag_run};
 
 /// Reads the sticks in each fourth frame: INC 80, LDA 80, AND #3, BNE F00B, LDA 280, LDA #2, STA VSYNC, LDA #0, STA VSYNC, JMP F000.
 const FOURTH: &[u8] =
@@ -55,7 +55,7 @@ fn stretches_of_lag_frames(rt: HostRuntime) {
 fn lag_frames_of_wrong_inputs(rt: HostRuntime) {
     let alloc = rt.alloc();
     let ran = lag_shown(alloc, STORES, NO_FRAMES);
-    check_fault(&rt, "size", ran, ToolFault::Size(7));
+    check_fault(&rt, "size", ran, ToolFault::Run(RunFault::Size(7)));
     let ran = lag_shown(alloc, &BLANK, NO_FRAMES);
     check_ran(&rt, "no frames", ran, b"");
 }

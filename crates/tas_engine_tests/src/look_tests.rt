@@ -6,7 +6,7 @@ use crate::movies::{BLANK, BLANK_DIGEST, HALTING, HALTING_DIGEST, NO_FRAMES, ima
 use crate::ran::{Ran, check_fault, check_ran};
 use std::alloc::Global;
 use std::process::Abort;
-use tas_engines::{ToolFault, compare_run, digest_run, ram_run};
+use tas_engines::{RunFault, ToolFault, compare_run, digest_run, ram_run};
 use tas_movie::{TextError, TextErrorKind};
 use test_streams::{Failure, Room, Taker};
 
@@ -107,7 +107,12 @@ fn ram_past_the_end_is_out_of_range(rt: HostRuntime) {
     let text = text_of(&rt, alloc, COUNTS_DIGEST, b"..RR.");
     for (from, to) in [(0usize, 7usize), (3, 2), (7, 7)] {
         let ran = ram_shown(alloc, from, to, cart.as_slice(), text.as_slice());
-        check_fault(&rt, (from, to), ran, ToolFault::Range { from, to, len: 5 });
+        check_fault(
+            &rt,
+            (from, to),
+            ran,
+            ToolFault::Run(RunFault::Range { from, to, len: 5 }),
+        );
     }
 }
 
@@ -138,7 +143,7 @@ fn cut_lines_of_ram_are_told_by_their_bytes(rt: HostRuntime) {
             &rt,
             ("room", room),
             answer,
-            Err(ToolFault::Write { written: room }),
+            Err(ToolFault::Run(RunFault::Write { written: room })),
         );
         let is_first = Some(lines.taken.as_slice()) == whole.get(..room);
         check_that(&rt, ("the first bytes", room), is_first);
@@ -192,10 +197,10 @@ fn a_movie_that_halts_has_no_digest(rt: HostRuntime) {
     let alloc = rt.alloc();
     let cart = image_of(&rt, alloc, STOPS);
     let text = text_of(&rt, alloc, STOPS_DIGEST, b"..R.");
-    let fault = ToolFault::Halted {
+    let fault = ToolFault::Run(RunFault::Halted {
         at: 0xf007,
         opcode: 2,
-    };
+    });
     for every in [1, 3, 4, 600] {
         let ran = digested(alloc, every, cart.as_slice(), text.as_slice());
         check_fault(&rt, every, ran, fault);
@@ -289,14 +294,14 @@ fn the_older_movie_of_two_is_at_fault_first(rt: HostRuntime) {
     let alloc = rt.alloc();
     let cart = image_of(&rt, alloc, COUNTS);
     let text = text_of(&rt, alloc, COUNTS_DIGEST, b"..RR.");
-    let head = ToolFault::Text(TextError {
+    let head = ToolFault::Run(RunFault::Text(TextError {
         line: 1,
         kind: TextErrorKind::Head,
-    });
-    let digest = ToolFault::Text(TextError {
+    }));
+    let digest = ToolFault::Run(RunFault::Text(TextError {
         line: 2,
         kind: TextErrorKind::Digest,
-    });
+    }));
     let ran = compared(alloc, cart.as_slice(), b"a\n", NO_FRAMES);
     check_fault(&rt, "both", ran, head);
     let ran = compared(alloc, cart.as_slice(), text.as_slice(), NO_FRAMES);

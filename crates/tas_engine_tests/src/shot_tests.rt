@@ -5,7 +5,7 @@ use crate::movies::{HALTING, PLAYFIELD, PLAYFIELD_MOVIE, image_of};
 use crate::ran::{Ran, check_fault};
 use std::alloc::Global;
 use std::process::Abort;
-use tas_engines::{ToolFault, shot_run};
+use tas_engines::{RunFault, ToolFault, shot_run};
 use test_streams::{Failure, Room, Taker};
 
 /// `tas shot` of these bytes.
@@ -48,7 +48,12 @@ fn no_frame_past_the_end_is_drawn(rt: HostRuntime) {
     let alloc = rt.alloc();
     let cart = image_of(&rt, alloc, PLAYFIELD);
     let ran = shown(alloc, 1, cart.as_slice(), PLAYFIELD_MOVIE);
-    check_fault(&rt, "one", ran, ToolFault::NoFrame { frame: 1, len: 1 });
+    check_fault(
+        &rt,
+        "one",
+        ran,
+        ToolFault::Run(RunFault::NoFrame { frame: 1, len: 1 }),
+    );
 }
 
 /// How a writer fails.
@@ -66,7 +71,7 @@ fn a_cut_picture_is_told_by_its_bytes(rt: HostRuntime) {
             let mut cart = image.as_slice();
             let mut text = PLAYFIELD_MOVIE;
             let answer = shot_run(alloc, 0, &mut cart, &mut text, &mut picture);
-            let fault = ToolFault::Write { written: room };
+            let fault = ToolFault::Run(RunFault::Write { written: room });
             check_same(&rt, ("room", room), answer, Err(fault));
             let is_first = Some(picture.taken.as_slice()) == whole.get(..room);
             check_that(&rt, ("the first bytes", room), is_first);
@@ -101,10 +106,10 @@ fn frames_before_a_halt_have_pictures(rt: HostRuntime) {
 fn a_halted_frame_has_no_picture(rt: HostRuntime) {
     let alloc = rt.alloc();
     let cart = image_of(&rt, alloc, HALTING);
-    let fault = ToolFault::Halted {
+    let fault = ToolFault::Run(RunFault::Halted {
         at: 0xf00d,
         opcode: 2,
-    };
+    });
     for frame in 3..5 {
         let ran = shown(alloc, frame, cart.as_slice(), OLDER_HALTING_MOVIE);
         check_fault(&rt, frame, ran, fault);

@@ -2,7 +2,7 @@
 use Rattle.std.specs.Prelude.{◌≡◌, ℕ, ◌+◌, List, length, ◌≤◌, Option, Some, ◌⊎◌}
 use Rattle.std.specs.Io.KnownBytes.{Consumes, IsAtEnd}
 use Rattle.tas_engines.specs.declared.fault.ReadFault.{ReadFault}
-use Rattle.tas_engines.specs.declared.fault.ReadFault.TheVariants.{TooLong, Read, Memory}
+use Rattle.tas_engines.specs.declared.fault.ReadFault.TheVariants.{TooLong, Failed, Memory}
 
 -- a fact of the bytes, where a reader tells them
 abbrev pub IfKnown : Option (List ℕ) → (List ℕ → Type 0) → Type 0
@@ -26,7 +26,7 @@ LeftReader old new count = (bytes : List ℕ) × Consumes old new bytes × count
 -- reading stopped: with the byte past the limit, or where a read or a growth failed, with at most the limit
 abbrev pub StopsReading : Option (List ℕ) → Option (List ℕ) → ReadFault → Type 0
 StopsReading old new TooLong = LeftReader old new (λ n. n ≡ most_input_bytes + 1)
-StopsReading old new Read = LeftReader old new (λ n. n ≤ most_input_bytes)
+StopsReading old new Failed = LeftReader old new (λ n. n ≤ most_input_bytes)
 StopsReading old new Memory = LeftReader old new (λ n. n ≤ most_input_bytes)
 
 -- reading one input after another stopped: at the first, and the second is untouched; or the first was read whole

@@ -6,7 +6,8 @@ use Rattle.tas_engines.specs.declared.fault.ReadFault.{ReadFault}
 use Rattle.tas_engines.specs.declared.fault.RunFault.{RunFault}
 use Rattle.tas_engines.specs.declared.fault.RunFault.TheVariants.{Write}
 use Rattle.tas_engines.specs.declared.fault.ToolFault.{ToolFault}
-use Rattle.tas_engines.specs.Faults.{unread_fault, told}
+use Rattle.tas_engines.specs.declared.fault.ToolFault.TheVariants.{Read}
+use Rattle.tas_engines.specs.Faults.{told}
 
 -- a write failed: only the first bytes went out, and the fault tells how many
 pub record StopsWriting (old new : Option (List ℕ)) (bytes : List ℕ) (fault : RunFault) : Type 0 where
@@ -28,4 +29,4 @@ Ends answers old new (Err fault) = (answers (Err fault) × Keeps old new) ⊎ Br
 -- how an engine ends: reading stopped, and nothing is written; or it ran on what it had read, and tells how that ended
 abbrev pub EndsAfter : (ReadFault → Type 0) → (Result (Unit {0}) RunFault → Type 0) → Option (List ℕ) → Option (List ℕ) → Result (Unit {0}) ToolFault → Type 0
 EndsAfter stops runs old new result =
-    ((fault : ReadFault) × (result ≡ Err (unread_fault fault)) × stops fault × Keeps old new) ⊎ ((end : Result (Unit {0}) RunFault) × (result ≡ told end) × runs end)
+    ((fault : ReadFault) × (result ≡ Err (Read fault)) × stops fault × Keeps old new) ⊎ ((end : Result (Unit {0}) RunFault) × (result ≡ told end) × runs end)

@@ -42,7 +42,7 @@ pub fn read_input<A: Allocator, R: Read>(alloc: A, reader: &mut R) -> Result<Vec
         let left = INPUT_LIMIT + 1 - bytes.len();
         let most = left.min(CHUNK);
         match read_some(reader, &mut buffer[..most]) {
-            None => return Err(ReadFault::Read),
+            None => return Err(ReadFault::Failed),
             Some(0) => return Ok(bytes),
             Some(n) => {
                 if n == left {

@@ -6,6 +6,7 @@ use Rattle.std.specs.Io.KnownBytes.{Appends}
 use Rattle.tas_engines.specs.declared.fault.RunFault.{RunFault}
 use Rattle.tas_engines.specs.declared.fault.ToolFault.{ToolFault}
 use Rattle.tas_engines.specs.declared.fault.ToolFault.TheVariants.{Read}
+use Rattle.tas_engines.specs.declared.fault.ReadFault.TheVariants.{Failed}
 use Rattle.tas_engines.specs.Movies.{IsMovieRun}
 use Rattle.tas_engines.specs.Checking.{IsCheckAnswer}
 use Rattle.tas_engines.specs.Migrating.{IsMigrateAnswer}
@@ -55,12 +56,12 @@ TwoFilesEngine = (file left : Option (List ℕ)) → FileEngine
 
 -- a file is opened first: it can't be, and the streams are as before; or an engine ends over it, whatever it leaves of it
 abbrev pub EndsOver : Option (List ℕ) → FileEngine → StreamBytes → StreamBytes → Result (Unit {0}) ToolFault → Type 0
-EndsOver file engine old new end = ((end ≡ Err Read) × (new ≡ old)) ⊎ ((left : Option (List ℕ)) × engine file left old.input new.input old.output new.output end)
+EndsOver file engine old new end = ((end ≡ Err (Read Failed)) × (new ≡ old)) ⊎ ((left : Option (List ℕ)) × engine file left old.input new.input old.output new.output end)
 
 -- the same of two files
 abbrev pub EndsOverTwo : Option (List ℕ) → Option (List ℕ) → TwoFilesEngine → StreamBytes → StreamBytes → Result (Unit {0}) ToolFault → Type 0
 EndsOverTwo one two engine old new end =
-    ((end ≡ Err Read) × (new ≡ old)) ⊎ ((left left' : Option (List ℕ)) × engine one left two left' old.input new.input old.output new.output end)
+    ((end ≡ Err (Read Failed)) × (new ≡ old)) ⊎ ((left left' : Option (List ℕ)) × engine one left two left' old.input new.input old.output new.output end)
 
 -- a task ends as the definition of its command says, over its files and the streams
 abbrev pub DoesTask : (List ℕ → Option (List ℕ)) → Task → StreamBytes → StreamBytes → Result (Unit {0}) ToolFault → Type 0

@@ -15,18 +15,20 @@ use std::io::{Read, Write};
 use std::sync::Wait;
 use std::thread::Threads;
 use tas_tool::{
-    ToolFault, cart_talk_run, check_run, compare_run, diff_run, digest_run, edit_run, export_run,
-    film_run, lag_run, migrate_run, movie_script_run, movie_talk_run, ram_run, script_run,
-    shot_run, talk_run, trace_run, write_all,
+    ReadFault, RunFault, ToolFault, cart_talk_run, check_run, compare_run, diff_run, digest_run,
+    edit_run, export_run, film_run, lag_run, migrate_run, movie_script_run, movie_talk_run,
+    ram_run, script_run, shot_run, talk_run, trace_run, write_all,
 };
 use tas_words::{MovieFiles, Request, Start, Task, collect_words, read_request};
 
 /// Opens a file of this name.
 fn open<F: Folder>(folder: &F, name: &str) -> Result<F::File, ToolFault>
     ensures file { IfOk result (λ file. F.File.remaining file ≡ F.bytes_of folder.now name.now) }
-    ensures fault { IfErr result (λ fault. fault ≡ ToolFault.Read) }
+    ensures fault { IfErr result (λ fault. fault ≡ ToolFault.Read ReadFault.Failed) }
 {
-    folder.open(name).map_err(|_| ToolFault::Read)
+    folder
+        .open(name)
+        .map_err(|_| ToolFault::Read(ReadFault::Failed))
 }
 
 /// Runs the script that is the input.
@@ -224,7 +226,11 @@ pub fn carry_out<
             let _ = write_all(&mut streams.errors, text.as_bytes());
             Status::Misuse
         }
-        Request::NoMemory => tell(alloc, &mut streams.errors, Err(ToolFault::Memory)),
+        Request::NoMemory => tell(
+            alloc,
+            &mut streams.errors,
+            Err(ToolFault::Run(RunFault::Memory)),
+        ),
     }
 }
 

@@ -17,8 +17,8 @@ use Rattle.tas_session.proofs.HistoryLemmas.{movie_of-none}
 use Rattle.tas_engines.specs.declared.fault.RunFault.{RunFault}
 use Rattle.tas_engines.specs.declared.fault.RunFault.TheVariants.{Write, Size, Text, NoFrame as OffMovie, Range as OffRange, Halted as Stopped, HaltedFrame as StoppedFrame, Script, Place, Long, NoPlace, NoEntry, Foreign, Memory}
 use Rattle.tas_engines.specs.declared.fault.ToolFault.{ToolFault}
-use Rattle.tas_engines.specs.declared.fault.ToolFault.TheVariants.{Read as ReadFailed, Memory as OutOfRoom, NoPlace as WithoutPlace}
-use Rattle.tas_engines.specs.Faults.{run_fault}
+use Rattle.tas_engines.specs.declared.fault.ToolFault.TheVariants.{Read, Run}
+use Rattle.tas_engines.specs.declared.fault.ReadFault.TheVariants.{Failed}
 use Rattle.tas_language.specs.Commands.{NoByte}
 use Rattle.tas_language.specs.declared.request.Request.{Request}
 use Rattle.tas_language.specs.Requests.{IsHeard}
@@ -309,7 +309,7 @@ quits {A} first now later progress held held' long long' input input' input'' ou
     }
 
 pub unread : {A : Type 0} (first now : SeatContent A) (progress : Progress) (held : List ℕ) (long : Bool) (input input' input'' output output' : Option (List ℕ)) (xs : List Exchange) (part : List ℕ)
-    → IsUnderway first now progress held long input input' output output' xs part → Keeps input' input'' → IsTalk (talk_state_of first) input input'' output output' (Err ReadFailed)
+    → IsUnderway first now progress held long input input' output output' xs part → Keeps input' input'' → IsTalk (talk_state_of first) input input'' output output' (Err (Read Failed))
 unread {A} first now progress held long input input' input'' output output' xs part way kept = record {
   exchanges = xs;
   state = talk_state_of now;
@@ -353,11 +353,11 @@ cut_off told answer counted output output' output'' written count out cut =
 
 pub ends_cut : {A : Type 0} (first now : SeatContent A) (progress : Progress) (held : List ℕ) (long : Bool) (input input' input'' output output' output'' : Option (List ℕ)) (xs : List Exchange) (part more : List ℕ) (fault : RunFault)
     → IsUnderway first now progress held long input input' output output' xs part → Consumes input' input'' more → more ≡ [] → IsAtEnd input'' → CutsOff progress.written (last_answer part) output' output'' fault
-    → IsTalk (talk_state_of first) input input'' output output'' (Err (run_fault fault))
+    → IsTalk (talk_state_of first) input input'' output output'' (Err (Run fault))
 ends_cut {A} first now progress held long input input' input'' output output' output'' xs part more fault way read none end cut =
     let same : fault ≡ Write (min (progress.written + cut.0) most_counted) = cut.2 in
     let cut' : CutsOff progress.written (last_answer part) output' output'' (Write (min (progress.written + cut.0) most_counted)) = (cut.0, cut.1, refl) in
-    let told : IsTalk (talk_state_of first) input input'' output output'' (Err (run_fault (Write (min (progress.written + cut.0) most_counted)))) =
+    let told : IsTalk (talk_state_of first) input input'' output output'' (Err (Run (Write (min (progress.written + cut.0) most_counted)))) =
     record {
       exchanges = xs;
       state = talk_state_of now;
@@ -370,11 +370,11 @@ ends_cut {A} first now progress held long input input' input'' output output' ou
         cut_off (answers_of xs) (last_answer part) progress.written output output' output'' (min (progress.written + cut.0) most_counted) way.answered.count way.answered.out cut',
       );
     } in
-    subst (λ (f : RunFault). IsTalk (talk_state_of first) input input'' output output'' (Err (run_fault f))) (sym same) told
+    subst (λ (f : RunFault). IsTalk (talk_state_of first) input input'' output output'' (Err (Run f))) (sym same) told
 
 -- a part of the input that isn't answered to its end
 stopped : {A : Type 0} (start : TalkState) (read : List ℕ) (now : SeatContent A) (input input' output output' : Option (List ℕ)) (fault : RunFault) → Consumes input input' read → StopsAfter start read now 0 output output' fault
-    → length now.front ≤ now.made → IsTalk start input input' output output' (Err (run_fault fault))
+    → length now.front ≤ now.made → IsTalk start input input' output output' (Err (Run fault))
 stopped {A} start read now input input' output output' fault left s own = go fault s.breaks
   where
     out_all : Appends s.middle output' [] → Appends output output' (answers_of s.exchanges)
@@ -383,7 +383,7 @@ stopped {A} start read now input input' output output' fault left s own = go fau
     left_all : Consumes input input' (lines_of s.exchanges ++ s.rest)
     left_all = subst (Consumes input input') s.text left
 
-    go : (f : RunFault) → Breaks s.state s.rest now s.counted s.middle output' f → IsTalk start input input' output output' (Err (run_fault f))
+    go : (f : RunFault) → Breaks s.state s.rest now s.counted s.middle output' f → IsTalk start input input' output output' (Err (Run f))
     go (Write written) b = record {
       exchanges = s.exchanges;
       state = s.state;
@@ -408,21 +408,21 @@ stopped {A} start read now input input' output output' fault left s own = go fau
 
 pub breaks_off : {A : Type 0} (first now later : SeatContent A) (progress : Progress) (held held' : List ℕ) (long long' : Bool) (input input' input'' output output' output'' : Option (List ℕ)) (xs : List Exchange) (part more : List ℕ) (fault : RunFault)
     → IsUnderway first now progress held long input input' output output' xs part → Consumes input' input'' more → IsPartTurn now later (part ++ more) progress.written held' long' output' output'' (Err fault)
-    → length later.front ≤ later.made → IsTalk (talk_state_of first) input input'' output output'' (Err (run_fault fault))
+    → length later.front ≤ later.made → IsTalk (talk_state_of first) input input'' output output'' (Err (Run fault))
 breaks_off {A} first now later progress held held' long long' input input' input'' output output' output'' xs part more fault way read turn own =
     stopped (talk_state_of first) (lines_of xs ++ (part ++ more)) later input input'' output output'' fault (read_on input input' input'' xs part more way.left read)
     (stops_later first now later xs 0 progress (lines_of xs ++ (part ++ more)) (part ++ more) output output' output'' fault way.answered refl turn) own
 
 -- ---- before the first line
 
-pub no_memory_yet : (start : TalkState) (input output : Option (List ℕ)) → IsTalk start input input output output (Err OutOfRoom)
+pub no_memory_yet : (start : TalkState) (input output : Option (List ℕ)) → IsTalk start input input output output (Err (Run Memory))
 no_memory_yet start input output = record { exchanges = []; state = start; rest = []; answered = no_exchanges start; left = Consumes-nil input; ends = Appends-nil output }
 
-pub no_place_yet : (start : TalkState) (input output : Option (List ℕ)) → IsTalk start input input output output (Err WithoutPlace)
+pub no_place_yet : (start : TalkState) (input output : Option (List ℕ)) → IsTalk start input input output output (Err (Run NoPlace))
 no_place_yet start input output = record { exchanges = []; state = start; rest = []; answered = no_exchanges start; left = Consumes-nil input; ends = (refl, refl, Appends-nil output) }
 
 -- the movie wasn't made
-pub unmade_talk : {A : Type 0} (start : TalkState) (seat : SeatContent A) (fault : RunFault) (input output : Option (List ℕ)) → IsMakingFault seat fault → length seat.front ≤ seat.made → IsTalk start input input output output (Err (run_fault fault))
+pub unmade_talk : {A : Type 0} (start : TalkState) (seat : SeatContent A) (fault : RunFault) (input output : Option (List ℕ)) → IsMakingFault seat fault → length seat.front ≤ seat.made → IsTalk start input input output output (Err (Run fault))
 unmade_talk {A} start seat Memory input output is own = no_memory_yet start input output
 unmade_talk start seat Foreign input output is own = absurd (omega (arith, is, own))
 unmade_talk start seat NoEntry input output is own = absurd is

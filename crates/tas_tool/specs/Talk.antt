@@ -15,10 +15,11 @@ use Rattle.tas_green.specs.Zone.{state_at}
 use Rattle.tas_session.specs.Answers.{answer_shot}
 use Rattle.tas_desk.specs.Zones.{Shares}
 use Rattle.tas_engines.specs.declared.fault.ReadFault.{ReadFault}
+use Rattle.tas_engines.specs.declared.fault.ReadFault.TheVariants.{Failed}
 use Rattle.tas_engines.specs.declared.fault.RunFault.{RunFault}
+use Rattle.tas_engines.specs.declared.fault.RunFault.TheVariants.{Write, NoPlace, NoEntry, Memory}
 use Rattle.tas_engines.specs.declared.fault.ToolFault.{ToolFault}
-use Rattle.tas_engines.specs.declared.fault.ToolFault.TheVariants.{Read, Write, NoPlace, NoEntry, Memory}
-use Rattle.tas_engines.specs.Faults.{unread_fault, run_fault}
+use Rattle.tas_engines.specs.declared.fault.ToolFault.TheVariants.{Read, Run}
 use Rattle.tas_engines.specs.Input.{IsReadWhole, StopsReading, StopsReadingTwo}
 use Rattle.tas_engines.specs.Movies.{IsMovieOf, IsMovieFault}
 use Rattle.tas_engines.specs.Tracing.{IsImageFault}
@@ -261,11 +262,11 @@ pub record IsAnswerCutOff (told answer : List ℕ) (old new : Option (List ℕ))
 -- a reader's entry was refused; or before the first line, where the desk had no place
 abbrev pub TalkEnds : TalkState → (rest told : List ℕ) → (input output output' : Option (List ℕ)) → Result (Unit {0}) ToolFault → Type 0
 TalkEnds state rest told input output output' (Ok _) = (IsQuit rest × Appends output output' told) ⊎ (NoByte 10 rest × IsAtEnd input × Appends output output' (told ++ last_answer rest))
-TalkEnds state rest told input output output' (Err Read) = NoByte 10 rest × Appends output output' told
-TalkEnds state rest told input output output' (Err (Write written)) = (answer : List ℕ) × IsNextAnswer state rest input answer × IsAnswerCutOff told answer output output' written
-TalkEnds state rest told input output output' (Err Memory) = Appends output output' told
-TalkEnds state rest told input output output' (Err NoEntry) = (0 < length rest) × Appends output output' told
-TalkEnds state rest told input output output' (Err NoPlace) = (rest ≡ []) × (told ≡ []) × Appends output output' told
+TalkEnds state rest told input output output' (Err (Read Failed)) = NoByte 10 rest × Appends output output' told
+TalkEnds state rest told input output output' (Err (Run (Write written))) = (answer : List ℕ) × IsNextAnswer state rest input answer × IsAnswerCutOff told answer output output' written
+TalkEnds state rest told input output output' (Err (Run Memory)) = Appends output output' told
+TalkEnds state rest told input output output' (Err (Run NoEntry)) = (0 < length rest) × Appends output output' told
+TalkEnds state rest told input output output' (Err (Run NoPlace)) = (rest ≡ []) × (told ≡ []) × Appends output output' told
 TalkEnds state rest told input output output' (Err _) = ⊥
 
 -- a conversation from such a state on, from what the reader has and the writer holds before to what they have and hold afterwards:
@@ -302,16 +303,16 @@ cart_talk_state image = fresh_talk_state (own_edits_of_movie (record { cart = im
 -- the cartridge
 abbrev pub IsCartTalk : (cart cart' input input' output output' : Option (List ℕ)) → Result (Unit {0}) ToolFault → Type 0
 IsCartTalk cart cart' input input' output output' result =
-    ((fault : ReadFault) × (result ≡ Err (unread_fault fault)) × StopsReading cart cart' fault × IsUntouched input input' output output')
+    ((fault : ReadFault) × (result ≡ Err (Read fault)) × StopsReading cart cart' fault × IsUntouched input input' output output')
     ⊎ ((image : List ℕ) × IsReadWhole cart cart' image
-    × (((fault : RunFault) × (result ≡ Err (run_fault fault)) × IsImageFault image fault × IsUntouched input input' output output')
+    × (((fault : RunFault) × (result ≡ Err (Run fault)) × IsImageFault image fault × IsUntouched input input' output output')
     ⊎ ((is_cart_size (length image) ≡ true) × IsTalk (cart_talk_state image) input input' output output' result)))
 
 -- `tas talk CART MOVIE`: reading the two stopped, or they make no movie, and the conversation didn't begin; or it goes on from
 -- the movie
 abbrev pub IsMovieTalk : (cart cart' movie movie' input input' output output' : Option (List ℕ)) → Result (Unit {0}) ToolFault → Type 0
 IsMovieTalk cart cart' movie movie' input input' output output' result =
-    ((fault : ReadFault) × (result ≡ Err (unread_fault fault)) × StopsReadingTwo cart cart' movie movie' fault × IsUntouched input input' output output')
+    ((fault : ReadFault) × (result ≡ Err (Read fault)) × StopsReadingTwo cart cart' movie movie' fault × IsUntouched input input' output output')
     ⊎ ((image : List ℕ) × (said : List ℕ) × IsReadWhole cart cart' image × IsReadWhole movie movie' said
-    × (((fault : RunFault) × (result ≡ Err (run_fault fault)) × IsMovieFault image said fault × IsUntouched input input' output output')
+    × (((fault : RunFault) × (result ≡ Err (Run fault)) × IsMovieFault image said fault × IsUntouched input input' output output')
     ⊎ ((content : MovieContent) × IsMovieOf image said content × IsTalk (fresh_talk_state (own_edits_of_movie content)) input input' output output' result)))

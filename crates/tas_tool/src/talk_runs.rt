@@ -77,7 +77,7 @@ fn talk_from<A: Allocator + Copy, T: Wait, R: Read, W: Write>(
     ensures { IsTalk (talk_state_from movie) (R.remaining input.old) (R.remaining input.new) (W.contents output.old) (W.contents output.new) result }
 {
     let Ok(unopened) = Unopened::new(alloc, 1) else {
-        return Err(ToolFault::Memory);
+        return Err(ToolFault::Run(RunFault::Memory));
     };
     talk_on::<Brand, A, T, R, W>(rt, alloc, unopened, movie, input, output)
 }

@@ -15,7 +15,7 @@ use std::alloc::Allocator;
 use std::io::{Read, Write};
 use std::sync::Wait;
 use tas_desk::{CloseOnDrop, Desk, Name, Seat};
-use tas_engines::{RunFault, ToolFault};
+use tas_engines::{ReadFault, RunFault, ToolFault};
 use tas_language::{Line, split_once};
 
 /// How many bytes one read asks for.
@@ -159,13 +159,13 @@ pub fn converse<N: Name, C: CloseOnDrop, A: Allocator + Copy, T: Wait, R: Read, 
         (W.contents output.old) (W.contents output.new) result }
 {
     let Ok(mut line) = Line::new(alloc) else {
-        return Err(ToolFault::Memory);
+        return Err(ToolFault::Run(RunFault::Memory));
     };
     let mut progress = Progress { made, written: 0 };
     let mut buffer = [0; CHUNK];
     for _ in rt.forever() {
         let Ok(count) = input.read(&mut buffer) else {
-            return Err(ToolFault::Read);
+            return Err(ToolFault::Read(ReadFault::Failed));
         };
         if count == 0 {
             return Ok(answer_last(&line, progress.written, output)?);

@@ -10,7 +10,7 @@ use std::process::Abort;
 use std::sync::Wait;
 use std::thread::Threads;
 use tas_movie::{TextError, TextErrorKind};
-use tas_tool::{INPUT_LIMIT, ToolFault};
+use tas_tool::{INPUT_LIMIT, ReadFault, RunFault, ToolFault};
 use test_streams::{Failure, Filler, Giver, Room, Taker};
 
 /// Fails where an export ends in another way, or writes other pictures, which are too long to be shown.
@@ -78,7 +78,10 @@ fn other_ranges_are_refused(rt: HostRuntime) {
         let (from, to, len) = *row;
         let text = text_of(&rt, alloc, PLAYFIELD, len, RIGHT);
         let files = (image.as_slice(), text.as_bytes());
-        let wanted = (b"".as_slice(), Err(ToolFault::Range { from, to, len }));
+        let wanted = (
+            b"".as_slice(),
+            Err(ToolFault::Run(RunFault::Range { from, to, len })),
+        );
         let case = ("range", from, to, len);
         check_export(&rt, alloc, case, files, (from, to, 1), wanted);
     }
@@ -110,10 +113,10 @@ fn every_number_of_workers_writes_the_shots(rt: HostRuntime) {
 }
 
 /// How exports of halted frames end.
-const HALTED: ToolFault = ToolFault::Halted {
+const HALTED: ToolFault = ToolFault::Run(RunFault::Halted {
     at: 0xF00D,
     opcode: 2,
-};
+});
 
 #[test]
 fn halted_frames_are_not_written(rt: HostRuntime) {
@@ -152,7 +155,7 @@ fn check_full<R: Wait + Threads + Sync + Abort>(
     let mut cart = image;
     let mut input = text;
     let end = export(rt, alloc, (1, 3, 2), &mut cart, &mut input, &mut output);
-    let fault = ToolFault::Write { written: room };
+    let fault = ToolFault::Run(RunFault::Write { written: room });
     check_same(rt, ("room", room), end, Err(fault));
     let found = (output.taken.len(), output.failed);
     check_same(rt, ("room", room), found, (room, 1));
@@ -176,10 +179,10 @@ fn a_writer_that_fails_has_the_first_bytes(rt: HostRuntime) {
 /// At which reads cartridge and text fail, the end, and how often each is read.
 static FAILED_READS: [(usize, usize, Result<(), ToolFault>, (usize, usize)); 5] = [
     (0, 0, Ok(()), (2, 2)),
-    (1, 0, Err(ToolFault::Read), (1, 0)),
-    (2, 0, Err(ToolFault::Read), (2, 0)),
-    (0, 1, Err(ToolFault::Read), (2, 1)),
-    (0, 2, Err(ToolFault::Read), (2, 2)),
+    (1, 0, Err(ToolFault::Read(ReadFault::Failed)), (1, 0)),
+    (2, 0, Err(ToolFault::Read(ReadFault::Failed)), (2, 0)),
+    (0, 1, Err(ToolFault::Read(ReadFault::Failed)), (2, 1)),
+    (0, 2, Err(ToolFault::Read(ReadFault::Failed)), (2, 2)),
 ];
 
 /// A cartridge is one read and its end; a text of 99 bytes, too. Nothing is read after an end or a failure.
@@ -207,12 +210,17 @@ fn an_input_past_the_limit_is_too_long(rt: HostRuntime) {
     let mut cart = Filler::new(0, INPUT_LIMIT + 2, 0);
     let mut input = Filler::new(0, 10, 0);
     let end = export(&rt, alloc, (0, 1, 1), &mut cart, &mut input, &mut output);
-    check_same(&rt, "cartridge", end, Err(ToolFault::TooLong));
+    check_same(
+        &rt,
+        "cartridge",
+        end,
+        Err(ToolFault::Read(ReadFault::TooLong)),
+    );
     check_same(&rt, "cart.left", (cart.left, input.reads), (1, 0));
     let mut cart = image.as_slice();
     let mut text = Filler::new(0, INPUT_LIMIT + 2, 0);
     let end = export(&rt, alloc, (0, 1, 1), &mut cart, &mut text, &mut output);
-    check_same(&rt, "text", end, Err(ToolFault::TooLong));
+    check_same(&rt, "text", end, Err(ToolFault::Read(ReadFault::TooLong)));
     check_same(&rt, "text.left", text.left, 1);
     check_same(&rt, "output", output.len(), 0);
 }
@@ -221,12 +229,12 @@ fn an_input_past_the_limit_is_too_long(rt: HostRuntime) {
 static OTHER: &[u8] =
     b"a26movie 2\ncart c914dfbc057cd1e5dd9cefcba07cec773cc85a8be3a04676377b60ded704d22d\n..... ..... .....\n";
 
-const SIZE: ToolFault = ToolFault::Size(7);
+const SIZE: ToolFault = ToolFault::Run(RunFault::Size(7));
 
-const DIGEST: ToolFault = ToolFault::Text(TextError {
+const DIGEST: ToolFault = ToolFault::Run(RunFault::Text(TextError {
     line: 2,
     kind: TextErrorKind::Digest,
-});
+}));
 
 /// The cartridge's size comes before the text's fault, and this before the range.
 #[test]

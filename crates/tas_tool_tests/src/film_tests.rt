@@ -9,7 +9,7 @@ use std::io;
 use std::io::Write;
 use std::process::Abort;
 use tas_movie::{TextError, TextErrorKind};
-use tas_tool::ToolFault;
+use tas_tool::{ReadFault, RunFault, ToolFault};
 use test_streams::{Failure, Giver, Room, Taker};
 
 /// The first frame and the place after the last one, where they are given.
@@ -91,7 +91,7 @@ fn other_ranges_are_refused(rt: HostRuntime) {
     let files = (image.as_slice(), text.as_bytes());
     for row in OTHER_RANGES.iter() {
         let (range, (from, to)) = *row;
-        let fault = ToolFault::Range { from, to, len: 3 };
+        let fault = ToolFault::Run(RunFault::Range { from, to, len: 3 });
         let wanted = (b"".as_slice(), Err(fault));
         check_film(&rt, alloc, range, files, range, wanted);
     }
@@ -114,11 +114,11 @@ fn a_film_ends_before_the_first_halted_frame(rt: HostRuntime) {
     for row in HALTED_RANGES.iter() {
         let (range, frames, frame) = *row;
         let pictures = shots(&rt, alloc, files, frames);
-        let fault = ToolFault::HaltedFrame {
+        let fault = ToolFault::Run(RunFault::HaltedFrame {
             frame,
             at: 0xF00D,
             opcode: 2,
-        };
+        });
         check_film(
             &rt,
             alloc,
@@ -152,7 +152,7 @@ fn check_full<R: Abort>(
     let mut cart = image;
     let mut input = text;
     let end = film(alloc, (Some(1), None), &mut cart, &mut input, &mut output);
-    let fault = ToolFault::Write { written: room };
+    let fault = ToolFault::Run(RunFault::Write { written: room });
     check_same(rt, ("room", room), end, Err(fault));
     let found = (output.taken.len(), output.failed);
     check_same(rt, ("room", room), found, (room, 1));
@@ -223,12 +223,12 @@ fn a_film_of_1025_frames_is_1025_writes(rt: HostRuntime) {
 static OTHER: &[u8] =
     b"a26movie 2\ncart c914dfbc057cd1e5dd9cefcba07cec773cc85a8be3a04676377b60ded704d22d\n..... ..... .....\n";
 
-const SIZE: ToolFault = ToolFault::Size(7);
+const SIZE: ToolFault = ToolFault::Run(RunFault::Size(7));
 
-const DIGEST: ToolFault = ToolFault::Text(TextError {
+const DIGEST: ToolFault = ToolFault::Run(RunFault::Text(TextError {
     line: 2,
     kind: TextErrorKind::Digest,
-});
+}));
 
 /// The cartridge's size comes before the text's fault, and this before the range.
 #[test]
@@ -250,7 +250,7 @@ fn faults_of_a_film_come_in_order(rt: HostRuntime) {
     let mut input = Giver::new(OTHER, usize::MAX, 2);
     let mut output = Vec::new(alloc);
     let end = film(alloc, (None, None), &mut cart, &mut input, &mut output);
-    check_same(&rt, "read", end, Err(ToolFault::Read));
+    check_same(&rt, "read", end, Err(ToolFault::Read(ReadFault::Failed)));
     check_same(&rt, "reads", (cart.reads, input.reads), (2, 2));
     check_same(&rt, "output", output.len(), 0);
 }

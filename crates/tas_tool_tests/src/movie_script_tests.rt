@@ -10,7 +10,7 @@ use std::fmt::Debug;
 use std::process::Abort;
 use std::sync::Wait;
 use tas_movie::{TextError, TextErrorKind};
-use tas_tool::ToolFault;
+use tas_tool::{RunFault, ToolFault};
 
 /// The line that loads the playfield's cartridge.
 static LOAD: &[u8] = b"load 000=A910850DA91E85084C08F0 FFC=00F0\n";
@@ -90,10 +90,10 @@ fn movies_of_no_frames_and_of_the_most_are_made(rt: HostRuntime) {
     }
 }
 
-const NO_END: ToolFault = ToolFault::Text(TextError {
+const NO_END: ToolFault = ToolFault::Run(RunFault::Text(TextError {
     line: 2,
     kind: TextErrorKind::End,
-});
+}));
 
 /// Scripts over a movie of one frame, their replies and the line that isn't understood, each with its number among the cases.
 static NOT_UNDERSTOOD: [(usize, &[u8], &[u8], usize); 2] = [
@@ -108,7 +108,7 @@ fn faults_over_a_movie_come_in_order(rt: HostRuntime) {
     let cart = image_of(&rt, alloc, PLAYFIELD.bytes);
     let bad = b"a26movie 2\n".as_slice();
     let script = b"len\nx\n".as_slice();
-    let size = (b"".as_slice(), Err(ToolFault::Size(7)));
+    let size = (b"".as_slice(), Err(ToolFault::Run(RunFault::Size(7))));
     check_over_movie(
         &rt,
         alloc,
@@ -128,7 +128,7 @@ fn faults_over_a_movie_come_in_order(rt: HostRuntime) {
     );
     for row in NOT_UNDERSTOOD.iter() {
         let (number, script, replies, line) = *row;
-        let wanted = (replies, Err(ToolFault::Script { line }));
+        let wanted = (replies, Err(ToolFault::Run(RunFault::Script { line })));
         check_over_frames(&rt, alloc, ("case", number), 1, script, wanted);
     }
 }
@@ -140,6 +140,11 @@ fn a_full_writer_ends_a_script_over_a_movie(rt: HostRuntime) {
     let files = (cart.as_slice(), ONE_FRAME);
     let mut room = [0u8; 5];
     let end = answer_over_movie(&rt, alloc, files, b"len\n", &mut room.as_mut_slice());
-    check_same(&rt, "end", end, Err(ToolFault::Write { written: 5 }));
+    check_same(
+        &rt,
+        "end",
+        end,
+        Err(ToolFault::Run(RunFault::Write { written: 5 })),
+    );
     check_same(&rt, "the first bytes", room.as_slice(), b"len 2");
 }

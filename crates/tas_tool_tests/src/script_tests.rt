@@ -8,7 +8,7 @@ use std::fmt::Debug;
 use std::io::Read;
 use std::process::Abort;
 use std::sync::Wait;
-use tas_tool::{INPUT_LIMIT, ToolFault};
+use tas_tool::{INPUT_LIMIT, ReadFault, RunFault, ToolFault};
 use test_streams::{Failure, Filler, Room, Taker};
 
 /// Fails where a script is answered by other replies, or ends in another way.
@@ -53,7 +53,7 @@ static NOT_UNDERSTOOD: [(&[u8], &[u8], usize); 4] = [
 fn a_line_not_understood_ends_with_its_number(rt: HostRuntime) {
     let alloc = rt.alloc();
     for (script, text, line) in NOT_UNDERSTOOD.iter() {
-        let end = Err(ToolFault::Script { line: *line });
+        let end = Err(ToolFault::Run(RunFault::Script { line: *line }));
         check_script(&rt, alloc, *script, &mut { *script }, (*text, end));
     }
     check_replies(&rt, alloc, "empty", b"", b"");
@@ -156,11 +156,11 @@ fn check_room<R: Wait + Abort>(rt: &R, alloc: Global, room: usize, end: ToolFaul
 
 /// Rooms, and how a script ends that has so much for its replies.
 static ROOMS: [(usize, ToolFault); 5] = [
-    (100, ToolFault::Script { line: 3 }),
-    (21, ToolFault::Script { line: 3 }),
-    (20, ToolFault::Write { written: 20 }),
-    (7, ToolFault::Write { written: 7 }),
-    (0, ToolFault::Write { written: 0 }),
+    (100, ToolFault::Run(RunFault::Script { line: 3 })),
+    (21, ToolFault::Run(RunFault::Script { line: 3 })),
+    (20, ToolFault::Run(RunFault::Write { written: 20 })),
+    (7, ToolFault::Run(RunFault::Write { written: 7 })),
+    (0, ToolFault::Run(RunFault::Write { written: 0 })),
 ];
 
 /// A write of a few bytes is no failed one, and a failed one is the last; the replies before a line that isn't understood
@@ -174,11 +174,21 @@ fn replies_go_out_in_small_pieces(rt: HostRuntime) {
 
 /// How many blanks a script has, at which read it fails, how it ends, and after how many reads.
 static UNREAD: [(usize, usize, ToolFault, usize); 5] = [
-    (10, 1, ToolFault::Read, 1),
-    (10, 2, ToolFault::Read, 2),
-    (10, 3, ToolFault::Script { line: 1 }, 2),
-    (INPUT_LIMIT, 0, ToolFault::Script { line: 1 }, 4097),
-    (INPUT_LIMIT + 1, 0, ToolFault::TooLong, 4097),
+    (10, 1, ToolFault::Read(ReadFault::Failed), 1),
+    (10, 2, ToolFault::Read(ReadFault::Failed), 2),
+    (10, 3, ToolFault::Run(RunFault::Script { line: 1 }), 2),
+    (
+        INPUT_LIMIT,
+        0,
+        ToolFault::Run(RunFault::Script { line: 1 }),
+        4097,
+    ),
+    (
+        INPUT_LIMIT + 1,
+        0,
+        ToolFault::Read(ReadFault::TooLong),
+        4097,
+    ),
 ];
 
 #[test]

@@ -6,7 +6,7 @@ use crate::plain_editor::answer_plainly;
 use std::alloc::Global;
 use std::process::Abort;
 use std::sync::Wait;
-use tas_tool::ToolFault;
+use tas_tool::{RunFault, ToolFault};
 
 /// Ten lines. The cartridge colours a frame by what port A shows, turned round, so that it is black where nothing is pressed;
 /// then it waits for 36 lines, of which two are on the picture, and ends the frame by vertical sync.
@@ -38,7 +38,7 @@ fn is_alike<R: Wait + Abort>(rt: &R, alloc: Global, script: &[u8]) -> bool {
     let end = answer_script(rt, alloc, &mut input, &mut replies);
     let (wanted, fault) = answer_plainly(rt, alloc, script);
     let wanted_end = match fault {
-        Some(line) => Err(ToolFault::Script { line }),
+        Some(line) => Err(ToolFault::Run(RunFault::Script { line })),
         None => Ok(()),
     };
     end == wanted_end && replies == wanted

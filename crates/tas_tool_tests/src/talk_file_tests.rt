@@ -9,7 +9,7 @@ use crate::movies::{
 use std::alloc::Global;
 use std::process::Abort;
 use std::sync::Wait;
-use tas_tool::ToolFault;
+use tas_tool::{ReadFault, RunFault, ToolFault};
 use test_streams::Giver;
 
 /// Lines for conversations over files.
@@ -74,7 +74,7 @@ fn conversations_go_on_from_a_movie(rt: HostRuntime) {
 /// Fails where a cartridge of this wrong size is reported in another way, or something is read of the input.
 fn check_size<R: Wait + Abort>(rt: &R, alloc: Global, image: &[u8], size: usize) {
     let cart = &image[..image.len().min(size)];
-    let fault = ToolFault::Size(size);
+    let fault = ToolFault::Run(RunFault::Size(size));
     let mut input = Giver::new(b"len\n", 10, 0);
     let mut output = Vec::new(alloc);
     let end = talk_from_cart(rt, alloc, cart, &mut input, &mut output);
@@ -106,6 +106,11 @@ fn faults_of_the_files_come_first(rt: HostRuntime) {
     let mut output = Vec::new(alloc);
     let end = talk_from_movie(&rt, alloc, &mut cart, &mut movie, &mut input, &mut output);
     let answer = (output.as_slice(), end);
-    check_answer(&rt, "read", answer, (b"", Err(ToolFault::Read)));
+    check_answer(
+        &rt,
+        "read",
+        answer,
+        (b"", Err(ToolFault::Read(ReadFault::Failed))),
+    );
     check_same(&rt, "reads", (movie.reads, input.reads), (0, 0));
 }

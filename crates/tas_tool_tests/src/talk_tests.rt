@@ -13,7 +13,7 @@ use std::io;
 use std::io::{Error, ErrorKind, Read, Write};
 use std::process::Abort;
 use std::sync::Wait;
-use tas_tool::ToolFault;
+use tas_tool::{ReadFault, RunFault, ToolFault};
 use test_streams::{Failure, Filler, Giver, Room, Taker};
 
 /// Fails where a conversation is answered by other answers, or ends in another way.
@@ -394,7 +394,7 @@ fn check_full<R: Wait + Abort>(
     let mut input = lines;
     let mut output = Taker::new(alloc, 5_000, Room::Bytes(room), failure);
     let end = talk(rt, alloc, &mut input, &mut output);
-    let fault = ToolFault::Write { written: room };
+    let fault = ToolFault::Run(RunFault::Write { written: room });
     check_same(rt, ("room", room), end, Err(fault));
     let sent = &answers[..room.min(answers.len())];
     check_that(rt, ("room", room), output.taken.as_slice() == sent);
@@ -444,7 +444,7 @@ fn a_failed_read_ends_the_conversation(rt: HostRuntime) {
     for (fails_at, answers) in FAILED_READS.iter() {
         let fails_at = *fails_at;
         let mut input = Giver::new(b"len\nx\nlen\nlen", 3, fails_at);
-        let wanted = (*answers, Err(ToolFault::Read));
+        let wanted = (*answers, Err(ToolFault::Read(ReadFault::Failed)));
         check_talk(&rt, alloc, ("read", fails_at), &mut input, wanted);
         check_same(&rt, "input.reads", input.reads, fails_at);
     }

@@ -1,7 +1,7 @@
 use Rattle.std.proofs.Common.{◌≡◌, ◌∙◌, ℕ, List, Option, length, refl, sym, ap, Err, arith}
 use Rattle.std.proofs.lemmas.Result.{err_from_is_err_and}
 use Rattle.std.specs.Prelude.{slice_get}
-use Rattle.tas_engines.specs.Faults.{run_fault}
+use Rattle.tas_engines.specs.declared.fault.ToolFault.TheVariants.{Run}
 use Rattle.tas_tool.specs.Talk.{talk_state_from, IsTalk}
 use Rattle.tas_tool.proofs.OneSeatLemmas.{either_fault, first_of, fresh_first, fresh_zone, whole_alone, sees_own, written_back}
 use Rattle.tas_tool.proofs.TalkLemmas.{no_memory_yet, no_place_yet}
@@ -22,7 +22,7 @@ close-requires g c =
 pub returns-in_err-desk : goal.returns-in_err-desk
 returns-in_err-desk g c =
     let p = err_from_is_err_and c.from_residual.result c.from_residual.ensures.1 in
-    let talk = either_fault (λ fault. (input output : Option (List ℕ)) → IsTalk (talk_state_from c.args.movie) input input output output (Err (run_fault fault))) _ c.in_err-desk.ensures.fault
+    let talk = either_fault (λ fault. (input output : Option (List ℕ)) → IsTalk (talk_state_from c.args.movie) input input output output (Err (Run fault))) _ c.in_err-desk.ensures.fault
     (no_memory_yet (talk_state_from c.args.movie)) (no_place_yet (talk_state_from c.args.movie)) in
     rw (p.1, p.2) (talk _ _)
 
