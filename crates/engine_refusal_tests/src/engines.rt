@@ -9,8 +9,8 @@ use std::sync::Wait;
 use std::thread::Threads;
 use tas_tool::{
     ToolFault, cart_talk_run, check_run, compare_run, diff_run, digest_run, edit_run, export_run,
-    film_run, migrate_run, movie_script_run, movie_talk_run, ram_run, script_run, shot_run,
-    talk_run, trace_run,
+    film_run, lag_run, migrate_run, movie_script_run, movie_talk_run, ram_run, script_run,
+    shot_run, talk_run, trace_run,
 };
 use test_streams::Giver;
 
@@ -25,6 +25,7 @@ pub enum Engine {
     Ram,
     Digest,
     Compare,
+    Lag,
     Edit,
     Diff,
     /// Of two movies with as many frames.
@@ -39,7 +40,7 @@ pub enum Engine {
 }
 
 /// Those that read their inputs whole before they write anything.
-pub static ENGINES: [Engine; 14] = [
+pub static ENGINES: [Engine; 15] = [
     Engine::Trace,
     Engine::Check,
     Engine::Migrate,
@@ -48,6 +49,7 @@ pub static ENGINES: [Engine; 14] = [
     Engine::Ram,
     Engine::Digest,
     Engine::Compare,
+    Engine::Lag,
     Engine::Edit,
     Engine::Diff,
     Engine::DiffReplaced,
@@ -101,6 +103,7 @@ impl Engine {
             | Engine::Film
             | Engine::Ram
             | Engine::Digest
+            | Engine::Lag
             | Engine::Export(_)
             | Engine::CartTalk => 2,
             Engine::Compare
@@ -159,6 +162,7 @@ pub fn run<T: Wait + Threads + Sync, A: Allocator + Copy + Send + Sync, W: Write
         Engine::Ram => ram_run(alloc, 1, 4, first, second, output),
         Engine::Digest => digest_run(alloc, 2, first, second, output),
         Engine::Compare => compare_run(alloc, first, second, third, output),
+        Engine::Lag => lag_run(alloc, first, second, output),
         Engine::Edit => edit_run(alloc, first, second, third, output),
         Engine::Diff | Engine::DiffReplaced => diff_run(alloc, first, second, third, output),
         Engine::Script => script_run(rt, alloc, first, output),

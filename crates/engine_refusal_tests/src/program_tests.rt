@@ -119,14 +119,14 @@ fn count_refused<T: Wait + Threads + Abort + Sync>(
 ///
 /// A text of clap's, or that the words aren't text, has one growth, and a task those of its engine: `trace` 2, `check` 7, `shot` 5 before it
 /// misses the frame, `export` by one worker 32 and by two 34. The list of words has one, for all of them, and where it is refused asks for less. A fault's
-/// line has two, its room and more of it; where they are refused it goes out in pieces.
+/// line of 23 bytes has three, its room and twice more of it; where they are refused it goes out in pieces.
 static RUNS: [(&[&str], bool, u64, u64); 8] = [
     (&[], false, 1, 0),
     (&["tas", "play"], false, 1, 1),
     (&["tas", "--version"], false, 1, 1),
     (&["tas", "trace", "3"], true, 2, 1),
     (&["tas", "check", "game.bin"], false, 7, 1),
-    (&["tas", "shot", "game.bin", "9"], false, 5, 3),
+    (&["tas", "shot", "game.bin", "9"], false, 5, 4),
     (&["tas", "export", "game.bin", "1", "3", "1"], false, 32, 1),
     (&["tas", "export", "game.bin", "1", "3", "2"], false, 34, 1),
 ];
