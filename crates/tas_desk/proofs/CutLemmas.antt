@@ -5,7 +5,8 @@ use Rattle.std.specs.Prelude.{slice_get, filter}
 use Rattle.vcs_machine.specs.declared.input.Input.{Input}
 use Rattle.tas_movie.specs.Content.{MovieContent}
 use Rattle.tas_green.specs.declared.savestate.Savestate.{Savestate}
-use Rattle.tas_green.specs.Front.{IsCommonFront, IsSharedFront}
+use Rattle.tas_green.specs.Front.{IsSharedFront}
+use Rattle.tas_movie.specs.Front.{IsCommonFront}
 use Rattle.tas_green.specs.Green.{IsMoved, IsShotFrom, HoldsGrid, is_left}
 use Rattle.tas_green.specs.Grid.{stride}
 use Rattle.tas_green.specs.Window.{IsViewFrom, both}

@@ -5,7 +5,7 @@ use Rattle.std.specs.Prelude.{IfOk, OnOk, OnErr, MatchResult}
 use Rattle.tas_movie.specs.Content.{MovieContent}
 use Rattle.tas_green.specs.declared.savestate.Savestate.{Savestate}
 use Rattle.tas_green.specs.Batch.{JobContent, BatchContent}
-use Rattle.tas_green.specs.Front.{IsCommonFront}
+use Rattle.tas_movie.specs.Front.{IsCommonFront}
 use Rattle.tas_green.specs.Green.{IsLawful}
 use Rattle.tas_green.specs.Grid.{stride}
 use Rattle.tas_green.specs.Zone.{state_at, nearest, first_of, where_true, is_on_grid}

@@ -4,7 +4,7 @@ use mathlib.Core.List.{IsPrefix}
 use Rattle.tas_movie.specs.Content.{MovieContent}
 use Rattle.tas_green.specs.declared.savestate.Savestate.{Savestate}
 use Rattle.tas_green.specs.Batch.{JobContent, BatchContent}
-use Rattle.tas_green.specs.Front.{IsCommonFront}
+use Rattle.tas_movie.specs.Front.{IsCommonFront}
 use Rattle.tas_green.specs.Green.{IsLawful}
 use Rattle.tas_green.specs.Grid.{most_states, stride}
 use Rattle.tas_green.specs.Zone.{state_at, nearest, first_of, where_true, is_on_grid}

@@ -11,7 +11,7 @@ use Rattle.vcs_machine.specs.Input.{no_input}
 use Rattle.vcs_machine.specs.Machine.{after, frame_picture}
 use Rattle.tas_movie.specs.Content.{MovieContent}
 use Rattle.tas_green.specs.Run.{state_after, picture_of}
-use Rattle.tas_green.specs.Front.{IsCommonFront}
+use Rattle.tas_movie.specs.Front.{IsCommonFront}
 use Rattle.tas_engines.specs.Comparing.{where_played, input_at, unless_halted, first_of, IsFirstDifference, IsFirstUpTo, AreFirstUpTo}
 
 -- ---- what a movie has at a frame

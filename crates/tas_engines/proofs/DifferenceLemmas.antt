@@ -9,7 +9,7 @@ use Rattle.vcs_machine.specs.Input.{no_input}
 use Rattle.vcs_machine.specs.declared.input.Input.{Input}
 use Rattle.tas_movie.specs.Content.{MovieContent, most_inputs}
 use Rattle.tas_movie.specs.Edit.{edited, IsAllowed, spliced}
-use Rattle.tas_green.specs.Front.{IsCommonFront}
+use Rattle.tas_movie.specs.Front.{IsCommonFront}
 use Rattle.tas_language.specs.declared.change.Change.{Change}
 use Rattle.tas_language.specs.declared.change.Change.TheVariants.{Insert, Replace, Delete}
 use Rattle.tas_engines.specs.Changes.{HaveNumbers, edit_of, changed_by, AreAllowed}

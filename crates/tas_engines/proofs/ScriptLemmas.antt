@@ -5,8 +5,9 @@ use Rattle.std.proofs.lemmas.List.{append-nil}
 use Rattle.std.specs.List.{flat_map}
 use Rattle.tas_movie.specs.Content.{MovieContent}
 use Rattle.tas_movie.specs.declared.edit.EditRefusal.TheVariants.{Place, Long}
-use Rattle.tas_language.specs.Commands.{NoByte, HasNumbers, IsChangeLine}
-use Rattle.tas_language.proofs.WordLemmas.{no_parts, same_front}
+use Rattle.tas_language.specs.Commands.{HasNumbers, IsChangeLine}
+use Rattle.byte_text.specs.Splitting.{NoByte}
+use Rattle.byte_text.proofs.SplitLemmas.{no_parts, same_front}
 use Rattle.tas_language.specs.declared.change.Change.{Change}
 use Rattle.tas_engines.specs.declared.making.ChangeError.{ChangeError}
 use Rattle.tas_engines.specs.declared.making.ChangeError.TheVariants.{Refused, Memory}

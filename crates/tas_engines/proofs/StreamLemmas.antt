@@ -7,7 +7,7 @@ use Rattle.std.proofs.lemmas.List.{length-append, take-append-le, append-nil}
 use Rattle.std.proofs.Math.Seq.{take-append-add}
 use Rattle.std.specs.Io.KnownBytes.{Appends}
 use Rattle.std.proofs.KnownBytes.{Appends-trans}
-use Rattle.counted_write.specs.CutOff.{IsCutOff}
+use Rattle.byte_text.specs.CutOff.{IsCutOff}
 
 -- the first pieces went out and the next one was cut off, so the whole text was
 pub cut_within : (old mid new : Option (List ℕ)) (front piece rest : List ℕ) (before written : ℕ) → before ≡ length front → before ≤ written → Appends old mid front

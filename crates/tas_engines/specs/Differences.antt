@@ -1,7 +1,7 @@
 -- What makes one list of inputs of another (own).
 use Rattle.std.specs.Prelude.{◌≡◌, ◌≢◌, ℕ, ◌+◌, ◌-◌, ◌<◌, ◌≤◌, ◌==◌, if◌then◌else◌, List, [], ◌∷◌, length, drop, slice_get}
 use Rattle.vcs_machine.specs.declared.input.Input.{Input}
-use Rattle.tas_green.specs.Front.{IsCommonFront}
+use Rattle.tas_movie.specs.Front.{IsCommonFront}
 use Rattle.tas_language.specs.declared.change.Change.{Change}
 use Rattle.tas_language.specs.declared.change.Change.TheVariants.{Insert, Replace, Delete}
 use Rattle.tas_engines.specs.Changes.{changed_by, AreAllowed, HaveNumbers}

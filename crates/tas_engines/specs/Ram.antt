@@ -1,7 +1,7 @@
 -- What `tas ram` answers (own).
 use Rattle.std.specs.Prelude.{◌≡◌, ℕ, ◌+◌, ◌-◌, ◌≤◌, List, length, ◌++◌, codes, decimal, ◌⊎◌, Option, Result, Ok, Err}
 use Rattle.std.specs.List.{range_with_len, flat_map}
-use Rattle.vcs_cpu.specs.Lines.{hex_byte}
+use Rattle.byte_text.specs.Digits.{hex_byte}
 use Rattle.tas_movie.specs.Content.{MovieContent}
 use Rattle.tas_green.specs.Run.{state_after}
 use Rattle.tas_engines.specs.declared.fault.RunFault.{RunFault}

@@ -6,7 +6,8 @@ use Rattle.tas_movie.specs.Text.{line}
 use Rattle.tas_movie.specs.declared.edit.EditRefusal.{EditRefusal}
 use Rattle.tas_movie.specs.declared.edit.EditRefusal.TheVariants.{Place, Long}
 use Rattle.tas_movie.specs.Edit.{refusal, IsAllowed}
-use Rattle.tas_language.specs.Commands.{NoByte, change_text, HasNumbers, IsChangeLine}
+use Rattle.tas_language.specs.Commands.{change_text, HasNumbers, IsChangeLine}
+use Rattle.byte_text.specs.Splitting.{NoByte}
 use Rattle.tas_language.specs.declared.change.Change.{Change}
 use Rattle.tas_engines.specs.declared.making.ChangeError.{ChangeError}
 use Rattle.tas_engines.specs.declared.making.ChangeError.TheVariants.{Refused, Memory as NoRoom}

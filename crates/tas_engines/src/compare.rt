@@ -2,7 +2,7 @@
 
 ghost use Rattle.std.specs.Prelude.{◌≡◌, ◌≢◌, ◌+◌, ◌≤◌, ◌<◌, ◌++◌, length, codes, IsTrue, None, Ok, Err, IfOk, IfErr, OnOk};
 ghost use Rattle.tas_green.specs.Run.{state_after};
-ghost use Rattle.tas_green.specs.Front.{IsCommonFront};
+ghost use Rattle.tas_movie.specs.Front.{IsCommonFront};
 ghost use Rattle.tas_engines.specs.Output.{Ends};
 ghost use Rattle.tas_engines.specs.Comparing.{
   pixmap_of,

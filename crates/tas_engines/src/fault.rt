@@ -6,7 +6,7 @@ ghost use Rattle.tas_engines.specs.declared.fault.ToolFault.TheVariants.{Read as
 ghost use Rattle.tas_engines.specs.Faults.{cart_fault, text_fault};
 
 use crate::fault_lines::{halted_frame_line, halted_line, no_frame_line, range_line};
-use counted_write::WriteFault;
+use byte_text::WriteFault;
 use std::alloc::AllocError;
 use tas_movie::{ReadError, TextError};
 use thiserror::Error;

@@ -3,8 +3,8 @@
 ghost use Rattle.std.specs.Prelude.{◌≡◌, ◌+◌, ◌-◌, ◌≤◌, ◌<◌, ◌^◌, Ok, Err, length, IfOk, IfErr, OnOk};
 ghost use Rattle.std.specs.List.{flat_map};
 ghost use Rattle.std.specs.Io.KnownBytes.{Appends};
-ghost use Rattle.counted_write.specs.CutOff.{IsCutOff};
-ghost use Rattle.vcs_cpu.specs.Lines.{hex_byte};
+ghost use Rattle.byte_text.specs.CutOff.{IsCutOff};
+ghost use Rattle.byte_text.specs.Digits.{hex_byte};
 ghost use Rattle.tas_movie.specs.Content.{most_inputs};
 ghost use Rattle.tas_engines.specs.Output.{Ends, StopsWriting};
 ghost use Rattle.tas_engines.specs.Movies.{IsMovieRun};
@@ -12,12 +12,11 @@ ghost use Rattle.tas_engines.specs.Ram.{numbered_bytes, ram_lines, IsRamRange, I
 
 use crate::passing::{pass_frame, pass_frames};
 use crate::{RunFault, ToolFault, movie_of, read_two};
-use counted_write::{WriteFault, write_counted};
+use byte_text::{WriteFault, hex_digits, write_counted};
 use itoa::write_digits;
 use std::alloc::Allocator;
 use std::io::{Read, Write};
 use tas_movie::Movie;
-use vcs_cpu::hex_digits;
 
 /// How many bytes of RAM there are.
 const RAM_SIZE: usize = 128;

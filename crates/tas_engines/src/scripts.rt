@@ -5,8 +5,9 @@ ghost use Rattle.std.specs.List.{flat_map};
 ghost use Rattle.tas_engines.specs.Scripts.{change_line, fault_at, MakesAll};
 
 use crate::{ChangeError, make_change};
+use byte_text::split_once;
 use std::alloc::{AllocError, Allocator};
-use tas_language::{Change, change_line, read_change, split_once};
+use tas_language::{Change, change_line, read_change};
 use tas_movie::{EditRefusal, Movie};
 
 /// Why a script wasn't made to its end (own). Lines are counted from 1.

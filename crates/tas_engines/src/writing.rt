@@ -5,7 +5,7 @@ ghost use Rattle.std.specs.Io.KnownBytes.{Appends};
 ghost use Rattle.tas_engines.specs.Output.{StopsWriting};
 
 use crate::RunFault;
-use counted_write::write_counted;
+use byte_text::write_counted;
 use std::io::Write;
 
 /// Writes all of an answer (own). A write that fails or takes no byte ends the call with

@@ -3,7 +3,7 @@ use Rattle.std.proofs.Common.{◌≡◌, ℕ, ◌+◌, ◌*◌, ◌-◌, ◌<◌
 use lib.Seq.{take-append-add}
 use Rattle.std.specs.Io.KnownBytes.{Appends}
 use Rattle.std.proofs.KnownBytes.{Appends-nil, Appends-trans}
-use Rattle.counted_write.specs.CutOff.{IsCutOff}
+use Rattle.byte_text.specs.CutOff.{IsCutOff}
 use Rattle.vcs_tia.specs.Image.{ppm_bytes}
 use Rattle.tas_movie.specs.Content.{MovieContent}
 use Rattle.tas_green.specs.Run.{state_after, picture_of}

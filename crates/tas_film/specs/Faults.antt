@@ -1,6 +1,6 @@
 -- How the frames of a plan fail to be written (own).
 use Rattle.std.specs.Prelude.{◌≡◌, ℕ, ◌-◌, List, Option}
-use Rattle.counted_write.specs.CutOff.{IsCutOff}
+use Rattle.byte_text.specs.CutOff.{IsCutOff}
 use Rattle.tas_movie.specs.Content.{MovieContent}
 use Rattle.tas_film.specs.declared.exporting.ExportFault.{ExportFault}
 use Rattle.tas_film.specs.declared.exporting.ExportFault.TheVariants.{Memory, Halted, Write}

@@ -2,7 +2,7 @@
 
 ghost use Rattle.std.specs.Prelude.{◌≡◌, ◌+◌, ◌-◌, ◌≤◌, ◌<◌, ◌^◌, length, OnOk, IfErr};
 ghost use Rattle.std.specs.Io.KnownBytes.{Appends};
-ghost use Rattle.counted_write.specs.CutOff.{IsCutOff};
+ghost use Rattle.byte_text.specs.CutOff.{IsCutOff};
 ghost use Rattle.vcs_tia.specs.Image.{ppm_bytes};
 ghost use Rattle.tas_green.specs.Run.{state_after, picture_of};
 ghost use Rattle.tas_film.specs.Films.{IsFilm, IsFilmStop};
@@ -10,7 +10,7 @@ ghost use Rattle.tas_film.specs.Frames.{IsDrawn};
 
 use crate::drawing::play_up_to;
 use crate::pixmaps::HaltedFrame;
-use counted_write::{WriteFault, write_counted};
+use byte_text::{WriteFault, write_counted};
 use std::alloc::{AllocError, Allocator};
 use std::io::Write;
 use tas_green::Savestate;

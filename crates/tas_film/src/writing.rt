@@ -3,11 +3,11 @@
 ghost use Rattle.std.specs.Prelude.{◌<◌, ◌^◌, length, IfErr, OnOk};
 ghost use Rattle.std.specs.List.{concat};
 ghost use Rattle.std.specs.Io.KnownBytes.{Appends};
-ghost use Rattle.counted_write.specs.CutOff.{IsCutOff};
+ghost use Rattle.byte_text.specs.CutOff.{IsCutOff};
 ghost use Rattle.tas_film.specs.Runs.{pixmaps_in};
 
 use crate::runs::Run;
-use counted_write::{WriteFault, write_counted};
+use byte_text::{WriteFault, write_counted};
 use std::alloc::Allocator;
 use std::io::Write;
 

@@ -12,10 +12,11 @@ use Rattle.tas_language.specs.declared.change.Change.TheVariants.{Insert, Replac
 use Rattle.tas_language.specs.declared.image.Image.{Image}
 use Rattle.tas_language.specs.declared.image.Image.TheVariants.{Large, Small}
 use Rattle.tas_language.specs.Commands.{Says, Loads, IsNumber, pair_text, frames_text}
-use Rattle.vcs_cpu.specs.Lines.{digit_of}
+use Rattle.byte_text.specs.Digits.{digit_of}
 use Rattle.tas_language.specs.Parts.{Part, IsPart, AreParts, IsBytes, IsImageOf, hex_text, word_text, part_text, overwritten_by_all}
 use Rattle.tas_language.proofs.PartLemmas.{digit_same, offset_same, same_word, word_no_space, end_of_parts, parts_begin}
-use Rattle.tas_language.proofs.WordLemmas.{same_front, decimal_no_space}
+use Rattle.tas_language.proofs.WordLemmas.{decimal_no_space}
+use Rattle.byte_text.proofs.SplitLemmas.{same_front}
 
 -- ---- images
 

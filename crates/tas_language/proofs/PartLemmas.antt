@@ -10,8 +10,8 @@ use borrow.Rule.Slice.PartMut.{put_mid}
 use Rattle.std.proofs.lemmas.Grind.{common_steps}
 use Rattle.std.specs.Prelude.{◌≢◌, replicate}
 use Rattle.std.specs.List.{flat_map}
-use Rattle.tas_language.specs.Commands.{NoByte}
-use Rattle.vcs_cpu.specs.Lines.{digit_of}
+use Rattle.byte_text.specs.Splitting.{NoByte}
+use Rattle.byte_text.specs.Digits.{digit_of}
 use Rattle.tas_language.specs.Parts.{Part, IsPart, AreParts, IsBytes, IsWordEnd, IsImageOf, AreWritten, hex_text, offset_text, word_text, part_text, overwritten, overwritten_by_all}
 
 -- ---- bytes of two digits

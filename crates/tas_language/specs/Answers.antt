@@ -3,7 +3,7 @@ use Rattle.std.specs.Prelude.{ℕ, List, ◌∷◌, ◌++◌, length, codes, dec
 use Rattle.std.specs.List.{flat_map}
 use Rattle.hex.specs.Hex.{encode_lower}
 use Rattle.sha2.specs.Sha256.{sha256}
-use Rattle.vcs_cpu.specs.Lines.{hex_byte}
+use Rattle.byte_text.specs.Digits.{hex_byte}
 
 -- the answer to a line that isn't understood
 abbrev pub unknown_text : List ℕ

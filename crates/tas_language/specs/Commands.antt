@@ -10,11 +10,6 @@ use Rattle.tas_language.specs.declared.image.Image.{Image}
 use Rattle.tas_language.specs.declared.image.Image.TheVariants.{Large, Small}
 use Rattle.tas_language.specs.Parts.{IsImageOf}
 
--- a byte doesn't stand in the bytes
-abbrev pub NoByte : ℕ → List ℕ → Type 0
-NoByte c [] = Unit {0}
-NoByte c (b ∷ bytes) = (b ≡ c → ⊥) × NoByte c bytes
-
 -- the greatest number: seven digits
 abbrev pub most_number : ℕ
 most_number = 9999999

@@ -1,7 +1,7 @@
 -- What a `load` or `load2` line says: parts of a cartridge's image, each an offset and the bytes from there on (own).
 use Rattle.std.specs.Prelude.{◌≡◌, ℕ, ◌+◌, ◌/◌, ◌%◌, ◌<◌, ◌≤◌, List, [], ◌∷◌, ◌++◌, length, take, drop, replicate, slice_index}
 use Rattle.std.specs.List.{flat_map}
-use Rattle.vcs_cpu.specs.Lines.{digit_of, hex_byte}
+use Rattle.byte_text.specs.Digits.{digit_of, hex_byte}
 
 -- each byte as two upper case hexadecimal digits, the high four bits first
 unfoldable pub hex_text : List ℕ → List ℕ

@@ -3,7 +3,7 @@ use Rattle.std.specs.Prelude.{ℕ, List, ◌++◌, codes, decimal}
 use Rattle.tas_movie.specs.Text.{frame_text}
 use Rattle.tas_language.specs.declared.reply.Reply.{Reply}
 use Rattle.tas_language.specs.declared.reply.Reply.TheVariants.{Edited, Place, Long, Full, Measured, Pressed, NoFrame, Drawn, Halted, Worked, OutOfMemory}
-use Rattle.vcs_cpu.specs.Lines.{hex_byte, hex_word}
+use Rattle.byte_text.specs.Digits.{hex_byte, hex_word}
 
 -- the line of a reply, with its newline
 abbrev pub reply_text : Reply → List ℕ

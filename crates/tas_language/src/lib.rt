@@ -32,4 +32,4 @@ pub use parsing::{MAX_PICTURES, parse_line, parse_request};
 pub use printing::reply_line;
 pub use reply::Reply;
 pub use request::Request;
-pub use words::{MAX_NUMBER, number, split_once, strip};
+pub use words::{MAX_NUMBER, number, strip};

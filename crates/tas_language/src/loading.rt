@@ -1,12 +1,12 @@
 //! The parts of a `load` or `load2` line.
 
 ghost use Rattle.std.specs.Prelude.{◌≡◌, ◌≢◌, ◌<◌, ◌≤◌, ◌*◌, ◌++◌, ◌∷◌, [], ℕ, List, length, IfSome, IfNone, true, false};
-ghost use Rattle.tas_language.specs.Commands.{NoByte};
-ghost use Rattle.vcs_cpu.specs.Lines.{digit_of};
+ghost use Rattle.byte_text.specs.Splitting.{NoByte};
+ghost use Rattle.byte_text.specs.Digits.{digit_of};
 ghost use Rattle.std.specs.List.{flat_map};
 ghost use Rattle.tas_language.specs.Parts.{Part, IsPart, AreParts, IsBytes, IsWordEnd, IsImageOf, AreWritten, hex_text, offset_text, word_text, part_text, overwritten};
 
-use crate::words::split_once;
+use byte_text::split_once;
 use vcs_machine::CART_SIZE;
 
 /// The value of an upper case hexadecimal digit.

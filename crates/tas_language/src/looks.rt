@@ -2,14 +2,14 @@
 
 ghost use Rattle.std.specs.Prelude.{◌≡◌, ◌++◌, IfOk, OnOk};
 ghost use Rattle.std.specs.List.{flat_map};
-ghost use Rattle.vcs_cpu.specs.Lines.{hex_byte};
+ghost use Rattle.byte_text.specs.Digits.{hex_byte};
 ghost use Rattle.vcs_tia.specs.Image.{ppm_bytes};
 ghost use Rattle.tas_language.specs.Answers.{ram_text, frame_digest_text};
 
 use crate::answers::push_pixmap;
+use byte_text::hex_digits;
 use sha2::{Digest, Sha256};
 use std::alloc::{AllocError, Allocator};
-use vcs_cpu::hex_digits;
 use vcs_tia::Picture;
 
 /// Appends each byte as two upper case hexadecimal digits.

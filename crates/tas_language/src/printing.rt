@@ -3,12 +3,12 @@
 ghost use Rattle.std.specs.Prelude.{◌≡◌, IfOk};
 ghost use Rattle.tas_language.specs.declared.reply.Reply.TheVariants.{Edited, Place, Long, Full, Measured, Pressed, NoFrame, Drawn, Halted, Worked, OutOfMemory};
 ghost use Rattle.tas_language.specs.Replies.{reply_text};
-ghost use Rattle.vcs_cpu.specs.Lines.{hex_word};
+ghost use Rattle.byte_text.specs.Digits.{hex_word};
 
 use crate::Reply;
+use byte_text::hex_digits;
 use std::alloc::{AllocError, Allocator};
 use tas_movie::print_frame;
-use vcs_cpu::hex_digits;
 use vcs_machine::Input;
 
 /// An address as four upper case hexadecimal digits.

@@ -3,9 +3,10 @@
 ghost use Rattle.std.specs.Prelude.{◌≡◌, ◌≢◌, ◌++◌, ◌∷◌, ℕ, List, decimal, IfSome, IfNone};
 ghost use Rattle.vcs_machine.specs.declared.input.Input.{Input as Pressed};
 ghost use Rattle.tas_movie.specs.Text.{frame_text};
-ghost use Rattle.tas_language.specs.Commands.{NoByte, IsNumber, pair_text, frames_text};
+ghost use Rattle.tas_language.specs.Commands.{IsNumber, pair_text, frames_text};
 
-use tas_movie::{read_decimal, read_frame};
+use byte_text::{read_decimal, split_once};
+use tas_movie::read_frame;
 use vcs_machine::Input;
 
 /// The greatest number of a script: seven digits (own).
@@ -30,19 +31,6 @@ pub fn number(word: &[u8]) -> Option<usize>
         return None;
     }
     Some(n)
-}
-
-/// The bytes before the first such byte and those after it; nothing where there is no such byte.
-pub fn split_once(bytes: &[u8], mark: u8) -> Option<(&[u8], &[u8])>
-    ensures some { IfSome result (λ parts. (bytes.now ≡ parts.0.now ++ mark ∷ parts.1.now) × NoByte mark parts.0.now) }
-    ensures none { IfNone result (NoByte mark bytes.now) }
-{
-    for at in 0..bytes.len() {
-        if bytes[at] == mark {
-            return Some((&bytes[..at], &bytes[at + 1..]));
-        }
-    }
-    None
 }
 
 /// Two numbers with one space between.

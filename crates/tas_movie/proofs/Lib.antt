@@ -2,5 +2,4 @@ pub mod TextLemmas
 pub mod RunLemmas
 pub mod RunTextLemmas
 pub mod TwoTexts
-pub mod DecimalLemmas
 pub mod EditLemmas

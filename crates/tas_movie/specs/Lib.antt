@@ -3,3 +3,4 @@ pub mod Edit
 pub mod Runs
 pub mod Text
 pub mod Fault
+pub mod Front

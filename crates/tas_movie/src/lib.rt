@@ -3,10 +3,10 @@
 //! "(own)" marks a rule that is this project's own; where a rule comes from a manual, its section is named.
 #![tactic(auto)]
 
-mod decimals;
 mod edit;
 mod editing;
 mod error;
+mod front;
 mod inputs;
 mod laws;
 mod lists;
@@ -16,10 +16,10 @@ mod reading;
 mod run;
 mod run_reading;
 
-pub use decimals::read_decimal;
 pub use edit::{Edit, EditRefusal};
 pub use editing::{apply, check, check_insertion, check_place};
 pub use error::{ReadError, TextError, TextErrorKind};
+pub use front::common_front;
 pub use inputs::Inputs;
 pub use laws::{limits_are_exact, one_movie_per_text, runs_are_longest, texts_have_no_fault};
 pub use movie::{MAX_FRAMES, Movie};

@@ -8,11 +8,11 @@ ghost use Rattle.tas_movie.specs.Runs.{runs_of};
 ghost use Rattle.tas_movie.specs.Text.{count_text, run_line};
 ghost use Rattle.tas_movie.specs.Fault.{is_repeated, run_fault, runs_fault, fault_by, IsRunLine};
 
-use crate::decimals::read_decimal;
 use crate::printing::FRAME_TEXT_SIZE;
 use crate::reading::{error_at, read_frame, split_line};
 use crate::run::FrameRun;
 use crate::{MAX_FRAMES, TextError, TextErrorKind};
+use byte_text::read_decimal;
 use std::alloc::Allocator;
 use vcs_machine::Input;
 

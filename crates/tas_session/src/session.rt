@@ -7,7 +7,7 @@ ghost use Rattle.tas_movie.specs.Edit.{edited};
 ghost use Rattle.tas_green.specs.Run.{state_after};
 ghost use Rattle.tas_green.specs.Zone.{state_at, nearest, first_of, where_true, is_on_grid, is_passed};
 ghost use Rattle.tas_green.specs.Grid.{most_states, stride};
-ghost use Rattle.tas_green.specs.Front.{IsCommonFront};
+ghost use Rattle.tas_movie.specs.Front.{IsCommonFront};
 ghost use Rattle.tas_green.specs.Green.{IsLawful, HoldsGrid};
 ghost use Rattle.tas_session.specs.declared.replies.OfferError.TheVariants.{Cartridge, Memory};
 ghost use Rattle.tas_session.specs.declared.replies.OpenError.TheVariants.{Memory as OutOfMemory};

@@ -12,12 +12,13 @@ use Rattle.tas_engines.specs.Input.{IsReadWhole}
 use Rattle.tas_engines.specs.Output.{StopsWriting}
 use Rattle.tas_language.specs.declared.command.Command.{Command}
 use Rattle.tas_language.specs.declared.reply.Reply.{Reply}
-use Rattle.tas_language.specs.Commands.{Says, NoByte}
+use Rattle.tas_language.specs.Commands.{Says}
+use Rattle.byte_text.specs.Splitting.{NoByte}
 use Rattle.tas_language.specs.Replies.{reply_text}
 use Rattle.tas_desk.specs.Seats.{SeatContent}
 use Rattle.tas_tool.specs.Turns.{OwnEdits, IsDeskFault, reply_to, own_edits_after}
 use Rattle.tas_tool.specs.Scripts.{Turn, turn_line, AreSaid, own_edits_after_all, replies_to_all, IsUnclear, IsStop, Reads, Answers, own_edits_at_start, EndsWithReplies, RunsScript, IsScriptRun}
-use Rattle.tas_language.proofs.WordLemmas.{no_parts, same_front}
+use Rattle.byte_text.proofs.SplitLemmas.{no_parts, same_front}
 
 -- ---- one line more
 

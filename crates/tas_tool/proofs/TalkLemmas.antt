@@ -5,7 +5,7 @@ use Rattle.std.specs.Io.KnownBytes.{Appends, Consumes, Keeps, IsAtEnd}
 use Rattle.std.proofs.KnownBytes.{Appends-nil, Appends-trans, Consumes-nil, Consumes-trans, Consumes-kept}
 use Rattle.std.proofs.lemmas.Grind.{flat_map-append}
 use lib.Seq.{take-append-add}
-use Rattle.counted_write.specs.CutOff.{IsCutOff}
+use Rattle.byte_text.specs.CutOff.{IsCutOff}
 use Rattle.tas_movie.specs.Text.{line}
 use Rattle.tas_movie.specs.Content.{MovieContent, blank_movie}
 use Rattle.tas_green.specs.declared.savestate.Savestate.{Savestate}
@@ -19,7 +19,7 @@ use Rattle.tas_engines.specs.declared.fault.RunFault.TheVariants.{Write, Size, T
 use Rattle.tas_engines.specs.declared.fault.ToolFault.{ToolFault}
 use Rattle.tas_engines.specs.declared.fault.ToolFault.TheVariants.{Read, Run}
 use Rattle.tas_engines.specs.declared.fault.ReadFault.TheVariants.{Failed}
-use Rattle.tas_language.specs.Commands.{NoByte}
+use Rattle.byte_text.specs.Splitting.{NoByte}
 use Rattle.tas_language.specs.declared.request.Request.{Request}
 use Rattle.tas_language.specs.Requests.{IsHeard}
 use Rattle.tas_language.specs.Held.{HoldsLine}

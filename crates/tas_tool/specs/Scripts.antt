@@ -10,7 +10,8 @@ use Rattle.tas_engines.specs.declared.fault.ToolFault.{ToolFault}
 use Rattle.tas_engines.specs.Input.{IsReadWhole, StopsReading}
 use Rattle.tas_engines.specs.Output.{StopsWriting, EndsAfter}
 use Rattle.tas_language.specs.declared.command.Command.{Command}
-use Rattle.tas_language.specs.Commands.{Says, NoByte}
+use Rattle.tas_language.specs.Commands.{Says}
+use Rattle.byte_text.specs.Splitting.{NoByte}
 use Rattle.tas_language.specs.Replies.{reply_text}
 use Rattle.tas_tool.specs.Turns.{Unforeseen, OwnEdits, reply_to, own_edits_after}
 

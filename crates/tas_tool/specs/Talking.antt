@@ -1,7 +1,7 @@
 -- A conversation on its way. Private functions cite this file.
 use Rattle.std.specs.Prelude.{◌≡◌, ℕ, ◌+◌, ◌<◌, min, List, [], ◌∷◌, ◌++◌, length, Bool, Option, Some, None, Result, Ok, Err}
 use Rattle.std.specs.Io.KnownBytes.{Appends}
-use Rattle.counted_write.specs.CutOff.{IsCutOff}
+use Rattle.byte_text.specs.CutOff.{IsCutOff}
 use Rattle.tas_movie.specs.Content.{MovieContent}
 use Rattle.tas_movie.specs.Text.{line}
 use Rattle.vcs_machine.specs.declared.state.State.{State}
@@ -20,7 +20,7 @@ use Rattle.tas_language.specs.declared.command.Command.{Command}
 use Rattle.tas_language.specs.declared.command.Command.TheVariants.{Shot, Work}
 use Rattle.tas_language.specs.declared.reply.Reply.{Reply}
 use Rattle.tas_language.specs.declared.reply.Reply.TheVariants.{NoFrame, Worked, OutOfMemory}
-use Rattle.tas_language.specs.Commands.{NoByte}
+use Rattle.byte_text.specs.Splitting.{NoByte}
 use Rattle.tas_language.specs.declared.request.Request.{Request}
 use Rattle.tas_language.specs.declared.request.Request.TheVariants.{Quit}
 use Rattle.tas_language.specs.Requests.{IsHeard}

@@ -7,13 +7,14 @@ ghost use Rattle.tas_tool.specs.Scripts.{own_edits_at_start, Answers, RunsScript
 
 use crate::answering::answer_command;
 use crate::opening::open_alone;
+use byte_text::split_once;
 use std::alloc::Allocator;
 use std::io::{Read, Write};
 use std::marker::Brand;
 use std::sync::Wait;
 use tas_desk::{CloseOnDrop, Desk, Name, Seat, Unopened};
 use tas_engines::{RunFault, ToolFault, read_input, write_all};
-use tas_language::{parse_line, reply_line, split_once};
+use tas_language::{parse_line, reply_line};
 
 /// Does what the lines ask for, as a seat that has made this many edits, and puts the replies into the empty text. `Foreign` comes
 /// only where the seat has seen more than its own edits.

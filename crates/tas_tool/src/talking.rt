@@ -2,7 +2,7 @@
 
 ghost use Rattle.std.specs.Prelude.{◌≡◌, ◌≤◌, ◌+◌, ◌++◌, ℕ, List, length, min, IfOk, IfErr, IfSome, OnOk, MatchResult};
 ghost use Rattle.std.specs.Io.KnownBytes.{Appends};
-ghost use Rattle.tas_language.specs.Commands.{NoByte};
+ghost use Rattle.byte_text.specs.Splitting.{NoByte};
 ghost use Rattle.tas_language.specs.Answers.{unknown_text};
 ghost use Rattle.tas_language.specs.Held.{HoldsLine};
 ghost use Rattle.tas_tool.specs.Turns.{BeginsWithOwn};
@@ -10,13 +10,13 @@ ghost use Rattle.tas_tool.specs.Talk.{last_answer, most_counted, IsTalk};
 ghost use Rattle.tas_tool.specs.Talking.{talk_state_of, CutsOff, IsLineTurn, IsPartTurn, StandsAt};
 
 use crate::telling::answer_request;
-use counted_write::write_counted;
+use byte_text::{split_once, write_counted};
 use std::alloc::Allocator;
 use std::io::{Read, Write};
 use std::sync::Wait;
 use tas_desk::{CloseOnDrop, Desk, Name, Seat};
 use tas_engines::{ReadFault, RunFault, ToolFault};
-use tas_language::{Line, split_once};
+use tas_language::Line;
 
 /// How many bytes one read asks for.
 const CHUNK: usize = 4096;

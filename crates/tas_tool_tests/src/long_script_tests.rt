@@ -17,9 +17,9 @@
 
 use crate::checks::{check_same, check_that, expect_ok, expect_some};
 use crate::commands::answer_script;
+use byte_text::split_once;
 use std::alloc::Global;
 use std::process::Abort;
-use tas_language::split_once;
 
 /// Each line, a bar, and its reply.
 static TURNS: &str = "\

@@ -1,6 +1,6 @@
 use Rattle.std.proofs.Common.{◌≡◌, ◌*◌, length, take}
 use Rattle.std.specs.List.{flat_map}
-use Rattle.vcs_cpu.specs.Lines.{hex_byte}
+use Rattle.byte_text.specs.Digits.{hex_byte}
 use Rattle.tas_engines.proofs.ram.ram_digits.Given as goal
 
 abbrev pub invariant-loop-i : goal.invariant-loop-i

@@ -2,7 +2,7 @@ use Rattle.std.proofs.Common.{ℕ, ◌++◌, ◌-◌, List, [], ◌∷◌, OnOk,
 use Rattle.std.specs.Prelude.{decimal}
 use Rattle.std.proofs.lemmas.Fmt.{length-decimal-le}
 use Rattle.std.specs.Io.KnownBytes.{Appends}
-use Rattle.counted_write.specs.CutOff.{IsCutOff}
+use Rattle.byte_text.specs.CutOff.{IsCutOff}
 use Rattle.tas_engines.proofs.StreamLemmas.{last_bytes}
 use Rattle.tas_engines.proofs.ram.write_ram_line.Goals as goal
 

@@ -3,7 +3,7 @@ use Rattle.std.specs.Io.KnownBytes.{Appends}
 use Rattle.std.proofs.KnownBytes.{Appends-nil, Appends-trans}
 use Rattle.std.proofs.lemmas.Result.{err_from_is_err_and}
 use Rattle.vcs_machine.specs.declared.state.State.{State}
-use Rattle.counted_write.specs.CutOff.{IsCutOff}
+use Rattle.byte_text.specs.CutOff.{IsCutOff}
 use Rattle.tas_engines.specs.Ram.{numbered_bytes, ram_line}
 use Rattle.tas_engines.proofs.StreamLemmas.{pieces, pieces_none, pieces_more, pieces_around, cut_within}
 use Rattle.tas_engines.proofs.ram.write_ram_lines.Goals as goal

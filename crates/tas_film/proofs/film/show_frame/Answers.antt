@@ -1,6 +1,6 @@
 use Rattle.std.proofs.Common.{◌≡◌, ◌-◌, ◌∙◌, List, ℕ, Ok, refl, ap, subst, sym, arith}
 use Rattle.std.specs.Io.KnownBytes.{Appends}
-use Rattle.counted_write.specs.CutOff.{IsCutOff}
+use Rattle.byte_text.specs.CutOff.{IsCutOff}
 use Rattle.vcs_tia.specs.Image.{ppm_bytes}
 use Rattle.tas_green.specs.Run.{picture_of}
 use Rattle.tas_green.proofs.RunLemmas.{after_more, picture_drawn}

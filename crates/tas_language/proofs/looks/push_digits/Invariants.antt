@@ -1,6 +1,6 @@
 use Rattle.std.proofs.Common.{◌≡◌, ◌++◌, take}
 use Rattle.std.specs.List.{flat_map}
-use Rattle.vcs_cpu.specs.Lines.{hex_byte}
+use Rattle.byte_text.specs.Digits.{hex_byte}
 use Rattle.tas_language.proofs.looks.push_digits.Given as goal
 
 abbrev pub invariant-loop-byte : goal.invariant-loop-byte

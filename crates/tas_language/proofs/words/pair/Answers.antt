@@ -1,7 +1,8 @@
 use Rattle.std.proofs.Common.{sym, ◌∙◌, arith, subst}
 use Rattle.std.specs.Prelude.{decimal}
-use Rattle.tas_language.specs.Commands.{NoByte}
-use Rattle.tas_language.proofs.WordLemmas.{no_parts, same_front, decimal_no_space}
+use Rattle.byte_text.specs.Splitting.{NoByte}
+use Rattle.tas_language.proofs.WordLemmas.{decimal_no_space}
+use Rattle.byte_text.proofs.SplitLemmas.{no_parts, same_front}
 use Rattle.tas_language.proofs.words.pair.Goals as goal
 
 pub returns-in_err-first-clause-none : goal.returns-in_err-first-clause-none

@@ -4,7 +4,7 @@ use Rattle.std.specs.Str.{bytes_eq}
 use Rattle.tas_movie.specs.Text.{frame_text}
 use Rattle.tas_movie.specs.Fault.{shown_input, is_frame}
 use Rattle.tas_movie.proofs.TextLemmas.{bytes_same, frame_shown, shown_input-frame, is_frame-frame}
-use Rattle.tas_movie.proofs.DecimalLemmas.{same_text}
+use Rattle.byte_text.proofs.DecimalLemmas.{same_text}
 use Rattle.tas_movie.proofs.reading.read_frame.Goals as goal
 
 other_length : (line : List ℕ) → (length line ≡ 17 → ⊥) → is_frame line ≡ false

@@ -1,5 +1,5 @@
 use Rattle.std.proofs.Common.{◌≡◌, ℕ, ◌++◌, List, length}
-use Rattle.tas_language.specs.Commands.{NoByte}
+use Rattle.byte_text.specs.Splitting.{NoByte}
 use Rattle.tas_language.specs.Held.{HoldsLine}
 use Rattle.tas_tool.specs.Talk.{Exchange, lines_of}
 use Rattle.tas_tool.specs.Talking.{HasAnswered, StandsAt}

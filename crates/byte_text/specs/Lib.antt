@@ -1,0 +1,3 @@
+pub mod CutOff
+pub mod Digits
+pub mod Splitting

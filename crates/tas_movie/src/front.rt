@@ -1,0 +1,16 @@
+//! The common beginning of two lists of inputs.
+
+ghost use Rattle.tas_movie.specs.Front.{IsCommonFront};
+
+use vcs_machine::Input;
+
+/// The length of the longest common beginning of two lists of inputs, in frames (own).
+pub fn common_front(a: &[Input], b: &[Input]) -> usize
+    ensures { IsCommonFront a.now b.now result }
+{
+    let mut front = 0;
+    while front < a.len() && front < b.len() && a[front] == b[front] {
+        front += 1;
+    }
+    front
+}
