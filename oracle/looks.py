@@ -1,17 +1,17 @@
-"""Looks at a played movie by the model of machine.py: RAM, digests, and where two movies begin to differ.
+"""Looks at a played movie by the model of machine.py: RAM, digests, where two movies begin to differ, and lag frames.
 
-docs/FORMATS.md, "RAM", "Digest" and "Comparison", says what the lines are.
+docs/FORMATS.md, "RAM", "Digest", "Comparison" and "Lag frames", says what the lines are.
 """
 
 from collections import namedtuple
 from hashlib import sha256
-from itertools import zip_longest
+from itertools import groupby, zip_longest
 
 import cartridges
 import machine
 
-# What a frame left: the 128 bytes of RAM, and its pixmap; no bytes where the machine is halted.
-Frame = namedtuple("Frame", "ram pixmap")
+# What a frame left: the 128 bytes of RAM; its pixmap, no bytes where the machine is halted; whether it is a lag frame.
+Frame = namedtuple("Frame", "ram pixmap is_lag")
 
 
 def read_inputs(text):
@@ -37,7 +37,7 @@ class Played:
     def play(self, model, text):
         picture = model.play_frame(text)
         self.pictures.append(picture)
-        return Frame(bytes(model.ram), b"" if picture is None else machine.ppm_bytes(picture))
+        return Frame(bytes(model.ram), b"" if picture is None else machine.ppm_bytes(picture), model.is_lag)
 
     def ram_after(self, count):
         return self.frames[count - 1].ram if count else self.start
@@ -76,3 +76,13 @@ def first_difference(one, other):
         if a != b:
             return place
     return "none"
+
+
+def lag_lines(played):
+    """A line for each stretch of lag frames, as long as it goes."""
+    lines = []
+    for is_lag, stretch in groupby(enumerate(played.frames), key=lambda numbered: numbered[1].is_lag):
+        numbers = [number for number, _ in stretch]
+        if is_lag:
+            lines.append("%d %d\n" % (numbers[0], numbers[-1] + 1))
+    return "".join(lines).encode()

@@ -207,6 +207,10 @@ Operand = namedtuple("Operand", "byte address crossed")
 Step = namedtuple("Step", "address opcode cycles")
 
 
+# Section 5, "Reads": INPT4 and INPT5, by A3 to A0.
+FIRE_BUTTONS = (0xC, 0xD)
+
+
 def area(address):
     """Section 3, "Address map": what answers at an address."""
     if bit(address, 12):
@@ -228,6 +232,7 @@ class Machine:
         self.port_b = Port()
         self.tia = Tia()
         self.input = read_input(NOTHING)
+        self.is_lag = True
         self.a = self.x = self.y = 0
         self.s = 0xFD
         self.flags = {"I"}
@@ -244,10 +249,21 @@ class Machine:
         if where == "ram":
             return self.ram[address % 128]
         if where == "tia":
+            self.note_input(address % 16 in FIRE_BUTTONS)
             return self.tia.read(address % 16)
         if where == "timer":
             return self.read_timer(address)
         return self.read_port(address % 4)
+
+    # -- docs/FORMATS.md, "Lag frames"
+
+    def note_input(self, is_shown):
+        """Notes whether a read shows the frame's input, or a press could set a latch."""
+        if is_shown:
+            self.is_lag = False
+
+    def note_latches(self):
+        self.note_input(self.tia.has(VBLANK, 6))
 
     def read_timer(self, address):
         if bit(address, 0):
@@ -255,13 +271,11 @@ class Machine:
         return self.timer.count
 
     def read_port(self, number):
-        if number == 0:
-            return self.port_a.read(self.input.swcha)
-        if number == 1:
-            return self.port_a.direction
-        if number == 2:
-            return self.port_b.read(self.input.swchb)
-        return self.port_b.direction
+        port = self.port_a if number < 2 else self.port_b
+        if number % 2 == 1:
+            return port.direction
+        self.note_input(port.direction != 255)
+        return port.read(self.input.swcha if number == 0 else self.input.swchb)
 
     def read(self, address):
         """An operand or a pulled byte; INTIM then clears the timer's flag. (Section 3, "Interval timer")"""
@@ -533,14 +547,17 @@ class Machine:
 
     def play_frame(self, text):
         """Plays a frame with an input of 17 characters, and gives its picture; none where the machine is halted."""
+        self.is_lag = True
         if self.halt is not None:
             return None
         self.begin_frame(read_input(text))
         while not self.is_frame_over():
+            self.note_latches()
             step = self.step()
             if step.cycles is None:
                 self.halt = step
                 break
+        self.note_latches()
         self.tia.line = 0
         return self.tia.picture if self.halt is None else None
 

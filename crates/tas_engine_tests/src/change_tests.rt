@@ -64,7 +64,7 @@ fn check_edit<R: Abort>(
 }
 
 /// Two movies, and the script between them by hand.
-static DIFFERENCES: [(&str, &str, &str); 12] = [
+static DIFFERENCES: [(&str, &str, &str); 22] = [
     ("", "", ""),
     ("R.F", "R.F", ""),
     (
@@ -85,6 +85,52 @@ static DIFFERENCES: [(&str, &str, &str); 12] = [
     ),
     ("FF..", "FFRRR..", "insert 2 3 R.... ..... .....\n"),
     ("F.RF", "FFF", "delete 1 2\ninsert 1 1 ....F ..... .....\n"),
+    // Every frame differs.
+    (
+        "....",
+        "RRFF",
+        "replace 0 2 R.... ..... .....\nreplace 2 2 ....F ..... .....\n",
+    ),
+    ("...", "RRRR", "delete 0 3\ninsert 0 4 R.... ..... .....\n"),
+    // A stretch that is in both, R twice to . three times, between what was put in, taken out or changed.
+    (
+        "R.RR..RRR...FR",
+        "R.FFFRR..RRR...RR",
+        "insert 2 3 ....F ..... .....\nreplace 15 1 R.... ..... .....\n",
+    ),
+    (
+        "R.FFFRR..RRR...RR",
+        "R.RR..RRR...FR",
+        "delete 2 3\nreplace 12 1 ....F ..... .....\n",
+    ),
+    (
+        "F.RR..RRR...F",
+        ".FFRR..RRR...RR",
+        "delete 0 1\ninsert 1 2 ....F ..... .....\ndelete 13 1\ninsert 13 2 R.... ..... .....\n",
+    ),
+    (
+        "RRR.....RRRRRRR.",
+        "FRRR.....RRRRRRR",
+        "insert 0 1 ....F ..... .....\ndelete 16 1\n",
+    ),
+    // Of two stretches in the other order the longer one stays: three runs of four.
+    (
+        "FFFFFRR..RRR",
+        "RR..RRRFFFFF",
+        "delete 0 5\ninsert 7 5 ....F ..... .....\n",
+    ),
+    // A replacement goes on over what stays, fifteen frames at most.
+    ("F.F.F", ".....", "replace 0 5 ..... ..... .....\n"),
+    (
+        "F...............F",
+        ".................",
+        "replace 0 17 ..... ..... .....\n",
+    ),
+    (
+        "F................F",
+        "..................",
+        "replace 0 1 ..... ..... .....\nreplace 17 1 ..... ..... .....\n",
+    ),
 ];
 
 /// Fails where the script between two movies isn't this one, or doesn't make the one of the other.
@@ -99,6 +145,72 @@ fn differences_read_as_by_hand(rt: HostRuntime) {
     for (old, new, script) in DIFFERENCES.iter() {
         check_difference(&rt, rt.alloc(), (*old, *new), *script);
     }
+}
+
+/// 1,600 frames, a pattern of forty again and again, but for these at 100 and 1500.
+fn pattern<R: Abort>(rt: &R, alloc: Global, first: u8, second: u8) -> Vec<u8> {
+    let mut letters = Vec::new(alloc);
+    for i in 0..1600usize {
+        let letter = match i {
+            100 => first,
+            1500 => second,
+            _ if i % 40 < 17 => b'.',
+            _ if i % 40 < 31 => b'R',
+            _ => b'F',
+        };
+        expect_ok(rt, letters.push(letter));
+    }
+    letters
+}
+
+/// The longest movie that begins with these letters, with nothing pressed in its other frames.
+fn longest<R: Abort>(rt: &R, alloc: Global, first: &[u8]) -> Vec<u8> {
+    let mut letters = expect_ok(rt, Vec::from_slice(alloc, first));
+    while letters.len() < MAX_FRAMES {
+        expect_ok(rt, letters.push(b'.'));
+    }
+    letters
+}
+
+/// The movie of these letters.
+fn movie_of_bytes<R: Abort>(rt: &R, alloc: Global, letters: &[u8]) -> Movie {
+    let mut list = Vec::new(alloc);
+    for letter in letters {
+        let input = expect_some(rt, read_frame(frame_of(*letter)));
+        expect_ok(rt, list.push(input));
+    }
+    let mut movie = expect_ok(rt, Movie::blank(alloc));
+    let edit = Edit::Insert {
+        at: 0,
+        inputs: Inputs::from_vec(list),
+    };
+    expect_ok(rt, check(&movie, &edit));
+    apply(&mut movie, &edit);
+    movie
+}
+
+#[test]
+fn two_far_frames_are_two_lines(rt: HostRuntime) {
+    let alloc = rt.alloc();
+    let old = movie_of_bytes(&rt, alloc, pattern(&rt, alloc, b'R', b'R').as_slice());
+    let new = movie_of_bytes(&rt, alloc, pattern(&rt, alloc, b'F', b'.').as_slice());
+    let script = script_between(&rt, alloc, &old, &new);
+    let wanted = b"replace 100 1 ....F ..... .....\nreplace 1500 1 ..... ..... .....\n";
+    check_same(&rt, "two", script.as_slice(), wanted.as_slice());
+}
+
+/// A stretch is left out where its insertion, before a deletion, would make the movie too long.
+#[test]
+fn no_line_makes_a_movie_too_long(rt: HostRuntime) {
+    let alloc = rt.alloc();
+    let before = longest(&rt, alloc, b"RRR.....RRRRRRR.");
+    let after = longest(&rt, alloc, b"FRRR.....RRRRRRR");
+    let old = movie_of_bytes(&rt, alloc, before.as_slice());
+    let new = movie_of_bytes(&rt, alloc, after.as_slice());
+    let script = script_between(&rt, alloc, &old, &new);
+    let wanted =
+        b"replace 0 1 ....F ..... .....\nreplace 3 1 R.... ..... .....\nreplace 8 1 ..... ..... .....\nreplace 15 1 R.... ..... .....\n";
+    check_same(&rt, "full", script.as_slice(), wanted.as_slice());
 }
 
 /// Scripts for the movie of [`check_end`], and how each ends.

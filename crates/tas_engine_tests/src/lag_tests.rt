@@ -1,4 +1,5 @@
-//! `tas lag`. Its rows were found by hand.
+//! `tas lag`. Its rows were found by hand, those of the last three cartridges and the digests by other programs
+//! (`oracle/look`).
 
 use crate::movies::{BLANK, HALTING, HALTING_DIGEST, NO_FRAMES, STORES, image_of, text_of};
 use crate::ran::{Ran, check_fault, check_ran};
@@ -18,6 +19,30 @@ const STOPS: &[u8] = b"\xe6\x80\xad\x80\x02\x30\x01\x02\x4c\x00\xf0";
 /// The SHA-256 of its cartridge.
 const STOPS_DIGEST: &str = "d6e713bc50ccd20c6a27ef22630c568c760c7b130a7c788917dfd741c815fee0";
 
+/// Reads the sticks in each frame, each second time with all eight pins as outputs: INC 80, LDA 80, AND #1, BEQ F008, LDA #FF, STA 281,
+/// LDA 280, LDA #2, STA VSYNC, LDA #0, STA VSYNC, JMP F000.
+const OUTPUTS: &[u8] =
+    b"\xe6\x80\xa5\x80\x29\x01\xf0\x02\xa9\xff\x8d\x81\x02\xad\x80\x02\xa9\x02\x85\x00\xa9\x00\x85\x00\x4c\x00\xf0";
+
+/// The SHA-256 of its cartridge.
+const OUTPUTS_DIGEST: &str = "54dfa5ab01fa6613edfb044f13ad615873cd7ec57f268f483d905d9e8cb771aa";
+
+/// Latches the fire buttons in four frames of eight: INC 80, LDA 80, ASL four times, AND #40, STA VBLANK, LDA #2, STA VSYNC, LDA #0,
+/// STA VSYNC, JMP F000.
+const LATCHES: &[u8] =
+    b"\xe6\x80\xa5\x80\x0a\x0a\x0a\x0a\x29\x40\x85\x01\xa9\x02\x85\x00\xa9\x00\x85\x00\x4c\x00\xf0";
+
+/// The SHA-256 of its cartridge.
+const LATCHES_DIGEST: &str = "bbc036c16d02e236816b588fa420bbaabc4232588793700366f502a305738f02";
+
+/// Reads the right fire button at 3D in four frames of eight: INC 80, LDA 80, AND #4, BEQ F008, LDA 3D, LDA #2, STA VSYNC, LDA #0,
+/// STA VSYNC, JMP F000.
+const BUTTON: &[u8] =
+    b"\xe6\x80\xa5\x80\x29\x04\xf0\x02\xa5\x3d\xa9\x02\x85\x00\xa9\x00\x85\x00\x4c\x00\xf0";
+
+/// The SHA-256 of its cartridge.
+const BUTTON_DIGEST: &str = "4edf4e1cfbc2abe8d2737ce18acdc90330547823ff208a4fe55de921afb7b06a";
+
 /// `tas lag` of these bytes.
 fn lag_shown(alloc: Global, cart: &[u8], text: &[u8]) -> Ran {
     let mut cart = cart;
@@ -28,7 +53,7 @@ fn lag_shown(alloc: Global, cart: &[u8], text: &[u8]) -> Ran {
 }
 
 /// Cartridges, the frames of a movie, and the lines of its lag frames.
-static ROWS: [(&[u8], &str, &[u8], &[u8]); 8] = [
+static ROWS: [(&[u8], &str, &[u8], &[u8]); 11] = [
     (FOURTH, FOURTH_DIGEST, b"", b""),
     (FOURTH, FOURTH_DIGEST, b".", b"0 1\n"),
     (FOURTH, FOURTH_DIGEST, b"R..", b"0 3\n"),
@@ -38,6 +63,9 @@ static ROWS: [(&[u8], &str, &[u8], &[u8]); 8] = [
     // The third frame reads the stick and halts.
     (STOPS, STOPS_DIGEST, b"..R...", b"3 6\n"),
     (HALTING, HALTING_DIGEST, b"......", b"0 6\n"),
+    (OUTPUTS, OUTPUTS_DIGEST, b"......", b"0 1\n2 3\n4 5\n"),
+    (LATCHES, LATCHES_DIGEST, b"............", b"0 3\n8 11\n"),
+    (BUTTON, BUTTON_DIGEST, b"...........", b"0 3\n7 11\n"),
 ];
 
 #[test]

@@ -13,7 +13,6 @@ use Rattle.tas_language.specs.Commands.{HasNumbers}
 use Rattle.tas_language.specs.declared.change.Change.{Change}
 use Rattle.tas_language.specs.declared.change.Change.TheVariants.{Insert, Replace, Delete}
 use Rattle.tas_engines.specs.Changes.{HaveNumbers, edit_on, edit_of, changed_by, AreAllowed}
-use Rattle.tas_engines.specs.Differences.{taken_out, put_in}
 
 -- ---- what a change asks for, on any allocator
 
@@ -70,50 +69,6 @@ pub numbers_more : (changes : List Change) (change : Change) → HaveNumbers cha
 unfolding HaveNumbers
 numbers_more [] change all is = (is, tt)
 numbers_more (c ∷ changes) change all is = (all.0, numbers_more changes change all.1 is)
-
-pub no_numbers : HaveNumbers []
-unfolding HaveNumbers
-no_numbers = tt
-
-pub nothing_out : taken_out [] ≡ 0
-unfolding taken_out
-nothing_out = refl
-
-pub nothing_in : put_in [] ≡ 0
-unfolding put_in
-nothing_in = refl
-
-pub out_insert : (changes : List Change) (at count : ℕ) (input : Input) → taken_out (changes ++ Insert at count input ∷ []) ≡ taken_out changes
-unfolding taken_out
-out_insert [] at count input = refl
-out_insert (Insert a n i ∷ changes) at count input = out_insert changes at count input
-out_insert (Replace a n i ∷ changes) at count input = ap (λ (k : ℕ). n + k) (out_insert changes at count input)
-out_insert (Delete a n ∷ changes) at count input = ap (λ (k : ℕ). n + k) (out_insert changes at count input)
-
-pub out_replace : (changes : List Change) (at count : ℕ) (input : Input) → taken_out (changes ++ Replace at count input ∷ []) ≡ taken_out changes + count
-unfolding taken_out
-out_replace [] at count input = omega arith
-out_replace (Insert a n i ∷ changes) at count input = out_replace changes at count input
-out_replace (Replace a n i ∷ changes) at count input = let more = out_replace changes at count input in omega (arith, more)
-out_replace (Delete a n ∷ changes) at count input = let more = out_replace changes at count input in omega (arith, more)
-
-pub in_insert : (changes : List Change) (at count : ℕ) (input : Input) → put_in (changes ++ Insert at count input ∷ []) ≡ put_in changes + count
-unfolding put_in
-in_insert [] at count input = omega arith
-in_insert (Insert a n i ∷ changes) at count input = let more = in_insert changes at count input in omega (arith, more)
-in_insert (Replace a n i ∷ changes) at count input = let more = in_insert changes at count input in omega (arith, more)
-in_insert (Delete a n ∷ changes) at count input = in_insert changes at count input
-
-pub in_replace : (changes : List Change) (at count : ℕ) (input : Input) → put_in (changes ++ Replace at count input ∷ []) ≡ put_in changes + count
-unfolding put_in
-in_replace [] at count input = omega arith
-in_replace (Insert a n i ∷ changes) at count input = let more = in_replace changes at count input in omega (arith, more)
-in_replace (Replace a n i ∷ changes) at count input = let more = in_replace changes at count input in omega (arith, more)
-in_replace (Delete a n ∷ changes) at count input = in_replace changes at count input
-
-pub one_deletion : (at count : ℕ) → (taken_out (Delete at count ∷ []) ≡ count) × (put_in (Delete at count ∷ []) ≡ 0)
-unfolding taken_out put_in
-one_deletion at count = (omega arith, refl)
 
 -- ---- what a change makes of a list that is cut at its place
 

@@ -3,8 +3,8 @@ pub mod EngineEnds
 pub mod Shots
 pub mod ReadMovies
 pub mod ChangeLemmas
-pub mod LineLemmas
-pub mod DifferenceLemmas
+pub mod HunkLemmas
+pub mod GapLemmas
 pub mod ScriptLemmas
 pub mod StreamLemmas
 pub mod StretchLemmas

@@ -1,10 +1,12 @@
--- What makes one list of inputs of another (own).
-use Rattle.std.specs.Prelude.{◌≡◌, ◌≢◌, ℕ, ◌+◌, ◌-◌, ◌<◌, ◌≤◌, ◌==◌, if◌then◌else◌, List, [], ◌∷◌, length, drop, slice_get}
+-- What makes one list of inputs of another.
+use Rattle.std.specs.Prelude.{◌≡◌, ◌≢◌, ℕ, ◌+◌, ◌-◌, ◌<◌, ◌≤◌, ◌==◌, if◌then◌else◌, List, [], ◌∷◌, length, drop, slice_get, Some}
 use Rattle.vcs_machine.specs.declared.input.Input.{Input}
 use Rattle.tas_movie.specs.Front.{IsCommonFront}
+use Rattle.tas_movie.specs.Content.{MovieContent}
+use Rattle.tas_movie.specs.Edit.{edited}
 use Rattle.tas_language.specs.declared.change.Change.{Change}
 use Rattle.tas_language.specs.declared.change.Change.TheVariants.{Insert, Replace, Delete}
-use Rattle.tas_engines.specs.Changes.{changed_by, AreAllowed, HaveNumbers}
+use Rattle.tas_engines.specs.Changes.{edit_of, changed_by, AreAllowed, HaveNumbers}
 
 -- n is the length of the longest list with which both end
 pub record IsCommonEnd (a b : List Input) (n : ℕ) : Type 0 where
@@ -76,21 +78,40 @@ DeletionsDiffer (Insert at count input ∷ changes) = DeletionsDiffer changes
 DeletionsDiffer (Replace at count input ∷ changes) = DeletionsDiffer changes
 DeletionsDiffer (Delete at count ∷ changes) = (put_in_from at changes ≢ count) × DeletionsDiffer changes
 
--- no more is taken out and put in than what stands between the common beginning and the common end
+-- each of some changes begins at a place from `from` on, and ends before `to`
+unfoldable pub AreWithin : ℕ → ℕ → List Change → Type 0
+AreWithin from to [] = Unit {0}
+AreWithin from to (change ∷ changes) = (from ≤ place_of change) × (end_of change < to) × AreWithin from to changes
+
+-- a replacement changes the first and the last of the inputs that it is written over
+abbrev pub ChangesItsEnds : MovieContent → Change → Type 0
+ChangesItsEnds movie (Insert at count input) = Unit {0}
+ChangesItsEnds movie (Replace at count input) = (slice_get movie.inputs at ≢ Some input) × (slice_get movie.inputs (at + count - 1) ≢ Some input)
+ChangesItsEnds movie (Delete at count) = Unit {0}
+
+-- each of some changes does, on what those before it made
+unfoldable pub ChangeTheirEnds : MovieContent → List Change → Type 0
+ChangeTheirEnds movie [] = Unit {0}
+ChangeTheirEnds movie (change ∷ changes) = ChangesItsEnds movie change × ChangeTheirEnds (edited movie (edit_of change)) changes
+
+-- no more is taken out and put in than the inputs between the common beginning and the common end
 pub record IsBetween (old new : List Input) (changes : List Change) : Type 0 where
   pub front : ℕ
   pub end : ℕ
   pub common_front : IsCommonFront old new front
   pub common_end : IsCommonEnd (drop front old) (drop front new) end
-  pub out : front + taken_out changes + end ≡ length old
-  pub into : front + put_in changes + end ≡ length new
+  pub out : front + taken_out changes + end ≤ length old
+  pub into : front + put_in changes + end ≤ length new
+  pub places : AreWithin front (length new - end + 1) changes
 
--- the changes make `new` of `old`, whatever the cartridge: each is allowed; they are no more than needed, and none could be longer
+-- the changes make `new` of `old`, whatever the cartridge: each is allowed; they are in order, between the common beginning and the
+-- common end, and none of them could be joined with the next one
 pub record IsDifference (old new : List Input) (changes : List Change) : Type 0 where
   pub allowed : (cart : List ℕ) → AreAllowed (record { cart = cart; inputs = old }) changes
   pub made : (cart : List ℕ) → changed_by (record { cart = cart; inputs = old }) changes ≡ record { cart = cart; inputs = new }
   pub between : IsBetween old new changes
   pub order : AreInOrder changes
   pub deletions : DeletionsDiffer changes
+  pub ends : (cart : List ℕ) → ChangeTheirEnds (record { cart = cart; inputs = old }) changes
   pub numbers : HaveNumbers changes
   pub none : old ≡ new → changes ≡ []

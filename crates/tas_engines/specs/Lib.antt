@@ -9,6 +9,7 @@ pub mod Tracing
 pub mod ThreeInputs
 pub mod Changes
 pub mod Differences
+pub mod Hunks
 pub mod Scripts
 pub mod Editing
 pub mod Diffing

@@ -20,8 +20,7 @@ use crate::{RunFault, ToolFault, movie_of, read_three, write_all};
 use itoa::Buffer;
 use std::alloc::{AllocError, Allocator};
 use std::io::{Read, Write};
-use tas_green::common_front;
-use tas_movie::Movie;
+use tas_movie::{Movie, common_front};
 use vcs_machine::State;
 use vcs_tia::{PIXMAP_SIZE, Picture};
 

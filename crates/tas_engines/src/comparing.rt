@@ -1,15 +1,28 @@
 //! The changes that make one list of inputs of another.
 
-ghost use Rattle.std.specs.Prelude.{◌≡◌, ◌≤◌, length, if◌then◌else◌, IfOk};
+ghost use Rattle.std.specs.Prelude.{◌≡◌, ◌-◌, ◌<◌, ◌≤◌, ◌++◌, length, take, drop, IfOk, OnOk};
 ghost use Rattle.tas_movie.specs.Content.{most_inputs};
-ghost use Rattle.tas_language.specs.declared.change.Change.TheVariants.{Insert, Replace};
+ghost use Rattle.tas_movie.specs.Runs.{runs_of};
 ghost use Rattle.tas_engines.specs.Differences.{IsCommonEnd, IsDifference};
+ghost use Rattle.tas_engines.specs.Hunks.{IsGapOf, AddsHunk, GoesOn, IsCommonFrom, IsReplacedRun, AddsReplacement, deletion, insertions};
 
+use crate::anchors::{Anchor, find_anchors};
 use std::alloc::{AllocError, Allocator};
-use tas_green::common_front;
 use tas_language::Change;
-use tas_movie::run_length;
+use tas_movie::{MAX_FRAMES, common_front, run_length};
 use vcs_machine::Input;
+
+/// The most inputs that a replacement covers, though they are the same in both lists, between two that it changes.
+const MAX_BRIDGE: usize = 15;
+
+/// The old inputs from `old` to `old_end` - 1, in whose place the new ones from `new` to `new_end` - 1 come.
+#[derive(Clone, Copy)]
+struct Gap {
+    old: usize,
+    old_end: usize,
+    new: usize,
+    new_end: usize,
+}
 
 /// The length of the longest list with which both end.
 fn common_end(a: &[Input], b: &[Input]) -> usize
@@ -22,22 +35,186 @@ fn common_end(a: &[Input], b: &[Input]) -> usize
     end
 }
 
-/// The change that brings copies of one input, by writing them over as many inputs or by putting them in.
-fn run_change(replaces: bool, at: usize, count: usize, input: Input) -> Change
-    ensures { result ≡ (if replaces then Replace at count input else Insert at count input) }
+/// How many inputs a replacement by `input` is of that begins here: up to the last one that it changes, before another
+/// input comes or more than [`MAX_BRIDGE`] would stay the same.
+fn replaced_run(old: &[Input], new: &[Input], input: Input) -> usize
+    requires { length old.now ≡ length new.now }
+    ensures { IsReplacedRun old.now new.now input result }
 {
-    if replaces {
-        Change::Replace { at, count, input }
-    } else {
-        Change::Insert { at, count, input }
+    let mut count = 0;
+    let mut seen = 0;
+    while seen < new.len() && seen <= count + MAX_BRIDGE && new[seen] == input {
+        let stays = old[seen] == input;
+        if !stays {
+            count = seen + 1;
+        }
+        seen += 1;
     }
+    count
 }
 
-/// The changes that make `new` of `old`, in order (own): after the common beginning and in front of the
-/// common end, replacements where as many inputs come as go, else a deletion of those that go, if any
-/// do, and insertions of those that come. A replacement or an insertion is of as many copies of an input
-/// as follow one another. There are none where the lists are equal. `AllocError` where memory is refused.
-pub fn changes_between<A: Allocator>(
+/// Adds the replacement that begins at the place of these inputs, if the first ones differ, and returns how many inputs
+/// it is of, and 1 where they are the same.
+fn push_replacement<A: Allocator>(
+    changes: &mut Vec<Change, A>,
+    at: usize,
+    old: &[Input],
+    new: &[Input],
+) -> Result<usize, AllocError>
+    requires some { 0 < length old.now }
+    requires as_many { length old.now ≡ length new.now }
+    ensures { IfOk result (λ n. AddsReplacement old.now new.now at n changes.old.items changes.new.items) }
+{
+    let input = new[0];
+    if old[0] == input {
+        return Ok(1);
+    }
+    let count = replaced_run(old, new, input);
+    changes.push(Change::Replace { at, count, input })?;
+    Ok(count)
+}
+
+/// Adds the replacements of a gap in which as many inputs come as go.
+fn push_replacements<A: Allocator>(
+    changes: &mut Vec<Change, A>,
+    old: &[Input],
+    new: &[Input],
+    gap: Gap,
+) -> Result<(), AllocError>
+    requires gap { IsGapOf old.now new.now gap }
+    requires as_many { gap.old_end - gap.old ≡ gap.new_end - gap.new }
+    ensures { OnOk result (AddsHunk old.now new.now gap changes.old.items changes.new.items) }
+{
+    let count = gap.new_end - gap.new;
+    let mut done = 0;
+    while done < count {
+        done += push_replacement(
+            changes,
+            gap.new + done,
+            &old[gap.old + done..gap.old_end],
+            &new[gap.new + done..gap.new_end],
+        )?;
+    }
+    Ok(())
+}
+
+/// Adds the deletion of this many inputs, if there are any.
+fn push_deletion<A: Allocator>(
+    changes: &mut Vec<Change, A>,
+    at: usize,
+    count: usize,
+) -> Result<(), AllocError>
+    ensures { OnOk result (changes.new.items ≡ changes.old.items ++ deletion at count) }
+{
+    if count == 0 {
+        return Ok(());
+    }
+    changes.push(Change::Delete { at, count })?;
+    Ok(())
+}
+
+/// Adds an insertion for each run of the new inputs from `from` to `to` - 1.
+fn push_insertions<A: Allocator>(
+    changes: &mut Vec<Change, A>,
+    new: &[Input],
+    from: usize,
+    to: usize,
+) -> Result<(), AllocError>
+    requires within { to ≤ length new.now }
+    ensures { OnOk result (changes.new.items ≡ changes.old.items ++ insertions from (runs_of (take (to - from) (drop from new.now)))) }
+{
+    let mut at = from;
+    while at < to {
+        let input = new[at];
+        let count = 1 + run_length(&new[at + 1..to], input);
+        changes.push(Change::Insert { at, count, input })?;
+        at += count;
+    }
+    Ok(())
+}
+
+/// Adds the changes of a gap, but for the inputs with which both lists end there.
+fn push_gap<A: Allocator>(
+    changes: &mut Vec<Change, A>,
+    old: &[Input],
+    new: &[Input],
+    gap: Gap,
+) -> Result<(), AllocError>
+    requires { IsGapOf old.now new.now gap }
+    ensures { OnOk result (AddsHunk old.now new.now gap changes.old.items changes.new.items) }
+{
+    let end = common_end(&old[gap.old..gap.old_end], &new[gap.new..gap.new_end]);
+    let old_end = gap.old_end - end;
+    let new_end = gap.new_end - end;
+    let removed = old_end - gap.old;
+    let replaces = removed == new_end - gap.new;
+    if replaces {
+        let shorter = Gap {
+            old: gap.old,
+            old_end,
+            new: gap.new,
+            new_end,
+        };
+        return push_replacements(changes, old, new, shorter);
+    }
+    push_deletion(changes, gap.new, removed)?;
+    push_insertions(changes, new, gap.new, new_end)
+}
+
+/// How many inputs are the same from an anchor on, up to the end of a gap: none where the anchor isn't in it, or where
+/// the movie would be too long for a while.
+fn common_from(old: &[Input], new: &[Input], gap: Gap, anchor: Anchor) -> usize
+    requires { IsGapOf old.now new.now gap }
+    ensures { 0 < result → IsCommonFrom old.now new.now gap anchor result }
+{
+    if anchor.old < gap.old || anchor.new < gap.new {
+        return 0;
+    }
+    if anchor.old > gap.old_end || anchor.new > gap.new_end {
+        return 0;
+    }
+    if anchor.new + (old.len() - anchor.old) > MAX_FRAMES {
+        return 0;
+    }
+    common_front(&old[anchor.old..gap.old_end], &new[anchor.new..gap.new_end])
+}
+
+/// Adds the changes in a gap before an anchor, and returns the gap after the stretch that begins there. Where none
+/// begins there the gap stays as it is.
+fn push_up_to<A: Allocator>(
+    changes: &mut Vec<Change, A>,
+    old: &[Input],
+    new: &[Input],
+    gap: Gap,
+    anchor: Anchor,
+) -> Result<Gap, AllocError>
+    requires { IsGapOf old.now new.now gap }
+    ensures { IfOk result (λ next. GoesOn old.now new.now gap next changes.old.items changes.new.items) }
+{
+    let same = common_from(old, new, gap, anchor);
+    if same == 0 {
+        return Ok(gap);
+    }
+    let before = Gap {
+        old: gap.old,
+        old_end: anchor.old,
+        new: gap.new,
+        new_end: anchor.new,
+    };
+    push_gap(changes, old, new, before)?;
+    Ok(Gap {
+        old: anchor.old + same,
+        old_end: gap.old_end,
+        new: anchor.new + same,
+        new_end: gap.new_end,
+    })
+}
+
+/// The changes that make `new` of `old`, in order: in hunks, between stretches that both lists have, with nothing
+/// before the common beginning or after the common end. Where as many inputs come as go they are replaced, from one that
+/// differs to one that differs; else those that go are deleted, if any do, and those that come are inserted. There are
+/// none where the lists are equal. `AllocError` where memory is refused.
+pub fn changes_between<A: Allocator + Copy>(
     alloc: A,
     old: &[Input],
     new: &[Input],
@@ -48,22 +225,18 @@ pub fn changes_between<A: Allocator>(
 {
     let front = common_front(old, new);
     let end = common_end(&old[front..], &new[front..]);
-    let removed = old.len() - end - front;
-    let new_end = new.len() - end;
-    let replaces = removed == new_end - front;
+    let mut gap = Gap {
+        old: front,
+        old_end: old.len() - end,
+        new: front,
+        new_end: new.len() - end,
+    };
+    let anchors = find_anchors(alloc, &old[front..gap.old_end], &new[front..gap.new_end])?;
     let mut changes = Vec::new(alloc);
-    if removed > 0 && !replaces {
-        changes.push(Change::Delete {
-            at: front,
-            count: removed,
-        })?;
+    for i in 0..anchors.len() {
+        let anchor = anchors[anchors.len() - 1 - i].after(front);
+        gap = push_up_to(&mut changes, old, new, gap, anchor)?;
     }
-    let mut at = front;
-    while at < new_end {
-        let input = new[at];
-        let count = 1 + run_length(&new[at + 1..new_end], input);
-        changes.push(run_change(replaces, at, count, input))?;
-        at += count;
-    }
+    push_gap(&mut changes, old, new, gap)?;
     Ok(changes)
 }

@@ -8,6 +8,7 @@
 //! '(own)' marks a decision of this project, one that no manual makes.
 #![tactic(auto)]
 
+mod anchors;
 mod checking;
 mod compare;
 mod comparing;

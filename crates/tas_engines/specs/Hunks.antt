@@ -1,0 +1,87 @@
+-- What the parts of a difference's search for changes add. These name shapes of the code; what a difference is: Differences.
+use Rattle.std.specs.Prelude.{◌≡◌, ◌≢◌, ℕ, zero, suc, ◌+◌, ◌-◌, ◌<◌, ◌≤◌, ◌⊎◌, List, [], ◌∷◌, ◌++◌, length, take, drop, replicate, slice_index_or}
+use Rattle.vcs_machine.specs.Input.{no_input}
+use Rattle.vcs_machine.specs.declared.input.Input.{Input}
+use Rattle.tas_movie.specs.Content.{MovieContent, most_inputs}
+use Rattle.tas_movie.specs.declared.run.FrameRun.{FrameRun}
+use Rattle.tas_language.specs.declared.change.Change.{Change}
+use Rattle.tas_language.specs.declared.change.Change.TheVariants.{Insert, Replace, Delete}
+use Rattle.tas_engines.specs.declared.anchors.Anchor.{Anchor}
+use Rattle.tas_engines.specs.declared.comparing.Gap.{Gap}
+use Rattle.tas_engines.specs.Changes.{changed_by, AreAllowed, HaveNumbers}
+use Rattle.tas_engines.specs.Differences.{taken_out, put_in, AreWithin, AreInOrder, DeletionsDiffer, ChangeTheirEnds}
+
+-- the movie that has the first b of the new inputs, and after them the old ones from a on
+abbrev pub halfway : List ℕ → List Input → List Input → ℕ → ℕ → MovieContent
+halfway cart old new a b = record { cart = cart; inputs = take b new ++ drop a old }
+
+-- the changes lead from one movie halfway to another one; they end before the place `to`
+pub record Leads (old new : List Input) (a b a' b' to : ℕ) (changes : List Change) : Type 0 where
+  pub old_forward : a ≤ a'
+  pub new_forward : b ≤ b'
+  pub allowed : (cart : List ℕ) → AreAllowed (halfway cart old new a b) changes
+  pub made : (cart : List ℕ) → changed_by (halfway cart old new a b) changes ≡ halfway cart old new a' b'
+  pub out : a + taken_out changes ≤ a'
+  pub into : b + put_in changes ≤ b'
+  pub within : AreWithin b to changes
+  pub order : AreInOrder changes
+  pub deletions : DeletionsDiffer changes
+  pub ends : (cart : List ℕ) → ChangeTheirEnds (halfway cart old new a b) changes
+  pub numbers : HaveNumbers changes
+
+-- the gap is one of these lists, which are as long as a movie may be; with all before its end replaced the movie isn't longer, either
+pub record IsGapOf (old new : List Input) (gap : Gap) : Type 0 where
+  pub old_forward : gap.old ≤ gap.old_end
+  pub old_within : gap.old_end ≤ length old
+  pub new_forward : gap.new ≤ gap.new_end
+  pub new_within : gap.new_end ≤ length new
+  pub short : length old ≤ most_inputs
+  pub short_new : length new ≤ most_inputs
+  pub room : gap.new_end + (length old - gap.old_end) ≤ most_inputs
+
+-- after changes come others, which lead over the gap
+abbrev pub AddsHunk : (old new : List Input) (gap : Gap) (before after : List Change) → Type 0
+AddsHunk old new gap before after = (changes : List Change) × (after ≡ before ++ changes) × Leads old new gap.old gap.new gap.old_end gap.new_end (gap.new_end + 1) changes
+
+-- after changes come others, which lead to a later beginning of the gap, and end before it
+pub record GoesOn (old new : List Input) (gap next : Gap) (before after : List Change) : Type 0 where
+  pub changes : List Change
+  pub is : after ≡ before ++ changes
+  pub leads : Leads old new gap.old gap.new next.old next.new next.new changes
+  pub old_end : next.old_end ≡ gap.old_end
+  pub new_end : next.new_end ≡ gap.new_end
+  pub old_forward : next.old ≤ gap.old_end
+  pub new_forward : next.new ≤ gap.new_end
+
+-- n inputs from an anchor on are the same, within the gap; with all before the anchor replaced the movie isn't too long
+pub record IsCommonFrom (old new : List Input) (gap : Gap) (anchor : Anchor) (n : ℕ) : Type 0 where
+  pub old_begins : gap.old ≤ anchor.old
+  pub old_ends : anchor.old + n ≤ gap.old_end
+  pub new_begins : gap.new ≤ anchor.new
+  pub new_ends : anchor.new + n ≤ gap.new_end
+  pub same : take n (drop anchor.old old) ≡ take n (drop anchor.new new)
+  pub room : anchor.new + (length old - anchor.old) ≤ most_inputs
+
+-- n inputs, of which the first one and the last one differ from the input that comes, and which can't be one more
+pub record IsReplacedRun (old new : List Input) (input : Input) (n : ℕ) : Type 0 where
+  pub within : n ≤ length new
+  pub same : take n new ≡ replicate n input
+  pub last : 0 < n → slice_index_or old (n - 1) no_input ≢ input
+  pub longest : n < length new → slice_index_or new n no_input ≡ input → slice_index_or old n no_input ≡ input
+
+-- n inputs are done, which begin at a place: one that stays, or those of a replacement
+abbrev pub AddsReplacement : (old new : List Input) (at n : ℕ) (before after : List Change) → Type 0
+AddsReplacement old new at n before after =
+    ((n ≡ 1) × (after ≡ before) × (slice_index_or old 0 no_input ≡ slice_index_or new 0 no_input))
+    ⊎ ((after ≡ before ++ Replace at n (slice_index_or new 0 no_input) ∷ []) × (slice_index_or old 0 no_input ≢ slice_index_or new 0 no_input)
+    × IsReplacedRun old new (slice_index_or new 0 no_input) n)
+
+-- the deletion of this many inputs, if there are any
+abbrev pub deletion : ℕ → ℕ → List Change
+deletion at zero = []
+deletion at (suc n) = Delete at (suc n) ∷ []
+
+-- the insertions of runs, one right after the other
+abbrev pub insertions : ℕ → List FrameRun → List Change
+insertions at [] = []
+insertions at (run ∷ runs) = Insert at run.count run.input ∷ insertions (at + run.count) runs
