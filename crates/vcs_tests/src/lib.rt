@@ -19,6 +19,8 @@ mod lag_tests;
 #[cfg(test)]
 mod played;
 #[cfg(test)]
+mod poll_tests;
+#[cfg(test)]
 mod ranges;
 #[cfg(test)]
 mod register_tests;

@@ -655,8 +655,5 @@ loop-left-preserved-else-perform_and_settle-105 g c = grind (arith, common_steps
 pub returns-then-perform_and_settle-105 : goal.returns-then-perform_and_settle-105
 returns-then-perform_and_settle-105 g c = grind (arith, common_steps)
 
-pub loop-left-preserved-else-perform_and_settle-106 : goal.loop-left-preserved-else-perform_and_settle-106
-loop-left-preserved-else-perform_and_settle-106 g c = grind (arith, common_steps)
-
 pub returns-then-perform_and_settle-106 : goal.returns-then-perform_and_settle-106
 returns-then-perform_and_settle-106 g c = grind (arith, common_steps)

@@ -1,0 +1,208 @@
+-- Polls of the timer while nothing else happens.
+use Rattle.std.proofs.Common.{◌≡◌, ℕ, zero, suc, ◌+◌, ◌*◌, ◌/◌, ◌%◌, ◌==◌, ◌&&◌, ◌<◌, ◌≤◌, ◌∙◌, not, ap, sym, subst, refl, Bool, true, false, true≢false, List, [], ◌++◌, if◌then◌else◌, arith}
+use Rattle.std.proofs.Math.Nat.{mul-le-mul_right}
+use Rattle.vcs_cpu.specs.declared.bus.Poll.{Poll}
+use Rattle.vcs_cpu.specs.Operands.{address_after}
+use Rattle.vcs_cpu.specs.Polls.{Rests, IsPoll, polled_byte, after_poll_read, after_poll, after_polls}
+use Rattle.vcs_cpu.specs.Runs.{IsSettled}
+use Rattle.vcs_riot.specs.declared.chip.Pins.{Pins}
+use Rattle.vcs_riot.specs.declared.chip.Riot.{Riot}
+use Rattle.vcs_riot.specs.declared.timer.Timer.{Timer}
+use Rattle.vcs_riot.specs.Address.{is_high}
+use Rattle.vcs_riot.specs.Chip.{riot_after_ticks, byte_at}
+use Rattle.vcs_riot.specs.Timer.{IsAboveZero}
+use Rattle.vcs_tia.specs.declared.chip.Tia.{Tia}
+use Rattle.vcs_tia.specs.declared.chip.Sync.{Sync}
+use Rattle.vcs_tia.specs.Tia.{read_at}
+use Rattle.vcs_tia.proofs.Later.{sync-after_clocks}
+use Rattle.vcs_machine.specs.Cart.{rom_byte}
+use Rattle.vcs_machine.specs.Bus.{Board, Observed, observed_of, is_intim, board_byte_at, board_after_load, bus_device, after_time}
+use Rattle.vcs_machine.specs.Chips.{IsQuiet}
+use Rattle.vcs_machine.specs.Console.{content_of}
+use Rattle.vcs_machine.specs.Frame.{console_settling}
+use Rattle.vcs_machine.specs.declared.bus.ConsoleBus.{ConsoleBus}
+use Rattle.vcs_machine.specs.declared.bus.Observer.{Ghosts}
+use Rattle.vcs_machine.proofs.Lagging.{lagging_of, with_riot, after_time-add, after_wait-none, not_over-early}
+
+-- the lines of INTIM's addresses
+record AreIntim (a b c d e : Bool) : Type 0 where
+  pub top : a ≡ false
+  pub chip : b ≡ true
+  pub upper : c ≡ true
+  pub timer : d ≡ true
+  pub status : e ≡ false
+
+by_lines : (top chip upper timer status : Bool) → (not top && (chip && (upper && (timer && not status)))) ≡ true → AreIntim top chip upper timer status
+by_lines false true true true false e = record { top = refl; chip = refl; upper = refl; timer = refl; status = refl }
+by_lines true chip upper timer status e = absurd (true≢false (sym e))
+by_lines false false upper timer status e = absurd (true≢false (sym e))
+by_lines false true false timer status e = absurd (true≢false (sym e))
+by_lines false true true false status e = absurd (true≢false (sym e))
+by_lines false true true true true e = absurd (true≢false (sym e))
+
+lines_of : (addr : ℕ) → is_intim addr ≡ true → AreIntim (is_high 12 addr) (is_high 7 addr) (is_high 9 addr) (is_high 2 addr) (is_high 0 addr)
+lines_of addr = by_lines (is_high 12 addr) (is_high 7 addr) (is_high 9 addr) (is_high 2 addr) (is_high 0 addr)
+
+-- a read of INTIM shows the count
+pub intim-byte : (b : Board) (addr : ℕ) → is_intim addr ≡ true → board_byte_at b addr ≡ b.riot.timer.count
+intim-byte b addr is = let l = lines_of addr is in rw (l.top, l.chip, l.upper, l.timer, l.status) refl
+
+pub intim-riot : (r : Riot) (pins : Pins) (addr : ℕ) → is_intim addr ≡ true → byte_at addr pins r ≡ r.timer.count
+intim-riot r pins addr is = let l = lines_of addr is in rw (l.upper, l.timer, l.status) refl
+
+-- above 0 it changes nothing
+intim-load : (b : Board) (addr : ℕ) → is_intim addr ≡ true → IsAboveZero b.riot.timer → board_after_load b addr ≡ b
+intim-load b addr is above =
+    let l = lines_of addr is in
+    rw (l.top, l.chip, l.upper, l.timer, l.status) (ap (λ (t : Timer). record b { riot = record b.riot { timer = t } }) above.1)
+
+add-one : (i period : ℕ) → suc i * period ≡ i * period + period
+add-one i period = grind arith
+
+-- the polls before the last end before it does
+pub polls-before : (i polls period : ℕ) → i < polls → i * period + period ≤ polls * period
+polls-before i polls period h =
+    let most : suc i * period ≤ polls * period = mul-le-mul_right period h in
+    let same = add-one i period in
+    omega (arith, most, same)
+
+-- five bytes of code in a cartridge
+same_code : (b c : Board) (pc k : ℕ) → b.rom ≡ c.rom → 4096 ≤ pc % 8192 → pc % 8192 ≤ 8187 → pc < 65536 → k < 5 → board_byte_at b (address_after pc k) ≡ board_byte_at c (address_after pc k)
+same_code b c pc k same first last fits few =
+    let addr = address_after pc k in
+    let one : addr / 4096 % 2 ≡ 1 = omega (arith, first, last, fits, few) in
+    let high : is_high 12 addr ≡ true = ap (λ n. n == 1) one in
+    rw high (ap (λ r. rom_byte r addr) same)
+
+module _ {Seen : Type 0} (observe : List Tia → Seen → Seen) (nil : (s : Seen) → observe [] s ≡ s)
+    (append : (xs ys : List Tia) (s : Seen) → observe (xs ++ ys) s ≡ observe ys (observe xs s))
+    (rom : List ℕ) (pins : Pins) (riot : Riot) (t : Tia) (seen : Seen) (clocks : ℕ) where
+  -- the board so many cycles later
+  abbrev pub later : ℕ → Observed Seen
+  later n = lagging_of observe rom pins riot t seen n (clocks + 3 * n)
+
+  -- it rests where no wait is owed and the frame isn't over
+  pub later-settled : (n : ℕ) → IsQuiet (clocks + 3 * n) t → IsSettled (console_settling observe) (later n) (later n) false
+  later-settled n quiet = (
+    sym (after_wait-none observe nil append (later n) (ap (λ (s : Sync). s.wait_owed) (sync-after_clocks (clocks + 3 * n) t) ∙ quiet.waits)),
+    sym (not_over-early (clocks + 3 * n) t quiet.rose quiet.low),
+  )
+
+  later-advance : (n k : ℕ) → after_time observe k (3 * k) (later n) ≡ later (n + k)
+  later-advance n k =
+      let all : clocks + 3 * (n + k) ≡ clocks + 3 * n + 3 * k = omega arith in
+      sym (after_time-add observe nil append n k (n + k) (clocks + 3 * n) (3 * k) (clocks + 3 * (n + k)) (observed_of rom pins riot t seen) refl all)
+
+  -- the count so many cycles later is above 0
+  abbrev pub IsAbove : ℕ → Type 0
+  IsAbove n = IsAboveZero (riot_after_ticks n riot).timer
+
+  module _ (pc address branch : ℕ) (is : is_intim address ≡ true) where
+    abbrev pub poll : Poll
+    poll = record { pc = pc; address = address; branch = branch }
+
+    later-read : (n : ℕ) → IsAbove (n + 4) → after_poll_read (bus_device observe) poll (later n) ≡ later (n + 4)
+    later-read n above =
+        ap (λ (o : Observed Seen). record o { board = board_after_load o.board address }) (later-advance n 4)
+        ∙ ap (λ (b : Board). record (later (n + 4)) { board = b }) (intim-load (later (n + 4)).board address is above)
+
+    later-poll : (n : ℕ) → IsAbove (n + 4) → after_poll (bus_device observe) poll (later n) ≡ later (n + (4 + branch))
+    later-poll n above =
+        let all : n + 4 + branch ≡ n + (4 + branch) = omega arith in
+        ap (λ (o : Observed Seen). after_time observe branch (3 * branch) o) (later-read n above) ∙ later-advance (n + 4) branch ∙ ap later all
+
+    -- i polls, each of which reads a count above 0
+    pub later-polls : (i n : ℕ) → ((j : ℕ) → j < i → IsAbove (n + j * (4 + branch) + 4)) → after_polls (bus_device observe) poll i (later n) ≡ later (n + i * (4 + branch))
+    later-polls zero n above = let same : n ≡ n + 0 * (4 + branch) = omega arith in ap later same
+    later-polls (suc i) n above =
+        let first : n + 0 * (4 + branch) + 4 ≡ n + 4 = omega arith in
+        let all : n + (4 + branch) + i * (4 + branch) ≡ n + suc i * (4 + branch) = grind arith in
+        ap (after_polls (bus_device observe) poll i) (later-poll n (subst IsAbove first (above 0 (omega arith))))
+        ∙ later-polls i (n + (4 + branch)) (λ j h.
+            let next : n + suc j * (4 + branch) + 4 ≡ n + (4 + branch) + j * (4 + branch) + 4 = grind arith in
+            subst IsAbove next (above (suc j) (omega (arith, h))))
+        ∙ ap later all
+
+    -- what a poll reads
+    pub later-byte : (n : ℕ) → polled_byte (bus_device observe) poll (later n) ≡ (riot_after_ticks (n + 4) riot).timer.count
+    later-byte n = ap (λ (o : Observed Seen). board_byte_at o.board address) (later-advance n 4) ∙ intim-byte (later (n + 4)).board address is
+
+    pub later-is_poll : {Bus : Type 0} (content_of : Bus → Observed Seen) (Settles : Bus → Bus → Bool → Type 0) (start : Observed Seen) (n : ℕ) →
+        start.board.rom ≡ rom → 4096 ≤ pc % 8192 → pc % 8192 ≤ 8187 → pc < 65536 → IsAbove (n + 4) →
+        Rests (bus_device observe) content_of Settles (later (n + 4)) → Rests (bus_device observe) content_of Settles (later (n + (4 + branch))) →
+        IsPoll (bus_device observe) content_of Settles poll start (later n)
+    later-is_poll content_of Settles start n same first last fits above read end = record {
+      lda = λ k few. same_code (later n).board start.board pc k (sym same) first last fits (omega (arith, few));
+      bne = λ k few. ap (λ (o : Observed Seen). board_byte_at o.board (address_after pc k)) (later-read n above) ∙ same_code (later (n + 4)).board start.board pc k (sym same) first last fits few;
+      some = subst (λ v. 0 < v) (sym (later-byte n)) above.0;
+      read = subst (Rests (bus_device observe) content_of Settles) (sym (later-read n above)) read;
+      branch = subst (Rests (bus_device observe) content_of Settles) (sym (later-poll n above)) end;
+    }
+
+-- how buses settle
+abbrev pub settles_of : {O : Type 0} {observer : Ghosts O} → ConsoleBus O observer → ConsoleBus O observer → Bool → Type 0
+settles_of {O} {observer} before after over = IsSettled (console_settling observer.observe) (content_of before) (content_of after) over
+
+-- a bus whose RIOT has caught up
+module _ {O : Type 0} {observer : Ghosts O} (nil : (s : observer.Seen) → observer.observe [] s ≡ s)
+    (append : (xs ys : List Tia) (s : observer.Seen) → observer.observe (xs ++ ys) s ≡ observer.observe ys (observer.observe xs s))
+    (b : ConsoleBus O observer) (none : b.ticks ≡ 0) where
+  -- its content so many cycles later
+  abbrev pub at : ℕ → Observed observer.Seen
+  at = later observer.observe nil append b.rom.now b.pins b.riot.now b.tia.now (observer.seen b.observer.now) b.clocks
+
+  at-now : at 0 ≡ content_of b
+  at-now =
+      let clocks : b.clocks + 3 * 0 ≡ b.clocks = omega arith in
+      ap (λ n. lagging_of observer.observe b.rom.now b.pins b.riot.now b.tia.now (observer.seen b.observer.now) 0 n) clocks
+      ∙ ap (λ n. lagging_of observer.observe b.rom.now b.pins b.riot.now b.tia.now (observer.seen b.observer.now) n b.clocks) (sym none)
+
+  -- until the quiet ends it rests
+  at-rests : (n : ℕ) → b.clocks + 3 * n < b.quiet → Rests (bus_device observer.observe) (content_of {O = O} {observer = observer}) settles_of (at n)
+  at-rests n few =
+      let quiet = b.still (b.clocks + 3 * n) few in
+      let low = quiet.low in
+      record {
+        bus = record b { ticks = n; clocks = b.clocks + 3 * n; few = omega arith; low = omega (arith, low) };
+        is = refl;
+        settles = later-settled observer.observe nil append b.rom.now b.pins b.riot.now b.tia.now (observer.seen b.observer.now) b.clocks n quiet;
+      }
+
+  module _ (poll : Poll) (is : is_intim poll.address ≡ true) (polls above_zero : ℕ) (above : (n : ℕ) → n < above_zero → IsAboveZero (riot_after_ticks n b.riot.now).timer)
+      (reads : (i : ℕ) → i < polls → i * (4 + poll.branch) + 4 < above_zero) (fit : b.clocks + 3 * (polls * (4 + poll.branch)) < b.quiet) where
+    pub at-polls : (i : ℕ) → i ≤ polls → after_polls (bus_device observer.observe) poll i (content_of b) ≡ at (0 + i * (4 + poll.branch))
+    at-polls i few =
+        ap (after_polls (bus_device observer.observe) poll i) (sym at-now)
+        ∙ later-polls observer.observe nil append b.rom.now b.pins b.riot.now b.tia.now (observer.seen b.observer.now) b.clocks poll.pc poll.address poll.branch is i 0
+            (λ j h. let read = reads j (omega (arith, h, few)) in above (0 + j * (4 + poll.branch) + 4) (omega (arith, read)))
+
+    at-is_poll : (i : ℕ) → i < polls → 4096 ≤ poll.pc % 8192 → poll.pc % 8192 ≤ 8187 → poll.pc < 65536 →
+        IsPoll (bus_device observer.observe) (content_of {O = O} {observer = observer}) settles_of poll (content_of b) (after_polls (bus_device observer.observe) poll i (content_of b))
+    at-is_poll i h first last fits =
+        let read = reads i h in
+        let within = polls-before i polls (4 + poll.branch) h in
+        subst (IsPoll (bus_device observer.observe) (content_of {O = O} {observer = observer}) settles_of poll (content_of b)) (sym (at-polls i (omega (arith, h))))
+        (later-is_poll observer.observe nil append b.rom.now b.pins b.riot.now b.tia.now (observer.seen b.observer.now) b.clocks poll.pc poll.address poll.branch is
+            (content_of {O = O} {observer = observer}) settles_of (content_of b) (0 + i * (4 + poll.branch)) refl first last fits
+            (above (0 + i * (4 + poll.branch) + 4) (omega (arith, read)))
+            (at-rests (0 + i * (4 + poll.branch) + 4) (omega (arith, within, fit)))
+            (at-rests (0 + i * (4 + poll.branch) + (4 + poll.branch)) (omega (arith, within, fit))))
+
+    -- the same, for a content that is the bus's
+    pub at-is_poll-from : (start : Observed observer.Seen) → content_of b ≡ start → (i : ℕ) → i < polls → 4096 ≤ poll.pc % 8192 → poll.pc % 8192 ≤ 8187 → poll.pc < 65536 →
+        IsPoll (bus_device observer.observe) (content_of {O = O} {observer = observer}) settles_of poll start (after_polls (bus_device observer.observe) poll i start)
+    at-is_poll-from start same i h first last fits =
+        subst (λ (o : Observed observer.Seen). IsPoll (bus_device observer.observe) (content_of {O = O} {observer = observer}) settles_of poll o (after_polls (bus_device observer.observe) poll i o)) same
+        (at-is_poll i h first last fits)
+
+    -- what the last of them reads
+    pub at-byte : (i last : ℕ) → polls ≡ i + 1 → last + poll.branch ≡ polls * (4 + poll.branch) →
+        byte_at poll.address b.pins (riot_after_ticks last b.riot.now) ≡ polled_byte (bus_device observer.observe) poll (after_polls (bus_device observer.observe) poll i (content_of b))
+    at-byte i last more end =
+        let next : polls ≡ suc i = omega (arith, more) in
+        let all : polls * (4 + poll.branch) ≡ i * (4 + poll.branch) + (4 + poll.branch) = ap (λ n. n * (4 + poll.branch)) next ∙ add-one i (4 + poll.branch) in
+        let same : last ≡ 0 + i * (4 + poll.branch) + 4 = omega (arith, all, end) in
+        ap (λ n. byte_at poll.address b.pins (riot_after_ticks n b.riot.now)) same
+        ∙ intim-riot (riot_after_ticks (0 + i * (4 + poll.branch) + 4) b.riot.now) b.pins poll.address is
+        ∙ sym (later-byte observer.observe nil append b.rom.now b.pins b.riot.now b.tia.now (observer.seen b.observer.now) b.clocks poll.pc poll.address poll.branch is (0 + i * (4 + poll.branch)))
+        ∙ ap (polled_byte (bus_device observer.observe) poll) (sym (at-polls i (omega (arith, more))))
