@@ -23,7 +23,8 @@ pub fn write_counted<W: Write>(bytes: &[u8], before: usize, to: &mut W) -> Resul
     requires { before + length bytes.now < 2 ^ 64 }
     ensures count { IfOk result (λ n. n ≡ before + length bytes.now) }
     ensures all { OnOk result (Appends (W.contents to.old) (W.contents to.new) bytes.now) }
-    ensures cut { IfErr result (λ f. IsCutOff (W.contents to.old) (W.contents to.new) bytes.now (f.written - before)) }
+    ensures cut { IfErr result
+        (λ f. IsCutOff (W.contents to.old) (W.contents to.new) bytes.now (f.written - before)) }
     ensures from { IfErr result (λ f. before ≤ f.written) }
 {
     let mut sent = 0;

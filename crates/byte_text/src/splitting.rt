@@ -5,7 +5,8 @@ ghost use Rattle.byte_text.specs.Splitting.{NoByte};
 
 /// The bytes before the first such byte and those after it; nothing where there is no such byte.
 pub fn split_once(bytes: &[u8], mark: u8) -> Option<(&[u8], &[u8])>
-    ensures some { IfSome result (λ parts. (bytes.now ≡ parts.0.now ++ mark ∷ parts.1.now) × NoByte mark parts.0.now) }
+    ensures some { IfSome result
+        (λ parts. (bytes.now ≡ parts.0.now ++ mark ∷ parts.1.now) × NoByte mark parts.0.now) }
     ensures none { IfNone result (NoByte mark bytes.now) }
 {
     for at in 0..bytes.len() {

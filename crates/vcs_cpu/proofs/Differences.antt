@@ -5,7 +5,7 @@ use Rattle.std.proofs.lemmas.Bool.Decides.{nat_tests}
 use Rattle.std.proofs.lemmas.Int.{ints, int_rem_euclid_is}
 use Rattle.std.specs.Int.{int_rem_euclid}
 use Rattle.vcs_cpu.specs.Arithmetic.{corrected_low_sum, corrected_low_difference, uncorrected_difference, decimal_difference_byte_of, signed_high_digit, is_decimal_overflow}
-use Rattle.vcs_cpu.specs.Shifted.{shifted_low_difference, shifted_difference, shifted_difference_byte, shifted_high_digit, shifted_overflow}
+use Rattle.vcs_cpu.specs.Inside.Shifted.{shifted_low_difference, shifted_difference, shifted_difference_byte, shifted_high_digit, shifted_overflow}
 
 -- a number n is k more than z: it is below k where z is below 0
 test_shifted : (n k : ℕ) (z : ℤ) → z +ℤ pos k ≡ pos n → int_lt z (pos 0) ≡ nat_lt n k

@@ -69,7 +69,7 @@ module _ {Content : Type 0} (d : Device Content) where
       let all : 2 + (1 + bit (not (pc / 256 == address_after pc 5 / 256))) ≡ branch = omega (arith, time) in
       step_of-documented d r c 0xD0 (op.Branch Bne) mode.Relative 2 false (sym (ap (λ a. d.byte_at c a) at ∙ code)) refl
       ∙ ap (λ z. Ok (bne_step r c (not z) (not (branch_target (address_after r.pc 2) (d.byte_at c (address_after r.pc 1)) / 256 == address_after r.pc 2 / 256))
-          (branch_target (address_after r.pc 2) (d.byte_at c (address_after r.pc 1))))) some
+      (branch_target (address_after r.pc 2) (d.byte_at c (address_after r.pc 1))))) some
       ∙ ap (λ t. Ok (bne_step r c true (not (t / 256 == address_after r.pc 2 / 256)) t)) target
       ∙ ap (λ n. Ok (bne_step r c true (not (pc / 256 == n / 256)) pc)) next
       ∙ ap (λ n. Ok (record { regs = with_pc r pc; content = d.after_advance c n; cycles = n })) all
@@ -109,8 +109,8 @@ module _ {Bus Content : Type 0} (d : Device Content) (content_of : Bus → Conte
       let z : nat_eq v 0 ≡ false = grind (arith, nat_tests, some) in
       goes_on (suc left) r _ c _ 4 (lda-step d r c address branch lda word) is.read
       ∙ goes_on left (after_load_a (record r { pc = address_after r.pc 3 }) v) _ (after_poll_read d poll c) _ branch
-          (bne-step d (after_load_a (record r { pc = address_after r.pc 3 }) v) (after_poll_read d poll c) r.pc branch fits refl (is.bne 3 (omega arith) ∙ code.bne) (is.bne 4 (omega arith) ∙ code.back) z time)
-          is.branch
+      (bne-step d (after_load_a (record r { pc = address_after r.pc 3 }) v) (after_poll_read d poll c) r.pc branch fits refl (is.bne 3 (omega arith) ∙ code.bne) (is.bne 4 (omega arith) ∙ code.back) z time)
+      is.branch
 
   -- n polls
   pub run_within-polled : (n left rest : ℕ) (r : Regs) (start c : Content) (address branch : ℕ) → left ≡ rest + 2 * n → ShowsPoll d start r.pc address →
@@ -123,7 +123,7 @@ module _ {Bus Content : Type 0} (d : Device Content) (content_of : Bus → Conte
       ap (λ k. run_within d s k r c) more
       ∙ one_poll (rest + 2 * n) r start c address branch code time (polls 0 (omega arith))
       ∙ run_within-polled n (rest + 2 * n) rest (after_load_a r (polled_byte d (poll_at r address branch) c)) start (after_poll d (poll_at r address branch) c) address branch refl code time
-          (λ i h. polls (suc i) (omega (arith, h)))
+      (λ i h. polls (suc i) (omega (arith, h)))
 
   -- a run that has come here, and then passes polls
   pub has_come-polled : {Held : Type 0} (held : Bus → Held) (n left rest most : ℕ) (r q first : Regs) (start before after : Bus) (halt : Option Halt) (address branch : ℕ) →

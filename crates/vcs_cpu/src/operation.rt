@@ -3,7 +3,7 @@
 
 ghost use Rattle.std.specs.Prelude.{◌≡◌, ◌≤◌};
 ghost use Rattle.vcs_cpu.specs.Steps.{extra_cycles, effect_on, content_after};
-ghost use Rattle.vcs_cpu.specs.Cycles.{most_extra_cycles};
+ghost use Rattle.vcs_cpu.specs.Inside.Cycles.{most_extra_cycles};
 
 use crate::addressing::Operand;
 use crate::bus::Bus;
@@ -31,8 +31,10 @@ pub(crate) trait Operation: Copy {
 
     /// Executes the operation, once its cycles have passed and the program counter is past it.
     fn execute<B: Bus>(self, operand: Operand, regs: &mut Regs, bus: &mut B)
-        ensures regs { regs.new ≡ (effect_on B.device (op self) operand regs.old (B.content bus.old)).regs }
-        ensures bus { B.content bus.new ≡ content_after B.device (op self) operand regs.old (B.content bus.old) }
+        ensures regs { regs.new
+            ≡ (effect_on B.device (op self) operand regs.old (B.content bus.old)).regs }
+        ensures bus { B.content bus.new
+            ≡ content_after B.device (op self) operand regs.old (B.content bus.old) }
         ensures fixed { B.fixed bus.new ≡ B.fixed bus.old };
 }
 

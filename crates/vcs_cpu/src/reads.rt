@@ -56,7 +56,9 @@ fn is_jump_pointer_watched<B: Watch>(address: u16, bus: &B) -> bool
 /// Whether an operand or pointer byte is watched, of an instruction at the program counter whose code is given.
 fn is_finding_watched<B: Watch>(mode: Mode, code: u32, regs: &Regs, bus: &B) -> bool
     requires { IsCode code regs.now.pc (B.device.byte_at (B.content bus.now)) }
-    ensures { result ≡ list_any (B.is_watched bus.now) (finding_addresses mode regs.now (B.device.byte_at (B.content bus.now))) }
+    ensures { result
+        ≡ list_any (B.is_watched bus.now)
+        (finding_addresses mode regs.now (B.device.byte_at (B.content bus.now))) }
 {
     let pc = regs.pc;
     let after = pc.wrapping_add(1);
@@ -124,7 +126,9 @@ fn is_load_watched<B: Watch>(op: Op, operand: Operand, regs: &Regs, bus: &B) -> 
 /// Whether the instruction at the program counter reads at a watched address: its opcode, its operand and
 /// pointer bytes, its operand, or what it pulls. An undocumented opcode is read alone. Nothing changes. (own)
 pub fn reads_watched<B: Watch>(regs: &Regs, bus: &B) -> bool
-    ensures { result ≡ list_any (B.is_watched bus.now) (addresses_read regs.now (B.device.byte_at (B.content bus.now))) }
+    ensures { result
+        ≡ list_any (B.is_watched bus.now)
+        (addresses_read regs.now (B.device.byte_at (B.content bus.now))) }
 {
     let pc = regs.pc;
     let code = bus.fetch(pc);

@@ -33,9 +33,11 @@ fn perform_and_settle<O: Operation, M: Addressing, B: Settle>(
 ) -> bool
     requires opcode { opcode ≡ B.device.byte_at (B.content bus.old) regs.old.pc }
     requires code { IsCode code regs.old.pc (B.device.byte_at (B.content bus.old)) }
-    requires row { instruction_of opcode ≡ Some (record { op = O.op op; mode = M.mode mode; cycles = cycles; crossing = crossing }) }
+    requires row { instruction_of opcode
+        ≡ Some (record { op = O.op op; mode = M.mode mode; cycles = cycles; crossing = crossing }) }
     requires ready { B.Ready bus.old }
-    ensures { IsLedTo B.device B.content B.Settles B.Ready B.fixed regs.old bus.old result regs.new bus.new }
+    ensures { IsLedTo B.device B.content B.Settles B.Ready B.fixed regs.old bus.old result regs.new
+        bus.new }
 {
     perform(opcode, code, op, mode, cycles, crossing, regs, bus);
     bus.settle()
@@ -70,8 +72,11 @@ fn perform_any<B: Settle>(opcode: u8, code: u32, regs: &mut Regs, bus: &mut B) -
     requires opcode { opcode ≡ B.device.byte_at (B.content bus.old) regs.old.pc }
     requires code { IsCode code regs.old.pc (B.device.byte_at (B.content bus.old)) }
     requires ready { B.Ready bus.old }
-    ensures led { IfSome result (λ over. IsLedTo B.device B.content B.Settles B.Ready B.fixed regs.old bus.old over regs.new bus.new) }
-    ensures none { IfNone result ((instruction_of opcode ≡ None) × (regs.new ≡ regs.old) × (bus.new ≡ bus.old)) }
+    ensures led { IfSome result
+        (λ over. IsLedTo B.device B.content B.Settles B.Ready B.fixed regs.old bus.old over regs.new
+        bus.new) }
+    ensures none { IfNone result
+        ((instruction_of opcode ≡ None) × (regs.new ≡ regs.old) × (bus.new ≡ bus.old)) }
 {
     let Instruction {
         op,
@@ -93,7 +98,8 @@ pub fn run_until_over<B: Settle>(regs: &mut Regs, bus: &mut B, most: u32) -> Opt
     ghost settling: { Settling B.Content }
     requires settles { SettlesBy B.content B.Settles settling }
     requires ready { B.Ready bus.old }
-    requires ends { (e : RunEnd B.Content) × (run_within B.device settling most regs.old (B.content bus.old) ≡ Some e) }
+    requires ends { (e : RunEnd B.Content)
+        × (run_within B.device settling most regs.old (B.content bus.old) ≡ Some e) }
     ensures ended { run_within B.device settling most regs.old (B.content bus.old)
         ≡ Some (record { regs = regs.new; content = B.content bus.new; halt = result }) }
     ensures fixed { B.fixed bus.new ≡ B.fixed bus.old }
@@ -112,8 +118,10 @@ fn run_by_value<B: Settle>(first: Regs, bus: &mut B, most: u32, halt: &mut Optio
     ghost settling: { Settling B.Content }
     requires settles { SettlesBy B.content B.Settles settling }
     requires ready { B.Ready bus.old }
-    requires ends { (e : RunEnd B.Content) × (run_within B.device settling most first (B.content bus.old) ≡ Some e) }
-    ensures { HasEnded B.device B.content B.fixed settling most first bus.old result bus.new halt.new }
+    requires ends { (e : RunEnd B.Content)
+        × (run_within B.device settling most first (B.content bus.old) ≡ Some e) }
+    ensures { HasEnded B.device B.content B.fixed settling most first bus.old result bus.new
+        halt.new }
 {
     // A variable of its own: an argument would stay in memory.
     let mut regs = first;

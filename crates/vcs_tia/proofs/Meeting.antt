@@ -7,10 +7,10 @@ use Rattle.vcs_tia.specs.declared.chip.Tia.{Tia}
 use Rattle.vcs_tia.specs.declared.words.Windows.{Windows}
 use Rattle.vcs_tia.specs.Beam.{beam_after_clock, pairs_added}
 use Rattle.vcs_tia.specs.Units.{has_bit}
-use Rattle.vcs_tia.specs.Spans.{beam_after_clocks}
+use Rattle.vcs_tia.specs.Inside.Spans.{beam_after_clocks}
 use Rattle.vcs_tia.specs.Tia.{after_clock, in_hmove_blank, latches_at, lit_at}
 use Rattle.vcs_tia.specs.Trace.{after_clocks}
-use Rattle.vcs_tia.specs.Words.{window_bits}
+use Rattle.vcs_tia.specs.Inside.Words.{window_bits}
 use Rattle.vcs_tia.proofs.Bits.{has_bit-zero, has_bit-and}
 use Rattle.vcs_tia.proofs.Later.{latches_by_fields, after_clocks-changes, with_clocked}
 use Rattle.vcs_tia.proofs.Parts.{blank_latches}

@@ -2,7 +2,7 @@
 
 ghost use Rattle.std.specs.Prelude.{◌≡◌, ◌*◌};
 ghost use Rattle.std.specs.Int.{bit_at};
-ghost use Rattle.vcs_tia.specs.Words.{packed};
+ghost use Rattle.vcs_tia.specs.Inside.Words.{packed};
 
 /// Eight bits, each a byte that is 0 or a colour, bit 0 as the lowest.
 pub(crate) fn coloured(bits: u8, colour: u8) -> u64

@@ -1,6 +1,6 @@
 use Rattle.std.proofs.Common.{◌∙◌, ap, arith}
 use Rattle.vcs_cpu.specs.Arithmetic.{after_binary_subtract}
-use Rattle.vcs_cpu.specs.Shifted.{shifted_difference_byte}
+use Rattle.vcs_cpu.specs.Inside.Shifted.{shifted_difference_byte}
 use Rattle.vcs_cpu.specs.Status.{bit}
 use Rattle.vcs_cpu.proofs.Differences.{difference_byte-shifted}
 use Rattle.vcs_cpu.proofs.Flags.{bool_byte-bit}

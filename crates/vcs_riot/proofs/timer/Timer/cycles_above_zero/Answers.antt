@@ -8,7 +8,7 @@ use Rattle.vcs_riot.proofs.timer.Timer.cycles_above_zero.Goals as goal
 pub returns-then-self-clause-zero : goal.returns-then-self-clause-zero
 unfolding after_ticks
 returns-then-self-clause-zero c = λ down. elim c.then-self.branch [
-  then-self-via-then-self w ↦ absurd (true≢false (sym w.if-self.true ∙ down.0))
+  | then-self-via-then-self w ↦ absurd (true≢false (sym w.if-self.true ∙ down.0))
   | then-self-via-else-self+then-self-2 w ↦ absurd (true≢false (sym w.if-self-2.true ∙ down.1))
   | then-self-via-else-self+else-self-2+then-self-eq0 w ↦ w.if-self-eq0.true
 ]

@@ -1,7 +1,7 @@
 use Rattle.std.proofs.Common.{◌≡◌, ◌<◌, ◌^◌, ◌∙◌, ◌&&◌, ◌||◌, ap, refl, true, false, Bool, not, arith, bit_and, bit_or, ◌-◌}
 use Rattle.std.proofs.lemmas.Nat.{or_lt}
 use Rattle.vcs_tia.specs.Units.{has_bit}
-use Rattle.vcs_tia.specs.Words.{behind}
+use Rattle.vcs_tia.specs.Inside.Words.{behind}
 use Rattle.vcs_tia.proofs.Bits.{has_bit-or, has_bit-and}
 use Rattle.vcs_tia.proofs.Layers.{bit_cleared, has_bit-not}
 use Rattle.vcs_tia.proofs.words.Layers.divided_shades.Goals as goal
