@@ -147,18 +147,25 @@ fn differences_read_as_by_hand(rt: HostRuntime) {
     }
 }
 
-/// 1,600 frames, a pattern of forty again and again, but for these at 100 and 1500.
+/// The letter of a frame in a pattern of forty frames, again and again.
+fn pattern_letter(frame: usize) -> u8 {
+    if frame % 40 < 17 {
+        return b'.';
+    }
+    if frame % 40 < 31 { b'R' } else { b'F' }
+}
+
+/// 1,600 frames of the pattern, but for these at 100 and 1500.
 fn pattern<R: Abort>(rt: &R, alloc: Global, first: u8, second: u8) -> Vec<u8> {
     let mut letters = Vec::new(alloc);
-    for i in 0..1600usize {
-        let letter = match i {
-            100 => first,
-            1500 => second,
-            _ if i % 40 < 17 => b'.',
-            _ if i % 40 < 31 => b'R',
-            _ => b'F',
-        };
-        expect_ok(rt, letters.push(letter));
+    for frame in 0..1600 {
+        expect_ok(rt, letters.push(pattern_letter(frame)));
+    }
+    if let Some(letter) = letters.get_mut(100) {
+        *letter = first;
+    }
+    if let Some(letter) = letters.get_mut(1500) {
+        *letter = second;
     }
     letters
 }
@@ -166,7 +173,7 @@ fn pattern<R: Abort>(rt: &R, alloc: Global, first: u8, second: u8) -> Vec<u8> {
 /// The longest movie that begins with these letters, with nothing pressed in its other frames.
 fn longest<R: Abort>(rt: &R, alloc: Global, first: &[u8]) -> Vec<u8> {
     let mut letters = expect_ok(rt, Vec::from_slice(alloc, first));
-    while letters.len() < MAX_FRAMES {
+    for _ in first.len()..MAX_FRAMES {
         expect_ok(rt, letters.push(b'.'));
     }
     letters
@@ -192,8 +199,10 @@ fn movie_of_bytes<R: Abort>(rt: &R, alloc: Global, letters: &[u8]) -> Movie {
 #[test]
 fn two_far_frames_are_two_lines(rt: HostRuntime) {
     let alloc = rt.alloc();
-    let old = movie_of_bytes(&rt, alloc, pattern(&rt, alloc, b'R', b'R').as_slice());
-    let new = movie_of_bytes(&rt, alloc, pattern(&rt, alloc, b'F', b'.').as_slice());
+    let before = pattern(&rt, alloc, b'R', b'R');
+    let after = pattern(&rt, alloc, b'F', b'.');
+    let old = movie_of_bytes(&rt, alloc, before.as_slice());
+    let new = movie_of_bytes(&rt, alloc, after.as_slice());
     let script = script_between(&rt, alloc, &old, &new);
     let wanted = b"replace 100 1 ....F ..... .....\nreplace 1500 1 ..... ..... .....\n";
     check_same(&rt, "two", script.as_slice(), wanted.as_slice());

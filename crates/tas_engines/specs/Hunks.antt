@@ -1,4 +1,4 @@
--- What the parts of a difference's search for changes add. These name shapes of the code; what a difference is: Differences.
+-- What the parts of `changes_between` add. These definitions name shapes of the code; Differences defines what a difference is.
 use Rattle.std.specs.Prelude.{◌≡◌, ◌≢◌, ℕ, zero, suc, ◌+◌, ◌-◌, ◌<◌, ◌≤◌, ◌⊎◌, List, [], ◌∷◌, ◌++◌, length, take, drop, replicate, slice_index_or}
 use Rattle.vcs_machine.specs.Input.{no_input}
 use Rattle.vcs_machine.specs.declared.input.Input.{Input}
@@ -29,7 +29,7 @@ pub record Leads (old new : List Input) (a b a' b' to : ℕ) (changes : List Cha
   pub ends : (cart : List ℕ) → ChangeTheirEnds (halfway cart old new a b) changes
   pub numbers : HaveNumbers changes
 
--- the gap is one of these lists, which are as long as a movie may be; with all before its end replaced the movie isn't longer, either
+-- the gap is within these lists, which are no longer than a movie may be; nor is the movie that has the new inputs up to the gap's end
 pub record IsGapOf (old new : List Input) (gap : Gap) : Type 0 where
   pub old_forward : gap.old ≤ gap.old_end
   pub old_within : gap.old_end ≤ length old
@@ -53,7 +53,7 @@ pub record GoesOn (old new : List Input) (gap next : Gap) (before after : List C
   pub old_forward : next.old ≤ gap.old_end
   pub new_forward : next.new ≤ gap.new_end
 
--- n inputs from an anchor on are the same, within the gap; with all before the anchor replaced the movie isn't too long
+-- n inputs from an anchor on are the same, within the gap; the movie that has the new inputs up to the anchor isn't too long
 pub record IsCommonFrom (old new : List Input) (gap : Gap) (anchor : Anchor) (n : ℕ) : Type 0 where
   pub old_begins : gap.old ≤ anchor.old
   pub old_ends : anchor.old + n ≤ gap.old_end
@@ -62,14 +62,14 @@ pub record IsCommonFrom (old new : List Input) (gap : Gap) (anchor : Anchor) (n 
   pub same : take n (drop anchor.old old) ≡ take n (drop anchor.new new)
   pub room : anchor.new + (length old - anchor.old) ≤ most_inputs
 
--- n inputs, of which the first one and the last one differ from the input that comes, and which can't be one more
+-- n of the new inputs are this one; the last of the old ones there is another one, and the next one isn't changed by it
 pub record IsReplacedRun (old new : List Input) (input : Input) (n : ℕ) : Type 0 where
   pub within : n ≤ length new
   pub same : take n new ≡ replicate n input
   pub last : 0 < n → slice_index_or old (n - 1) no_input ≢ input
   pub longest : n < length new → slice_index_or new n no_input ≡ input → slice_index_or old n no_input ≡ input
 
--- n inputs are done, which begin at a place: one that stays, or those of a replacement
+-- the first n inputs are done: one that stays, or those of a replacement, which is added
 abbrev pub AddsReplacement : (old new : List Input) (at n : ℕ) (before after : List Change) → Type 0
 AddsReplacement old new at n before after =
     ((n ≡ 1) × (after ≡ before) × (slice_index_or old 0 no_input ≡ slice_index_or new 0 no_input))

@@ -172,7 +172,8 @@ fn pair<A: Allocator + Copy>(alloc: A, old: &[Mark], new: &mut [Mark]) -> Result
     Ok(())
 }
 
-/// How many of the chains, which end at these links, end before a place in the old inputs.
+/// How many chains end before a place in the old inputs. `ends` has the last link of one chain of each length, of that
+/// which ends first.
 fn chains_before(links: &[Link], ends: &[usize], old: usize) -> usize
     ensures { result ≤ length ends.now }
 {
@@ -190,7 +191,7 @@ fn chains_before(links: &[Link], ends: &[usize], old: usize) -> usize
     low
 }
 
-/// Adds an anchor to the longest chain that it goes on.
+/// Appends an anchor to the longest chain that it can continue.
 fn add_link<A: Allocator>(
     links: &mut Vec<Link, A>,
     ends: &mut Vec<usize, A>,
@@ -248,9 +249,9 @@ fn longest_chain<A: Allocator + Copy>(
     chain_of(alloc, &links, &ends)
 }
 
-/// Places from which both lists seem to go on alike, from the last to the first: where stretches of one run, of four or
-/// of sixteen begin that occur once in each list, as many as go forward in both. Linear in the lists' lengths, but for
-/// the chain, whose search takes a step more where the lengths are doubled.
+/// Anchors, from the last to the first: places where a stretch of one, four or sixteen runs begins that occurs once in
+/// each list. They are the longest chain of such pairs that goes forward in both lists. Takes time in proportion to the
+/// lists' lengths, but for the search of the chain: n anchors take n log n steps.
 pub(crate) fn find_anchors<A: Allocator + Copy>(
     alloc: A,
     old: &[Input],

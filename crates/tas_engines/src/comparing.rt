@@ -35,8 +35,8 @@ fn common_end(a: &[Input], b: &[Input]) -> usize
     end
 }
 
-/// How many inputs a replacement by `input` is of that begins here: up to the last one that it changes, before another
-/// input comes or more than [`MAX_BRIDGE`] would stay the same.
+/// The length of a replacement by `input` that begins here. It ends with the last input that it changes before another
+/// input comes, or before more than [`MAX_BRIDGE`] in a row would stay the same.
 fn replaced_run(old: &[Input], new: &[Input], input: Input) -> usize
     requires { length old.now ≡ length new.now }
     ensures { IsReplacedRun old.now new.now input result }
@@ -53,8 +53,8 @@ fn replaced_run(old: &[Input], new: &[Input], input: Input) -> usize
     count
 }
 
-/// Adds the replacement that begins at the place of these inputs, if the first ones differ, and returns how many inputs
-/// it is of, and 1 where they are the same.
+/// Adds the replacement that begins with these inputs, at the place `at`, and returns its length. Where the first ones are
+/// the same it adds nothing and returns 1.
 fn push_replacement<A: Allocator>(
     changes: &mut Vec<Change, A>,
     at: usize,
@@ -63,7 +63,8 @@ fn push_replacement<A: Allocator>(
 ) -> Result<usize, AllocError>
     requires some { 0 < length old.now }
     requires as_many { length old.now ≡ length new.now }
-    ensures { IfOk result (λ n. AddsReplacement old.now new.now at n changes.old.items changes.new.items) }
+    ensures { IfOk result (λ n.
+        AddsReplacement old.now new.now at n changes.old.items changes.new.items) }
 {
     let input = new[0];
     if old[0] == input {
@@ -121,7 +122,8 @@ fn push_insertions<A: Allocator>(
     to: usize,
 ) -> Result<(), AllocError>
     requires within { to ≤ length new.now }
-    ensures { OnOk result (changes.new.items ≡ changes.old.items ++ insertions from (runs_of (take (to - from) (drop from new.now)))) }
+    ensures { OnOk result (changes.new.items
+        ≡ changes.old.items ++ insertions from (runs_of (take (to - from) (drop from new.now)))) }
 {
     let mut at = from;
     while at < to {
@@ -133,7 +135,7 @@ fn push_insertions<A: Allocator>(
     Ok(())
 }
 
-/// Adds the changes of a gap, but for the inputs with which both lists end there.
+/// Adds the changes of a gap, none of them at the inputs with which both lists end there.
 fn push_gap<A: Allocator>(
     changes: &mut Vec<Change, A>,
     old: &[Input],
@@ -179,8 +181,8 @@ fn common_from(old: &[Input], new: &[Input], gap: Gap, anchor: Anchor) -> usize
     common_front(&old[anchor.old..gap.old_end], &new[anchor.new..gap.new_end])
 }
 
-/// Adds the changes in a gap before an anchor, and returns the gap after the stretch that begins there. Where none
-/// begins there the gap stays as it is.
+/// Adds the changes before an anchor, and returns the gap after the stretch that begins there. Where none begins there,
+/// nothing is added and the gap stays as it is.
 fn push_up_to<A: Allocator>(
     changes: &mut Vec<Change, A>,
     old: &[Input],
@@ -189,7 +191,8 @@ fn push_up_to<A: Allocator>(
     anchor: Anchor,
 ) -> Result<Gap, AllocError>
     requires { IsGapOf old.now new.now gap }
-    ensures { IfOk result (λ next. GoesOn old.now new.now gap next changes.old.items changes.new.items) }
+    ensures { IfOk result (λ next.
+        GoesOn old.now new.now gap next changes.old.items changes.new.items) }
 {
     let same = common_from(old, new, gap, anchor);
     if same == 0 {
