@@ -43,7 +43,8 @@ fn script_of<R: Abort>(rt: &R, alloc: Global, old: &str, new: &str) -> Vec<u8> {
 /// Fails where a script ends in another way over a movie of four inputs.
 fn check_end<R: Abort>(rt: &R, alloc: Global, script: &str, end: Result<(), ScriptFault>) {
     let mut movie = movie_of(rt, alloc, "R.RF");
-    let ended = edit_movie(alloc, &mut movie, script.as_bytes());
+    let none: Option<Movie> = None;
+    let ended = edit_movie(alloc, &mut movie, &none, script.as_bytes());
     check_same(rt, script, ended, end);
 }
 
@@ -56,7 +57,8 @@ fn check_edit<R: Abort>(
     end: Result<(), ScriptFault>,
 ) {
     let mut movie = movie_of(rt, alloc, old);
-    let ended = edit_movie(alloc, &mut movie, script);
+    let none: Option<Movie> = None;
+    let ended = edit_movie(alloc, &mut movie, &none, script);
     check_same(rt, ("to", old, new), ended, end);
     let wanted = inputs_of(rt, alloc, new);
     let is_made = movie.inputs() == wanted.as_slice();

@@ -20,6 +20,8 @@ mod movies;
 #[cfg(test)]
 mod ran;
 #[cfg(test)]
+mod retouch_tests;
+#[cfg(test)]
 mod script_tests;
 #[cfg(test)]
 mod shot_tests;

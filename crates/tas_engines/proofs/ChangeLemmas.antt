@@ -78,7 +78,7 @@ movie_of cart inputs = record { cart = cart; inputs = inputs }
 pub cut : (k : ℕ) (p new q : List Input) → spliced (length p) k new (p ++ q) ≡ p ++ new ++ drop k q
 cut k p new q = rw (take-append_seam p q, drop-append-add p q k) refl
 
-allowed_length : (most all : ℕ) (refused : Option EditRefusal) → all ≤ most → (if nat_lt most all then refused else None) ≡ None
+pub allowed_length : (most all : ℕ) (refused : Option EditRefusal) → all ≤ most → (if nat_lt most all then refused else None) ≡ None
 allowed_length most all refused le = rw (le-ltb most all le) refl
 
 pub insert_allowed : (cart : List ℕ) (inputs : List Input) (at count : ℕ) (input : Input) → at ≤ length inputs → length inputs + count ≤ most_inputs → IsAllowed (movie_of cart inputs) (edit_of (Insert at count input))

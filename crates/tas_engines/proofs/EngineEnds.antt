@@ -7,7 +7,7 @@ use Rattle.tas_engines.specs.Faults.{told}
 use Rattle.tas_engines.specs.Input.{IsReadWhole}
 use Rattle.tas_engines.specs.Movies.{IsMovieRun}
 use Rattle.tas_engines.specs.Output.{Ends, StopsWriting}
-use Rattle.tas_engines.specs.ThreeInputs.{EndsAfterThree}
+use Rattle.tas_engines.specs.ThreeInputs.{EndsAfterThree, EndsAfterFour}
 
 -- a write of a whole answer ends an engine
 pub ends-written : (answers : Result (List ℕ) RunFault → Type 0) (old new : Option (List ℕ)) (bytes : List ℕ) (r : Result (Unit {0}) RunFault) → answers (Ok bytes) →
@@ -39,3 +39,27 @@ pub three_ran : (runs : List ℕ → List ℕ → List ℕ → Result (Unit {0})
     → runs first second third end → result ≡ told end → EndsAfterThree runs a a' b b' c c' output output' result
 three_ran runs a a' b b' c c' output output' read first read' second read'' third end result one is one' is' one'' is'' ends tells =
     inr (end, tells, (first, subst (IsReadWhole a a') (sym is) one, (second, subst (IsReadWhole b b') (sym is') one', (third, subst (IsReadWhole c c') (sym is'') one'', ends))))
+
+-- the same of four
+pub four_ran : (runs : List ℕ → List ℕ → List ℕ → List ℕ → Result (Unit {0}) RunFault → Type 0) (a a' b b' c c' d d' output output' : Option (List ℕ))
+    (read first read' second read'' third last fourth : List ℕ) (end : Result (Unit {0}) RunFault) (result : Result (Unit {0}) ToolFault) → IsReadWhole a a' read → first ≡ read
+    → IsReadWhole b b' read' → second ≡ read' → IsReadWhole c c' read'' → third ≡ read'' → IsReadWhole d d' last → fourth ≡ last → runs first second third fourth end → result ≡ told end
+    → EndsAfterFour runs a a' b b' c c' d d' output output' result
+four_ran runs a a' b b' c c' d d' output output' read first read' second read'' third last fourth end result one is one' is' one'' is'' all is_all ends tells =
+    inr (
+      end,
+      tells,
+      (
+        first,
+        subst (IsReadWhole a a') (sym is) one,
+        (
+          second,
+          subst (IsReadWhole b b') (sym is') one',
+          (
+            third,
+            subst (IsReadWhole c c') (sym is'') one'',
+            (fourth, subst (IsReadWhole d d') (sym is_all) all, ends),
+          ),
+        ),
+      ),
+    )

@@ -5,6 +5,7 @@ pub mod ReadMovies
 pub mod ChangeLemmas
 pub mod HunkLemmas
 pub mod GapLemmas
+pub mod RetouchLemmas
 pub mod ScriptLemmas
 pub mod StreamLemmas
 pub mod StretchLemmas

@@ -1,14 +1,12 @@
 -- Changes of a movie, and what they make of it (own).
-use Rattle.std.specs.Prelude.{◌≡◌, List, [], ◌∷◌, replicate, Some, Result, Ok, Err}
+use Rattle.std.specs.Prelude.{List, [], ◌∷◌, replicate}
 use Rattle.tas_movie.specs.Content.{MovieContent}
 use Rattle.tas_movie.specs.declared.edit.Edit.{Edit}
 use Rattle.tas_movie.specs.declared.edit.Edit.TheVariants as edit
-use Rattle.tas_movie.specs.Edit.{refusal, edited, IsAllowed}
+use Rattle.tas_movie.specs.Edit.{edited, IsAllowed}
 use Rattle.tas_language.specs.declared.change.Change.{Change}
 use Rattle.tas_language.specs.declared.change.Change.TheVariants.{Insert, Replace, Delete}
 use Rattle.tas_language.specs.Commands.{HasNumbers}
-use Rattle.tas_engines.specs.declared.making.ChangeError.{ChangeError}
-use Rattle.tas_engines.specs.declared.making.ChangeError.TheVariants.{Refused, Memory}
 
 -- numbers of one to seven digits in all of them
 unfoldable pub HaveNumbers : List Change → Type 0
@@ -34,12 +32,6 @@ abbrev pub BringsCopies : Change → Type 0
 BringsCopies (Insert at count input) = Unit {0}
 BringsCopies (Replace at count input) = Unit {0}
 BringsCopies (Delete at count) = ⊥
-
--- a change is made where it is allowed, else refused; where memory is refused it is allowed. Nothing is changed but where it is made
-abbrev pub Makes : MovieContent → Change → Result (Unit {0}) ChangeError → MovieContent → Type 0
-Makes old change (Ok _) new = IsAllowed old (edit_of change) × (new ≡ edited old (edit_of change))
-Makes old change (Err (Refused refused)) new = (refusal old (edit_of change) ≡ Some refused) × (new ≡ old)
-Makes old change (Err Memory) new = IsAllowed old (edit_of change) × (new ≡ old)
 
 -- the movie after some changes, in order
 unfoldable pub changed_by : MovieContent → List Change → MovieContent

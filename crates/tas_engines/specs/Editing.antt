@@ -1,5 +1,5 @@
 -- What `tas edit` answers (own).
-use Rattle.std.specs.Prelude.{◌≡◌, ℕ, List, ◌⊎◌, Option, Result, Ok, Err}
+use Rattle.std.specs.Prelude.{◌≡◌, ℕ, List, ◌⊎◌, Option, Some, None, Result, Ok, Err}
 use Rattle.tas_movie.specs.Content.{MovieContent}
 use Rattle.tas_movie.specs.Text.{text2}
 use Rattle.tas_engines.specs.declared.fault.RunFault.{RunFault}
@@ -7,7 +7,7 @@ use Rattle.tas_engines.specs.declared.fault.RunFault.TheVariants.{Script, Place,
 use Rattle.tas_engines.specs.declared.fault.ToolFault.{ToolFault}
 use Rattle.tas_engines.specs.Movies.{IsMovieOf, IsMovieFault}
 use Rattle.tas_engines.specs.Output.{Ends}
-use Rattle.tas_engines.specs.ThreeInputs.{EndsAfterThree}
+use Rattle.tas_engines.specs.ThreeInputs.{EndsAfterThree, EndsAfterFour}
 use Rattle.tas_engines.specs.declared.scripts.ScriptFault.{ScriptFault}
 use Rattle.tas_engines.specs.declared.scripts.ScriptFault.TheVariants.{Line, Place as PlaceFault, Long as LongFault, Memory}
 use Rattle.tas_engines.specs.Scripts.{MakesAll}
@@ -19,20 +19,39 @@ script_fault (PlaceFault number) = Place number
 script_fault (LongFault number) = Long number
 script_fault Memory = OutOfMemory
 
--- the text of the movie that a script's changes, all of them and in order, make of this one; or why there is none: the script's
--- fault, or the text of the movie that all of them made was refused memory
-abbrev pub IsScriptAnswer : MovieContent → List ℕ → Result (List ℕ) RunFault → Type 0
-IsScriptAnswer old script (Ok out) = (new : MovieContent) × MakesAll old script new (Ok tt) × (out ≡ text2 new)
-IsScriptAnswer old script (Err e) =
-    ((new : MovieContent) × (fault : ScriptFault) × MakesAll old script new (Err fault) × (e ≡ script_fault fault)) ⊎ ((new : MovieContent) × MakesAll old script new (Ok tt) × (e ≡ OutOfMemory))
+-- the text of the movie that a script's lines, all of them and in order, make of this one, beside which there may be a second one;
+-- or why there is none: the script's fault, or the text of the movie that all of them made was refused memory
+abbrev pub IsScriptAnswer : Option MovieContent → MovieContent → List ℕ → Result (List ℕ) RunFault → Type 0
+IsScriptAnswer other old script (Ok out) = (new : MovieContent) × MakesAll other old script new (Ok tt) × (out ≡ text2 new)
+IsScriptAnswer other old script (Err e) =
+    ((new : MovieContent) × (fault : ScriptFault) × MakesAll other old script new (Err fault) × (e ≡ script_fault fault))
+    ⊎ ((new : MovieContent) × MakesAll other old script new (Ok tt) × (e ≡ OutOfMemory))
 
 -- the same of the movie whose cartridge and text these are, or why there is no movie, which comes before the script
+abbrev pub IsAnswerBeside : Option MovieContent → List ℕ → List ℕ → List ℕ → Result (List ℕ) RunFault → Type 0
+IsAnswerBeside other image script bytes (Ok out) = (old : MovieContent) × IsMovieOf image bytes old × IsScriptAnswer other old script (Ok out)
+IsAnswerBeside other image script bytes (Err e) =
+    IsMovieFault image bytes e ⊎ ((old : MovieContent) × IsMovieOf image bytes old × IsScriptAnswer other old script (Err e))
+
+-- without a second movie
 abbrev pub IsEditAnswer : List ℕ → List ℕ → List ℕ → Result (List ℕ) RunFault → Type 0
-IsEditAnswer image script bytes (Ok out) = (old : MovieContent) × IsMovieOf image bytes old × IsScriptAnswer old script (Ok out)
-IsEditAnswer image script bytes (Err e) = IsMovieFault image bytes e ⊎ ((old : MovieContent) × IsMovieOf image bytes old × IsScriptAnswer old script (Err e))
+IsEditAnswer image script bytes answer = IsAnswerBeside None image script bytes answer
+
+-- with a second movie of the same cartridge, by its text; or why there is none, which comes before the first movie's text
+abbrev pub IsEditWithAnswer : List ℕ → List ℕ → List ℕ → List ℕ → Result (List ℕ) RunFault → Type 0
+IsEditWithAnswer image script more bytes (Ok out) =
+    (other : MovieContent) × IsMovieOf image more other × IsAnswerBeside (Some other) image script bytes (Ok out)
+IsEditWithAnswer image script more bytes (Err e) =
+    IsMovieFault image more e ⊎ ((other : MovieContent) × IsMovieOf image more other × IsAnswerBeside (Some other) image script bytes (Err e))
 
 -- `tas edit`, from what its readers (a cartridge, a script and a movie text) have and the writer holds before to what they
 -- have and hold afterwards
 abbrev pub IsEditRun : (cart cart' script script' input input' output output' : Option (List ℕ)) → Result (Unit {0}) ToolFault → Type 0
 IsEditRun cart cart' script script' input input' output output' result =
     EndsAfterThree (λ image said bytes end. Ends (IsEditAnswer image said bytes) output output' end) cart cart' script script' input input' output output' result
+
+-- `tas edit --with`, the same with one reader more: that of the second movie's text, read before the first movie's
+abbrev pub IsEditWithRun : (cart cart' script script' more more' input input' output output' : Option (List ℕ)) → Result (Unit {0}) ToolFault → Type 0
+IsEditWithRun cart cart' script script' more more' input input' output output' result =
+    EndsAfterFour (λ image said second bytes end. Ends (IsEditWithAnswer image said second bytes) output output' end)
+    cart cart' script script' more more' input input' output output' result

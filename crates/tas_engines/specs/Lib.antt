@@ -10,8 +10,10 @@ pub mod ThreeInputs
 pub mod Changes
 pub mod Differences
 pub mod Hunks
+pub mod Retouching
 pub mod Scripts
 pub mod Editing
+pub mod Cutting
 pub mod Diffing
 pub mod Ram
 pub mod Lag

@@ -1,65 +1,146 @@
--- Scripts of changes (own).
-use Rattle.std.specs.Prelude.{◌≡◌, ℕ, ◌+◌, ◌<◌, List, [], ◌∷◌, ◌++◌, length, Some, Result, Ok, Err}
+-- Scripts of `tas edit`: each line is an edit of the movie so far (own).
+use Rattle.std.specs.Prelude.{◌≡◌, ℕ, ◌+◌, ◌<◌, List, [], ◌∷◌, ◌++◌, length, Option, Some, None, Result, Ok, Err}
 use Rattle.std.specs.List.{flat_map}
+use Rattle.vcs_machine.specs.declared.input.Input.{Input}
 use Rattle.tas_movie.specs.Content.{MovieContent}
 use Rattle.tas_movie.specs.Text.{line}
+use Rattle.tas_movie.specs.declared.edit.Edit.{Edit}
+use Rattle.tas_movie.specs.declared.edit.Edit.TheVariants as edit
 use Rattle.tas_movie.specs.declared.edit.EditRefusal.{EditRefusal}
 use Rattle.tas_movie.specs.declared.edit.EditRefusal.TheVariants.{Place, Long}
-use Rattle.tas_movie.specs.Edit.{refusal, IsAllowed}
-use Rattle.tas_language.specs.Commands.{change_text, HasNumbers, IsChangeLine}
+use Rattle.tas_movie.specs.Edit.{refusal, edited}
+use Rattle.tas_language.specs.Commands.{change_text}
 use Rattle.byte_text.specs.Splitting.{NoByte}
 use Rattle.tas_language.specs.declared.change.Change.{Change}
+use Rattle.tas_language.specs.declared.edit_line.EditLine.{EditLine}
+use Rattle.tas_language.specs.declared.edit_line.EditLine.TheVariants as asks
+use Rattle.tas_language.specs.Retouches.{edit_text, HasEditNumbers, IsEditLine}
 use Rattle.tas_engines.specs.declared.making.ChangeError.{ChangeError}
 use Rattle.tas_engines.specs.declared.making.ChangeError.TheVariants.{Refused, Memory as NoRoom}
 use Rattle.tas_engines.specs.declared.scripts.ScriptFault.{ScriptFault}
 use Rattle.tas_engines.specs.declared.scripts.ScriptFault.TheVariants.{Line, Place as PlaceFault, Long as LongFault, Memory}
-use Rattle.tas_engines.specs.Changes.{HaveNumbers, BringsCopies, edit_of, changed_by, AreAllowed}
+use Rattle.tas_engines.specs.Changes.{EditContent, BringsCopies, edit_on, edit_of}
+use Rattle.tas_engines.specs.Retouching.{frames_from, retouch_on, retouch_refusal, copy_refusal}
 
 -- the line of a change, with its newline
 abbrev pub change_line : Change → List ℕ
 change_line change = line (change_text change)
 
--- the bytes are the lines of these changes, and the rest
-pub record Reads (bytes : List ℕ) (changes : List Change) (rest : List ℕ) : Type 0 where
-  pub text : bytes ≡ flat_map change_line changes ++ rest
-  pub numbers : HaveNumbers changes
+-- the line that asks for this, with its newline
+abbrev pub edit_line : EditLine → List ℕ
+edit_line asked = line (edit_text asked)
 
--- the first line says no change, or no newline ends it
-abbrev pub IsUnclear : List ℕ → Type 0
-IsUnclear bytes = (said more : List ℕ) (change : Change) → NoByte 10 said → bytes ≡ said ++ 10 ∷ more → IsChangeLine said change → ⊥
+-- the inputs of the second movie; none where there is no such movie
+abbrev pub inputs_of : Option MovieContent → List Input
+inputs_of None = []
+inputs_of (Some movie) = movie.inputs
 
--- the first line says a change that is refused so
-pub record IsRefused (movie : MovieContent) (bytes : List ℕ) (refused : EditRefusal) : Type 0 where
-  pub change : Change
+-- a line that copies from the second movie is understood where there is one
+abbrev pub IsClear : Option MovieContent → EditLine → Type 0
+IsClear other (asks.Change change) = Unit {0}
+IsClear other (asks.Retouch retouch) = Unit {0}
+IsClear None (asks.CopyOther from count at) = ⊥
+IsClear (Some movie) (asks.CopyOther from count at) = Unit {0}
+
+-- the line, without its newline, is understood as this
+abbrev pub IsUnderstood : Option MovieContent → List ℕ → EditLine → Type 0
+IsUnderstood other said asked = IsEditLine said asked × IsClear other asked
+
+-- the edit that a line asks for on a movie, on an allocator
+abbrev pub line_on : (A : Type 0) → Option MovieContent → MovieContent → EditLine → Edit A
+line_on A other movie (asks.Change change) = edit_on A change
+line_on A other movie (asks.Retouch retouch) = retouch_on A movie.inputs retouch
+line_on A other movie (asks.CopyOther from count at) = edit.Insert at (frames_from (inputs_of other) from count)
+
+-- its content
+abbrev pub line_of : Option MovieContent → MovieContent → EditLine → EditContent
+line_of other movie asked = line_on (Unit {0}) other movie asked
+
+-- why a line is refused, where it is
+abbrev pub line_refusal : Option MovieContent → MovieContent → EditLine → Option EditRefusal
+line_refusal other movie (asks.Change change) = refusal movie (edit_of change)
+line_refusal other movie (asks.Retouch retouch) = retouch_refusal movie retouch
+line_refusal other movie (asks.CopyOther from count at) = copy_refusal (length (inputs_of other)) from count (length movie.inputs) at
+
+-- the line brings frames: only then is memory asked for
+abbrev pub BringsFrames : EditLine → Type 0
+BringsFrames (asks.Change change) = BringsCopies change
+BringsFrames (asks.Retouch retouch) = Unit {0}
+BringsFrames (asks.CopyOther from count at) = Unit {0}
+
+-- a line is made where it is allowed, else refused; where memory is refused it is allowed. Nothing is changed but where it is made
+abbrev pub Makes : Option MovieContent → MovieContent → EditLine → Result (Unit {0}) ChangeError → MovieContent → Type 0
+Makes other old asked (Ok _) new = (line_refusal other old asked ≡ None) × (new ≡ edited old (line_of other old asked))
+Makes other old asked (Err (Refused refused)) new = (line_refusal other old asked ≡ Some refused) × (new ≡ old)
+Makes other old asked (Err NoRoom) new = (line_refusal other old asked ≡ None) × (new ≡ old)
+
+-- the movie after some lines, in order
+unfoldable pub made_by : Option MovieContent → MovieContent → List EditLine → MovieContent
+made_by other movie [] = movie
+made_by other movie (asked ∷ lines) = made_by other (edited movie (line_of other movie asked)) lines
+
+-- each of some lines is allowed on what those before it made
+unfoldable pub LinesAreAllowed : Option MovieContent → MovieContent → List EditLine → Type 0
+LinesAreAllowed other movie [] = Unit {0}
+LinesAreAllowed other movie (asked ∷ lines) =
+    (line_refusal other movie asked ≡ None) × LinesAreAllowed other (edited movie (line_of other movie asked)) lines
+
+-- each of some lines is understood
+unfoldable pub AreUnderstood : Option MovieContent → List EditLine → Type 0
+AreUnderstood other [] = Unit {0}
+AreUnderstood other (asked ∷ lines) = HasEditNumbers asked × IsClear other asked × AreUnderstood other lines
+
+-- the bytes are these lines, and the rest
+pub record Reads (other : Option MovieContent) (bytes : List ℕ) (lines : List EditLine) (rest : List ℕ) : Type 0 where
+  pub text : bytes ≡ flat_map edit_line lines ++ rest
+  pub understood : AreUnderstood other lines
+
+-- the first line isn't understood, or no newline ends it
+abbrev pub IsUnclear : Option MovieContent → List ℕ → Type 0
+IsUnclear other bytes = (said more : List ℕ) (asked : EditLine) → NoByte 10 said → bytes ≡ said ++ 10 ∷ more → IsUnderstood other said asked → ⊥
+
+-- the first line asks for this
+pub record Begins (other : Option MovieContent) (bytes : List ℕ) (asked : EditLine) : Type 0 where
   pub more : List ℕ
-  pub text : bytes ≡ change_line change ++ more
-  pub numbers : HasNumbers change
-  pub is : refusal movie (edit_of change) ≡ Some refused
+  pub text : bytes ≡ edit_line asked ++ more
+  pub numbers : HasEditNumbers asked
+  pub clear : IsClear other asked
 
--- the first line says a change that is allowed, and brings copies of an input, for which memory is asked
-pub record AsksForMemory (movie : MovieContent) (bytes : List ℕ) : Type 0 where
-  pub change : Change
-  pub more : List ℕ
-  pub text : bytes ≡ change_line change ++ more
-  pub numbers : HasNumbers change
-  pub copies : BringsCopies change
-  pub allowed : IsAllowed movie (edit_of change)
+-- the first line is refused so
+pub record IsRefused (other : Option MovieContent) (movie : MovieContent) (bytes : List ℕ) (refused : EditRefusal) : Type 0 where
+  pub asked : EditLine
+  pub first : Begins other bytes asked
+  pub is : line_refusal other movie asked ≡ Some refused
 
--- the fault of a line whose change isn't made
+-- the first line is allowed, and brings frames, for which memory is asked
+pub record AsksForMemory (other : Option MovieContent) (movie : MovieContent) (bytes : List ℕ) : Type 0 where
+  pub asked : EditLine
+  pub first : Begins other bytes asked
+  pub frames : BringsFrames asked
+  pub allowed : line_refusal other movie asked ≡ None
+
+-- the fault of a line that isn't made
 abbrev pub fault_at : ℕ → ChangeError → ScriptFault
 fault_at number (Refused (Place at len)) = PlaceFault number
 fault_at number (Refused (Long len)) = LongFault number
 fault_at number NoRoom = Memory
 
--- why no change is made of the rest of a script: its first line, of this number, isn't understood, or is refused; or
+-- why nothing is made of the rest of a script: its first line, of this number, isn't understood, or is refused; or
 -- is allowed and was refused memory
-abbrev pub IsStop : MovieContent → List ℕ → ℕ → ScriptFault → Type 0
-IsStop movie rest number (Line at) = (at ≡ number) × (0 < length rest) × IsUnclear rest
-IsStop movie rest number (PlaceFault at) = (at ≡ number) × ((place len : ℕ) × IsRefused movie rest (Place place len))
-IsStop movie rest number (LongFault at) = (at ≡ number) × ((len : ℕ) × IsRefused movie rest (Long len))
-IsStop movie rest number Memory = AsksForMemory movie rest
+abbrev pub IsStop : Option MovieContent → MovieContent → List ℕ → ℕ → ScriptFault → Type 0
+IsStop other movie rest number (Line at) = (at ≡ number) × (0 < length rest) × IsUnclear other rest
+IsStop other movie rest number (PlaceFault at) = (at ≡ number) × ((place len : ℕ) × IsRefused other movie rest (Place place len))
+IsStop other movie rest number (LongFault at) = (at ≡ number) × ((len : ℕ) × IsRefused other movie rest (Long len))
+IsStop other movie rest number Memory = AsksForMemory other movie rest
 
--- what a script makes of a movie: all its changes are made, in order, or those up to the first line at fault
-abbrev pub MakesAll : MovieContent → List ℕ → MovieContent → Result (Unit {0}) ScriptFault → Type 0
-MakesAll old bytes new (Ok _) = (changes : List Change) × Reads bytes changes [] × AreAllowed old changes × (new ≡ changed_by old changes)
-MakesAll old bytes new (Err fault) = (changes : List Change) × (rest : List ℕ) × Reads bytes changes rest × AreAllowed old changes × (new ≡ changed_by old changes) × IsStop new rest (length changes + 1) fault
+-- some lines are read and made, in order
+pub record MakesLines (other : Option MovieContent) (old : MovieContent) (bytes : List ℕ) (new : MovieContent) (lines : List EditLine) (rest : List ℕ) : Type 0 where
+  pub reads : Reads other bytes lines rest
+  pub allowed : LinesAreAllowed other old lines
+  pub made : new ≡ made_by other old lines
+
+-- what a script makes of a movie: all its lines are made, in order, or those up to the first line at fault
+abbrev pub MakesAll : Option MovieContent → MovieContent → List ℕ → MovieContent → Result (Unit {0}) ScriptFault → Type 0
+MakesAll other old bytes new (Ok _) = (lines : List EditLine) × MakesLines other old bytes new lines []
+MakesAll other old bytes new (Err fault) =
+    (lines : List EditLine) × (rest : List ℕ) × MakesLines other old bytes new lines rest × IsStop other new rest (length lines + 1) fault

@@ -2,9 +2,19 @@
 
 ghost use Rattle.std.specs.Prelude.{◌≡◌, Ok, Err, IfOk, IfErr};
 ghost use Rattle.tas_engines.specs.Output.{Ends};
-ghost use Rattle.tas_engines.specs.Editing.{script_fault, IsScriptAnswer, IsEditAnswer, IsEditRun};
+ghost use Rattle.tas_engines.specs.Editing.{
+  script_fault,
+  IsScriptAnswer,
+  IsAnswerBeside,
+  IsEditAnswer,
+  IsEditRun,
+  IsEditWithAnswer,
+  IsEditWithRun,
+};
 
-use crate::{RunFault, ScriptFault, ToolFault, edit_movie, movie_of, read_three, write_all};
+use crate::{
+    RunFault, ScriptFault, ToolFault, edit_movie, movie_of, read_four, read_three, write_all,
+};
 use std::alloc::Allocator;
 use std::io::{Read, Write};
 use tas_movie::{Movie, print_text};
@@ -21,32 +31,34 @@ fn script_fault(fault: ScriptFault) -> RunFault
     }
 }
 
-/// The text of the movie that a script makes of this one, or why there is none. `Memory` comes only at a line whose
-/// change is allowed and brings copies of an input, and for the text of a movie that all lines have made.
+/// The text of the movie that a script makes of this one, beside which there may be a second one, or why there is none.
+/// `Memory` comes only at a line that is allowed and brings frames, and for the text of a movie that all lines have made.
 fn text_made<A: Allocator + Copy>(
     alloc: A,
     movie: &mut Movie<A>,
+    other: &Option<Movie<A>>,
     script: &[u8],
 ) -> Result<Vec<u8, A>, RunFault>
-    ensures text { IfOk result (λ text. IsScriptAnswer movie.old script.now (Ok text.items)) }
-    ensures fault { IfErr result (λ fault. IsScriptAnswer movie.old script.now (Err fault)) }
+    ensures text { IfOk result (λ text. IsScriptAnswer other.now movie.old script.now (Ok text.items)) }
+    ensures fault { IfErr result (λ fault. IsScriptAnswer other.now movie.old script.now (Err fault)) }
 {
-    edit_movie(alloc, movie, script).map_err(script_fault)?;
+    edit_movie(alloc, movie, other, script).map_err(script_fault)?;
     Ok(print_text(alloc, movie)?)
 }
 
 /// The text of the movie that a script makes of the one whose cartridge and text these are, or why there is none.
 fn edited_text<A: Allocator + Copy>(
     alloc: A,
+    other: &Option<Movie<A>>,
     image: &[u8],
     script: &[u8],
     bytes: &[u8],
 ) -> Result<Vec<u8, A>, RunFault>
-    ensures text { IfOk result (λ text. IsEditAnswer image.now script.now bytes.now (Ok text.items)) }
-    ensures fault { IfErr result (λ fault. IsEditAnswer image.now script.now bytes.now (Err fault)) }
+    ensures text { IfOk result (λ text. IsAnswerBeside other.now image.now script.now bytes.now (Ok text.items)) }
+    ensures fault { IfErr result (λ fault. IsAnswerBeside other.now image.now script.now bytes.now (Err fault)) }
 {
     let mut movie = movie_of(alloc, image, bytes)?;
-    text_made(alloc, &mut movie, script)
+    text_made(alloc, &mut movie, other, script)
 }
 
 /// Writes the text of the movie that a script makes of the one whose cartridge and text these are.
@@ -59,7 +71,37 @@ fn write_edited<A: Allocator + Copy, W: Write>(
 ) -> Result<(), RunFault>
     ensures { Ends (IsEditAnswer image.now script.now bytes.now) (W.contents output.old) (W.contents output.new) result }
 {
-    let text = edited_text(alloc, image, script, bytes)?;
+    let text = edited_text(alloc, &None, image, script, bytes)?;
+    write_all(output, text.as_slice())
+}
+
+/// The same with a second movie, by its text.
+fn edited_text_with<A: Allocator + Copy>(
+    alloc: A,
+    image: &[u8],
+    script: &[u8],
+    more: &[u8],
+    bytes: &[u8],
+) -> Result<Vec<u8, A>, RunFault>
+    ensures text { IfOk result (λ text. IsEditWithAnswer image.now script.now more.now bytes.now (Ok text.items)) }
+    ensures fault { IfErr result (λ fault. IsEditWithAnswer image.now script.now more.now bytes.now (Err fault)) }
+{
+    let other = Some(movie_of(alloc, image, more)?);
+    edited_text(alloc, &other, image, script, bytes)
+}
+
+/// Writes the text of the movie that a script makes of the one whose cartridge and text these are, with a second movie.
+fn write_edited_with<A: Allocator + Copy, W: Write>(
+    alloc: A,
+    image: &[u8],
+    script: &[u8],
+    more: &[u8],
+    bytes: &[u8],
+    output: &mut W,
+) -> Result<(), RunFault>
+    ensures { Ends (IsEditWithAnswer image.now script.now more.now bytes.now) (W.contents output.old) (W.contents output.new) result }
+{
+    let text = edited_text_with(alloc, image, script, more, bytes)?;
     write_all(output, text.as_slice())
 }
 
@@ -86,6 +128,35 @@ pub fn edit_run<A: Allocator + Copy, C: Read, S: Read, R: Read, W: Write>(
         read.first.as_slice(),
         read.second.as_slice(),
         read.third.as_slice(),
+        output,
+    )?)
+}
+
+/// Reads a cartridge, a script and the texts of two movies with it, the second movie's before the first one's, and writes the
+/// text of the movie that the script makes of the first one; `copy other` takes frames from the second one (own).
+///
+/// Faults, in order: those of reading the four, then `Size`, then `Text` of the second movie and of the first one, then those of
+/// the script as of [`edit_run`]; each with nothing written. `Memory` with nothing written at any point; `Write` with the first
+/// bytes of the answer written, and how many.
+pub fn edit_with_run<A: Allocator + Copy, C: Read, S: Read, O: Read, R: Read, W: Write>(
+    alloc: A,
+    cart: &mut C,
+    script: &mut S,
+    other: &mut O,
+    input: &mut R,
+    output: &mut W,
+) -> Result<(), ToolFault>
+    ensures { IsEditWithRun (C.remaining cart.old) (C.remaining cart.new) (S.remaining script.old) (S.remaining script.new)
+        (O.remaining other.old) (O.remaining other.new) (R.remaining input.old) (R.remaining input.new)
+        (W.contents output.old) (W.contents output.new) result }
+{
+    let read = read_four(alloc, cart, script, other, input)?;
+    Ok(write_edited_with(
+        alloc,
+        read.first.as_slice(),
+        read.second.as_slice(),
+        read.third.as_slice(),
+        read.fourth.as_slice(),
         output,
     )?)
 }

@@ -1,29 +1,30 @@
-//! Scripts of changes.
+//! Scripts of `tas edit`, and the scripts of changes that `tas diff` writes.
 
-ghost use Rattle.std.specs.Prelude.{◌≡◌, ◌++◌, IfOk, OnOk};
+ghost use Rattle.std.specs.Prelude.{◌≡◌, ◌++◌, ◌↔◌, IsTrue, IfOk, OnOk, IfSome, IfNone};
 ghost use Rattle.std.specs.List.{flat_map};
-ghost use Rattle.tas_engines.specs.Scripts.{change_line, fault_at, MakesAll};
+ghost use Rattle.tas_engines.specs.Scripts.{change_line, fault_at, IsClear, IsUnderstood, MakesAll};
+ghost use Rattle.tas_language.specs.declared.edit_line.EditLine.{EditLine as Asked};
 
-use crate::{ChangeError, make_change};
+use crate::{ChangeError, make_line};
 use byte_text::split_once;
 use std::alloc::{AllocError, Allocator};
-use tas_language::{Change, change_line, read_change};
+use tas_language::{Change, EditLine, change_line, one_edit_line_per_line, read_edit_line};
 use tas_movie::{EditRefusal, Movie};
 
 /// Why a script wasn't made to its end (own). Lines are counted from 1.
 #[derive(Clone, Copy, Debug, PartialEq, Eq)]
 pub enum ScriptFault {
-    /// The line says no change, or no newline ends it.
+    /// The line isn't understood, or no newline ends it.
     Line(usize),
-    /// The line's change reaches past the last input.
+    /// The line reaches past the last input.
     Place(usize),
-    /// The line's change would make the movie too long.
+    /// The line would make the movie too long.
     Long(usize),
     /// Memory was refused.
     Memory,
 }
 
-/// The fault of a line whose change isn't made.
+/// The fault of a line that isn't made.
 fn fault_at(line: usize, error: ChangeError) -> ScriptFault
     ensures { result ≡ fault_at line error }
 {
@@ -34,15 +35,41 @@ fn fault_at(line: usize, error: ChangeError) -> ScriptFault
     }
 }
 
-/// Makes the changes of a script, line by line (own). The first line that isn't understood or is refused
-/// ends it with its fault, and so does one for which memory is refused (`Memory`); the lines before it
-/// are made then.
-pub fn edit_movie<A: Allocator, B: Allocator + Copy>(
-    alloc: B,
+/// Whether a line may be asked for: one that copies from a second movie only where there is one.
+fn is_clear<A: Allocator>(other: &Option<Movie<A>>, asked: EditLine) -> bool
+    ensures { IsTrue result ↔ IsClear other.now asked }
+{
+    match asked {
+        EditLine::CopyOther { .. } => other.is_some(),
+        EditLine::Change(_) | EditLine::Retouch(_) => true,
+    }
+}
+
+/// What a line of a script, without its newline, asks for; nothing where it isn't understood.
+fn read_line<A: Allocator>(line: &[u8], other: &Option<Movie<A>>) -> Option<EditLine>
+    ensures some { IfSome result (IsUnderstood other.now line.now) }
+    ensures none { IfNone result ((asked : Asked) → IsUnderstood other.now line.now asked → ⊥) }
+{
+    let asked = read_edit_line(line)?;
+    // Called for its law: the line asks for nothing else.
+    one_edit_line_per_line();
+    if is_clear(other, asked) {
+        Some(asked)
+    } else {
+        None
+    }
+}
+
+/// Makes the lines of a script of `tas edit`, one by one, on a movie beside which there may be a second one (own). The first
+/// line that isn't understood or is refused ends it with its fault, and so does one for which memory is refused (`Memory`);
+/// the lines before it are made then.
+pub fn edit_movie<A: Allocator, B: Allocator, C: Allocator + Copy>(
+    alloc: C,
     movie: &mut Movie<A>,
+    other: &Option<Movie<B>>,
     bytes: &[u8],
 ) -> Result<(), ScriptFault>
-    ensures { MakesAll movie.old bytes.now movie.new result }
+    ensures { MakesAll other.now movie.old bytes.now movie.new result }
 {
     let mut rest = bytes;
     let mut number = 1;
@@ -50,10 +77,10 @@ pub fn edit_movie<A: Allocator, B: Allocator + Copy>(
         let Some((line, after)) = split_once(rest, b'\n') else {
             return Err(ScriptFault::Line(number));
         };
-        let Some(change) = read_change(line) else {
+        let Some(asked) = read_line(line, other) else {
             return Err(ScriptFault::Line(number));
         };
-        if let Err(error) = make_change(alloc, movie, change) {
+        if let Err(error) = make_line(alloc, movie, other, asked) {
             return Err(fault_at(number, error));
         }
         rest = after;

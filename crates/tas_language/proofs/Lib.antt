@@ -2,4 +2,5 @@ pub mod WordLemmas
 pub mod PartLemmas
 pub mod OneCommand
 pub mod CommandLemmas
+pub mod OneRequest
 pub mod RequestLemmas

@@ -69,7 +69,7 @@ number_before m n x y lm ln e =
     let both = same_front 32 (decimal m) (decimal n) x y (decimal_no_space m (omega arith)) (decimal_no_space n (omega arith)) e in
     (number_same m n lm ln both.0, both.1)
 
-frame_same : (i j : Input) → frame_text i ≡ frame_text j → i ≡ j
+pub frame_same : (i j : Input) → frame_text i ≡ frame_text j → i ≡ j
 frame_same i j e = sym (shown_input-frame (frame_text j) i (sym e)) ∙ shown_input-frame (frame_text j) j refl
 
 frames_same : (at count at' count' : ℕ) (input input' : Input) → IsNumber at → IsNumber count → IsNumber at' → IsNumber count' → frames_text at count input ≡ frames_text at' count' input'

@@ -22,6 +22,10 @@ IsNumber n = n ≤ most_number
 abbrev pub pair_text : ℕ → ℕ → List ℕ
 pair_text at count = decimal at ++ 32 ∷ decimal count
 
+-- three numbers with one space between
+abbrev pub triple_text : ℕ → ℕ → ℕ → List ℕ
+triple_text a b c = decimal a ++ 32 ∷ pair_text b c
+
 -- a place, a count and a frame, with one space between
 abbrev pub frames_text : ℕ → ℕ → Input → List ℕ
 frames_text at count input = decimal at ++ 32 ∷ (decimal count ++ 32 ∷ frame_text input)

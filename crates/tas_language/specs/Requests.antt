@@ -2,7 +2,9 @@
 use Rattle.std.specs.Prelude.{◌≡◌, ℕ, ◌+◌, ◌<◌, ◌≤◌, List, ◌++◌, length, codes, decimal, Option, Some, None}
 use Rattle.tas_language.specs.Commands.{Says, IsNumber, pair_text}
 use Rattle.tas_language.specs.declared.request.Request.{Request}
-use Rattle.tas_language.specs.declared.request.Request.TheVariants.{Do, Picture, Pictures, Ram, Digest, Movie, States, Quit}
+use Rattle.tas_language.specs.declared.request.Request.TheVariants.{Do, Picture, Pictures, Ram, Digest, Lag, Movie, States, Quit}
+use Rattle.tas_language.specs.declared.request.Request.TheVariants as request
+use Rattle.tas_language.specs.Retouches.{IsRetouchLine}
 
 -- how many pictures one line asks for at most
 abbrev pub most_pictures : ℕ
@@ -15,13 +17,28 @@ IsStrip from to = (from < to) × (to ≤ from + most_pictures)
 -- the line, without its newline, is this request: a script's command, or one that a script doesn't have
 abbrev pub Asks : List ℕ → Request → Type 0
 Asks said (Do command) = Says said command
+Asks said (request.Retouch retouch) = IsRetouchLine said retouch
 Asks said (Picture frame) = (said ≡ codes "picture " ++ decimal frame) × IsNumber frame
 Asks said (Pictures from to) = (said ≡ codes "pictures " ++ pair_text from to) × IsNumber from × IsNumber to × IsStrip from to
 Asks said (Ram frames) = (said ≡ codes "ram " ++ decimal frames) × IsNumber frames
 Asks said (Digest frame) = (said ≡ codes "digest " ++ decimal frame) × IsNumber frame
+Asks said (Lag from to) = (said ≡ codes "lag " ++ pair_text from to) × IsNumber from × IsNumber to
 Asks said Movie = said ≡ codes "movie"
 Asks said States = said ≡ codes "states"
 Asks said Quit = said ≡ codes "quit"
+
+-- a line of one word. Private functions cite it
+abbrev pub IsOneWord : Request → Type 0
+IsOneWord Movie = Unit {0}
+IsOneWord States = Unit {0}
+IsOneWord Quit = Unit {0}
+IsOneWord (Do command) = ⊥
+IsOneWord (request.Retouch retouch) = ⊥
+IsOneWord (Picture frame) = ⊥
+IsOneWord (Pictures from to) = ⊥
+IsOneWord (Ram frames) = ⊥
+IsOneWord (Digest frame) = ⊥
+IsOneWord (Lag from to) = ⊥
 
 -- how many bytes a line has at most that is understood, without its newline
 abbrev pub most_bytes : ℕ

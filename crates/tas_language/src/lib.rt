@@ -2,7 +2,7 @@
 //! held while it comes in pieces.
 //!
 //! A script has the lines of [`Command`]; a conversation has those and some more ([`Request`]). A script's replies are those of
-//! [`Reply`]; the other lines of a conversation have answers of their own.
+//! [`Reply`]; the other lines of a conversation have answers of their own. A script of `tas edit` has the lines of [`EditLine`].
 //!
 //! '(own)' marks a decision of this project, one that no manual makes.
 #![tactic(auto)]
@@ -10,6 +10,7 @@
 mod answers;
 mod change;
 mod command;
+mod edit_line;
 mod image;
 mod laws;
 mod line;
@@ -19,17 +20,20 @@ mod parsing;
 mod printing;
 mod reply;
 mod request;
+mod retouch;
 mod words;
 
 pub use answers::{movie_answer, picture_answer, states_answer};
 pub use change::{Change, change_line, read_change};
 pub use command::Command;
+pub use edit_line::{EditLine, read_edit_line};
 pub use image::Image;
-pub use laws::{one_command_per_line, one_request_per_line};
+pub use laws::{one_command_per_line, one_edit_line_per_line, one_request_per_line};
 pub use line::{Line, MAX_LINE};
 pub use looks::{digest_answer, ram_answer};
 pub use parsing::{MAX_PICTURES, parse_line, parse_request};
 pub use printing::reply_line;
 pub use reply::Reply;
 pub use request::Request;
+pub use retouch::{Retouch, read_retouch};
 pub use words::{MAX_NUMBER, number, strip};

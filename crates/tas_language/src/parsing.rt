@@ -4,11 +4,11 @@ ghost use Rattle.std.specs.Prelude.{◌≡◌, ◌≢◌, ◌++◌, ℕ, codes, 
 ghost use Rattle.tas_language.specs.declared.command.Command.{Command as Asked};
 ghost use Rattle.tas_language.specs.Commands.{IsNumber, Says, pair_text};
 ghost use Rattle.tas_language.specs.declared.request.Request.{Request as AskedFor};
-ghost use Rattle.tas_language.specs.Requests.{Asks, IsStrip};
+ghost use Rattle.tas_language.specs.Requests.{Asks, IsOneWord, IsStrip};
 
 use crate::loading::load_image;
 use crate::words::{frames, number, pair, strip};
-use crate::{Change, Command, Image, Request};
+use crate::{Change, Command, Image, Request, read_retouch};
 
 /// What a line, without its newline, asks for; nothing where it isn't understood (own). Takes no memory.
 pub fn parse_line(line: &[u8]) -> Option<Command>
@@ -78,10 +78,21 @@ fn strip_frames(line: &[u8]) -> Option<(usize, usize)>
     Some((from, to))
 }
 
-/// What a line of any length, without its newline, asks for; nothing where it isn't understood (own). Takes no memory.
-pub fn parse_request(line: &[u8]) -> Option<Request>
-    ensures some { IfSome result (Asks line.now) }
-    ensures none { IfNone result ((request : AskedFor) → Asks line.now request → ⊥) }
+/// The two numbers at the end of a `lag` line.
+fn lag_frames(line: &[u8]) -> Option<(usize, usize)>
+    ensures some { IfSome result (λ found. (line.now ≡ codes "lag " ++ pair_text found.0 found.1)
+        × IsNumber found.0 × IsNumber found.1) }
+    ensures none { IfNone result ((from to : ℕ) → IsNumber from → IsNumber to
+        → line.now ≢ codes "lag " ++ pair_text from to) }
+{
+    let rest = strip(line, b"lag ")?;
+    pair(rest)
+}
+
+/// The request of one word that a line is.
+fn one_word(line: &[u8]) -> Option<Request>
+    ensures some { IfSome result (λ request. Asks line.now request × IsOneWord request) }
+    ensures none { IfNone result ((request : AskedFor) → IsOneWord request → Asks line.now request → ⊥) }
 {
     if line == b"movie".as_slice() {
         return Some(Request::Movie);
@@ -91,6 +102,17 @@ pub fn parse_request(line: &[u8]) -> Option<Request>
     }
     if line == b"quit".as_slice() {
         return Some(Request::Quit);
+    }
+    None
+}
+
+/// What a line of any length, without its newline, asks for; nothing where it isn't understood (own). Takes no memory.
+pub fn parse_request(line: &[u8]) -> Option<Request>
+    ensures some { IfSome result (Asks line.now) }
+    ensures none { IfNone result ((request : AskedFor) → Asks line.now request → ⊥) }
+{
+    if let Some(request) = one_word(line) {
+        return Some(request);
     }
     if let Some(frame) = numbered(line, b"picture ") {
         return Some(Request::Picture { frame });
@@ -103,6 +125,12 @@ pub fn parse_request(line: &[u8]) -> Option<Request>
     }
     if let Some(frame) = numbered(line, b"digest ") {
         return Some(Request::Digest { frame });
+    }
+    if let Some((from, to)) = lag_frames(line) {
+        return Some(Request::Lag { from, to });
+    }
+    if let Some(retouch) = read_retouch(line) {
+        return Some(Request::Retouch(retouch));
     }
     parse_line(line).map(Request::Do)
 }

@@ -1,12 +1,14 @@
 //! What a line of a conversation asks for.
 
-use crate::Command;
+use crate::{Command, Retouch};
 
 /// What a line of a conversation asks for (own).
 #[derive(Clone, Copy)]
 pub enum Request {
     /// A line of a script.
     Do(Command),
+    /// A change that depends on the movie's frames.
+    Retouch(Retouch),
     /// `picture K`: the pixmap of one frame.
     Picture {
         /// The frame, counted from 0.
@@ -28,6 +30,13 @@ pub enum Request {
     Digest {
         /// The frame, counted from 0.
         frame: usize,
+    },
+    /// `lag A B`: the lag frames from one frame to the one before another.
+    Lag {
+        /// The first frame, counted from 0.
+        from: usize,
+        /// The place after the last one.
+        to: usize,
     },
     /// `movie`: the movie's text.
     Movie,

@@ -3,7 +3,7 @@
 ghost use Rattle.std.specs.Prelude.{◌≡◌, ◌≢◌, ◌++◌, ◌∷◌, ℕ, List, decimal, IfSome, IfNone};
 ghost use Rattle.vcs_machine.specs.declared.input.Input.{Input as Pressed};
 ghost use Rattle.tas_movie.specs.Text.{frame_text};
-ghost use Rattle.tas_language.specs.Commands.{IsNumber, pair_text, frames_text};
+ghost use Rattle.tas_language.specs.Commands.{IsNumber, pair_text, triple_text, frames_text};
 
 use byte_text::{read_decimal, split_once};
 use tas_movie::read_frame;
@@ -42,6 +42,17 @@ pub fn pair(bytes: &[u8]) -> Option<(usize, usize)>
     let a = number(first)?;
     let b = number(second)?;
     Some((a, b))
+}
+
+/// Three numbers with one space between.
+pub fn triple(bytes: &[u8]) -> Option<(usize, usize, usize)>
+    ensures some { IfSome result (λ found. (bytes.now ≡ triple_text found.0 found.1 found.2) × IsNumber found.0 × IsNumber found.1 × IsNumber found.2) }
+    ensures none { IfNone result ((a b c : ℕ) → IsNumber a → IsNumber b → IsNumber c → bytes.now ≢ triple_text a b c) }
+{
+    let (first, rest) = split_once(bytes, b' ')?;
+    let a = number(first)?;
+    let (b, c) = pair(rest)?;
+    Some((a, b, c))
 }
 
 /// A number and a frame with one space between.

@@ -1,16 +1,13 @@
 use Rattle.std.proofs.Common.{◌≡◌, ◌≤◌, ◌+◌, List, length}
-use Rattle.tas_language.specs.declared.change.Change.{Change}
-use Rattle.tas_engines.specs.Changes.{changed_by, AreAllowed}
-use Rattle.tas_engines.specs.Scripts.{Reads}
+use Rattle.tas_language.specs.declared.edit_line.EditLine.{EditLine}
+use Rattle.tas_engines.specs.Scripts.{MakesLines}
 use Rattle.tas_engines.proofs.scripts.edit_movie.Given as goal
 
 -- the lines before the rest are made
 abbrev pub invariant-loop-rest : goal.invariant-loop-rest
-invariant-loop-rest g l = (changes : List Change) × record {
-  reads : Reads l.bytes changes l.rest;
-  allowed : AreAllowed l.fn.movie changes;
-  made : changed_by l.fn.movie changes ≡ l.movie;
-  number : l.number ≡ length changes + 1;
+invariant-loop-rest g l = (lines : List EditLine) × record {
+  makes : MakesLines l.other l.fn.movie l.bytes l.movie lines l.rest;
+  number : l.number ≡ length lines + 1;
   room : l.number + length l.rest ≤ length l.bytes + 1;
 }
 

@@ -1,4 +1,4 @@
-use Rattle.tas_language.proofs.RequestLemmas.{one_request}
+use Rattle.tas_language.proofs.OneRequest.{one_request}
 use Rattle.tas_language.proofs.laws.one_request_per_line.Goals as goal
 
 pub returns : goal.returns

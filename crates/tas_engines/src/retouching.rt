@@ -1,0 +1,225 @@
+//! Changes that depend on a movie's frames: the edits that they are.
+
+ghost use Rattle.std.specs.Prelude.{◌≡◌, ◌+◌, ◌<◌, ◌^◌, ◌||◌, ◌&&◌, not, map, length, IfOk};
+ghost use Rattle.tas_movie.specs.Content.{MovieContent};
+ghost use Rattle.tas_language.specs.declared.retouch.Retouch.TheVariants.{Repeat};
+ghost use Rattle.tas_movie.specs.Edit.{check_answer};
+ghost use Rattle.tas_engines.specs.Retouching.{
+  each_way,
+  is_either,
+  is_first_alone,
+  pressed_too,
+  released,
+  times_over,
+  taken_from,
+  taken_count,
+  taken_by,
+  retouch_with,
+  retouch_on,
+  retouch_refusal,
+  copy_refusal,
+  IsAllowedOn,
+};
+
+use std::alloc::{AllocError, Allocator};
+use tas_language::Retouch;
+use tas_movie::{Edit, EditRefusal, Inputs, MAX_FRAMES, check_insertion, check_place};
+use vcs_machine::{Input, Stick};
+
+/// A stick on which all is pushed that either of two pushes.
+fn stick_pressed_too(stick: Stick, more: Stick) -> Stick
+    ensures { result ≡ each_way is_either stick more }
+{
+    Stick {
+        right: stick.right || more.right,
+        left: stick.left || more.left,
+        down: stick.down || more.down,
+        up: stick.up || more.up,
+        fire: stick.fire || more.fire,
+    }
+}
+
+/// A stick on which all is released that another one pushes.
+fn stick_released(stick: Stick, less: Stick) -> Stick
+    ensures { result ≡ each_way is_first_alone stick less }
+{
+    Stick {
+        right: stick.right && !less.right,
+        left: stick.left && !less.left,
+        down: stick.down && !less.down,
+        up: stick.up && !less.up,
+        fire: stick.fire && !less.fire,
+    }
+}
+
+/// The input with all pressed that another one has pressed; the rest stays (own).
+pub fn pressed_too(input: Input, more: Input) -> Input
+    ensures { result ≡ pressed_too input more }
+{
+    Input {
+        left: stick_pressed_too(input.left, more.left),
+        right: stick_pressed_too(input.right, more.right),
+        reset: input.reset || more.reset,
+        select: input.select || more.select,
+        mono: input.mono || more.mono,
+        left_a: input.left_a || more.left_a,
+        right_a: input.right_a || more.right_a,
+    }
+}
+
+/// The input with all released that another one has pressed; the rest stays (own).
+pub fn released(input: Input, less: Input) -> Input
+    ensures { result ≡ released input less }
+{
+    Input {
+        left: stick_released(input.left, less.left),
+        right: stick_released(input.right, less.right),
+        reset: input.reset && !less.reset,
+        select: input.select && !less.select,
+        mono: input.mono && !less.mono,
+        left_a: input.left_a && !less.left_a,
+        right_a: input.right_a && !less.right_a,
+    }
+}
+
+/// Whether a copy of `count` frames may be put in at the place `at` of a movie of `len` frames, from the frame `from` of a movie
+/// of `have` frames on: `Place` where these don't reach so far; else as any insertion is refused.
+pub(crate) fn check_copy(
+    have: usize,
+    from: usize,
+    count: usize,
+    len: usize,
+    at: usize,
+) -> Result<(), EditRefusal>
+    ensures { result ≡ check_answer (copy_refusal have from count len at) }
+{
+    check_place(have, from, count)?;
+    check_insertion(len, at, count)
+}
+
+/// Whether some frames may be put in again after themselves: `Place` where a movie of `len` frames hasn't got them, and then
+/// `Long` where it would have more than `MAX_FRAMES`.
+fn check_repeat(len: usize, at: usize, count: usize, times: usize) -> Result<(), EditRefusal>
+    ensures { (movie : MovieContent) → length movie.inputs ≡ len
+        → result ≡ check_answer (retouch_refusal movie (Repeat at count times)) }
+{
+    check_place(len, at, count)?;
+    if len.saturating_add(count.saturating_mul(times)) > MAX_FRAMES {
+        return Err(EditRefusal::Long { len });
+    }
+    Ok(())
+}
+
+/// Whether a retouch is allowed on a movie of `len` frames (own): `Place` where the frames that it takes, or its place, are past
+/// the last one, and then `Long` where the movie would have more than `MAX_FRAMES`.
+pub fn check_retouch(len: usize, retouch: Retouch) -> Result<(), EditRefusal>
+    ensures { (movie : MovieContent) → length movie.inputs ≡ len
+        → result ≡ check_answer (retouch_refusal movie retouch) }
+{
+    match retouch {
+        Retouch::Press { at, count, .. } | Retouch::Release { at, count, .. } => {
+            check_place(len, at, count)
+        }
+        Retouch::Repeat { at, count, times } => check_repeat(len, at, count, times),
+        Retouch::Copy { from, count, at } => check_copy(len, from, count, len, at),
+    }
+}
+
+/// The frames that a retouch takes from a movie: the first one, and how many (own).
+pub fn taken_frames(retouch: Retouch) -> (usize, usize)
+    ensures from { result.0 ≡ taken_from retouch }
+    ensures count { result.1 ≡ taken_count retouch }
+{
+    match retouch {
+        Retouch::Press { at, count, .. }
+        | Retouch::Release { at, count, .. }
+        | Retouch::Repeat { at, count, .. } => (at, count),
+        Retouch::Copy { from, count, .. } => (from, count),
+    }
+}
+
+/// The frames with more pressed in each.
+fn all_pressed<A: Allocator>(
+    alloc: A,
+    frames: &[Input],
+    more: Input,
+) -> Result<Inputs<A>, AllocError>
+    ensures { IfOk result (λ inputs. inputs ≡ map (λ frame. pressed_too frame more) frames.now) }
+{
+    let mut list = Vec::with_capacity(alloc, frames.len())?;
+    for frame in frames {
+        list.push(pressed_too(*frame, more))?;
+    }
+    Ok(Inputs::from_vec(list))
+}
+
+/// The frames with less pressed in each.
+fn all_released<A: Allocator>(
+    alloc: A,
+    frames: &[Input],
+    less: Input,
+) -> Result<Inputs<A>, AllocError>
+    ensures { IfOk result (λ inputs. inputs ≡ map (λ frame. released frame less) frames.now) }
+{
+    let mut list = Vec::with_capacity(alloc, frames.len())?;
+    for frame in frames {
+        list.push(released(*frame, less))?;
+    }
+    Ok(Inputs::from_vec(list))
+}
+
+/// The frames so many times, one after the other.
+fn repeated<A: Allocator>(alloc: A, frames: &[Input], times: usize) -> Result<Inputs<A>, AllocError>
+    ensures { IfOk result (λ inputs. inputs ≡ times_over times frames.now) }
+{
+    let mut list = Vec::with_capacity(alloc, frames.len().saturating_mul(times))?;
+    for _done in 0..times {
+        list.extend_from_slice(frames)?;
+    }
+    Ok(Inputs::from_vec(list))
+}
+
+/// The edit that a retouch is, by the frames that it takes (own). `AllocError` where memory is refused.
+pub fn edit_with<A: Allocator>(
+    alloc: A,
+    taken: &[Input],
+    retouch: Retouch,
+) -> Result<Edit<A>, AllocError>
+    requires { taken_from retouch + taken_count retouch < 2 ^ 64 }
+    ensures { IfOk result (λ edit. edit ≡ retouch_with A taken.now retouch) }
+{
+    match retouch {
+        Retouch::Press { at, input, .. } => {
+            let inputs = all_pressed(alloc, taken, input)?;
+            Ok(Edit::Replace { at, inputs })
+        }
+        Retouch::Release { at, input, .. } => {
+            let inputs = all_released(alloc, taken, input)?;
+            Ok(Edit::Replace { at, inputs })
+        }
+        Retouch::Repeat { at, count, times } => {
+            let inputs = repeated(alloc, taken, times)?;
+            Ok(Edit::Insert {
+                at: at + count,
+                inputs,
+            })
+        }
+        Retouch::Copy { at, .. } => {
+            let inputs = Inputs::from_vec(Vec::from_slice(alloc, taken)?);
+            Ok(Edit::Insert { at, inputs })
+        }
+    }
+}
+
+/// The edit that a retouch is on a movie with these inputs (own). `AllocError` where memory is refused.
+pub fn retouch_edit<A: Allocator>(
+    alloc: A,
+    inputs: &[Input],
+    retouch: Retouch,
+) -> Result<Edit<A>, AllocError>
+    requires { IsAllowedOn inputs.now retouch }
+    ensures { IfOk result (λ edit. edit ≡ retouch_on A inputs.now retouch) }
+{
+    let (from, count) = taken_frames(retouch);
+    edit_with(alloc, &inputs[from..from + count], retouch)
+}
