@@ -20,7 +20,7 @@ class Editor:
         self.child.stdin.write(line.encode() + b"\n")
         self.child.stdin.flush()
         words = self.child.stdout.readline().decode().split()
-        count = int(words[-1]) if words[:1] in (["picture"], ["movie"]) else 0
+        count = int(words[-1]) if words[:1] in (["picture"], ["lag"], ["movie"]) else 0
         return words, self.child.stdout.read(count)
 
 

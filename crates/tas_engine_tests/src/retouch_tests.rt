@@ -6,7 +6,8 @@ use crate::ran::{Ran, check_fault, check_ran};
 use std::alloc::Global;
 use std::process::Abort;
 use tas_engines::{
-    INPUT_LIMIT, ScriptFault, ToolFault, cut_run, edit_movie, edit_with_run, pressed_too, released,
+    INPUT_LIMIT, ReadFault, RunFault, ScriptFault, ToolFault, cut_run, edit_movie, edit_with_run,
+    pressed_too, released,
 };
 use tas_language::{EditLine, Retouch, read_edit_line};
 use tas_movie::{Edit, Inputs, Movie, TextError, TextErrorKind, apply, read_frame};
@@ -32,8 +33,7 @@ fn movie_of<R: Abort>(rt: &R, alloc: Global, lines: &str) -> Movie {
 }
 
 /// Four frames: one switch, two sticks and reset, nothing, and all but one.
-const FOUR: &str =
-    "R.... ..... .....\n....F .L... r....\n..... ..... .....\n.LDUF RLDUF rsbAB\n";
+const FOUR: &str = "R.... ..... .....\n....F .L... r....\n..... ..... .....\n.LDUF RLDUF rsbAB\n";
 
 /// Three frames of another movie.
 const THREE: &str = ".L... ..... .....\n..D.. ..... .....\n...U. ..... .....\n";
@@ -136,14 +136,8 @@ static ENDS: [(&str, Result<(), ScriptFault>); 22] = [
     ("repeat 0 4 9999999\n", Err(ScriptFault::Long(1))),
     ("copy 1 4 0\n", Err(ScriptFault::Place(1))),
     ("copy 0 4 5\n", Err(ScriptFault::Place(1))),
-    (
-        "repeat 3 1 262139\ncopy 0 1 0\n",
-        Ok(()),
-    ),
-    (
-        "repeat 3 1 262139\ncopy 0 2 0\n",
-        Err(ScriptFault::Long(2)),
-    ),
+    ("repeat 3 1 262139\ncopy 0 1 0\n", Ok(())),
+    ("repeat 3 1 262139\ncopy 0 2 0\n", Err(ScriptFault::Long(2))),
     (
         "repeat 3 1 262139\ncopy 0 2 262144\n",
         Err(ScriptFault::Place(2)),
@@ -308,16 +302,16 @@ fn two_movies_are_spliced(rt: HostRuntime) {
 /// A movie text that is cut off, and what is reported of it.
 const CUT_OFF: &[u8] = b"a26movie 2\n";
 
-const END: ToolFault = ToolFault::Text(TextError {
+const END: ToolFault = ToolFault::Run(RunFault::Text(TextError {
     line: 2,
     kind: TextErrorKind::End,
-});
+}));
 
 /// What is reported of a movie of another cartridge.
-const DIGEST: ToolFault = ToolFault::Text(TextError {
+const DIGEST: ToolFault = ToolFault::Run(RunFault::Text(TextError {
     line: 2,
     kind: TextErrorKind::Digest,
-});
+}));
 
 /// A cartridge, a script, the second movie's text, the first one's, and the fault.
 type Faulty = (
@@ -329,7 +323,13 @@ type Faulty = (
 );
 
 static FAULTS: [Faulty; 6] = [
-    (b"1234567", b"len\n", CUT_OFF, CUT_OFF, ToolFault::Size(7)),
+    (
+        b"1234567",
+        b"len\n",
+        CUT_OFF,
+        CUT_OFF,
+        ToolFault::Run(RunFault::Size(7)),
+    ),
     (&[0; 4096], b"len\n", HALTING_MOVIE, CUT_OFF, DIGEST),
     (&[0; 4096], b"len\n", CUT_OFF, HALTING_MOVIE, END),
     (&[0; 4096], b"len\n", TWO_FRAMES, HALTING_MOVIE, DIGEST),
@@ -338,14 +338,14 @@ static FAULTS: [Faulty; 6] = [
         b"len\n",
         TWO_FRAMES,
         TWO_FRAMES,
-        ToolFault::Script { line: 1 },
+        ToolFault::Run(RunFault::Script { line: 1 }),
     ),
     (
         &[0; 4096],
         b"copy other 0 2 2\ncopy other 1 2 0\n",
         TWO_FRAMES,
         TWO_FRAMES,
-        ToolFault::Place { line: 2 },
+        ToolFault::Run(RunFault::Place { line: 2 }),
     ),
 ];
 
@@ -360,15 +360,30 @@ fn faults_of_two_movies_come_in_order(rt: HostRuntime) {
 
 /// The inputs, how many reads of each succeed where it fails, the fault, and how many reads there were of each.
 static READS: [([usize; 4], [usize; 4], ToolFault, [usize; 4]); 4] = [
-    ([10; 4], [1, 1, 1, 1], ToolFault::Read, [1, 0, 0, 0]),
-    ([10; 4], [0, 0, 2, 1], ToolFault::Read, [2, 2, 2, 0]),
+    (
+        [10; 4],
+        [1, 1, 1, 1],
+        ToolFault::Read(ReadFault::Failed),
+        [1, 0, 0, 0],
+    ),
+    (
+        [10; 4],
+        [0, 0, 2, 1],
+        ToolFault::Read(ReadFault::Failed),
+        [2, 2, 2, 0],
+    ),
     (
         [10, 10, INPUT_LIMIT + 1, 10],
         [0, 0, 0, 1],
-        ToolFault::TooLong,
+        ToolFault::Read(ReadFault::TooLong),
         [2, 2, 4097, 0],
     ),
-    ([10; 4], [0; 4], ToolFault::Size(10), [2, 2, 2, 2]),
+    (
+        [10; 4],
+        [0; 4],
+        ToolFault::Run(RunFault::Size(10)),
+        [2, 2, 2, 2],
+    ),
 ];
 
 #[test]
@@ -414,15 +429,15 @@ fn frames_are_cut_out(rt: HostRuntime) {
     }
     for (from, to) in [(3, 2), (0, 5), (5, 5), (9_999_999, 9_999_999)].iter() {
         let ran = cut(alloc, (*from, *to), &BLANK, text.as_slice());
-        let fault = ToolFault::Range {
+        let fault = ToolFault::Run(RunFault::Range {
             from: *from,
             to: *to,
             len: 4,
-        };
+        });
         check_fault(&rt, (*from, *to), ran, fault);
     }
     let ran = cut(alloc, (0, 9), b"1234567", CUT_OFF);
-    check_fault(&rt, "size", ran, ToolFault::Size(7));
+    check_fault(&rt, "size", ran, ToolFault::Run(RunFault::Size(7)));
     let ran = cut(alloc, (0, 9), &BLANK, CUT_OFF);
     check_fault(&rt, "text", ran, END);
 }

@@ -3,6 +3,8 @@ use Rattle.std.proofs.Common.{◌≡◌, ℕ, zero, suc, ◌+◌, ◌-◌, ◌<�
 use Rattle.std.specs.List.{range_with_len, flat_map}
 use Rattle.std.proofs.Math.Bool.{and-false}
 use Rattle.std.proofs.lemmas.Bool.{eq-eqb, ne_eqb, cases_lt}
+use Rattle.std.proofs.lemmas.Bool.Decides.{nat_tests}
+use Rattle.std.specs.Prelude.{nat_lt}
 use Rattle.std.proofs.lemmas.List.{append-nil, get_or_default}
 use Rattle.vcs_machine.specs.declared.input.Input.{Input}
 use Rattle.vcs_machine.specs.Input.{no_input}
@@ -17,11 +19,6 @@ module _ (lag : ℕ → Bool) where
   -- all frames from a to b - 1 are lag frames
   abbrev pub AreLag : ℕ → ℕ → Type 0
   AreLag a b = (j : ℕ) → a ≤ j → j < b → lag j ≡ true
-
-  -- the frame before a isn't one, where there is one
-  abbrev pub IsFresh : ℕ → Type 0
-  IsFresh zero = Unit {0}
-  IsFresh (suc a) = lag a ≡ false
 
   length-all : (n a : ℕ) → AreLag a (a + n) → lag_length lag a n ≡ n
   length-all zero a all = refl
@@ -39,62 +36,79 @@ module _ (lag : ℕ → Bool) where
       ap (λ (b : Bool). if b then suc (lag_length lag (a + 1) m) else 0) (all a (omega arith) (omega arith))
       ∙ ap suc (length-until n m (a + 1) (omega (arith, more)) (λ j low high. all j (omega (arith, low)) (omega (arith, high))) (ap lag behind ∙ off))
 
-  begins : (a : ℕ) → IsFresh a → lag a ≡ true → begins_stretch lag a ≡ true
-  begins zero fresh on = on
-  begins (suc a) fresh on = ap (λ (b : Bool). lag (suc a) && not b) fresh ∙ ap (λ (b : Bool). b && true) on
+  module _ (first : ℕ) where
+    -- among the frames from the first one on, none that is right before frame a is one
+    abbrev pub IsFresh : ℕ → Type 0
+    IsFresh a = (nat_lt first a && lag (a - 1)) ≡ false
 
-  goes_on : (a : ℕ) → lag a ≡ true → begins_stretch lag (suc a) ≡ false
-  goes_on a on = ap (λ (b : Bool). lag (suc a) && not b) on ∙ and-false (lag (suc a))
+    pub fresh-first : IsFresh first
+    fresh-first =
+        let no : nat_lt first first ≡ false = grind (arith, nat_tests) in ap (λ (b : Bool). b && lag (first - 1)) no
 
-  off_here : (a : ℕ) → lag a ≡ false → begins_stretch lag a ≡ false
-  off_here zero off = off
-  off_here (suc a) off = ap (λ (b : Bool). b && not (lag a)) off
+    pub fresh-after : (k : ℕ) → lag k ≡ false → IsFresh (k + 1)
+    fresh-after k off =
+        let back : (k + 1) - 1 ≡ k = omega arith in
+        ap (λ (n : ℕ). nat_lt first (k + 1) && lag n) back ∙ ap (λ (b : Bool). nat_lt first (k + 1) && b) off ∙ and-false (nat_lt first (k + 1))
 
-  module _ (len : ℕ) where
-    pub none_at : (a : ℕ) → lag a ≡ false → line_at lag len a ≡ []
-    none_at a off = ap (λ (b : Bool). if b then stretch_line a (a + lag_length lag a (len - a)) else []) (off_here a off)
+    begins : (a : ℕ) → IsFresh a → lag a ≡ true → begins_stretch lag first a ≡ true
+    begins a fresh on = ap (λ (b : Bool). lag a && not b) fresh ∙ ap (λ (b : Bool). b && true) on
 
-    -- after a lag frame no stretch begins
-    alone : (n a : ℕ) → AreLag a (a + n) → pieces (line_at lag len) a ((a + 1) + n) ≡ line_at lag len a
-    alone zero a all =
-        let here : (a + 1) + 0 ≡ a + 1 = omega arith in
-        ap (pieces (line_at lag len) a) here ∙ sym (pieces_more (line_at lag len) a a (omega arith))
-        ∙ ap (λ (xs : List ℕ). xs ++ line_at lag len a) (sym (pieces_none (line_at lag len) a))
-    alone (suc n) a all =
-        let next : (a + 1) + suc n ≡ ((a + 1) + n) + 1 = omega arith in
-        let last : (a + 1) + n ≡ suc (a + n) = omega arith in
-        let none : line_at lag len ((a + 1) + n) ≡ [] =
-        ap (line_at lag len) last ∙ ap (λ (b : Bool). if b then stretch_line (suc (a + n)) (suc (a + n) + lag_length lag (suc (a + n)) (len - suc (a + n))) else []) (goes_on (a + n) (all (a + n) (omega arith) (omega arith))) in
-        ap (pieces (line_at lag len) a) next ∙ sym (pieces_more (line_at lag len) a ((a + 1) + n) (omega arith))
-        ∙ ap (λ (xs : List ℕ). pieces (line_at lag len) a ((a + 1) + n) ++ xs) none ∙ append-nil (pieces (line_at lag len) a ((a + 1) + n))
-        ∙ alone n a (λ j low high. all j low (omega (arith, high)))
+    goes_on : (a : ℕ) → first ≤ a → lag a ≡ true → begins_stretch lag first (a + 1) ≡ false
+    goes_on a low on =
+        let yes : nat_lt first (a + 1) ≡ true = grind (arith, nat_tests) in
+        let back : (a + 1) - 1 ≡ a = omega arith in
+        ap (λ (b : Bool). lag (a + 1) && not (b && lag ((a + 1) - 1))) yes ∙ ap (λ (n : ℕ). lag (a + 1) && not (lag n)) back
+        ∙ ap (λ (b : Bool). lag (a + 1) && not b) on ∙ and-false (lag (a + 1))
 
-    -- so many lag frames from a on, and then the end or a frame that isn't one
-    stretch-by : (n a : ℕ) → AreLag a (a + n) → IsFresh a → lag_length lag a (len - a) ≡ n → pieces (line_at lag len) a (a + n) ≡ stretch_or_none a (a + n)
-    stretch-by zero a all fresh size =
-        let here : a + 0 ≡ a = omega arith in
-        ap (pieces (line_at lag len) a) here ∙ sym (pieces_none (line_at lag len) a)
-        ∙ sym (ap (λ (b : Bool). if b then [] else stretch_line a (a + 0)) (eq-eqb a (a + 0) (sym here)))
-    stretch-by (suc n) a all fresh size =
-        let here : a + suc n ≡ (a + 1) + n = omega arith in
-        ap (pieces (line_at lag len) a) here ∙ alone n a (λ j low high. all j low (omega (arith, high)))
-        ∙ ap (λ (b : Bool). if b then stretch_line a (a + lag_length lag a (len - a)) else []) (begins a fresh (all a (omega arith) (omega arith)))
-        ∙ ap (λ (k : ℕ). stretch_line a (a + k)) size
-        ∙ sym (ap (λ (b : Bool). if b then [] else stretch_line a (a + suc n)) (ne_eqb a (a + suc n) (λ e. omega (arith, e))))
+    off_here : (a : ℕ) → lag a ≡ false → begins_stretch lag first a ≡ false
+    off_here a off = ap (λ (b : Bool). b && not (nat_lt first a && lag (a - 1))) off
 
-    -- a stretch that a frame ends which isn't a lag frame
-    pub stretch-closed : (a b : ℕ) → a ≤ b → b < len → AreLag a b → IsFresh a → lag b ≡ false → pieces (line_at lag len) a b ≡ stretch_or_none a b
-    stretch-closed a b order within all fresh off =
-        let end : a + (b - a) ≡ b = omega (arith, order) in
-        let size = length-until (b - a) (len - a) a (omega (arith, order, within)) (λ j low high. all j low (omega (arith, high, order))) (ap lag end ∙ off) in
-        ap (pieces (line_at lag len) a) (sym end) ∙ stretch-by (b - a) a (λ j low high. all j low (omega (arith, high, order))) fresh size ∙ ap (stretch_or_none a) end
+    module _ (to : ℕ) where
+      pub none_at : (a : ℕ) → lag a ≡ false → line_at lag first to a ≡ []
+      none_at a off = ap (λ (b : Bool). if b then stretch_line a (a + lag_length lag a (to - a)) else []) (off_here a off)
 
-    -- the stretch that the last frame ends
-    pub stretch-last : (a : ℕ) → a ≤ len → AreLag a len → IsFresh a → pieces (line_at lag len) a len ≡ stretch_or_none a len
-    stretch-last a order all fresh =
-        let end : a + (len - a) ≡ len = omega (arith, order) in
-        let size = length-all (len - a) a (λ j low high. all j low (omega (arith, high, order))) in
-        ap (pieces (line_at lag len) a) (sym end) ∙ stretch-by (len - a) a (λ j low high. all j low (omega (arith, high, order))) fresh size ∙ ap (stretch_or_none a) end
+      -- after a lag frame no stretch begins
+      alone : (n a : ℕ) → first ≤ a → AreLag a (a + n) → pieces (line_at lag first to) a ((a + 1) + n) ≡ line_at lag first to a
+      alone zero a low all =
+          let here : (a + 1) + 0 ≡ a + 1 = omega arith in
+          ap (pieces (line_at lag first to) a) here ∙ sym (pieces_more (line_at lag first to) a a (omega arith))
+          ∙ ap (λ (xs : List ℕ). xs ++ line_at lag first to a) (sym (pieces_none (line_at lag first to) a))
+      alone (suc n) a low all =
+          let next : (a + 1) + suc n ≡ ((a + 1) + n) + 1 = omega arith in
+          let last : (a + 1) + n ≡ (a + n) + 1 = omega arith in
+          let none : line_at lag first to ((a + 1) + n) ≡ [] =
+          ap (line_at lag first to) last
+          ∙ ap (λ (b : Bool). if b then stretch_line ((a + n) + 1) (((a + n) + 1) + lag_length lag ((a + n) + 1) (to - ((a + n) + 1))) else []) (goes_on (a + n) (omega (arith, low)) (all (a + n) (omega arith) (omega arith))) in
+          ap (pieces (line_at lag first to) a) next ∙ sym (pieces_more (line_at lag first to) a ((a + 1) + n) (omega arith))
+          ∙ ap (λ (xs : List ℕ). pieces (line_at lag first to) a ((a + 1) + n) ++ xs) none ∙ append-nil (pieces (line_at lag first to) a ((a + 1) + n))
+          ∙ alone n a low (λ j from high. all j from (omega (arith, high)))
+
+      -- so many lag frames from a on, and then the end or a frame that isn't one
+      stretch-by : (n a : ℕ) → first ≤ a → AreLag a (a + n) → IsFresh a → lag_length lag a (to - a) ≡ n → pieces (line_at lag first to) a (a + n) ≡ stretch_or_none a (a + n)
+      stretch-by zero a low all fresh size =
+          let here : a + 0 ≡ a = omega arith in
+          ap (pieces (line_at lag first to) a) here ∙ sym (pieces_none (line_at lag first to) a)
+          ∙ sym (ap (λ (b : Bool). if b then [] else stretch_line a (a + 0)) (eq-eqb a (a + 0) (sym here)))
+      stretch-by (suc n) a low all fresh size =
+          let here : a + suc n ≡ (a + 1) + n = omega arith in
+          ap (pieces (line_at lag first to) a) here ∙ alone n a low (λ j from high. all j from (omega (arith, high)))
+          ∙ ap (λ (b : Bool). if b then stretch_line a (a + lag_length lag a (to - a)) else []) (begins a fresh (all a (omega arith) (omega arith)))
+          ∙ ap (λ (k : ℕ). stretch_line a (a + k)) size
+          ∙ sym (ap (λ (b : Bool). if b then [] else stretch_line a (a + suc n)) (ne_eqb a (a + suc n) (λ e. omega (arith, e))))
+
+      -- a stretch that a frame ends which isn't a lag frame
+      pub stretch-closed : (a b : ℕ) → first ≤ a → a ≤ b → b < to → AreLag a b → IsFresh a → lag b ≡ false → pieces (line_at lag first to) a b ≡ stretch_or_none a b
+      stretch-closed a b low order within all fresh off =
+          let end : a + (b - a) ≡ b = omega (arith, order) in
+          let size = length-until (b - a) (to - a) a (omega (arith, order, within)) (λ j from high. all j from (omega (arith, high, order))) (ap lag end ∙ off) in
+          ap (pieces (line_at lag first to) a) (sym end) ∙ stretch-by (b - a) a low (λ j from high. all j from (omega (arith, high, order))) fresh size ∙ ap (stretch_or_none a) end
+
+      -- the stretch that the last frame ends
+      pub stretch-last : (a : ℕ) → first ≤ a → a ≤ to → AreLag a to → IsFresh a → pieces (line_at lag first to) a to ≡ stretch_or_none a to
+      stretch-last a low order all fresh =
+          let end : a + (to - a) ≡ to = omega (arith, order) in
+          let size = length-all (to - a) a (λ j from high. all j from (omega (arith, high, order))) in
+          ap (pieces (line_at lag first to) a) (sym end) ∙ stretch-by (to - a) a low (λ j from high. all j from (omega (arith, high, order))) fresh size ∙ ap (stretch_or_none a) end
 
 -- what was found of frame k is what the movie says of it
 pub lag_at : (movie : MovieContent) (k : ℕ) (s : Machine) (d : Input) (found : Bool) → found ≡ is_lag_frame movie.cart s (get_or movie.inputs k d) → s ≡ state_after movie k →
@@ -107,52 +121,66 @@ lag_at movie k s d found is start within =
 pub lag_more : (lag : ℕ → Bool) (a k : ℕ) → AreLag lag a k → lag k ≡ true → AreLag lag a (k + 1)
 lag_more lag a k all on = λ j low high. ⊎_elim (λ (before : j < k). all j low before) (λ (here : k ≤ j). let same : j ≡ k = omega (arith, here, high) in ap lag same ∙ on) (cases_lt j k)
 
--- what a loop over the frames knows before frame k: the lines of the stretches before the one that began at `from`
-pub record IsOnTheWay (lag : ℕ → Bool) (len from k : ℕ) (text : List ℕ) : Type 0 where
-  pub lines : text ≡ pieces (line_at lag len) 0 from
-  pub order : from ≤ k
-  pub all : AreLag lag from k
-  pub fresh : IsFresh lag from
+-- what a loop over the frames from `first` to `to` - 1 knows before frame k: the lines of the stretches before the one that began at `start`
+pub record IsOnTheWay (lag : ℕ → Bool) (first to start k : ℕ) (text : List ℕ) : Type 0 where
+  pub lines : text ≡ pieces (line_at lag first to) first start
+  pub low : first ≤ start
+  pub order : start ≤ k
+  pub all : AreLag lag start k
+  pub fresh : IsFresh lag first start
 
-module _ (lag : ℕ → Bool) (len from k : ℕ) (text : List ℕ) (way : IsOnTheWay lag len from k text) where
+-- nothing is found yet
+pub nothing_found : (lag : ℕ → Bool) (first to : ℕ) (text : List ℕ) → text ≡ [] → IsOnTheWay lag first to first first text
+nothing_found lag first to text none = record {
+  lines = none ∙ pieces_none (line_at lag first to) first;
+  low = omega arith;
+  order = omega arith;
+  all = λ j from high. absurd (omega (arith, from, high));
+  fresh = fresh-first lag first;
+}
+
+module _ (lag : ℕ → Bool) (first to start k : ℕ) (text : List ℕ) (way : IsOnTheWay lag first to start k text) where
   -- the line of the stretch that frame k ends
-  with_line : (stretch : List ℕ) (to : ℕ) → from ≤ to → pieces (line_at lag len) from to ≡ stretch → text ++ stretch ≡ pieces (line_at lag len) 0 to
-  with_line stretch to order is =
-      ap (λ (xs : List ℕ). xs ++ stretch) way.lines ∙ ap (λ (xs : List ℕ). pieces (line_at lag len) 0 from ++ xs) (sym is)
-      ∙ pieces_joined (line_at lag len) 0 from to (omega arith) order
+  with_line : (stretch : List ℕ) (end : ℕ) → start ≤ end → pieces (line_at lag first to) start end ≡ stretch → text ++ stretch ≡ pieces (line_at lag first to) first end
+  with_line stretch end order is =
+      ap (λ (xs : List ℕ). xs ++ stretch) way.lines ∙ ap (λ (xs : List ℕ). pieces (line_at lag first to) first start ++ xs) (sym is)
+      ∙ pieces_joined (line_at lag first to) first start end way.low order
 
-  further-by : (found : Bool) → found ≡ lag k → k < len →
-      IsOnTheWay lag len (if found then from else k + 1) (k + 1) (text ++ (if found then [] else stretch_or_none from k))
+  further-by : (found : Bool) → found ≡ lag k → k < to →
+      IsOnTheWay lag first to (if found then start else k + 1) (k + 1) (text ++ (if found then [] else stretch_or_none start k))
   further-by true is within =
       let order = way.order in
       record {
         lines = append-nil text ∙ way.lines;
+        low = way.low;
         order = omega (arith, order);
-        all = lag_more lag from k way.all (sym is);
+        all = lag_more lag start k way.all (sym is);
         fresh = way.fresh;
       }
   further-by false is within =
-      let closed = stretch-closed lag len from k way.order within way.all way.fresh (sym is) in
-      let next : suc k ≡ k + 1 = omega arith in
+      let order = way.order in
+      let low = way.low in
+      let closed = stretch-closed lag first to start k low order within way.all way.fresh (sym is) in
+      let behind : first ≤ k = omega (arith, order, low) in
       record {
-        lines = with_line (stretch_or_none from k) k way.order closed ∙ sym (append-nil (pieces (line_at lag len) 0 k))
-            ∙ ap (λ (xs : List ℕ). pieces (line_at lag len) 0 k ++ xs) (sym (none_at lag len k (sym is))) ∙ pieces_more (line_at lag len) 0 k (omega arith);
+        lines = with_line (stretch_or_none start k) k order closed ∙ sym (append-nil (pieces (line_at lag first to) first k))
+            ∙ ap (λ (xs : List ℕ). pieces (line_at lag first to) first k ++ xs) (sym (none_at lag first to k (sym is))) ∙ pieces_more (line_at lag first to) first k behind;
+        low = omega (arith, order, low);
         order = omega arith;
-        all = λ j low high. absurd (omega (arith, low, high));
-        fresh = subst (IsFresh lag) next (sym is);
+        all = λ j from high. absurd (omega (arith, from, high));
+        fresh = fresh-after lag first k (sym is);
       }
 
   -- a frame more
-  pub further : (found : Bool) (next : ℕ) (new : List ℕ) → found ≡ lag k → k < len → next ≡ (if found then from else k + 1) →
-      new ≡ text ++ (if found then [] else stretch_or_none from k) → IsOnTheWay lag len next (k + 1) new
-  further found next new is within start line =
-      subst (λ (n : ℕ). IsOnTheWay lag len n (k + 1) new) (sym start)
-      (subst (λ (xs : List ℕ). IsOnTheWay lag len (if found then from else k + 1) (k + 1) xs) (sym line) (further-by found is within))
+  pub further : (found : Bool) (next : ℕ) (new : List ℕ) → found ≡ lag k → k < to → next ≡ (if found then start else k + 1) →
+      new ≡ text ++ (if found then [] else stretch_or_none start k) → IsOnTheWay lag first to next (k + 1) new
+  further found next new is within starts line =
+      subst (λ (n : ℕ). IsOnTheWay lag first to n (k + 1) new) (sym starts)
+      (subst (λ (xs : List ℕ). IsOnTheWay lag first to (if found then start else k + 1) (k + 1) xs) (sym line) (further-by found is within))
 
   -- all frames are behind
-  pub finished : k ≡ len → text ++ stretch_or_none from len ≡ flat_map (line_at lag len) (range_with_len 0 len)
+  pub finished : k ≡ to → text ++ stretch_or_none start to ≡ flat_map (line_at lag first to) (range_with_len first (to - first))
   finished end =
-      let order : from ≤ len = omega (arith, way.order, end) in
-      let whole : len - 0 ≡ len = omega arith in
-      with_line (stretch_or_none from len) len order (stretch-last lag len from order (λ j low high. way.all j low (omega (arith, high, end))) way.fresh)
-      ∙ ap (λ (n : ℕ). flat_map (line_at lag len) (range_with_len 0 n)) whole
+      let before = way.order in
+      let order : start ≤ to = omega (arith, before, end) in
+      with_line (stretch_or_none start to) to order (stretch-last lag first to start way.low order (λ j from high. way.all j from (omega (arith, high, end))) way.fresh)

@@ -1,5 +1,5 @@
--- What `tas lag` answers (own).
-use Rattle.std.specs.Prelude.{◌≡◌, ℕ, zero, suc, ◌+◌, ◌-◌, ◌==◌, Bool, true, not, ◌&&◌, if◌then◌else◌, List, [], ◌++◌, length, codes, decimal, slice_index_or, Option, Result, Ok, Err}
+-- Stretches of lag frames, and what `tas lag` answers (own).
+use Rattle.std.specs.Prelude.{◌≡◌, ℕ, zero, suc, ◌+◌, ◌-◌, ◌==◌, nat_lt, Bool, true, not, ◌&&◌, if◌then◌else◌, List, [], ◌++◌, length, codes, decimal, slice_index_or, Option, Result, Ok, Err}
 use Rattle.std.specs.List.{range_with_len, flat_map}
 use Rattle.vcs_machine.specs.Input.{no_input}
 use Rattle.vcs_machine.specs.declared.input.Input.{Input}
@@ -20,10 +20,9 @@ abbrev pub lag_length : (ℕ → Bool) → ℕ → ℕ → ℕ
 lag_length lag a zero = 0
 lag_length lag a (suc n) = if lag a then suc (lag_length lag (a + 1) n) else 0
 
--- a stretch begins at a lag frame that comes after none
-abbrev pub begins_stretch : (ℕ → Bool) → ℕ → Bool
-begins_stretch lag zero = lag zero
-begins_stretch lag (suc a) = lag (suc a) && not (lag a)
+-- among the frames from `from` on a stretch begins at a lag frame that comes after none of them
+abbrev pub begins_stretch : (ℕ → Bool) → ℕ → ℕ → Bool
+begins_stretch lag from k = lag k && not (nat_lt from k && lag (k - 1))
 
 -- the line of the frames from a to b - 1
 abbrev pub stretch_line : ℕ → ℕ → List ℕ
@@ -33,13 +32,17 @@ stretch_line a b = line (decimal a ++ codes " " ++ decimal b)
 abbrev pub stretch_or_none : ℕ → ℕ → List ℕ
 stretch_or_none a b = if a == b then [] else stretch_line a b
 
--- the line of the stretch that begins at frame a of so many frames, where one does
-abbrev pub line_at : (ℕ → Bool) → ℕ → ℕ → List ℕ
-line_at lag len a = if begins_stretch lag a then stretch_line a (a + lag_length lag a (len - a)) else []
+-- the line of the stretch that begins at frame k, where one does among the frames from `from` to `to` - 1
+abbrev pub line_at : (ℕ → Bool) → ℕ → ℕ → ℕ → List ℕ
+line_at lag from to k = if begins_stretch lag from k then stretch_line k (k + lag_length lag k (to - k)) else []
+
+-- the lines of all stretches of lag frames among a movie's frames `from` to `to` - 1: one that goes on beyond them is cut there
+abbrev pub lag_lines_between : MovieContent → ℕ → ℕ → List ℕ
+lag_lines_between movie from to = flat_map (line_at (is_lag movie) from to) (range_with_len from (to - from))
 
 -- the lines of all stretches of lag frames in a movie
 abbrev pub lag_lines : MovieContent → List ℕ
-lag_lines movie = flat_map (line_at (is_lag movie) (length movie.inputs)) (range_with_len 0 (length movie.inputs))
+lag_lines movie = lag_lines_between movie 0 (length movie.inputs)
 
 -- whatever the input of a lag frame, the next state and the picture are the same
 abbrev pub LagFramesIgnoreInput : MovieContent → Type 0

@@ -1,9 +1,9 @@
-//! `tas lag`.
+//! Stretches of lag frames, and `tas lag`.
 
-ghost use Rattle.std.specs.Prelude.{◌≡◌, ◌+◌, ◌^◌, ◌<◌, [], ◌++◌, if◌then◌else◌, Ok, Err, length, OnOk, IfOk, IfErr};
+ghost use Rattle.std.specs.Prelude.{◌≡◌, ◌+◌, ◌^◌, ◌<◌, ◌≤◌, [], ◌++◌, if◌then◌else◌, Ok, Err, length, OnOk, IfOk, IfErr};
 ghost use Rattle.tas_green.specs.Run.{state_after};
 ghost use Rattle.tas_engines.specs.Output.{Ends};
-ghost use Rattle.tas_engines.specs.Lag.{is_lag, lag_lines, stretch_or_none, LagFramesIgnoreInput, IsLagAnswer, IsLagRun};
+ghost use Rattle.tas_engines.specs.Lag.{is_lag, lag_lines, lag_lines_between, stretch_or_none, LagFramesIgnoreInput, IsLagAnswer, IsLagRun};
 
 use crate::digest::push_number;
 use crate::{RunFault, ToolFault, movie_of, read_two, write_all};
@@ -60,20 +60,39 @@ fn next_start<A: Allocator>(
     Ok(k + 1)
 }
 
+/// The lines of the lag frames among a movie's frames `from` to `to` - 1, played from the state in which frame `from` begins: a
+/// line `A B` for each longest stretch of them, cut at `from` and at `to` (own). `AllocError` where memory is refused.
+pub fn lag_between<A: Allocator, B: Allocator>(
+    alloc: B,
+    movie: &Movie<A>,
+    from: usize,
+    to: usize,
+    begin: State,
+) -> Result<Vec<u8, B>, AllocError>
+    requires order { from ≤ to }
+    requires within { to ≤ length movie.now.inputs }
+    requires begin { begin ≡ state_after movie.now from }
+    ensures lines { IfOk result (λ text. text.items ≡ lag_lines_between movie.now from to) }
+    ensures law { OnOk result (LagFramesIgnoreInput movie.now) }
+{
+    let mut out = Vec::new(alloc);
+    let mut state = begin;
+    let mut start = from;
+    for k in from..to {
+        let is_lag = pass_for_lag(movie, k, &mut state);
+        start = next_start(&mut out, is_lag, start, k)?;
+    }
+    push_stretch(&mut out, start, to)?;
+    Ok(out)
+}
+
 /// The lines of a movie's lag frames.
 fn lag_text<A: Allocator + Copy>(alloc: A, movie: &Movie<A>) -> Result<Vec<u8, A>, AllocError>
     ensures lines { IfOk result (λ text. text.items ≡ lag_lines movie.now) }
     ensures law { OnOk result (LagFramesIgnoreInput movie.now) }
 {
-    let mut out = Vec::new(alloc);
-    let mut state = State::power_on(movie.cart());
-    let mut from = 0;
-    for k in 0..movie.len() {
-        let is_lag = pass_for_lag(movie, k, &mut state);
-        from = next_start(&mut out, is_lag, from, k)?;
-    }
-    push_stretch(&mut out, from, movie.len())?;
-    Ok(out)
+    let begin = State::power_on(movie.cart());
+    lag_between(alloc, movie, 0, movie.len(), begin)
 }
 
 /// The lines of the lag frames of the movie whose cartridge and text these are, or why there are none.

@@ -40,7 +40,7 @@ pub use diffing::diff_run;
 pub use digest::digest_run;
 pub use editing::{edit_run, edit_with_run};
 pub use fault::{ReadFault, RunFault, ToolFault};
-pub use lag::lag_run;
+pub use lag::{lag_between, lag_run};
 pub use laws::one_movie_per_cartridge_and_text;
 pub use making::{ChangeError, check_change, edit_of, make_line};
 pub use migrating::migrate_run;

@@ -33,3 +33,10 @@ ram_text made frames ram = codes "ram " ++ decimal made ++ codes " " ++ decimal 
 abbrev pub frame_digest_text : ℕ → ℕ → List ℕ → List ℕ → List ℕ
 frame_digest_text made k ram pixmap =
     codes "digest " ++ decimal made ++ codes " " ++ decimal k ++ codes " ram " ++ encode_lower (sha256 ram) ++ codes " picture " ++ encode_lower (sha256 pixmap) ++ codes "\n"
+
+-- the lag frames among the frames a to b - 1: a line that tells how many bytes follow, and a line for each stretch of them
+abbrev pub lag_head : ℕ → ℕ → ℕ → ℕ → List ℕ
+lag_head made a b count = codes "lag " ++ decimal made ++ codes " " ++ decimal a ++ codes " " ++ decimal b ++ codes " " ++ decimal count ++ codes "\n"
+
+abbrev pub lag_text : ℕ → ℕ → ℕ → List ℕ → List ℕ
+lag_text made a b lines = lag_head made a b (length lines) ++ lines

@@ -30,7 +30,7 @@ pub use edit_line::{EditLine, read_edit_line};
 pub use image::Image;
 pub use laws::{one_command_per_line, one_edit_line_per_line, one_request_per_line};
 pub use line::{Line, MAX_LINE};
-pub use looks::{digest_answer, ram_answer};
+pub use looks::{digest_answer, lag_answer, ram_answer};
 pub use parsing::{MAX_PICTURES, parse_line, parse_request};
 pub use printing::reply_line;
 pub use reply::Reply;

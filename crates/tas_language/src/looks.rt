@@ -1,10 +1,10 @@
-//! The answers to `ram K` and `digest K`.
+//! The answers to `ram K`, `digest K` and `lag A B`.
 
 ghost use Rattle.std.specs.Prelude.{◌≡◌, ◌++◌, IfOk, OnOk};
 ghost use Rattle.std.specs.List.{flat_map};
 ghost use Rattle.byte_text.specs.Digits.{hex_byte};
 ghost use Rattle.vcs_tia.specs.Image.{ppm_bytes};
-ghost use Rattle.tas_language.specs.Answers.{ram_text, frame_digest_text};
+ghost use Rattle.tas_language.specs.Answers.{ram_text, frame_digest_text, lag_head, lag_text};
 
 use crate::answers::push_pixmap;
 use byte_text::hex_digits;
@@ -54,4 +54,33 @@ pub fn digest_answer<A: Allocator + Copy, B: Allocator>(
     let ram = hex::encode(alloc, Sha256::digest(ram))?;
     let picture = hex::encode(alloc, Sha256::digest(pixmap.as_slice()))?;
     Ok(format!(in alloc; "digest {at} {frame} ram {ram} picture {picture}\n")?.into_bytes())
+}
+
+/// The first line of the answer to `lag A B`.
+fn lag_head<A: Allocator>(
+    alloc: A,
+    at: u64,
+    from: usize,
+    to: usize,
+    count: usize,
+) -> Result<Vec<u8, A>, AllocError>
+    ensures { IfOk result (λ bytes. bytes.items ≡ lag_head at from to count) }
+{
+    Ok(format!(in alloc; "lag {at} {from} {to} {count}\n")?.into_bytes())
+}
+
+/// The answer to `lag A B`: `lag AT A B BYTES`, a newline, and this many bytes: the lines of the stretches of lag frames (own).
+/// `AllocError` where memory is refused.
+pub fn lag_answer<A: Allocator>(
+    alloc: A,
+    at: u64,
+    from: usize,
+    to: usize,
+    lines: &[u8],
+) -> Result<Vec<u8, A>, AllocError>
+    ensures { IfOk result (λ bytes. bytes.items ≡ lag_text at from to lines.now) }
+{
+    let mut bytes = lag_head(alloc, at, from, to, lines.len())?;
+    bytes.extend_from_slice(lines)?;
+    Ok(bytes)
 }

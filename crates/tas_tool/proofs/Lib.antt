@@ -9,6 +9,8 @@ pub mod MovieScriptLemmas
 pub mod GreenLemmas
 pub mod TellingLemmas
 pub mod StateLemmas
+pub mod LagLemmas
+pub mod RetouchTurns
 pub mod TalkLemmas
 pub mod TalkRunLemmas
 pub mod StripLemmas

@@ -6,8 +6,9 @@ use Rattle.tas_engines.specs.declared.fault.RunFault.{RunFault}
 use Rattle.tas_engines.specs.declared.fault.RunFault.TheVariants.{Foreign}
 use Rattle.tas_language.specs.declared.command.Command.{Command}
 use Rattle.tas_language.specs.declared.reply.Reply.{Reply}
+use Rattle.tas_language.specs.declared.retouch.Retouch.{Retouch}
 use Rattle.tas_tool.specs.declared.answering.Answered.{Answered}
-use Rattle.tas_tool.specs.Turns.{own_edits_of, BeginsWithOwn, IsDeskFault, IsEditTurn, IsTurn}
+use Rattle.tas_tool.specs.Turns.{own_edits_of, BeginsWithOwn, IsDeskFault, IsEditTurn, IsRetouchTurn, IsTurn}
 
 -- an answer, or another end, that stands at so many edits, where these are just the seat's own
 abbrev pub checked_end : {X : Type 0} → ℕ → ℕ → Result X RunFault → Result X RunFault
@@ -33,3 +34,8 @@ IsEditAnswer before now edit (Err fault) = IsDeskFault now fault
 abbrev pub IsAnswer : {A : Type 0} → SeatContent A → SeatContent A → Command → Result Answered RunFault → Type 0
 IsAnswer before now command (Ok answered) = IsTold now answered (IsTurn (own_edits_of before) command answered.reply (own_edits_of now))
 IsAnswer before now command (Err fault) = IsDeskFault now fault
+
+-- the answer to an edit that depends on what the movie has
+abbrev pub IsRetouchAnswer : {A : Type 0} → SeatContent A → SeatContent A → Retouch → Result Answered RunFault → Type 0
+IsRetouchAnswer before now retouch (Ok answered) = IsTold now answered (IsRetouchTurn (own_edits_of before) retouch answered.reply (own_edits_of now))
+IsRetouchAnswer before now retouch (Err fault) = IsDeskFault now fault

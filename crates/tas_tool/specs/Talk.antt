@@ -1,5 +1,5 @@
 -- Conversations: each line is answered at what the lines before it made (own).
-use Rattle.std.specs.Prelude.{◌≡◌, ℕ, ◌+◌, ◌-◌, ◌<◌, ◌≤◌, nat_le, min, List, [], ◌∷◌, ◌++◌, length, filter, is_some, Bool, true, false, if◌then◌else◌, Option, Some, None, Result, Ok, Err, ◌⊎◌}
+use Rattle.std.specs.Prelude.{◌≡◌, ℕ, ◌+◌, ◌-◌, ◌<◌, ◌≤◌, nat_le, ◌&&◌, min, List, [], ◌∷◌, ◌++◌, length, filter, is_some, Bool, true, false, if◌then◌else◌, Option, Some, None, Result, Ok, Err, ◌⊎◌}
 use Rattle.std.specs.List.{flat_map, range_with_len}
 use Rattle.std.specs.Io.KnownBytes.{Appends, Consumes, IsAtEnd, Keeps}
 use Rattle.byte_text.specs.CutOff.{IsCutOff}
@@ -20,6 +20,7 @@ use Rattle.tas_engines.specs.declared.fault.RunFault.{RunFault}
 use Rattle.tas_engines.specs.declared.fault.RunFault.TheVariants.{Write, NoPlace, NoEntry, Memory}
 use Rattle.tas_engines.specs.declared.fault.ToolFault.{ToolFault}
 use Rattle.tas_engines.specs.declared.fault.ToolFault.TheVariants.{Read, Run}
+use Rattle.tas_engines.specs.Lag.{lag_lines_between, LagFramesIgnoreInput}
 use Rattle.tas_engines.specs.Input.{IsReadWhole, StopsReading, StopsReadingTwo}
 use Rattle.tas_engines.specs.Movies.{IsMovieOf, IsMovieFault}
 use Rattle.tas_engines.specs.Tracing.{IsImageFault}
@@ -30,10 +31,10 @@ use Rattle.tas_language.specs.declared.reply.Reply.TheVariants.{NoFrame, Drawn, 
 use Rattle.byte_text.specs.Splitting.{NoByte}
 use Rattle.tas_language.specs.Replies.{reply_text}
 use Rattle.tas_language.specs.declared.request.Request.{Request}
-use Rattle.tas_language.specs.declared.request.Request.TheVariants.{Do, Picture, Pictures, Ram, Digest, Movie, States, Quit}
+use Rattle.tas_language.specs.declared.request.Request.TheVariants.{Do, Retouch, Picture, Pictures, Ram, Digest, Lag, Movie, States, Quit}
 use Rattle.tas_language.specs.Requests.{IsHeard}
-use Rattle.tas_language.specs.Answers.{unknown_text, picture_text, ram_text, frame_digest_text, movie_text, states_text}
-use Rattle.tas_tool.specs.Turns.{OwnEdits, halted_reply, IsTurn}
+use Rattle.tas_language.specs.Answers.{unknown_text, picture_text, ram_text, frame_digest_text, lag_text, movie_text, states_text}
+use Rattle.tas_tool.specs.Turns.{OwnEdits, halted_reply, IsRetouchTurn, IsTurn}
 use Rattle.tas_tool.specs.Scripts.{own_edits_at_start}
 use Rattle.tas_tool.specs.MovieScripts.{own_edits_of_movie}
 
@@ -112,7 +113,7 @@ abbrev pub PictureLeaves : Bool → TalkState → TalkState → ℕ → Option (
 PictureLeaves no_memory old new k None = Rests old new
 PictureLeaves no_memory old new k (Some shown) = PlaysUnless no_memory old new k
 
--- what `ram K` and `digest K` leave of it, where the movie has the frame or hasn't
+-- what `ram K`, `digest K` and `lag K B` leave of it, where the movie has the frames or hasn't
 abbrev pub LookLeaves : {X : Type 0} → Bool → TalkState → TalkState → ℕ → Option X → Type 0
 LookLeaves no_memory old new k None = Rests old new
 LookLeaves no_memory old new k (Some found) = ReachesUnless no_memory old new k
@@ -145,6 +146,19 @@ digest_answer own k (Err halt) = reply_text (halted_reply own.made halt)
 abbrev pub digest_of_own : Bool → OwnEdits → ℕ → Option (Result (List ℕ) Halt) → List ℕ
 digest_of_own no_memory own k None = reply_text (NoFrame own.made (length own.movie.inputs))
 digest_of_own no_memory own k (Some shown) = if no_memory then reply_text OutOfMemory else digest_answer own k shown
+
+-- whether a movie so long has the frames a to b - 1
+abbrev pub has_frames : ℕ → ℕ → ℕ → Bool
+has_frames len a b = nat_le a b && nat_le b len
+
+-- the lines of the stretches of lag frames among a movie's frames a to b - 1, where it has these
+abbrev pub answer_lag : MovieContent → ℕ → ℕ → Option (List ℕ)
+answer_lag movie a b = if has_frames (length movie.inputs) a b then Some (lag_lines_between movie a b) else None
+
+-- the answer to `lag A B`
+abbrev pub lag_of_own : Bool → OwnEdits → ℕ → ℕ → Option (List ℕ) → List ℕ
+lag_of_own no_memory own a b None = reply_text (NoFrame own.made (length own.movie.inputs))
+lag_of_own no_memory own a b (Some lines) = if no_memory then reply_text OutOfMemory else lag_text own.made a b lines
 
 -- the answer to `movie`
 abbrev pub text_of_own : Bool → OwnEdits → List ℕ
@@ -181,12 +195,16 @@ strip_answers strip = flat_map (λ shown. shown.answer) strip
 -- conversation
 abbrev pub IsAnswerTo : TalkState → Request → List ℕ → TalkState → Type 0
 IsAnswerTo state (Do command) answer next = (reply : Reply) × IsTurn state.own command reply next.own × (answer ≡ reply_text reply) × CommandLeaves state next command reply
+IsAnswerTo state (Retouch retouch) answer next = (reply : Reply) × IsRetouchTurn state.own retouch reply next.own × (answer ≡ reply_text reply) × Rests state next
 IsAnswerTo state (Picture k) answer next = IsPictureAnswer state k answer next
 IsAnswerTo state (Pictures from to) answer next = (strip : List StripAnswer) × (length strip ≡ to - from) × AreStrip state from strip next × (answer ≡ strip_answers strip)
 IsAnswerTo state (Ram k) answer next =
     (no_memory : Bool) × (answer ≡ ram_of_own no_memory state.own k (answer_ram state.own.movie k)) × (next.own ≡ state.own) × LookLeaves no_memory state next k (answer_ram state.own.movie k)
 IsAnswerTo state (Digest k) answer next =
     (no_memory : Bool) × (answer ≡ digest_of_own no_memory state.own k (answer_shot state.own.movie k)) × (next.own ≡ state.own) × LookLeaves no_memory state next k (answer_shot state.own.movie k)
+IsAnswerTo state (Lag a b) answer next =
+    (no_memory : Bool) × (answer ≡ lag_of_own no_memory state.own a b (answer_lag state.own.movie a b)) × (next.own ≡ state.own) × LookLeaves no_memory state next a (answer_lag state.own.movie a b)
+    × LagFramesIgnoreInput state.own.movie
 IsAnswerTo state Movie answer next = (no_memory : Bool) × (answer ≡ text_of_own no_memory state.own) × (next.own ≡ state.own) × GainsUnless no_memory state next
 IsAnswerTo state States answer next = (no_memory : Bool) × (answer ≡ states_of_own no_memory state.own next.states) × (next.own ≡ state.own) × GainsUnless no_memory state next
 IsAnswerTo state Quit answer next = ⊥

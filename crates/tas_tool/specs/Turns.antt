@@ -17,10 +17,12 @@ use Rattle.tas_engines.specs.declared.fault.RunFault.{RunFault}
 use Rattle.tas_engines.specs.declared.fault.RunFault.TheVariants.{Foreign, NoEntry}
 use Rattle.tas_language.specs.declared.command.Command.{Command}
 use Rattle.tas_language.specs.declared.command.Command.TheVariants.{Load, Edit as EditLine, Length, InputAt, Shot, Work}
+use Rattle.tas_language.specs.declared.retouch.Retouch.{Retouch}
 use Rattle.tas_language.specs.declared.reply.Reply.{Reply}
 use Rattle.tas_language.specs.declared.reply.Reply.TheVariants.{Edited, Place as PlaceReply, Long as LongReply, Full, Measured, Pressed, NoFrame, Drawn, Halted, Worked, OutOfMemory}
 use Rattle.tas_language.specs.Commands.{image_bytes}
 use Rattle.tas_engines.specs.Changes.{EditContent, edit_of}
+use Rattle.tas_engines.specs.Retouching.{retouch_of, retouch_refusal}
 
 -- what a session of cartridge and inputs alone can't tell: whether memory was refused, how many frames were played, and how
 -- many states a job gained and whether it was stale
@@ -84,6 +86,23 @@ own_edits_after_edit no_memory own edit = own_edits_unless (refused_reply own.ma
 -- the reply to an edit, and what is made then
 abbrev pub IsEditTurn : {A : Type 0} → OwnEdits → Edit A → Reply → OwnEdits → Type 0
 IsEditTurn own edit reply next = (no_memory : Bool) × (reply ≡ reply_to_edit no_memory own edit) × (next ≡ own_edits_after_edit no_memory own edit)
+
+-- ---- edits that depend on what the movie has
+
+-- the reply to one, which no script has: where nothing refuses it and memory is there, its edit is made
+abbrev pub reply_to_retouch : Bool → OwnEdits → Retouch → Reply
+reply_to_retouch no_memory own retouch =
+    edit_reply (refused_reply own.made (retouch_refusal own.movie retouch)) no_memory own.made (length (edited own.movie (retouch_of own.movie.inputs retouch)).inputs)
+
+-- what is made after it
+abbrev pub own_edits_after_retouch : Bool → OwnEdits → Retouch → OwnEdits
+own_edits_after_retouch no_memory own retouch =
+    own_edits_unless (refused_reply own.made (retouch_refusal own.movie retouch)) no_memory own (retouch_of own.movie.inputs retouch)
+
+-- the reply to it, and what is made then
+abbrev pub IsRetouchTurn : OwnEdits → Retouch → Reply → OwnEdits → Type 0
+IsRetouchTurn own retouch reply next =
+    (no_memory : Bool) × (reply ≡ reply_to_retouch no_memory own retouch) × (next ≡ own_edits_after_retouch no_memory own retouch)
 
 -- ---- other lines
 

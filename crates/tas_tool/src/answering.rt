@@ -126,7 +126,7 @@ pub fn make_edit<N: Name, W: CloseOnDrop, A: Allocator + Copy, R: Wait>(
 }
 
 /// The reply to an edit that is refused, whatever memory there is.
-fn refused_reply(made: u64, refusal: Option<EditRefusal>) -> Option<Reply>
+pub fn refused_reply(made: u64, refusal: Option<EditRefusal>) -> Option<Reply>
     ensures { result ≡ refused_reply made refusal }
 {
     if made == MAX_EDITS {

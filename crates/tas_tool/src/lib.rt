@@ -14,6 +14,7 @@ mod looks;
 mod making;
 mod movie_scripting;
 mod opening;
+mod retouching;
 mod scripting;
 mod talk_runs;
 mod talking;

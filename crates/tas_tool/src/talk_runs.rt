@@ -121,7 +121,8 @@ fn read_movie<A: Allocator + Copy, C: Read, M: Read>(
 }
 
 /// Reads lines and answers each of them, from a blank cartridge with no inputs on (own): an answer is handed out whole before more
-/// is read. The lines are those of a script, `picture K`, `movie`, `states` and `quit`; another line, or one of more than
+/// is read. The lines are those of a [`Request`](tas_language::Request): a script's, edits that depend on the movie's frames, looks, and
+/// `quit`; another line, or one of more than
 /// [`MAX_LINE`](tas_language::MAX_LINE) bytes, is answered `unknown` and changes nothing, and so is what stands after the last
 /// newline. It runs on a desk of one seat, and ends with `quit` or with the input.
 ///

@@ -13,7 +13,8 @@ ghost use Rattle.tas_tool.specs.Talk.{kept_frames};
 ghost use Rattle.tas_tool.specs.Talking.{IsBrought, IsTalkFault, IsToldTo};
 
 use crate::answering::{answer_command, checked, own_len, unshown};
-use crate::looks::{tell_digest, tell_ram};
+use crate::looks::{tell_digest, tell_lag, tell_ram};
+use crate::retouching::tell_retouch;
 use std::alloc::{AllocError, Allocator};
 use std::sync::Wait;
 use tas_desk::{CloseOnDrop, Desk, Name, Seat};
@@ -230,12 +231,16 @@ pub fn answer_request<N: Name, W: CloseOnDrop, A: Allocator + Copy, R: Wait>(
 {
     match request {
         Request::Do(command) => Ok(Some(tell_command(rt, alloc, desk, seat, made, command)?)),
+        Request::Retouch(retouch) => {
+            Ok(Some(tell_retouch(rt, alloc, desk, seat, made, retouch)?))
+        }
         Request::Picture { frame } => Ok(Some(tell_picture(alloc, desk, seat, made, frame)?)),
         Request::Pictures { from, to } => {
             Ok(Some(tell_pictures(alloc, desk, seat, made, from, to)?))
         }
         Request::Ram { frames } => Ok(Some(tell_ram(alloc, desk, seat, made, frames)?)),
         Request::Digest { frame } => Ok(Some(tell_digest(alloc, desk, seat, made, frame)?)),
+        Request::Lag { from, to } => Ok(Some(tell_lag(alloc, desk, seat, made, from, to)?)),
         Request::Movie => Ok(Some(tell_movie(rt, alloc, desk, seat, made)?)),
         Request::States => Ok(Some(tell_states(rt, alloc, desk, seat, made)?)),
         Request::Quit => Ok(None),

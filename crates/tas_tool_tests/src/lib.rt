@@ -39,6 +39,8 @@ mod tails;
 #[cfg(test)]
 mod talk_file_tests;
 #[cfg(test)]
+mod talk_hand_tests;
+#[cfg(test)]
 mod talk_look_tests;
 #[cfg(test)]
 mod talk_strip_tests;

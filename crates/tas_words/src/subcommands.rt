@@ -198,6 +198,7 @@ next one is read, so that another program can hold the conversation. It has thes
   pictures FROM TO           the answers to 'picture K' for FROM to TO - 1, 1 to 1024 of them
   ram K                      'ram AT K' and 256 hexadecimal digits: RAM after K frames from power-on
   digest K                   'digest AT K ram HEX picture HEX': SHA-256 of RAM after frame K, and of its pixmap
+  lag A B                    a line 'lag AT A B BYTES', then BYTES bytes: the lag frames of A to B - 1
   movie                      a line 'movie AT BYTES', then BYTES bytes: the movie's text
   states                     'states AT N' and the N frames after which a machine state is kept
   quit                       ends the conversation, as the end of standard input does

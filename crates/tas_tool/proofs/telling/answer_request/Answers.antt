@@ -14,3 +14,9 @@ returns-in_ok-tell_states-in-States-clause-answer g c = rw c.in-States.is c.in_o
 
 pub returns-in_ok-tell_pictures-in-Pictures-clause-answer : goal.returns-in_ok-tell_pictures-in-Pictures-clause-answer
 returns-in_ok-tell_pictures-in-Pictures-clause-answer g c = rw c.in-Pictures.is c.in_ok-tell_pictures-in-Pictures.ensures.answer
+
+pub returns-in_ok-tell_retouch-in-Retouch-clause-answer : goal.returns-in_ok-tell_retouch-in-Retouch-clause-answer
+returns-in_ok-tell_retouch-in-Retouch-clause-answer g c = rw c.in-Retouch.is c.in_ok-tell_retouch-in-Retouch.ensures.answer
+
+pub returns-in_ok-tell_lag-in-Lag-clause-answer : goal.returns-in_ok-tell_lag-in-Lag-clause-answer
+returns-in_ok-tell_lag-in-Lag-clause-answer g c = rw c.in-Lag.is c.in_ok-tell_lag-in-Lag.ensures.answer
