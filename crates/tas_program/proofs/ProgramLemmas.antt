@@ -9,7 +9,7 @@ use Rattle.tas_words.specs.declared.request.Request.{Request}
 use Rattle.tas_words.specs.declared.request.Request.TheVariants.{Do, Show, Refuse, NoMemory}
 use Rattle.tas_words.specs.declared.task.Task.{Task}
 use Rattle.tas_words.specs.Requests.{AreGiven, IsNoTask, IsRequest}
-use Rattle.tas_program.specs.Program.{IsAskedBy, end_status, FileEngine, TwoFilesEngine, EndsOver, EndsOverTwo, DoesTask, TaskEnds}
+use Rattle.tas_program.specs.Program.{IsAskedBy, end_status, FileEngine, TwoFilesEngine, ThreeFilesEngine, EndsOver, EndsOverTwo, EndsOverThree, DoesTask, TaskEnds}
 use Rattle.tas_program.specs.Streams.{StreamBytes}
 
 pub task_ends : (files : List ℕ → Option (List ℕ)) (chosen : Task) (old new : StreamBytes) (end : Result (Unit {0}) ToolFault) → DoesTask files chosen old new end → TaskEnds files chosen old new (end_status end)
@@ -27,6 +27,14 @@ pub over_two : (engine : TwoFilesEngine) (one two file left file' left' : Option
 over_two engine one two file left file' left' old new end is is' ran =
     let second = subst (λ (f : Option (List ℕ)). engine file left f left' old.input new.input old.output new.output end) is' ran in
     inr (left, left', subst (λ (f : Option (List ℕ)). engine f left two left' old.input new.input old.output new.output end) is second)
+
+-- the same of three files
+pub over_three : (engine : ThreeFilesEngine) (one two three file left file' left' file'' left'' : Option (List ℕ)) (old new : StreamBytes) (end : Result (Unit {0}) ToolFault) → file ≡ one → file' ≡ two → file'' ≡ three
+    → engine file left file' left' file'' left'' old.input new.input old.output new.output end → EndsOverThree one two three engine old new end
+over_three engine one two three file left file' left' file'' left'' old new end is is' is'' ran =
+    let third = subst (λ (f : Option (List ℕ)). engine file left file' left' f left'' old.input new.input old.output new.output end) is'' ran in
+    let second = subst (λ (f : Option (List ℕ)). engine file left f left' three left'' old.input new.input old.output new.output end) is' third in
+    inr (left, left', left'', subst (λ (f : Option (List ℕ)). engine f left two left' three left'' old.input new.input old.output new.output end) is second)
 
 -- what listed words ask for is asked by what the system gave
 pub asked_by : {A : Type 0} (given : Result (IntoIter (String A) A) Error) (words : List Text) (request : Request A) → AreGiven given words → IsRequest words request → IsAskedBy given request

@@ -23,13 +23,14 @@ use Rattle.tas_engines.specs.Lag.{IsLagRun}
 use Rattle.tas_engines.specs.Digests.{IsDigestRun}
 use Rattle.tas_engines.specs.Ram.{IsRamRun}
 use Rattle.tas_tool.specs.Films.{IsFilmRun}
-use Rattle.tas_engines.specs.Editing.{IsEditRun}
+use Rattle.tas_engines.specs.Editing.{IsEditRun, IsEditWithRun}
+use Rattle.tas_engines.specs.Cutting.{IsCutRun}
 use Rattle.tas_words.specs.declared.request.Request.{Request}
 use Rattle.tas_words.specs.declared.request.Request.TheVariants.{Do, Show, Refuse, NoMemory}
 use Rattle.tas_program.specs.declared.status.Status.{Status}
 use Rattle.tas_program.specs.declared.status.Status.TheVariants.{Done, Fault, Misuse}
 use Rattle.tas_words.specs.declared.task.Task.{Task}
-use Rattle.tas_words.specs.declared.task.Task.TheVariants.{Trace, Check, Migrate, Shot, Film, Export, Ram, Digest, Compare, Lag, Edit, Diff, Script, Talk}
+use Rattle.tas_words.specs.declared.task.Task.TheVariants.{Trace, Check, Migrate, Shot, Film, Export, Ram, Digest, Compare, Lag, Edit, Cut, Diff, Script, Talk}
 use Rattle.tas_words.specs.declared.task.Start.TheVariants.{Blank, Cart, Movie}
 use Rattle.clap.specs.Walk.{Text}
 use Rattle.tas_words.specs.Requests.{AreGiven, IsRequest}
@@ -54,6 +55,10 @@ FileEngine = (file left input input' output output' : Option (List ℕ)) → Res
 abbrev pub TwoFilesEngine : Type 1
 TwoFilesEngine = (file left : Option (List ℕ)) → FileEngine
 
+-- the same over three files
+abbrev pub ThreeFilesEngine : Type 1
+ThreeFilesEngine = (file left : Option (List ℕ)) → TwoFilesEngine
+
 -- a file is opened first: it can't be, and the streams are as before; or an engine ends over it, whatever it leaves of it
 abbrev pub EndsOver : Option (List ℕ) → FileEngine → StreamBytes → StreamBytes → Result (Unit {0}) ToolFault → Type 0
 EndsOver file engine old new end = ((end ≡ Err (Read Failed)) × (new ≡ old)) ⊎ ((left : Option (List ℕ)) × engine file left old.input new.input old.output new.output end)
@@ -62,6 +67,12 @@ EndsOver file engine old new end = ((end ≡ Err (Read Failed)) × (new ≡ old)
 abbrev pub EndsOverTwo : Option (List ℕ) → Option (List ℕ) → TwoFilesEngine → StreamBytes → StreamBytes → Result (Unit {0}) ToolFault → Type 0
 EndsOverTwo one two engine old new end =
     ((end ≡ Err (Read Failed)) × (new ≡ old)) ⊎ ((left left' : Option (List ℕ)) × engine one left two left' old.input new.input old.output new.output end)
+
+-- the same of three files
+abbrev pub EndsOverThree : Option (List ℕ) → Option (List ℕ) → Option (List ℕ) → ThreeFilesEngine → StreamBytes → StreamBytes → Result (Unit {0}) ToolFault → Type 0
+EndsOverThree one two three engine old new end =
+    ((end ≡ Err Read) × (new ≡ old))
+    ⊎ ((left left' left'' : Option (List ℕ)) × engine one left two left' three left'' old.input new.input old.output new.output end)
 
 -- a task ends as the definition of its command says, over its files and the streams
 abbrev pub DoesTask : (List ℕ → Option (List ℕ)) → Task → StreamBytes → StreamBytes → Result (Unit {0}) ToolFault → Type 0
@@ -75,7 +86,10 @@ DoesTask files (Ram cart from to) old new end = EndsOver (files cart.now) (IsRam
 DoesTask files (Digest cart every) old new end = EndsOver (files cart.now) (IsDigestRun (max every 1)) old new end
 DoesTask files (Compare cart before) old new end = EndsOverTwo (files cart.now) (files before.now) IsCompareRun old new end
 DoesTask files (Lag cart) old new end = EndsOver (files cart.now) IsLagRun old new end
-DoesTask files (Edit cart script) old new end = EndsOverTwo (files cart.now) (files script.now) IsEditRun old new end
+DoesTask files (Edit cart script None) old new end = EndsOverTwo (files cart.now) (files script.now) IsEditRun old new end
+DoesTask files (Edit cart script (Some other)) old new end =
+    EndsOverThree (files cart.now) (files script.now) (files other.now) IsEditWithRun old new end
+DoesTask files (Cut cart from to) old new end = EndsOver (files cart.now) (IsCutRun from to) old new end
 DoesTask files (Diff cart before) old new end = EndsOverTwo (files cart.now) (files before.now) IsDiffRun old new end
 DoesTask files (Script None) old new end = IsScriptRun old.input new.input old.output new.output end
 DoesTask files (Script (Some start)) old new end = EndsOverTwo (files start.cart.now) (files start.movie.now) IsMovieScriptRun old new end

@@ -4,7 +4,7 @@ ghost use Rattle.std.specs.Prelude.{◌≡◌, IfOk, IfErr, OnOk, OnErr};
 ghost use Rattle.std.specs.Io.KnownBytes.{Appends};
 ghost use Rattle.tas_engines.specs.declared.fault.RunFault.{RunFault};
 ghost use Rattle.tas_engines.specs.Output.{StopsWriting};
-ghost use Rattle.tas_words.specs.declared.task.Task.TheVariants.{Script, Talk};
+ghost use Rattle.tas_words.specs.declared.task.Task.TheVariants.{Edit, Script, Talk};
 ghost use Rattle.tas_program.specs.Program.{DoesTask, CarriesOut, ProgramEnds, end_status};
 
 use crate::{Folder, Status, Streams};
@@ -15,9 +15,10 @@ use std::io::{Read, Write};
 use std::sync::Wait;
 use std::thread::Threads;
 use tas_tool::{
-    ReadFault, RunFault, ToolFault, cart_talk_run, check_run, compare_run, diff_run, digest_run,
-    edit_run, export_run, film_run, lag_run, migrate_run, movie_script_run, movie_talk_run,
-    ram_run, script_run, shot_run, talk_run, trace_run, write_all,
+    ReadFault, RunFault, ToolFault, cart_talk_run, check_run, compare_run, cut_run, diff_run,
+    digest_run, edit_run, edit_with_run, export_run, film_run, lag_run, migrate_run,
+    movie_script_run, movie_talk_run, ram_run, script_run, shot_run, talk_run, trace_run,
+    write_all,
 };
 use tas_words::{MovieFiles, Request, Start, Task, collect_words, read_request};
 
@@ -49,6 +50,30 @@ fn run_script<T: Wait, A: Allocator + Copy, F: Folder, R: Read, W: Write>(
         Some(files) => {
             let (mut cart, mut movie) = (open(folder, files.cart)?, open(folder, files.movie)?);
             movie_script_run(rt, alloc, &mut cart, &mut movie, input, output)
+        }
+    }
+}
+
+/// Makes the lines of a script on the movie whose text is the input.
+fn run_edit<A: Allocator + Copy, F: Folder, R: Read, W: Write>(
+    alloc: A,
+    cart: &str,
+    script: &str,
+    other: Option<&str>,
+    folder: &F,
+    input: &mut R,
+    output: &mut W,
+) -> Result<(), ToolFault>
+    ensures { DoesTask (F.bytes_of folder.now) (Edit cart script other)
+        (record { input = R.remaining input.old; output = W.contents output.old })
+        (record { input = R.remaining input.new; output = W.contents output.new }) result }
+{
+    let (mut cart, mut script) = (open(folder, cart)?, open(folder, script)?);
+    match other {
+        None => edit_run(alloc, &mut cart, &mut script, input, output),
+        Some(other) => {
+            let mut other = open(folder, other)?;
+            edit_with_run(alloc, &mut cart, &mut script, &mut other, input, output)
         }
     }
 }
@@ -125,9 +150,13 @@ fn run_engine<
             compare_run(alloc, &mut cart, &mut old, input, output)
         }
         Task::Lag { cart } => lag_run(alloc, &mut open(folder, cart)?, input, output),
-        Task::Edit { cart, script } => {
-            let (mut cart, mut script) = (open(folder, cart)?, open(folder, script)?);
-            edit_run(alloc, &mut cart, &mut script, input, output)
+        Task::Edit {
+            cart,
+            script,
+            other,
+        } => run_edit(alloc, cart, script, other, folder, input, output),
+        Task::Cut { cart, from, to } => {
+            cut_run(alloc, from, to, &mut open(folder, cart)?, input, output)
         }
         Task::Diff { cart, old } => {
             let (mut cart, mut old) = (open(folder, cart)?, open(folder, old)?);

@@ -316,7 +316,7 @@ const THREE_FRAMES: &[u8] =
     b"a26movie 2\ncart 820c64e9933496de683a000c5e11f0510fb7b1699b2ce86471295236b284906d\n..... ..... .....\nR.... ..... .....\n....F ..... .....\n";
 
 /// Edits, and their movies.
-static EDITS: [Case<'static>; 3] = [
+static EDITS: [Case<'static>; 5] = [
     (
         &["edit", "game.bin", "other"],
         b"insert 1 1 R.... ..... .....\ninsert 2 1 ....F ..... .....\n",
@@ -338,6 +338,20 @@ static EDITS: [Case<'static>; 3] = [
         ONE_FRAME,
         b"",
     ),
+    (
+        &["edit", "game.bin", "other"],
+        b"repeat 0 1 2\npress 1 1 R.... ..... .....\npress 2 1 ....F ..... .....\n",
+        ONE_FRAME,
+        THREE_FRAMES,
+        b"",
+    ),
+    (
+        &["cut", "game.bin", "0", "1"],
+        b"",
+        THREE_FRAMES,
+        ONE_FRAME,
+        b"",
+    ),
 ];
 
 #[test]
@@ -346,7 +360,7 @@ fn edits_write_their_movies(rt: HostRuntime) {
 }
 
 /// Edits that are refused.
-static REFUSED_EDITS: [Case<'static>; 4] = [
+static REFUSED_EDITS: [Case<'static>; 9] = [
     (
         &["edit", "game.bin", "other"],
         b"delete 0 1\ndelete 2 1\n",
@@ -370,6 +384,41 @@ static REFUSED_EDITS: [Case<'static>; 4] = [
     ),
     (
         &["edit", "game.bin", "nothing"],
+        b"",
+        THREE_FRAMES,
+        b"",
+        b"fault: read failed\n",
+    ),
+    (
+        &["edit", "game.bin", "other"],
+        b"copy other 0 1 0\n",
+        THREE_FRAMES,
+        b"",
+        b"fault: script line 1\n",
+    ),
+    (
+        &["edit", "game.bin", "other", "--with", "other"],
+        b"delete 0 1\n",
+        THREE_FRAMES,
+        b"",
+        b"fault: movie line 1: head\n",
+    ),
+    (
+        &["edit", "game.bin", "other", "--with", "nothing"],
+        b"delete 0 1\n",
+        THREE_FRAMES,
+        b"",
+        b"fault: read failed\n",
+    ),
+    (
+        &["cut", "game.bin", "1", "4"],
+        b"",
+        THREE_FRAMES,
+        b"",
+        b"fault: range 1 to 4 of 3\n",
+    ),
+    (
+        &["cut", "nothing", "0", "1"],
         b"",
         THREE_FRAMES,
         b"",

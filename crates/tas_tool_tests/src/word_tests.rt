@@ -17,7 +17,7 @@ const A_AND_B: MovieFiles<'static> = MovieFiles {
 };
 
 /// Words that name a task, and the task.
-static TASKS: [(&[&str], Task<'static>); 30] = [
+static TASKS: [(&[&str], Task<'static>); 33] = [
     (&["trace", "0"], Task::Trace { instructions: 0 }),
     (&["trace", "3"], Task::Trace { instructions: 3 }),
     (
@@ -138,6 +138,31 @@ static TASKS: [(&[&str], Task<'static>); 30] = [
         Task::Edit {
             cart: "a.bin",
             script: "b",
+            other: None,
+        },
+    ),
+    (
+        &["edit", "a.bin", "b", "--with", "c"],
+        Task::Edit {
+            cart: "a.bin",
+            script: "b",
+            other: Some("c"),
+        },
+    ),
+    (
+        &["edit", "--with=c", "a.bin", "b"],
+        Task::Edit {
+            cart: "a.bin",
+            script: "b",
+            other: Some("c"),
+        },
+    ),
+    (
+        &["cut", "a.bin", "0", "9999999"],
+        Task::Cut {
+            cart: "a.bin",
+            from: 0,
+            to: 9_999_999,
         },
     ),
     (
@@ -194,7 +219,7 @@ fn each_command_is_its_task(rt: HostRuntime) {
 
 /// Words that are no task: none, an unknown one, too few, too many, numbers past their ranges and
 /// texts that are no numbers, unknown flags.
-static MISUSES: [&[&str]; 68] = [
+static MISUSES: [&[&str]; 77] = [
     &[],
     &[""],
     &["play"],
@@ -219,6 +244,17 @@ static MISUSES: [&[&str]; 68] = [
     &["shot", "game.bin", "0", "1"],
     &["edit", "game.bin"],
     &["edit", "game.bin", "other", "other"],
+    &["edit", "game.bin", "other", "--with"],
+    &["edit", "game.bin", "--with", "other"],
+    &[
+        "edit", "game.bin", "other", "--with", "other", "--with", "other",
+    ],
+    &["cut", "game.bin"],
+    &["cut", "game.bin", "0"],
+    &["cut", "game.bin", "10000000", "1"],
+    &["cut", "game.bin", "0", "10000000"],
+    &["cut", "game.bin", "0", "-1"],
+    &["cut", "game.bin", "0", "1", "1"],
     &["diff"],
     &["diff", "game.bin", "other", "0"],
     &["script", "game.bin"],
@@ -342,7 +378,7 @@ fn a_missing_word_is_named(rt: HostRuntime) {
 }
 
 /// Words that ask for help, and the beginning of the text.
-static HELPS: [(&[&str], &[u8]); 16] = [
+static HELPS: [(&[&str], &[u8]); 17] = [
     (
         &["--help"],
         b"Replays movies of Atari 2600 cartridges, exactly and from power-on\n\nUsage: tas <COMMAND>\n",
@@ -369,7 +405,11 @@ static HELPS: [(&[&str], &[u8]); 16] = [
     ),
     (
         &["edit", "--help"],
-        b"Makes the changes of a script on a movie and writes its text\n\nUsage: tas edit <CART> <SCRIPT>\n",
+        b"Makes the edits of a script on a movie and writes its text\n\nUsage: tas edit [OPTIONS] <CART> <SCRIPT>\n",
+    ),
+    (
+        &["cut", "--help"],
+        b"Writes the text of the movie of some frames of a movie alone\n\nUsage: tas cut <CART> <FROM> <TO>\n",
     ),
     (
         &["diff", "--help"],

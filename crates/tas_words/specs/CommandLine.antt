@@ -1,5 +1,5 @@
 -- The command line, as clap's definitions see it (own).
-use Rattle.std.specs.Prelude.{◌≡◌, ℕ, pos, List, [], ◌∷◌, Option, Some, None, true, false, codes, drop, fold, map, option_map}
+use Rattle.std.specs.Prelude.{◌≡◌, ℕ, pos, List, [], ◌∷◌, ◌++◌, Option, Some, None, true, false, codes, drop, fold, map, option_map}
 use Rattle.std.specs.Int.{int_max, int_min}
 use Rattle.clap.specs.Values.{signed_between}
 use Rattle.clap.specs.Simple.{App, Shape, app_of, filled_from, help_rule, version_rule, new_rule, new_shape, subcommand_of, with_subcommand}
@@ -102,32 +102,50 @@ empty_line = record {
 abbrev pub with_commands : App → List Subcommand → App
 with_commands line commands = fold (λ l command. with_subcommand l (shape_with command.name.now (map rule_of_word command.words.now))) line commands
 
--- the program's command line
-abbrev pub command_line : App
-command_line = record {
+-- a command line of these commands
+abbrev pub line_of : List Shape → App
+line_of shapes = record {
   top = record (new_shape (codes "tas")) {
     is_leaf = false;
     disable_help_subcommand = true;
     has_version = true;
     subcommand_required = true;
   };
-  subs =
-      shape_with (codes "trace") (number_rule (codes "N") 0 1000000 ∷ [])
-      ∷ shape_with (codes "check") (cart_rule ∷ [])
-      ∷ shape_with (codes "migrate") (cart_rule ∷ [])
-      ∷ shape_with (codes "shot") (cart_rule ∷ frame_rule (codes "K") ∷ [])
-      ∷ shape_with (codes "film") (cart_rule ∷ may_frame_rule (codes "FROM") ∷ may_frame_rule (codes "TO") ∷ [])
-      ∷ shape_with (codes "export") (cart_rule ∷ frame_rule (codes "FROM") ∷ frame_rule (codes "TO") ∷ number_rule (codes "WORKERS") 1 most_workers ∷ [])
-      ∷ shape_with (codes "ram") (cart_rule ∷ frame_rule (codes "FROM") ∷ frame_rule (codes "TO") ∷ [])
-      ∷ shape_with (codes "digest") (cart_rule ∷ may_number_rule (codes "EVERY") 1 most_every ∷ [])
-      ∷ shape_with (codes "compare") (cart_rule ∷ file_rule (codes "OLD") ∷ [])
-      ∷ shape_with (codes "lag") (cart_rule ∷ [])
-      ∷ shape_with (codes "edit") (cart_rule ∷ file_rule (codes "SCRIPT") ∷ [])
-      ∷ shape_with (codes "diff") (cart_rule ∷ file_rule (codes "OLD") ∷ [])
-      ∷ shape_with (codes "script") (flag_rule (codes "CART") (codes "cart") ∷ flag_rule (codes "MOVIE") (codes "movie") ∷ [])
-      ∷ shape_with (codes "talk") (may_word_rule (codes "CART") ∷ may_word_rule (codes "MOVIE") ∷ [])
-      ∷ [];
+  subs = shapes;
 }
+
+-- the program's first commands
+abbrev pub first_shapes : List Shape
+first_shapes =
+    shape_with (codes "trace") (number_rule (codes "N") 0 1000000 ∷ [])
+    ∷ shape_with (codes "check") (cart_rule ∷ [])
+    ∷ shape_with (codes "migrate") (cart_rule ∷ [])
+    ∷ shape_with (codes "shot") (cart_rule ∷ frame_rule (codes "K") ∷ [])
+    ∷ shape_with (codes "film") (cart_rule ∷ may_frame_rule (codes "FROM") ∷ may_frame_rule (codes "TO") ∷ [])
+    ∷ shape_with (codes "export") (cart_rule ∷ frame_rule (codes "FROM") ∷ frame_rule (codes "TO") ∷ number_rule (codes "WORKERS") 1 most_workers ∷ [])
+    ∷ shape_with (codes "ram") (cart_rule ∷ frame_rule (codes "FROM") ∷ frame_rule (codes "TO") ∷ [])
+    ∷ shape_with (codes "digest") (cart_rule ∷ may_number_rule (codes "EVERY") 1 most_every ∷ [])
+    ∷ shape_with (codes "compare") (cart_rule ∷ file_rule (codes "OLD") ∷ [])
+    ∷ shape_with (codes "lag") (cart_rule ∷ [])
+    ∷ []
+
+-- those after them
+abbrev pub later_shapes : List Shape
+later_shapes =
+    shape_with (codes "edit") (cart_rule ∷ file_rule (codes "SCRIPT") ∷ flag_rule (codes "OTHER") (codes "with") ∷ [])
+    ∷ shape_with (codes "cut") (cart_rule ∷ frame_rule (codes "FROM") ∷ frame_rule (codes "TO") ∷ [])
+    ∷ shape_with (codes "diff") (cart_rule ∷ file_rule (codes "OLD") ∷ [])
+    ∷ shape_with (codes "script") (flag_rule (codes "CART") (codes "cart") ∷ flag_rule (codes "MOVIE") (codes "movie") ∷ [])
+    ∷ shape_with (codes "talk") (may_word_rule (codes "CART") ∷ may_word_rule (codes "MOVIE") ∷ [])
+    ∷ []
+
+-- the first part of the program's command line
+abbrev pub first_line : App
+first_line = line_of first_shapes
+
+-- the program's command line
+abbrev pub command_line : App
+command_line = line_of (first_shapes ++ later_shapes)
 
 abbrev pub IsCommandLine : Command → Type 0
 IsCommandLine command = app_of command ≡ command_line

@@ -1,5 +1,6 @@
 -- What the words of each command ask for (own).
 use Rattle.std.specs.Prelude.{◌≡◌, ℕ, ◌≤◌, List, ◌⊎◌, Option, Some, None, codes}
+use Rattle.std.specs.Borrow.{Bor}
 use Rattle.std.specs.Str.Parse.{digits_value, without_leading_plus}
 use Rattle.clap.specs.Walk.{Row, Text, first_of, one_of}
 use Rattle.tas_language.specs.Commands.{most_number}
@@ -7,7 +8,7 @@ use Rattle.tas_film.specs.Runs.{most_workers}
 use Rattle.tas_words.specs.declared.task.Start.{Start}
 use Rattle.tas_words.specs.declared.task.Start.TheVariants.{Blank, Cart, Movie}
 use Rattle.tas_words.specs.declared.task.Task.{Task}
-use Rattle.tas_words.specs.declared.task.Task.TheVariants.{Trace, Check, Migrate, Shot, Film, Export, Ram, Digest, Compare, Lag, Edit, Diff, Script, Talk}
+use Rattle.tas_words.specs.declared.task.Task.TheVariants.{Trace, Check, Migrate, Shot, Film, Export, Ram, Digest, Compare, Lag, Edit, Cut, Diff, Script, Talk}
 
 -- the word of this name is this text
 abbrev pub IsWord : List Row → Text → Text → Type 0
@@ -16,6 +17,11 @@ IsWord rows name text = first_of name rows ≡ Some text
 -- there is no word of this name
 abbrev pub HasNoWord : List Row → Text → Type 0
 HasNoWord rows name = first_of name rows ≡ None
+
+-- the same of a word that may be left out
+abbrev pub IsOptionalWord : List Row → Text → Option (Bor Text) → Type 0
+IsOptionalWord rows name None = HasNoWord rows name
+IsOptionalWord rows name (Some word) = IsWord rows name word.now
 
 -- the word of this name is this number, which is in a range
 abbrev pub IsNumberWord : List Row → Text → ℕ → ℕ → ℕ → Type 0
@@ -68,7 +74,10 @@ HasWords name rows (Ram cart from to) =
 HasWords name rows (Digest cart every) = (name ≡ codes "digest") × IsWord rows (codes "CART") cart.now × IsEvery rows every
 HasWords name rows (Compare cart old) = (name ≡ codes "compare") × IsWord rows (codes "CART") cart.now × IsWord rows (codes "OLD") old.now
 HasWords name rows (Lag cart) = (name ≡ codes "lag") × IsWord rows (codes "CART") cart.now
-HasWords name rows (Edit cart script) = (name ≡ codes "edit") × IsWord rows (codes "CART") cart.now × IsWord rows (codes "SCRIPT") script.now
+HasWords name rows (Edit cart script other) =
+    (name ≡ codes "edit") × IsWord rows (codes "CART") cart.now × IsWord rows (codes "SCRIPT") script.now × IsOptionalWord rows (codes "OTHER") other
+HasWords name rows (Cut cart from to) =
+    (name ≡ codes "cut") × IsWord rows (codes "CART") cart.now × IsFrameWord rows (codes "FROM") from × IsFrameWord rows (codes "TO") to
 HasWords name rows (Diff cart old) = (name ≡ codes "diff") × IsWord rows (codes "CART") cart.now × IsWord rows (codes "OLD") old.now
 HasWords name rows (Script None) = (name ≡ codes "script") × IsStart rows Blank
 HasWords name rows (Script (Some files)) = (name ≡ codes "script") × IsStart rows (Movie files)

@@ -4,7 +4,7 @@ ghost use Rattle.std.specs.Prelude.{◌≡◌, IfOk, None, false, map};
 ghost use Rattle.clap.specs.Words.{app_of, rule_of};
 ghost use Rattle.tas_words.specs.CommandLine.{empty_line, flag_rule, may_number_rule, may_word_rule, number_rule, rule_of_word, with_commands, word_rule, HasRules, IsCommandLine};
 
-use crate::subcommands::{Subcommand, Word, WordKind, subcommands};
+use crate::subcommands::{Subcommand, Word, WordKind, first_subcommands, later_subcommands};
 use clap::{Arg, ArgAction, Command, value_parser};
 use std::alloc::{AllocError, Global};
 
@@ -146,6 +146,7 @@ fn with_commands<'a>(
 pub(crate) fn command_line<'a>(alloc: Global) -> Result<Command<'a>, AllocError>
     ensures { IfOk result IsCommandLine }
 {
-    let line = empty_line(alloc)?;
-    with_commands(alloc, line, subcommands())
+    let empty = empty_line(alloc)?;
+    let line = with_commands(alloc, empty, first_subcommands())?;
+    with_commands(alloc, line, later_subcommands())
 }

@@ -1,7 +1,7 @@
 //! The commands, with their help and their words.
 
 ghost use Rattle.std.specs.Prelude.{◌≡◌};
-ghost use Rattle.tas_words.specs.CommandLine.{command_line, empty_line, with_commands};
+ghost use Rattle.tas_words.specs.CommandLine.{command_line, empty_line, first_line, with_commands};
 
 use crate::{MAX_EVERY, MAX_FRAME_NUMBER, MAX_INSTRUCTIONS, MAX_WORKERS};
 
@@ -59,6 +59,9 @@ const CHECK_HELP: &str = "\
 Standard input is the movie text: a line 'a26movie 2', a line 'cart ' with the SHA-256 of the
 cartridge, and a line for each run of equal frames: 'R.... ..... .....' is one frame, and
 'R.... ..... ..... x60' sixty. An older text, 'a26movie 1' with a line for each frame, is read too.
+A frame is 'RLDUF RLDUF rsbAB': right, left, down, up and fire of the left stick; the same of the right
+stick; reset, select, black and white, left difficulty A, right difficulty A. A dot in a letter's place
+means that it isn't pressed or set: '..D.F ..... .....' pushes the left stick down and fires.
 Standard output is 'ok F frames', where the text is one of a movie of F frames with this cartridge.
 Otherwise the first line at fault is reported. Only the text is read: no frame is played, so a movie
 that halts is 'ok'. 'tas digest' plays it.
@@ -155,16 +158,35 @@ Example:
   ./tas lag joystick.bin < examples/joystick.movie";
 
 const EDIT_HELP: &str = "\
-Standard input is the movie text, as for 'tas check'. The script's file has changes, a line each:
+Standard input is the movie text, as for 'tas check'. The script's file has edits, a line each:
   insert PLACE COUNT FRAME   insert COUNT frames such as 'R.... ..... .....'
   replace PLACE COUNT FRAME  replace COUNT frames
   delete PLACE COUNT         delete COUNT frames
-Standard output is the text of the movie that they make, in order. A line that isn't understood, or
-whose change reaches past the last frame or makes the movie too long, ends the command with its fault
-and nothing written.
+  press AT COUNT FRAME       press what FRAME has in COUNT frames; the rest of them stays
+  release AT COUNT FRAME     release what FRAME has in COUNT frames; the rest of them stays
+  repeat AT COUNT TIMES      insert COUNT frames TIMES more times, directly after themselves
+  copy FROM COUNT AT         insert a copy of the COUNT frames from FROM before frame AT
+  copy other FROM COUNT AT   the same, from the movie whose text is in the file OTHER
+A frame is 'RLDUF RLDUF rsbAB': right, left, down, up and fire of the left stick; the same of the right
+stick; reset, select, black and white, left difficulty A, right difficulty A. A dot in a letter's place
+means that it isn't pressed or set: '..D.F ..... .....' pushes the left stick down and fires.
+Frames are counted from 0. The lines are made in order, each on the movie that those before it made.
+Standard output is the text of the last one. A line that isn't understood, or that reaches past the
+last frame or makes the movie too long, ends the command with its fault and nothing written.
 
-Example:
-  ./tas edit joystick.bin examples/mend.script < examples/joystick.movie > mended.movie";
+Examples:
+  ./tas edit joystick.bin examples/mend.script < examples/joystick.movie > mended.movie
+  echo press 30 5 ....F ..... ..... > fire.script
+  ./tas edit joystick.bin fire.script < examples/joystick.movie > fired.movie";
+
+const CUT_HELP: &str = "\
+Standard input is the movie text, as for 'tas check'.
+Standard output is the text of the movie of the frames FROM to TO - 1 alone, which begins at power-on
+as every movie does.
+
+Example, all but the first second:
+  examples/cart joystick > joystick.bin
+  ./tas cut joystick.bin 60 120 < examples/joystick.movie > end.movie";
 
 const DIFF_HELP: &str = "\
 Standard input is a movie text, as for 'tas check', and OLD is the file with the text of an older one.
@@ -194,6 +216,10 @@ Examples:
 const TALK_HELP: &str = "\
 Standard input is lines, as of 'tas script', and standard output has the answer to each before the
 next one is read, so that another program can hold the conversation. It has these lines, too:
+  press AT COUNT FRAME       press what FRAME has in COUNT frames; the rest of them stays
+  release AT COUNT FRAME     release what FRAME has in COUNT frames; the rest of them stays
+  repeat AT COUNT TIMES      insert COUNT frames TIMES more times, directly after themselves
+  copy FROM COUNT AT         insert a copy of the COUNT frames from FROM before frame AT
   picture K                  a line 'picture AT K BYTES', then BYTES bytes: the pixmap of frame K
   pictures FROM TO           the answers to 'picture K' for FROM to TO - 1, 1 to 1024 of them
   ram K                      'ram AT K' and 256 hexadecimal digits: RAM after K frames from power-on
@@ -206,6 +232,9 @@ AT is the number of edits so far. A line that isn't understood, or longer than 1
 answered 'unknown' and changes nothing. With CART it starts from this cartridge, with MOVIE from this
 movie. That counts as two edits. A step from a picture to the next one plays one frame. Fill a long movie
 by 'work' in steps, as 'work 4096', 'work 8192': each answer is the progress.
+A frame is 'RLDUF RLDUF rsbAB': right, left, down, up and fire of the left stick; the same of the right
+stick; reset, select, black and white, left difficulty A, right difficulty A. A dot in a letter's place
+means that it isn't pressed or set.
 
 Example:
   printf 'len\\nshot 60\\nstates\\nquit\\n' | ./tas talk joystick.bin examples/joystick.movie";
@@ -232,8 +261,8 @@ const OLD: Word = Word {
     kind: WordKind::File,
 };
 
-/// The program's commands.
-static SUBCOMMANDS: [Subcommand; 14] = [
+/// The program's first commands. They are two lists, since a proof of one list of all is too large.
+static FIRST_SUBCOMMANDS: [Subcommand; 10] = [
     Subcommand {
         name: "trace",
         about: "Writes the first instructions of a cartridge, a line for each",
@@ -362,16 +391,46 @@ static SUBCOMMANDS: [Subcommand; 14] = [
         help: LAG_HELP,
         words: &[CARTRIDGE],
     },
+];
+
+/// Those after them.
+static LATER_SUBCOMMANDS: [Subcommand; 5] = [
     Subcommand {
         name: "edit",
-        about: "Makes the changes of a script on a movie and writes its text",
+        about: "Makes the edits of a script on a movie and writes its text",
         help: EDIT_HELP,
         words: &[
             CARTRIDGE,
             Word {
                 name: "SCRIPT",
-                help: "The script's file: a change a line",
+                help: "The script's file: an edit a line",
                 kind: WordKind::File,
+            },
+            Word {
+                name: "OTHER",
+                help: "The file with the text of a second movie, for 'copy other'",
+                kind: WordKind::Flag {
+                    flag: "with",
+                    other: "SCRIPT",
+                },
+            },
+        ],
+    },
+    Subcommand {
+        name: "cut",
+        about: "Writes the text of the movie of some frames of a movie alone",
+        help: CUT_HELP,
+        words: &[
+            CARTRIDGE,
+            Word {
+                name: "FROM",
+                help: "The first frame, counted from 0",
+                kind: FRAME,
+            },
+            Word {
+                name: "TO",
+                help: "The frame after the last one",
+                kind: FRAME,
             },
         ],
     },
@@ -423,9 +482,16 @@ static SUBCOMMANDS: [Subcommand; 14] = [
     },
 ];
 
-/// The program's commands, which make its command line.
-pub(crate) fn subcommands() -> &'static [Subcommand]
-    ensures { with_commands empty_line result.now ≡ command_line }
+/// The program's first commands, which make the first part of its command line.
+pub(crate) fn first_subcommands() -> &'static [Subcommand]
+    ensures { with_commands empty_line result.now ≡ first_line }
 {
-    &SUBCOMMANDS
+    &FIRST_SUBCOMMANDS
+}
+
+/// Those after them, which make the rest of it.
+pub(crate) fn later_subcommands() -> &'static [Subcommand]
+    ensures { with_commands first_line result.now ≡ command_line }
+{
+    &LATER_SUBCOMMANDS
 }

@@ -113,12 +113,23 @@ pub enum Task<'a> {
         /// The name of the cartridge's file.
         cart: &'a str,
     },
-    /// Make the changes of a script on the movie on standard input.
+    /// Make the lines of a script on the movie on standard input.
     Edit {
         /// The name of the cartridge's file.
         cart: &'a str,
         /// The name of the script's file.
         script: &'a str,
+        /// The name of the file with the text of a second movie, from which lines may copy.
+        other: Option<&'a str>,
+    },
+    /// Write the text of some frames of the movie on standard input.
+    Cut {
+        /// The name of the cartridge's file.
+        cart: &'a str,
+        /// The first frame, counted from 0, up to 9,999,999.
+        from: usize,
+        /// The frame after the last one, up to 9,999,999.
+        to: usize,
     },
     /// Write the script that makes the movie on standard input of an older one.
     Diff {

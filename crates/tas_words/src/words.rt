@@ -116,6 +116,12 @@ fn text_task<'a>(name: &str, words: &ArgMatches<'a>) -> Option<Task<'a>>
         "edit" => Some(Task::Edit {
             cart: word_of(words, "CART")?,
             script: word_of(words, "SCRIPT")?,
+            other: word_of(words, "OTHER"),
+        }),
+        "cut" => Some(Task::Cut {
+            cart: word_of(words, "CART")?,
+            from: frame_of(words, "FROM")?,
+            to: frame_of(words, "TO")?,
         }),
         "diff" => Some(Task::Diff {
             cart: word_of(words, "CART")?,

@@ -8,7 +8,7 @@ use Rattle.tas_engines.specs.Digests.{IsDigestRun}
 use Rattle.tas_engines.specs.Ram.{IsRamRun}
 use Rattle.tas_engines.specs.Lag.{IsLagRun}
 use Rattle.tas_tool.specs.Films.{IsFilmRun}
-use Rattle.tas_engines.specs.Editing.{IsEditRun}
+use Rattle.tas_engines.specs.Cutting.{IsCutRun}
 use Rattle.tas_engines.specs.Diffing.{IsDiffRun}
 use Rattle.tas_tool.specs.Pixmaps.{IsExportAnswer}
 use Rattle.tas_program.proofs.ProgramLemmas.{over_one, over_two}
@@ -60,10 +60,10 @@ returns-in_ok-open-in-Lag g c =
     rw c.in-Lag.is
     (over_one IsLagRun (g.F.Folder.bytes_of c.args.folder.now c.in-Lag.cart.now) (g.F.File.Read.remaining c.in_ok-open-in-Lag.field-0) (g.F.File.Read.remaining c.lag_run.new.cart) (record { input = g.R.Read.remaining c.args.input.now; output = g.W.Write.contents c.args.output.now }) (record { input = g.R.Read.remaining c.lag_run.new.input; output = g.W.Write.contents c.lag_run.new.output }) c.lag_run.result c.in_ok-open-in-Lag.ensures.file c.lag_run.ensures)
 
-pub returns-in_ok-script-in-Edit : goal.returns-in_ok-script-in-Edit
-returns-in_ok-script-in-Edit g c =
-    rw c.in-Edit.is
-    (over_two IsEditRun (g.F.Folder.bytes_of c.args.folder.now c.in-Edit.cart.now) (g.F.Folder.bytes_of c.args.folder.now c.in-Edit.script.now) (g.F.File.Read.remaining c.in_ok-cart-in-Edit.cart) (g.F.File.Read.remaining c.edit_run.new.cart) (g.F.File.Read.remaining c.in_ok-script-in-Edit.script) (g.F.File.Read.remaining c.edit_run.new.script) (record { input = g.R.Read.remaining c.args.input.now; output = g.W.Write.contents c.args.output.now }) (record { input = g.R.Read.remaining c.edit_run.new.input; output = g.W.Write.contents c.edit_run.new.output }) c.edit_run.result c.in_ok-cart-in-Edit.ensures.file c.in_ok-script-in-Edit.ensures.file c.edit_run.ensures)
+pub returns-in_ok-open-in-Cut : goal.returns-in_ok-open-in-Cut
+returns-in_ok-open-in-Cut g c =
+    rw c.in-Cut.is
+    (over_one (IsCutRun c.in-Cut.from c.in-Cut.to) (g.F.Folder.bytes_of c.args.folder.now c.in-Cut.cart.now) (g.F.File.Read.remaining c.in_ok-open-in-Cut.field-0) (g.F.File.Read.remaining c.cut_run.new.cart) (record { input = g.R.Read.remaining c.args.input.now; output = g.W.Write.contents c.args.output.now }) (record { input = g.R.Read.remaining c.cut_run.new.input; output = g.W.Write.contents c.cut_run.new.output }) c.cut_run.result c.in_ok-open-in-Cut.ensures.file c.cut_run.ensures)
 
 pub returns-in_ok-old-in-Diff : goal.returns-in_ok-old-in-Diff
 returns-in_ok-old-in-Diff g c =

@@ -4,4 +4,6 @@ use Rattle.tas_words.specs.CommandLine.{with_commands}
 use Rattle.tas_words.proofs.command_line.command_line.Goals as goal
 
 pub returns : goal.returns
-returns c = IfOk-weaker c.with_commands.result _ _ (λ line is. is ∙ ap (λ l. with_commands l c.subcommands.result.now) c.in_ok-line.ensures ∙ c.subcommands.ensures) c.with_commands.ensures
+returns c =
+    let first = c.in_ok-line.ensures ∙ ap (λ l. with_commands l c.first_subcommands.result.now) c.in_ok-empty.ensures ∙ c.first_subcommands.ensures in
+    IfOk-weaker c.with_commands-2.result _ _ (λ line is. is ∙ ap (λ l. with_commands l c.later_subcommands.result.now) first ∙ c.later_subcommands.ensures) c.with_commands-2.ensures
