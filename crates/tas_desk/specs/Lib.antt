@@ -1,6 +1,6 @@
 pub mod Closing
-pub mod Exporting
 pub mod Exports
+pub mod Inside
 pub mod Locked
 pub mod Seats
 pub mod States

@@ -110,7 +110,9 @@ impl<N: Name, W: CloseOnDrop, A: Allocator> Desk<N, W, A> {
     /// leaves the seat as it was.
     pub fn len(&self, seat: &mut Seat<N, A>) -> Result<(u64, usize), NoEntry>
         ensures seat { KeepsZone seat.old seat.new }
-        ensures reply { MatchResult result (λ p. (p.0 ≡ length seat.new.front) × (p.1 ≡ answer_len (movie_of seat.new.front))) (λ _. seat.new ≡ seat.old) }
+        ensures reply { MatchResult result
+            (λ p. (p.0 ≡ length seat.new.front) × (p.1 ≡ answer_len (movie_of seat.new.front)))
+            (λ _. seat.new ≡ seat.old) }
     {
         seat.len()
     }
@@ -165,7 +167,9 @@ impl<N: Name, W: CloseOnDrop + Wait, A: Allocator + Copy> Desk<N, W, A> {
     ) -> Result<(Desk<N, W, A>, Vec<Seat<N, A>, A>), OpenError>
         requires name { unopened ≡ name_of N.registry N.name N.parts }
         ensures seats { IfOk result (λ opened. length opened.1.items ≡ unopened.seats) }
-        ensures fresh { IfOk result (λ opened. (k : ℕ) → k < unopened.seats → slice_get opened.1.items k ≡ Some (seat_of k 0 [] (blank_zone N.registry))) }
+        ensures fresh { IfOk result
+            (λ opened. (k : ℕ) → k < unopened.seats
+            → slice_get opened.1.items k ≡ Some (seat_of k 0 [] (blank_zone N.registry))) }
     {
         let Unopened {
             mut session,
@@ -221,7 +225,8 @@ impl<N: Name, W: CloseOnDrop, A: Allocator + Copy> Desk<N, W, A> {
         ensures reply { IsShotAt seat.new.front k result }
         ensures zone { IsZoneShot seat.old seat.new k result }
         ensures short { IfOk result (λ shot. IsShort seat.old.zone seat.new.zone k shot.ran) }
-        ensures window { MatchPlayed result (CutsWindow seat.old.zone seat.new.zone) (seat.new.zone ≡ seat.old.zone) }
+        ensures window { MatchPlayed result (CutsWindow seat.old.zone seat.new.zone)
+            (seat.new.zone ≡ seat.old.zone) }
     {
         seat.shot(alloc, k)
     }
@@ -264,7 +269,8 @@ impl<N: Name, W: CloseOnDrop, A: Allocator + Copy> Desk<N, W, A> {
     /// lacked. After `AllocError` the zone is as it was.
     pub fn share<R: Wait>(&self, rt: &R, seat: &mut Seat<N, A>) -> Result<usize, AllocError>
         ensures seat { HasSeen seat.old seat.new }
-        ensures zone { MatchResult result (IsShared seat.old.zone seat.new.zone seat.new.front) (λ _. seat.new.zone ≡ seat.old.zone) }
+        ensures zone { MatchResult result (IsShared seat.old.zone seat.new.zone seat.new.front)
+            (λ _. seat.new.zone ≡ seat.old.zone) }
     {
         self.locked.lock(rt).share(rt, seat)
     }
@@ -295,8 +301,10 @@ impl<N: Name, W: CloseOnDrop, A: Allocator + Copy> Desk<N, W, A> {
         batch: Batch<B>,
     ) -> Result<Offered, OfferError<B>>
         ensures seat { KeepsZone seat.old seat.new }
-        ensures cartridge { (result ≡ Err (Cartridge (length seat.new.front))) ↔ (batch.cart ≢ (movie_of seat.new.front).cart) }
-        ensures error { IfErr result (λ error. (error ≡ Cartridge (length seat.new.front)) ⊎ (error ≡ Memory batch)) }
+        ensures cartridge { (result ≡ Err (Cartridge (length seat.new.front)))
+            ↔ (batch.cart ≢ (movie_of seat.new.front).cart) }
+        ensures error { IfErr result
+            (λ error. (error ≡ Cartridge (length seat.new.front)) ⊎ (error ≡ Memory batch)) }
         ensures at { IfOk result (λ offered. offered.at ≡ length seat.new.front) }
         ensures taken { IfOk result (IsTaken (movie_of seat.new.front) batch) }
         ensures few { IfOk result (λ offered. offered.kept ≤ most_states) }

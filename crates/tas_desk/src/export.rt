@@ -4,7 +4,7 @@ ghost use Rattle.std.specs.Prelude.{◌≡◌, ◌↔◌, ◌≤◌, IsTrue, IfO
 ghost use Rattle.tas_session.specs.History.{movie_of};
 ghost use Rattle.tas_desk.specs.Seats.{KeepsZone};
 ghost use Rattle.tas_film.specs.Runs.{most_workers, IsPlan};
-ghost use Rattle.tas_desk.specs.Exporting.{end_at as end_of};
+ghost use Rattle.tas_desk.specs.Inside.Exporting.{end_at as end_of};
 ghost use Rattle.tas_film.specs.Faults.{IsExportFault};
 ghost use Rattle.tas_desk.specs.Exports.{IsInRange, IsExported, IsExport};
 
@@ -98,7 +98,9 @@ impl<N: Name, W: CloseOnDrop, A: Allocator + Copy> Desk<N, W, A> {
     ) -> Result<Exported, ExportError>
         requires { (1 ≤ workers) × (workers ≤ most_workers) }
         ensures seat { KeepsZone seat.old seat.new }
-        ensures reply { IsExport seat.old.zone (movie_of seat.new.front) (length seat.new.front) (record { from = from; to = to; workers = workers }) (O.contents out.old) (O.contents out.new) result }
+        ensures reply { IsExport seat.old.zone (movie_of seat.new.front) (length seat.new.front)
+            (record { from = from; to = to; workers = workers }) (O.contents out.old)
+            (O.contents out.new) result }
     {
         let found = self.locked.lock(rt).copy(rt, alloc, seat, from, to);
         let (at, movie) = found?;
@@ -126,8 +128,10 @@ fn export_movie<
 ) -> Result<u64, ExportFault>
     requires plan { IsPlan movie.now plan }
     requires range { IsInRange (length movie.now.inputs) plan.from plan.to }
-    ensures ok { IfOk result (IsExported zone.now movie.now plan (O.contents out.old) (O.contents out.new)) }
-    ensures fault { IfErr result (IsExportFault movie.now plan (O.contents out.old) (O.contents out.new)) }
+    ensures ok { IfOk result
+        (IsExported zone.now movie.now plan (O.contents out.old) (O.contents out.new)) }
+    ensures fault { IfErr result
+        (IsExportFault movie.now plan (O.contents out.old) (O.contents out.new)) }
 {
     match zone.moved(alloc, movie) {
         Ok(left) => export_frames(rt, alloc, movie, &left, plan, gate, out),

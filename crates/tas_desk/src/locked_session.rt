@@ -10,7 +10,7 @@ ghost use Rattle.tas_session.specs.History.{movie_of, entries_of, IsLegal};
 ghost use Rattle.tas_session.specs.Session.{refusal_at, IsEditError};
 ghost use Rattle.tas_desk.specs.Locked.{locked_of, locked_after};
 ghost use Rattle.tas_desk.specs.Zones.{CutsWindow, IsMadeFor, Shares};
-ghost use Rattle.tas_desk.specs.Exporting.{FoundRange};
+ghost use Rattle.tas_desk.specs.Inside.Exporting.{FoundRange};
 ghost use Rattle.tas_desk.specs.Work.{IsJobFrom, Takes};
 ghost use Rattle.tas_desk.specs.Closing.{made_by};
 ghost use Rattle.tas_desk.specs.Seats.{seat_of, entry_of, IsWhole, IsSettled, AnswersEdit};
@@ -66,7 +66,8 @@ impl<N: Name, W: CloseOnDrop, A: Allocator> Model for LockedSession<N, W, A> {
 
     ghost view = { λ l. locked_of l.session.journal l.session.zone };
 
-    ghost invariant = { λ l. (l.session.registry ≡ N.registry) × (l.book.total ≡ length l.session.journal) × (l.rest.parts ≡ 0) × (l.rest.amount ≡ 0) };
+    ghost invariant = { λ l. (l.session.registry ≡ N.registry)
+        × (l.book.total ≡ length l.session.journal) × (l.rest.parts ≡ 0) × (l.rest.amount ≡ 0) };
 }
 
 impl<N: Name, W: CloseOnDrop, A: Allocator> LockedSession<N, W, A> {
@@ -88,7 +89,8 @@ impl<N: Name, W: CloseOnDrop, A: Allocator> LockedSession<N, W, A> {
 
     /// Lets a seat see the history, and returns its length.
     pub fn show<R: Wait>(&self, rt: &R, seat: &mut Seat<N, A>) -> u64
-        ensures seat { seat.new ≡ seat_of seat.old.number seat.old.made self.now.journal seat.old.zone }
+        ensures seat { seat.new
+            ≡ seat_of seat.old.number seat.old.made self.now.journal seat.old.zone }
         ensures begins { IsPrefix seat.old.front self.now.journal }
         ensures at { result ≡ length self.now.journal }
     {
@@ -162,10 +164,12 @@ impl<N: Name, W: CloseOnDrop, A: Allocator + Copy> LockedSession<N, W, A> {
             (λ _. refusal_at self.old.journal seat.old.number seat.old.made edit ≡ None)
             (IsEditError (refusal_at self.old.journal seat.old.number seat.old.made edit)) }
         ensures answered { AnswersEdit (movie_of self.old.journal) edit result }
-        ensures done { OnOk result (self.new ≡ locked_after self.old (entry_of seat.old.number seat.old.made edit)) }
+        ensures done { OnOk result
+            (self.new ≡ locked_after self.old (entry_of seat.old.number seat.old.made edit)) }
         ensures refused { OnErr result (self.new ≡ self.old) }
         ensures seat { MatchResult result
-            (λ _. seat.new ≡ seat_of seat.old.number (seat.old.made + 1) self.new.journal seat.old.zone)
+            (λ _. seat.new
+            ≡ seat_of seat.old.number (seat.old.made + 1) self.new.journal seat.old.zone)
             (λ _. seat.new ≡ seat_of seat.old.number seat.old.made self.new.journal seat.old.zone) }
     {
         self.session.show_to(rt, &mut seat.reader);
@@ -186,8 +190,10 @@ impl<N: Name, W: CloseOnDrop, A: Allocator + Copy> LockedSession<N, W, A> {
         to: usize,
     ) -> Result<(u64, Movie<B>), ExportError>
         ensures begins { IsPrefix seat.old.front self.now.journal }
-        ensures seat { seat.new ≡ seat_of seat.old.number seat.old.made self.now.journal seat.old.zone }
-        ensures reply { FoundRange (movie_of self.now.journal) (length self.now.journal) from to result }
+        ensures seat { seat.new
+            ≡ seat_of seat.old.number seat.old.made self.now.journal seat.old.zone }
+        ensures reply { FoundRange (movie_of self.now.journal) (length self.now.journal) from to
+            result }
     {
         self.session.show_to(rt, &mut seat.reader);
         let at = self.session.at();
@@ -204,7 +210,8 @@ impl<N: Name, W: CloseOnDrop, A: Allocator + Copy> LockedSession<N, W, A> {
     /// Lets a seat's zone gain exactly the kept states that it lacks, and returns how many.
     pub fn share<R: Wait>(&self, rt: &R, seat: &mut Seat<N, A>) -> Result<usize, AllocError>
         ensures begins { IsPrefix seat.old.front self.now.journal }
-        ensures seat { seat.new ≡ seat_of seat.old.number seat.old.made self.now.journal seat.new.zone }
+        ensures seat { seat.new
+            ≡ seat_of seat.old.number seat.old.made self.now.journal seat.new.zone }
         ensures made { OnOk result (IsMadeFor seat.new.zone self.now.journal) }
         ensures gained { IfOk result (Shares seat.old.zone.movie seat.new.zone.movie
             seat.old.zone.states self.now.zone seat.new.zone.states) }
@@ -229,7 +236,8 @@ impl<N: Name, W: CloseOnDrop, A: Allocator + Copy> LockedSession<N, W, A> {
         near: usize,
     ) -> Result<Job<B>, AllocError>
         ensures begins { IsPrefix seat.old.front self.now.journal }
-        ensures seat { seat.new ≡ seat_of seat.old.number seat.old.made self.now.journal seat.old.zone }
+        ensures seat { seat.new
+            ≡ seat_of seat.old.number seat.old.made self.now.journal seat.old.zone }
         ensures job { IfOk result (IsJobFrom self.now.zone (movie_of self.now.journal) near) }
         ensures lawful { IsLawful (movie_of self.now.journal) self.now.zone }
     {
@@ -246,13 +254,15 @@ impl<N: Name, W: CloseOnDrop, A: Allocator + Copy> LockedSession<N, W, A> {
     ) -> Result<Offered, OfferError<B>>
         ensures begins { IsPrefix seat.old.front self.old.journal }
         ensures journal { self.new.journal ≡ self.old.journal }
-        ensures seat { seat.new ≡ seat_of seat.old.number seat.old.made self.old.journal seat.old.zone }
+        ensures seat { seat.new
+            ≡ seat_of seat.old.number seat.old.made self.old.journal seat.old.zone }
         ensures cartridge { (result ≡ Err (Cartridge (length self.old.journal)))
             ↔ (batch.cart ≢ (movie_of self.old.journal).cart) }
         ensures error { IfErr result (λ error.
             (error ≡ Cartridge (length self.old.journal)) ⊎ (error ≡ Memory batch)) }
         ensures at { IfOk result (λ offered. offered.at ≡ length self.old.journal) }
-        ensures taken { IfOk result (Takes self.old.zone self.new.zone (movie_of self.old.journal) batch) }
+        ensures taken { IfOk result
+            (Takes self.old.zone self.new.zone (movie_of self.old.journal) batch) }
         ensures lawful { IsLawful (movie_of self.old.journal) self.old.zone }
         ensures lawful_now { IsLawful (movie_of self.old.journal) self.new.zone }
         ensures refused { OnErr result (self.new ≡ self.old) }

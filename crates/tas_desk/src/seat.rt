@@ -38,7 +38,8 @@ impl<N: Name, A: Allocator> Model for Seat<N, A> {
 
     ghost view = { λ s. seat_of s.number s.made s.reader.seen s.zone };
 
-    ghost invariant = { λ s. IsSeated s.reader N.registry s.share.parts s.share.amount s.number s.made s.zone };
+    ghost invariant = { λ s. IsSeated s.reader N.registry s.share.parts s.share.amount s.number
+        s.made s.zone };
 }
 
 impl<N: Name, A: Allocator> Seat<N, A> {
@@ -96,7 +97,9 @@ impl<N: Name, A: Allocator> Seat<N, A> {
     /// How many edits there are, and how many inputs.
     pub(crate) fn len(&mut self) -> Result<(u64, usize), NoEntry>
         ensures seat { KeepsZone self.old self.new }
-        ensures reply { MatchResult result (λ p. (p.0 ≡ length self.new.front) × (p.1 ≡ answer_len (movie_of self.new.front))) (λ _. self.new ≡ self.old) }
+        ensures reply { MatchResult result
+            (λ p. (p.0 ≡ length self.new.front) × (p.1 ≡ answer_len (movie_of self.new.front)))
+            (λ _. self.new ≡ self.old) }
     {
         self.reader.len()
     }
@@ -117,7 +120,8 @@ impl<N: Name, A: Allocator + Copy> Seat<N, A> {
         ensures reply { IsShotAt self.new.front k result }
         ensures zone { IsZoneShot self.old self.new k result }
         ensures short { IfOk result (λ shot. IsShort self.old.zone self.new.zone k shot.ran) }
-        ensures window { MatchPlayed result (CutsWindow self.old.zone self.new.zone) (self.new.zone ≡ self.old.zone) }
+        ensures window { MatchPlayed result (CutsWindow self.old.zone self.new.zone)
+            (self.new.zone ≡ self.old.zone) }
     {
         let (at, copied) = self
             .reader

@@ -45,9 +45,16 @@ where
 
     ghost Value = { ZoneContent A };
 
-    ghost view = { λ z. record { made_for = z.made_for.version; movie = z.made_for.movie; states = z.green; window = z.window } };
+    ghost view = { λ z. record {
+      made_for = z.made_for.version;
+      movie = z.made_for.movie;
+      states = z.green;
+      window =
+          z.window;
+    } };
 
-    ghost invariant = { λ z. IsLawful z.made_for.movie z.green × AreMovieStates z.made_for.movie z.window };
+    ghost invariant = { λ z. IsLawful z.made_for.movie z.green
+        × AreMovieStates z.made_for.movie z.window };
 }
 
 impl<A: Allocator> SeatZone<A> {
@@ -114,16 +121,23 @@ impl<A: Allocator + Copy> SeatZone<A> {
         picture: &mut Picture<B>,
         meter: &mut Meter,
     ) -> Result<Result<(), Halt>, AllocError>
-        requires within { k < length (movie_of (version_after self.old.made_for copied).history).inputs }
+        requires within { k
+            < length (movie_of (version_after self.old.made_for copied).history).inputs }
         requires room { meter.old + (k + 1) < 2 ^ 64 }
-        ensures answer { IfOk result (λ answer. answer ≡ answer_of (state_after self.new.movie (k + 1)).halt) }
-        ensures picture { IfOk result (λ answer. OnOk answer (picture.new ≡ picture_of self.new.movie k)) }
-        ensures made_for { OnOk result (self.new.made_for ≡ version_after self.old.made_for copied) }
+        ensures answer { IfOk result
+            (λ answer. answer ≡ answer_of (state_after self.new.movie (k + 1)).halt) }
+        ensures picture { IfOk result
+            (λ answer. OnOk answer (picture.new ≡ picture_of self.new.movie k)) }
+        ensures made_for { OnOk result
+            (self.new.made_for ≡ version_after self.old.made_for copied) }
         ensures movie { OnOk result (self.new.movie ≡ movie_of self.new.made_for.history) }
-        ensures kept { OnOk result (IsShotFrom self.old.movie self.new.movie k self.old.states self.new.states meter.old meter.new) }
+        ensures kept { OnOk result
+            (IsShotFrom self.old.movie self.new.movie k self.old.states self.new.states meter.old
+            meter.new) }
         ensures lawful { OnOk result (IsLawful self.new.movie self.new.states) }
         ensures near { OnOk result (AreMovieStates self.new.movie self.new.window) }
-        ensures cut { OnOk result (IsWindowMoved self.old.movie self.new.movie self.old.window self.new.window) }
+        ensures cut { OnOk result
+            (IsWindowMoved self.old.movie self.new.movie self.old.window self.new.window) }
         ensures memory { OnErr result ((self.new ≡ self.old) × (meter.new ≡ meter.old)) }
     {
         let old = &self.made_for;
@@ -150,14 +164,21 @@ impl<A: Allocator + Copy> SeatZone<A> {
         picture: &mut Picture<B>,
     ) -> Result<Viewed, AllocError>
         requires { k < length (movie_of (version_after self.old.made_for copied).history).inputs }
-        ensures answer { IfOk result (λ viewed. viewed.end ≡ answer_of (state_after self.new.movie (k + 1)).halt) }
-        ensures picture { IfOk result (λ viewed. OnOk viewed.end (picture.new ≡ picture_of self.new.movie k)) }
-        ensures made_for { OnOk result (self.new.made_for ≡ version_after self.old.made_for copied) }
+        ensures answer { IfOk result
+            (λ viewed. viewed.end ≡ answer_of (state_after self.new.movie (k + 1)).halt) }
+        ensures picture { IfOk result
+            (λ viewed. OnOk viewed.end (picture.new ≡ picture_of self.new.movie k)) }
+        ensures made_for { OnOk result
+            (self.new.made_for ≡ version_after self.old.made_for copied) }
         ensures movie { OnOk result (self.new.movie ≡ movie_of self.new.made_for.history) }
-        ensures kept { IfOk result (λ viewed. IsViewFrom self.old.movie self.new.movie k (both self.old.states self.old.window) (both self.new.states self.new.window) viewed.ran) }
+        ensures kept { IfOk result
+            (λ viewed. IsViewFrom self.old.movie self.new.movie k
+            (both self.old.states self.old.window) (both self.new.states self.new.window)
+            viewed.ran) }
         ensures lawful { OnOk result (IsLawful self.new.movie self.new.states) }
         ensures near { OnOk result (AreMovieStates self.new.movie self.new.window) }
-        ensures forward { OnOk result (IsOneAway self.new.movie (k + 1) (both self.new.states self.new.window)) }
+        ensures forward { OnOk result
+            (IsOneAway self.new.movie (k + 1) (both self.new.states self.new.window)) }
         ensures memory { OnErr result (self.new ≡ self.old) }
     {
         let old = &self.made_for;
@@ -184,15 +205,20 @@ impl<A: Allocator + Copy> SeatZone<A> {
         k: usize,
         meter: &mut Meter,
     ) -> Result<State, AllocError>
-        requires within { k ≤ length (movie_of (version_after self.old.made_for copied).history).inputs }
+        requires within { k
+            ≤ length (movie_of (version_after self.old.made_for copied).history).inputs }
         requires room { meter.old + k < 2 ^ 64 }
         ensures state { IfOk result (λ state. state ≡ state_after self.new.movie k) }
-        ensures made_for { OnOk result (self.new.made_for ≡ version_after self.old.made_for copied) }
+        ensures made_for { OnOk result
+            (self.new.made_for ≡ version_after self.old.made_for copied) }
         ensures movie { OnOk result (self.new.movie ≡ movie_of self.new.made_for.history) }
-        ensures kept { OnOk result (IsReachedFrom self.old.movie self.new.movie k self.old.states self.new.states meter.old meter.new) }
+        ensures kept { OnOk result
+            (IsReachedFrom self.old.movie self.new.movie k self.old.states self.new.states meter.old
+            meter.new) }
         ensures lawful { OnOk result (IsLawful self.new.movie self.new.states) }
         ensures near { OnOk result (AreMovieStates self.new.movie self.new.window) }
-        ensures cut { OnOk result (IsWindowMoved self.old.movie self.new.movie self.old.window self.new.window) }
+        ensures cut { OnOk result
+            (IsWindowMoved self.old.movie self.new.movie self.old.window self.new.window) }
         ensures memory { OnErr result ((self.new ≡ self.old) × (meter.new ≡ meter.old)) }
     {
         let old = &self.made_for;
@@ -221,10 +247,12 @@ impl<A: Allocator + Copy> SeatZone<A> {
         requires lawful { IsLawful movie.now other.now }
         ensures made_for { OnOk result (self.new.made_for ≡ version.now) }
         ensures movie { OnOk result (self.new.movie ≡ movie.now) }
-        ensures gained { IfOk result (Shares self.old.movie movie.now self.old.states other.now self.new.states) }
+        ensures gained { IfOk result
+            (Shares self.old.movie movie.now self.old.states other.now self.new.states) }
         ensures lawful { OnOk result (IsLawful self.new.movie self.new.states) }
         ensures near { OnOk result (AreMovieStates self.new.movie self.new.window) }
-        ensures cut { OnOk result (IsWindowMoved self.old.movie self.new.movie self.old.window self.new.window) }
+        ensures cut { OnOk result
+            (IsWindowMoved self.old.movie self.new.movie self.old.window self.new.window) }
         ensures memory { OnErr result (self.new ≡ self.old) }
     {
         let old = &self.made_for;
@@ -248,7 +276,8 @@ impl<A: Allocator + Copy> SeatZone<A> {
         alloc: B,
         movie: &Movie<C>,
     ) -> Result<Green<B>, AllocError>
-        ensures moved { IfOk result (λ green. IsMoved self.now.movie movie.now self.now.states green) }
+        ensures moved { IfOk result
+            (λ green. IsMoved self.now.movie movie.now self.now.states green) }
         ensures lawful { IfOk result (λ green. IsLawful movie.now green) }
     {
         self.green.moved(alloc, &self.made_for.movie, movie)

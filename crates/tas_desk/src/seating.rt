@@ -47,7 +47,9 @@ pub fn new_seats<N: Name, R: Wait, A: Allocator + Copy>(
     ensures session { session.new ≡ session.old }
     ensures rest { OnOk result ((rest.new.parts ≡ 0) × (rest.new.amount ≡ 0)) }
     ensures seats { IfOk result (λ seats. length seats.items ≡ count) }
-    ensures fresh { IfOk result (λ seats. (k : ℕ) → k < count → slice_get seats.items k ≡ Some (seat_of k 0 [] (blank_zone N.registry))) }
+    ensures fresh { IfOk result
+        (λ seats. (k : ℕ) → k < count
+        → slice_get seats.items k ≡ Some (seat_of k 0 [] (blank_zone N.registry))) }
 {
     let mut seats = Vec::new(alloc);
     for number in 0..count {

@@ -22,7 +22,8 @@ fn movie_length<A: Allocator + Copy>(
     image: &[u8],
     bytes: &[u8],
 ) -> Result<usize, RunFault>
-    ensures length { IfOk result (λ frames. IsCheckAnswer image.now bytes.now (Ok (length_line frames))) }
+    ensures length { IfOk result
+        (λ frames. IsCheckAnswer image.now bytes.now (Ok (length_line frames))) }
     ensures fault { IfErr result (IsMovieFault image.now bytes.now) }
 {
     let movie = movie_of(alloc, image, bytes)?;
@@ -36,7 +37,8 @@ fn check_movie<A: Allocator + Copy, W: Write>(
     bytes: &[u8],
     output: &mut W,
 ) -> Result<(), RunFault>
-    ensures { Ends (IsCheckAnswer image.now bytes.now) (W.contents output.old) (W.contents output.new) result }
+    ensures { Ends (IsCheckAnswer image.now bytes.now) (W.contents output.old)
+        (W.contents output.new) result }
 {
     let frames = movie_length(alloc, image, bytes)?;
     let line = length_line(alloc, frames)?;
@@ -54,8 +56,9 @@ pub fn check_run<A: Allocator + Copy, C: Read, R: Read, W: Write>(
     input: &mut R,
     output: &mut W,
 ) -> Result<(), ToolFault>
-    ensures { IsMovieRun IsCheckAnswer (C.remaining cart.old) (C.remaining cart.new) (R.remaining input.old) (R.remaining input.new)
-        (W.contents output.old) (W.contents output.new) result }
+    ensures { IsMovieRun IsCheckAnswer (C.remaining cart.old) (C.remaining cart.new)
+        (R.remaining input.old) (R.remaining input.new) (W.contents output.old)
+        (W.contents output.new) result }
 {
     let (image, bytes) = read_two(alloc, cart, input)?;
     Ok(check_movie(alloc, image.as_slice(), bytes.as_slice(), output)?)

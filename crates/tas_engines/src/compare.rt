@@ -211,8 +211,10 @@ fn compare_answer<A: Allocator + Copy>(
     before: &[u8],
     after: &[u8],
 ) -> Result<Vec<u8, A>, RunFault>
-    ensures text { IfOk result (λ text. IsCompareAnswer image.now before.now after.now (Ok text.items)) }
-    ensures fault { IfErr result (λ fault. IsCompareAnswer image.now before.now after.now (Err fault)) }
+    ensures text { IfOk result
+        (λ text. IsCompareAnswer image.now before.now after.now (Ok text.items)) }
+    ensures fault { IfErr result
+        (λ fault. IsCompareAnswer image.now before.now after.now (Err fault)) }
 {
     let old = movie_of(alloc, image, before)?;
     let new = movie_of(alloc, image, after)?;
@@ -228,7 +230,8 @@ fn write_comparison<A: Allocator + Copy, W: Write>(
     after: &[u8],
     output: &mut W,
 ) -> Result<(), RunFault>
-    ensures { Ends (IsCompareAnswer image.now before.now after.now) (W.contents output.old) (W.contents output.new) result }
+    ensures { Ends (IsCompareAnswer image.now before.now after.now) (W.contents output.old)
+        (W.contents output.new) result }
 {
     let text = compare_answer(alloc, image, before, after)?;
     write_all(output, text.as_slice())
@@ -249,8 +252,9 @@ pub fn compare_run<A: Allocator + Copy, C: Read, S: Read, R: Read, W: Write>(
     input: &mut R,
     output: &mut W,
 ) -> Result<(), ToolFault>
-    ensures { IsCompareRun (C.remaining cart.old) (C.remaining cart.new) (S.remaining before.old) (S.remaining before.new)
-        (R.remaining input.old) (R.remaining input.new) (W.contents output.old) (W.contents output.new) result }
+    ensures { IsCompareRun (C.remaining cart.old) (C.remaining cart.new) (S.remaining before.old)
+        (S.remaining before.new) (R.remaining input.old) (R.remaining input.new)
+        (W.contents output.old) (W.contents output.new) result }
 {
     let read = read_three(alloc, cart, before, input)?;
     Ok(write_comparison(

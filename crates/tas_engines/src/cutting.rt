@@ -11,7 +11,8 @@ use tas_movie::{Edit, Movie, apply, print_text};
 
 /// Leaves the frames from one to the one before another alone; `Range` where the movie hasn't got them, and it is as before.
 fn keep_frames<A: Allocator>(movie: &mut Movie<A>, from: usize, to: usize) -> Result<(), RunFault>
-    ensures range { IfOk result (λ done. IsCutRange movie.old from to × (movie.new ≡ cut_out movie.old from to)) }
+    ensures range { IfOk result
+        (λ done. IsCutRange movie.old from to × (movie.new ≡ cut_out movie.old from to)) }
     ensures fault { IfErr result (IsCutFault from to movie.old) }
 {
     let len = movie.len();
@@ -53,7 +54,8 @@ fn write_cut<A: Allocator + Copy, W: Write>(
     bytes: &[u8],
     output: &mut W,
 ) -> Result<(), RunFault>
-    ensures { Ends (IsCutAnswer from to image.now bytes.now) (W.contents output.old) (W.contents output.new) result }
+    ensures { Ends (IsCutAnswer from to image.now bytes.now) (W.contents output.old)
+        (W.contents output.new) result }
 {
     let text = cut_text(alloc, from, to, image, bytes)?;
     write_all(output, text.as_slice())
@@ -73,8 +75,8 @@ pub fn cut_run<A: Allocator + Copy, C: Read, R: Read, W: Write>(
     input: &mut R,
     output: &mut W,
 ) -> Result<(), ToolFault>
-    ensures { IsCutRun from to (C.remaining cart.old) (C.remaining cart.new) (R.remaining input.old) (R.remaining input.new)
-        (W.contents output.old) (W.contents output.new) result }
+    ensures { IsCutRun from to (C.remaining cart.old) (C.remaining cart.new) (R.remaining input.old)
+        (R.remaining input.new) (W.contents output.old) (W.contents output.new) result }
 {
     let (image, bytes) = read_two(alloc, cart, input)?;
     Ok(write_cut(alloc, from, to, image.as_slice(), bytes.as_slice(), output)?)

@@ -19,7 +19,8 @@ fn script_between<A: Allocator + Copy>(
     old: &Movie<A>,
     new: &Movie<A>,
 ) -> Result<Vec<u8, A>, AllocError>
-    ensures { IfOk result (λ script. (changes : List Change) × IsDifference old.now.inputs new.now.inputs changes
+    ensures { IfOk result
+        (λ script. (changes : List Change) × IsDifference old.now.inputs new.now.inputs changes
         × (script.items ≡ flat_map change_line changes)) }
 {
     let changes = changes_between(alloc, old.inputs(), new.inputs())?;
@@ -33,8 +34,10 @@ fn difference_text<A: Allocator + Copy>(
     before: &[u8],
     after: &[u8],
 ) -> Result<Vec<u8, A>, RunFault>
-    ensures text { IfOk result (λ text. IsDiffAnswer image.now before.now after.now (Ok text.items)) }
-    ensures fault { IfErr result (λ fault. IsDiffAnswer image.now before.now after.now (Err fault)) }
+    ensures text { IfOk result
+        (λ text. IsDiffAnswer image.now before.now after.now (Ok text.items)) }
+    ensures fault { IfErr result
+        (λ fault. IsDiffAnswer image.now before.now after.now (Err fault)) }
 {
     let old = movie_of(alloc, image, before)?;
     let new = movie_of(alloc, image, after)?;
@@ -49,7 +52,8 @@ fn write_difference<A: Allocator + Copy, W: Write>(
     after: &[u8],
     output: &mut W,
 ) -> Result<(), RunFault>
-    ensures { Ends (IsDiffAnswer image.now before.now after.now) (W.contents output.old) (W.contents output.new) result }
+    ensures { Ends (IsDiffAnswer image.now before.now after.now) (W.contents output.old)
+        (W.contents output.new) result }
 {
     let text = difference_text(alloc, image, before, after)?;
     write_all(output, text.as_slice())
@@ -68,8 +72,9 @@ pub fn diff_run<A: Allocator + Copy, C: Read, S: Read, R: Read, W: Write>(
     input: &mut R,
     output: &mut W,
 ) -> Result<(), ToolFault>
-    ensures { IsDiffRun (C.remaining cart.old) (C.remaining cart.new) (S.remaining before.old) (S.remaining before.new)
-        (R.remaining input.old) (R.remaining input.new) (W.contents output.old) (W.contents output.new) result }
+    ensures { IsDiffRun (C.remaining cart.old) (C.remaining cart.new) (S.remaining before.old)
+        (S.remaining before.new) (R.remaining input.old) (R.remaining input.new)
+        (W.contents output.old) (W.contents output.new) result }
 {
     let read = read_three(alloc, cart, before, input)?;
     Ok(write_difference(

@@ -56,7 +56,8 @@ fn digest_of(bytes: &[u8]) -> [u8; DIGITS]
 /// Adds a state's RAM to a message, or answers its halt.
 fn hash_ram(state: &State, hasher: &mut Sha256) -> Result<(), Halt>
     ensures answer { result ≡ answer_of state.now.halt }
-    ensures ram { OnOk result ((m : List ℕ) → Holds256 hasher.old m → Holds256 hasher.new (m ++ state.now.riot.ram)) }
+    ensures ram { OnOk result
+        ((m : List ℕ) → Holds256 hasher.old m → Holds256 hasher.new (m ++ state.now.riot.ram)) }
 {
     if let Some(halt) = state.halted() {
         return Err(halt);
@@ -78,10 +79,13 @@ fn play_stretch<A: Allocator, B: Allocator>(
     requires within { to ≤ length movie.now.inputs }
     requires start { state.old ≡ state_after movie.now from }
     ensures state { OnOk result (state.new ≡ state_after movie.now to) }
-    ensures drawn { OnOk result ((f : ℕ) → from ≤ f → f < to → (state_after movie.now (f + 1)).halt ≡ None) }
+    ensures drawn { OnOk result
+        ((f : ℕ) → from ≤ f → f < to → (state_after movie.now (f + 1)).halt ≡ None) }
     ensures ram { IfOk result (λ digits. digits ≡ digest_of (ram_of_frames movie.now from to)) }
     ensures picture { OnOk result (picture.new ≡ picture_of movie.now (to - 1)) }
-    ensures halted { IfErr result (λ halt. (f : ℕ) × (f < length movie.now.inputs) × ((state_after movie.now (f + 1)).halt ≡ Some halt)) }
+    ensures halted { IfErr result
+        (λ halt. (f : ℕ) × (f < length movie.now.inputs)
+        × ((state_after movie.now (f + 1)).halt ≡ Some halt)) }
 {
     let mut hasher = Sha256::new();
     let last = to - 1;
@@ -124,7 +128,10 @@ struct Stretch {
 
 /// Adds the line of a stretch.
 fn push_stretch<A: Allocator>(out: &mut Vec<u8, A>, stretch: &Stretch) -> Result<(), AllocError>
-    ensures { OnOk result (out.new.items ≡ out.old.items ++ stretch_text stretch.now.from stretch.now.to stretch.now.ram stretch.now.picture) }
+    ensures { OnOk result
+        (out.new.items
+        ≡ out.old.items
+        ++ stretch_text stretch.now.from stretch.now.to stretch.now.ram stretch.now.picture) }
 {
     out.extend_from_slice(b"frames ")?;
     push_number(out, stretch.from)?;
@@ -151,7 +158,8 @@ fn digest_stretch<A: Allocator, B: Allocator>(
     requires within { to ≤ length movie.now.inputs }
     requires start { state.old ≡ state_after movie.now from }
     ensures state { OnOk result (state.new ≡ state_after movie.now to) }
-    ensures drawn { OnOk result ((f : ℕ) → from ≤ f → f < to → (state_after movie.now (f + 1)).halt ≡ None) }
+    ensures drawn { OnOk result
+        ((f : ℕ) → from ≤ f → f < to → (state_after movie.now (f + 1)).halt ≡ None) }
     ensures digests { IfOk result (λ stretch. stretch ≡ record {
       from = from;
       to = to;
@@ -183,8 +191,11 @@ fn push_stretches<A: Allocator + Copy>(
 ) -> Result<(), RunFault>
     requires { 1 ≤ every }
     ensures drawn { OnOk result (NoneHalted movie.now) }
-    ensures text { OnOk result (out.new.items ≡ out.old.items
-        ++ flat_map (line_of_stretch every movie.now) (range_with_len 0 (div_ceil (length movie.now.inputs) every))) }
+    ensures text { OnOk result
+        (out.new.items
+        ≡ out.old.items
+        ++ flat_map (line_of_stretch every movie.now)
+        (range_with_len 0 (div_ceil (length movie.now.inputs) every))) }
     ensures fault { IfErr result (IsDigestFault movie.now) }
 {
     let len = movie.len();
@@ -275,7 +286,8 @@ fn write_digest<A: Allocator + Copy, W: Write>(
     output: &mut W,
 ) -> Result<(), RunFault>
     requires { 1 ≤ every }
-    ensures { Ends (IsDigestAnswer every image.now bytes.now) (W.contents output.old) (W.contents output.new) result }
+    ensures { Ends (IsDigestAnswer every image.now bytes.now) (W.contents output.old)
+        (W.contents output.new) result }
 {
     let text = digest_answer(alloc, every, image, bytes)?;
     write_all(output, text.as_slice())
@@ -295,8 +307,9 @@ pub fn digest_run<A: Allocator + Copy, C: Read, R: Read, W: Write>(
     output: &mut W,
 ) -> Result<(), ToolFault>
     requires { 1 ≤ every }
-    ensures { IsDigestRun every (C.remaining cart.old) (C.remaining cart.new) (R.remaining input.old) (R.remaining input.new)
-        (W.contents output.old) (W.contents output.new) result }
+    ensures { IsDigestRun every (C.remaining cart.old) (C.remaining cart.new)
+        (R.remaining input.old) (R.remaining input.new) (W.contents output.old)
+        (W.contents output.new) result }
 {
     let (image, bytes) = read_two(alloc, cart, input)?;
     Ok(write_digest(alloc, every, image.as_slice(), bytes.as_slice(), output)?)

@@ -39,8 +39,10 @@ fn text_made<A: Allocator + Copy>(
     other: &Option<Movie<A>>,
     script: &[u8],
 ) -> Result<Vec<u8, A>, RunFault>
-    ensures text { IfOk result (λ text. IsScriptAnswer other.now movie.old script.now (Ok text.items)) }
-    ensures fault { IfErr result (λ fault. IsScriptAnswer other.now movie.old script.now (Err fault)) }
+    ensures text { IfOk result
+        (λ text. IsScriptAnswer other.now movie.old script.now (Ok text.items)) }
+    ensures fault { IfErr result
+        (λ fault. IsScriptAnswer other.now movie.old script.now (Err fault)) }
 {
     edit_movie(alloc, movie, other, script).map_err(script_fault)?;
     Ok(print_text(alloc, movie)?)
@@ -54,8 +56,10 @@ fn edited_text<A: Allocator + Copy>(
     script: &[u8],
     bytes: &[u8],
 ) -> Result<Vec<u8, A>, RunFault>
-    ensures text { IfOk result (λ text. IsAnswerBeside other.now image.now script.now bytes.now (Ok text.items)) }
-    ensures fault { IfErr result (λ fault. IsAnswerBeside other.now image.now script.now bytes.now (Err fault)) }
+    ensures text { IfOk result
+        (λ text. IsAnswerBeside other.now image.now script.now bytes.now (Ok text.items)) }
+    ensures fault { IfErr result
+        (λ fault. IsAnswerBeside other.now image.now script.now bytes.now (Err fault)) }
 {
     let mut movie = movie_of(alloc, image, bytes)?;
     text_made(alloc, &mut movie, other, script)
@@ -69,7 +73,8 @@ fn write_edited<A: Allocator + Copy, W: Write>(
     bytes: &[u8],
     output: &mut W,
 ) -> Result<(), RunFault>
-    ensures { Ends (IsEditAnswer image.now script.now bytes.now) (W.contents output.old) (W.contents output.new) result }
+    ensures { Ends (IsEditAnswer image.now script.now bytes.now) (W.contents output.old)
+        (W.contents output.new) result }
 {
     let text = edited_text(alloc, &None, image, script, bytes)?;
     write_all(output, text.as_slice())
@@ -83,8 +88,10 @@ fn edited_text_with<A: Allocator + Copy>(
     more: &[u8],
     bytes: &[u8],
 ) -> Result<Vec<u8, A>, RunFault>
-    ensures text { IfOk result (λ text. IsEditWithAnswer image.now script.now more.now bytes.now (Ok text.items)) }
-    ensures fault { IfErr result (λ fault. IsEditWithAnswer image.now script.now more.now bytes.now (Err fault)) }
+    ensures text { IfOk result
+        (λ text. IsEditWithAnswer image.now script.now more.now bytes.now (Ok text.items)) }
+    ensures fault { IfErr result
+        (λ fault. IsEditWithAnswer image.now script.now more.now bytes.now (Err fault)) }
 {
     let other = Some(movie_of(alloc, image, more)?);
     edited_text(alloc, &other, image, script, bytes)
@@ -99,7 +106,8 @@ fn write_edited_with<A: Allocator + Copy, W: Write>(
     bytes: &[u8],
     output: &mut W,
 ) -> Result<(), RunFault>
-    ensures { Ends (IsEditWithAnswer image.now script.now more.now bytes.now) (W.contents output.old) (W.contents output.new) result }
+    ensures { Ends (IsEditWithAnswer image.now script.now more.now bytes.now)
+        (W.contents output.old) (W.contents output.new) result }
 {
     let text = edited_text_with(alloc, image, script, more, bytes)?;
     write_all(output, text.as_slice())
@@ -119,8 +127,9 @@ pub fn edit_run<A: Allocator + Copy, C: Read, S: Read, R: Read, W: Write>(
     input: &mut R,
     output: &mut W,
 ) -> Result<(), ToolFault>
-    ensures { IsEditRun (C.remaining cart.old) (C.remaining cart.new) (S.remaining script.old) (S.remaining script.new)
-        (R.remaining input.old) (R.remaining input.new) (W.contents output.old) (W.contents output.new) result }
+    ensures { IsEditRun (C.remaining cart.old) (C.remaining cart.new) (S.remaining script.old)
+        (S.remaining script.new) (R.remaining input.old) (R.remaining input.new)
+        (W.contents output.old) (W.contents output.new) result }
 {
     let read = read_three(alloc, cart, script, input)?;
     Ok(write_edited(
@@ -146,9 +155,10 @@ pub fn edit_with_run<A: Allocator + Copy, C: Read, S: Read, O: Read, R: Read, W:
     input: &mut R,
     output: &mut W,
 ) -> Result<(), ToolFault>
-    ensures { IsEditWithRun (C.remaining cart.old) (C.remaining cart.new) (S.remaining script.old) (S.remaining script.new)
-        (O.remaining other.old) (O.remaining other.new) (R.remaining input.old) (R.remaining input.new)
-        (W.contents output.old) (W.contents output.new) result }
+    ensures { IsEditWithRun (C.remaining cart.old) (C.remaining cart.new) (S.remaining script.old)
+        (S.remaining script.new) (O.remaining other.old) (O.remaining other.new)
+        (R.remaining input.old) (R.remaining input.new) (W.contents output.old)
+        (W.contents output.new) result }
 {
     let read = read_four(alloc, cart, script, other, input)?;
     Ok(write_edited_with(

@@ -51,7 +51,8 @@ fn next_start<A: Allocator>(
 ) -> Result<usize, AllocError>
     requires { k + 1 < 2 ^ 64 }
     ensures next { IfOk result (λ next. next ≡ (if is_lag then from else k + 1)) }
-    ensures text { OnOk result (out.new.items ≡ out.old.items ++ (if is_lag then [] else stretch_or_none from k)) }
+    ensures text { OnOk result
+        (out.new.items ≡ out.old.items ++ (if is_lag then [] else stretch_or_none from k)) }
 {
     if is_lag {
         return Ok(from);
@@ -115,7 +116,8 @@ fn show_lag<A: Allocator + Copy, W: Write>(
     bytes: &[u8],
     output: &mut W,
 ) -> Result<(), RunFault>
-    ensures { Ends (IsLagAnswer image.now bytes.now) (W.contents output.old) (W.contents output.new) result }
+    ensures { Ends (IsLagAnswer image.now bytes.now) (W.contents output.old) (W.contents output.new)
+        result }
 {
     let text = lag_answer(alloc, image, bytes)?;
     write_all(output, text.as_slice())
@@ -133,8 +135,8 @@ pub fn lag_run<A: Allocator + Copy, C: Read, R: Read, W: Write>(
     input: &mut R,
     output: &mut W,
 ) -> Result<(), ToolFault>
-    ensures { IsLagRun (C.remaining cart.old) (C.remaining cart.new) (R.remaining input.old) (R.remaining input.new)
-        (W.contents output.old) (W.contents output.new) result }
+    ensures { IsLagRun (C.remaining cart.old) (C.remaining cart.new) (R.remaining input.old)
+        (R.remaining input.new) (W.contents output.old) (W.contents output.new) result }
 {
     let (image, bytes) = read_two(alloc, cart, input)?;
     Ok(show_lag(alloc, image.as_slice(), bytes.as_slice(), output)?)

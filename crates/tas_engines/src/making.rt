@@ -24,7 +24,8 @@ pub enum ChangeError {
 
 /// Whether a change is allowed on a movie of `len` frames, as `tas_movie::check` answers it of the edit.
 pub fn check_change(len: usize, change: Change) -> Result<(), EditRefusal>
-    ensures { (movie : MovieContent) → length movie.inputs ≡ len → result ≡ check_answer (refusal movie (edit_of change)) }
+    ensures { (movie : MovieContent) → length movie.inputs ≡ len
+        → result ≡ check_answer (refusal movie (edit_of change)) }
 {
     match change {
         Change::Insert { at, count, .. } => check_insertion(len, at, count),

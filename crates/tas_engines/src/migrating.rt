@@ -30,7 +30,8 @@ fn migrate_movie<A: Allocator + Copy, W: Write>(
     bytes: &[u8],
     output: &mut W,
 ) -> Result<(), RunFault>
-    ensures { Ends (IsMigrateAnswer image.now bytes.now) (W.contents output.old) (W.contents output.new) result }
+    ensures { Ends (IsMigrateAnswer image.now bytes.now) (W.contents output.old)
+        (W.contents output.new) result }
 {
     let text = migrated_text(alloc, image, bytes)?;
     write_all(output, text.as_slice())
@@ -47,8 +48,9 @@ pub fn migrate_run<A: Allocator + Copy, C: Read, R: Read, W: Write>(
     input: &mut R,
     output: &mut W,
 ) -> Result<(), ToolFault>
-    ensures { IsMovieRun IsMigrateAnswer (C.remaining cart.old) (C.remaining cart.new) (R.remaining input.old) (R.remaining input.new)
-        (W.contents output.old) (W.contents output.new) result }
+    ensures { IsMovieRun IsMigrateAnswer (C.remaining cart.old) (C.remaining cart.new)
+        (R.remaining input.old) (R.remaining input.new) (W.contents output.old)
+        (W.contents output.new) result }
 {
     let (image, bytes) = read_two(alloc, cart, input)?;
     Ok(migrate_movie(alloc, image.as_slice(), bytes.as_slice(), output)?)

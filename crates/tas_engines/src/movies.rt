@@ -16,7 +16,8 @@ pub fn movie_of<A: Allocator + Copy>(
     image: &[u8],
     bytes: &[u8],
 ) -> Result<Movie<A>, RunFault>
-    ensures { MatchResult result (IsMovieOf image.now bytes.now) (IsMovieFault image.now bytes.now) }
+    ensures { MatchResult result (IsMovieOf image.now bytes.now)
+        (IsMovieFault image.now bytes.now) }
 {
     let cart = Cart::from_bytes(alloc, image)?;
     Ok(read_text(alloc, bytes, &cart)?)

@@ -51,8 +51,11 @@ fn write_ram_line<W: Write>(
     requires { before + LINE_SIZE < 2 ^ 64 }
     ensures count { IfOk result (λ n. n ≡ before + length (numbered_bytes k ram.now)) }
     ensures most { IfOk result (λ n. n ≤ before + LINE_SIZE) }
-    ensures all { OnOk result (Appends (W.contents output.old) (W.contents output.new) (numbered_bytes k ram.now)) }
-    ensures cut { IfErr result (λ f. IsCutOff (W.contents output.old) (W.contents output.new) (numbered_bytes k ram.now) (f.written - before)) }
+    ensures all { OnOk result
+        (Appends (W.contents output.old) (W.contents output.new) (numbered_bytes k ram.now)) }
+    ensures cut { IfErr result
+        (λ f. IsCutOff (W.contents output.old) (W.contents output.new) (numbered_bytes k ram.now)
+        (f.written - before)) }
     ensures from { IfErr result (λ f. before ≤ f.written) }
 {
     let mut line = [b'\n'; LINE_SIZE];
@@ -71,8 +74,11 @@ fn write_ram_lines<A: Allocator, W: Write>(
 ) -> Result<(), RunFault>
     requires range { IsRamRange movie.now from to }
     requires most { length movie.now.inputs ≤ most_inputs }
-    ensures ok { OnOk result (Appends (W.contents output.old) (W.contents output.new) (ram_lines movie.now from to)) }
-    ensures fault { IfErr result (StopsWriting (W.contents output.old) (W.contents output.new) (ram_lines movie.now from to)) }
+    ensures ok { OnOk result
+        (Appends (W.contents output.old) (W.contents output.new) (ram_lines movie.now from to)) }
+    ensures fault { IfErr result
+        (StopsWriting (W.contents output.old) (W.contents output.new)
+        (ram_lines movie.now from to)) }
 {
     let mut state = pass_frames(movie, from);
     let mut written = 0;
@@ -91,7 +97,8 @@ fn movie_with_lines<A: Allocator + Copy>(
     image: &[u8],
     bytes: &[u8],
 ) -> Result<Movie<A>, RunFault>
-    ensures lines { IfOk result (λ movie. IsRamAnswer from to image.now bytes.now (Ok (ram_lines movie from to))) }
+    ensures lines { IfOk result
+        (λ movie. IsRamAnswer from to image.now bytes.now (Ok (ram_lines movie from to))) }
     ensures range { IfOk result (λ movie. IsRamRange movie from to) }
     ensures most { IfOk result (λ movie. length movie.inputs ≤ most_inputs) }
     ensures fault { IfErr result (λ fault. IsRamAnswer from to image.now bytes.now (Err fault)) }
@@ -114,7 +121,8 @@ fn show_ram<A: Allocator + Copy, W: Write>(
     bytes: &[u8],
     output: &mut W,
 ) -> Result<(), RunFault>
-    ensures { Ends (IsRamAnswer from to image.now bytes.now) (W.contents output.old) (W.contents output.new) result }
+    ensures { Ends (IsRamAnswer from to image.now bytes.now) (W.contents output.old)
+        (W.contents output.new) result }
 {
     let movie = movie_with_lines(alloc, from, to, image, bytes)?;
     write_ram_lines(&movie, from, to, output)
@@ -134,8 +142,8 @@ pub fn ram_run<A: Allocator + Copy, C: Read, R: Read, W: Write>(
     input: &mut R,
     output: &mut W,
 ) -> Result<(), ToolFault>
-    ensures { IsRamRun from to (C.remaining cart.old) (C.remaining cart.new) (R.remaining input.old) (R.remaining input.new)
-        (W.contents output.old) (W.contents output.new) result }
+    ensures { IsRamRun from to (C.remaining cart.old) (C.remaining cart.new) (R.remaining input.old)
+        (R.remaining input.new) (W.contents output.old) (W.contents output.new) result }
 {
     let (image, bytes) = read_two(alloc, cart, input)?;
     Ok(show_ram(alloc, from, to, image.as_slice(), bytes.as_slice(), output)?)

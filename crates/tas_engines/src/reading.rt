@@ -20,7 +20,8 @@ fn read_some<R: Read>(reader: &mut R, buffer: &mut [u8]) -> Option<usize>
     requires { 0 < length buffer.old }
     ensures len { length buffer.new ≡ length buffer.old }
     ensures bound { IfSome result (λ n. n ≤ length buffer.new) }
-    ensures bytes { IfSome result (λ n. Consumes (R.remaining reader.old) (R.remaining reader.new) (take n buffer.new)) }
+    ensures bytes { IfSome result
+        (λ n. Consumes (R.remaining reader.old) (R.remaining reader.new) (take n buffer.new)) }
     ensures end { IfSome result (λ n. n ≡ 0 → IsAtEnd (R.remaining reader.new)) }
     ensures kept { IfNone result (Keeps (R.remaining reader.old) (R.remaining reader.new)) }
 {
@@ -33,7 +34,8 @@ fn read_some<R: Read>(reader: &mut R, buffer: &mut [u8]) -> Option<usize>
 /// limit (`TooLong`); at most the limit and one byte leave the reader. No read is tried again (no
 /// clause says so; a test does). `Memory` where a growth was refused.
 pub fn read_input<A: Allocator, R: Read>(alloc: A, reader: &mut R) -> Result<Vec<u8, A>, ReadFault>
-    ensures whole { IfOk result (λ bytes. IsReadWhole (R.remaining reader.old) (R.remaining reader.new) bytes.items) }
+    ensures whole { IfOk result
+        (λ bytes. IsReadWhole (R.remaining reader.old) (R.remaining reader.new) bytes.items) }
     ensures fault { IfErr result (StopsReading (R.remaining reader.old) (R.remaining reader.new)) }
 {
     let mut bytes = Vec::new(alloc);
@@ -63,9 +65,13 @@ pub fn read_two<A: Allocator + Copy, C: Read, R: Read>(
     first: &mut C,
     second: &mut R,
 ) -> Result<(Vec<u8, A>, Vec<u8, A>), ReadFault>
-    ensures first { IfOk result (λ read. IsReadWhole (C.remaining first.old) (C.remaining first.new) read.0.items) }
-    ensures second { IfOk result (λ read. IsReadWhole (R.remaining second.old) (R.remaining second.new) read.1.items) }
-    ensures fault { IfErr result (StopsReadingTwo (C.remaining first.old) (C.remaining first.new) (R.remaining second.old) (R.remaining second.new)) }
+    ensures first { IfOk result
+        (λ read. IsReadWhole (C.remaining first.old) (C.remaining first.new) read.0.items) }
+    ensures second { IfOk result
+        (λ read. IsReadWhole (R.remaining second.old) (R.remaining second.new) read.1.items) }
+    ensures fault { IfErr result
+        (StopsReadingTwo (C.remaining first.old) (C.remaining first.new) (R.remaining second.old)
+        (R.remaining second.new)) }
 {
     let bytes = read_input(alloc, first)?;
     let more = read_input(alloc, second)?;
@@ -91,11 +97,15 @@ pub fn read_three<A: Allocator + Copy, F: Read, S: Read, T: Read>(
     second: &mut S,
     third: &mut T,
 ) -> Result<ThreeInputs<A>, ReadFault>
-    ensures first { IfOk result (λ read. IsReadWhole (F.remaining first.old) (F.remaining first.new) read.first.items) }
-    ensures second { IfOk result (λ read. IsReadWhole (S.remaining second.old) (S.remaining second.new) read.second.items) }
-    ensures third { IfOk result (λ read. IsReadWhole (T.remaining third.old) (T.remaining third.new) read.third.items) }
-    ensures fault { IfErr result (StopsReadingThree (F.remaining first.old) (F.remaining first.new)
-        (S.remaining second.old) (S.remaining second.new) (T.remaining third.old) (T.remaining third.new)) }
+    ensures first { IfOk result
+        (λ read. IsReadWhole (F.remaining first.old) (F.remaining first.new) read.first.items) }
+    ensures second { IfOk result
+        (λ read. IsReadWhole (S.remaining second.old) (S.remaining second.new) read.second.items) }
+    ensures third { IfOk result
+        (λ read. IsReadWhole (T.remaining third.old) (T.remaining third.new) read.third.items) }
+    ensures fault { IfErr result
+        (StopsReadingThree (F.remaining first.old) (F.remaining first.new) (S.remaining second.old)
+        (S.remaining second.new) (T.remaining third.old) (T.remaining third.new)) }
 {
     let first = read_input(alloc, first)?;
     let (second, third) = read_two(alloc, second, third)?;
@@ -128,12 +138,17 @@ pub fn read_four<A: Allocator + Copy, F: Read, S: Read, T: Read, L: Read>(
     third: &mut T,
     fourth: &mut L,
 ) -> Result<FourInputs<A>, ReadFault>
-    ensures first { IfOk result (λ read. IsReadWhole (F.remaining first.old) (F.remaining first.new) read.first.items) }
-    ensures second { IfOk result (λ read. IsReadWhole (S.remaining second.old) (S.remaining second.new) read.second.items) }
-    ensures third { IfOk result (λ read. IsReadWhole (T.remaining third.old) (T.remaining third.new) read.third.items) }
-    ensures fourth { IfOk result (λ read. IsReadWhole (L.remaining fourth.old) (L.remaining fourth.new) read.fourth.items) }
-    ensures fault { IfErr result (StopsReadingFour (F.remaining first.old) (F.remaining first.new)
-        (S.remaining second.old) (S.remaining second.new) (T.remaining third.old) (T.remaining third.new)
+    ensures first { IfOk result
+        (λ read. IsReadWhole (F.remaining first.old) (F.remaining first.new) read.first.items) }
+    ensures second { IfOk result
+        (λ read. IsReadWhole (S.remaining second.old) (S.remaining second.new) read.second.items) }
+    ensures third { IfOk result
+        (λ read. IsReadWhole (T.remaining third.old) (T.remaining third.new) read.third.items) }
+    ensures fourth { IfOk result
+        (λ read. IsReadWhole (L.remaining fourth.old) (L.remaining fourth.new) read.fourth.items) }
+    ensures fault { IfErr result
+        (StopsReadingFour (F.remaining first.old) (F.remaining first.new) (S.remaining second.old)
+        (S.remaining second.new) (T.remaining third.old) (T.remaining third.new)
         (L.remaining fourth.old) (L.remaining fourth.new)) }
 {
     let first = read_input(alloc, first)?;

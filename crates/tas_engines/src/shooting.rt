@@ -36,7 +36,8 @@ fn draw_frame<A: Allocator + Copy>(
     requires { meter.old ≡ 0 }
     ensures drawn { IfOk result (λ picture. IsShot movie.now k (ppm_bytes picture)) }
     ensures fault { IfErr result (λ fault. (fault ≡ Memory) ⊎ IsShotFault movie.now k fault) }
-    ensures memory { IfErr result (λ fault. fault ≡ Memory → (k < length movie.now.inputs) × (meter.new ≡ 0)) }
+    ensures memory { IfErr result
+        (λ fault. fault ≡ Memory → (k < length movie.now.inputs) × (meter.new ≡ 0)) }
 {
     let len = movie.len();
     if k >= len {
@@ -57,7 +58,8 @@ fn picture_of<A: Allocator + Copy>(
     image: &[u8],
     bytes: &[u8],
 ) -> Result<Picture<A>, RunFault>
-    ensures drawn { IfOk result (λ picture. IsShotAnswer k image.now bytes.now (Ok (ppm_bytes picture))) }
+    ensures drawn { IfOk result
+        (λ picture. IsShotAnswer k image.now bytes.now (Ok (ppm_bytes picture))) }
     ensures fault { IfErr result (λ fault. IsShotAnswer k image.now bytes.now (Err fault)) }
 {
     let movie = movie_of(alloc, image, bytes)?;
@@ -73,7 +75,8 @@ fn shoot_movie<A: Allocator + Copy, W: Write>(
     bytes: &[u8],
     output: &mut W,
 ) -> Result<(), RunFault>
-    ensures { Ends (IsShotAnswer k image.now bytes.now) (W.contents output.old) (W.contents output.new) result }
+    ensures { Ends (IsShotAnswer k image.now bytes.now) (W.contents output.old)
+        (W.contents output.new) result }
 {
     let picture = picture_of(alloc, k, image, bytes)?;
     Ok(ppm(&picture, output)?)
@@ -92,8 +95,9 @@ pub fn shot_run<A: Allocator + Copy, C: Read, R: Read, W: Write>(
     input: &mut R,
     output: &mut W,
 ) -> Result<(), ToolFault>
-    ensures { IsMovieRun (IsShotAnswer k) (C.remaining cart.old) (C.remaining cart.new) (R.remaining input.old) (R.remaining input.new)
-        (W.contents output.old) (W.contents output.new) result }
+    ensures { IsMovieRun (IsShotAnswer k) (C.remaining cart.old) (C.remaining cart.new)
+        (R.remaining input.old) (R.remaining input.new) (W.contents output.old)
+        (W.contents output.new) result }
 {
     let (image, bytes) = read_two(alloc, cart, input)?;
     Ok(shoot_movie(alloc, k, image.as_slice(), bytes.as_slice(), output)?)

@@ -15,7 +15,8 @@ fn trace_image<A: Allocator, W: Write>(
     image: &[u8],
     output: &mut W,
 ) -> Result<(), RunFault>
-    ensures { Ends (IsTraceAnswer image.now n) (W.contents output.old) (W.contents output.new) result }
+    ensures { Ends (IsTraceAnswer image.now n) (W.contents output.old) (W.contents output.new)
+        result }
 {
     let cart = Cart::from_bytes(alloc, image)?;
     match trace(&cart, n, output) {
@@ -34,7 +35,8 @@ pub fn trace_run<A: Allocator, R: Read, W: Write>(
     input: &mut R,
     output: &mut W,
 ) -> Result<(), ToolFault>
-    ensures { IsTraceRun n (R.remaining input.old) (R.remaining input.new) (W.contents output.old) (W.contents output.new) result }
+    ensures { IsTraceRun n (R.remaining input.old) (R.remaining input.new) (W.contents output.old)
+        (W.contents output.new) result }
 {
     let image = read_input(&alloc, input)?;
     Ok(trace_image(&alloc, n, image.as_slice(), output)?)

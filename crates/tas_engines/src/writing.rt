@@ -13,7 +13,8 @@ use std::io::Write;
 /// says so; a test does).
 pub fn write_all<W: Write>(writer: &mut W, bytes: &[u8]) -> Result<(), RunFault>
     ensures ok { OnOk result (Appends (W.contents writer.old) (W.contents writer.new) bytes.now) }
-    ensures fault { IfErr result (StopsWriting (W.contents writer.old) (W.contents writer.new) bytes.now) }
+    ensures fault { IfErr result
+        (StopsWriting (W.contents writer.old) (W.contents writer.new) bytes.now) }
 {
     write_counted(bytes, 0, writer)?;
     Ok(())

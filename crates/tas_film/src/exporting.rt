@@ -57,7 +57,8 @@ pub fn export_frames<
         (pixmaps_of movie.now plan.from (plan.to - plan.from))) }
     ensures drawn { OnOk result (AllDrawn movie.now plan.from plan.to) }
     ensures played { IfOk result (λ played. played ≡ costs zone.now plan 0 plan.workers) }
-    ensures fault { IfErr result (IsExportFault movie.now plan (W.contents to.old) (W.contents to.new)) }
+    ensures fault { IfErr result
+        (IsExportFault movie.now plan (W.contents to.old) (W.contents to.new)) }
 {
     let Ok(mut runs) = plan.runs(alloc) else {
         return Err(ExportFault::Memory);
@@ -83,7 +84,8 @@ fn export_runs<A: Allocator + Send + Sync, R: Threads + Sync, G: Gate + Sync, W:
         (pixmaps_of movie.now plan.from (plan.to - plan.from))) }
     ensures drawn { OnOk result (AllDrawn movie.now plan.from plan.to) }
     ensures played { IfOk result (λ played. played ≡ costs zone.now plan 0 plan.workers) }
-    ensures fault { IfErr result (IsRunsFault movie.now plan (W.contents to.old) (W.contents to.new)) }
+    ensures fault { IfErr result
+        (IsRunsFault movie.now plan (W.contents to.old) (W.contents to.new)) }
 {
     let end = play_runs(rt, movie, zone, gate, plan, runs);
     match end.stop {

@@ -50,7 +50,8 @@ impl<A: Allocator> Screen<A> {
     /// where memory is refused for that, which isn't expected, since there is room. The fault counts the `before` bytes, too.
     fn write_picture<W: Write>(&mut self, before: usize, output: &mut W) -> Result<(), WriteFault>
         requires { before + length (ppm_bytes self.old.picture) < 2 ^ 64 }
-        ensures ok { OnOk result (Appends (W.contents output.old) (W.contents output.new) (ppm_bytes self.old.picture)) }
+        ensures ok { OnOk result
+            (Appends (W.contents output.old) (W.contents output.new) (ppm_bytes self.old.picture)) }
         ensures from { IfErr result (λ f. before ≤ f.written) }
         ensures cut { IfErr result (λ f. IsCutOff (W.contents output.old) (W.contents output.new)
             (ppm_bytes self.old.picture) (f.written - before)) }
@@ -84,8 +85,11 @@ fn show_frame<A: Allocator, B: Allocator, W: Write>(
     requires few { before + length (ppm_bytes (picture_of movie.now frame)) < 2 ^ 64 }
     ensures drawn { OnOk result (IsDrawn movie.now frame) }
     ensures state { OnOk result (state.new ≡ state_after movie.now (frame + 1)) }
-    ensures out { OnOk result (Appends (W.contents output.old) (W.contents output.new) (ppm_bytes (picture_of movie.now frame))) }
-    ensures stop { IfErr result (IsFilmStop movie.now frame before (W.contents output.old) (W.contents output.new)) }
+    ensures out { OnOk result
+        (Appends (W.contents output.old) (W.contents output.new)
+        (ppm_bytes (picture_of movie.now frame))) }
+    ensures stop { IfErr result
+        (IsFilmStop movie.now frame before (W.contents output.old) (W.contents output.new)) }
 {
     let inputs = movie.inputs();
     let picture = &mut screen.picture;

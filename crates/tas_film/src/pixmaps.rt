@@ -78,7 +78,8 @@ impl<A: Allocator> Pixmaps<A> {
         requires meter { meter.old + 1 < 2 ^ 64 }
         ensures drawn { OnOk result (IsDrawn movie.now frame) }
         ensures state { OnOk result (state.new ≡ state_after movie.now (frame + 1)) }
-        ensures pixmap { OnOk result (self.new ≡ self.old ++ ppm_bytes (picture_of movie.now frame)) }
+        ensures pixmap { OnOk result
+            (self.new ≡ self.old ++ ppm_bytes (picture_of movie.now frame)) }
         ensures stop { IfErr result (IsStopAt movie.now frame) }
         ensures meter { meter.new ≡ meter.old + 1 }
     {

@@ -147,7 +147,8 @@ impl<A: Allocator> Run<A> {
         requires lawful { IsLawful movie.now zone.now }
         requires number { number < plan.workers }
         requires empty { self.old.pixmaps ≡ [] }
-        ensures { IsRunEnd movie.now zone.now (first_of_run plan number) (first_of_run plan (number + 1)) self.new.pixmaps self.new.end }
+        ensures { IsRunEnd movie.now zone.now (first_of_run plan number)
+            (first_of_run plan (number + 1)) self.new.pixmaps self.new.end }
     {
         let first = plan.first_of_run(number);
         let next = plan.first_of_run(number + 1);
@@ -169,11 +170,15 @@ fn play_each<A: Allocator + Send + Sync, R: Threads + Sync, G: Gate + Sync>(
     requires lawful { IsLawful movie.now zone.now }
     requires count { length runs.old ≡ plan.workers }
     requires empty { All (λ run. run.pixmaps ≡ []) runs.old }
-    ensures { (i : ℕ) (d : _) → i < plan.workers → IsRunEnd movie.now zone.now (first_of_run plan i) (first_of_run plan (i + 1)) (slice_index_or runs.new i d).pixmaps (slice_index_or runs.new i d).end }
+    ensures { (i : ℕ) (d : _) → i < plan.workers
+        → IsRunEnd movie.now zone.now (first_of_run plan i) (first_of_run plan (i + 1))
+        (slice_index_or runs.new i d).pixmaps (slice_index_or runs.new i d).end }
 {
     let play = move |number: usize, run: &mut Run<A>|
-        requires { IsPlan movie.now plan × IsLawful movie.now zone.now × (number < plan.workers) × (run.now.pixmaps ≡ []) }
-        ensures { IsRunEnd movie.entry.now zone.entry.now (first_of_run plan number) (first_of_run plan (number + 1)) run.exit.now.pixmaps run.exit.now.end }
+        requires { IsPlan movie.now plan × IsLawful movie.now zone.now × (number < plan.workers)
+            × (run.now.pixmaps ≡ []) }
+        ensures { IsRunEnd movie.entry.now zone.entry.now (first_of_run plan number)
+            (first_of_run plan (number + 1)) run.exit.now.pixmaps run.exit.now.end }
     { run.play(movie, zone, gate, plan, number) };
     for_each_on_threads(rt, runs, &play);
 }

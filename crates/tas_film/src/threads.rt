@@ -29,8 +29,11 @@ fn on_threads_from<R: Threads + Sync, T: Send, F: Fn(usize, &mut T) + Sync>(
     items: &mut [T],
 )
     requires count { at + length items.old ≡ end }
-    requires accepts { (k : ℕ) (d : T) → k < length items.old → AcceptsAt F.Fn f.now (at + k) (slice_index_or items.old k d) }
-    ensures { (k : ℕ) (d : T) → k < length items.old → ChangesAt F.Fn f.now (at + k) (slice_index_or items.old k d) (slice_index_or items.new k d) }
+    requires accepts { (k : ℕ) (d : T) → k < length items.old
+        → AcceptsAt F.Fn f.now (at + k) (slice_index_or items.old k d) }
+    ensures { (k : ℕ) (d : T) → k < length items.old
+        → ChangesAt F.Fn f.now (at + k) (slice_index_or items.old k d)
+        (slice_index_or items.new k d) }
 {
     if let Some((first, others)) = items.split_first_mut() {
         first_and_others(rt, f, at, first, at + 1, end, others);
@@ -50,17 +53,24 @@ fn first_and_others<R: Threads + Sync, T: Send, F: Fn(usize, &mut T) + Sync>(
 )
     requires first { AcceptsAt F.Fn f.now at first.old }
     requires count { next + length others.old ≡ end }
-    requires others { (k : ℕ) (d : T) → k < length others.old → AcceptsAt F.Fn f.now (next + k) (slice_index_or others.old k d) }
+    requires others { (k : ℕ) (d : T) → k < length others.old
+        → AcceptsAt F.Fn f.now (next + k) (slice_index_or others.old k d) }
     ensures first { ChangesAt F.Fn f.now at first.old first.new }
-    ensures others { (k : ℕ) (d : T) → k < length others.old → ChangesAt F.Fn f.now (next + k) (slice_index_or others.old k d) (slice_index_or others.new k d) }
+    ensures others { (k : ℕ) (d : T) → k < length others.old
+        → ChangesAt F.Fn f.now (next + k) (slice_index_or others.old k d)
+        (slice_index_or others.new k d) }
 {
     let mut front = ||
         requires { AcceptsAt F.Fn f.now at first.now }
         ensures { ChangesAt F.Fn f.entry.now at first.entry.now first.exit.now }
     { call_at(f, at, first) };
     let mut back = ||
-        requires { IsSync R.row × IsSync F.row × IsSend T.row × (next + length others.now ≡ end) × ((k : ℕ) (d : T) → k < length others.now → AcceptsAt F.Fn f.now (next + k) (slice_index_or others.now k d)) }
-        ensures { (k : ℕ) (d : T) → k < length others.entry.now → ChangesAt F.Fn f.entry.now (next + k) (slice_index_or others.entry.now k d) (slice_index_or others.exit.now k d) }
+        requires { IsSync R.row × IsSync F.row × IsSend T.row × (next + length others.now ≡ end)
+            × ((k : ℕ) (d : T) → k < length others.now
+            → AcceptsAt F.Fn f.now (next + k) (slice_index_or others.now k d)) }
+        ensures { (k : ℕ) (d : T) → k < length others.entry.now
+            → ChangesAt F.Fn f.entry.now (next + k) (slice_index_or others.entry.now k d)
+            (slice_index_or others.exit.now k d) }
     { on_threads_from(rt, f, next, end, others) };
     join_mut(rt, &mut front, &mut back);
 }

@@ -14,8 +14,11 @@ use std::io::Write;
 /// Writes the pixmaps of runs, one after the other.
 pub fn write_pixmaps<A: Allocator, W: Write>(runs: &[Run<A>], to: &mut W) -> Result<(), WriteFault>
     requires { length (concat (pixmaps_in runs.now)) < 2 ^ 64 }
-    ensures ok { OnOk result (Appends (W.contents to.old) (W.contents to.new) (concat (pixmaps_in runs.now))) }
-    ensures cut { IfErr result (λ f. IsCutOff (W.contents to.old) (W.contents to.new) (concat (pixmaps_in runs.now)) f.written) }
+    ensures ok { OnOk result
+        (Appends (W.contents to.old) (W.contents to.new) (concat (pixmaps_in runs.now))) }
+    ensures cut { IfErr result
+        (λ f. IsCutOff (W.contents to.old) (W.contents to.new) (concat (pixmaps_in runs.now))
+        f.written) }
 {
     let mut written = 0;
     for run in runs {

@@ -58,7 +58,8 @@ impl<A: Allocator> Green<A> {
         requires within { k ≤ length movie.now.inputs }
         requires room { meter.old + k < 2 ^ 64 }
         ensures state { IfOk result (λ state. state ≡ state_after movie.now k) }
-        ensures kept { OnOk result (IsReachedFrom made_for.now movie.now k self.old self.new meter.old meter.new) }
+        ensures kept { OnOk result
+            (IsReachedFrom made_for.now movie.now k self.old self.new meter.old meter.new) }
         ensures lawful { OnOk result (IsLawful movie.now self.new) }
         ensures memory { OnErr result ((self.new ≡ self.old) × (meter.new ≡ meter.old)) }
     {

@@ -191,7 +191,8 @@ pub fn play_near<A: Allocator, B: Allocator, C: Allocator, D: Allocator>(
     requires start { start.state ≡ state_after movie.now start.frame }
     requires lawful { IsLawful movie.now green.old.items }
     requires states { AreMovieStates movie.now window.old.items }
-    requires room { vec_len green.old + (k + 1) / stride (length movie.now.inputs) ≤ vec_capacity green.old }
+    requires room { vec_len green.old + (k + 1) / stride (length movie.now.inputs)
+        ≤ vec_capacity green.old }
     requires window_room { most_near < vec_capacity window.old }
     ensures ran { result.ran + start.frame ≡ k + 1 }
     ensures answer { result.end ≡ answer_of (state_after movie.now (k + 1)).halt }

@@ -140,20 +140,31 @@ impl<A: Allocator> Window<A> {
         requires lawful { IsLawful movie.now green.old }
         requires states { AreMovieStates movie.now self.old }
         requires within { k < length movie.now.inputs }
-        ensures answer { IfOk result (λ viewed. viewed.end ≡ answer_of (state_after movie.now (k + 1)).halt) }
-        ensures picture { IfOk result (λ viewed. OnOk viewed.end (picture.new ≡ picture_of movie.now k)) }
-        ensures kept { IfOk result (λ viewed. IsViewFrom movie.now movie.now k (both green.old self.old) (both green.new self.new) viewed.ran) }
+        ensures answer { IfOk result
+            (λ viewed. viewed.end ≡ answer_of (state_after movie.now (k + 1)).halt) }
+        ensures picture { IfOk result
+            (λ viewed. OnOk viewed.end (picture.new ≡ picture_of movie.now k)) }
+        ensures kept { IfOk result
+            (λ viewed. IsViewFrom movie.now movie.now k (both green.old self.old)
+            (both green.new self.new) viewed.ran) }
         ensures lawful { IsLawful movie.now green.new }
         ensures states { AreMovieStates movie.now self.new }
         // Where all of the grid is kept, a frame whose state is in the window is played alone, and no more than a stride's
         // frames are played for any.
-        ensures step { IfOk result (λ viewed. HoldsGrid (stride (length movie.now.inputs)) k green.old → IsSome (state_at k self.old) → viewed.ran ≡ 1) }
-        ensures short { IfOk result (λ viewed. HoldsGrid (stride (length movie.now.inputs)) k green.old → viewed.ran ≤ stride (length movie.now.inputs)) }
+        ensures step { IfOk result
+            (λ viewed. HoldsGrid (stride (length movie.now.inputs)) k green.old
+            → IsSome (state_at k self.old) → viewed.ran ≡ 1) }
+        ensures short { IfOk result
+            (λ viewed. HoldsGrid (stride (length movie.now.inputs)) k green.old
+            → viewed.ran ≤ stride (length movie.now.inputs)) }
         // A step forward then plays one frame, and so does a view of each near frame whose state was played or was one away.
         ensures forward { OnOk result (IsOneAway movie.now (k + 1) (both green.new self.new)) }
-        ensures near { IfOk result (λ viewed. (j : ℕ) → is_near (k + 1) j ≡ true → (k + 1 < j + viewed.ran) ⊎ IsOneAway movie.now j (both green.old self.old)
+        ensures near { IfOk result
+            (λ viewed. (j : ℕ) → is_near (k + 1) j ≡ true
+            → (k + 1 < j + viewed.ran) ⊎ IsOneAway movie.now j (both green.old self.old)
             → IsOneAway movie.now j (both green.new self.new)) }
-        ensures memory { OnErr result ((green.new ≡ green.old) × (self.new ≡ self.old) × (picture.new ≡ picture.old)) }
+        ensures memory { OnErr result
+            ((green.new ≡ green.old) × (self.new ≡ self.old) × (picture.new ≡ picture.old)) }
     {
         let step = stride(movie.len());
         green.states.reserve((k + 1) / step)?;
@@ -177,15 +188,21 @@ impl<A: Allocator> Window<A> {
         requires lawful { IsLawful made_for.now green.old }
         requires states { AreMovieStates made_for.now self.old }
         requires within { k < length movie.now.inputs }
-        ensures answer { IfOk result (λ viewed. viewed.end ≡ answer_of (state_after movie.now (k + 1)).halt) }
-        ensures picture { IfOk result (λ viewed. OnOk viewed.end (picture.new ≡ picture_of movie.now k)) }
-        ensures kept { IfOk result (λ viewed. IsViewFrom made_for.now movie.now k (both green.old self.old) (both green.new self.new) viewed.ran) }
+        ensures answer { IfOk result
+            (λ viewed. viewed.end ≡ answer_of (state_after movie.now (k + 1)).halt) }
+        ensures picture { IfOk result
+            (λ viewed. OnOk viewed.end (picture.new ≡ picture_of movie.now k)) }
+        ensures kept { IfOk result
+            (λ viewed. IsViewFrom made_for.now movie.now k (both green.old self.old)
+            (both green.new self.new) viewed.ran) }
         ensures lawful { OnOk result (IsLawful movie.now green.new) }
         ensures states { OnOk result (AreMovieStates movie.now self.new) }
         ensures forward { OnOk result (IsOneAway movie.now (k + 1) (both green.new self.new)) }
-        ensures near { IfOk result (λ viewed. (j : ℕ) → is_near (k + 1) j ≡ true → k + 1 < j + viewed.ran
+        ensures near { IfOk result
+            (λ viewed. (j : ℕ) → is_near (k + 1) j ≡ true → k + 1 < j + viewed.ran
             → IsOneAway movie.now j (both green.new self.new)) }
-        ensures memory { OnErr result ((green.new ≡ green.old) × (self.new ≡ self.old) × (picture.new ≡ picture.old)) }
+        ensures memory { OnErr result
+            ((green.new ≡ green.old) × (self.new ≡ self.old) × (picture.new ≡ picture.old)) }
     {
         let step = stride(movie.len());
         green.states.reserve((k + 1) / step)?;

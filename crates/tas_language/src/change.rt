@@ -64,7 +64,8 @@ fn frames_line<A: Allocator>(
     count: usize,
     input: Input,
 ) -> Result<Vec<u8, A>, AllocError>
-    ensures { IfOk result (λ bytes. bytes.items ≡ line (word.now ++ 32 ∷ frames_text at count input)) }
+    ensures { IfOk result
+        (λ bytes. bytes.items ≡ line (word.now ++ 32 ∷ frames_text at count input)) }
 {
     let mut bytes = format!(in alloc; "{word} {at} {count} ")?.into_bytes();
     bytes.extend_from_slice(&print_frame(input))?;

@@ -31,8 +31,11 @@ impl<A: Allocator> Line<A> {
 
     /// Takes the line's next bytes. After `AllocError` the line is as before.
     pub fn add(&mut self, more: &[u8]) -> Result<(), AllocError>
-        ensures added { OnOk result ((said : List ℕ) → HoldsLine said self.old.bytes.items self.old.long → HoldsLine (said ++ more.now) self.new.bytes.items self.new.long) }
-        ensures err { OnErr result ((self.new.bytes.items ≡ self.old.bytes.items) × (self.new.long ≡ self.old.long)) }
+        ensures added { OnOk result
+            ((said : List ℕ) → HoldsLine said self.old.bytes.items self.old.long
+            → HoldsLine (said ++ more.now) self.new.bytes.items self.new.long) }
+        ensures err { OnErr result
+            ((self.new.bytes.items ≡ self.old.bytes.items) × (self.new.long ≡ self.old.long)) }
     {
         if self.long {
             return Ok(());
@@ -55,8 +58,10 @@ impl<A: Allocator> Line<A> {
 
     /// Whether there are no bytes.
     pub fn is_empty(&self) -> bool
-        ensures none { result ≡ true → (said : List ℕ) → HoldsLine said self.now.bytes.items self.now.long → said ≡ [] }
-        ensures some { result ≡ false → (said : List ℕ) → HoldsLine said self.now.bytes.items self.now.long → 0 < length said }
+        ensures none { result ≡ true → (said : List ℕ)
+            → HoldsLine said self.now.bytes.items self.now.long → said ≡ [] }
+        ensures some { result ≡ false → (said : List ℕ)
+            → HoldsLine said self.now.bytes.items self.now.long → 0 < length said }
     {
         if self.long {
             return false;
@@ -66,7 +71,8 @@ impl<A: Allocator> Line<A> {
 
     /// What the line asks for; nothing where it isn't understood or is too long.
     pub fn request(&self) -> Option<Request>
-        ensures { (said : List ℕ) → HoldsLine said self.now.bytes.items self.now.long → IsHeard said result }
+        ensures { (said : List ℕ) → HoldsLine said self.now.bytes.items self.now.long
+            → IsHeard said result }
     {
         if self.long {
             return None;

@@ -24,7 +24,8 @@ fn digit(byte: u8) -> Option<u8>
 /// The byte of two digits, the high four bits first.
 fn byte_of(first: u8, second: u8) -> Option<u8>
     ensures some { IfSome result (λ byte. hex_text (byte ∷ []) ≡ first ∷ second ∷ []) }
-    ensures none { IfNone result ((byte : ℕ) → byte < 256 → hex_text (byte ∷ []) ≢ first ∷ second ∷ []) }
+    ensures none { IfNone result
+        ((byte : ℕ) → byte < 256 → hex_text (byte ∷ []) ≢ first ∷ second ∷ []) }
 {
     let high = digit(first)?;
     let low = digit(second)?;
@@ -33,8 +34,10 @@ fn byte_of(first: u8, second: u8) -> Option<u8>
 
 /// The offset of three digits.
 fn offset_of(first: u8, second: u8, third: u8) -> Option<usize>
-    ensures some { IfSome result (λ offset. (offset < CART_SIZE) × (offset_text offset ≡ first ∷ second ∷ third ∷ [])) }
-    ensures none { IfNone result ((offset : ℕ) → offset < CART_SIZE → offset_text offset ≢ first ∷ second ∷ third ∷ []) }
+    ensures some { IfSome result
+        (λ offset. (offset < CART_SIZE) × (offset_text offset ≡ first ∷ second ∷ third ∷ [])) }
+    ensures none { IfNone result
+        ((offset : ℕ) → offset < CART_SIZE → offset_text offset ≢ first ∷ second ∷ third ∷ []) }
 {
     let high = digit(first)?;
     let middle = digit(second)?;
@@ -60,8 +63,11 @@ fn write_bytes(digits: &[u8], room: &mut [u8]) -> Option<()>
 /// Writes the bytes of a word OFF=HEX into the image; nothing comes back where it is no such word.
 fn write_part(word: &[u8], image: &mut [u8]) -> Option<()>
     requires { length image.old ≤ CART_SIZE }
-    ensures written { IfSome result (λ _. (part : Part) × IsPart (length image.old) part × (word.now ≡ word_text part) × (image.new ≡ overwritten part image.old)) }
-    ensures other { IfNone result ((part : Part) → IsPart (length image.old) part → word.now ≢ word_text part) }
+    ensures written { IfSome result
+        (λ _. (part : Part) × IsPart (length image.old) part × (word.now ≡ word_text part)
+        × (image.new ≡ overwritten part image.old)) }
+    ensures other { IfNone result
+        ((part : Part) → IsPart (length image.old) part → word.now ≢ word_text part) }
 {
     if word.len() < 6 {
         return None;
@@ -96,8 +102,13 @@ fn first_word(bytes: &[u8]) -> (&[u8], &[u8])
 /// Writes the first part of the text into the image, and returns what follows it.
 fn read_part<'a>(text: &'a [u8], image: &mut [u8]) -> Option<&'a [u8]>
     requires { length image.old ≤ CART_SIZE }
-    ensures some { IfSome result (λ rest. (part : Part) × IsPart (length image.old) part × IsWordEnd rest.now × (text.entry.now ≡ part_text part ++ rest.now) × (image.new ≡ overwritten part image.old)) }
-    ensures none { IfNone result ((part : Part) (rest : List ℕ) → IsPart (length image.old) part → IsWordEnd rest → text.entry.now ≢ part_text part ++ rest) }
+    ensures some { IfSome result
+        (λ rest. (part : Part) × IsPart (length image.old) part × IsWordEnd rest.now
+        × (text.entry.now ≡ part_text part ++ rest.now)
+        × (image.new ≡ overwritten part image.old)) }
+    ensures none { IfNone result
+        ((part : Part) (rest : List ℕ) → IsPart (length image.old) part → IsWordEnd rest
+        → text.entry.now ≢ part_text part ++ rest) }
 {
     let (&first, words) = text.split_first()?;
     if first != b' ' {
@@ -113,7 +124,9 @@ fn read_part<'a>(text: &'a [u8], image: &mut [u8]) -> Option<&'a [u8]>
 fn write_parts(text: &[u8], image: &mut [u8]) -> Option<()>
     requires { length image.old ≤ CART_SIZE }
     ensures written { IfSome result (λ _. AreWritten text.now image.old image.new) }
-    ensures other { IfNone result ((parts : List Part) → 0 < length parts → AreParts (length image.old) parts → text.now ≢ flat_map part_text parts) }
+    ensures other { IfNone result
+        ((parts : List Part) → 0 < length parts → AreParts (length image.old) parts
+        → text.now ≢ flat_map part_text parts) }
 {
     if text.is_empty() {
         return None;

@@ -47,7 +47,8 @@ pub fn digest_answer<A: Allocator + Copy, B: Allocator>(
     ram: &[u8],
     picture: &Picture<B>,
 ) -> Result<Vec<u8, A>, AllocError>
-    ensures { IfOk result (λ bytes. bytes.items ≡ frame_digest_text at frame ram.now (ppm_bytes picture.now)) }
+    ensures { IfOk result
+        (λ bytes. bytes.items ≡ frame_digest_text at frame ram.now (ppm_bytes picture.now)) }
 {
     let mut pixmap = Vec::new(alloc);
     push_pixmap(&mut pixmap, picture)?;

@@ -65,8 +65,9 @@ pub const MAX_PICTURES: usize = 1024;
 
 /// The frames of a `pictures` line.
 fn strip_frames(line: &[u8]) -> Option<(usize, usize)>
-    ensures some { IfSome result (λ found. (line.now ≡ codes "pictures " ++ pair_text found.0 found.1)
-        × IsNumber found.0 × IsNumber found.1 × IsStrip found.0 found.1) }
+    ensures some { IfSome result
+        (λ found. (line.now ≡ codes "pictures " ++ pair_text found.0 found.1) × IsNumber found.0
+        × IsNumber found.1 × IsStrip found.0 found.1) }
     ensures none { IfNone result ((from to : ℕ) → IsNumber from → IsNumber to → IsStrip from to
         → line.now ≢ codes "pictures " ++ pair_text from to) }
 {
@@ -92,7 +93,8 @@ fn lag_frames(line: &[u8]) -> Option<(usize, usize)>
 /// The request of one word that a line is.
 fn one_word(line: &[u8]) -> Option<Request>
     ensures some { IfSome result (λ request. Asks line.now request × IsOneWord request) }
-    ensures none { IfNone result ((request : AskedFor) → IsOneWord request → Asks line.now request → ⊥) }
+    ensures none { IfNone result
+        ((request : AskedFor) → IsOneWord request → Asks line.now request → ⊥) }
 {
     if line == b"movie".as_slice() {
         return Some(Request::Movie);

@@ -35,7 +35,8 @@ pub fn number(word: &[u8]) -> Option<usize>
 
 /// Two numbers with one space between.
 pub fn pair(bytes: &[u8]) -> Option<(usize, usize)>
-    ensures some { IfSome result (λ found. (bytes.now ≡ pair_text found.0 found.1) × IsNumber found.0 × IsNumber found.1) }
+    ensures some { IfSome result
+        (λ found. (bytes.now ≡ pair_text found.0 found.1) × IsNumber found.0 × IsNumber found.1) }
     ensures none { IfNone result ((a b : ℕ) → IsNumber a → IsNumber b → bytes.now ≢ pair_text a b) }
 {
     let (first, second) = split_once(bytes, b' ')?;
@@ -46,8 +47,11 @@ pub fn pair(bytes: &[u8]) -> Option<(usize, usize)>
 
 /// Three numbers with one space between.
 pub fn triple(bytes: &[u8]) -> Option<(usize, usize, usize)>
-    ensures some { IfSome result (λ found. (bytes.now ≡ triple_text found.0 found.1 found.2) × IsNumber found.0 × IsNumber found.1 × IsNumber found.2) }
-    ensures none { IfNone result ((a b c : ℕ) → IsNumber a → IsNumber b → IsNumber c → bytes.now ≢ triple_text a b c) }
+    ensures some { IfSome result
+        (λ found. (bytes.now ≡ triple_text found.0 found.1 found.2) × IsNumber found.0
+        × IsNumber found.1 × IsNumber found.2) }
+    ensures none { IfNone result
+        ((a b c : ℕ) → IsNumber a → IsNumber b → IsNumber c → bytes.now ≢ triple_text a b c) }
 {
     let (first, rest) = split_once(bytes, b' ')?;
     let a = number(first)?;
@@ -57,8 +61,11 @@ pub fn triple(bytes: &[u8]) -> Option<(usize, usize, usize)>
 
 /// A number and a frame with one space between.
 fn count_and_frame(bytes: &[u8]) -> Option<(usize, Input)>
-    ensures some { IfSome result (λ found. (bytes.now ≡ decimal found.0 ++ 32 ∷ frame_text found.1) × IsNumber found.0) }
-    ensures none { IfNone result ((count : ℕ) (input : Pressed) → IsNumber count → bytes.now ≢ decimal count ++ 32 ∷ frame_text input) }
+    ensures some { IfSome result
+        (λ found. (bytes.now ≡ decimal found.0 ++ 32 ∷ frame_text found.1) × IsNumber found.0) }
+    ensures none { IfNone result
+        ((count : ℕ) (input : Pressed) → IsNumber count
+        → bytes.now ≢ decimal count ++ 32 ∷ frame_text input) }
 {
     let (first, second) = split_once(bytes, b' ')?;
     let count = number(first)?;
@@ -68,8 +75,12 @@ fn count_and_frame(bytes: &[u8]) -> Option<(usize, Input)>
 
 /// A place, a count and a frame with one space between.
 pub fn frames(bytes: &[u8]) -> Option<(usize, usize, Input)>
-    ensures some { IfSome result (λ found. (bytes.now ≡ frames_text found.0 found.1 found.2) × IsNumber found.0 × IsNumber found.1) }
-    ensures none { IfNone result ((at count : ℕ) (input : Pressed) → IsNumber at → IsNumber count → bytes.now ≢ frames_text at count input) }
+    ensures some { IfSome result
+        (λ found. (bytes.now ≡ frames_text found.0 found.1 found.2) × IsNumber found.0
+        × IsNumber found.1) }
+    ensures none { IfNone result
+        ((at count : ℕ) (input : Pressed) → IsNumber at → IsNumber count
+        → bytes.now ≢ frames_text at count input) }
 {
     let (first, second) = split_once(bytes, b' ')?;
     let at = number(first)?;

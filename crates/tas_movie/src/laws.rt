@@ -14,16 +14,17 @@ ghost use Rattle.tas_movie.specs.Fault.{fault};
 /// Two movies of one cartridge with one text are equal, whichever of the two texts it is (own).
 pub fn one_movie_per_text()
     ensures first { (a b : MovieContent) → a.cart ≡ b.cart → text1 a ≡ text1 b → a ≡ b }
-    ensures second { (a b : MovieContent) → a.cart ≡ b.cart → length a.inputs ≤ most_inputs → length b.inputs ≤ most_inputs →
-        text2 a ≡ text2 b → a ≡ b }
-    ensures either { (bytes : List ℕ) (a b : MovieContent) → a.cart ≡ b.cart → length a.inputs ≤ most_inputs → length b.inputs ≤ most_inputs →
-        IsText bytes a → IsText bytes b → a ≡ b }
+    ensures second { (a b : MovieContent) → a.cart ≡ b.cart → length a.inputs ≤ most_inputs
+        → length b.inputs ≤ most_inputs → text2 a ≡ text2 b → a ≡ b }
+    ensures either { (bytes : List ℕ) (a b : MovieContent) → a.cart ≡ b.cart
+        → length a.inputs ≤ most_inputs → length b.inputs ≤ most_inputs → IsText bytes a
+        → IsText bytes b → a ≡ b }
 {}
 
 /// A text of a movie has no fault (own).
 pub fn texts_have_no_fault()
-    ensures { (bytes : List ℕ) (movie : MovieContent) → length movie.inputs ≤ most_inputs → IsText bytes movie →
-        fault bytes movie.cart ≡ None }
+    ensures { (bytes : List ℕ) (movie : MovieContent) → length movie.inputs ≤ most_inputs
+        → IsText bytes movie → fault bytes movie.cart ≡ None }
 {}
 
 /// The runs of a movie's frames make up the frames, none of them can be longer, and they are the only ones of
@@ -31,7 +32,8 @@ pub fn texts_have_no_fault()
 pub fn runs_are_longest()
     ensures made { (inputs : List Input) → flat_map run_inputs (runs_of inputs) ≡ inputs }
     ensures longest { (inputs : List Input) → AreLongest (runs_of inputs) }
-    ensures only { (runs : List FrameRun) → AreLongest runs → runs_of (flat_map run_inputs runs) ≡ runs }
+    ensures only { (runs : List FrameRun) → AreLongest runs
+        → runs_of (flat_map run_inputs runs) ≡ runs }
 {}
 
 /// The limits are those of the definitions: 262,144 inputs of a movie, 65,536 frames of an older text (own).

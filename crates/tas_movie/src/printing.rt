@@ -88,7 +88,8 @@ fn push_run<A: Allocator>(out: &mut Vec<u8, A>, run: FrameRun) -> Result<(), All
 /// A line for each run of equal inputs, as long as it can be.
 fn push_runs<A: Allocator>(out: &mut Vec<u8, A>, inputs: &[Input]) -> Result<(), AllocError>
     requires { length inputs.now ≤ most_inputs }
-    ensures { OnOk result (out.new.items ≡ out.old.items ++ flat_map run_line (runs_of inputs.now)) }
+    ensures { OnOk result
+        (out.new.items ≡ out.old.items ++ flat_map run_line (runs_of inputs.now)) }
 {
     let mut rest = inputs;
     while !rest.is_empty() {

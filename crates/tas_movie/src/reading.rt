@@ -118,10 +118,13 @@ fn read_frames<A: Allocator>(list: &mut Vec<Input, A>, bytes: &[u8]) -> Result<(
 
 /// What follows the line that names the cartridge by its digest.
 fn after_digest<'a, B: Allocator>(bytes: &'a [u8], cart: &Cart<B>) -> Result<&'a [u8], TextError>
-    ensures whole { IfOk result (λ rest. bytes.entry.now ≡ line (digest_text cart.now) ++ rest.now) }
+    ensures whole { IfOk result
+        (λ rest. bytes.entry.now ≡ line (digest_text cart.now) ++ rest.now) }
     // Whatever the faults of the further lines are.
-    ensures fault { (further : List (List ℕ) → List ℕ → Option FirstFault) → MatchResult result
-        (λ rest. fault_by (digest_fault cart.now further) bytes.entry.now ≡ fault_by further rest.now)
+    ensures fault { (further : List (List ℕ) → List ℕ → Option FirstFault)
+        → MatchResult result
+        (λ rest. fault_by (digest_fault cart.now further) bytes.entry.now
+        ≡ fault_by further rest.now)
         (λ e. fault_by (digest_fault cart.now further) bytes.entry.now ≡ Some e) }
 {
     let Some((second, rest)) = split_line(bytes) else {

@@ -22,8 +22,10 @@ const LEAST_COUNT: usize = 2;
 /// How often a frame comes, by the bytes after its 17 characters: once where there are none, else as often as
 /// the number behind ` x` says, which is 2 at least and as many as a movie has frames at most.
 fn read_count(bytes: &[u8]) -> Option<usize>
-    ensures some { IfSome result (λ count. (bytes.now ≡ count_text count) × (1 ≤ count) × (count ≤ most_inputs)) }
-    ensures none { IfNone result ((count : ℕ) → 1 ≤ count → count ≤ most_inputs → bytes.now ≢ count_text count) }
+    ensures some { IfSome result
+        (λ count. (bytes.now ≡ count_text count) × (1 ≤ count) × (count ≤ most_inputs)) }
+    ensures none { IfNone result
+        ((count : ℕ) → 1 ≤ count → count ≤ most_inputs → bytes.now ≢ count_text count) }
 {
     if bytes.is_empty() {
         return Some(1);
@@ -69,7 +71,8 @@ fn is_repeated(before: &[Input], input: Input) -> bool
 /// The run that a line says after the frames with these inputs, or what is wrong with it.
 fn next_run(before: &[Input], line: &[u8]) -> Result<FrameRun, TextErrorKind>
     ensures said { IfOk result (IsRunLine line.now) }
-    ensures other { IfOk result (λ run. is_repeated (slice_get before.now (length before.now - 1)) run.input ≡ false) }
+    ensures other { IfOk result
+        (λ run. is_repeated (slice_get before.now (length before.now - 1)) run.input ≡ false) }
     ensures few { IfOk result (λ run. length before.now + run.count ≤ most_inputs) }
     ensures fault { MatchResult result
         (λ _. run_fault before.now line.now ≡ None)

@@ -225,7 +225,9 @@ fn tell<A: Allocator, E: Write>(alloc: A, errors: &mut E, end: Result<(), ToolFa
 /// Writes a text that was asked for.
 fn show<W: Write>(output: &mut W, text: &str) -> Result<(), ToolFault>
     ensures ok { OnOk result (Appends (W.contents output.old) (W.contents output.new) text.now) }
-    ensures fault { OnErr result ((fault : RunFault) × StopsWriting (W.contents output.old) (W.contents output.new) text.now fault) }
+    ensures fault { OnErr result
+        ((fault : RunFault)
+        × StopsWriting (W.contents output.old) (W.contents output.new) text.now fault) }
 {
     Ok(write_all(output, text.as_bytes())?)
 }

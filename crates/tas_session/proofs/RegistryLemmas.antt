@@ -6,7 +6,7 @@ use mathlib.Core.List.{IsPrefix}
 use prog.Atomic.{either}
 use Rattle.logbook.specs.Pages.{Cell, cell, keeps, no_nib, step, Moves, Goes}
 use Rattle.tas_session.specs.declared.entry.Entry.{Entry}
-use Rattle.tas_session.specs.Registry.{Numbered, CountsHistories, Numbers, latest}
+use Rattle.tas_session.specs.Inside.Registry.{Numbered, CountsHistories, Numbers, latest}
 use Rattle.tas_session.proofs.PrefixLemmas.{prefix_whole}
 
 -- what the rule of versions leaves open: a client looks at nothing and keeps nothing

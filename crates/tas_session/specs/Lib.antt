@@ -1,9 +1,8 @@
 pub mod Answers
-pub mod Counts
 pub mod History
+pub mod Inside
 pub mod Published
 pub mod Readings
-pub mod Registry
 pub mod Session
 pub mod Shots
 pub mod Version

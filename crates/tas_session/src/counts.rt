@@ -3,7 +3,7 @@
 ghost use Rattle.std.specs.Prelude.{◌≡◌, ℕ, ◌+◌, ◌<◌, ◌^◌, ◌==◌, if◌then◌else◌, IsSome, OnOk};
 ghost use Rattle.std.specs.Ordering.{nat_cmp};
 ghost use Rattle.std.specs.BTreeMap.{get};
-ghost use Rattle.tas_session.specs.Counts.{count_in};
+ghost use Rattle.tas_session.specs.Inside.Counts.{count_in};
 
 use std::alloc::{AllocError, Allocator, Global};
 use std::collections::BTreeMap;
@@ -45,7 +45,8 @@ impl<A: Allocator + Copy> EntryCounts<A> {
     pub fn add(&mut self, seat: u32)
         requires room { IsSome (get nat_cmp self.old.map seat) }
         requires bound { count_in self.old seat + 1 < 2 ^ 64 }
-        ensures { (q : ℕ) → count_in self.new q ≡ count_in self.old q + (if seat == q then 1 else 0) }
+        ensures { (q : ℕ)
+            → count_in self.new q ≡ count_in self.old q + (if seat == q then 1 else 0) }
     {
         if let Some(count) = self.map.get_mut(&seat) {
             *count += 1;

@@ -119,7 +119,8 @@ impl<A: Allocator + Copy> MovieReader<A> {
                 Result<(u64, Option<MovieCopy<A>>), StateError>,
             )
                 requires { KnowsRegistry (view reader.place) known.now.registry }
-                ensures { FoundMovie (view reader.place) (view result.0.place) known.entry.now frames result.1 }
+                ensures { FoundMovie (view reader.place) (view result.0.place) known.entry.now
+                    frames result.1 }
             { look_copy(reader, alloc, known, frames) },
         )
     }

@@ -68,9 +68,16 @@ where
 
     ghost Value = { PublisherContent A };
 
-    ghost view = { λ p. record { registry = p.latest.registry; journal = p.journal.items; movie = p.writer.desk.shown.value.movie } };
+    ghost view = { λ p. record {
+      registry = p.latest.registry;
+      journal = p.journal.items;
+      movie =
+          p.writer.desk.shown.value.movie;
+    } };
 
-    ghost invariant = { λ p. IsCurrent p.writer.desk.shown.value (drop p.writer.behind p.writer.log.items) p.latest.registry p.journal.items (known_by p.writer.desk.place).seen };
+    ghost invariant = { λ p. IsCurrent p.writer.desk.shown.value
+        (drop p.writer.behind p.writer.log.items) p.latest.registry p.journal.items
+        (known_by p.writer.desk.place).seen };
 }
 
 /// A writer of the blank movie, of the empty history that has this version, with places for this many readers.
@@ -113,7 +120,8 @@ fn add_entry<A: Allocator + Copy>(
     next: Entry<A>,
 ) -> Result<Edit<A>, AllocError>
     ensures edit { IfOk result (λ edit. edit ≡ next.edit) }
-    ensures journal { MatchResult result (λ _. journal.new.items ≡ journal.old.items ++ next ∷ []) (λ _. journal.new.items ≡ journal.old.items) }
+    ensures journal { MatchResult result (λ _. journal.new.items ≡ journal.old.items ++ next ∷ [])
+        (λ _. journal.new.items ≡ journal.old.items) }
 {
     let edit = next.edit.copy(*journal.allocator())?;
     journal.push(next)?;
@@ -122,7 +130,8 @@ fn add_entry<A: Allocator + Copy>(
 
 /// Takes the last entry out of a journal again.
 fn take_back<A: Allocator>(journal: &mut Vec<Entry<A>, A>)
-    ensures { (before : List (Entry A)) (last : Entry A) → journal.old.items ≡ before ++ last ∷ [] → journal.new.items ≡ before }
+    ensures { (before : List (Entry A)) (last : Entry A) → journal.old.items ≡ before ++ last ∷ []
+        → journal.new.items ≡ before }
 {
     journal.pop();
 }
@@ -130,9 +139,11 @@ fn take_back<A: Allocator>(journal: &mut Vec<Entry<A>, A>)
 /// Publishes the one edit that is pending, by value, so that the writer has seen it.
 fn publish_one<A: Allocator, R: Wait>(writer: MovieWriter<A>, rt: &R) -> MovieWriter<A>
     requires known { HasSeenAll writer.desk.shown.value (view writer.desk.place) }
-    requires more { HasOneMore writer.desk.shown.value (fold after writer.desk.shown.value (drop writer.behind writer.log.items)) }
+    requires more { HasOneMore writer.desk.shown.value
+        (fold after writer.desk.shown.value (drop writer.behind writer.log.items)) }
     ensures none { drop result.behind result.log.items ≡ [] }
-    ensures value { result.desk.shown.value ≡ fold after writer.desk.shown.value (drop writer.behind writer.log.items) }
+    ensures value { result.desk.shown.value
+        ≡ fold after writer.desk.shown.value (drop writer.behind writer.log.items) }
     ensures one { HasOneMore writer.desk.shown.value result.desk.shown.value }
     ensures view { view result.desk.place ≡ view_of result.desk.shown.value.version }
 {
@@ -163,9 +174,13 @@ fn publish_edit<A: Allocator, R: Wait>(
     requires known { HasSeenAll writer.desk.shown.value (view writer.desk.place) }
     requires follows { Follows writer.desk.shown.value change }
     ensures none { drop result.0.behind result.0.log.items ≡ [] }
-    ensures value { MatchResult result.1 (λ _. result.0.desk.shown.value ≡ after writer.desk.shown.value change) (λ _. result.0.desk.shown.value ≡ writer.desk.shown.value) }
+    ensures value { MatchResult result.1
+        (λ _. result.0.desk.shown.value ≡ after writer.desk.shown.value change)
+        (λ _. result.0.desk.shown.value ≡ writer.desk.shown.value) }
     ensures one { OnOk result.1 (HasOneMore writer.desk.shown.value result.0.desk.shown.value) }
-    ensures view { MatchResult result.1 (λ _. view result.0.desk.place ≡ view_of result.0.desk.shown.value.version) (λ _. view result.0.desk.place ≡ view writer.desk.place) }
+    ensures view { MatchResult result.1
+        (λ _. view result.0.desk.place ≡ view_of result.0.desk.shown.value.version)
+        (λ _. view result.0.desk.place ≡ view writer.desk.place) }
 {
     let mut writer = writer;
     if let Err(_) = writer.append(change) {
@@ -178,10 +193,12 @@ fn publish_edit<A: Allocator, R: Wait>(
 fn tell_all<A: Allocator>(writer: &mut MovieWriter<A>, reader: &mut RuledReader<A>)
     requires own { reader.old.place.table_id ≡ writer.old.desk.place.table_id }
     requires begins { IsPrefix (view reader.old.place).seen (view writer.old.desk.place).seen }
-    ensures none { drop writer.new.behind writer.new.log.items ≡ drop writer.old.behind writer.old.log.items }
+    ensures none { drop writer.new.behind writer.new.log.items
+        ≡ drop writer.old.behind writer.old.log.items }
     ensures value { writer.new.desk.shown.value ≡ writer.old.desk.shown.value }
     ensures view { view writer.new.desk.place ≡ view writer.old.desk.place }
-    ensures learned { view reader.new.place ≡ learned (view reader.old.place) (view writer.old.desk.place) }
+    ensures learned { view reader.new.place
+        ≡ learned (view reader.old.place) (view writer.old.desk.place) }
     ensures grows { IsPrefix (view reader.old.place).seen (view reader.new.place).seen }
 {
     reader.learn::<TellAll>(writer.tell::<TellAll>());
@@ -213,7 +230,9 @@ impl<A: Allocator + Copy> Publisher<A> {
     /// The blank movie, with no edits, with places for this many readers. The writer is made last.
     pub fn new(alloc: A, readers: usize) -> Result<Publisher<A>, AllocError>
         requires { (0 < readers) × (readers < 2 ^ 32) }
-        ensures { IfOk result (λ publisher. publisher ≡ record { registry = publisher.registry; journal = []; movie = blank_movie }) }
+        ensures { IfOk result
+            (λ publisher. publisher
+            ≡ record { registry = publisher.registry; journal = []; movie = blank_movie }) }
     {
         let latest = LatestVersion::new();
         let writer = new_writer(alloc, readers, latest.version())?;
@@ -227,7 +246,14 @@ impl<A: Allocator + Copy> Publisher<A> {
     /// Adds an entry that can come next, and publishes it. All growths come first, and then nothing can fail.
     pub fn push<R: Wait>(&mut self, rt: &R, next: Entry<A>) -> Result<(), AllocError>
         requires { IsNextEntry self.old.journal next }
-        ensures done { OnOk result (self.new ≡ record { registry = self.old.registry; journal = self.old.journal ++ next ∷ []; movie = edited self.old.movie next.edit }) }
+        ensures done { OnOk result
+            (self.new
+            ≡ record {
+              registry = self.old.registry;
+              journal = self.old.journal
+                  ++ next ∷ [];
+              movie = edited self.old.movie next.edit;
+            }) }
         ensures refused { OnErr result (self.new ≡ self.old) }
     {
         replace_with(
@@ -235,7 +261,14 @@ impl<A: Allocator + Copy> Publisher<A> {
             next,
             |publisher: Publisher<A>, next: Entry<A>| -> (Publisher<A>, Result<(), AllocError>)
                 requires { IsNextEntry publisher.journal next }
-                ensures done { OnOk result.1 (result.0 ≡ record { registry = publisher.registry; journal = publisher.journal ++ next ∷ []; movie = edited publisher.movie next.edit }) }
+                ensures done { OnOk result.1
+                    (result.0
+                    ≡ record {
+                      registry = publisher.registry;
+                      journal = publisher.journal
+                          ++ next ∷ [];
+                      movie = edited publisher.movie next.edit;
+                    }) }
                 ensures refused { OnErr result.1 (result.0 ≡ publisher) }
             { publisher.pushed(rt, next) },
         )
@@ -244,7 +277,14 @@ impl<A: Allocator + Copy> Publisher<A> {
     /// As [`Publisher::push`], by value, since the writer publishes by value.
     fn pushed<R: Wait>(self, rt: &R, next: Entry<A>) -> (Publisher<A>, Result<(), AllocError>)
         requires { IsNextEntry self.journal next }
-        ensures done { OnOk result.1 (result.0 ≡ record { registry = self.registry; journal = self.journal ++ next ∷ []; movie = edited self.movie next.edit }) }
+        ensures done { OnOk result.1
+            (result.0
+            ≡ record {
+              registry = self.registry;
+              journal = self.journal
+                  ++ next ∷ [];
+              movie = edited self.movie next.edit;
+            }) }
         ensures refused { OnErr result.1 (result.0 ≡ self) }
     {
         let Publisher {
@@ -284,7 +324,8 @@ impl<A: Allocator> Publisher<A> {
     /// A reader under the rule that has seen the history.
     fn ruled_reader<R: Wait>(&mut self, rt: &R) -> Result<RuledReader<A>, AllocError>
         ensures same { self.new ≡ self.old }
-        ensures view { IfOk result (λ r. view r.place ≡ view_of (version_of self.old.registry self.old.journal)) }
+        ensures view { IfOk result
+            (λ r. view r.place ≡ view_of (version_of self.old.registry self.old.journal)) }
     {
         replace_with(
             &mut self.writer,
@@ -293,11 +334,13 @@ impl<A: Allocator> Publisher<A> {
                 MovieWriter<A>,
                 Result<RuledReader<A>, AllocError>,
             )
-                requires { (drop writer.behind writer.log.items ≡ []) × HasSeenAll writer.desk.shown.value (view writer.desk.place) }
+                requires { (drop writer.behind writer.log.items ≡ [])
+                    × HasSeenAll writer.desk.shown.value (view writer.desk.place) }
                 ensures none { drop result.0.behind result.0.log.items ≡ [] }
                 ensures value { result.0.desk.shown.value ≡ writer.desk.shown.value }
                 ensures own { view result.0.desk.place ≡ view_of writer.desk.shown.value.version }
-                ensures view { IfOk result.1 (λ r. view r.place ≡ view_of writer.desk.shown.value.version) }
+                ensures view { IfOk result.1
+                    (λ r. view r.place ≡ view_of writer.desk.shown.value.version) }
             { make_reader(writer, rt) },
         )
     }
@@ -329,7 +372,8 @@ impl<A: Allocator> Publisher<A> {
     /// A reader that has seen the history. An error comes where there is no place for it.
     pub fn reader<R: Wait>(&mut self, rt: &R) -> Result<MovieReader<A>, AllocError>
         ensures same { self.new ≡ self.old }
-        ensures seen { IfOk result (λ reader. reader ≡ view_of (version_of self.old.registry self.old.journal)) }
+        ensures seen { IfOk result
+            (λ reader. reader ≡ view_of (version_of self.old.registry self.old.journal)) }
     {
         let reader = self.ruled_reader(rt)?;
         Ok(MovieReader::new(reader))
@@ -346,7 +390,8 @@ impl<A: Allocator> Publisher<A> {
             (),
             |reader: RuledReader<A>, _none: ()| -> (RuledReader<A>, ())
                 requires { KnowsRegistry (view reader.place) self.now.registry }
-                ensures seen { view result.0.place ≡ view_of (version_of self.entry.now.registry self.entry.now.journal) }
+                ensures seen { view result.0.place
+                    ≡ view_of (version_of self.entry.now.registry self.entry.now.journal) }
                 ensures begins { IsPrefix (view reader.place).seen self.entry.now.journal }
             { (self.read_latest(rt, reader), ()) },
         )

@@ -184,7 +184,8 @@ pub fn shown<A: Allocator>(
     picture: Picture<A>,
     end: Result<(), Halt>,
 ) -> Result<Shot<A>, ShotError>
-    ensures shot { OnOk end (result ≡ Ok (record { at = at; frame = frame; ran = ran; picture = picture })) }
+    ensures shot { OnOk end
+        (result ≡ Ok (record { at = at; frame = frame; ran = ran; picture = picture })) }
     ensures halted { IfErr end (λ halt. result ≡ Err (Halted at halt)) }
 {
     match end {

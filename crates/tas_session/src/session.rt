@@ -46,15 +46,22 @@ pub struct Session<A: Allocator = Global> {
 
 impl<A: Allocator> Model for Session<A> {
     ghost use Rattle.std.specs.Prelude.{◌≡◌, ℕ};
-    ghost use Rattle.tas_session.specs.Counts.{count_in};
+    ghost use Rattle.tas_session.specs.Inside.Counts.{count_in};
     ghost use Rattle.tas_session.specs.History.{entries_of};
     ghost use Rattle.tas_session.specs.Session.{SessionContent, IsSound};
 
     ghost Value = { SessionContent A };
 
-    ghost view = { λ a. record { registry = a.publisher.registry; journal = a.publisher.journal; movie = a.publisher.movie; zone = a.green } };
+    ghost view = { λ a. record {
+      registry = a.publisher.registry;
+      journal = a.publisher.journal;
+      movie =
+          a.publisher.movie;
+      zone = a.green;
+    } };
 
-    ghost invariant = { λ a. IsSound a.publisher.journal a.publisher.movie a.green × ((seat : ℕ) → count_in a.counts seat ≡ entries_of seat a.publisher.journal) };
+    ghost invariant = { λ a. IsSound a.publisher.journal a.publisher.movie a.green
+        × ((seat : ℕ) → count_in a.counts seat ≡ entries_of seat a.publisher.journal) };
 }
 
 impl<A: Allocator> Session<A> {
@@ -77,7 +84,8 @@ impl<A: Allocator> Session<A> {
     /// is left. The session is as it was.
     pub fn reader<R: Wait>(&mut self, rt: &R) -> Result<MovieReader<A>, AllocError>
         ensures same { self.new ≡ self.old }
-        ensures seen { IfOk result (λ reader. reader ≡ view_of (version_of self.old.registry self.old.journal)) }
+        ensures seen { IfOk result
+            (λ reader. reader ≡ view_of (version_of self.old.registry self.old.journal)) }
     {
         self.publisher.reader(rt)
     }
@@ -98,7 +106,9 @@ impl<A: Allocator> Session<A> {
 impl<A: Allocator + Copy> Session<A> {
     /// The blank cartridge with no inputs, an empty history and no kept states. `Memory` where memory is refused.
     pub fn new(alloc: A) -> Result<Session<A>, OpenError>
-        ensures fresh { IfOk result (λ session. (session.journal ≡ []) × (session.movie ≡ blank_movie) × (session.zone ≡ [])) }
+        ensures fresh { IfOk result
+            (λ session. (session.journal ≡ []) × (session.movie ≡ blank_movie)
+            × (session.zone ≡ [])) }
         ensures error { IfErr result (λ error. error ≡ OutOfMemory) }
     {
         match Session::with_places(alloc, 1) {
@@ -111,7 +121,10 @@ impl<A: Allocator + Copy> Session<A> {
     /// The writer is made last: it can't be dropped, so nothing that may fail follows it.
     pub fn with_places(alloc: A, readers: usize) -> Result<Session<A>, AllocError>
         requires { (0 < readers) × (readers < 2 ^ 32) }
-        ensures { IfOk result (λ session. session ≡ record { registry = session.registry; journal = []; movie = blank_movie; zone = [] }) }
+        ensures { IfOk result
+            (λ session. session
+            ≡ record
+            { registry = session.registry; journal = []; movie = blank_movie; zone = [] }) }
     {
         let counts = EntryCounts::new(alloc);
         let green = Green::new(alloc);
@@ -134,10 +147,19 @@ impl<A: Allocator + Copy> Session<A> {
         made: u64,
         edit: Edit<A>,
     ) -> Result<Receipt, EditError>
-        ensures receipt { IfOk result (λ receipt. receipt ≡ record { at = length self.old.journal + 1; len = length (edited self.old.movie edit).inputs }) }
-        ensures refusal { MatchResult result (λ _. edit_refusal self.old seat made edit ≡ None) (IsEditError (edit_refusal self.old seat made edit)) }
-        ensures done { OnOk result (self.new ≡ after_entry self.old (record { seat = seat; serial = made; edit = edit })) }
-        ensures next { OnOk result (IsNextEntry self.old.journal (record { seat = seat; serial = made; edit = edit })) }
+        ensures receipt { IfOk result
+            (λ receipt. receipt
+            ≡ record {
+              at = length self.old.journal
+                  + 1;
+              len = length (edited self.old.movie edit).inputs;
+            }) }
+        ensures refusal { MatchResult result (λ _. edit_refusal self.old seat made edit ≡ None)
+            (IsEditError (edit_refusal self.old seat made edit)) }
+        ensures done { OnOk result
+            (self.new ≡ after_entry self.old (record { seat = seat; serial = made; edit = edit })) }
+        ensures next { OnOk result
+            (IsNextEntry self.old.journal (record { seat = seat; serial = made; edit = edit })) }
         ensures refused { OnErr result (self.new ≡ self.old) }
     {
         self.check_edit(seat, made, &edit)?;
@@ -157,8 +179,11 @@ impl<A: Allocator + Copy> Session<A> {
 
     /// Whether the edit would be refused for another cause than memory.
     fn check_edit(&self, seat: u32, made: u64, edit: &Edit<A>) -> Result<(), EditError>
-        ensures refusal { MatchResult result (λ _. edit_refusal self.now seat made edit.now ≡ None) (λ error. edit_refusal self.now seat made edit.now ≡ Some error) }
-        ensures next { OnOk result (IsNextEntry self.now.journal (record { seat = seat; serial = made; edit = edit.now })) }
+        ensures refusal { MatchResult result (λ _. edit_refusal self.now seat made edit.now ≡ None)
+            (λ error. edit_refusal self.now seat made edit.now ≡ Some error) }
+        ensures next { OnOk result
+            (IsNextEntry self.now.journal
+            (record { seat = seat; serial = made; edit = edit.now })) }
     {
         let at = self.at();
         let counted = self.counts.count(seat);
@@ -206,12 +231,19 @@ impl<A: Allocator + Copy> Session<A> {
         ensures same { (self.new.journal ≡ self.old.journal) × (self.new.movie ≡ self.old.movie) }
         ensures registry { self.new.registry ≡ self.old.registry }
         // Where all of the grid up to the frame is kept, no more than a stride's frames are played.
-        ensures short { IfOk result (λ shot. HoldsGrid (stride (length self.old.movie.inputs)) k self.old.zone → shot.ran ≤ stride (length self.old.movie.inputs)) }
-        ensures meter { MatchPlayed result (meter.new + nearest k self.old.zone ≡ meter.old + (k + 1)) (meter.new ≡ meter.old) }
+        ensures short { IfOk result
+            (λ shot. HoldsGrid (stride (length self.old.movie.inputs)) k self.old.zone
+            → shot.ran ≤ stride (length self.old.movie.inputs)) }
+        ensures meter { MatchPlayed result
+            (meter.new + nearest k self.old.zone ≡ meter.old + (k + 1)) (meter.new ≡ meter.old) }
         ensures kept { MatchPlayed result
-            ((f : ℕ) → state_at f self.new.zone ≡ first_of (state_at f self.old.zone)
-            (where_true (is_passed (stride (length self.old.movie.inputs)) (nearest k self.old.zone) (k + 1) f) (Some (state_after self.old.movie f))))
-            (self.new.zone ≡ self.old.zone) }
+            ((f : ℕ)
+            → state_at f self.new.zone
+            ≡ first_of (state_at f self.old.zone)
+            (where_true
+            (is_passed (stride (length self.old.movie.inputs))
+            (nearest k self.old.zone) (k + 1) f)
+            (Some (state_after self.old.movie f)))) (self.new.zone ≡ self.old.zone) }
     {
         let at = self.at();
         let len = self.movie().len();
@@ -235,9 +267,12 @@ impl<A: Allocator + Copy> Session<A> {
     /// `AllocError` where memory is refused.
     pub fn job<B: Allocator + Copy>(&self, alloc: B, near: usize) -> Result<Job<B>, AllocError>
         ensures cart { IfOk result (λ job. job.cart ≡ self.now.movie.cart) }
-        ensures inputs { IfOk result (λ job. job.inputs ≡ take (min near (length self.now.movie.inputs)) self.now.movie.inputs) }
+        ensures inputs { IfOk result
+            (λ job. job.inputs
+            ≡ take (min near (length self.now.movie.inputs)) self.now.movie.inputs) }
         ensures stride { IfOk result (λ job. job.stride ≡ stride (length self.now.movie.inputs)) }
-        ensures start { IfOk result (λ job. job.start ≡ nearest (min near (length self.now.movie.inputs)) self.now.zone) }
+        ensures start { IfOk result
+            (λ job. job.start ≡ nearest (min near (length self.now.movie.inputs)) self.now.zone) }
     {
         Job::take(alloc, self.movie(), &self.green, near)
     }
@@ -248,13 +283,22 @@ impl<A: Allocator + Copy> Session<A> {
     /// `Cartridge` comes exactly where the two cartridges' bytes differ; `Memory` hands the same batch back. Both leave the
     /// session as it was.
     pub fn offer<B: Allocator>(&mut self, batch: Batch<B>) -> Result<Offered, OfferError<B>>
-        ensures cartridge { (result ≡ Err (Cartridge (length self.old.journal))) ↔ (batch.cart ≢ self.old.movie.cart) }
-        ensures error { IfErr result (λ error. (error ≡ Cartridge (length self.old.journal)) ⊎ (error ≡ Memory batch)) }
+        ensures cartridge { (result ≡ Err (Cartridge (length self.old.journal)))
+            ↔ (batch.cart ≢ self.old.movie.cart) }
+        ensures error { IfErr result
+            (λ error. (error ≡ Cartridge (length self.old.journal)) ⊎ (error ≡ Memory batch)) }
         ensures at { IfOk result (λ offered. offered.at ≡ length self.old.journal) }
-        ensures front { IfOk result (λ offered. IsCommonFront batch.inputs self.old.movie.inputs offered.front) }
-        ensures states { IfOk result (λ offered. (f : ℕ) → state_at f self.new.zone ≡ first_of (state_at f self.old.zone)
-            (where_true (is_on_grid (stride (length self.old.movie.inputs)) offered.front f) (state_at f batch.states))) }
-        ensures kept { IfOk result (λ offered. length self.new.zone ≡ length self.old.zone + offered.kept) }
+        ensures front { IfOk result
+            (λ offered. IsCommonFront batch.inputs self.old.movie.inputs offered.front) }
+        ensures states { IfOk result
+            (λ offered. (f : ℕ)
+            → state_at f self.new.zone
+            ≡ first_of (state_at f self.old.zone)
+            (where_true
+            (is_on_grid (stride (length self.old.movie.inputs)) offered.front f)
+            (state_at f batch.states))) }
+        ensures kept { IfOk result
+            (λ offered. length self.new.zone ≡ length self.old.zone + offered.kept) }
         ensures same { (self.new.journal ≡ self.old.journal) × (self.new.movie ≡ self.old.movie) }
         ensures registry { self.new.registry ≡ self.old.registry }
         ensures lawful { IsLawful self.new.movie self.new.zone }

@@ -5,7 +5,7 @@
 //! The registry exists in proofs alone: at run time a version is its number, and the registry is a counter.
 
 ghost use Rattle.std.specs.Prelude.{◌≡◌, ◌+◌, ◌==◌, ◌<◌, [], length, true};
-ghost use Rattle.tas_session.specs.Registry.{counter_of, latest};
+ghost use Rattle.tas_session.specs.Inside.Registry.{counter_of, latest};
 ghost use Rattle.tas_session.specs.Version.{version_of};
 
 use crate::Entry;
@@ -20,7 +20,7 @@ pub struct VersionRule;
 impl<A: Allocator> Rule<LinkedList<Entry<A>, A>, u64> for VersionRule {
     ghost use Rattle.std.specs.Prelude.{[]};
     ghost use base.Fml.{ftrue};
-    ghost use Rattle.tas_session.specs.Registry.{CountsHistories};
+    ghost use Rattle.tas_session.specs.Inside.Registry.{CountsHistories};
 
     ghost holds = { λ cells numbered. CountsHistories cells numbered };
 
@@ -48,7 +48,7 @@ impl<A: Allocator> Gain<LinkedList<Entry<A>, A>, u64> for NoGain {
 pub struct AddVersion;
 
 impl<A: Allocator> Play<LinkedList<Entry<A>, A>, u64> for AddVersion {
-    ghost use Rattle.tas_session.specs.Registry.{Numbers};
+    ghost use Rattle.tas_session.specs.Inside.Registry.{Numbers};
 
     ghost then = { Numbers };
 }
@@ -77,7 +77,7 @@ where
 {
     ghost use Rattle.std.specs.Prelude.{◌≡◌, length};
     ghost use Rattle.tas_session.specs.Version.{VersionContent, version_of};
-    ghost use Rattle.tas_session.specs.Registry.{latest};
+    ghost use Rattle.tas_session.specs.Inside.Registry.{latest};
 
     ghost Value = { VersionContent A };
 
@@ -103,7 +103,7 @@ where
 {
     ghost use Rattle.std.specs.Prelude.{◌≡◌};
     ghost use Rattle.tas_session.specs.Version.{VersionContent};
-    ghost use Rattle.tas_session.specs.Registry.{counter_of};
+    ghost use Rattle.tas_session.specs.Inside.Registry.{counter_of};
 
     ghost Value = { VersionContent A };
 

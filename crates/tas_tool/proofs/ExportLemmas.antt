@@ -24,8 +24,8 @@ use Rattle.tas_engines.specs.Movies.{IsMovieOf}
 use Rattle.tas_engines.specs.Shooting.{halt_fault}
 use Rattle.tas_engines.specs.Output.{Ends}
 use Rattle.tas_tool.specs.Pixmaps.{IsPixmapsAnswer, IsExportAnswer}
-use Rattle.tas_tool.specs.Checking.{checked_end}
-use Rattle.tas_tool.specs.TwoEdits.{export_end, HoldsMovie, IsMakingFault, StandsAtOwn}
+use Rattle.tas_tool.specs.Inside.Checking.{checked_end}
+use Rattle.tas_tool.specs.Inside.TwoEdits.{export_end, HoldsMovie, IsMakingFault, StandsAtOwn}
 use Rattle.tas_tool.proofs.TurnLemmas.{longer, more_than, checked_cases}
 
 pub still_holds : {A : Type 0} (before now : SeatContent A) (movie : MovieContent) → HasSeen before now → HoldsMovie before movie → HoldsMovie now movie

@@ -18,9 +18,9 @@ use Rattle.tas_language.specs.declared.reply.Reply.{Reply}
 use Rattle.tas_language.specs.declared.reply.Reply.TheVariants.{Drawn, Worked}
 use Rattle.tas_tool.specs.declared.answering.Answered.{Answered}
 use Rattle.tas_tool.specs.Turns.{OwnEdits, own_edits_of, BeginsWithOwn}
-use Rattle.tas_tool.specs.Checking.{checked_end, looked}
+use Rattle.tas_tool.specs.Inside.Checking.{checked_end, looked}
 use Rattle.tas_tool.specs.Talk.{TalkState, Rests, IsGreen, Plays, Gains, ShotLeaves, CommandLeaves, WorkLeaves}
-use Rattle.tas_tool.specs.Talking.{talk_state_of, TellsError, IsWorkedZone, IsCommandZone}
+use Rattle.tas_tool.specs.Inside.Talking.{talk_state_of, TellsError, IsWorkedZone, IsCommandZone}
 use Rattle.tas_tool.proofs.TurnLemmas.{own_edits_stay, own_movie, own_stays, longer, seen_self, checked_ends}
 
 -- ---- the same greenzone

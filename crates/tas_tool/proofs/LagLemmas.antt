@@ -15,7 +15,7 @@ use Rattle.tas_language.specs.declared.request.Request.TheVariants.{Lag}
 use Rattle.tas_language.specs.Answers.{lag_text}
 use Rattle.tas_tool.specs.Turns.{own_edits_of, BeginsWithOwn}
 use Rattle.tas_tool.specs.Talk.{LookLeaves, has_frames, answer_lag, lag_of_own}
-use Rattle.tas_tool.specs.Talking.{talk_state_of, IsReachedOwn, IsToldTo}
+use Rattle.tas_tool.specs.Inside.Talking.{talk_state_of, IsReachedOwn, IsToldTo}
 use Rattle.tas_tool.proofs.TurnLemmas.{own_edits_stay, own_stays}
 use Rattle.tas_tool.proofs.GreenLemmas.{rests}
 use Rattle.tas_tool.proofs.StateLemmas.{few_told}

@@ -21,7 +21,7 @@ use Rattle.tas_language.specs.declared.reply.Reply.{Reply}
 use Rattle.tas_language.specs.declared.reply.Reply.TheVariants.{Measured, Pressed, NoFrame, Drawn, Worked, OutOfMemory}
 use Rattle.tas_tool.specs.declared.answering.Answered.{Answered}
 use Rattle.tas_tool.specs.Turns.{Unforeseen, own_edits_of, BeginsWithOwn, IsDeskFault, input_reply, halted_reply, shot_reply, reply_to, own_edits_after, IsTurn}
-use Rattle.tas_tool.specs.Checking.{checked_end, looked, IsAnswer}
+use Rattle.tas_tool.specs.Inside.Checking.{checked_end, looked, IsAnswer}
 use Rattle.tas_tool.proofs.TurnLemmas.{unforeseen, own_edits_stay, own_stays, own_movie, seen_self, first_front, foreign, checked_ends}
 
 -- ---- looks

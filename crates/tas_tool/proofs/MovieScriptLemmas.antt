@@ -9,7 +9,7 @@ use Rattle.tas_engines.specs.declared.fault.RunFault.{RunFault}
 use Rattle.tas_engines.specs.declared.fault.RunFault.TheVariants.{Write, Size, Text, NoFrame as OffMovie, Range as OffRange, Halted as Stopped, HaltedFrame as StoppedFrame, Script, Place, Long, NoPlace, NoEntry, Foreign, Memory}
 use Rattle.tas_engines.specs.Movies.{IsMovieOf}
 use Rattle.tas_tool.specs.Turns.{OwnEdits, own_edits_of, BeginsWithOwn}
-use Rattle.tas_tool.specs.TwoEdits.{HoldsMovie, IsMakingFault}
+use Rattle.tas_tool.specs.Inside.TwoEdits.{HoldsMovie, IsMakingFault}
 use Rattle.tas_tool.specs.Scripts.{Answers}
 use Rattle.tas_tool.specs.MovieScripts.{own_edits_of_movie, IsUnmade, AnswersOver, RunsOver}
 use Rattle.tas_tool.proofs.ScriptLemmas.{written}

@@ -22,8 +22,8 @@ use Rattle.tas_language.specs.Replies.{reply_text}
 use Rattle.tas_language.specs.declared.request.Request.TheVariants.{Retouch as RetouchLine}
 use Rattle.tas_tool.specs.declared.answering.Answered.{Answered}
 use Rattle.tas_tool.specs.Turns.{OwnEdits, own_edits_of, BeginsWithOwn, refused_reply, refusal_reply, edit_reply, own_edits_unless, IsEditTurn, IsRetouchTurn}
-use Rattle.tas_tool.specs.Checking.{IsEditAnswer, IsRetouchAnswer}
-use Rattle.tas_tool.specs.Talking.{IsToldTo}
+use Rattle.tas_tool.specs.Inside.Checking.{IsEditAnswer, IsRetouchAnswer}
+use Rattle.tas_tool.specs.Inside.Talking.{IsToldTo}
 use Rattle.tas_tool.proofs.TurnLemmas.{own_edits_stay, own_stays}
 use Rattle.tas_tool.proofs.GreenLemmas.{rests}
 

@@ -17,7 +17,7 @@ use Rattle.tas_language.specs.declared.request.Request.TheVariants.{Ram, Digest}
 use Rattle.tas_language.specs.Answers.{ram_text, frame_digest_text}
 use Rattle.tas_tool.specs.Turns.{own_edits_of, halted_reply, BeginsWithOwn, HasForeign}
 use Rattle.tas_tool.specs.Talk.{TalkState, Reaches, LookLeaves, answer_ram, ram_of_own, digest_of_own}
-use Rattle.tas_tool.specs.Talking.{talk_state_of, IsDigested, IsReachedOwn, IsToldTo}
+use Rattle.tas_tool.specs.Inside.Talking.{talk_state_of, IsDigested, IsReachedOwn, IsToldTo}
 use Rattle.tas_tool.proofs.TurnLemmas.{own_edits_stay, own_stays, own_movie, seen_self, more_than}
 use Rattle.tas_tool.proofs.GreenLemmas.{green_at, rests, talk_state_stays}
 

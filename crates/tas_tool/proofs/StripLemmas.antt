@@ -5,7 +5,7 @@ use Rattle.tas_desk.specs.Seats.{SeatContent}
 use Rattle.tas_language.specs.declared.request.Request.TheVariants.{Picture, Pictures}
 use Rattle.tas_tool.specs.Turns.{OwnEdits, BeginsWithOwn}
 use Rattle.tas_tool.specs.Talk.{TalkState, StripAnswer, IsPictureAnswer, AreStrip, strip_answers}
-use Rattle.tas_tool.specs.Talking.{talk_state_of, IsToldTo}
+use Rattle.tas_tool.specs.Inside.Talking.{talk_state_of, IsToldTo}
 
 pub no_strip : (state : TalkState) (from : ℕ) → AreStrip state from [] state
 unfolding AreStrip

@@ -28,9 +28,9 @@ use Rattle.tas_tool.specs.declared.talking.Progress.{Progress}
 use Rattle.tas_tool.specs.Turns.{OwnEdits, own_edits_of, BeginsWithOwn}
 use Rattle.tas_tool.specs.Scripts.{own_edits_at_start}
 use Rattle.tas_tool.specs.MovieScripts.{own_edits_of_movie}
-use Rattle.tas_tool.specs.TwoEdits.{HoldsMovie, IsMakingFault}
+use Rattle.tas_tool.specs.Inside.TwoEdits.{HoldsMovie, IsMakingFault}
 use Rattle.tas_tool.specs.Talk.{TalkState, fresh_talk_state, Exchange, IsExchange, AreExchanges, IsAnswerCutOff, IsTalk, lines_of, answers_of, last_answer, most_counted}
-use Rattle.tas_tool.specs.Talking.{talk_state_of, CutsOff, HasAnswered, Breaks, StopsAfter, IsToldTo, IsTalkFault, IsLineTurn, IsPartTurn}
+use Rattle.tas_tool.specs.Inside.Talking.{talk_state_of, CutsOff, HasAnswered, Breaks, StopsAfter, IsToldTo, IsTalkFault, IsLineTurn, IsPartTurn}
 use Rattle.tas_tool.proofs.MovieScriptLemmas.{holds_own_edits}
 
 -- ---- lists of exchanges

@@ -11,7 +11,7 @@ use Rattle.tas_engines.specs.Input.{IsReadWhole, StopsReading, StopsReadingTwo}
 use Rattle.tas_engines.specs.Movies.{IsMovieOf, IsMovieFault}
 use Rattle.tas_engines.specs.Tracing.{IsImageFault}
 use Rattle.tas_tool.specs.Talk.{IsUntouched, IsCartTalk, IsMovieTalk, IsTalk, talk_state_from}
-use Rattle.tas_tool.specs.Talking.{StartsTalk}
+use Rattle.tas_tool.specs.Inside.Talking.{StartsTalk}
 
 untouched : (input output : Option (List ℕ)) → IsUntouched input input output output
 untouched input output = record { unread = refl; unwritten = Keeps-refl output }

@@ -37,9 +37,9 @@ use Rattle.tas_language.specs.declared.request.Request.TheVariants.{Do, Picture,
 use Rattle.tas_language.specs.Answers.{picture_text, movie_text, states_text}
 use Rattle.tas_tool.specs.declared.answering.Answered.{Answered}
 use Rattle.tas_tool.specs.Turns.{Unforeseen, OwnEdits, own_edits_of, BeginsWithOwn, IsDeskFault, shot_reply, IsTurn}
-use Rattle.tas_tool.specs.Checking.{IsAnswer}
+use Rattle.tas_tool.specs.Inside.Checking.{IsAnswer}
 use Rattle.tas_tool.specs.Talk.{TalkState, Rests, Plays, PlaysUnless, GainsUnless, PictureLeaves, kept_frames, picture_of_own}
-use Rattle.tas_tool.specs.Talking.{talk_state_of, TellsError, IsCommandZone, IsTalkFault, IsBrought, IsToldTo}
+use Rattle.tas_tool.specs.Inside.Talking.{talk_state_of, TellsError, IsCommandZone, IsTalkFault, IsBrought, IsToldTo}
 use Rattle.tas_tool.proofs.TurnLemmas.{own_edits_stay, longer, own_stays, own_movie, seen_self}
 use Rattle.tas_tool.proofs.GreenLemmas.{ErrorLeaves, error_leaves, rests, plays_at, gains_at, command_leaves}
 

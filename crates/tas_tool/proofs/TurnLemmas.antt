@@ -33,7 +33,7 @@ use Rattle.tas_tool.specs.declared.answering.Answered.{Answered}
 use Rattle.tas_engines.specs.Changes.{edit_of, edit_on}
 use Rattle.tas_engines.proofs.ChangeLemmas.{same_refusal as content_refusal, same_edited as content_edited}
 use Rattle.tas_tool.specs.Turns.{load_edit, Unforeseen, OwnEdits, own_edits_of, BeginsWithOwn, HasForeign, IsDeskFault, refused_reply, refusal_reply, edit_reply, own_edits_unless, IsEditTurn, IsTurn}
-use Rattle.tas_tool.specs.Checking.{checked_end, looked, IsAnswer, IsEditAnswer}
+use Rattle.tas_tool.specs.Inside.Checking.{checked_end, looked, IsAnswer, IsEditAnswer}
 
 -- ---- what a seat has seen
 

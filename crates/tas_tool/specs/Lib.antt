@@ -1,9 +1,7 @@
-pub mod Turns
-pub mod Checking
-pub mod Scripts
 pub mod Films
-pub mod Pixmaps
-pub mod TwoEdits
+pub mod Inside
 pub mod MovieScripts
+pub mod Pixmaps
+pub mod Scripts
 pub mod Talk
-pub mod Talking
+pub mod Turns

@@ -8,9 +8,9 @@ ghost use Rattle.tas_engines.specs.declared.fault.RunFault.TheVariants.{Foreign,
 ghost use Rattle.tas_desk.specs.Seats.{HasSeen};
 ghost use Rattle.tas_session.specs.Shots.{IsShotAt};
 ghost use Rattle.tas_tool.specs.Turns.{own_edits_of, refused_reply, halted_reply, BeginsWithOwn, IsDeskFault, IsEditTurn, IsTurn};
-ghost use Rattle.tas_tool.specs.Checking.{checked_end, looked, IsAnswer, IsEditAnswer};
+ghost use Rattle.tas_tool.specs.Inside.Checking.{checked_end, looked, IsAnswer, IsEditAnswer};
 ghost use Rattle.tas_tool.specs.Talk.{ShotLeaves};
-ghost use Rattle.tas_tool.specs.Talking.{talk_state_of, IsCommandZone, IsWorkedZone, TellsError};
+ghost use Rattle.tas_tool.specs.Inside.Talking.{talk_state_of, IsCommandZone, IsWorkedZone, TellsError};
 ghost use Rattle.tas_language.specs.declared.command.Command.TheVariants.{Load as LoadLine, Edit as EditLine, InputAt as InputLine, Shot as ShotLine, Work as WorkLine};
 
 use std::alloc::Allocator;
@@ -53,7 +53,8 @@ pub fn own_len<N: Name, W: CloseOnDrop, A: Allocator>(
     ensures seen { HasSeen seat.old seat.new }
     ensures zone { seat.new.zone ≡ seat.old.zone }
     ensures reply { MatchResult result
-        (λ len. (length seat.new.front ≡ made) × (len ≡ length (own_edits_of seat.old).movie.inputs)) (IsDeskFault seat.new) }
+        (λ len. (length seat.new.front ≡ made)
+        × (len ≡ length (own_edits_of seat.old).movie.inputs)) (IsDeskFault seat.new) }
 {
     match desk.len(seat) {
         Ok((at, len)) => checked(made, at, Ok(len)),
@@ -75,8 +76,11 @@ fn refused_edit<N: Name, W: CloseOnDrop, A: Allocator>(
     requires made { made ≡ seat.old.made }
     ensures seen { HasSeen seat.old seat.new }
     ensures zone { seat.new.zone ≡ seat.old.zone }
-    ensures reply { (edit : EditContent A) → IsEditError (refusal_at seat.old.front seat.old.number seat.old.made edit) error
-        → MatchResult result (λ reply. IsEditTurn (own_edits_of seat.old) edit reply (own_edits_of seat.new)) (IsDeskFault seat.new) }
+    ensures reply { (edit : EditContent A)
+        → IsEditError (refusal_at seat.old.front seat.old.number seat.old.made edit) error
+        → MatchResult result
+        (λ reply. IsEditTurn (own_edits_of seat.old) edit reply (own_edits_of seat.new))
+        (IsDeskFault seat.new) }
     // A wrong serial is another's edit. Only after a refused growth there is a look, which may find no entry.
     ensures serial { (at counted : ℕ) → error ≡ Serial at counted → result ≡ Err Foreign }
     ensures entry { result ≡ Err NoEntry → error ≡ OutOfMemory }
@@ -208,7 +212,9 @@ fn show_input<N: Name, W: CloseOnDrop, A: Allocator>(
     requires made { made ≡ seat.old.made }
     ensures seen { HasSeen seat.old seat.new }
     ensures zone { seat.new.zone ≡ seat.old.zone }
-    ensures reply { MatchResult result (λ reply. IsTurn (own_edits_of seat.old) (InputLine frame) reply (own_edits_of seat.new)) (IsDeskFault seat.new) }
+    ensures reply { MatchResult result
+        (λ reply. IsTurn (own_edits_of seat.old) (InputLine frame) reply (own_edits_of seat.new))
+        (IsDeskFault seat.new) }
 {
     match desk.input(seat, frame) {
         Ok((at, input)) => checked(made, at, Ok(Reply::Pressed { at, input })),
@@ -247,7 +253,9 @@ pub fn unshown<N: Name, W: CloseOnDrop, A: Allocator>(
     ensures seen { HasSeen seat.old seat.new }
     ensures zone { seat.new.zone ≡ seat.old.zone }
     ensures tells { IfOk result (TellsError made error) }
-    ensures reply { MatchResult result (λ reply. IsTurn (own_edits_of seat.old) (ShotLine frame) reply (own_edits_of seat.new)) (IsDeskFault seat.new) }
+    ensures reply { MatchResult result
+        (λ reply. IsTurn (own_edits_of seat.old) (ShotLine frame) reply (own_edits_of seat.new))
+        (IsDeskFault seat.new) }
 {
     match error {
         ShotError::NoEntry => Err(RunFault::NoEntry),
@@ -271,8 +279,11 @@ fn draw<N: Name, W: CloseOnDrop, A: Allocator + Copy>(
     requires own { BeginsWithOwn seat.old }
     requires made { made ≡ seat.old.made }
     ensures seen { HasSeen seat.old seat.new }
-    ensures zone { IfOk result (ShotLeaves (talk_state_of seat.old) (talk_state_of seat.new) frame) }
-    ensures reply { MatchResult result (λ reply. IsTurn (own_edits_of seat.old) (ShotLine frame) reply (own_edits_of seat.new)) (IsDeskFault seat.new) }
+    ensures zone { IfOk result
+        (ShotLeaves (talk_state_of seat.old) (talk_state_of seat.new) frame) }
+    ensures reply { MatchResult result
+        (λ reply. IsTurn (own_edits_of seat.old) (ShotLine frame) reply (own_edits_of seat.new))
+        (IsDeskFault seat.new) }
 {
     let shot = match desk.shot(alloc, seat, frame) {
         Ok(shot) => shot,
@@ -346,7 +357,8 @@ pub fn answer_command<N: Name, W: CloseOnDrop, A: Allocator + Copy, R: Wait>(
     requires own { BeginsWithOwn seat.old }
     requires made { made ≡ seat.old.made }
     ensures number { seat.new.number ≡ seat.old.number }
-    ensures zone { IfOk result (λ answered. IsCommandZone seat.old seat.new command answered.reply) }
+    ensures zone { IfOk result
+        (λ answered. IsCommandZone seat.old seat.new command answered.reply) }
     ensures answer { IsAnswer seat.old seat.new command result }
 {
     match command {

@@ -9,7 +9,7 @@ ghost use Rattle.tas_engines.specs.declared.fault.RunFault.TheVariants.{Memory};
 ghost use Rattle.tas_engines.specs.Movies.{IsMovieRun};
 ghost use Rattle.tas_engines.specs.Output.{Ends};
 ghost use Rattle.tas_tool.specs.Pixmaps.{IsPixmapsAnswer, IsExportAnswer};
-ghost use Rattle.tas_tool.specs.TwoEdits.{export_end, StandsAtOwn};
+ghost use Rattle.tas_tool.specs.Inside.TwoEdits.{export_end, StandsAtOwn};
 
 use crate::answering::{OpenGate, checked};
 use crate::making::{MOVIE_EDITS, put_movie};
@@ -72,8 +72,12 @@ fn write_frames<
     requires workers { (1 ≤ frames.workers) × (frames.workers ≤ most_workers) }
     ensures seen { HasSeen seat.old seat.new }
     ensures own { StandsAtOwn seat.new result }
-    ensures ends { length seat.new.front ≤ seat.new.made → Ends (IsPixmapsAnswer (movie_of seat.new.front) frames.from frames.to) (W.contents output.old) (W.contents output.new) result }
-    ensures memory { IfErr result (λ fault. fault ≡ Memory → IsInRange (length (movie_of seat.new.front).inputs) frames.from frames.to) }
+    ensures ends { length seat.new.front ≤ seat.new.made
+        → Ends (IsPixmapsAnswer (movie_of seat.new.front) frames.from frames.to)
+        (W.contents output.old) (W.contents output.new) result }
+    ensures memory { IfErr result
+        (λ fault. fault ≡ Memory
+        → IsInRange (length (movie_of seat.new.front).inputs) frames.from frames.to) }
 {
     let Frames { from, to, workers } = frames;
     let answer = desk.export(rt, alloc, seat, from, to, workers, &OpenGate, output);
@@ -100,7 +104,9 @@ fn export_made<
     requires workers { (1 ≤ frames.workers) × (frames.workers ≤ most_workers) }
     ensures number { seat.new.number ≡ 0 }
     ensures own { StandsAtOwn seat.new result }
-    ensures ends { length seat.new.front ≤ seat.new.made → Ends (IsPixmapsAnswer movie.now frames.from frames.to) (W.contents output.old) (W.contents output.new) result }
+    ensures ends { length seat.new.front ≤ seat.new.made
+        → Ends (IsPixmapsAnswer movie.now frames.from frames.to) (W.contents output.old)
+        (W.contents output.new) result }
 {
     put_movie(rt, alloc, desk, seat, movie)?;
     write_frames(rt, alloc, desk, seat, frames, output)
@@ -119,7 +125,8 @@ fn export_from_desk<N: Name, A: Allocator + Copy + Send + Sync, R: Wait + Thread
     requires name { unopened ≡ name_of N.registry N.name N.parts }
     requires one { unopened.seats ≡ 1 }
     requires workers { (1 ≤ frames.workers) × (frames.workers ≤ most_workers) }
-    ensures { Ends (IsPixmapsAnswer movie.now frames.from frames.to) (W.contents output.old) (W.contents output.new) result }
+    ensures { Ends (IsPixmapsAnswer movie.now frames.from frames.to) (W.contents output.old)
+        (W.contents output.new) result }
 {
     let (desk, mut seats) = open_alone::<N, A, R>(rt, alloc, unopened)?;
     let seat = &mut seats.as_mut_slice()[0];
@@ -138,7 +145,8 @@ fn export_movie<A: Allocator + Copy + Send + Sync, R: Wait + Threads + Sync, W: 
     output: &mut W,
 ) -> Result<(), RunFault>
     requires workers { (1 ≤ frames.workers) × (frames.workers ≤ most_workers) }
-    ensures { Ends (IsExportAnswer frames.from frames.to image.now bytes.now) (W.contents output.old) (W.contents output.new) result }
+    ensures { Ends (IsExportAnswer frames.from frames.to image.now bytes.now)
+        (W.contents output.old) (W.contents output.new) result }
 {
     let movie = movie_of(alloc, image, bytes)?;
     let Ok(unopened) = Unopened::new(alloc, 1) else {
@@ -172,8 +180,9 @@ pub fn export_run<
     input: &mut R,
     output: &mut W,
 ) -> Result<(), ToolFault>
-    ensures { IsMovieRun (IsExportAnswer from to) (C.remaining cart.old) (C.remaining cart.new) (R.remaining input.old) (R.remaining input.new)
-        (W.contents output.old) (W.contents output.new) result }
+    ensures { IsMovieRun (IsExportAnswer from to) (C.remaining cart.old) (C.remaining cart.new)
+        (R.remaining input.old) (R.remaining input.new) (W.contents output.old)
+        (W.contents output.new) result }
 {
     let (image, bytes) = read_two(alloc, cart, input)?;
     let frames = Frames {

@@ -54,7 +54,8 @@ fn film_movie<A: Allocator + Copy, W: Write>(
     bytes: &[u8],
     output: &mut W,
 ) -> Result<(), RunFault>
-    ensures { Films from to image.now bytes.now (W.contents output.old) (W.contents output.new) result }
+    ensures { Films from to image.now bytes.now (W.contents output.old) (W.contents output.new)
+        result }
 {
     let movie = movie_of(alloc, image, bytes)?;
     let (from, to) = (from.unwrap_or(0), to.unwrap_or(movie.len()));
@@ -77,8 +78,9 @@ pub fn film_run<A: Allocator + Copy, C: Read, R: Read, W: Write>(
     input: &mut R,
     output: &mut W,
 ) -> Result<(), ToolFault>
-    ensures { IsFilmRun from to (C.remaining cart.old) (C.remaining cart.new) (R.remaining input.old) (R.remaining input.new)
-        (W.contents output.old) (W.contents output.new) result }
+    ensures { IsFilmRun from to (C.remaining cart.old) (C.remaining cart.new)
+        (R.remaining input.old) (R.remaining input.new) (W.contents output.old)
+        (W.contents output.new) result }
 {
     let (image, bytes) = read_two(alloc, cart, input)?;
     Ok(film_movie(alloc, from, to, image.as_slice(), bytes.as_slice(), output)?)

@@ -9,7 +9,7 @@ ghost use Rattle.tas_language.specs.Answers.{lag_text};
 ghost use Rattle.tas_engines.specs.Lag.{lag_lines_between};
 ghost use Rattle.tas_tool.specs.Talk.{has_frames};
 ghost use Rattle.tas_tool.specs.Turns.{own_edits_of, BeginsWithOwn, IsDeskFault};
-ghost use Rattle.tas_tool.specs.Talking.{IsDigested, IsReachedOwn, IsTalkFault, IsToldTo};
+ghost use Rattle.tas_tool.specs.Inside.Talking.{IsDigested, IsReachedOwn, IsTalkFault, IsToldTo};
 
 use crate::answering::{checked, halted_reply, own_len};
 use crate::telling::{Told, told_reply};
@@ -33,7 +33,9 @@ fn own_state<N: Name, W: CloseOnDrop, A: Allocator + Copy>(
     requires made { made ≡ seat.old.made }
     requires within { frames ≤ length (own_edits_of seat.old).movie.inputs }
     ensures seen { HasSeen seat.old seat.new }
-    ensures state { MatchResult result (λ found. MatchOption found (seat.new.zone ≡ seat.old.zone) (IsReachedOwn seat.old seat.new frames)) (IsDeskFault seat.new) }
+    ensures state { MatchResult result
+        (λ found. MatchOption found (seat.new.zone ≡ seat.old.zone)
+        (IsReachedOwn seat.old seat.new frames)) (IsDeskFault seat.new) }
 {
     match desk.state(seat, frames) {
         Ok(reached) => checked(made, reached.at, Ok(Some(reached.state))),
@@ -55,7 +57,9 @@ pub fn tell_ram<N: Name, W: CloseOnDrop, A: Allocator + Copy>(
     requires own { BeginsWithOwn seat.old }
     requires made { made ≡ seat.old.made }
     ensures number { seat.new.number ≡ seat.old.number }
-    ensures answer { MatchResult result (λ told. IsToldTo seat.old seat.new (RamLine frames) told.bytes.items told.made) (IsTalkFault seat.new) }
+    ensures answer { MatchResult result
+        (λ told. IsToldTo seat.old seat.new (RamLine frames) told.bytes.items told.made)
+        (IsTalkFault seat.new) }
 {
     let len = own_len(desk, seat, made)?;
     if frames > len {
@@ -80,8 +84,10 @@ fn digest_frame<A: Allocator + Copy, B: Allocator>(
 ) -> Result<Result<Vec<u8, A>, Halt>, AllocError>
     requires within { frame < length movie.now.inputs }
     requires begin { begin ≡ state_after movie.now frame }
-    ensures bytes { IfOk result (λ end. IfOk end (λ bytes. IsDigested made movie.now frame bytes.items)) }
-    ensures halt { IfOk result (λ end. IfErr end (λ halt. answer_shot movie.now frame ≡ Some (Err halt))) }
+    ensures bytes { IfOk result
+        (λ end. IfOk end (λ bytes. IsDigested made movie.now frame bytes.items)) }
+    ensures halt { IfOk result
+        (λ end. IfErr end (λ halt. answer_shot movie.now frame ≡ Some (Err halt))) }
 {
     let mut picture = Picture::blank(alloc)?;
     let mut state = begin;
@@ -110,7 +116,9 @@ pub fn tell_digest<N: Name, W: CloseOnDrop, A: Allocator + Copy>(
     requires own { BeginsWithOwn seat.old }
     requires made { made ≡ seat.old.made }
     ensures number { seat.new.number ≡ seat.old.number }
-    ensures answer { MatchResult result (λ told. IsToldTo seat.old seat.new (DigestLine frame) told.bytes.items told.made) (IsTalkFault seat.new) }
+    ensures answer { MatchResult result
+        (λ told. IsToldTo seat.old seat.new (DigestLine frame) told.bytes.items told.made)
+        (IsTalkFault seat.new) }
 {
     let len = own_len(desk, seat, made)?;
     if frame >= len {
@@ -145,7 +153,8 @@ fn find_lag<A: Allocator + Copy, B: Allocator>(
     requires order { from ≤ to }
     requires within { to ≤ length movie.now.inputs }
     requires begin { begin ≡ state_after movie.now from }
-    ensures { IfOk result (λ bytes. bytes.items ≡ lag_text made from to (lag_lines_between movie.now from to)) }
+    ensures { IfOk result
+        (λ bytes. bytes.items ≡ lag_text made from to (lag_lines_between movie.now from to)) }
 {
     let lines = lag_between(alloc, movie, from, to, begin)?;
     lag_answer(alloc, made, from, to, lines.as_slice())
@@ -163,7 +172,9 @@ pub fn tell_lag<N: Name, W: CloseOnDrop, A: Allocator + Copy>(
     requires own { BeginsWithOwn seat.old }
     requires made { made ≡ seat.old.made }
     ensures number { seat.new.number ≡ seat.old.number }
-    ensures answer { MatchResult result (λ told. IsToldTo seat.old seat.new (LagLine from to) told.bytes.items told.made) (IsTalkFault seat.new) }
+    ensures answer { MatchResult result
+        (λ told. IsToldTo seat.old seat.new (LagLine from to) told.bytes.items told.made)
+        (IsTalkFault seat.new) }
 {
     let len = own_len(desk, seat, made)?;
     if !has_frames(len, from, to) {

@@ -3,7 +3,7 @@
 ghost use Rattle.std.specs.Prelude.{◌≡◌, ◌≤◌, [], length, OnOk, IfOk, IfErr};
 ghost use Rattle.tas_movie.specs.Content.{most_inputs};
 ghost use Rattle.tas_engines.specs.declared.fault.RunFault.TheVariants.{Memory};
-ghost use Rattle.tas_tool.specs.TwoEdits.{edit_fault, HoldsMovie, IsMakingFault, IsUnrefused};
+ghost use Rattle.tas_tool.specs.Inside.TwoEdits.{edit_fault, HoldsMovie, IsMakingFault, IsUnrefused};
 
 use crate::answering::checked;
 use std::alloc::{AllocError, Allocator};

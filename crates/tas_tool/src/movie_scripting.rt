@@ -28,7 +28,8 @@ fn answer_made<N: Name, W: CloseOnDrop, A: Allocator + Copy, R: Wait>(
     requires first { (seat.old.number ≡ 0) × (seat.old.made ≡ 0) × (seat.old.front ≡ []) }
     requires empty { text.old.items ≡ [] }
     ensures number { seat.new.number ≡ 0 }
-    ensures answers { length seat.new.front ≤ seat.new.made → AnswersOver movie.now bytes.now text.new.items result }
+    ensures answers { length seat.new.front ≤ seat.new.made
+        → AnswersOver movie.now bytes.now text.new.items result }
 {
     put_movie(rt, alloc, desk, seat, movie)?;
     answer_lines(rt, alloc, desk, seat, MOVIE_EDITS, bytes, text)
@@ -65,7 +66,8 @@ fn run_over<A: Allocator + Copy, R: Wait, W: Write>(
     bytes: &[u8],
     output: &mut W,
 ) -> Result<(), RunFault>
-    ensures { RunsOver image.now said.now bytes.now (W.contents output.old) (W.contents output.new) result }
+    ensures { RunsOver image.now said.now bytes.now (W.contents output.old) (W.contents output.new)
+        result }
 {
     let movie = movie_of(alloc, image, said)?;
     let Ok(unopened) = Unopened::new(alloc, 1) else {
@@ -91,8 +93,9 @@ pub fn movie_script_run<A: Allocator + Copy, T: Wait, C: Read, M: Read, R: Read,
     input: &mut R,
     output: &mut W,
 ) -> Result<(), ToolFault>
-    ensures { IsMovieScriptRun (C.remaining cart.old) (C.remaining cart.new) (M.remaining movie.old) (M.remaining movie.new)
-        (R.remaining input.old) (R.remaining input.new) (W.contents output.old) (W.contents output.new) result }
+    ensures { IsMovieScriptRun (C.remaining cart.old) (C.remaining cart.new) (M.remaining movie.old)
+        (M.remaining movie.new) (R.remaining input.old) (R.remaining input.new)
+        (W.contents output.old) (W.contents output.new) result }
 {
     let read = read_three(alloc, cart, movie, input)?;
     run_over(

@@ -21,7 +21,8 @@ pub fn open_alone<N: Name, A: Allocator + Copy, R: Wait>(
     requires name { unopened ≡ name_of N.registry N.name N.parts }
     requires one { unopened.seats ≡ 1 }
     ensures alone { IfOk result (λ opened. length opened.1.items ≡ 1) }
-    ensures fresh { IfOk result (λ opened. slice_get opened.1.items 0 ≡ Some (seat_of 0 0 [] (blank_zone N.registry))) }
+    ensures fresh { IfOk result
+        (λ opened. slice_get opened.1.items 0 ≡ Some (seat_of 0 0 [] (blank_zone N.registry))) }
     ensures fault { IfErr result (λ fault. (fault ≡ Memory) ⊎ (fault ≡ NoPlace)) }
 {
     match Desk::<N, &R, A>::open(rt, alloc, unopened) {

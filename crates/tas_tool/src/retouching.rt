@@ -4,8 +4,8 @@ ghost use Rattle.std.specs.Prelude.{◌≡◌, ◌≤◌, ◌<◌, ◌+◌, ◌-
 ghost use Rattle.tas_desk.specs.Seats.{HasSeen};
 ghost use Rattle.tas_language.specs.declared.request.Request.TheVariants.{Retouch as RetouchLine};
 ghost use Rattle.tas_tool.specs.Turns.{own_edits_of, BeginsWithOwn, IsDeskFault};
-ghost use Rattle.tas_tool.specs.Checking.{IsRetouchAnswer};
-ghost use Rattle.tas_tool.specs.Talking.{IsTalkFault, IsToldTo};
+ghost use Rattle.tas_tool.specs.Inside.Checking.{IsRetouchAnswer};
+ghost use Rattle.tas_tool.specs.Inside.Talking.{IsTalkFault, IsToldTo};
 
 use crate::answering::{Answered, checked, make_edit, own_len, refused_reply};
 use crate::telling::{Told, told_reply};
@@ -29,7 +29,8 @@ fn own_input<N: Name, W: CloseOnDrop, A: Allocator>(
     ensures seen { HasSeen seat.old seat.new }
     ensures zone { seat.new.zone ≡ seat.old.zone }
     ensures input { MatchResult result
-        (λ input. slice_get (own_edits_of seat.old).movie.inputs frame ≡ Some input) (IsDeskFault seat.new) }
+        (λ input. slice_get (own_edits_of seat.old).movie.inputs frame ≡ Some input)
+        (IsDeskFault seat.new) }
 {
     match desk.input(seat, frame) {
         Ok((at, input)) => checked(made, at, Ok(input)),
@@ -56,7 +57,9 @@ fn own_inputs<N: Name, W: CloseOnDrop, A: Allocator + Copy>(
     ensures seen { HasSeen seat.old seat.new }
     ensures zone { seat.new.zone ≡ seat.old.zone }
     ensures inputs { MatchResult result
-        (λ found. IfSome found (λ taken. taken.items ≡ take (to - from) (drop from (own_edits_of seat.old).movie.inputs)))
+        (λ found. IfSome found
+        (λ taken. taken.items
+        ≡ take (to - from) (drop from (own_edits_of seat.old).movie.inputs)))
         (IsDeskFault seat.new) }
 {
     let mut taken = Vec::new(alloc);
@@ -124,7 +127,9 @@ pub fn tell_retouch<N: Name, W: CloseOnDrop, A: Allocator + Copy, R: Wait>(
     requires own { BeginsWithOwn seat.old }
     requires made { made ≡ seat.old.made }
     ensures number { seat.new.number ≡ seat.old.number }
-    ensures answer { MatchResult result (λ told. IsToldTo seat.old seat.new (RetouchLine retouch) told.bytes.items told.made) (IsTalkFault seat.new) }
+    ensures answer { MatchResult result
+        (λ told. IsToldTo seat.old seat.new (RetouchLine retouch) told.bytes.items told.made)
+        (IsTalkFault seat.new) }
 {
     let answered = make_retouch(rt, alloc, desk, seat, made, retouch)?;
     told_reply(alloc, answered.reply, answered.made)

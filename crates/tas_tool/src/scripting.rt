@@ -31,7 +31,8 @@ pub fn answer_lines<N: Name, W: CloseOnDrop, A: Allocator + Copy, R: Wait>(
     requires made { before ≡ seat.old.made }
     requires empty { text.old.items ≡ [] }
     ensures number { seat.new.number ≡ seat.old.number }
-    ensures answers { length seat.new.front ≤ seat.new.made → Answers (own_edits_of seat.old) bytes.now text.new.items result }
+    ensures answers { length seat.new.front ≤ seat.new.made
+        → Answers (own_edits_of seat.old) bytes.now text.new.items result }
 {
     let mut rest = bytes;
     let mut number = 1;
@@ -104,7 +105,8 @@ pub fn script_run<A: Allocator + Copy, T: Wait, R: Read, W: Write>(
     input: &mut R,
     output: &mut W,
 ) -> Result<(), ToolFault>
-    ensures { IsScriptRun (R.remaining input.old) (R.remaining input.new) (W.contents output.old) (W.contents output.new) result }
+    ensures { IsScriptRun (R.remaining input.old) (R.remaining input.new) (W.contents output.old)
+        (W.contents output.new) result }
 {
     let bytes = read_input(alloc, input)?;
     Ok(run_script(rt, alloc, bytes.as_slice(), output)?)

@@ -6,7 +6,7 @@ ghost use Rattle.tas_desk.specs.Seats.{name_of};
 ghost use Rattle.tas_engines.specs.Tracing.{IsImageFault};
 ghost use Rattle.tas_movie.specs.Content.{blank_movie};
 ghost use Rattle.tas_tool.specs.Talk.{talk_state_from, IsCartTalk, IsMovieTalk, IsTalk};
-ghost use Rattle.tas_tool.specs.Talking.{StartsTalk};
+ghost use Rattle.tas_tool.specs.Inside.Talking.{StartsTalk};
 
 use crate::making::{MOVIE_EDITS, put_movie};
 use crate::opening::open_alone;
@@ -33,7 +33,8 @@ fn talk_made<N: Name, C: CloseOnDrop, A: Allocator + Copy, T: Wait, R: Read, W: 
     requires first { (seat.old.number ≡ 0) × (seat.old.made ≡ 0) × (seat.old.front ≡ []) }
     requires zone { (seat.old.zone.movie ≡ blank_movie) × (seat.old.zone.states ≡ []) }
     ensures number { seat.new.number ≡ 0 }
-    ensures talk { length seat.new.front ≤ seat.new.made → IsTalk (talk_state_from movie) (R.remaining input.old) (R.remaining input.new)
+    ensures talk { length seat.new.front ≤ seat.new.made
+        → IsTalk (talk_state_from movie) (R.remaining input.old) (R.remaining input.new)
         (W.contents output.old) (W.contents output.new) result }
 {
     let Some(movie) = movie else {
@@ -57,7 +58,8 @@ fn talk_on<N: Name, A: Allocator + Copy, T: Wait, R: Read, W: Write>(
 ) -> Result<(), ToolFault>
     requires name { unopened ≡ name_of N.registry N.name N.parts }
     requires one { unopened.seats ≡ 1 }
-    ensures { IsTalk (talk_state_from movie) (R.remaining input.old) (R.remaining input.new) (W.contents output.old) (W.contents output.new) result }
+    ensures { IsTalk (talk_state_from movie) (R.remaining input.old) (R.remaining input.new)
+        (W.contents output.old) (W.contents output.new) result }
 {
     let (desk, mut seats) = open_alone::<N, A, T>(rt, alloc, unopened)?;
     let seat = &mut seats.as_mut_slice()[0];
@@ -74,7 +76,8 @@ fn talk_from<A: Allocator + Copy, T: Wait, R: Read, W: Write>(
     input: &mut R,
     output: &mut W,
 ) -> Result<(), ToolFault>
-    ensures { IsTalk (talk_state_from movie) (R.remaining input.old) (R.remaining input.new) (W.contents output.old) (W.contents output.new) result }
+    ensures { IsTalk (talk_state_from movie) (R.remaining input.old) (R.remaining input.new)
+        (W.contents output.old) (W.contents output.new) result }
 {
     let Ok(unopened) = Unopened::new(alloc, 1) else {
         return Err(ToolFault::Run(RunFault::Memory));
@@ -86,7 +89,9 @@ fn talk_from<A: Allocator + Copy, T: Wait, R: Read, W: Write>(
 ///
 /// Faults, in order: `Size`; `Memory`.
 fn blank_movie_of<A: Allocator + Copy>(alloc: A, image: &[u8]) -> Result<Movie<A>, RunFault>
-    ensures { MatchResult result (λ movie. (is_cart_size (length image.now) ≡ true) × (movie ≡ record { cart = image.now; inputs = [] })) (IsImageFault image.now) }
+    ensures { MatchResult result
+        (λ movie. (is_cart_size (length image.now) ≡ true)
+        × (movie ≡ record { cart = image.now; inputs = [] })) (IsImageFault image.now) }
 {
     let cart = Cart::from_bytes(alloc, image)?;
     Ok(Movie::new(alloc, &cart)?)
@@ -114,7 +119,9 @@ fn read_movie<A: Allocator + Copy, C: Read, M: Read>(
     cart: &mut C,
     movie: &mut M,
 ) -> Result<Movie<A>, ToolFault>
-    ensures { StartsTalk (IsMovieTalk (C.remaining cart.old) (C.remaining cart.new) (M.remaining movie.old) (M.remaining movie.new)) result }
+    ensures { StartsTalk
+        (IsMovieTalk (C.remaining cart.old) (C.remaining cart.new) (M.remaining movie.old)
+        (M.remaining movie.new)) result }
 {
     let (image, bytes) = read_two(alloc, cart, movie)?;
     Ok(movie_of(alloc, image.as_slice(), bytes.as_slice())?)
@@ -135,7 +142,8 @@ pub fn talk_run<A: Allocator + Copy, T: Wait, R: Read, W: Write>(
     input: &mut R,
     output: &mut W,
 ) -> Result<(), ToolFault>
-    ensures { IsTalk (talk_state_from None) (R.remaining input.old) (R.remaining input.new) (W.contents output.old) (W.contents output.new) result }
+    ensures { IsTalk (talk_state_from None) (R.remaining input.old) (R.remaining input.new)
+        (W.contents output.old) (W.contents output.new) result }
 {
     talk_from(rt, alloc, None, input, output)
 }
@@ -152,8 +160,8 @@ pub fn cart_talk_run<A: Allocator + Copy, T: Wait, C: Read, R: Read, W: Write>(
     input: &mut R,
     output: &mut W,
 ) -> Result<(), ToolFault>
-    ensures { IsCartTalk (C.remaining cart.old) (C.remaining cart.new) (R.remaining input.old) (R.remaining input.new)
-        (W.contents output.old) (W.contents output.new) result }
+    ensures { IsCartTalk (C.remaining cart.old) (C.remaining cart.new) (R.remaining input.old)
+        (R.remaining input.new) (W.contents output.old) (W.contents output.new) result }
 {
     let movie = read_blank_movie(alloc, cart)?;
     talk_from(rt, alloc, Some(movie), input, output)
@@ -172,8 +180,9 @@ pub fn movie_talk_run<A: Allocator + Copy, T: Wait, C: Read, M: Read, R: Read, W
     input: &mut R,
     output: &mut W,
 ) -> Result<(), ToolFault>
-    ensures { IsMovieTalk (C.remaining cart.old) (C.remaining cart.new) (M.remaining movie.old) (M.remaining movie.new)
-        (R.remaining input.old) (R.remaining input.new) (W.contents output.old) (W.contents output.new) result }
+    ensures { IsMovieTalk (C.remaining cart.old) (C.remaining cart.new) (M.remaining movie.old)
+        (M.remaining movie.new) (R.remaining input.old) (R.remaining input.new)
+        (W.contents output.old) (W.contents output.new) result }
 {
     let movie = read_movie(alloc, cart, movie)?;
     talk_from(rt, alloc, Some(movie), input, output)

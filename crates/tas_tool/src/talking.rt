@@ -7,7 +7,7 @@ ghost use Rattle.tas_language.specs.Answers.{unknown_text};
 ghost use Rattle.tas_language.specs.Held.{HoldsLine};
 ghost use Rattle.tas_tool.specs.Turns.{BeginsWithOwn};
 ghost use Rattle.tas_tool.specs.Talk.{last_answer, most_counted, IsTalk};
-ghost use Rattle.tas_tool.specs.Talking.{talk_state_of, CutsOff, IsLineTurn, IsPartTurn, StandsAt};
+ghost use Rattle.tas_tool.specs.Inside.Talking.{talk_state_of, CutsOff, IsLineTurn, IsPartTurn, StandsAt};
 
 use crate::telling::answer_request;
 use byte_text::{split_once, write_counted};
@@ -34,7 +34,8 @@ pub struct Progress {
 fn hand_out<W: Write>(output: &mut W, bytes: &[u8], before: usize) -> Result<usize, RunFault>
     ensures out { OnOk result (Appends (W.contents output.old) (W.contents output.new) bytes.now) }
     ensures count { IfOk result (λ n. n ≡ min (before + length bytes.now) most_counted) }
-    ensures fault { IfErr result (CutsOff before bytes.now (W.contents output.old) (W.contents output.new)) }
+    ensures fault { IfErr result
+        (CutsOff before bytes.now (W.contents output.old) (W.contents output.new)) }
 {
     if let Err(fault) = write_counted(bytes, 0, output) {
         return Err(RunFault::Write {
@@ -49,9 +50,11 @@ fn hand_out<W: Write>(output: &mut W, bytes: &[u8], before: usize) -> Result<usi
 
 /// Answers a line that isn't understood.
 fn tell_unknown<W: Write>(output: &mut W, before: usize) -> Result<usize, RunFault>
-    ensures out { OnOk result (Appends (W.contents output.old) (W.contents output.new) unknown_text) }
+    ensures out { OnOk result
+        (Appends (W.contents output.old) (W.contents output.new) unknown_text) }
     ensures count { IfOk result (λ n. n ≡ min (before + length unknown_text) most_counted) }
-    ensures fault { IfErr result (CutsOff before unknown_text (W.contents output.old) (W.contents output.new)) }
+    ensures fault { IfErr result
+        (CutsOff before unknown_text (W.contents output.old) (W.contents output.new)) }
 {
     hand_out(output, b"unknown\n", before)
 }
@@ -70,8 +73,10 @@ fn answer_line<N: Name, C: CloseOnDrop, A: Allocator + Copy, R: Wait, W: Write>(
     requires made { progress.made ≡ seat.old.made }
     ensures number { seat.new.number ≡ seat.old.number }
     ensures stands { IfOk result (λ found. IfSome found (StandsAt seat.new)) }
-    ensures turn { (said : List ℕ) → HoldsLine said line.now.bytes.items line.now.long → NoByte 10 said
-        → IsLineTurn seat.old seat.new said progress.written (W.contents output.old) (W.contents output.new) result }
+    ensures turn { (said : List ℕ) → HoldsLine said line.now.bytes.items line.now.long
+        → NoByte 10 said
+        → IsLineTurn seat.old seat.new said progress.written (W.contents output.old)
+        (W.contents output.new) result }
 {
     let Some(request) = line.request() else {
         let written = tell_unknown(output, progress.written)?;
@@ -106,8 +111,10 @@ fn answer_part<N: Name, C: CloseOnDrop, A: Allocator + Copy, R: Wait, W: Write>(
     requires made { progress.made ≡ seat.old.made }
     ensures number { seat.new.number ≡ seat.old.number }
     ensures stands { IfOk result (λ found. IfSome found (StandsAt seat.new)) }
-    ensures turn { (said : List ℕ) → HoldsLine said line.old.bytes.items line.old.long → NoByte 10 said
-        → IsPartTurn seat.old seat.new (said ++ part.now) progress.written line.new.bytes.items line.new.long (W.contents output.old) (W.contents output.new) result }
+    ensures turn { (said : List ℕ) → HoldsLine said line.old.bytes.items line.old.long
+        → NoByte 10 said
+        → IsPartTurn seat.old seat.new (said ++ part.now) progress.written line.new.bytes.items
+        line.new.long (W.contents output.old) (W.contents output.new) result }
 {
     let mut rest = part;
     let mut reached = progress;
@@ -131,7 +138,8 @@ fn answer_last<A: Allocator, W: Write>(
     output: &mut W,
 ) -> Result<(), RunFault>
     ensures { (said : List ℕ) → HoldsLine said line.now.bytes.items line.now.long
-        → MatchResult result (λ _. Appends (W.contents output.old) (W.contents output.new) (last_answer said))
+        → MatchResult result
+        (λ _. Appends (W.contents output.old) (W.contents output.new) (last_answer said))
         (CutsOff written (last_answer said) (W.contents output.old) (W.contents output.new)) }
 {
     if line.is_empty() {
@@ -155,7 +163,8 @@ pub fn converse<N: Name, C: CloseOnDrop, A: Allocator + Copy, T: Wait, R: Read, 
     requires own { BeginsWithOwn seat.old }
     requires made { made ≡ seat.old.made }
     ensures number { seat.new.number ≡ seat.old.number }
-    ensures talk { length seat.new.front ≤ seat.new.made → IsTalk (talk_state_of seat.old) (R.remaining input.old) (R.remaining input.new)
+    ensures talk { length seat.new.front ≤ seat.new.made
+        → IsTalk (talk_state_of seat.old) (R.remaining input.old) (R.remaining input.new)
         (W.contents output.old) (W.contents output.new) result }
 {
     let Ok(mut line) = Line::new(alloc) else {

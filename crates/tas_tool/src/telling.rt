@@ -10,7 +10,7 @@ ghost use Rattle.tas_language.specs.Replies.{reply_text};
 ghost use Rattle.tas_language.specs.declared.request.Request.TheVariants.{Do as ScriptLine, Picture as PictureLine, Pictures as PicturesLine, Movie as MovieLine, States as StatesLine, Quit as QuitLine};
 ghost use Rattle.tas_tool.specs.Turns.{BeginsWithOwn, IsDeskFault};
 ghost use Rattle.tas_tool.specs.Talk.{kept_frames};
-ghost use Rattle.tas_tool.specs.Talking.{IsBrought, IsTalkFault, IsToldTo};
+ghost use Rattle.tas_tool.specs.Inside.Talking.{IsBrought, IsTalkFault, IsToldTo};
 
 use crate::answering::{answer_command, checked, own_len, unshown};
 use crate::looks::{tell_digest, tell_lag, tell_ram};
@@ -35,7 +35,9 @@ pub struct Told<A: Allocator> {
 
 /// A script's reply as an answer.
 pub fn told_reply<A: Allocator>(alloc: A, reply: Reply, made: u64) -> Result<Told<A>, RunFault>
-    ensures { MatchResult result (λ told. (told.bytes.items ≡ reply_text reply) × (told.made ≡ made)) (λ fault. fault ≡ Memory) }
+    ensures { MatchResult result
+        (λ told. (told.bytes.items ≡ reply_text reply) × (told.made ≡ made))
+        (λ fault. fault ≡ Memory) }
 {
     let bytes = reply_line(alloc, reply)?;
     Ok(Told { bytes, made })
@@ -53,7 +55,9 @@ fn tell_command<N: Name, W: CloseOnDrop, A: Allocator + Copy, R: Wait>(
     requires own { BeginsWithOwn seat.old }
     requires made { made ≡ seat.old.made }
     ensures number { seat.new.number ≡ seat.old.number }
-    ensures answer { MatchResult result (λ told. IsToldTo seat.old seat.new (ScriptLine command) told.bytes.items told.made) (IsTalkFault seat.new) }
+    ensures answer { MatchResult result
+        (λ told. IsToldTo seat.old seat.new (ScriptLine command) told.bytes.items told.made)
+        (IsTalkFault seat.new) }
 {
     let answered = answer_command(rt, alloc, desk, seat, made, command)?;
     own_len(desk, seat, answered.made)?;
@@ -71,7 +75,9 @@ fn tell_picture<N: Name, W: CloseOnDrop, A: Allocator + Copy>(
     requires own { BeginsWithOwn seat.old }
     requires made { made ≡ seat.old.made }
     ensures number { seat.new.number ≡ seat.old.number }
-    ensures answer { MatchResult result (λ told. IsToldTo seat.old seat.new (PictureLine frame) told.bytes.items told.made) (IsTalkFault seat.new) }
+    ensures answer { MatchResult result
+        (λ told. IsToldTo seat.old seat.new (PictureLine frame) told.bytes.items told.made)
+        (IsTalkFault seat.new) }
 {
     let shot = match desk.picture(alloc, seat, frame) {
         Ok(shot) => shot,
@@ -100,7 +106,9 @@ fn tell_pictures<N: Name, W: CloseOnDrop, A: Allocator + Copy>(
     requires own { BeginsWithOwn seat.old }
     requires made { made ≡ seat.old.made }
     ensures number { seat.new.number ≡ seat.old.number }
-    ensures answer { MatchResult result (λ told. IsToldTo seat.old seat.new (PicturesLine from to) told.bytes.items told.made) (IsTalkFault seat.new) }
+    ensures answer { MatchResult result
+        (λ told. IsToldTo seat.old seat.new (PicturesLine from to) told.bytes.items told.made)
+        (IsTalkFault seat.new) }
 {
     let mut bytes = Vec::new(alloc);
     for frame in from..to {
@@ -121,7 +129,9 @@ fn bring_zone<N: Name, W: CloseOnDrop, A: Allocator + Copy, R: Wait>(
     requires own { BeginsWithOwn seat.old }
     requires made { made ≡ seat.old.made }
     ensures seen { HasSeen seat.old seat.new }
-    ensures zone { MatchResult result (λ found. MatchOption found (seat.new.zone ≡ seat.old.zone) (IsBrought seat.old seat.new)) (IsDeskFault seat.new) }
+    ensures zone { MatchResult result
+        (λ found. MatchOption found (seat.new.zone ≡ seat.old.zone) (IsBrought seat.old seat.new))
+        (IsDeskFault seat.new) }
 {
     let Ok(_) = desk.share(rt, seat) else {
         return Ok(None);
@@ -141,7 +151,9 @@ fn tell_movie<N: Name, W: CloseOnDrop, A: Allocator + Copy, R: Wait>(
     requires own { BeginsWithOwn seat.old }
     requires made { made ≡ seat.old.made }
     ensures number { seat.new.number ≡ seat.old.number }
-    ensures answer { MatchResult result (λ told. IsToldTo seat.old seat.new MovieLine told.bytes.items told.made) (IsTalkFault seat.new) }
+    ensures answer { MatchResult result
+        (λ told. IsToldTo seat.old seat.new MovieLine told.bytes.items told.made)
+        (IsTalkFault seat.new) }
 {
     let Some(_) = bring_zone(rt, desk, seat, made)? else {
         return told_reply(alloc, Reply::OutOfMemory, made);
@@ -158,7 +170,10 @@ fn push_kept<N: Name, A: Allocator, B: Allocator>(
     seat: &Seat<N, A>,
     frame: usize,
 ) -> Result<(), AllocError>
-    ensures { OnOk result (frames.new.items ≡ frames.old.items ++ (if is_some (state_at frame seat.now.zone.states) then frame ∷ [] else [])) }
+    ensures { OnOk result
+        (frames.new.items
+        ≡ frames.old.items
+        ++ (if is_some (state_at frame seat.now.zone.states) then frame ∷ [] else [])) }
 {
     if !seat.holds(frame) {
         return Ok(());
@@ -197,7 +212,9 @@ fn tell_states<N: Name, W: CloseOnDrop, A: Allocator + Copy, R: Wait>(
     requires own { BeginsWithOwn seat.old }
     requires made { made ≡ seat.old.made }
     ensures number { seat.new.number ≡ seat.old.number }
-    ensures answer { MatchResult result (λ told. IsToldTo seat.old seat.new StatesLine told.bytes.items told.made) (IsTalkFault seat.new) }
+    ensures answer { MatchResult result
+        (λ told. IsToldTo seat.old seat.new StatesLine told.bytes.items told.made)
+        (IsTalkFault seat.new) }
 {
     let Some(len) = bring_zone(rt, desk, seat, made)? else {
         return told_reply(alloc, Reply::OutOfMemory, made);
@@ -227,7 +244,10 @@ pub fn answer_request<N: Name, W: CloseOnDrop, A: Allocator + Copy, R: Wait>(
     requires own { BeginsWithOwn seat.old }
     requires made { made ≡ seat.old.made }
     ensures number { seat.new.number ≡ seat.old.number }
-    ensures answer { MatchResult result (λ found. MatchOption found (request ≡ QuitLine) (λ told. IsToldTo seat.old seat.new request told.bytes.items told.made)) (IsTalkFault seat.new) }
+    ensures answer { MatchResult result
+        (λ found. MatchOption found (request ≡ QuitLine)
+        (λ told. IsToldTo seat.old seat.new request told.bytes.items told.made))
+        (IsTalkFault seat.new) }
 {
     match request {
         Request::Do(command) => Ok(Some(tell_command(rt, alloc, desk, seat, made, command)?)),

@@ -16,7 +16,8 @@ use std::alloc::{Allocator, Global};
 
 /// The word of this name, where there is one.
 fn word_of<'a>(matches: &ArgMatches<'a>, name: &str) -> Option<&'a str>
-    ensures { option_map (λ word. word.now) result ≡ first_of name.now (rows_of (found_of matches.now)) }
+    ensures { option_map (λ word. word.now) result
+        ≡ first_of name.now (rows_of (found_of matches.now)) }
 {
     matches.get_str(name)
 }
@@ -41,7 +42,8 @@ fn optional_number_of(
     least: u32,
     most: u32,
 ) -> Option<Option<u32>>
-    ensures { IfSome result (IsOptionalNumberWord (rows_of (found_of matches.now)) name.now least most) }
+    ensures { IfSome result
+        (IsOptionalNumberWord (rows_of (found_of matches.now)) name.now least most) }
 {
     match word_of(matches, name) {
         Some(_) => Some(Some(number_of(matches, name, least, most)?)),

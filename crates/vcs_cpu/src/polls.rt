@@ -41,7 +41,8 @@ fn branch_cycles(pc: u16) -> u8
 pub(crate) fn pass_polls<B: Settle>(regs: &mut Regs, bus: &mut B, left: u32) -> u32
     requires ready { B.Ready bus.old }
     ensures most { result ≤ left }
-    ensures come { (s : Settling B.Content) (most : ℕ) (first : Regs) (start : B) (halt : Option Halt) → SettlesBy B.content B.Settles s
+    ensures come { (s : Settling B.Content) (most : ℕ) (first : Regs) (start : B)
+        (halt : Option Halt) → SettlesBy B.content B.Settles s
         → HasCome B.device B.content B.fixed s most first start left regs.old bus.old halt
         → HasCome B.device B.content B.fixed s most first start result regs.new bus.new halt }
     ensures ready { B.Ready bus.new }

@@ -19,7 +19,7 @@ use Rattle.vcs_tia.proofs.Later.{fire-after_clocks}
 use Rattle.vcs_machine.specs.Bus.{Board, Observed, board_byte_at, board_after_load, board_after_write, bus_device, after_time, after_wait, nothing_seen}
 use Rattle.vcs_machine.specs.Step.{console_step}
 use Rattle.vcs_machine.specs.Frame.{is_frame_over}
-use Rattle.vcs_machine.specs.TraceFrames.{board_into_next_frame}
+use Rattle.vcs_machine.specs.Inside.TraceFrames.{board_into_next_frame}
 use Rattle.vcs_machine.proofs.AlikeSteps.{EndAlike, instruction-alike, none_tells, with_wait-alike}
 use Rattle.vcs_machine.proofs.Clocks.{kept-board_after_write, load-changed, tia-board_after_load}
 

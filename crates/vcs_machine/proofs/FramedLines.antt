@@ -6,7 +6,7 @@ use Rattle.vcs_cpu.specs.declared.regs.Regs.{Regs}
 use Rattle.vcs_cpu.specs.declared.halt.Halt.{Halt}
 use Rattle.vcs_machine.specs.Bus.{Observed, board_byte_at, nothing_seen}
 use Rattle.vcs_machine.specs.Step.{console_step}
-use Rattle.vcs_machine.specs.TraceFrames.{traced_step, step_into_next_frame, board_into_next_frame}
+use Rattle.vcs_machine.specs.Inside.TraceFrames.{traced_step, step_into_next_frame, board_into_next_frame}
 use Rattle.vcs_machine.specs.TraceText.{lines_from, line_then, text_of_halt, trace_text, board_at_power_on}
 use Rattle.vcs_machine.specs.Machine.{regs_at_power_on, power_on}
 use Rattle.vcs_machine.proofs.AlikeSteps.{EndAlike}

@@ -18,7 +18,7 @@ use Rattle.vcs_machine.specs.Bus.{Observed, board_byte_at, nothing_seen}
 use Rattle.vcs_machine.specs.Step.{console_step}
 use Rattle.vcs_machine.specs.Frame.{FrameEnd, end_within, end_or_next, is_frame_over}
 use Rattle.vcs_machine.specs.Machine.{Machine, frame_start, machine_at_end, listed, frame_end, frame, frame_trace, frame_picture, unless_halted, listed_clocks}
-use Rattle.vcs_machine.specs.Observing.{drawn-nil}
+use Rattle.vcs_machine.specs.Inside.Observing.{drawn-nil}
 use Rattle.vcs_machine.specs.Lag.{shows_input, ignores_input, last_or_next, is_ignored_within, is_lag_frame, IsSameFrame}
 use Rattle.vcs_machine.proofs.AlikeSteps.{EndAlike}
 use Rattle.vcs_machine.proofs.AlikeInputs.{tia_unpressed, AlikeButInput, console_step-alike}

@@ -17,7 +17,7 @@ use Rattle.vcs_machine.specs.Step.{console_step}
 use Rattle.vcs_machine.specs.Frame.{FrameEnd, end_within, end_or_next, is_frame_over}
 use Rattle.vcs_machine.specs.Machine.{Machine, frame_start, unless_halted}
 use Rattle.vcs_machine.specs.Lag.{ignores_input, last_or_next, is_ignored_within, is_lag_frame}
-use Rattle.vcs_machine.specs.Noting.{LeadsTo, HasComeNoting}
+use Rattle.vcs_machine.specs.Inside.Noting.{LeadsTo, HasComeNoting}
 use Rattle.vcs_machine.proofs.Endings.{as_frame_end, end_within-run, run_ends}
 use Rattle.vcs_machine.proofs.Frames.{ended, ended-same}
 

@@ -17,8 +17,8 @@ use Rattle.vcs_tia.specs.Tia.{read_at}
 use Rattle.vcs_tia.proofs.Later.{sync-after_clocks}
 use Rattle.vcs_machine.specs.Cart.{rom_byte}
 use Rattle.vcs_machine.specs.Bus.{Board, Observed, observed_of, is_intim, board_byte_at, board_after_load, bus_device, after_time}
-use Rattle.vcs_machine.specs.Chips.{IsQuiet}
-use Rattle.vcs_machine.specs.Console.{content_of}
+use Rattle.vcs_machine.specs.Inside.Chips.{IsQuiet}
+use Rattle.vcs_machine.specs.Inside.Console.{content_of}
 use Rattle.vcs_machine.specs.Frame.{console_settling}
 use Rattle.vcs_machine.specs.declared.bus.ConsoleBus.{ConsoleBus}
 use Rattle.vcs_machine.specs.declared.bus.Observer.{Ghosts}
@@ -119,8 +119,8 @@ module _ {Seen : Type 0} (observe : List Tia → Seen → Seen) (nil : (s : Seen
         let all : n + (4 + branch) + i * (4 + branch) ≡ n + suc i * (4 + branch) = grind arith in
         ap (after_polls (bus_device observe) poll i) (later-poll n (subst IsAbove first (above 0 (omega arith))))
         ∙ later-polls i (n + (4 + branch)) (λ j h.
-            let next : n + suc j * (4 + branch) + 4 ≡ n + (4 + branch) + j * (4 + branch) + 4 = grind arith in
-            subst IsAbove next (above (suc j) (omega (arith, h))))
+        let next : n + suc j * (4 + branch) + 4 ≡ n + (4 + branch) + j * (4 + branch) + 4 = grind arith in
+        subst IsAbove next (above (suc j) (omega (arith, h))))
         ∙ ap later all
 
     -- what a poll reads
@@ -174,7 +174,7 @@ module _ {O : Type 0} {observer : Ghosts O} (nil : (s : observer.Seen) → obser
     at-polls i few =
         ap (after_polls (bus_device observer.observe) poll i) (sym at-now)
         ∙ later-polls observer.observe nil append b.rom.now b.pins b.riot.now b.tia.now (observer.seen b.observer.now) b.clocks poll.pc poll.address poll.branch is i 0
-            (λ j h. let read = reads j (omega (arith, h, few)) in above (0 + j * (4 + poll.branch) + 4) (omega (arith, read)))
+        (λ j h. let read = reads j (omega (arith, h, few)) in above (0 + j * (4 + poll.branch) + 4) (omega (arith, read)))
 
     at-is_poll : (i : ℕ) → i < polls → 4096 ≤ poll.pc % 8192 → poll.pc % 8192 ≤ 8187 → poll.pc < 65536 →
         IsPoll (bus_device observer.observe) (content_of {O = O} {observer = observer}) settles_of poll (content_of b) (after_polls (bus_device observer.observe) poll i (content_of b))
@@ -183,10 +183,10 @@ module _ {O : Type 0} {observer : Ghosts O} (nil : (s : observer.Seen) → obser
         let within = polls-before i polls (4 + poll.branch) h in
         subst (IsPoll (bus_device observer.observe) (content_of {O = O} {observer = observer}) settles_of poll (content_of b)) (sym (at-polls i (omega (arith, h))))
         (later-is_poll observer.observe nil append b.rom.now b.pins b.riot.now b.tia.now (observer.seen b.observer.now) b.clocks poll.pc poll.address poll.branch is
-            (content_of {O = O} {observer = observer}) settles_of (content_of b) (0 + i * (4 + poll.branch)) refl first last fits
-            (above (0 + i * (4 + poll.branch) + 4) (omega (arith, read)))
-            (at-rests (0 + i * (4 + poll.branch) + 4) (omega (arith, within, fit)))
-            (at-rests (0 + i * (4 + poll.branch) + (4 + poll.branch)) (omega (arith, within, fit))))
+        (content_of {O = O} {observer = observer}) settles_of (content_of b) (0 + i * (4 + poll.branch)) refl first last fits
+        (above (0 + i * (4 + poll.branch) + 4) (omega (arith, read)))
+        (at-rests (0 + i * (4 + poll.branch) + 4) (omega (arith, within, fit)))
+        (at-rests (0 + i * (4 + poll.branch) + (4 + poll.branch)) (omega (arith, within, fit))))
 
     -- the same, for a content that is the bus's
     pub at-is_poll-from : (start : Observed observer.Seen) → content_of b ≡ start → (i : ℕ) → i < polls → 4096 ≤ poll.pc % 8192 → poll.pc % 8192 ≤ 8187 → poll.pc < 65536 →

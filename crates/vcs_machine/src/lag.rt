@@ -4,11 +4,11 @@
 ghost use Rattle.std.specs.Prelude.{◌≡◌, ◌+◌, ◌*◌, ◌^◌, ◌<◌, true, false, length, Some};
 ghost use Rattle.vcs_machine.specs.Bus.{observed_of, nothing_seen};
 ghost use Rattle.vcs_machine.specs.Cart.{is_cart_size};
-ghost use Rattle.vcs_machine.specs.Console.{chips_of, content_of, fixed_of};
+ghost use Rattle.vcs_machine.specs.Inside.Console.{chips_of, content_of, fixed_of};
 ghost use Rattle.vcs_machine.specs.Frame.{end_within};
 ghost use Rattle.vcs_machine.specs.Lag.{ignores_input, is_ignored_within, is_lag_frame, IsSameFrame};
 ghost use Rattle.vcs_machine.specs.Machine.{frame};
-ghost use Rattle.vcs_machine.specs.Noting.{LeadsTo};
+ghost use Rattle.vcs_machine.specs.Inside.Noting.{LeadsTo};
 ghost use Rattle.vcs_machine.specs.declared.input.Input.{Input};
 ghost use Rattle.vcs_tia.specs.Tia.{clocks_passed, shows_button};
 
@@ -35,7 +35,7 @@ pub(crate) struct Noted {
 }
 
 impl<O: Observer> Watch for ConsoleBus<'_, O> {
-    ghost use Rattle.vcs_machine.specs.Console.{content_of};
+    ghost use Rattle.vcs_machine.specs.Inside.Console.{content_of};
     ghost use Rattle.vcs_machine.specs.Lag.{shows_input};
 
     ghost is_watched = { λ b address. shows_input (content_of b).board address };
@@ -70,7 +70,8 @@ fn ignores_input<O: Observer>(regs: &Regs, bus: &ConsoleBus<'_, O>) -> bool
 /// One step of a frame, and whether it ignored the input.
 fn step_noting<O: Observer>(regs: &mut Regs, bus: &mut ConsoleBus<'_, O>) -> Noted
     requires { clocks_passed bus.old.tia.now + bus.old.clocks < 320 * 228 }
-    ensures led { LeadsTo O.observe regs.old (content_of bus.old) result regs.new (content_of bus.new) }
+    ensures led { LeadsTo O.observe regs.old (content_of bus.old) result regs.new
+        (content_of bus.new) }
     ensures low { result.over ≡ false → clocks_passed bus.new.tia.now + bus.new.clocks < 320 * 228 }
     ensures fixed { fixed_of bus.new ≡ fixed_of bus.old }
 {
@@ -130,9 +131,18 @@ fn run_chips_noting(
 ) -> (Option<Halt>, bool)
     requires rom_size { is_cart_size (length rom.now) ≡ true }
     requires beam { clocks_passed tia.old < 228 }
-    ensures ended { end_within nothing_seen 12160 regs.old (observed_of rom.now pins riot.old tia.old tt)
-        ≡ Some (record { regs = regs.new; halt = result.0; observed = observed_of rom.now pins riot.new tia.new tt }) }
-    ensures ignored { result.1 ≡ is_ignored_within nothing_seen 12160 regs.old (observed_of rom.now pins riot.old tia.old tt) }
+    ensures ended { end_within nothing_seen 12160 regs.old
+        (observed_of rom.now pins riot.old tia.old tt)
+        ≡ Some
+        (record {
+          regs = regs.new;
+          halt = result.0;
+          observed = observed_of rom.now pins riot.new
+              tia.new tt;
+        }) }
+    ensures ignored { result.1
+        ≡ is_ignored_within nothing_seen 12160 regs.old
+        (observed_of rom.now pins riot.old tia.old tt) }
 {
     let mut nobody = Nobody;
     let mut bus = ConsoleBus {

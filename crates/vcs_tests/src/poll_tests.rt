@@ -19,7 +19,8 @@ fn first_byte<R: Abort>(rt: &R, cart: &Cart) -> u8 {
 
 /// Sets TIM64T to 3, waits by polls until INTIM is 0, lets 101 cycles pass, and stores what INTIM shows four later.
 /// The polls' first byte is at F005 plus the number of NOPs.
-const AT_ONCE: &[u8] = b"\xa9\x03\x8d\x96\x02\xad\x84\x02\xd0\xfb\xa2\x14\xca\xd0\xfd\xad\x84\x02\x85\x80\xa9\x02\x85\x00";
+const AT_ONCE: &[u8] =
+    b"\xa9\x03\x8d\x96\x02\xad\x84\x02\xd0\xfb\xa2\x14\xca\xd0\xfd\xad\x84\x02\x85\x80\xa9\x02\x85\x00";
 
 // The timer is set at cycle 0; INTIM is 2 from cycle 1 on, 1 from 65, 0 from 129 and below 0 from 193. Polls read it at cycles
 // 4, 11, 18 and so on: at 130 it is 0. The branch takes 2, LDX 2 and the loop 20 * 5 - 1, so the last LDA reads at 237: 255 - 44.
@@ -43,11 +44,7 @@ const COPIES: &[u8] = b"\xa2\x17\xbd\x00\xf1\x95\xa0\xca\x10\xf8\x4c\xa0\x00";
 
 #[test]
 fn polls_in_ram(rt: HostRuntime) {
-    let cart = cart_with(
-        &rt,
-        rt.alloc(),
-        &[(0, COPIES), (0x100, AT_ONCE), START],
-    );
+    let cart = cart_with(&rt, rt.alloc(), &[(0, COPIES), (0x100, AT_ONCE), START]);
     check_same(&rt, "in RAM", first_byte(&rt, &cart), 211);
 }
 
@@ -64,15 +61,7 @@ static ADDRESSES: [(u16, u8); 5] = [
 /// A program that polls an address in place of INTIM.
 fn polling<R: Abort>(rt: &R, alloc: Global, address: u16) -> Cart {
     let [low, high] = address.to_le_bytes();
-    cart_with(
-        rt,
-        alloc,
-        &[
-            (0, AT_ONCE),
-            (6, &[low, high]),
-            START,
-        ],
-    )
+    cart_with(rt, alloc, &[(0, AT_ONCE), (6, &[low, high]), START])
 }
 
 #[test]

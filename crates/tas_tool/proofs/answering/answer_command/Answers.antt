@@ -3,7 +3,7 @@ use Rattle.tas_language.specs.declared.reply.Reply.TheVariants.{Measured}
 use Rattle.tas_tool.proofs.LookLemmas.{answer_is, length_answer, looked_as, look_answer}
 use Rattle.tas_language.specs.declared.command.Command.TheVariants.{Load, Edit, Length, InputAt, Shot, Work}
 use Rattle.tas_tool.proofs.GreenLemmas.{zone_as, zone_same, zone_looked, zone_worked}
-use Rattle.tas_tool.specs.Checking.{looked}
+use Rattle.tas_tool.specs.Inside.Checking.{looked}
 use Rattle.tas_tool.proofs.answering.answer_command.Goals as goal
 
 pub returns-in_ok-len-in-Length-clause-answer : goal.returns-in_ok-len-in-Length-clause-answer

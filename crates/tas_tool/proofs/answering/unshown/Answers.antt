@@ -2,7 +2,7 @@ use Rattle.tas_tool.proofs.TurnLemmas.{seen_self}
 use Rattle.std.proofs.Common.{◌∙◌, refl}
 use Rattle.tas_session.specs.declared.replies.ShotError.TheVariants.{NoFrame as NoShotFrame, Halted as ShotHalted}
 use Rattle.tas_language.specs.declared.reply.Reply.TheVariants.{NoFrame}
-use Rattle.tas_tool.specs.Talking.{TellsError}
+use Rattle.tas_tool.specs.Inside.Talking.{TellsError}
 use Rattle.tas_tool.proofs.LookLemmas.{shot_error_is, no_frame_turn, halted_turn, shot_without_memory}
 use Rattle.tas_tool.proofs.GreenLemmas.{error_as, checked_fact}
 use Rattle.tas_tool.proofs.answering.unshown.Goals as goal

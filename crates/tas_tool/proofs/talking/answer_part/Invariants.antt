@@ -2,7 +2,7 @@ use Rattle.std.proofs.Common.{◌≡◌, ℕ, ◌++◌, List, length}
 use Rattle.byte_text.specs.Splitting.{NoByte}
 use Rattle.tas_language.specs.Held.{HoldsLine}
 use Rattle.tas_tool.specs.Talk.{Exchange, lines_of}
-use Rattle.tas_tool.specs.Talking.{HasAnswered, StandsAt}
+use Rattle.tas_tool.specs.Inside.Talking.{HasAnswered, StandsAt}
 use Rattle.tas_tool.proofs.talking.answer_part.Given as goal
 
 abbrev pub invariant-loop-front : goal.invariant-loop-front

@@ -1,6 +1,6 @@
 use Rattle.std.proofs.Common.{ℕ, [], take, refl, ap, arith, rules, ◌∙◌}
 use Rattle.std.proofs.lemmas.Result.{err_from_is_err_and}
-use Rattle.tas_tool.specs.Talking.{talk_state_of}
+use Rattle.tas_tool.specs.Inside.Talking.{talk_state_of}
 use Rattle.tas_tool.proofs.TalkLemmas.{no_memory_yet, begins, goes_on, quits, unread, ends_well, ends_cut, breaks_off}
 use Rattle.tas_tool.proofs.talking.converse.Goals as goal
 

@@ -1,6 +1,6 @@
 use Rattle.std.proofs.Common.{◌≡◌, ℕ, List}
 use Rattle.tas_tool.specs.Talk.{Exchange}
-use Rattle.tas_tool.specs.Talking.{StandsAt}
+use Rattle.tas_tool.specs.Inside.Talking.{StandsAt}
 use Rattle.tas_tool.proofs.TalkLemmas.{IsUnderway}
 use Rattle.tas_tool.proofs.talking.converse.Given as goal
 

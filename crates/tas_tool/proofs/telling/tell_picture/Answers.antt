@@ -1,7 +1,7 @@
 use Rattle.std.proofs.Common.{ℕ, sym, subst, ◌∙◌}
 use Rattle.std.proofs.lemmas.Result.{err_from_is_err_and}
 use Rattle.std.proofs.lemmas.Result.{MatchResult-weaker}
-use Rattle.tas_tool.specs.Talking.{TellsError}
+use Rattle.tas_tool.specs.Inside.Talking.{TellsError}
 use Rattle.tas_tool.proofs.TurnLemmas.{checked_at, unchecked, own_stays}
 use Rattle.tas_tool.proofs.TellingLemmas.{talk_fault, memory_fault, viewed_played, viewed_error, told_picture, told_no_picture, told_undrawn}
 use Rattle.tas_tool.proofs.telling.tell_picture.Goals as goal

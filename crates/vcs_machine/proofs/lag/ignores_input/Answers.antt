@@ -1,5 +1,5 @@
 use Rattle.std.proofs.Common.{Bool, ◌||◌, not, ◌∙◌, ap, sym}
-use Rattle.vcs_machine.specs.Console.{content_of}
+use Rattle.vcs_machine.specs.Inside.Console.{content_of}
 use Rattle.vcs_machine.proofs.Notings.{latches_presses-later}
 use Rattle.vcs_machine.proofs.lag.ignores_input.Goals as goal
 

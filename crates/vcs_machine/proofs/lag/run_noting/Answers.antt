@@ -1,7 +1,7 @@
 use Rattle.std.proofs.Common.{◌-◌, ◌∙◌, ap, sym, refl, arith}
 use Rattle.vcs_tia.proofs.Traces.{clocks_passed-after_clocks}
 use Rattle.vcs_machine.specs.Bus.{Observed}
-use Rattle.vcs_machine.specs.Console.{content_of}
+use Rattle.vcs_machine.specs.Inside.Console.{content_of}
 use Rattle.vcs_machine.specs.Frame.{end_within}
 use Rattle.vcs_machine.specs.Lag.{is_ignored_within}
 use Rattle.vcs_machine.proofs.Endings.{clock-later}

@@ -1,7 +1,7 @@
 use Rattle.std.proofs.Common.{◌≡◌, ◌+◌, ◌*◌, ◌<◌}
 use Rattle.vcs_tia.specs.Tia.{clocks_passed}
-use Rattle.vcs_machine.specs.Console.{content_of, fixed_of}
-use Rattle.vcs_machine.specs.Noting.{HasComeNoting}
+use Rattle.vcs_machine.specs.Inside.Console.{content_of, fixed_of}
+use Rattle.vcs_machine.specs.Inside.Noting.{HasComeNoting}
 use Rattle.vcs_machine.proofs.lag.run_noting.Given as goal
 
 -- the steps so far have come here

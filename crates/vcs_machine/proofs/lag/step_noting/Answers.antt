@@ -1,7 +1,7 @@
 use Rattle.std.proofs.Common.{◌∙◌, ap, sym}
 use Rattle.vcs_tia.specs.Tia.{latches_presses}
 use Rattle.vcs_machine.specs.Bus.{Observed}
-use Rattle.vcs_machine.specs.Console.{content_of}
+use Rattle.vcs_machine.specs.Inside.Console.{content_of}
 use Rattle.vcs_machine.proofs.Notings.{step-halts, step-leads, latches_presses-later}
 use Rattle.vcs_machine.proofs.lag.step_noting.Goals as goal
 

@@ -1,7 +1,7 @@
 use Rattle.std.proofs.Common.{◌≡◌, length, sym, ap, ◌∙◌, subst, arith}
 use mathlib.Core.List.{IsPrefix}
 use Rattle.logbook.specs.Pages.{Book}
-use Rattle.tas_session.specs.Registry.{Numbered, latest}
+use Rattle.tas_session.specs.Inside.Registry.{Numbered, latest}
 use Rattle.tas_session.specs.Version.{version_of}
 use Rattle.tas_session.proofs.PrefixLemmas.{prefix_same}
 use Rattle.tas_session.proofs.version.Version.is_same.Goals as goal

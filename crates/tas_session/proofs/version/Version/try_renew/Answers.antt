@@ -1,6 +1,6 @@
 use Rattle.std.proofs.lemmas.Grind.{common_steps}
 use Rattle.std.proofs.Common.{◌≡◌, length, Bool, MatchBool, sym, ◌∙◌, ap, subst, ◌∷◌, [], ◌++◌, arith}
-use Rattle.tas_session.specs.Registry.{latest}
+use Rattle.tas_session.specs.Inside.Registry.{latest}
 use Rattle.tas_session.proofs.RegistryLemmas.{exchange_keeps, latest-push}
 use Rattle.tas_session.proofs.version.Version.try_renew.Goals as goal
 

@@ -2,7 +2,7 @@ use Rattle.std.proofs.Common.{◌∙◌, ap, refl, ⊎_elim}
 use Rattle.std.proofs.lemmas.Bool.{cases_Bool}
 use Rattle.vcs_tia.specs.Tia.{written_at}
 use Rattle.vcs_machine.specs.Bus.{Observed}
-use Rattle.vcs_machine.specs.Chips.{after_tia_write}
+use Rattle.vcs_machine.specs.Inside.Chips.{after_tia_write}
 use Rattle.vcs_machine.proofs.Lagging.{lagging-zero, lagging-unseen}
 use Rattle.vcs_machine.proofs.bus.ConsoleBus.catch_up_unless_unseen.Goals as goal
 

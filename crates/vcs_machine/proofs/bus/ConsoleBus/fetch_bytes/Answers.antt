@@ -1,5 +1,5 @@
 use Rattle.std.proofs.Common.{◌≡◌, ℕ, ◌+◌, ◌%◌, ◌<◌, ◌∙◌, slice_index, ap, sym, refl, arith}
-use Rattle.vcs_machine.specs.Console.{content_of}
+use Rattle.vcs_machine.specs.Inside.Console.{content_of}
 use Rattle.vcs_machine.proofs.Fetching.{shown-ram, is_ram_beside}
 use Rattle.vcs_machine.proofs.bus.ConsoleBus.fetch_bytes.Goals as goal
 

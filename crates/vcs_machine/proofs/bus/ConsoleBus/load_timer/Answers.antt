@@ -2,7 +2,7 @@ use Rattle.std.proofs.Common.{◌∙◌, ap, sym}
 use Rattle.vcs_riot.specs.Timer.{after_ticks}
 use Rattle.vcs_riot.specs.Chip.{byte_at, riot_after_load, riot_after_ticks}
 use Rattle.vcs_machine.specs.Bus.{Observed}
-use Rattle.vcs_machine.specs.Chips.{after_riot_load}
+use Rattle.vcs_machine.specs.Inside.Chips.{after_riot_load}
 use Rattle.vcs_machine.proofs.Lagging.{lagging-no_ticks}
 use Rattle.vcs_machine.proofs.bus.ConsoleBus.load_timer.Goals as goal
 

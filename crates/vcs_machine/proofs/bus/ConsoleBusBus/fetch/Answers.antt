@@ -1,5 +1,5 @@
 use Rattle.std.proofs.Common.{◌≡◌, ℕ, ◌+◌, ◌%◌, ◌∙◌, length, arith}
-use Rattle.vcs_machine.specs.Console.{content_of}
+use Rattle.vcs_machine.specs.Inside.Console.{content_of}
 use Rattle.vcs_machine.proofs.Fetching.{shown-rom}
 use Rattle.vcs_machine.proofs.Sizes.{code_shows, code_high, most_bytes}
 use Rattle.vcs_machine.proofs.bus.ConsoleBusBus.fetch.Goals as goal

@@ -2,7 +2,7 @@ use Rattle.std.proofs.Common.{◌≡◌, ℕ, ◌+◌, ◌-◌, ◌*◌, ◌/◌
 use Rattle.vcs_cpu.specs.Polls.{polled_byte, after_polls}
 use Rattle.vcs_tia.proofs.Traces.{clocks_passed-after_clocks}
 use Rattle.vcs_machine.specs.Bus.{Observed, bus_device}
-use Rattle.vcs_machine.specs.Console.{content_of}
+use Rattle.vcs_machine.specs.Inside.Console.{content_of}
 use Rattle.vcs_machine.proofs.Polling.{at, settles_of, polls-before, at-polls, at-is_poll-from, at-byte}
 use Rattle.vcs_machine.proofs.bus.ConsoleBusSettle.pass_polls.Goals as goal
 
@@ -46,7 +46,7 @@ returns-clause-content g c =
     let first : polls * (4 + poll.branch) ≡ 0 + polls * (4 + poll.branch) = omega arith in
     ap (at g.met.O.Observer.observe_nil g.met.O.Observer.observe_append b c.catch_up_riot.ensures.ticks) first
     ∙ sym (at-polls g.met.O.Observer.observe_nil g.met.O.Observer.observe_append b c.catch_up_riot.ensures.ticks poll is polls c.cycles_above_zero-above_zero.result
-        c.cycles_above_zero-above_zero.ensures.above c.polls_within-polls.ensures.reads (omega (arith, fit, c.if-self.false)) polls (omega arith))
+    c.cycles_above_zero-above_zero.ensures.above c.polls_within-polls.ensures.reads (omega (arith, fit, c.if-self.false)) polls (omega arith))
     ∙ ap (after_polls (bus_device g.O.Observer.observe) poll polls) c.catch_up_riot.ensures.content
 
 pub returns-clause-polls : goal.returns-clause-polls
@@ -70,7 +70,7 @@ returns-clause-byte g c = λ i more.
     let within = polls-before i polls (4 + poll.branch) (omega (arith, more)) in
     c.read_after-byte.ensures
     ∙ at-byte g.met.O.Observer.observe_nil g.met.O.Observer.observe_append b c.catch_up_riot.ensures.ticks poll is polls c.cycles_above_zero-above_zero.result
-        c.cycles_above_zero-above_zero.ensures.above c.polls_within-polls.ensures.reads (omega (arith, fit, c.if-self.false)) i (polls * (4 + poll.branch) - poll.branch) more (omega (arith, within))
+    c.cycles_above_zero-above_zero.ensures.above c.polls_within-polls.ensures.reads (omega (arith, fit, c.if-self.false)) i (polls * (4 + poll.branch) - poll.branch) more (omega (arith, within))
     ∙ ap (λ (o : Observed g.O.Observer.Seen). polled_byte (bus_device g.O.Observer.observe) poll (after_polls (bus_device g.O.Observer.observe) poll i o)) c.catch_up_riot.ensures.content
 
 pub returns-clause-ready : goal.returns-clause-ready

@@ -2,7 +2,7 @@ use Rattle.std.proofs.Common.{◌∙◌, ap, sym, arith}
 use Rattle.vcs_tia.specs.declared.chip.Sync.{Sync}
 use Rattle.vcs_tia.proofs.Later.{sync-after_clocks}
 use Rattle.vcs_tia.proofs.Traces.{clocks_passed-after_clocks}
-use Rattle.vcs_machine.specs.Console.{content_of}
+use Rattle.vcs_machine.specs.Inside.Console.{content_of}
 use Rattle.vcs_machine.proofs.Clocks.{clocks-instruction}
 use Rattle.vcs_machine.proofs.Lagging.{after_wait-none, not_over-early}
 use Rattle.vcs_machine.proofs.bus.ConsoleBusSettle.settle.Goals as goal

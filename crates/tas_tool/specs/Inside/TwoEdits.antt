@@ -14,7 +14,7 @@ use Rattle.tas_session.specs.declared.replies.EditError.TheVariants.{Memory as N
 use Rattle.tas_engines.specs.declared.fault.RunFault.{RunFault}
 use Rattle.tas_engines.specs.declared.fault.RunFault.TheVariants.{Range, Halted, Write, Foreign, Memory}
 use Rattle.tas_engines.specs.Shooting.{halt_fault}
-use Rattle.tas_tool.specs.Checking.{checked_end}
+use Rattle.tas_tool.specs.Inside.Checking.{checked_end}
 use Rattle.tas_tool.specs.Turns.{HasForeign}
 
 -- the seat made two edits, which are the first ones of what it has seen, and make this movie

@@ -1,0 +1,8 @@
+-- What names shapes of the code: invariants and private contracts need it, no reader of a promise does.
+pub mod Chips
+pub mod Console
+pub mod Observing
+pub mod PinBits
+pub mod Sending
+pub mod TraceFrames
+pub mod Noting
