@@ -1,5 +1,5 @@
 -- Polls in a run.
-use Rattle.std.proofs.Common.{◌≡◌, ℕ, zero, suc, ◌+◌, ◌*◌, ◌/◌, ◌%◌, ◌==◌, ◌<◌, ◌∙◌, nat_eq, not, ap, sym, refl, Bool, true, false, Option, Some, None, Result, Ok, Err, if◌then◌else◌, arith}
+use Rattle.std.proofs.Common.{◌≡◌, ℕ, zero, suc, ◌+◌, ◌*◌, ◌/◌, ◌%◌, ◌==◌, ◌<◌, ◌≤◌, ◌∙◌, nat_eq, not, ap, sym, refl, Bool, true, false, Option, Some, None, Result, Ok, Err, if◌then◌else◌, arith}
 use Rattle.std.proofs.lemmas.Bool.Decides.{nat_tests}
 use Rattle.vcs_cpu.specs.declared.regs.Regs.{Regs}
 use Rattle.vcs_cpu.specs.declared.halt.Halt.{Halt}
@@ -14,7 +14,7 @@ use Rattle.vcs_cpu.specs.Rows.{row_of, instruction_of}
 use Rattle.vcs_cpu.specs.Operands.{address_after, operand_word_at, word_from, branch_target, relative_operand}
 use Rattle.vcs_cpu.specs.Effects.{after_load_a, with_pc}
 use Rattle.vcs_cpu.specs.Steps.{Step, step_of}
-use Rattle.vcs_cpu.specs.Runs.{Settling, SettlesBy, HasCome, run_within}
+use Rattle.vcs_cpu.specs.Runs.{RunEnd, Settling, SettlesBy, HasCome, run_within, end_or_next}
 use Rattle.vcs_cpu.specs.Polls.{Rests, IsPoll, polled_byte, after_poll_read, after_poll, after_polls}
 use Rattle.vcs_cpu.proofs.Stepping.{step_of-documented}
 use Rattle.vcs_cpu.proofs.RunLemmas.{run_within-settled}
@@ -138,3 +138,37 @@ module _ {Bus Content : Type 0} (d : Device Content) (content_of : Bus → Conte
         ∙ sym (run_within-polled n left rest r (content_of before) (content_of before) address branch few code time polls) ∙ come.0,
     (come.1.0, fixed ∙ come.1.1),
   )
+
+module _ {Content : Type 0} (d : Device Content) (s : Settling Content) where
+  -- a run that ends within n instructions ends so within more
+  more_by_over : (over : Bool) (q : Regs) (x : Content) (e : RunEnd Content) (shorter longer : Regs → Content → Option (RunEnd Content)) →
+      (shorter q x ≡ Some e → longer q x ≡ Some e) → (if over then Some (record { regs = q; content = x; halt = None }) else shorter q x) ≡ Some e →
+      (if over then Some (record { regs = q; content = x; halt = None }) else longer q x) ≡ Some e
+  more_by_over true q x e shorter longer more is = is
+  more_by_over false q x e shorter longer more is = more is
+
+  more_by_step : (step : Result (Step Content) Halt) (r : Regs) (c : Content) (e : RunEnd Content) (shorter longer : Regs → Content → Option (RunEnd Content)) →
+      ((q : Regs) (x : Content) → shorter q x ≡ Some e → longer q x ≡ Some e) → end_or_next d s step r c shorter ≡ Some e → end_or_next d s step r c longer ≡ Some e
+  more_by_step (Err halt) r c e shorter longer more is = is
+  more_by_step (Ok step) r c e shorter longer more is =
+      more_by_over (s.is_over (s.after step.content)) step.regs (s.after step.content) e shorter longer (more step.regs (s.after step.content)) is
+
+  pub run_within-more : (n more : ℕ) (r : Regs) (c : Content) (e : RunEnd Content) → n ≤ more → run_within d s n r c ≡ Some e → run_within d s more r c ≡ Some e
+  unfolding run_within
+  run_within-more zero more r c e few is = cc
+  run_within-more (suc n) zero r c e few is = absurd (omega (arith, few))
+  run_within-more (suc n) (suc more) r c e few is =
+      more_by_step (step_of d r c) r c e (run_within d s n) (run_within d s more) (λ q x. run_within-more n more q x e (omega (arith, few))) is
+
+module _ {Bus Content Held : Type 0} (d : Device Content) (content_of : Bus → Content) (held : Bus → Held) (s : Settling Content) (most : ℕ) (first : Regs) (start : Bus) (halt : Option Halt) where
+  -- with more left than there are
+  pub has_come-more : (left more : ℕ) (r : Regs) (bus : Bus) (e : RunEnd Content) → left ≤ more → run_within d s most first (content_of start) ≡ Some e →
+      HasCome d content_of held s most first start left r bus halt → HasCome d content_of held s most first start more r bus halt
+  unfolding HasCome
+  has_come-more left more r bus e few ends come = (run_within-more d s left more r (content_of bus) e few (come.0 ∙ ends) ∙ sym ends, come.1)
+
+  -- on a bus that has the same content and holds the same
+  pub has_come-same : (left : ℕ) (r : Regs) (bus other : Bus) → content_of other ≡ content_of bus → held other ≡ held bus →
+      HasCome d content_of held s most first start left r bus halt → HasCome d content_of held s most first start left r other halt
+  unfolding HasCome
+  has_come-same left r bus other same fixed come = (ap (λ (x : Content). run_within d s left r x) same ∙ come.0, (come.1.0, fixed ∙ come.1.1))

@@ -14,14 +14,14 @@ use crate::instruction::perform;
 use crate::op::{Branch, Implied, Modify, Read, Store};
 use crate::opcode::{Instruction, look_up};
 use crate::operation::Operation;
-use crate::polls::{may_end_poll, pass_polls};
+use crate::polls::go_on_by_load;
 use crate::regs::Regs;
 use crate::{mode, operation};
 
 /// Executes the instruction at the program counter, whose opcode, code and row are given, and answers
 /// whether the run is over once the bus has settled.
 #[inline(always)]
-fn perform_and_settle<O: Operation, M: Addressing, B: Settle>(
+pub(crate) fn perform_and_settle<O: Operation, M: Addressing, B: Settle>(
     opcode: u8,
     code: u32,
     op: O,
@@ -44,23 +44,18 @@ fn perform_and_settle<O: Operation, M: Addressing, B: Settle>(
 }
 
 /// Goes on by the instruction of an opcode that a row has: opcode, operation, mode, cycles and whether a crossed page
-/// adds one. Returns where the run is over. The last of these opcodes has a block for what follows.
+/// adds one. Returns where the run is over. The last of these opcodes has a block of its own.
 macro_rules! go_on_by_row {
     ($opcode:ident, $code:ident, $regs:ident, $bus:ident;
      $($number:literal => $op:expr, $mode:expr, $cycles:literal, $crossing:literal;)* _ => $rest:block
-     $last:literal => $last_op:expr, $last_mode:expr, $last_cycles:literal, $last_crossing:literal, then $then:block) => {
+     $last:literal => $load:block) => {
         match $opcode {
             $($number => {
                 if perform_and_settle($opcode, $code, $op, $mode, $cycles, $crossing, &mut $regs, $bus) {
                     return $regs;
                 }
             })*
-            $last => {
-                if perform_and_settle($opcode, $code, $last_op, $last_mode, $last_cycles, $last_crossing, &mut $regs, $bus) {
-                    return $regs;
-                }
-                $then
-            }
+            $last => $load
             _ => $rest
         }
     };
@@ -204,7 +199,6 @@ fn run_by_value<B: Settle>(first: Regs, bus: &mut B, most: u32, halt: &mut Optio
             0xa9 => Read::Lda, mode::Immediate, 2, false;
             0xaa => Implied::Tax, mode::Implied, 2, false;
             0xac => Read::Ldy, mode::Absolute, 4, false;
-            0xad => Read::Lda, mode::Absolute, 4, false;
             0xae => Read::Ldx, mode::Absolute, 4, false;
             0xb0 => Branch::Bcs, mode::Relative, 2, false;
             0xb1 => Read::Lda, mode::IndirectIndexed, 5, true;
@@ -223,6 +217,7 @@ fn run_by_value<B: Settle>(first: Regs, bus: &mut B, most: u32, halt: &mut Optio
             0xc9 => Read::Cmp, mode::Immediate, 2, false;
             0xca => Implied::Dex, mode::Implied, 2, false;
             0xcd => Read::Cmp, mode::Absolute, 4, false;
+            0xd0 => Branch::Bne, mode::Relative, 2, false;
             0xd5 => Read::Cmp, mode::ZeroPageX, 4, false;
             0xd8 => Implied::Cld, mode::Implied, 2, false;
             0xd9 => Read::Cmp, mode::AbsoluteY, 4, true;
@@ -255,11 +250,9 @@ fn run_by_value<B: Settle>(first: Regs, bus: &mut B, most: u32, halt: &mut Optio
                     }
                 }
             }
-            0xd0 => Branch::Bne, mode::Relative, 2, false, then {
-                if may_end_poll(code) {
-                    let mut copy = regs;
-                    left = pass_polls(&mut copy, bus, left);
-                    regs = copy;
+            0xad => {
+                if go_on_by_load(opcode, code, &mut regs, bus, left) {
+                    return regs;
                 }
             }
         }

@@ -11,8 +11,8 @@ use vcs_riot::{Pins, Riot};
 fn first_byte<R: Abort>(rt: &R, cart: &Cart) -> u8 {
     let mut meter = Meter::new();
     let mut state = State::power_on(cart);
-    let halt = play_unseen(cart, &mut state, Input::none(), &mut meter);
-    check_that(rt, "no halt", halt.is_none());
+    let played = play_unseen(cart, &mut state, Input::none(), &mut meter);
+    check_that(rt, "no halt", played.is_ok());
     let [first, ..] = state.ram();
     first
 }

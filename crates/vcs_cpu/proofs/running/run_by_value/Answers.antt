@@ -1,5 +1,6 @@
 use Rattle.std.proofs.lemmas.Grind.{common_steps}
-use Rattle.std.proofs.Common.{arith, rules}
+use Rattle.std.proofs.Common.{◌≡◌, ◌+◌, ◌-◌, sym, subst, arith, rules}
+use Rattle.vcs_cpu.specs.Runs.{HasCome, SettlesBy}
 use Rattle.vcs_cpu.proofs.Stepping.{step_of-undocumented}
 use Rattle.vcs_cpu.proofs.RunLemmas.{has_come-nowhere, has_come-unended, has_ended-halt}
 use Rattle.vcs_cpu.proofs.running.run_by_value.Goals as goal
@@ -655,5 +656,21 @@ loop-left-preserved-else-perform_and_settle-105 g c = grind (arith, common_steps
 pub returns-then-perform_and_settle-105 : goal.returns-then-perform_and_settle-105
 returns-then-perform_and_settle-105 g c = grind (arith, common_steps)
 
-pub returns-then-perform_and_settle-106 : goal.returns-then-perform_and_settle-106
-returns-then-perform_and_settle-106 g c = grind (arith, common_steps)
+pub loop-left-preserved-else-go_on_by_load : goal.loop-left-preserved-else-go_on_by_load
+loop-left-preserved-else-go_on_by_load g c =
+    let l = c.loop-left in
+    let settles : SettlesBy g.B.Bus.content g.B.Settle.Settles g.settling = search rules in
+    let one : l.left - 1 + 1 ≡ l.left = omega (arith, c.loop-left-test.true) in
+    record {
+      come = c.go_on_by_load.ensures.goes_on g.settling c.args.most c.args.first c.args.bus.now l.halt c.if-go_on_by_load.false settles c.requires.1.1.1
+          (subst (λ n. HasCome g.B.Bus.device g.B.Bus.content g.B.Bus.fixed g.settling c.args.most c.args.first c.args.bus.now n l.regs l.bus l.halt) (sym one) l.invariant.come);
+      ready = c.go_on_by_load.ensures.ready c.if-go_on_by_load.false;
+    }
+
+pub returns-then-go_on_by_load : goal.returns-then-go_on_by_load
+returns-then-go_on_by_load g c =
+    let l = c.loop-left in
+    let settles : SettlesBy g.B.Bus.content g.B.Settle.Settles g.settling = search rules in
+    let one : l.left - 1 + 1 ≡ l.left = omega (arith, c.loop-left-test.true) in
+    c.go_on_by_load.ensures.ends g.settling c.args.most c.args.first c.args.bus.now l.halt c.if-go_on_by_load.true settles
+    (subst (λ n. HasCome g.B.Bus.device g.B.Bus.content g.B.Bus.fixed g.settling c.args.most c.args.first c.args.bus.now n l.regs l.bus l.halt) (sym one) l.invariant.come)
