@@ -8,9 +8,9 @@ use std::process::Abort;
 use std::sync::Wait;
 use std::thread::Threads;
 use tas_tool::{
-    ToolFault, cart_talk_run, check_run, compare_run, diff_run, digest_run, edit_run, export_run,
-    film_run, lag_run, migrate_run, movie_script_run, movie_talk_run, ram_run, script_run,
-    shot_run, talk_run, trace_run,
+    ToolFault, cart_talk_run, check_run, compare_run, cut_run, diff_run, digest_run, edit_run,
+    export_run, film_run, lag_run, migrate_run, movie_script_run, movie_talk_run, ram_run,
+    script_run, shot_run, talk_run, trace_run,
 };
 use test_streams::Giver;
 
@@ -26,6 +26,7 @@ pub enum Engine {
     Digest,
     Compare,
     Lag,
+    Cut,
     Edit,
     Diff,
     /// Of two movies with as many frames.
@@ -40,7 +41,7 @@ pub enum Engine {
 }
 
 /// Those that read their inputs whole before they write anything.
-pub static ENGINES: [Engine; 15] = [
+pub static ENGINES: [Engine; 16] = [
     Engine::Trace,
     Engine::Check,
     Engine::Migrate,
@@ -50,6 +51,7 @@ pub static ENGINES: [Engine; 15] = [
     Engine::Digest,
     Engine::Compare,
     Engine::Lag,
+    Engine::Cut,
     Engine::Edit,
     Engine::Diff,
     Engine::DiffReplaced,
@@ -104,6 +106,7 @@ impl Engine {
             | Engine::Ram
             | Engine::Digest
             | Engine::Lag
+            | Engine::Cut
             | Engine::Export(_)
             | Engine::CartTalk => 2,
             Engine::Compare
@@ -163,6 +166,7 @@ pub fn run<T: Wait + Threads + Sync, A: Allocator + Copy + Send + Sync, W: Write
         Engine::Digest => digest_run(alloc, 2, first, second, output),
         Engine::Compare => compare_run(alloc, first, second, third, output),
         Engine::Lag => lag_run(alloc, first, second, output),
+        Engine::Cut => cut_run(alloc, 1, 3, first, second, output),
         Engine::Edit => edit_run(alloc, first, second, third, output),
         Engine::Diff | Engine::DiffReplaced => diff_run(alloc, first, second, third, output),
         Engine::Script => script_run(rt, alloc, first, output),
