@@ -71,7 +71,7 @@ EndsOverTwo one two engine old new end =
 -- the same of three files
 abbrev pub EndsOverThree : Option (List ℕ) → Option (List ℕ) → Option (List ℕ) → ThreeFilesEngine → StreamBytes → StreamBytes → Result (Unit {0}) ToolFault → Type 0
 EndsOverThree one two three engine old new end =
-    ((end ≡ Err Read) × (new ≡ old))
+    ((end ≡ Err (Read Failed)) × (new ≡ old))
     ⊎ ((left left' left'' : Option (List ℕ)) × engine one left two left' three left'' old.input new.input old.output new.output end)
 
 -- a task ends as the definition of its command says, over its files and the streams

@@ -64,7 +64,7 @@ fn run_edit<A: Allocator + Copy, F: Folder, R: Read, W: Write>(
     input: &mut R,
     output: &mut W,
 ) -> Result<(), ToolFault>
-    ensures { DoesTask (F.bytes_of folder.now) (Edit cart script other)
+    ensures { DoesTask (F.bytes_of folder.now) (Edit cart.entry script.entry other.entry)
         (record { input = R.remaining input.old; output = W.contents output.old })
         (record { input = R.remaining input.new; output = W.contents output.new }) result }
 {
