@@ -10,7 +10,7 @@ use tas_engines::{
     pressed_too, released,
 };
 use tas_language::{EditLine, Retouch, read_edit_line};
-use tas_movie::{Edit, Inputs, Movie, TextError, TextErrorKind, apply, read_frame};
+use tas_movie::{Edit, Inputs, Movie, TextError, TextErrorKind, apply, check, read_frame};
 use test_streams::Filler;
 use vcs_machine::Input;
 
@@ -28,7 +28,9 @@ fn movie_of<R: Abort>(rt: &R, alloc: Global, lines: &str) -> Movie {
     }
     let mut movie = expect_ok(rt, Movie::blank(alloc));
     let inputs = Inputs::from_vec(list);
-    apply(&mut movie, &Edit::Insert { at: 0, inputs });
+    let insert = Edit::Insert { at: 0, inputs };
+    expect_ok(rt, check(&movie, &insert));
+    apply(&mut movie, &insert);
     movie
 }
 

@@ -76,13 +76,13 @@ fn polls_of_other_addresses(rt: HostRuntime) {
 /// For how many cycles INTIM is above 0 by single ticks.
 fn counted_cycles(riot: &Riot, pins: &Pins) -> u32 {
     let mut later = *riot;
-    let mut cycles = 0;
+    let mut cycles = 0u32;
     for _ in 0..3000u32 {
         if later.read(0x284, pins) == 0 {
             return cycles;
         }
         later.tick(1);
-        cycles += 1;
+        cycles = cycles.saturating_add(1);
     }
     cycles
 }
