@@ -163,8 +163,8 @@ fn check_engine<T: Wait + Threads + Sync + Abort>(
 /// - `Compare`: three inputs, a cartridge and a movie twice, two pictures with room for their pixmaps, and 3 of the lines.
 /// - `Lag`: two inputs, a cartridge and a movie, and 1 of the line of its one stretch. `Cut`: as `Lag`, with 1 of the text.
 /// - `Edit`: three inputs, a cartridge and a movie, the inputs of two changes, and a text.
-/// - `Diff`: three inputs, a cartridge and a movie twice, the runs of each that differ, two tables for each of three lengths of stretches, the
-///   list of changes, 2 and 3 of their lines and 2 of the script. A replacement alone: 3 and 1.
+/// - `Diff`: three inputs, a cartridge and a movie twice, the runs of each that differ, two tables for each of three lengths of stretches,
+///   both once more for the hunks between them, 8, the list of changes, 2 and 3 of their lines and 2 of the script. A replacement alone: 3 and 1.
 /// - `Script`: 15 of a desk (12 until it is opened, 2 of its seat's zone, 1 of the list of seats), an input, 19 of the lines of the replies
 ///   (2, 2, 2, 1, 3, 3, 2, 3, 1) and 5 of their list. Told: 5 of `load` (the cartridge, and four of the first edit), 2 of `insert` and of
 ///   `replace` each (the inputs twice), 3 of `shot` (the movie's copy and a picture), 4 of `work` (the cartridge and inputs of a job that
@@ -189,8 +189,8 @@ static GROWTHS: [(Engine, u64, u64); 21] = [
     (Engine::Lag, 6, 0),
     (Engine::Cut, 6, 0),
     (Engine::Edit, 9, 0),
-    (Engine::Diff, 25, 0),
-    (Engine::DiffReplaced, 22, 0),
+    (Engine::Diff, 33, 0),
+    (Engine::DiffReplaced, 30, 0),
     (Engine::Script, 40, 16),
     (Engine::MovieScript, 52, 14),
     (Engine::Talk, 35, 28),

@@ -11,7 +11,7 @@ use std::process::Abort;
 use std::sync::Wait;
 use std::thread::Threads;
 use tas_program::{Folder, Streams, run_program};
-use test_streams::Giver;
+use test_streams::{Giver, Taker};
 
 /// A folder with one file, `game.bin`.
 #[derive(Drop)]
@@ -22,12 +22,18 @@ struct OneFile<'a> {
 impl<'a> Folder for OneFile<'a> {
     type File = Giver<'a>;
 
+    type Sink = Taker;
+
     fn open(&self, name: &str) -> io::Result<Giver<'a>> {
         if name == "game.bin" {
             Ok(Giver::new(self.game, usize::MAX, 0))
         } else {
             Err(Error::from(ErrorKind::NotFound))
         }
+    }
+
+    fn open_to_write(&self, _name: &str) -> io::Result<Taker> {
+        Err(Error::from(ErrorKind::NotFound))
     }
 }
 

@@ -3,7 +3,8 @@
 use crate::checks::{check_same, expect_ok, expect_some};
 use crate::desks::{OpenGate, batch_of, run_call};
 use crate::edits::{Change, edit_of};
-use crate::fixtures::has_lacked;
+use crate::fixtures::{has_lacked, right};
+use crate::plans::Append;
 use crate::runs::{Heap, MOST, NEVER, NOT_AS_BEFORE, NOT_TOLD, Run, refuse};
 use std::alloc::{AllocError, Global};
 use std::process::Abort;
@@ -22,6 +23,10 @@ pub enum Call {
     Open,
     /// Seat 1 makes an edit, its first.
     Edit(Change),
+    /// Seat 1 makes an edit that depends on the movie, its first.
+    EditBy,
+    /// Seat 1 asks for the whole history.
+    History,
     /// Seat 1, whose zone is that of the blank movie, shoots frame 383.
     FirstShot,
     /// Seat 0, whose zone keeps two states of the movie, shoots frame 383.
@@ -58,6 +63,41 @@ fn make_edit<'a, N: Name, R: Wait + Abort>(
         Ok(receipt) => Ok(receipt == Receipt { at: 5, len } && desk.len(seat) == Ok((5, len))),
         Err(EditError::Memory) => Err(AllocError),
         Err(_) => Ok(false),
+    }
+}
+
+/// An edit that depends on the movie: whether it is the fifth, and three inputs stand after the others then.
+fn edit_by<'a, N: Name, R: Wait>(
+    rt: &R,
+    heap: &'a Heap,
+    desk: &Desk<N, &R, &'a Heap>,
+    seat: &mut Seat<N, &'a Heap>,
+    number: u64,
+) -> Result<bool, AllocError> {
+    let input = right();
+    refuse(heap, number);
+    match desk.edit_by(rt, seat, &Append { input, count: 3 }) {
+        Ok(receipt) => {
+            let last = desk.input(seat, 402);
+            Ok(receipt == Receipt { at: 5, len: 403 } && last == Ok((5, input)))
+        }
+        Err(EditError::Memory) => Err(AllocError),
+        Err(_) => Ok(false),
+    }
+}
+
+/// The history: whether it has four entries, all of which are there.
+fn ask_history<'a, N: Name, R: Wait>(
+    rt: &R,
+    heap: &'a Heap,
+    desk: &Desk<N, &R, &'a Heap>,
+    seat: &mut Seat<N, &'a Heap>,
+    number: u64,
+) -> Result<bool, AllocError> {
+    refuse(heap, number);
+    match desk.history(rt, heap, seat, 0, 9) {
+        Ok(told) => Ok(told.at == 4 && told.entries.len() == 4),
+        Err(error) => Err(error),
     }
 }
 
@@ -194,6 +234,8 @@ fn take<'a, N: Name, R: Wait + Abort>(
 ) -> Result<bool, AllocError> {
     match call {
         Call::Edit(change) => make_edit(rt, heap, desk, seat, change, number),
+        Call::EditBy => edit_by(rt, heap, desk, seat, number),
+        Call::History => ask_history(rt, heap, desk, seat, number),
         Call::FirstShot => shoot(heap, desk, seat, 384, number),
         Call::Shot => shoot(heap, desk, seat, 256, number),
         Call::FirstPicture => view(heap, desk, seat, 384, number),
@@ -313,12 +355,12 @@ pub fn take_call<'a, N: Name, R: Wait + Abort>(
     }
 }
 
-/// Each call, and how many growths it has. An edit has those of its second copy and of the journal, as in a session. A shot has those of
-/// its picture and of its zone's list of states; the first one copies a movie before, which has two, and so does a share. A picture has
+/// Each call, and how many growths it has. An edit has those of its second copy and of the journal, as in a session; one that depends on the movie has that of its inputs,
+/// too. The history has its list, and those of a cartridge and of two lists of inputs. A shot has those of its picture and of its zone's list of states; the first one copies a movie before, which has two, and so does a share. A picture has
 /// that of its window's list, too. A job has
 /// those of its cartridge, its inputs and its list of states, an offer that of the desk's list, and work on two targets those of two
 /// jobs and of the list.
-static CALLS: [(Call, &str, u64); 12] = [
+static CALLS: [(Call, &str, u64); 14] = [
     (Call::Edit(Change::Load), "Edit(Load)", 2),
     (
         Call::Edit(Change::Insert(400, 3)),
@@ -335,6 +377,8 @@ static CALLS: [(Call, &str, u64); 12] = [
         "Edit(Delete(100, 7))",
         1,
     ),
+    (Call::EditBy, "EditBy", 3),
+    (Call::History, "History", 4),
     (Call::FirstShot, "FirstShot", 4),
     (Call::Shot, "Shot", 2),
     (Call::FirstPicture, "FirstPicture", 5),

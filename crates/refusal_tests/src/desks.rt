@@ -162,6 +162,9 @@ fn history_after(call: Call) -> &'static str {
         Call::Edit(Change::Delete(..)) => {
             "0 0 load\n0 1 insert 0 200\n0 2 insert 200 200\n0 3 delete 0 0\n1 0 delete 100 7\n"
         }
+        Call::EditBy => {
+            "0 0 load\n0 1 insert 0 200\n0 2 insert 200 200\n0 3 delete 0 0\n1 0 insert 400 3\n"
+        }
         Call::TwoJobs => "0 0 load\n0 1 insert 0 200\n",
         _ => "0 0 load\n0 1 insert 0 200\n0 2 insert 200 200\n0 3 delete 0 0\n",
     }

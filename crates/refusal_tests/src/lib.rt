@@ -20,6 +20,8 @@ mod green_tests;
 #[cfg(test)]
 mod movie_tests;
 #[cfg(test)]
+mod plans;
+#[cfg(test)]
 mod runs;
 #[cfg(test)]
 mod session_tests;

@@ -1,30 +1,22 @@
 -- What the reply to an edit says of the movie.
-use Rattle.std.proofs.Common.{◌≡◌, ℕ, ◌+◌, ◌<◌, ◌==◌, Bool, true, false, List, [], ◌∷◌, ◌++◌, length, refl, ap, sym, ◌∙◌, subst, arith, length-append}
-use Rattle.std.proofs.lemmas.Bool.Decides.{nat_tests}
-use Rattle.logbook.specs.Pages.{Book}
+use Rattle.std.proofs.Common.{◌≡◌, ℕ, ◌+◌, ◌==◌, Bool, true, false, List, length, refl, ap, sym, ◌∙◌}
 use Rattle.tas_movie.specs.Content.{MovieContent}
 use Rattle.tas_movie.specs.declared.edit.Edit.{Edit}
 use Rattle.tas_movie.specs.declared.edit.EditRefusal.{EditRefusal}
 use Rattle.tas_movie.specs.declared.edit.EditRefusal.TheVariants.{Place as PlaceRefusal, Long as LongRefusal}
 use Rattle.tas_movie.specs.Edit.{edited, refusal}
-use Rattle.std.proofs.Math.Seq.{take-append_seam}
-use Rattle.std.specs.Prelude.{take}
 use Rattle.tas_session.specs.declared.entry.Entry.{Entry}
-use Rattle.tas_session.specs.Version.{VersionContent, version_of}
-use Rattle.tas_session.specs.History.{most_edits, movie_of, entries_of, IsLegal}
-use Rattle.tas_session.specs.Session.{IsNextEntry, SessionContent, IsEditError, error_at, refusal_of, edit_refusal, refusal_at}
+use Rattle.tas_session.specs.History.{most_edits, movie_of, entries_of}
+use Rattle.tas_session.specs.Session.{SessionContent, IsEditError, error_at, edit_refusal, refusal_at}
 use Rattle.std.specs.Prelude.{Option, Some, None, Ok, Err, if◌then◌else◌}
 use Rattle.tas_session.specs.declared.replies.Receipt.{Receipt}
 use Rattle.tas_session.specs.declared.replies.EditError.{EditError}
 use Rattle.tas_session.specs.declared.replies.EditError.TheVariants.{Serial, Full, Place, Long, Memory}
 use Rattle.tas_session.specs.Answers.{answer_edit, answer_edit_of}
 use Rattle.tas_desk.specs.Seats.{AnswersEdit}
-use Rattle.tas_session.specs.declared.reader_view.ReaderView.{ReaderView}
-use Rattle.tas_session.specs.Published.{PublishedContent, PublisherContent, ChangeContent, change_of, view_of, after, one_more, IsSoundPublished, IsCurrent, Follows}
-use Rattle.tas_session.proofs.HistoryLemmas.{movie_of-push, legal-push}
 
 -- where nothing refuses an edit, the movie doesn't
-no_error : (n m : ℕ) (b c : Bool) (found : Option EditRefusal) → (if b then (if c then Some (Full n) else error_at n found) else Some (Serial n m)) ≡ None → found ≡ None
+pub no_error : (n m : ℕ) (b c : Bool) (found : Option EditRefusal) → (if b then (if c then Some (Full n) else error_at n found) else Some (Serial n m)) ≡ None → found ≡ None
 no_error n m true true found p = absurd (cc p)
 no_error n m true false None p = refl
 no_error n m true false (Some (PlaceRefusal place len)) p = absurd (cc p)

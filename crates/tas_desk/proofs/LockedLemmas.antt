@@ -1,16 +1,17 @@
 -- What lies under the lock after an edit, and what its seat sees.
 use Rattle.std.proofs.Common.{◌≡◌, ℕ, ◌+◌, [], ◌∷◌, ◌++◌, length, ap, ◌∙◌, Result, Ok, Err}
-use Rattle.std.specs.Prelude.{None, IfOk, OnOk, OnErr, MatchResult}
+use Rattle.std.specs.Prelude.{Option, None, IfOk, OnOk, OnErr, MatchResult}
 use mathlib.Core.List.{IsPrefix}
 use Rattle.tas_movie.specs.Content.{MovieContent}
 use Rattle.tas_movie.specs.declared.edit.Edit.{Edit}
-use Rattle.tas_movie.specs.Edit.{edited}
+use Rattle.tas_movie.specs.declared.edit.EditRefusal.{EditRefusal}
+use Rattle.tas_movie.specs.Edit.{edited, IsAllowed}
 use Rattle.tas_session.specs.declared.replies.Receipt.{Receipt}
 use Rattle.tas_session.specs.declared.replies.EditError.{EditError}
 use Rattle.tas_session.specs.History.{movie_of}
-use Rattle.tas_session.specs.Session.{SessionContent, left_by, after_entry, refusal_at, IsEditError}
+use Rattle.tas_session.specs.Session.{SessionContent, left_by, after_entry, refusal_at, refusal_by, IsEditError}
 use Rattle.tas_desk.specs.Locked.{LockedContent, locked_of, locked_after}
-use Rattle.tas_desk.specs.Seats.{SeatContent, seat_of, entry_of, AnswersEdit, IsEdited}
+use Rattle.tas_desk.specs.Seats.{SeatContent, seat_of, entry_of, AnswersEdit, IsEdited, IsEditedBy}
 
 -- what lies under the lock after an entry of its session
 pub locked_edited : {A : Type 0} (old new : SessionContent A) (locked : LockedContent A) (seat made seat' made' : ℕ) (edit : Edit A) → new ≡ after_entry old (record { seat = seat; serial = made; edit = edit })
@@ -42,4 +43,28 @@ edited_at {A} old new before now edit (Err error) begins is refusal answered don
   refusal = refusal;
   answered = answered;
   seat = seat ∙ ap (λ (l : LockedContent A). seat_of before.number before.made l.journal before.zone) refused;
+}
+
+-- so is one that a plan makes there
+pub edited_by_at : {A : Type 0} (old new : LockedContent A) (before now : SeatContent A) (refused : MovieContent → Option EditRefusal) (edit_in : MovieContent → Edit A) (r : Result Receipt EditError) → IsPrefix before.front old.journal
+    → IfOk r (λ receipt. receipt ≡ record { at = length old.journal + 1; len = length (edited (movie_of old.journal) (edit_in (movie_of old.journal))).inputs })
+    → MatchResult r (λ _. refusal_by old.journal before.number before.made (refused (movie_of old.journal)) ≡ None) (IsEditError (refusal_by old.journal before.number before.made (refused (movie_of old.journal))))
+    → OnOk r (IsAllowed (movie_of old.journal) (edit_in (movie_of old.journal))) → OnOk r (new ≡ locked_after old (entry_of before.number before.made (edit_in (movie_of old.journal)))) → OnErr r (new ≡ old)
+    → MatchResult r (λ _. now ≡ seat_of before.number (before.made + 1) new.journal before.zone) (λ _. now ≡ seat_of before.number before.made new.journal before.zone)
+    → IsEditedBy before now refused edit_in r
+edited_by_at {A} old new before now refused edit_in (Ok receipt) begins is refusal allowed done same seat = record {
+  at = old.journal;
+  begins = begins;
+  receipt = is;
+  refusal = refusal;
+  allowed = allowed;
+  seat = seat ∙ ap (λ (l : LockedContent A). seat_of before.number (before.made + 1) l.journal before.zone) done;
+}
+edited_by_at {A} old new before now refused edit_in (Err error) begins is refusal allowed done same seat = record {
+  at = old.journal;
+  begins = begins;
+  receipt = tt;
+  refusal = refusal;
+  allowed = tt;
+  seat = seat ∙ ap (λ (l : LockedContent A). seat_of before.number before.made l.journal before.zone) same;
 }

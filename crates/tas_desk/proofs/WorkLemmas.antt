@@ -11,6 +11,7 @@ use Rattle.tas_green.specs.Grid.{stride}
 use Rattle.tas_green.specs.Zone.{state_at, nearest, first_of, where_true, is_on_grid}
 use Rattle.tas_session.specs.declared.entry.Entry.{Entry}
 use Rattle.tas_session.specs.declared.replies.Offered.{Offered}
+use Rattle.tas_desk.specs.declared.shared.Shared.{Shared}
 use Rattle.tas_desk.specs.declared.work.Worked.{Worked}
 use Rattle.tas_session.specs.History.{movie_of}
 use Rattle.tas_session.specs.Session.{SessionContent}
@@ -66,11 +67,11 @@ taken_of {A} locked now front batch (Ok offered) same lawful lawful_now takes =
 taken_of locked now front batch (Err e) same lawful lawful_now takes = tt
 
 -- a share of the states under the lock is one of a lawful zone
-pub shared_of : {A E : Type 0} (locked : LockedContent A) (before now : ZoneContent A) (front : List (Entry A)) (r : Result ℕ E) → front ≡ locked.journal → IsLawful (movie_of locked.journal) locked.zone → OnOk r (IsMadeFor now locked.journal)
-    → IfOk r (Shares before.movie now.movie before.states locked.zone now.states) → OnOk r (CutsWindow before now) → OnErr r (now ≡ before)
-    → MatchResult r (IsShared before now front) (λ _. now ≡ before)
-shared_of {A} locked before now front (Ok gained) same lawful made gain cut memory =
-    subst (λ (h : List (Entry A)). IsShared before now h gained) (sym same)
+pub shared_of : {A E : Type 0} (locked : LockedContent A) (before now : ZoneContent A) (front : List (Entry A)) (r : Result Shared E) → front ≡ locked.journal → IsLawful (movie_of locked.journal) locked.zone → OnOk r (IsMadeFor now locked.journal)
+    → IfOk r (λ shared. Shares before.movie now.movie before.states locked.zone now.states shared.gained) → OnOk r (CutsWindow before now) → OnErr r (now ≡ before)
+    → MatchResult r (λ shared. IsShared before now front shared.gained) (λ _. now ≡ before)
+shared_of {A} locked before now front (Ok shared) same lawful made gain cut memory =
+    subst (λ (h : List (Entry A)). IsShared before now h shared.gained) (sym same)
     (record { made = made; other = locked.zone; others = subst (λ (m : MovieContent). IsLawful m locked.zone) (sym made.movie) lawful; gain = gain; cut = cut })
 shared_of locked before now front (Err e) same lawful made gain cut memory = memory
 

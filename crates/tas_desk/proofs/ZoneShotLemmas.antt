@@ -1,19 +1,10 @@
 -- What a shot and a view leave of a seat's zone.
-use Rattle.std.proofs.Common.{◌≡◌, ℕ, ◌+◌, ◌<◌, true, List, length, refl, ap, sym, ◌∙◌, subst, arith, Option, Some, None, Result, Ok, Err}
-use Rattle.std.proofs.lemmas.Bool.Decides.{nat_tests}
-use Rattle.std.specs.Prelude.{nat_lt, if◌then◌else◌, IfOk, IfErr, OnOk, MatchResult}
+use Rattle.std.proofs.Common.{◌≡◌, ℕ, List, sym, subst, Result, Ok, Err}
+use Rattle.std.specs.Prelude.{IfErr, OnOk}
 use Rattle.vcs_cpu.specs.declared.halt.Halt.{Halt}
-use Rattle.tas_movie.specs.Content.{MovieContent}
-use Rattle.tas_green.specs.Run.{state_after, picture_of, answer_of}
-use Rattle.tas_green.specs.Zone.{nearest}
-use Rattle.tas_session.specs.declared.entry.Entry.{Entry}
 use Rattle.tas_session.specs.declared.replies.Shot.{Shot}
 use Rattle.tas_session.specs.declared.replies.ShotError.{ShotError}
 use Rattle.tas_session.specs.declared.replies.ShotError.TheVariants.{Halted}
-use Rattle.tas_session.specs.Answers.{answer_shot, shown_of}
-use Rattle.tas_session.specs.History.{movie_of}
-use Rattle.tas_session.specs.Session.{SessionContent}
-use Rattle.tas_session.specs.Shots.{IsShot, IsShotError, IsShotAt, MatchPlayed}
 use Rattle.tas_desk.specs.Seats.{SeatContent, IsZoneShot, IsZoneViewed}
 use Rattle.tas_desk.specs.Zones.{IsPlayed, IsViewed}
 

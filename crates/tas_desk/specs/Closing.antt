@@ -1,4 +1,4 @@
--- What the seats of a desk made, at its end (own).
+-- What the seats of a desk made, at its end.
 use Rattle.std.specs.Prelude.{ℕ, ◌+◌, List, [], ◌∷◌}
 use Rattle.tas_desk.specs.Seats.{SeatContent}
 

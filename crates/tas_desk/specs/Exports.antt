@@ -1,4 +1,4 @@
--- Replies to exports (own).
+-- Replies to exports.
 use Rattle.std.specs.Prelude.{◌≡◌, ℕ, ◌+◌, ◌-◌, ◌≤◌, List, length, Option, Result, Ok, Err}
 use Rattle.std.specs.Io.KnownBytes.{Appends}
 use Rattle.byte_text.specs.CutOff.{IsCutOff}
@@ -13,7 +13,7 @@ use Rattle.tas_film.specs.Frames.{AllDrawn, IsLeastHalted, pixmaps_of}
 use Rattle.tas_film.specs.Runs.{costs}
 use Rattle.tas_desk.specs.Zones.{ZoneContent}
 
--- how many frames one export has at most (own)
+-- how many frames one export has at most
 abbrev pub most_exported : ℕ
 most_exported = 1024
 
@@ -23,7 +23,7 @@ pub record IsInRange (len from to : ℕ) : Type 0 where
   pub within : to ≤ len
   pub few : to ≤ from + most_exported
 
--- all frames of a plan are drawn and written, and so many were played: each run from the nearest of the states that a cut for
+-- all frames of a plan are drawn and written, and this many were played: each run from the nearest of the states that a cut for
 -- the movie would leave in the zone
 pub record IsExported {A : Type 0} (zone : ZoneContent A) (movie : MovieContent) (plan : Plan) (old new : Option (List ℕ)) (played : ℕ) : Type 0 where
   pub range : IsInRange (length movie.inputs) plan.from plan.to
@@ -33,7 +33,7 @@ pub record IsExported {A : Type 0} (zone : ZoneContent A) (movie : MovieContent)
   pub moved : IsMoved zone.movie movie zone.states left
   pub cost : played ≡ costs left plan 0 plan.workers
 
--- how an export of a movie that so many edits made ends, by a seat with this zone
+-- how an export of a movie that this many edits made ends, by a seat with this zone
 abbrev pub IsExport : {A : Type 0} → ZoneContent A → MovieContent → ℕ → Plan → Option (List ℕ) → Option (List ℕ) → Result Exported ExportError → Type 0
 IsExport zone movie edits plan old new (Ok exported) = (exported.at ≡ edits) × IsExported zone movie plan old new exported.played
 IsExport zone movie edits plan old new (Err (Range at len)) = (at ≡ edits) × (len ≡ length movie.inputs) × (IsInRange (length movie.inputs) plan.from plan.to → ⊥) × (new ≡ old)

@@ -1,4 +1,4 @@
--- What lies under the lock of a desk (own).
+-- What lies under the lock of a desk.
 use Rattle.std.specs.Prelude.{List, [], ◌∷◌, ◌++◌}
 use Rattle.tas_green.specs.declared.savestate.Savestate.{Savestate}
 use Rattle.tas_session.specs.declared.entry.Entry.{Entry}

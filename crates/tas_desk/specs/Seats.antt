@@ -1,12 +1,13 @@
--- Seats, and what they have seen (own).
-use Rattle.std.specs.Prelude.{◌≡◌, ℕ, ◌+◌, ◌<◌, ◌≤◌, ◌==◌, List, [], ◌∷◌, ◌++◌, length, count_by, Result, Ok, Err, Some, None, MatchResult, All}
+-- Seats, and what they have seen.
+use Rattle.std.specs.Prelude.{◌≡◌, ℕ, ◌+◌, ◌<◌, ◌≤◌, ◌==◌, List, [], ◌∷◌, ◌++◌, length, count_by, Result, Ok, Err, Option, Some, None, MatchResult, OnOk, All}
 use mathlib.Core.List.{IsPrefix}
 use Rattle.logbook.specs.Pages.{Book}
 use Rattle.vcs_machine.specs.declared.input.Input.{Input}
 use Rattle.tas_movie.specs.declared.edit.Edit.{Edit}
 use Rattle.tas_movie.specs.Content.{MovieContent}
+use Rattle.tas_movie.specs.declared.edit.EditRefusal.{EditRefusal}
 use Rattle.tas_movie.specs.declared.edit.EditRefusal.TheVariants.{Place as PlaceRefusal, Long as LongRefusal}
-use Rattle.tas_movie.specs.Edit.{edited}
+use Rattle.tas_movie.specs.Edit.{edited, IsAllowed}
 use Rattle.tas_session.specs.declared.entry.Entry.{Entry}
 use Rattle.tas_session.specs.declared.reader_view.ReaderView.{ReaderView}
 use Rattle.tas_session.specs.declared.replies.Receipt.{Receipt}
@@ -16,14 +17,14 @@ use Rattle.tas_session.specs.declared.replies.InputError.{InputError}
 use Rattle.tas_session.specs.declared.replies.InputError.TheVariants.{NoEntry, NoFrame}
 use Rattle.tas_session.specs.History.{movie_of, entries_of}
 use Rattle.tas_session.specs.Answers.{answer_edit, answer_input}
-use Rattle.tas_session.specs.Session.{refusal_at, IsEditError}
+use Rattle.tas_session.specs.Session.{refusal_at, refusal_by, IsEditError}
 use Rattle.tas_session.specs.Published.{KnowsRegistry}
 use Rattle.tas_session.specs.declared.replies.Shot.{Shot}
 use Rattle.tas_session.specs.declared.replies.ShotError.{ShotError}
 use Rattle.tas_session.specs.declared.replies.ShotError.TheVariants.{NoEntry as NoShotEntry, NoFrame as NoShotFrame, Memory as NoShotMemory, Halted as ShotHalted}
 use Rattle.tas_desk.specs.Zones.{ZoneContent, IsPlayed, IsViewed}
 
--- how many seats a desk has at most (own)
+-- how many seats a desk has at most
 abbrev pub most_seats : ℕ
 most_seats = 8
 
@@ -95,6 +96,20 @@ pub record IsEdited {A : Type 0} (before now : SeatContent A) (edit : Edit A) (a
   pub answered : AnswersEdit (movie_of at) edit answer
   pub seat : MatchResult answer
       (λ _. now ≡ seat_of before.number (before.made + 1) (at ++ entry_of before.number before.made edit ∷ []) before.zone)
+      (λ _. now ≡ seat_of before.number before.made at before.zone)
+
+-- the same of an edit that depends on the movie in which it is made: that of the history at which it is answered. `refused` and
+-- `edit_in` are what refuses it in a movie, and the edit that it is there
+pub record IsEditedBy {A : Type 0} (before now : SeatContent A) (refused : MovieContent → Option EditRefusal) (edit_in : MovieContent → Edit A) (answer : Result Receipt EditError) : Type 0 where
+  pub at : List (Entry A)
+  pub begins : IsPrefix before.front at
+  pub receipt : MatchResult answer (λ receipt. receipt ≡ record { at = length at + 1; len = length (edited (movie_of at) (edit_in (movie_of at))).inputs }) (λ _. Unit {0})
+  pub refusal : MatchResult answer
+      (λ _. refusal_by at before.number before.made (refused (movie_of at)) ≡ None)
+      (IsEditError (refusal_by at before.number before.made (refused (movie_of at))))
+  pub allowed : OnOk answer (IsAllowed (movie_of at) (edit_in (movie_of at)))
+  pub seat : MatchResult answer
+      (λ _. now ≡ seat_of before.number (before.made + 1) (at ++ entry_of before.number before.made (edit_in (movie_of at)) ∷ []) before.zone)
       (λ _. now ≡ seat_of before.number before.made at before.zone)
 
 -- the journal goes on from what the seat has seen, and has just as many entries of the seat as it made

@@ -1,4 +1,4 @@
--- Replies to looks at the machine's state (own).
+-- Replies to looks at the machine's state.
 use Rattle.std.specs.Prelude.{◌≡◌, ℕ, ◌<◌, ◌≤◌, List, length, Result, Ok, Err}
 use Rattle.tas_green.specs.Run.{state_after}
 use Rattle.tas_green.specs.Green.{IsReachedFrom}
@@ -16,6 +16,14 @@ IsStateAt history k (Ok reached) = (k ≤ length (movie_of history).inputs) × (
 IsStateAt history k (Err NoEntry) = Unit {0}
 IsStateAt history k (Err (NoFrame at len)) = (at ≡ length history) × (len ≡ length (movie_of history).inputs) × (len < k)
 IsStateAt history k (Err Memory) = k ≤ length (movie_of history).inputs
+
+-- the machine in which frame `from` begins, where the movie has all frames from it to the one before `to`, or why it wasn't reached;
+-- without an entry nothing is said
+abbrev pub IsStateFor : {A : Type 0} → List (Entry A) → ℕ → ℕ → Result Reached StateError → Type 0
+IsStateFor history from to (Ok reached) = (from ≤ to) × (to ≤ length (movie_of history).inputs) × (reached.state ≡ state_after (movie_of history) from) × (reached.at ≡ length history)
+IsStateFor history from to (Err NoEntry) = Unit {0}
+IsStateFor history from to (Err (NoFrame at len)) = (at ≡ length history) × (len ≡ length (movie_of history).inputs) × (from ≤ to → to ≤ len → ⊥)
+IsStateFor history from to (Err Memory) = (from ≤ to) × (to ≤ length (movie_of history).inputs)
 
 -- the state after k frames of a history's movie was reached from a zone: the zone was cut for that movie first, `ran` frames were played from the
 -- nearest state that was left, and the zone then has what was left and the states on the way that stand on the grid

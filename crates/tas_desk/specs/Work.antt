@@ -1,4 +1,4 @@
--- Jobs, what they made, and replies to work (own).
+-- Jobs, what they made, and replies to work.
 use Rattle.std.specs.Prelude.{◌≡◌, ℕ, ◌+◌, ◌-◌, ◌*◌, ◌^◌, ◌<◌, ◌≤◌, List, length, take, min, Option, Some, None, Result, Ok, Err}
 use mathlib.Core.List.{IsPrefix}
 use Rattle.tas_movie.specs.Content.{MovieContent}
@@ -44,7 +44,7 @@ pub record IsTaken (movie : MovieContent) (batch : BatchContent) (offered : Offe
   pub lawful_now : IsLawful movie now
   pub takes : Takes before now movie batch offered
 
--- what was worked, once there was one job more: it gained so many states, which are counted up to what a `usize` holds, or it
+-- what was worked, once there was one job more: it gained this many states, which are counted up to what a `usize` holds, or it
 -- was stale
 abbrev pub with_job : Worked → Option ℕ → Worked
 with_job worked (Some gained) = record { jobs = worked.jobs + 1; kept = min (worked.kept + gained) (2 ^ 64 - 1); stale = worked.stale }
@@ -55,7 +55,7 @@ pub record IsTally (worked : Worked) : Type 0 where
   pub stale : worked.stale ≤ worked.jobs
   pub kept : worked.kept + most_states * worked.stale ≤ most_states * worked.jobs
 
--- all of so many targets were worked; or memory was refused, and those before are told
+-- all of this many targets were worked; or memory was refused, and those before are reported
 abbrev pub IsWorked : ℕ → Result Worked WorkError → Type 0
 IsWorked targets (Ok worked) = (worked.jobs ≡ targets) × IsTally worked
 IsWorked targets (Err (Memory done)) = (done.jobs < targets) × IsTally done
@@ -64,7 +64,7 @@ IsWorked targets (Err (Memory done)) = (done.jobs < targets) × IsTally done
 abbrev pub KeepsCart : {A : Type 0} → List (Entry A) → List (Entry A) → Type 0
 KeepsCart {A} before now = (front : List (Entry A)) → IsPrefix before front → IsPrefix front now → (movie_of front).cart ≡ (movie_of before).cart
 
--- how many stale jobs are told
+-- how many stale jobs are reported
 abbrev pub stale_in : Result Worked WorkError → ℕ
 stale_in (Ok worked) = worked.stale
 stale_in (Err (Memory done)) = done.stale

@@ -1,4 +1,4 @@
--- The greenzone of a seat, and its window (own).
+-- The greenzone of a seat, and its window.
 use Rattle.std.specs.Prelude.{◌≡◌, ℕ, ◌+◌, ◌≤◌, List, [], length}
 use Rattle.logbook.specs.Pages.{Book}
 use Rattle.tas_movie.specs.Content.{MovieContent, blank_movie}
@@ -22,7 +22,7 @@ pub record ZoneContent (A : Type 0) : Type 0 where
 abbrev pub blank_zone : {A : Type 0} → Book → ZoneContent A
 blank_zone b = record { made_for = version_of b []; movie = blank_movie; states = []; window = [] }
 
--- a zone is cut for the new movie and gains just the other's states, so many
+-- a zone is cut for the new movie and gains just the other's states, this many
 abbrev pub Shares : MovieContent → MovieContent → List Savestate → List Savestate → List Savestate → ℕ → Type 0
 Shares old new zone other now gained =
     (left : List Savestate) × IsMoved old new zone left × ((f : ℕ) → state_at f now ≡ first_of (state_at f left) (state_at f other)) × (length now ≡ length left + gained)
@@ -44,7 +44,7 @@ pub record IsPlayed {A : Type 0} (before now : ZoneContent A) (front : List (Ent
   pub made : IsMadeFor now front
   pub shot : IsShotFrom before.movie now.movie k before.states now.states 0 ran
 
--- a zone was cut for a history's movie, and then gained so many states of another zone that is lawful for it
+-- a zone was cut for a history's movie, and then gained this many states of another zone that is lawful for it
 pub record IsShared {A : Type 0} (before now : ZoneContent A) (front : List (Entry A)) (gained : ℕ) : Type 0 where
   pub made : IsMadeFor now front
   pub other : List Savestate
@@ -56,7 +56,7 @@ pub record IsShared {A : Type 0} (before now : ZoneContent A) (front : List (Ent
 pub record IsShort {A : Type 0} (before now : ZoneContent A) (k ran : ℕ) : Type 0 where
   pub most : (left : List Savestate) → IsMoved before.movie now.movie before.states left → HoldsGrid (stride (length now.movie.inputs)) k left → ran ≤ stride (length now.movie.inputs)
 
--- frame k of a history's movie was viewed: zone and window were cut for that movie, so many frames were played from the nearest state
+-- frame k of a history's movie was viewed: zone and window were cut for that movie, this many frames were played from the nearest state
 -- of both, the zone is then as a shot leaves it, and the window is filled
 pub record IsViewed {A : Type 0} (before now : ZoneContent A) (front : List (Entry A)) (k ran : ℕ) : Type 0 where
   pub made : IsMadeFor now front

@@ -6,25 +6,25 @@
 //! A desk's clauses can't name the kept states under the lock; those of the locked session say what each call makes of them. Of gates and
 //! of threads no clause says anything; docs/PROOFS.md lists what is so.
 
-ghost use Rattle.std.specs.Prelude.{◌≡◌, ◌≢◌, ◌↔◌, ◌⊎◌, ℕ, ◌+◌, ◌<◌, ◌≤◌, ◌==◌, [], length, slice_get, Some, count_by, IsTrue, IfOk, IfErr, OnOk, Err, MatchResult, All};
+ghost use Rattle.std.specs.Prelude.{◌≡◌, ◌≢◌, ◌↔◌, ◌⊎◌, ℕ, ◌+◌, ◌<◌, ◌≤◌, ◌==◌, [], length, take, drop, slice_get, Some, count_by, IsTrue, IfOk, IfErr, OnOk, Err, MatchResult, All};
 ghost use Rattle.tas_session.specs.declared.replies.OfferError.TheVariants.{Cartridge, Memory};
 ghost use Rattle.tas_session.specs.declared.replies.OpenError.TheVariants.{Memory as OutOfMemory};
 ghost use Rattle.tas_session.specs.Answers.{answer_len};
 ghost use Rattle.tas_session.specs.History.{movie_of, IsLegal};
 ghost use Rattle.tas_session.specs.Shots.{IsShotAt, MatchPlayed};
-ghost use Rattle.tas_desk.specs.States.{IsStateAt, IsZoneReached};
+ghost use Rattle.tas_desk.specs.States.{IsStateAt, IsStateFor, IsZoneReached};
 ghost use Rattle.tas_desk.specs.Zones.{CutsWindow, IsShared, IsShort, IsZoneAway, blank_zone};
 ghost use Rattle.tas_green.specs.Grid.{most_states};
 ghost use Rattle.tas_desk.specs.Closing.{made_by};
-ghost use Rattle.tas_desk.specs.Seats.{most_seats, name_of, seat_of, HasSeen, KeepsZone, IsZoneShot, IsZoneViewed, IsEdited, IsWhole, IsSettled, IsInput};
+ghost use Rattle.tas_desk.specs.Seats.{most_seats, name_of, seat_of, HasSeen, KeepsZone, IsZoneShot, IsZoneViewed, IsEdited, IsEditedBy, IsWhole, IsSettled, IsInput};
 ghost use Rattle.tas_desk.specs.Work.{IsJobOf, IsTaken};
 
 use crate::desk_lock::DeskLock;
 use crate::locked_session::{CloseOnDrop, LockedSession};
 use crate::seating::new_seats;
 use crate::{
-    Closed, EditError, InputError, Name, NoEntry, OfferError, Offered, OpenError, Reached, Receipt,
-    Seat, Session, Shot, ShotError, StateError,
+    Closed, EditError, History, InputError, Name, NoEntry, OfferError, Offered, OpenError, Plan,
+    Reached, Receipt, Seat, Session, Shared, Shot, ShotError, StateError,
 };
 use std::alloc::{AllocError, Allocator, Global};
 use std::marker::Model;
@@ -34,10 +34,10 @@ use tas_green::{Batch, Job};
 use tas_movie::Edit;
 use vcs_machine::Input;
 
-/// How many seats a desk has at most (own).
+/// How many seats a desk has at most.
 pub const MAX_SEATS: u32 = 8;
 
-/// A desk before it has a name (own): the blank cartridge with no inputs, and no edits. Contracts see what a name must be for
+/// A desk before it has a name: the blank cartridge with no inputs, and no edits. Contracts see what a name must be for
 /// it: its registry, its ledger and the number of its seats. It can't be dropped: open it.
 pub struct Unopened<A: Allocator = Global> {
     session: Session<A>,
@@ -75,7 +75,7 @@ impl<A: Allocator + Copy> Unopened<A> {
     }
 }
 
-/// A desk: a session behind a lock, whose movie each seat reads without the lock (own). Contracts see nothing of it; the type keeps
+/// A desk: a session behind a lock, whose movie each seat reads without the lock. Contracts see nothing of it; the type keeps
 /// that it has as many seats as its ledger has parts.
 #[derive(Drop)]
 pub struct Desk<N: Name, W: CloseOnDrop, A: Allocator = Global> {
@@ -209,6 +209,22 @@ impl<N: Name, W: CloseOnDrop, A: Allocator + Copy> Desk<N, W, A> {
         self.locked.lock(rt).edit(rt, seat, edit)
     }
 
+    /// Makes, as the seat, the edit that a plan is in the movie under the lock, so no other edit comes between. The receipt is as that of
+    /// [`Desk::edit`].
+    ///
+    /// It is refused, in this order, for `Serial` and `Full`, for what the plan says of the movie, `Place` or `Long`, and for
+    /// `Memory`. After a refusal the history has nothing of this call.
+    pub fn edit_by<P: Plan<A>, R: Wait>(
+        &self,
+        rt: &R,
+        seat: &mut Seat<N, A>,
+        plan: &P,
+    ) -> Result<Receipt, EditError>
+        ensures { IsEditedBy seat.old seat.new (P.refusal_in plan.now) (P.edit_in plan.now) result }
+    {
+        self.locked.lock(rt).edit_by(rt, seat, plan)
+    }
+
     /// Draws frame `k`, counted from 0, played from the nearest state of the seat's own zone. It takes no lock. The zone is
     /// first cut at the common front of the inputs that it was made for and the present ones, and emptied where the cartridge
     /// differs, and so is its window; then the zone gains the states on the way that are on the grid. The picture takes its
@@ -265,6 +281,25 @@ impl<N: Name, W: CloseOnDrop, A: Allocator + Copy> Desk<N, W, A> {
         seat.state(k)
     }
 
+    /// The machine in which frame `from` begins, where the movie has all frames from `from` to the one before `to`: `from` is at most
+    /// `to`, and `to` at most the movie's length. It is played as by [`Desk::state`] of `from`, without the lock.
+    ///
+    /// `NoFrame` comes exactly where the movie hasn't these frames. `NoEntry` leaves the seat as it was, `NoFrame` and `Memory` its
+    /// zone.
+    pub fn state_for(
+        &self,
+        seat: &mut Seat<N, A>,
+        from: usize,
+        to: usize,
+    ) -> Result<Reached, StateError>
+        ensures seat { HasSeen seat.old seat.new }
+        ensures reply { IsStateFor seat.new.front from to result }
+        ensures zone { IsZoneReached seat.old seat.new from result }
+        ensures window { OnOk result (CutsWindow seat.old.zone seat.new.zone) }
+    {
+        seat.state_for(from, to)
+    }
+
     /// Lets the seat's zone gain the desk's kept states, once it is cut for the movie as a shot cuts it, and returns how many it
     /// lacked. After `AllocError` the zone is as it was.
     pub fn share<R: Wait>(&self, rt: &R, seat: &mut Seat<N, A>) -> Result<usize, AllocError>
@@ -272,7 +307,38 @@ impl<N: Name, W: CloseOnDrop, A: Allocator + Copy> Desk<N, W, A> {
         ensures zone { MatchResult result (IsShared seat.old.zone seat.new.zone seat.new.front)
             (λ _. seat.new.zone ≡ seat.old.zone) }
     {
-        self.locked.lock(rt).share(rt, seat)
+        Ok(self.bring(rt, seat)?.gained)
+    }
+
+    /// Lets the seat's zone gain the desk's kept states as [`Desk::share`] does, and returns how many it lacked, with the number of
+    /// edits of the history whose states these are: the seat's front. After `AllocError` the zone is as it was.
+    pub fn bring<R: Wait>(&self, rt: &R, seat: &mut Seat<N, A>) -> Result<Shared, AllocError>
+        ensures seat { HasSeen seat.old seat.new }
+        ensures at { IfOk result (λ shared. shared.at ≡ length seat.new.front) }
+        ensures zone { MatchResult result
+            (λ shared. IsShared seat.old.zone seat.new.zone seat.new.front shared.gained)
+            (λ _. seat.new.zone ≡ seat.old.zone) }
+    {
+        self.locked.lock(rt).bring(rt, seat)
+    }
+
+    /// Copies the history's entries from the place `from` on, counted from 0, and no more than `most` of them; there may be none. The
+    /// copies are made under the lock, and take their memory from `alloc`. After `AllocError` the seat has seen the history all
+    /// the same.
+    pub fn history<R: Wait>(
+        &self,
+        rt: &R,
+        alloc: A,
+        seat: &mut Seat<N, A>,
+        from: usize,
+        most: usize,
+    ) -> Result<History<A>, AllocError>
+        ensures seat { KeepsZone seat.old seat.new }
+        ensures at { IfOk result (λ history. history.at ≡ length seat.new.front) }
+        ensures entries { IfOk result
+            (λ history. history.entries.items ≡ take most (drop from seat.new.front)) }
+    {
+        self.locked.lock(rt).history(rt, alloc, seat, from, most)
     }
 
     /// A job for the movie's first `near` frames, or for all where there are fewer, from the nearest of the desk's kept states among

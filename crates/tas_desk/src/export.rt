@@ -19,10 +19,10 @@ use tas_film::{ExportFault, Plan, export_frames};
 use tas_movie::Movie;
 use vcs_cpu::Halt;
 
-/// How many frames one export has at most (own).
+/// How many frames one export has at most.
 pub const MAX_EXPORT: usize = 1024;
 
-/// Frames were written (own).
+/// Frames were written.
 #[derive(Clone, Copy, Debug, PartialEq, Eq)]
 pub struct Exported {
     /// How many edits the history has.
@@ -31,7 +31,7 @@ pub struct Exported {
     pub played: u64,
 }
 
-/// Why frames weren't written, or not all (own).
+/// Why frames weren't written, or not all.
 #[derive(Drop)]
 pub enum ExportError {
     /// The movie hasn't these frames, or there are too many for one export. Nothing was written.

@@ -1,13 +1,13 @@
 //! What lies under the lock of a desk.
 
-ghost use Rattle.std.specs.Prelude.{◌≡◌, ◌≢◌, ◌↔◌, ◌⊎◌, ◌+◌, ◌≤◌, [], length, None, IfOk, IfErr, OnOk, OnErr, Err, MatchResult, All};
+ghost use Rattle.std.specs.Prelude.{◌≡◌, ◌≢◌, ◌↔◌, ◌⊎◌, ◌+◌, ◌≤◌, [], length, take, drop, None, IfOk, IfErr, OnOk, OnErr, Err, MatchResult, All};
 ghost use mathlib.Core.List.{IsPrefix};
-ghost use Rattle.tas_movie.specs.Edit.{edited};
+ghost use Rattle.tas_movie.specs.Edit.{edited, IsAllowed};
 ghost use Rattle.tas_green.specs.Grid.{most_states};
 ghost use Rattle.tas_green.specs.Green.{IsLawful};
 ghost use Rattle.tas_session.specs.declared.replies.OfferError.TheVariants.{Cartridge, Memory};
 ghost use Rattle.tas_session.specs.History.{movie_of, entries_of, IsLegal};
-ghost use Rattle.tas_session.specs.Session.{refusal_at, IsEditError};
+ghost use Rattle.tas_session.specs.Session.{refusal_at, refusal_by, IsEditError};
 ghost use Rattle.tas_desk.specs.Locked.{locked_of, locked_after};
 ghost use Rattle.tas_desk.specs.Zones.{CutsWindow, IsMadeFor, Shares};
 ghost use Rattle.tas_desk.specs.Inside.Exporting.{FoundRange};
@@ -16,7 +16,12 @@ ghost use Rattle.tas_desk.specs.Closing.{made_by};
 ghost use Rattle.tas_desk.specs.Seats.{seat_of, entry_of, IsWhole, IsSettled, AnswersEdit};
 
 use crate::export::{ExportError, is_in_range};
-use crate::{Closed, EditError, Entry, Name, OfferError, Offered, Receipt, Seat, Session};
+use crate::history::part_of;
+use crate::plan::planned;
+use crate::{
+    Closed, EditError, Entry, History, Name, OfferError, Offered, Plan, Receipt, Seat, Session,
+    Shared,
+};
 use std::alloc::{AllocError, Allocator, Global};
 use std::marker::Model;
 use std::sync::Wait;
@@ -24,7 +29,7 @@ use std::sync::ledger::{Book, Share};
 use tas_green::{Batch, Job};
 use tas_movie::{Edit, Movie};
 
-/// How a dropped desk closes its session (own). Implemented by every handle that may wait. It is no `Wait` bound itself, so that a
+/// How a dropped desk closes its session. Implemented by every handle that may wait. It is no `Wait` bound itself, so that a
 /// desk's looks aren't counted as calls that may wait; dropping a desk does wait.
 pub trait CloseOnDrop: Drop {
     /// Closes the session.
@@ -180,6 +185,64 @@ impl<N: Name, W: CloseOnDrop, A: Allocator + Copy> LockedSession<N, W, A> {
         Ok(receipt)
     }
 
+    /// Takes an edit of a seat as [`LockedSession::edit`] does, which a plan makes of the movie here. A plan that the movie refuses makes
+    /// none.
+    pub fn edit_by<P: Plan<A>, R: Wait>(
+        &mut self,
+        rt: &R,
+        seat: &mut Seat<N, A>,
+        plan: &P,
+    ) -> Result<Receipt, EditError>
+        ensures begins { IsPrefix seat.old.front self.old.journal }
+        ensures receipt { IfOk result (λ receipt. receipt ≡ record {
+          at = length self.old.journal + 1;
+          len = length (edited (movie_of self.old.journal)
+              (P.edit_in plan.now (movie_of self.old.journal))).inputs;
+        }) }
+        ensures refusal { MatchResult result
+            (λ _. refusal_by self.old.journal seat.old.number seat.old.made
+            (P.refusal_in plan.now (movie_of self.old.journal)) ≡ None)
+            (IsEditError (refusal_by self.old.journal seat.old.number seat.old.made
+            (P.refusal_in plan.now (movie_of self.old.journal)))) }
+        ensures allowed { OnOk result (IsAllowed (movie_of self.old.journal)
+            (P.edit_in plan.now (movie_of self.old.journal))) }
+        ensures done { OnOk result (self.new ≡ locked_after self.old
+            (entry_of seat.old.number seat.old.made
+            (P.edit_in plan.now (movie_of self.old.journal)))) }
+        ensures refused { OnErr result (self.new ≡ self.old) }
+        ensures seat { MatchResult result
+            (λ _. seat.new
+            ≡ seat_of seat.old.number (seat.old.made + 1) self.new.journal seat.old.zone)
+            (λ _. seat.new ≡ seat_of seat.old.number seat.old.made self.new.journal seat.old.zone) }
+    {
+        self.session.show_to(rt, &mut seat.reader);
+        let alloc = seat.zone.allocator();
+        let edit = planned(&self.session, alloc, seat.number, seat.made, plan)?;
+        self.edit(rt, seat, edit)
+    }
+
+    /// Copies at most this many entries of the history from a place on.
+    pub fn history<R: Wait>(
+        &self,
+        rt: &R,
+        alloc: A,
+        seat: &mut Seat<N, A>,
+        from: usize,
+        most: usize,
+    ) -> Result<History<A>, AllocError>
+        ensures begins { IsPrefix seat.old.front self.now.journal }
+        ensures seat { seat.new
+            ≡ seat_of seat.old.number seat.old.made self.now.journal seat.old.zone }
+        ensures at { IfOk result (λ history. history.at ≡ length self.now.journal) }
+        ensures entries { IfOk result
+            (λ history. history.entries.items ≡ take most (drop from self.now.journal)) }
+    {
+        self.session.show_to(rt, &mut seat.reader);
+        let at = self.session.at();
+        let entries = part_of(alloc, self.session.journal(), from, most)?;
+        Ok(History { at, entries })
+    }
+
     /// Copies the movie, where it has these frames and they are few enough for an export.
     pub fn copy<B: Allocator + Copy, R: Wait>(
         &self,
@@ -207,24 +270,29 @@ impl<N: Name, W: CloseOnDrop, A: Allocator + Copy> LockedSession<N, W, A> {
         }
     }
 
-    /// Lets a seat's zone gain exactly the kept states that it lacks, and returns how many.
-    pub fn share<R: Wait>(&self, rt: &R, seat: &mut Seat<N, A>) -> Result<usize, AllocError>
+    /// Lets a seat's zone gain exactly the kept states that it lacks, and returns how many with the number of edits.
+    pub fn bring<R: Wait>(&self, rt: &R, seat: &mut Seat<N, A>) -> Result<Shared, AllocError>
         ensures begins { IsPrefix seat.old.front self.now.journal }
         ensures seat { seat.new
             ≡ seat_of seat.old.number seat.old.made self.now.journal seat.new.zone }
         ensures made { OnOk result (IsMadeFor seat.new.zone self.now.journal) }
-        ensures gained { IfOk result (Shares seat.old.zone.movie seat.new.zone.movie
-            seat.old.zone.states self.now.zone seat.new.zone.states) }
+        ensures at { IfOk result (λ shared. shared.at ≡ length self.now.journal) }
+        ensures gained { IfOk result (λ shared. Shares seat.old.zone.movie seat.new.zone.movie
+            seat.old.zone.states self.now.zone seat.new.zone.states shared.gained) }
         ensures cut { OnOk result (CutsWindow seat.old.zone seat.new.zone) }
         ensures lawful { IsLawful (movie_of self.now.journal) self.now.zone }
         ensures memory { OnErr result (seat.new.zone ≡ seat.old.zone) }
     {
         self.session.show_to(rt, &mut seat.reader);
-        seat.zone.share(
+        let gained = seat.zone.share(
             self.session.movie(),
             self.session.version(),
             self.session.green(),
-        )
+        )?;
+        Ok(Shared {
+            at: self.session.at(),
+            gained,
+        })
     }
 
     /// A job for a part of the movie, from the nearest kept state.

@@ -7,7 +7,7 @@ ghost use Rattle.tas_session.specs.Shots.{IsShotAt, MatchPlayed};
 ghost use Rattle.tas_session.specs.Answers.{answer_len};
 ghost use Rattle.tas_session.specs.History.{movie_of};
 ghost use Rattle.tas_session.specs.Published.{KnowsRegistry};
-ghost use Rattle.tas_desk.specs.States.{IsStateAt, IsZoneReached};
+ghost use Rattle.tas_desk.specs.States.{IsStateAt, IsStateFor, IsZoneReached};
 ghost use Rattle.tas_desk.specs.Zones.{CutsWindow, IsShort, IsZoneAway};
 ghost use Rattle.tas_desk.specs.Seats.{seat_of, HasSeen, KeepsZone, IsInput, IsZoneShot, IsZoneViewed};
 
@@ -21,7 +21,7 @@ use tas_session::{MovieReader, shown};
 use vcs_machine::{Input, Meter};
 use vcs_tia::Picture;
 
-/// A seat of a desk (own). Contracts see its number, how many edits it made, what it has seen of the history, and its greenzone.
+/// A seat of a desk. Contracts see its number, how many edits it made, what it has seen of the history, and its greenzone.
 #[derive(Drop)]
 pub struct Seat<N: Name, A: Allocator = Global> {
     pub(crate) number: u32,
@@ -163,11 +163,27 @@ impl<N: Name, A: Allocator + Copy> Seat<N, A> {
         ensures zone { IsZoneReached self.old self.new k result }
         ensures window { OnOk result (CutsWindow self.old.zone self.new.zone) }
     {
+        self.state_for(k, k)
+    }
+
+    /// The machine after `from` frames, from the seat's own zone, where the movie has `to` frames or more, and `from` of them.
+    pub(crate) fn state_for(&mut self, from: usize, to: usize) -> Result<Reached, StateError>
+        ensures seat { HasSeen self.old self.new }
+        ensures reply { IsStateFor self.new.front from to result }
+        ensures zone { IsZoneReached self.old self.new from result }
+        ensures window { OnOk result (CutsWindow self.old.zone self.new.zone) }
+    {
+        if from > to {
+            return match self.reader.len() {
+                Ok((at, len)) => Err(StateError::NoFrame { at, len }),
+                Err(NoEntry) => Err(StateError::NoEntry),
+            };
+        }
         let (at, copied) = self
             .reader
-            .copy_of(self.zone.allocator(), self.zone.version(), k)?;
+            .copy_of(self.zone.allocator(), self.zone.version(), to)?;
         let mut meter = Meter::new();
-        let Ok(state) = self.zone.reach(copied, k, &mut meter) else {
+        let Ok(state) = self.zone.reach(copied, from, &mut meter) else {
             return Err(StateError::Memory);
         };
         Ok(Reached {

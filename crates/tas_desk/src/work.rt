@@ -11,7 +11,7 @@ use std::alloc::{AllocError, Allocator};
 use std::sync::Wait;
 use thiserror::Error;
 
-/// What was worked (own).
+/// What was worked.
 #[derive(Clone, Copy, Debug, PartialEq, Eq)]
 pub struct Worked {
     /// How many targets there were jobs for.
@@ -48,7 +48,7 @@ impl Worked {
     }
 }
 
-/// Why not all targets were worked (own).
+/// Why not all targets were worked.
 #[derive(Clone, Copy, Debug, PartialEq, Eq, Error)]
 pub enum WorkError {
     /// Memory was refused at the next target.

@@ -4,17 +4,19 @@ ghost use Rattle.std.specs.Prelude.{◌≤◌};
 ghost use Rattle.tas_desk.specs.Seats.{most_seats};
 
 use crate::answers::{Refused, Shown, edit, export, shoot, view};
-use crate::changes::Change;
+use crate::changes::{Change, fire};
 use crate::checks::check_that;
 use crate::desks::{Task, lend};
 use crate::gates::{InOrder, Open};
+use crate::plan_tests::{first_byte, is_told};
+use crate::plans::{Append, FirstOver};
 use std::alloc::Global;
 use std::process::Abort;
 use std::sync::Wait;
 use std::thread::Threads;
 use tas_desk::{
-    CloseOnDrop, Closed, Desk, EditError, InputError, MAX_WORKERS, Name, Receipt, Seat, ShotError,
-    Worked,
+    CloseOnDrop, Closed, Desk, EditError, InputError, MAX_WORKERS, Name, Receipt, Seat, Shared,
+    ShotError, StateError, Worked,
 };
 use vcs_machine::Input;
 
@@ -45,6 +47,17 @@ pub enum Call {
     Work(u32, &'static [usize], Worked),
     /// How many states the seat's zone gained.
     Share(u32, usize),
+    /// The movie's first input over that of a frame.
+    Over(u32, usize, Result<Receipt, EditError>),
+    /// This many inputs with the left fire pressed after the movie's last one.
+    Appended(u32, usize, Result<Receipt, EditError>),
+    /// The entries of the history from a place on, and how many of them at most: the number of edits, and the entries in words.
+    Told(u32, (usize, usize), u64, &'static str),
+    /// The machine in which a frame begins, where the movie has those up to another: the number of edits, of frames that are played,
+    /// and the first byte of memory.
+    Began(u32, (usize, usize), Result<(u64, u64, u8), StateError>),
+    /// The number of edits of the history whose states the seat's zone gained, and of these states.
+    Brought(u32, u64, usize),
     /// An export of some frames by this many workers: how many edits there are, and frames played.
     Exported(u32, (usize, usize), usize, u64, u64),
     /// An export of frames that aren't all there: how many edits and frames there are.
@@ -128,6 +141,7 @@ fn is_seen<N: Name, W: CloseOnDrop>(
         Call::NotViewed(_, k, error) => shown(view(alloc, desk, seat, k)) == Err(error),
         Call::Stepped(_, from, to, ran) => steps(alloc, desk, seat, from, to) == Some(ran),
         Call::Keeps(_, count) => seat.kept() == count,
+        Call::Began(_, range, answer) => first_byte(desk, seat, range) == answer,
         _ => false,
     }
 }
@@ -151,6 +165,13 @@ fn is_answered<N: Name, W: CloseOnDrop, R: Threads + Wait + Abort + Sync>(
             told == Ok(worked) && gate.was_passed_by(targets.len())
         }
         Call::Share(_, gained) => desk.share(rt, seat).ok() == Some(gained),
+        Call::Brought(_, at, gained) => desk.bring(rt, seat) == Ok(Shared { at, gained }),
+        Call::Over(_, place, answer) => desk.edit_by(rt, seat, &FirstOver { place }) == answer,
+        Call::Appended(_, count, answer) => {
+            let input = fire();
+            desk.edit_by(rt, seat, &Append { input, count }) == answer
+        }
+        Call::Told(_, range, at, text) => is_told(rt, alloc, desk, seat, range, (at, text)),
         Call::Exported(_, (from, to), workers, at, played) => {
             let bytes = to.saturating_sub(from).saturating_mul(100_815);
             let told = export_by(rt, alloc, desk, seat, (from, to), workers);
@@ -181,6 +202,11 @@ fn caller(call: Call) -> u32 {
         | Call::Share(seat, ..)
         | Call::Exported(seat, ..)
         | Call::OutOfRange(seat, ..)
+        | Call::Over(seat, ..)
+        | Call::Appended(seat, ..)
+        | Call::Told(seat, ..)
+        | Call::Began(seat, ..)
+        | Call::Brought(seat, ..)
         | Call::Keeps(seat, _) => seat,
         Call::Meet(_) | Call::Whole(..) => 0,
     }

@@ -26,6 +26,10 @@ pub const WAITING: &[u8] = b"\xAD\x80\x02\x65\x80\x85\x80\x85\x09\x85\x02\x4C\x0
 pub const BRIEF_FOLDING: &[u8] =
     b"\xA5\x80\x2A\x4D\x80\x02\x69\xF5\x85\x80\x85\x09\xA2\x24\x85\x02\xCA\xD0\xFB\xA9\x02\x85\x00\xA9\x00\x85\x00\x4C\x00\xF0";
 
+/// `000=E680A9028500A90085004C00F0 FFC=00F0`: adds 1 to the first byte of memory and ends the frame by vertical sync. So this byte says how
+/// many frames were played.
+pub const COUNTING: &[u8] = b"\xE6\x80\xA9\x02\x85\x00\xA9\x00\x85\x00\x4C\x00\xF0";
+
 /// The halt of the second program.
 pub const HALT: Halt = Halt::Undocumented {
     at: 0xF00D,

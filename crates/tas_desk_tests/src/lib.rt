@@ -31,6 +31,10 @@ mod model;
 #[cfg(test)]
 mod pictures;
 #[cfg(test)]
+mod plan_tests;
+#[cfg(test)]
+mod plans;
+#[cfg(test)]
 mod replays;
 #[cfg(test)]
 mod schedule_callers;

@@ -242,6 +242,8 @@ impl Lent for Million {
             let edit = edit_of(rt, alloc, change);
             let answer = session.edit(rt, 4, made, edit);
             check_same(rt, ("after", change, made), answer, Err(error));
+            let turn = session.check_turn(4, made);
+            check_same(rt, ("turn", made), turn, Err(error));
         }
     }
 }

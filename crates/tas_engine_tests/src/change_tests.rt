@@ -9,7 +9,7 @@ use tas_movie::{Edit, Inputs, MAX_FRAMES, Movie, apply, check, read_frame};
 use vcs_machine::Input;
 
 /// The inputs that letters stand for.
-fn inputs_of<R: Abort>(rt: &R, alloc: Global, letters: &str) -> Vec<Input> {
+pub fn inputs_of<R: Abort>(rt: &R, alloc: Global, letters: &str) -> Vec<Input> {
     let mut list = Vec::new(alloc);
     for letter in letters.bytes() {
         let input = expect_some(rt, read_frame(frame_of(letter)));
@@ -28,7 +28,7 @@ fn movie_of<R: Abort>(rt: &R, alloc: Global, letters: &str) -> Movie {
 }
 
 /// The script between two movies.
-fn script_between<R: Abort>(rt: &R, alloc: Global, old: &Movie, new: &Movie) -> Vec<u8> {
+pub fn script_between<R: Abort>(rt: &R, alloc: Global, old: &Movie, new: &Movie) -> Vec<u8> {
     let changes = expect_ok(rt, changes_between(alloc, old.inputs(), new.inputs()));
     expect_ok(rt, print_changes(alloc, changes.as_slice()))
 }
@@ -150,7 +150,7 @@ fn differences_read_as_by_hand(rt: HostRuntime) {
 }
 
 /// The letter of a frame in a pattern of forty frames, again and again.
-fn pattern_letter(frame: usize) -> u8 {
+pub fn pattern_letter(frame: usize) -> u8 {
     if frame % 40 < 17 {
         return b'.';
     }
@@ -182,7 +182,7 @@ fn longest<R: Abort>(rt: &R, alloc: Global, first: &[u8]) -> Vec<u8> {
 }
 
 /// The movie of these letters.
-fn movie_of_bytes<R: Abort>(rt: &R, alloc: Global, letters: &[u8]) -> Movie {
+pub fn movie_of_bytes<R: Abort>(rt: &R, alloc: Global, letters: &[u8]) -> Movie {
     let mut list = Vec::new(alloc);
     for letter in letters {
         let input = expect_some(rt, read_frame(frame_of(*letter)));

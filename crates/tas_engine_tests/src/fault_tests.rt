@@ -3,7 +3,7 @@
 use crate::checks::{check_same, expect_ok};
 use std::alloc::Global;
 use std::process::Abort;
-use tas_engines::{ReadFault, RunFault, ToolFault};
+use tas_engines::{ReadFault, RunFault, SeatFault, ToolFault};
 use tas_movie::{TextError, TextErrorKind};
 
 /// Fails where a fault is told by another line.
@@ -68,6 +68,29 @@ fn faults_read_as_their_lines(rt: HostRuntime) {
     let alloc = rt.alloc();
     for (fault, line) in LINES.iter() {
         check_line(&rt, alloc, *fault, *line);
+    }
+}
+
+/// How a seat's conversation ended, and the line that tells of it.
+static SEAT_LINES: [(u32, SeatFault, &str); 6] = [
+    (0, SeatFault::NotOpened, "fault: seat 0: not opened"),
+    (7, SeatFault::Read, "fault: seat 7: read failed"),
+    (
+        1,
+        SeatFault::Write { written: 20 },
+        "fault: seat 1: write failed after 20 bytes",
+    ),
+    (2, SeatFault::Memory, "fault: seat 2: out of memory"),
+    (3, SeatFault::NoEntry, "fault: seat 3: no entry"),
+    (4, SeatFault::Foreign, "fault: seat 4: foreign edit"),
+];
+
+#[test]
+fn faults_of_seats_read_as_their_lines(rt: HostRuntime) {
+    let alloc = rt.alloc();
+    for (seat, fault, line) in SEAT_LINES.iter() {
+        let (seat, fault) = (*seat, *fault);
+        check_line(&rt, alloc, ToolFault::Seat { seat, fault }, *line);
     }
 }
 

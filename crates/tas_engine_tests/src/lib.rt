@@ -12,6 +12,10 @@ mod engine_tests;
 #[cfg(test)]
 mod fault_tests;
 #[cfg(test)]
+mod history_tests;
+#[cfg(test)]
+mod hunk_tests;
+#[cfg(test)]
 mod lag_tests;
 #[cfg(test)]
 mod look_tests;

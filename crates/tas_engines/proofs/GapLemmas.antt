@@ -1,337 +1,17 @@
--- The changes of one gap: insertions, a deletion before them, or replacements.
-use Rattle.std.proofs.Common.{◌≡◌, ℕ, zero, suc, ◌+◌, ◌-◌, ◌<◌, ◌≤◌, Bool, cond, eqb, List, [], ◌∷◌, ◌++◌, length, take, drop, get_or, refl, sym, ap, subst, inl, inr, ◌∙◌, arith, append_assoc}
-use Rattle.std.specs.Prelude.{replicate, Some, slice_get}
-use Rattle.std.specs.List.{flat_map}
-use Rattle.std.proofs.lemmas.Bool.{eq-eqb}
-use Rattle.std.proofs.lemmas.List.{length-replicate, length-drop, length-take-le, take-take, take-append-drop, drop_more, drop-take, append-nil, get_or-take, get_or-drop, take_rest}
-use lib.Seq.{take-append_seam, drop-append-add, drop-drop}
-use Rattle.vcs_machine.specs.Input.{no_input}
+-- Gaps, and what leads over them.
+use Rattle.std.proofs.Common.{◌≡◌, ℕ, ◌+◌, ◌-◌, ◌<◌, ◌≤◌, List, [], ◌++◌, length, take, drop, refl, sym, ap, subst, ◌∙◌, arith, append_assoc}
+use Rattle.std.proofs.lemmas.List.{length-drop, length-take-le, take-take, drop-take, append-nil}
+use lib.Seq.{drop-drop}
 use Rattle.vcs_machine.specs.declared.input.Input.{Input}
-use Rattle.tas_movie.specs.Content.{MovieContent, most_inputs}
-use Rattle.tas_movie.specs.declared.run.FrameRun.{FrameRun}
-use Rattle.tas_movie.specs.Runs.{run_inputs, runs_of, BeginOtherwise, AreLongest}
-use Rattle.tas_movie.proofs.RunLemmas.{runs_longest, runs_made, runs_split, length-runs}
+use Rattle.tas_movie.specs.Runs.{runs_of}
 use Rattle.tas_movie.specs.Front.{IsCommonFront}
 use Rattle.tas_language.specs.declared.change.Change.{Change}
-use Rattle.tas_language.specs.declared.change.Change.TheVariants.{Insert, Replace, Delete}
-use Rattle.tas_engines.specs.Changes.{changed_by, AreAllowed}
-use Rattle.tas_engines.specs.Differences.{IsCommonEnd, taken_out, put_in, count_of, Follows, AreInOrder, put_in_from, DeletionsDiffer, ChangeTheirEnds, IsDifference}
+use Rattle.tas_engines.specs.Differences.{IsCommonEnd}
 use Rattle.tas_engines.specs.declared.anchors.Anchor.{Anchor}
 use Rattle.tas_engines.specs.declared.comparing.Gap.{Gap}
-use Rattle.tas_engines.specs.Hunks.{halfway, Leads, IsGapOf, AddsHunk, GoesOn, IsCommonFrom, AddsReplacement, deletion, insertions}
-use Rattle.tas_engines.proofs.ChangeLemmas.{movie_of}
-use Rattle.tas_engines.proofs.HunkLemmas.{led_nowhere, led_on, led_further, led_same, led_within, led_by_deletion, led_by_replacement, led_by_insertion}
-
--- ---- insertions of runs
-
-insertions_in_order : (at : ℕ) (runs : List FrameRun) → AreLongest runs → AreInOrder (insertions at runs)
-unfolding AreLongest BeginOtherwise AreInOrder
-insertions_in_order at [] h = tt
-insertions_in_order at (r ∷ []) h = h.0
-insertions_in_order at (r ∷ q ∷ runs) h = (h.0, record { later = omega arith; touching = λ e. h.1 }, insertions_in_order (at + r.count) (q ∷ runs) h.2)
-
-deleted_in_order : (at gone : ℕ) (runs : List FrameRun) → 1 ≤ gone → AreLongest runs → AreInOrder (Delete at gone ∷ insertions at runs)
-unfolding AreInOrder
-deleted_in_order at gone [] some h = some
-deleted_in_order at gone (r ∷ runs) some h = (some, record { later = omega arith; touching = λ e. tt }, insertions_in_order at (r ∷ runs) h)
-
-insertions_put_in : (at : ℕ) (runs : List FrameRun) → put_in_from at (insertions at runs) ≡ length (flat_map run_inputs runs)
-unfolding put_in_from
-insertions_put_in at [] = refl
-insertions_put_in at (r ∷ runs) =
-    ap (λ (b : Bool). cond b (r.count + put_in_from (at + r.count) (insertions (at + r.count) runs)) 0) (eq-eqb at at refl)
-    ∙ ap (λ (n : ℕ). r.count + n) (insertions_put_in (at + r.count) runs) ∙ sym (length-runs r runs)
-
-insertions_delete_none : (at : ℕ) (runs : List FrameRun) → DeletionsDiffer (insertions at runs)
-unfolding DeletionsDiffer
-insertions_delete_none at [] = tt
-insertions_delete_none at (r ∷ runs) = insertions_delete_none (at + r.count) runs
-
-deletion_differs : (at gone : ℕ) (runs : List FrameRun) → (length (flat_map run_inputs runs) ≡ gone → ⊥) → DeletionsDiffer (Delete at gone ∷ insertions at runs)
-unfolding DeletionsDiffer
-deletion_differs at gone runs ne = (λ e. ne (sym (insertions_put_in at runs) ∙ e), insertions_delete_none at runs)
-
-take_first : (n : ℕ) (p q : List Input) → length p ≡ n → take n (p ++ q) ≡ p
-take_first n p q len = subst (λ (k : ℕ). take k (p ++ q) ≡ p) len (take-append_seam p q)
-
-drop_first : (n : ℕ) (p q : List Input) → length p ≡ n → drop n (p ++ q) ≡ q
-drop_first n p q len = let more : length p + 0 ≡ n = omega (arith, len) in subst (λ (k : ℕ). drop k (p ++ q) ≡ q) more (drop-append-add p q 0)
-
-first_run : (n m : ℕ) (input : Input) (xs rest : List Input) → take (n + m) xs ≡ replicate n input ++ rest → take n xs ≡ replicate n input
-first_run n m input xs rest is =
-    let le : n ≤ n + m = omega arith in
-    sym (take-take n (n + m) xs le) ∙ ap (take n) is ∙ take_first n (replicate n input) rest (length-replicate n input)
-
-other_runs : (n m : ℕ) (input : Input) (xs rest : List Input) → take (n + m) xs ≡ replicate n input ++ rest → take m (drop n xs) ≡ rest
-other_runs n m input xs rest is = sym (drop-take n m xs) ∙ ap (drop n) is ∙ drop_first n (replicate n input) rest (length-replicate n input)
-
-some_run : (run : FrameRun) (runs : List FrameRun) → AreLongest (run ∷ runs) → 1 ≤ run.count
-unfolding AreLongest
-some_run run runs h = h.0
-
-others_longest : (run : FrameRun) (runs : List FrameRun) → AreLongest (run ∷ runs) → AreLongest runs
-unfolding AreLongest
-others_longest run runs h = h.2
-
-led_by_runs : (old new : List Input) (a b b' to : ℕ) (runs : List FrameRun) → AreLongest runs → b + length (flat_map run_inputs runs) ≡ b' → take (length (flat_map run_inputs runs)) (drop b new) ≡ flat_map run_inputs runs
-    → b' ≤ length new → b' < to → length new ≤ most_inputs → b' + (length old - a) ≤ most_inputs → Leads old new a b a b' to (insertions b runs)
-led_by_runs old new a b b' to [] longest is same within lt short room =
-    let there : b ≡ b' = omega (arith, is) in
-    subst (λ (k : ℕ). Leads old new a b a k to []) there (led_nowhere old new a b to)
-led_by_runs old new a b b' to (run ∷ runs) longest is same within lt short room =
-    let n = run.count in
-    let m = length (flat_map run_inputs runs) in
-    let len = length-runs run runs in
-    let whole : take (run.count + length (flat_map run_inputs runs)) (drop b new) ≡ replicate run.count run.input ++ flat_map run_inputs runs = ap (λ (k : ℕ). take k (drop b new)) (sym len) ∙ same in
-    let further : b + run.count + length (flat_map run_inputs runs) ≡ b' = omega (arith, is, len) in
-    led_on old new a b a (b + n) a b' (b + n + 1) to (Insert b n run.input ∷ []) (insertions (b + n) runs)
-    (led_by_insertion old new a b n (b + n + 1) run.input (some_run run runs longest) (omega (arith, further, within)) (omega arith) short (omega (arith, further, room)) (first_run n m run.input (drop b new) (flat_map run_inputs runs) whole))
-    (led_by_runs old new a (b + n) b' to runs (others_longest run runs longest) further
-    (ap (take m) (sym (drop-drop n b new)) ∙ other_runs n m run.input (drop b new) (flat_map run_inputs runs) whole) within lt short room)
-    (omega (arith, further, lt)) (insertions_in_order b (run ∷ runs) longest) (insertions_delete_none b (run ∷ runs))
-
--- ---- the runs from a place on, up to another one
-
-abbrev pub between : List Input → ℕ → ℕ → List Input
-between new from to = take (to - from) (drop from new)
-
-pub none_left : (new : List Input) (at to : ℕ) → to ≤ at → insertions at (runs_of (between new at to)) ≡ []
-unfolding runs_of
-none_left new at to le =
-    let zero_left : to - at ≡ 0 = omega (arith, le) in
-    ap (λ (n : ℕ). insertions at (runs_of (take n (drop at new)))) zero_left
-
-pub length-between : (new : List Input) (from to : ℕ) → from ≤ to → to ≤ length new → length (between new from to) ≡ to - from
-length-between new from to le within = length-take-le (to - from) (drop from new) (omega (arith, within, le, length-drop from new))
-
--- the first of them is an insertion as long as it can be
-pub first_insertion : (new : List Input) (at to more : ℕ) (input : Input) → at < to → to ≤ length new → get_or new at no_input ≡ input
-    → take more (between new (at + 1) to) ≡ replicate more input → more ≤ to - (at + 1)
-    → (more < length (between new (at + 1) to) → slice_get (between new (at + 1) to) more ≡ Some input → ⊥)
-    → insertions at (runs_of (between new at to)) ≡ Insert at (1 + more) input ∷ insertions (at + (1 + more)) (runs_of (between new (at + (1 + more)) to))
-first_insertion new at to more input lt within is same fits longest =
-    let rest : List Input = between new (at + 1) to in
-    let next : to - at ≡ suc (to - (at + 1)) = omega (arith, lt) in
-    let parts : between new at to ≡ input ∷ rest =
-    ap (λ (n : ℕ). take n (drop at new)) next ∙ ap (take (suc (to - (at + 1)))) (drop_more new at no_input (omega (arith, lt, within)) ∙ ap (λ (i : Input). i ∷ drop (at + 1) new) is) in
-    let split : runs_of (input ∷ rest) ≡ record { input = input; count = suc more } ∷ runs_of (drop (suc more) (input ∷ rest)) =
-    runs_split (input ∷ rest) input (suc more) (omega arith) (ap (λ (l : List Input). input ∷ l) same) (λ below here. longest (omega (arith, below)) here) in
-    let left : more + (to - (at + (1 + more))) ≡ to - (at + 1) = omega (arith, fits) in
-    let onward : (at + 1) + more ≡ at + (1 + more) = omega arith in
-    let further : drop more rest ≡ between new (at + (1 + more)) to =
-    ap (λ (n : ℕ). drop more (take n (drop (at + 1) new))) (sym left)
-    ∙ drop-take more (to - (at + (1 + more))) (drop (at + 1) new)
-    ∙ ap (take (to - (at + (1 + more)))) (drop-drop more (at + 1) new ∙ ap (λ (n : ℕ). drop n new) onward) in
-    let count : suc more ≡ 1 + more = omega arith in
-    ap (λ (l : List Input). insertions at (runs_of l)) parts ∙ ap (insertions at) split
-    ∙ ap (λ (l : List Input). insertions at (record { input = input; count = suc more } ∷ runs_of l)) further
-    ∙ ap (λ (n : ℕ). Insert at n input ∷ insertions (at + n) (runs_of (between new (at + (1 + more)) to))) count
-
--- ---- a deletion, if any inputs go, and insertions
-
-pub led_by_hunk : (old new : List Input) (a b gone b' : ℕ) → b ≤ b' → a + gone ≤ length old → b' ≤ length new → length old ≤ most_inputs → length new ≤ most_inputs
-    → b' + (length old - (a + gone)) ≤ most_inputs → (b' - b ≡ gone → ⊥) → Leads old new a b (a + gone) b' (b' + 1) (deletion b gone ++ insertions b (runs_of (between new b b')))
-led_by_hunk old new a b gone b' le fits within short short' room ne = go gone fits room ne
-  where
-    runs : List FrameRun
-    runs = runs_of (between new b b')
-
-    made : flat_map run_inputs runs ≡ between new b b'
-    made = runs_made (between new b b')
-
-    len : length (flat_map run_inputs runs) ≡ b' - b
-    len = ap length made ∙ length-between new b b' le within
-
-    led : (a1 : ℕ) → b' + (length old - a1) ≤ most_inputs → Leads old new a1 b a1 b' (b' + 1) (insertions b runs)
-    led a1 room = led_by_runs old new a1 b b' (b' + 1) runs (runs_longest (between new b b')) (omega (arith, len, le)) (ap (λ (n : ℕ). take n (drop b new)) len ∙ sym made) within (omega arith) short' room
-
-    go : (gone : ℕ) → a + gone ≤ length old → b' + (length old - (a + gone)) ≤ most_inputs → (b' - b ≡ gone → ⊥) → Leads old new a b (a + gone) b' (b' + 1) (deletion b gone ++ insertions b runs)
-    go zero fits room ne =
-        let stays : a ≡ a + 0 = omega arith in
-        subst (λ (k : ℕ). Leads old new k b (a + 0) b' (b' + 1) (insertions b runs)) (sym stays) (led (a + 0) room)
-    go (suc n) fits room ne =
-        led_on old new a b (a + suc n) b (a + suc n) b' (b + 1) (b' + 1) (Delete b (suc n) ∷ []) (insertions b runs)
-        (led_by_deletion old new a b (suc n) (b + 1) (omega arith) fits (omega (arith, le, within)) (omega arith) short short')
-        (led (a + suc n) room) (omega (arith, le)) (deleted_in_order b (suc n) runs (omega arith) (runs_longest (between new b b'))) (deletion_differs b (suc n) runs (λ e. ne (sym len ∙ e)))
-
--- ---- replacements
-
-abbrev pub Last : (Change → Type 0) → List Change → Type 0
-Last P [] = Unit {0}
-Last P (c ∷ []) = P c
-Last P (c ∷ d ∷ cs) = Last P (d ∷ cs)
-
-last_more : (P : Change → Type 0) (cs : List Change) (c : Change) → P c → Last P (cs ++ c ∷ [])
-last_more P [] c p = p
-last_more P (x ∷ []) c p = p
-last_more P (x ∷ y ∷ cs) c p = last_more P (y ∷ cs) c p
-
-last_map : (P Q : Change → Type 0) (cs : List Change) → ((c : Change) → P c → Q c) → Last P cs → Last Q cs
-last_map P Q [] f h = tt
-last_map P Q (c ∷ []) f h = f c h
-last_map P Q (c ∷ d ∷ cs) f h = last_map P Q (d ∷ cs) f h
-
-order_more : (cs : List Change) (c : Change) → AreInOrder cs → Last (λ (x : Change). Follows x c) cs → 1 ≤ count_of c → AreInOrder (cs ++ c ∷ [])
-unfolding AreInOrder
-order_more [] c h last some = some
-order_more (x ∷ []) c h last some = (h, last, some)
-order_more (x ∷ y ∷ cs) c h last some = (h.0, h.1, order_more (y ∷ cs) c h.2 last some)
-
-in_from_more : (place : ℕ) (cs : List Change) (at n : ℕ) (input : Input) → put_in_from place (cs ++ Replace at n input ∷ []) ≡ put_in_from place cs
-unfolding put_in_from
-in_from_more place [] at n input = refl
-in_from_more place (Insert a k i ∷ cs) at n input = ap (λ (more : ℕ). cond (eqb place a) (k + more) 0) (in_from_more (a + k) cs at n input)
-in_from_more place (Replace a k i ∷ cs) at n input = refl
-in_from_more place (Delete a k ∷ cs) at n input = refl
-
-deletions_more : (cs : List Change) (at n : ℕ) (input : Input) → DeletionsDiffer cs → DeletionsDiffer (cs ++ Replace at n input ∷ [])
-unfolding DeletionsDiffer
-deletions_more [] at n input h = tt
-deletions_more (Insert a k i ∷ cs) at n input h = deletions_more cs at n input h
-deletions_more (Replace a k i ∷ cs) at n input h = deletions_more cs at n input h
-deletions_more (Delete a k ∷ cs) at n input h = (λ e. h.0 (sym (in_from_more a cs at n input) ∙ e), deletions_more cs at n input h.1)
-
--- the replacement ends before the place b or there, and there only where it can't be one input more
-abbrev OpenEnd : (old new : List Input) (a b end : ℕ) → Change → Type 0
-OpenEnd old new a b end (Insert at count input) = ⊥
-OpenEnd old new a b end (Replace at count input) = (at + count ≤ b) × (at + count ≡ b → b < end → get_or new b no_input ≡ input → get_or old a no_input ≡ input)
-OpenEnd old new a b end (Delete at count) = ⊥
-
--- replacements came after changes, and `done` inputs of a gap are done
-pub record Replacing (old new : List Input) (a b end done : ℕ) (before now : List Change) : Type 0 where
-  pub changes : List Change
-  pub is : now ≡ before ++ changes
-  pub leads : Leads old new a b (a + done) (b + done) (b + done + 1) changes
-  pub last : Last (OpenEnd old new (a + done) (b + done) end) changes
-
-pub replacing_none : (old new : List Input) (a b end : ℕ) (before : List Change) → Replacing old new a b end 0 before before
-replacing_none old new a b end before = record {
-  changes = [];
-  is = sym (append-nil before);
-  leads = led_same old new a b a b 0 (b + 0 + 1) [] (led_nowhere old new a b (b + 0 + 1)) refl;
-  last = tt;
-}
-
-one_more : (old new : List Input) (a b : ℕ) → a < length old → b < length new → get_or old a no_input ≡ get_or new b no_input → take 1 (drop a old) ≡ take 1 (drop b new)
-one_more old new a b lt lt' same =
-    ap (take 1) (drop_more old a no_input lt) ∙ ap (λ (i : Input). i ∷ []) same ∙ sym (ap (take 1) (drop_more new b no_input lt'))
-
--- reading a part of a list
-pub part_at : (xs : List Input) (from size i : ℕ) → i < size → get_or (take size (drop from xs)) i no_input ≡ get_or xs (from + i) no_input
-part_at xs from size i lt = get_or-take size (drop from xs) i no_input lt ∙ get_or-drop from xs i no_input
-
-part_first : (xs : List Input) (from size : ℕ) → 0 < size → get_or (take size (drop from xs)) 0 no_input ≡ get_or xs from no_input
-part_first xs from size lt = let here : from + 0 ≡ from = omega arith in part_at xs from size 0 lt ∙ ap (λ (k : ℕ). get_or xs k no_input) here
-
--- a gap in which as many inputs come as go, of which some are left
-pub record LeftToReplace (old new : List Input) (a b end done left : ℕ) : Type 0 where
-  pub some : 0 < left
-  pub old_within : a + done + left ≤ length old
-  pub new_within : b + done + left ≡ end
-  pub new_end : end ≤ length new
-  pub short : length old ≤ most_inputs
-  pub short_new : length new ≤ most_inputs
-
-replacing_same : (old new : List Input) (a b end done left : ℕ) (before now : List Change) → LeftToReplace old new a b end done left → Replacing old new a b end done before now
-    → get_or old (a + done) no_input ≡ get_or new (b + done) no_input → Replacing old new a b end (done + 1) before now
-replacing_same old new a b end done left before now g r same =
-    let some = g.some in
-    let old_within = g.old_within in
-    let new_within = g.new_within in
-    let new_end = g.new_end in
-    let old_next : a + done + 1 ≡ a + (done + 1) = omega arith in
-    let new_next : b + done + 1 ≡ b + (done + 1) = omega arith in
-    let one = one_more old new (a + done) (b + done) (omega (arith, some, old_within)) (omega (arith, some, new_within, new_end)) same in
-    let led = led_within old new a b (a + done + 1) (b + done + 1) (b + done + 1) (b + (done + 1) + 1) r.changes (led_same old new a b (a + done) (b + done) 1 (b + done + 1) r.changes r.leads one) (omega arith) in
-    record {
-      changes = r.changes;
-      is = r.is;
-      leads = subst (λ (k : ℕ). Leads old new a b k (b + (done + 1)) (b + (done + 1) + 1) r.changes) old_next (subst (λ (k : ℕ). Leads old new a b (a + done + 1) k (b + (done + 1) + 1) r.changes) new_next led);
-      last = last_map (OpenEnd old new (a + done) (b + done) end) (OpenEnd old new (a + (done + 1)) (b + (done + 1)) end) r.changes shut r.last;
-    }
-  where
-    shut : (c : Change) → OpenEnd old new (a + done) (b + done) end c → OpenEnd old new (a + (done + 1)) (b + (done + 1)) end c
-    shut (Insert at count input) h = h
-    shut (Replace at count input) h = let le = h.0 in (omega (arith, le), λ e lt is. absurd (omega (arith, le, e)))
-    shut (Delete at count) h = h
-
-replacing_other : (old new : List Input) (a b end done left n : ℕ) (input : Input) (before now : List Change) → LeftToReplace old new a b end done left → Replacing old new a b end done before now
-    → 1 ≤ n → n ≤ left → take n (drop (b + done) new) ≡ replicate n input → get_or new (b + done) no_input ≡ input → (get_or old (a + done) no_input ≡ input → ⊥) → (get_or old (a + done + (n - 1)) no_input ≡ input → ⊥)
-    → (n < left → get_or new (b + done + n) no_input ≡ input → get_or old (a + done + n) no_input ≡ input)
-    → Replacing old new a b end (done + n) before (now ++ Replace (b + done) n input ∷ [])
-replacing_other old new a b end done left n input before now g r some fits run begins first last longest =
-    let old_within = g.old_within in
-    let new_within = g.new_within in
-    let new_end = g.new_end in
-    let short = g.short in
-    let short_new = g.short_new in
-    let c = Replace (b + done) n input in
-    let old_next : a + done + n ≡ a + (done + n) = omega arith in
-    let new_next : b + done + n ≡ b + (done + n) = omega arith in
-    let one = led_by_replacement old new (a + done) (b + done) n (b + (done + n) + 1) input some (omega (arith, fits, old_within)) (omega (arith, fits, new_within, new_end)) (omega arith) short short_new run first last in
-    let led = led_on old new a b (a + done) (b + done) (a + done + n) (b + done + n) (b + done + 1) (b + (done + n) + 1) r.changes (c ∷ []) r.leads one (omega arith)
-    (order_more r.changes c r.leads.order (last_map (OpenEnd old new (a + done) (b + done) end) (λ (x : Change). Follows x c) r.changes follows r.last) some)
-    (deletions_more r.changes (b + done) n input r.leads.deletions) in
-    record {
-      changes = r.changes ++ c ∷ [];
-      is = ap (λ (l : List Change). l ++ c ∷ []) r.is ∙ append_assoc before r.changes (c ∷ []);
-      leads = subst (λ (k : ℕ). Leads old new a b k (b + (done + n)) (b + (done + n) + 1) (r.changes ++ c ∷ [])) old_next
-          (subst (λ (k : ℕ). Leads old new a b (a + done + n) k (b + (done + n) + 1) (r.changes ++ c ∷ [])) new_next led);
-      last = last_more (OpenEnd old new (a + (done + n)) (b + (done + n)) end) r.changes c (omega arith, λ e lt is. go lt is);
-    }
-  where
-    follows : (x : Change) → OpenEnd old new (a + done) (b + done) end x → Follows x (Replace (b + done) n input)
-    follows (Insert at count other) h = absurd h
-    follows (Replace at count other) h =
-        let inside = g.new_within in
-        let some_left = g.some in
-        record { later = h.0; touching = λ e same. first (h.1 e (omega (arith, inside, some_left)) (begins ∙ sym same) ∙ same) }
-    follows (Delete at count) h = absurd h
-
-    go : b + (done + n) < end → get_or new (b + (done + n)) no_input ≡ input → get_or old (a + (done + n)) no_input ≡ input
-    go lt is =
-        let inside = g.new_within in
-        let old_next : a + done + n ≡ a + (done + n) = omega arith in
-        let new_next : b + (done + n) ≡ b + done + n = omega arith in
-        ap (λ (k : ℕ). get_or old k no_input) (sym old_next) ∙ longest (omega (arith, lt, inside)) (ap (λ (k : ℕ). get_or new k no_input) (sym new_next) ∙ is)
-
--- what the next of the inputs add
-pub replacing_next : (old new : List Input) (a b end done left n : ℕ) (before now after : List Change) → LeftToReplace old new a b end done left → Replacing old new a b end done before now
-    → AddsReplacement (take left (drop (a + done) old)) (take left (drop (b + done) new)) (b + done) n now after
-    → Replacing old new a b end (done + n) before after × (1 ≤ n) × (n ≤ left)
-replacing_next old new a b end done left n before now after g r (inl same) =
-    let some = g.some in
-    let one = same.0 in
-    let heads = sym (part_first old (a + done) left some) ∙ same.2 ∙ part_first new (b + done) left some in
-    let next = subst (λ (l : List Change). Replacing old new a b end (done + 1) before l) (sym same.1) (replacing_same old new a b end done left before now g r heads) in
-    (subst (λ (k : ℕ). Replacing old new a b end (done + k) before after) (sym one) next, omega (arith, one), omega (arith, one, some))
-replacing_next old new a b end done left n before now after g r (inr other) =
-    let some = g.some in
-    let old_within = g.old_within in
-    let new_within = g.new_within in
-    let new_end = g.new_end in
-    let part_old : List Input = take left (drop (a + done) old) in
-    let part_new : List Input = take left (drop (b + done) new) in
-    let input : Input = get_or part_new 0 no_input in
-    let run = other.2 in
-    let len : length (take left (drop (b + done) new)) ≡ left = length-take-le left (drop (b + done) new) (omega (arith, new_within, new_end, length-drop (b + done) new)) in
-    let fits : n ≤ left = let within = run.within in omega (arith, within, len) in
-    let first : get_or old (a + done) no_input ≡ input → ⊥ = λ e. other.1 (part_first old (a + done) left some ∙ e) in
-    let many : 1 ≤ n = at_least n run.longest (omega (arith, len, some)) other.1 in
-    let last : get_or old (a + done + (n - 1)) no_input ≡ input → ⊥ = λ e. run.last many (part_at old (a + done) left (n - 1) (omega (arith, many, fits)) ∙ e) in
-    let further : n < left → get_or new (b + done + n) no_input ≡ input → get_or old (a + done + n) no_input ≡ input =
-    λ lt e. sym (part_at old (a + done) left n lt) ∙ run.longest (omega (arith, lt, len)) (part_at new (b + done) left n lt ∙ e) in (
-      subst (λ (l : List Change). Replacing old new a b end (done + n) before l) (sym other.0)
-          (replacing_other old new a b end done left n input before now g r many fits (sym (take-take n left (drop (b + done) new) fits) ∙ run.same) (sym (part_first new (b + done) left some)) first last further),
-      many,
-      fits,
-    )
-  where
-    at_least : (n : ℕ) → (n < length (take left (drop (b + done) new)) → get_or (take left (drop (b + done) new)) n no_input ≡ get_or (take left (drop (b + done) new)) 0 no_input
-        → get_or (take left (drop (a + done) old)) n no_input ≡ get_or (take left (drop (b + done) new)) 0 no_input)
-        → 0 < length (take left (drop (b + done) new)) → (get_or (take left (drop (a + done) old)) 0 no_input ≡ get_or (take left (drop (b + done) new)) 0 no_input → ⊥) → 1 ≤ n
-    at_least zero longest lt ne = absurd (ne (longest lt refl))
-    at_least (suc n) longest lt ne = omega arith
+use Rattle.tas_engines.specs.Hunks.{Leads, IsGapOf, AddsHunk, GoesOn, IsCommonFrom, deletion, insertions}
+use Rattle.tas_engines.proofs.HunkLemmas.{led_nowhere, led_further, led_same, led_within}
+use Rattle.tas_engines.proofs.GapSteps.{between, led_by_hunk, Replacing, LeftToReplace}
 
 -- ---- a gap
 
@@ -496,49 +176,52 @@ goes_on old new gap anchor same before after some c h = record {
   new_forward = c.new_ends;
 }
 
--- ---- the gaps of a difference
+-- ---- a hunk, from one gap to the next
 
--- changes lead from the common beginning to the beginning of a gap, after which both lists have their common end
-pub record Reached (old new : List Input) (front end : ℕ) (gap : Gap) (changes : List Change) : Type 0 where
-  pub gap_of : IsGapOf old new gap
-  pub old_end : gap.old_end ≡ length old - end
-  pub new_end : gap.new_end ≡ length new - end
-  pub leads : Leads old new front front gap.old gap.new gap.new changes
+-- the gap without the inputs with which both lists begin there
+abbrev pub later : Gap → ℕ → Gap
+later gap front = record { old = gap.old + front; old_end = gap.old_end; new = gap.new + front; new_end = gap.new_end }
 
-pub plain_end : (old new : List Input) (front end : ℕ) → IsCommonEnd (take (length old - front) (drop front old)) (take (length new - front) (drop front new)) end → IsCommonEnd (drop front old) (drop front new) end
-plain_end old new front end ends =
-    subst (λ (a : List Input). IsCommonEnd a (drop front new) end) (take_rest old front)
-    (subst (λ (b : List Input). IsCommonEnd (take (length old - front) (drop front old)) b end) (take_rest new front) ends)
-
-abbrev pub first_gap : List Input → List Input → ℕ → ℕ → Gap
-first_gap old new front end = record { old = front; old_end = length old - end; new = front; new_end = length new - end }
-
-pub reached_first : (old new : List Input) (front end : ℕ) → IsCommonFront old new front → IsCommonEnd (drop front old) (drop front new) end → length old ≤ most_inputs → length new ≤ most_inputs
-    → Reached old new front end (first_gap old new front end) []
-reached_first old new front end common ends short short_new =
-    let fits_old = ends.within_a in
-    let fits_new = ends.within_b in
-    let in_old = common.within_a in
-    let in_new = common.within_b in
+pub goes_first : (old new : List Input) (hunk : Gap) (front : ℕ) (before : List Change) → IsGapOf old new hunk
+    → IsCommonFront (take (hunk.old_end - hunk.old) (drop hunk.old old)) (take (hunk.new_end - hunk.new) (drop hunk.new new)) front → GoesOn old new hunk (later hunk front) before before
+goes_first old new hunk front before g common =
+    let within_a = common.within_a in
+    let within_b = common.within_b in
+    let old_forward = g.old_forward in
+    let new_forward = g.new_forward in
+    let fits_old : front ≤ hunk.old_end - hunk.old = omega (arith, within_a, length-part old hunk.old hunk.old_end g.old_forward g.old_within) in
+    let fits_new : front ≤ hunk.new_end - hunk.new = omega (arith, within_b, length-part new hunk.new hunk.new_end g.new_forward g.new_within) in
+    let same : take front (drop hunk.old old) ≡ take front (drop hunk.new new) =
+    sym (take-take front (hunk.old_end - hunk.old) (drop hunk.old old) fits_old) ∙ common.same ∙ take-take front (hunk.new_end - hunk.new) (drop hunk.new new) fits_new in
     record {
-      gap_of = record {
-        old_forward = omega (arith, fits_old, in_old, length-drop front old);
-        old_within = omega arith;
-        new_forward = omega (arith, fits_new, in_new, length-drop front new);
-        new_within = omega arith;
-        short = short;
-        short_new = short_new;
-        room = omega (arith, fits_old, fits_new, in_old, in_new, length-drop front old, length-drop front new, short_new);
-      };
+      changes = [];
+      is = sym (append-nil before);
+      leads = led_same old new hunk.old hunk.new hunk.old hunk.new front (hunk.new + front) [] (led_nowhere old new hunk.old hunk.new (hunk.new + front)) same;
       old_end = refl;
       new_end = refl;
-      leads = led_nowhere old new front front front;
+      old_forward = omega (arith, fits_old, old_forward);
+      new_forward = omega (arith, fits_new, new_forward);
     }
 
-pub reached_next : (old new : List Input) (front end : ℕ) (gap next : Gap) (before after : List Change) → Reached old new front end gap before → GoesOn old new gap next before after
-    → Reached old new front end next after
-reached_next old new front end gap next before after r n =
-    let g = r.gap_of in
+pub goes_further : (old new : List Input) (hunk gap next : Gap) (before now after : List Change) → GoesOn old new hunk gap before now → GoesOn old new gap next now after → GoesOn old new hunk next before after
+goes_further old new hunk gap next before now after g n =
+    let old_end = g.old_end in
+    let new_end = g.new_end in
+    let old_forward = n.old_forward in
+    let new_forward = n.new_forward in
+    let on = n.leads.new_forward in
+    record {
+      changes = g.changes ++ n.changes;
+      is = n.is ∙ ap (λ (l : List Change). l ++ n.changes) g.is ∙ append_assoc before g.changes n.changes;
+      leads = led_further old new hunk.old hunk.new gap.old gap.new next.old next.new gap.new next.new g.changes n.changes g.leads n.leads (omega arith) on;
+      old_end = n.old_end ∙ g.old_end;
+      new_end = n.new_end ∙ g.new_end;
+      old_forward = omega (arith, old_end, old_forward);
+      new_forward = omega (arith, new_end, new_forward);
+    }
+
+pub gap_further : (old new : List Input) (gap next : Gap) (before after : List Change) → IsGapOf old new gap → GoesOn old new gap next before after → IsGapOf old new next
+gap_further old new gap next before after g n =
     let old_end = n.old_end in
     let new_end = n.new_end in
     let old_forward = n.old_forward in
@@ -546,107 +229,22 @@ reached_next old new front end gap next before after r n =
     let old_within = g.old_within in
     let new_within = g.new_within in
     let room = g.room in
-    let on = n.leads.new_forward in
     record {
-      gap_of = record {
-        old_forward = omega (arith, old_end, old_forward);
-        old_within = omega (arith, old_end, old_within);
-        new_forward = omega (arith, new_end, new_forward);
-        new_within = omega (arith, new_end, new_within);
-        short = g.short;
-        short_new = g.short_new;
-        room = omega (arith, old_end, new_end, room);
-      };
-      old_end = old_end ∙ r.old_end;
-      new_end = new_end ∙ r.new_end;
-      leads = subst (Leads old new front front next.old next.new next.new) (sym n.is)
-          (led_further old new front front gap.old gap.new next.old next.new gap.new next.new before n.changes r.leads n.leads (omega arith) on);
+      old_forward = omega (arith, old_end, old_forward);
+      old_within = omega (arith, old_end, old_within);
+      new_forward = omega (arith, new_end, new_forward);
+      new_within = omega (arith, new_end, new_within);
+      short = g.short;
+      short_new = g.short_new;
+      room = omega (arith, old_end, new_end, room);
     }
 
--- ---- the whole difference
-
-whole_front : (old new : List Input) (front : ℕ) → IsCommonFront old new front → old ≡ new → front ≡ length old
-whole_front old new front common same =
-    let lens : length old ≡ length new = ap length same in
-    go (λ lt. common.longest lt (omega (arith, lens, lt)) (ap (λ (l : List Input). slice_get l front) same))
-  where
-    go : (front < length old → ⊥) → front ≡ length old
-    go h = let within = common.within_a in omega (arith, within, h)
-
-first_some : (c : Change) (cs : List Change) → AreInOrder (c ∷ cs) → 1 ≤ count_of c
-unfolding AreInOrder
-first_some c [] h = h
-first_some c (d ∷ cs) h = h.0
-
-nothing_changed : (cs : List Change) → AreInOrder cs → taken_out cs ≡ 0 → put_in cs ≡ 0 → cs ≡ []
-unfolding taken_out put_in
-nothing_changed [] h out into = refl
-nothing_changed (Insert at n input ∷ cs) h out into = let some = first_some (Insert at n input) cs h in absurd (omega (arith, some, into))
-nothing_changed (Replace at n input ∷ cs) h out into = let some = first_some (Replace at n input) cs h in absurd (omega (arith, some, out))
-nothing_changed (Delete at n ∷ cs) h out into = let some = first_some (Delete at n) cs h in absurd (omega (arith, some, out))
-
--- the ends of two lists that are the same after their common beginning
-same_ends : (old new : List Input) (front end : ℕ) → IsCommonFront old new front → IsCommonEnd (drop front old) (drop front new) end → drop (length old - end) old ≡ drop (length new - end) new
-same_ends old new front end common ends =
-    let fits_old = ends.within_a in
-    let fits_new = ends.within_b in
-    let in_old = common.within_a in
-    let in_new = common.within_b in
-    let to_old : front + (length (drop front old) - end) ≡ length old - end = omega (arith, fits_old, in_old, length-drop front old) in
-    let to_new : front + (length (drop front new) - end) ≡ length new - end = omega (arith, fits_new, in_new, length-drop front new) in
-    ap (λ (n : ℕ). drop n old) (sym to_old) ∙ sym (drop-drop (length (drop front old) - end) front old) ∙ ends.same ∙ drop-drop (length (drop front new) - end) front new ∙ ap (λ (n : ℕ). drop n new) to_new
-
-pub difference : (old new : List Input) (front end : ℕ) (changes : List Change) → IsCommonFront old new front → IsCommonEnd (drop front old) (drop front new) end
-    → Leads old new front front (length old - end) (length new - end) (length new - end + 1) changes → IsDifference old new changes
-difference old new front end changes common ends l = record {
-  allowed = λ cart. subst (λ (m : MovieContent). AreAllowed m changes) (starts cart) (l.allowed cart);
-  made = λ cart. ap (λ (m : MovieContent). changed_by m changes) (sym (starts cart)) ∙ l.made cart ∙ finishes cart;
-  between = record {
-    front = front;
-    end = end;
-    common_front = common;
-    common_end = ends;
-    out = let out = l.out in omega (arith, out, fits_old, in_old, length-drop front old);
-    into = let into = l.into in omega (arith, into, fits_new, in_new, length-drop front new);
-    places = l.within;
-  };
-  order = l.order;
-  deletions = l.deletions;
-  ends = λ cart. subst (λ (m : MovieContent). ChangeTheirEnds m changes) (starts cart) (l.ends cart);
-  numbers = l.numbers;
-  none = λ same.
-      let all = whole_front old new front common same in
-      let lens : length old ≡ length new = ap length same in
-      let out = l.out in
-      let into = l.into in
-      nothing_changed changes l.order (omega (arith, all, out)) (omega (arith, all, lens, into));
-}
-  where
-    fits_old : end ≤ length (drop front old)
-    fits_old = ends.within_a
-
-    fits_new : end ≤ length (drop front new)
-    fits_new = ends.within_b
-
-    in_old : front ≤ length old
-    in_old = common.within_a
-
-    in_new : front ≤ length new
-    in_new = common.within_b
-
-    starts : (cart : List ℕ) → halfway cart old new front front ≡ movie_of cart old
-    starts cart = ap (movie_of cart) (ap (λ (l : List Input). l ++ drop front old) (sym common.same) ∙ take-append-drop front old)
-
-    finishes : (cart : List ℕ) → halfway cart old new (length old - end) (length new - end) ≡ movie_of cart new
-    finishes cart =
-        ap (movie_of cart) (ap (λ (l : List Input). take (length new - end) new ++ l) (same_ends old new front end common ends) ∙ take-append-drop (length new - end) new)
-
-pub reached_last : (old new : List Input) (front end : ℕ) (gap : Gap) (before after : List Change) → IsCommonFront old new front → IsCommonEnd (drop front old) (drop front new) end
-    → Reached old new front end gap before → AddsHunk old new gap before after → IsDifference old new after
-reached_last old new front end gap before after common ends r h =
-    let forward = r.gap_of.new_forward in
-    let led = led_further old new front front gap.old gap.new gap.old_end gap.new_end gap.new (gap.new_end + 1) before h.0 r.leads h.2 (omega arith) (omega (arith, forward)) in
-    let there = subst (λ (k : ℕ). Leads old new front front k gap.new_end (gap.new_end + 1) (before ++ h.0)) r.old_end led in
-    difference old new front end after common ends
-    (subst (Leads old new front front (length old - end) (length new - end) (length new - end + 1)) (sym h.1)
-    (subst (λ (k : ℕ). Leads old new front front (length old - end) k (k + 1) (before ++ h.0)) r.new_end there))
+pub hunk_ends : (old new : List Input) (hunk gap : Gap) (before now after : List Change) → IsGapOf old new gap → GoesOn old new hunk gap before now → AddsHunk old new gap now after → AddsHunk old new hunk before after
+hunk_ends old new hunk gap before now after is_gap g h =
+    let forward = is_gap.new_forward in
+    let led = led_further old new hunk.old hunk.new gap.old gap.new gap.old_end gap.new_end gap.new (gap.new_end + 1) g.changes h.0 g.leads h.2 (omega arith) (omega (arith, forward)) in
+    let there = subst (λ (k : ℕ). Leads old new hunk.old hunk.new k gap.new_end (gap.new_end + 1) (g.changes ++ h.0)) g.old_end led in (
+      g.changes ++ h.0,
+      h.1 ∙ ap (λ (l : List Change). l ++ h.0) g.is ∙ append_assoc before g.changes h.0,
+      subst (λ (k : ℕ). Leads old new hunk.old hunk.new hunk.old_end k (k + 1) (g.changes ++ h.0)) g.new_end there,
+    )

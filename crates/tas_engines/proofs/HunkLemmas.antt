@@ -15,7 +15,7 @@ use Rattle.tas_language.specs.declared.change.Change.TheVariants.{Insert, Replac
 use Rattle.tas_engines.specs.Changes.{HaveNumbers, edit_of, changed_by, AreAllowed}
 use Rattle.tas_engines.specs.Differences.{taken_out, put_in, place_of, end_of, count_of, AreInOrder, put_in_from, DeletionsDiffer, AreWithin, ChangesItsEnds, ChangeTheirEnds}
 use Rattle.tas_engines.specs.Hunks.{halfway, Leads}
-use Rattle.tas_engines.proofs.ChangeLemmas.{movie_of, cut, insert_allowed, replace_allowed, delete_allowed, made_insert, made_replace, made_delete}
+use Rattle.tas_language.proofs.MadeLemmas.{movie_of, cut, insert_allowed, replace_allowed, delete_allowed, made_insert, made_replace, made_delete}
 
 -- ---- some changes, and others after them
 

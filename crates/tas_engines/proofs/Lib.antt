@@ -4,7 +4,12 @@ pub mod Shots
 pub mod ReadMovies
 pub mod ChangeLemmas
 pub mod HunkLemmas
+pub mod GapSteps
 pub mod GapLemmas
+pub mod DifferenceLemmas
+pub mod RunLemmas
+pub mod AlikeLemmas
+pub mod StageLemmas
 pub mod RetouchLemmas
 pub mod ScriptLemmas
 pub mod StreamLemmas

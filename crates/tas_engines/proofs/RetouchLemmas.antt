@@ -8,7 +8,6 @@ use Rattle.std.proofs.lemmas.List.Folds.{sum_by-replicate}
 use Rattle.vcs_machine.specs.declared.input.Input.{Input}
 use Rattle.tas_movie.specs.Content.{MovieContent, most_inputs}
 use Rattle.tas_movie.specs.declared.edit.Edit.{Edit}
-use Rattle.tas_movie.specs.declared.edit.Edit.TheVariants as edit
 use Rattle.tas_movie.specs.declared.edit.EditRefusal.{EditRefusal}
 use Rattle.tas_movie.specs.declared.edit.EditRefusal.TheVariants.{Place, Long}
 use Rattle.tas_movie.specs.Edit.{place_refusal, length_refusal, first_refusal, insert_refusal, refusal, check_answer, changed, edited, edited_unless}
@@ -20,7 +19,8 @@ use Rattle.tas_language.specs.declared.edit_line.EditLine.{EditLine}
 use Rattle.tas_language.specs.declared.edit_line.EditLine.TheVariants as asks
 use Rattle.tas_engines.specs.Retouching.{pressed_too, released, taken_from, taken_count, frames_from, times_over, retouch_on, retouch_refusal, copy_refusal}
 use Rattle.tas_engines.specs.Scripts.{inputs_of, line_on, line_of, line_refusal}
-use Rattle.tas_engines.proofs.ChangeLemmas.{allowed_length, same_refusal}
+use Rattle.tas_language.proofs.MadeLemmas.{allowed_length}
+use Rattle.tas_engines.proofs.ChangeLemmas.{same_refusal}
 
 -- ---- lengths
 

@@ -83,7 +83,7 @@ module _ (lag : ℕ → Bool) where
           ∙ ap (λ (xs : List ℕ). pieces (line_at lag first to) a ((a + 1) + n) ++ xs) none ∙ append-nil (pieces (line_at lag first to) a ((a + 1) + n))
           ∙ alone n a low (λ j from high. all j from (omega (arith, high)))
 
-      -- so many lag frames from a on, and then the end or a frame that isn't one
+      -- this many lag frames from a on, and then the end or a frame that isn't one
       stretch-by : (n a : ℕ) → first ≤ a → AreLag a (a + n) → IsFresh a → lag_length lag a (to - a) ≡ n → pieces (line_at lag first to) a (a + n) ≡ stretch_or_none a (a + n)
       stretch-by zero a low all fresh size =
           let here : a + 0 ≡ a = omega arith in
@@ -178,7 +178,7 @@ module _ (lag : ℕ → Bool) (first to start k : ℕ) (text : List ℕ) (way : 
       subst (λ (n : ℕ). IsOnTheWay lag first to n (k + 1) new) (sym starts)
       (subst (λ (xs : List ℕ). IsOnTheWay lag first to (if found then start else k + 1) (k + 1) xs) (sym line) (further-by found is within))
 
-  -- all frames are behind
+  -- all frames are done
   pub finished : k ≡ to → text ++ stretch_or_none start to ≡ flat_map (line_at lag first to) (range_with_len first (to - first))
   finished end =
       let before = way.order in

@@ -1,9 +1,12 @@
 -- What makes one list of inputs of another.
-use Rattle.std.specs.Prelude.{◌≡◌, ◌≢◌, ℕ, ◌+◌, ◌-◌, ◌<◌, ◌≤◌, ◌==◌, if◌then◌else◌, List, [], ◌∷◌, length, drop, slice_get, Some}
+use Rattle.std.specs.Prelude.{◌≡◌, ◌≢◌, ℕ, ◌+◌, ◌-◌, ◌<◌, ◌≤◌, ◌==◌, if◌then◌else◌, List, [], ◌∷◌, ◌++◌, length, take, drop, slice_get, Some}
+use Rattle.std.specs.List.{flat_map}
 use Rattle.vcs_machine.specs.declared.input.Input.{Input}
 use Rattle.tas_movie.specs.Front.{IsCommonFront}
-use Rattle.tas_movie.specs.Content.{MovieContent}
+use Rattle.tas_movie.specs.Content.{MovieContent, most_inputs}
 use Rattle.tas_movie.specs.Edit.{edited}
+use Rattle.tas_movie.specs.Runs.{run_inputs, runs_of}
+use Rattle.tas_movie.specs.declared.run.FrameRun.{FrameRun}
 use Rattle.tas_language.specs.declared.change.Change.{Change}
 use Rattle.tas_language.specs.declared.change.Change.TheVariants.{Insert, Replace, Delete}
 use Rattle.tas_engines.specs.Changes.{edit_of, changed_by, AreAllowed, HaveNumbers}
@@ -94,7 +97,57 @@ unfoldable pub ChangeTheirEnds : MovieContent → List Change → Type 0
 ChangeTheirEnds movie [] = Unit {0}
 ChangeTheirEnds movie (change ∷ changes) = ChangesItsEnds movie change × ChangeTheirEnds (edited movie (edit_of change)) changes
 
--- no more is taken out and put in than the inputs between the common beginning and the common end
+-- how many frames some runs have
+abbrev pub frames : List FrameRun → ℕ
+frames runs = length (flat_map run_inputs runs)
+
+-- from run i of the old ones and run j of the new ones on, four runs are the same. There is room to go on from there: a movie that has `made` frames before
+-- these runs, and `left` old frames from them on, isn't too long when it has the new runs before that place and the old ones from it on
+pub record GoOnAlike (old new : List FrameRun) (made left i j : ℕ) : Type 0 where
+  pub old_within : i + 4 ≤ length old
+  pub new_within : j + 4 ≤ length new
+  pub same : take 4 (drop i old) ≡ take 4 (drop j new)
+  pub room : made + frames (take j new) + (left - frames (take i old)) ≤ most_inputs
+
+-- they don't, where fewer than 512 runs of the two come before
+abbrev pub AreApart : List FrameRun → List FrameRun → ℕ → ℕ → Type 0
+AreApart old new made left = (i j : ℕ) → i + j < 512 → GoOnAlike old new made left i j → ⊥
+
+-- old runs go and new ones come, by some changes, and then some runs stay
+pub record Hunk : Type 0 where
+  pub out : List FrameRun
+  pub into : List FrameRun
+  pub changes : List Change
+  pub stays : List FrameRun
+
+-- the changes of a hunk before which the movie has `made` frames, and from which on `left` old ones: they are within it, and its old and new runs
+-- have no four in a row in common
+pub record IsHunk (made left : ℕ) (hunk : Hunk) : Type 0 where
+  pub places : AreWithin made (made + frames hunk.into + 1) hunk.changes
+  pub out : taken_out hunk.changes ≤ frames hunk.out
+  pub into : put_in hunk.changes ≤ frames hunk.into
+  pub apart : AreApart hunk.out hunk.into made left
+
+-- hunks, one after the other: four runs or more stay between each and the next one
+unfoldable pub AreHunks : ℕ → ℕ → List Hunk → Type 0
+AreHunks made left [] = Unit {0}
+AreHunks made left (hunk ∷ []) = IsHunk made left hunk
+AreHunks made left (hunk ∷ next ∷ hunks) =
+    IsHunk made left hunk × (4 ≤ length hunk.stays) × AreHunks (made + frames (hunk.into ++ hunk.stays)) (left - frames (hunk.out ++ hunk.stays)) (next ∷ hunks)
+
+-- the old runs, the new ones and the changes are those of hunks
+pub record FallIntoHunks (made left : ℕ) (old new : List FrameRun) (changes : List Change) : Type 0 where
+  pub hunks : List Hunk
+  pub are : AreHunks made left hunks
+  pub old_runs : old ≡ flat_map (λ hunk. hunk.out ++ hunk.stays) hunks
+  pub new_runs : new ≡ flat_map (λ hunk. hunk.into ++ hunk.stays) hunks
+  pub all : changes ≡ flat_map (λ hunk. hunk.changes) hunks
+
+-- the inputs between the first ones and the last ones
+abbrev pub middle : List Input → ℕ → ℕ → List Input
+middle inputs front end = take (length inputs - end - front) (drop front inputs)
+
+-- no more is taken out and put in than the inputs between the common beginning and the common end, and that in hunks
 pub record IsBetween (old new : List Input) (changes : List Change) : Type 0 where
   pub front : ℕ
   pub end : ℕ
@@ -103,8 +156,9 @@ pub record IsBetween (old new : List Input) (changes : List Change) : Type 0 whe
   pub out : front + taken_out changes + end ≤ length old
   pub into : front + put_in changes + end ≤ length new
   pub places : AreWithin front (length new - end + 1) changes
+  pub hunks : FallIntoHunks front (length old - front) (runs_of (middle old front end)) (runs_of (middle new front end)) changes
 
--- the changes make `new` of `old`, whatever the cartridge: each is allowed; they are in order, between the common beginning and the
+-- the changes make `new` of `old`, whatever the cartridge: each is allowed; they are in order, in hunks between the common beginning and the
 -- common end, and none of them could be joined with the next one
 pub record IsDifference (old new : List Input) (changes : List Change) : Type 0 where
   pub allowed : (cart : List ℕ) → AreAllowed (record { cart = cart; inputs = old }) changes

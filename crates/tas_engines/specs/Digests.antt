@@ -33,7 +33,7 @@ abbrev pub stretch_line : MovieContent → ℕ → ℕ → List ℕ
 stretch_line movie from to =
     stretch_text from to (digest_of (ram_of_frames movie from to)) (digest_of (ppm_bytes (picture_of movie (to - 1))))
 
--- the line of stretch number i, where stretches have so many frames; the last one may have fewer
+-- the line of stretch number i, where stretches have this many frames; the last one may have fewer
 abbrev pub line_of_stretch : ℕ → MovieContent → ℕ → List ℕ
 line_of_stretch every movie i = stretch_line movie (i * every) (min ((i + 1) * every) (length movie.inputs))
 
@@ -65,7 +65,7 @@ IsDigestFault movie (Halted at opcode) = (k : ℕ) × IsShotFault movie k (Halte
 IsDigestFault movie Memory = Unit {0}
 IsDigestFault movie _ = ⊥
 
--- the digest in stretches of so many frames, or why there is none
+-- the digest in stretches of this many frames, or why there is none
 abbrev pub IsDigestAnswer : ℕ → List ℕ → List ℕ → Result (List ℕ) RunFault → Type 0
 IsDigestAnswer every image bytes (Ok text) = (movie : MovieContent) × IsMovieOf image bytes movie × NoneHalted movie × (text ≡ digest_text every movie)
 IsDigestAnswer every image bytes (Err e) = IsMovieFault image bytes e ⊎ ((movie : MovieContent) × IsMovieOf image bytes movie × IsDigestFault movie e)

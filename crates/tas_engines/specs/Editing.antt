@@ -12,7 +12,7 @@ use Rattle.tas_engines.specs.declared.scripts.ScriptFault.{ScriptFault}
 use Rattle.tas_engines.specs.declared.scripts.ScriptFault.TheVariants.{Line, Place as PlaceFault, Long as LongFault, Memory}
 use Rattle.tas_engines.specs.Scripts.{MakesAll}
 
--- how a script's fault is told
+-- how a script's fault is reported
 abbrev pub script_fault : ScriptFault → RunFault
 script_fault (Line number) = Script number
 script_fault (PlaceFault number) = Place number

@@ -1,5 +1,5 @@
 -- What the parts of `changes_between` add. These definitions name shapes of the code; Differences defines what a difference is.
-use Rattle.std.specs.Prelude.{◌≡◌, ◌≢◌, ℕ, zero, suc, ◌+◌, ◌-◌, ◌<◌, ◌≤◌, ◌⊎◌, List, [], ◌∷◌, ◌++◌, length, take, drop, replicate, slice_index_or}
+use Rattle.std.specs.Prelude.{◌≡◌, ◌≢◌, ℕ, zero, suc, ◌+◌, ◌-◌, ◌<◌, ◌≤◌, ◌⊎◌, List, [], ◌∷◌, ◌++◌, length, take, drop, replicate, slice_index_or, Option, Some, None}
 use Rattle.vcs_machine.specs.Input.{no_input}
 use Rattle.vcs_machine.specs.declared.input.Input.{Input}
 use Rattle.tas_movie.specs.Content.{MovieContent, most_inputs}
@@ -8,8 +8,11 @@ use Rattle.tas_language.specs.declared.change.Change.{Change}
 use Rattle.tas_language.specs.declared.change.Change.TheVariants.{Insert, Replace, Delete}
 use Rattle.tas_engines.specs.declared.anchors.Anchor.{Anchor}
 use Rattle.tas_engines.specs.declared.comparing.Gap.{Gap}
+use Rattle.tas_engines.specs.declared.alike.Room.{Room}
+use Rattle.tas_engines.specs.declared.stages.Stage.{Stage}
+use Rattle.tas_engines.specs.declared.stages.Step.{Step}
 use Rattle.tas_engines.specs.Changes.{changed_by, AreAllowed, HaveNumbers}
-use Rattle.tas_engines.specs.Differences.{taken_out, put_in, AreWithin, AreInOrder, DeletionsDiffer, ChangeTheirEnds}
+use Rattle.tas_engines.specs.Differences.{taken_out, put_in, AreWithin, AreInOrder, DeletionsDiffer, ChangeTheirEnds, frames, GoOnAlike, AreApart}
 
 -- the movie that has the first b of the new inputs, and after them the old ones from a on
 abbrev pub halfway : List ℕ → List Input → List Input → ℕ → ℕ → MovieContent
@@ -85,3 +88,55 @@ deletion at (suc n) = Delete at (suc n) ∷ []
 abbrev pub insertions : ℕ → List FrameRun → List Change
 insertions at [] = []
 insertions at (run ∷ runs) = Insert at run.count run.input ∷ insertions (at + run.count) runs
+
+-- n is the length of the longest list with which both begin
+pub record IsLongestFront (old new : List FrameRun) (n : ℕ) : Type 0 where
+  pub within_old : n ≤ length old
+  pub within_new : n ≤ length new
+  pub same : take n old ≡ take n new
+  pub longest : (m : ℕ) → m ≤ length old → m ≤ length new → take m old ≡ take m new → m ≤ n
+
+-- the frames of the old runs are left, and the movie isn't too long with them, nor with the new ones
+pub record HasRoom (old new : List FrameRun) (room : Room) : Type 0 where
+  pub old_left : frames old ≤ room.left
+  pub left_bound : room.left ≤ most_inputs
+  pub made_bound : room.made + frames new ≤ most_inputs
+
+-- a place at this distance at which they go on alike
+abbrev pub IsAt : List FrameRun → List FrameRun → Room → ℕ → Option Anchor → Type 0
+IsAt old new room distance (Some at) = GoOnAlike old new room.made room.left at.old at.new × (at.old + at.new ≡ distance)
+IsAt old new room distance None = (i j : ℕ) → i + j ≡ distance → GoOnAlike old new room.made room.left i j → ⊥
+
+-- the nearest one
+abbrev pub IsNearest : List FrameRun → List FrameRun → Room → Option Anchor → Type 0
+IsNearest old new room (Some at) = GoOnAlike old new room.made room.left at.old at.new × ((i j : ℕ) → i + j < at.old + at.new → GoOnAlike old new room.made room.left i j → ⊥)
+IsNearest old new room None = AreApart old new room.made room.left
+
+-- one before which they are apart
+abbrev pub IsNext : List FrameRun → List FrameRun → Room → Option Anchor → Type 0
+IsNext old new room (Some at) = GoOnAlike old new room.made room.left at.old at.new × AreApart (take at.old old) (take at.new new) room.made room.left
+IsNext old new room None = AreApart old new room.made room.left
+
+-- where a hunk ends before `out` and `into`, runs that are left, and after it `stays` stay
+pub record IsStep (old new : List FrameRun) (len : ℕ) (stage : Stage) (step : Step) : Type 0 where
+  pub out : List FrameRun
+  pub into : List FrameRun
+  pub stays : List FrameRun
+  pub old_rest : List FrameRun
+  pub new_rest : List FrameRun
+  pub old_is : old ≡ out ++ stays ++ old_rest
+  pub new_is : new ≡ into ++ stays ++ new_rest
+  pub many : 4 ≤ length stays
+  pub apart : AreApart out into stage.gap.new (len - stage.gap.old)
+  pub room : stage.gap.new + frames into + (len - stage.gap.old - frames out) ≤ most_inputs
+  pub hunk : step.hunk ≡ record { old = stage.gap.old; old_end = stage.gap.old + frames out; new = stage.gap.new; new_end = stage.gap.new + frames into }
+  pub after_old : step.after.runs.old ≡ stage.runs.old + length out + length stays
+  pub after_new : step.after.runs.new ≡ stage.runs.new + length into + length stays
+  pub after_gap : step.after.gap ≡ record { old = stage.gap.old + frames out + frames stays; old_end = stage.gap.old_end; new = stage.gap.new + frames into + frames stays; new_end = stage.gap.new_end }
+
+abbrev pub room_at : ℕ → Stage → Room
+room_at len stage = record { made = stage.gap.new; left = len - stage.gap.old }
+
+abbrev pub IsNextStep : List FrameRun → List FrameRun → ℕ → Stage → Option Step → Type 0
+IsNextStep old new len stage (Some step) = IsStep old new len stage step
+IsNextStep old new len stage None = AreApart old new stage.gap.new (len - stage.gap.old)

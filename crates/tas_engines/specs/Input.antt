@@ -19,7 +19,7 @@ pub record IsReadWhole (old new : Option (List ℕ)) (bytes : List ℕ) : Type 0
   pub are_all : IfKnown old (λ input. bytes ≡ input)
   pub within : length bytes ≤ most_input_bytes
 
--- so many bytes left the reader
+-- this many bytes left the reader
 abbrev pub LeftReader : Option (List ℕ) → Option (List ℕ) → (ℕ → Type 0) → Type 0
 LeftReader old new count = (bytes : List ℕ) × Consumes old new bytes × count (length bytes)
 

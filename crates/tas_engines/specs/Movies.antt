@@ -18,7 +18,7 @@ pub record IsMovieOf (image bytes : List ℕ) (movie : MovieContent) : Type 0 wh
   pub most : length movie.inputs ≤ most_inputs
   pub text : IsText bytes movie
 
--- why there is no such movie: a wrong size of the cartridge comes before the text and before want of memory
+-- why there is no such movie: a wrong size of the cartridge comes before the text and before being out of memory
 abbrev pub IsMovieFault : List ℕ → List ℕ → RunFault → Type 0
 IsMovieFault image bytes (Size n) = (n ≡ length image) × (is_cart_size n ≡ false)
 IsMovieFault image bytes (Text e) = (is_cart_size (length image) ≡ true) × (fault bytes image ≡ Some e)

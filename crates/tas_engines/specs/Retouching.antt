@@ -61,14 +61,14 @@ taken_count (Release at count input) = count
 taken_count (Repeat at count times) = count
 taken_count (Copy from count at) = count
 
--- so many frames from one on
+-- this many frames from one on
 abbrev pub frames_from : List Input → ℕ → ℕ → List Input
 frames_from inputs from count = take count (drop from inputs)
 
 abbrev pub taken_by : List Input → Retouch → List Input
 taken_by inputs retouch = frames_from inputs (taken_from retouch) (taken_count retouch)
 
--- the frames so many times, one after the other
+-- the frames this many times, one after the other
 abbrev pub times_over : ℕ → List Input → List Input
 times_over times frames = flat_map (λ one. one) (replicate times frames)
 
@@ -87,7 +87,7 @@ retouch_on A inputs retouch = retouch_with A (taken_by inputs retouch) retouch
 abbrev pub retouch_of : List Input → Retouch → EditContent
 retouch_of inputs retouch = retouch_on (Unit {0}) inputs retouch
 
--- why a copy of so many frames isn't put in: `have` frames don't reach from `from` on so far; or as any insertion
+-- why a copy of this many frames isn't put in: `have` frames don't reach from `from` on so far; or as any insertion
 abbrev pub copy_refusal : (have from count len at : ℕ) → Option EditRefusal
 copy_refusal have from count len at = first_refusal (place_refusal have from (from + count)) (insert_refusal len at count)
 

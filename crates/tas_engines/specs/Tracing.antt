@@ -8,7 +8,7 @@ use Rattle.tas_engines.specs.declared.fault.ToolFault.{ToolFault}
 use Rattle.tas_engines.specs.Input.{IsReadWhole, StopsReading}
 use Rattle.tas_engines.specs.Output.{Ends, EndsAfter}
 
--- why an image is no cartridge: a wrong size comes before want of memory
+-- why an image is no cartridge: a wrong size comes before being out of memory
 abbrev pub IsImageFault : List ℕ → RunFault → Type 0
 IsImageFault image (Size n) = (n ≡ length image) × (is_cart_size n ≡ false)
 IsImageFault image Memory = is_cart_size (length image) ≡ true

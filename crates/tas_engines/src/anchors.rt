@@ -4,8 +4,11 @@
 ghost use Rattle.std.specs.Prelude.{◌≤◌, ◌+◌, length};
 
 use std::alloc::{AllocError, Allocator};
-use tas_movie::{print_frame, run_length};
+use tas_movie::{FrameRun, print_frame, run_length};
 use vcs_machine::Input;
+
+/// The fewest slots of a table: few sums share one by chance.
+const MIN_SLOTS: usize = 256;
 
 /// A place in the old inputs and one in the new ones.
 #[derive(Clone, Copy)]
@@ -42,11 +45,24 @@ struct Link {
 
 impl Anchor {
     /// The anchor's places in longer lists, in which this many inputs come before these.
-    pub(crate) fn after(self, front: usize) -> Anchor {
+    pub(crate) fn after(self, old: usize, new: usize) -> Anchor {
         Anchor {
-            old: self.old.saturating_add(front),
-            new: self.new.saturating_add(front),
+            old: self.old.saturating_add(old),
+            new: self.new.saturating_add(new),
         }
+    }
+
+    /// The anchor's places in shorter lists, without what comes before `from`.
+    fn from(self, from: Anchor) -> Anchor {
+        Anchor {
+            old: self.old.saturating_sub(from.old),
+            new: self.new.saturating_sub(from.new),
+        }
+    }
+
+    /// Whether neither place comes before that of `from`.
+    fn follows(self, from: Anchor) -> bool {
+        self.old >= from.old && self.new >= from.new
     }
 }
 
@@ -87,6 +103,20 @@ fn marks_of<A: Allocator>(alloc: A, inputs: &[Input]) -> Result<Vec<Mark, A>, Al
             partner: None,
         })?;
         place += count;
+    }
+    Ok(marks)
+}
+
+/// A mark for each of these runs, whose place is its index.
+fn run_marks<A: Allocator>(alloc: A, runs: &[FrameRun]) -> Result<Vec<Mark, A>, AllocError> {
+    let mut marks = Vec::with_capacity(alloc, runs.len())?;
+    for place in 0..runs.len() {
+        let FrameRun { input, count } = runs[place];
+        marks.push(Mark {
+            place,
+            sum: run_sum(input, count),
+            partner: None,
+        })?;
     }
     Ok(marks)
 }
@@ -150,7 +180,7 @@ fn place_with_sum(marks: &[Mark], index: usize, sum: usize) -> Option<usize> {
 
 /// Pairs each new mark whose sum no other new mark has with the one old mark that has it.
 fn pair<A: Allocator + Copy>(alloc: A, old: &[Mark], new: &mut [Mark]) -> Result<(), AllocError> {
-    let size = old.len().max(new.len()).saturating_mul(2);
+    let size = old.len().max(new.len()).saturating_mul(2).max(MIN_SLOTS);
     let olds = slots_of(alloc, old, size)?;
     let news = slots_of(alloc, new, size)?;
     for i in 0..new.len() {
@@ -268,4 +298,46 @@ pub(crate) fn find_anchors<A: Allocator + Copy>(
         pair(alloc, &olds, &mut news)?;
     }
     longest_chain(alloc, &news)
+}
+
+/// Anchors in two lists of runs, from the last to the first: the longest chain of places where four or sixteen runs begin
+/// that occur once in each list.
+pub(crate) fn find_run_anchors<A: Allocator + Copy>(
+    alloc: A,
+    old: &[FrameRun],
+    new: &[FrameRun],
+) -> Result<Vec<Anchor, A>, AllocError> {
+    let mut olds = run_marks(alloc, old)?;
+    let mut news = run_marks(alloc, new)?;
+    for runs in [1, 4] {
+        double(&mut olds, runs);
+        double(&mut olds, 2 * runs);
+        double(&mut news, runs);
+        double(&mut news, 2 * runs);
+        pair(alloc, &olds, &mut news)?;
+    }
+    longest_chain(alloc, &news)
+}
+
+/// The first anchor at `from` or after it, as places from there on: beyond all of them where there is none. `anchors` go
+/// from the last to the first.
+pub(crate) fn first_after(anchors: &[Anchor], from: Anchor) -> Anchor {
+    let mut low = 0;
+    let mut high = anchors.len();
+    while low < high {
+        let middle = low + (high - low) / 2;
+        if anchors[middle].follows(from) {
+            low = middle + 1;
+        } else {
+            high = middle;
+        }
+    }
+    if low > 0 && low <= anchors.len() {
+        anchors[low - 1].from(from)
+    } else {
+        Anchor {
+            old: usize::MAX,
+            new: usize::MAX,
+        }
+    }
 }

@@ -46,7 +46,7 @@ fn check_movie<A: Allocator + Copy, W: Write>(
 }
 
 /// Reads a cartridge and a movie text of either kind, and writes `ok F frames`, where the text is one of a movie
-/// of F frames with this cartridge (own).
+/// of F frames with this cartridge.
 ///
 /// Faults: those of [`read_two`], then those of [`movie_of`], with nothing written; `Write` with the first bytes of
 /// the answer written, and how many.

@@ -238,7 +238,7 @@ fn write_comparison<A: Allocator + Copy, W: Write>(
 }
 
 /// Reads a cartridge and the texts of two movies with it, the old one and the new one, and writes the first frames at which
-/// their inputs, RAM after the frame and pictures differ (own): lines `input I`, `ram R` and `picture P`, each with a frame
+/// their inputs, RAM after the frame and pictures differ: lines `input I`, `ram R` and `picture P`, each with a frame
 /// counted from 0, or `none`. A movie that ends sooner differs at its end. A halted frame shows no picture, and a halted
 /// machine keeps its RAM.
 ///

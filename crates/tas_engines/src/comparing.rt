@@ -6,7 +6,8 @@ ghost use Rattle.tas_movie.specs.Runs.{runs_of};
 ghost use Rattle.tas_engines.specs.Differences.{IsCommonEnd, IsDifference};
 ghost use Rattle.tas_engines.specs.Hunks.{IsGapOf, AddsHunk, GoesOn, IsCommonFrom, IsReplacedRun, AddsReplacement, deletion, insertions};
 
-use crate::anchors::{Anchor, find_anchors};
+use crate::anchors::{Anchor, find_anchors, find_run_anchors, first_after};
+use crate::stages::{Stage, next_step, runs_in};
 use std::alloc::{AllocError, Allocator};
 use tas_language::Change;
 use tas_movie::{MAX_FRAMES, common_front, run_length};
@@ -17,11 +18,11 @@ const MAX_BRIDGE: usize = 15;
 
 /// The old inputs from `old` to `old_end` - 1, in whose place the new ones from `new` to `new_end` - 1 come.
 #[derive(Clone, Copy)]
-struct Gap {
-    old: usize,
-    old_end: usize,
-    new: usize,
-    new_end: usize,
+pub(crate) struct Gap {
+    pub(crate) old: usize,
+    pub(crate) old_end: usize,
+    pub(crate) new: usize,
+    pub(crate) new_end: usize,
 }
 
 /// The length of the longest list with which both end.
@@ -213,10 +214,44 @@ fn push_up_to<A: Allocator>(
     })
 }
 
-/// The changes that make `new` of `old`, in order: in hunks, between stretches that both lists have, with nothing
-/// before the common beginning or after the common end. Where as many inputs come as go they are replaced, from one that
-/// differs to one that differs; else those that go are deleted, if any do, and those that come are inserted. There are
-/// none where the lists are equal. `AllocError` where memory is refused.
+/// Adds the changes of a hunk. Within it they are between stretches that both lists have there.
+fn push_hunk<A: Allocator + Copy>(
+    alloc: A,
+    changes: &mut Vec<Change, A>,
+    old: &[Input],
+    new: &[Input],
+    hunk: Gap,
+) -> Result<(), AllocError>
+    requires { IsGapOf old.now new.now hunk }
+    ensures { OnOk result (AddsHunk old.now new.now hunk changes.old.items changes.new.items) }
+{
+    let front = common_front(&old[hunk.old..hunk.old_end], &new[hunk.new..hunk.new_end]);
+    let first_old = hunk.old + front;
+    let first_new = hunk.new + front;
+    let mut gap = Gap {
+        old: first_old,
+        old_end: hunk.old_end,
+        new: first_new,
+        new_end: hunk.new_end,
+    };
+    let end = common_end(&old[first_old..gap.old_end], &new[first_new..gap.new_end]);
+    let anchors = find_anchors(
+        alloc,
+        &old[first_old..gap.old_end - end],
+        &new[first_new..gap.new_end - end],
+    )?;
+    for i in 0..anchors.len() {
+        let anchor = anchors[anchors.len() - 1 - i].after(first_old, first_new);
+        gap = push_up_to(changes, old, new, gap, anchor)?;
+    }
+    push_gap(changes, old, new, gap)
+}
+
+/// The changes that make `new` of `old`, in order: in hunks, with nothing before the common beginning or after the common
+/// end. Between two hunks at least four runs stay, and four runs in a row that both lists have end a hunk, where they are
+/// near its beginning. Where as many inputs come as go they are replaced, from one that differs to one that differs; else
+/// those that go are deleted, if any do, and those that come are inserted. There are none where the lists are equal.
+/// `AllocError` where memory is refused.
 pub fn changes_between<A: Allocator + Copy>(
     alloc: A,
     old: &[Input],
@@ -228,18 +263,30 @@ pub fn changes_between<A: Allocator + Copy>(
 {
     let front = common_front(old, new);
     let end = common_end(&old[front..], &new[front..]);
-    let mut gap = Gap {
+    let gap = Gap {
         old: front,
         old_end: old.len() - end,
         new: front,
         new_end: new.len() - end,
     };
-    let anchors = find_anchors(alloc, &old[front..gap.old_end], &new[front..gap.new_end])?;
+    let old_runs = runs_in(alloc, &old[front..gap.old_end])?;
+    let new_runs = runs_in(alloc, &new[front..gap.new_end])?;
+    let anchors = find_run_anchors(alloc, &old_runs, &new_runs)?;
+    let mut stage = Stage {
+        runs: Anchor { old: 0, new: 0 },
+        gap,
+    };
     let mut changes = Vec::new(alloc);
-    for i in 0..anchors.len() {
-        let anchor = anchors[anchors.len() - 1 - i].after(front);
-        gap = push_up_to(&mut changes, old, new, gap, anchor)?;
+    while let Some(step) = next_step(
+        &old_runs[stage.runs.old..],
+        &new_runs[stage.runs.new..],
+        old.len(),
+        stage,
+        first_after(&anchors, stage.runs),
+    ) {
+        push_hunk(alloc, &mut changes, old, new, step.hunk)?;
+        stage = step.after;
     }
-    push_gap(&mut changes, old, new, gap)?;
+    push_hunk(alloc, &mut changes, old, new, stage.gap)?;
     Ok(changes)
 }

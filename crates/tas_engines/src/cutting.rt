@@ -62,7 +62,7 @@ fn write_cut<A: Allocator + Copy, W: Write>(
 }
 
 /// Reads a cartridge and a movie text, and writes the text of the movie of the frames `from` to `to` - 1 alone, counted from
-/// 0 (own).
+/// 0.
 ///
 /// Faults, in order: those of [`read_two`], those of [`movie_of`], then `Range` where `from` is past `to` or `to` past the
 /// movie's end; each with nothing written. `Memory` with nothing written at any point; `Write` with the first bytes of the

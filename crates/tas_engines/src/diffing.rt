@@ -60,7 +60,7 @@ fn write_difference<A: Allocator + Copy, W: Write>(
 }
 
 /// Reads a cartridge and the texts of two movies with it, the old one and the new one, and writes the
-/// script that makes the new one of the old one: nothing where they are equal (own).
+/// script that makes the new one of the old one: nothing where they are equal.
 ///
 /// Faults, in order: those of reading the three, then `Size`, then `Text` of the old text and of the new
 /// one; each with nothing written. `Memory` with nothing written at any point; `Write` with the first bytes

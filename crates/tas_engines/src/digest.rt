@@ -293,7 +293,7 @@ fn write_digest<A: Allocator + Copy, W: Write>(
     write_all(output, text.as_slice())
 }
 
-/// Reads a cartridge and a movie text, plays the movie once, and writes its digest in stretches of `every` frames (own):
+/// Reads a cartridge and a movie text, plays the movie once, and writes its digest in stretches of `every` frames:
 /// SHA-256 digests of the cartridge, of the movie's text of runs, of RAM after each frame of a stretch and of the pixmap
 /// of its last frame.
 ///

@@ -19,7 +19,7 @@ use std::alloc::Allocator;
 use std::io::{Read, Write};
 use tas_movie::{Movie, print_text};
 
-/// How a script's fault is told.
+/// How a script's fault is reported.
 fn script_fault(fault: ScriptFault) -> RunFault
     ensures { result ≡ script_fault fault }
 {
@@ -114,7 +114,7 @@ fn write_edited_with<A: Allocator + Copy, W: Write>(
 }
 
 /// Reads a cartridge, a script of changes and a movie text, and writes the text of the movie that the
-/// script makes of it (own).
+/// script makes of it.
 ///
 /// Faults, in order: those of reading the three, then `Size` and `Text`, then the script's first line at
 /// fault: `Script` where it isn't understood, `Place` and `Long` where it is refused; each with
@@ -142,7 +142,7 @@ pub fn edit_run<A: Allocator + Copy, C: Read, S: Read, R: Read, W: Write>(
 }
 
 /// Reads a cartridge, a script and the texts of two movies with it, the second movie's before the first one's, and writes the
-/// text of the movie that the script makes of the first one; `copy other` takes frames from the second one (own).
+/// text of the movie that the script makes of the first one; `copy other` takes frames from the second one.
 ///
 /// Faults, in order: those of reading the four, then `Size`, then `Text` of the second movie and of the first one, then those of
 /// the script as of [`edit_run`]; each with nothing written. `Memory` with nothing written at any point; `Write` with the first

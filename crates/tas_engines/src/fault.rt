@@ -5,7 +5,7 @@ ghost use Rattle.tas_engines.specs.declared.fault.RunFault.TheVariants.{Write as
 ghost use Rattle.tas_engines.specs.declared.fault.ToolFault.TheVariants.{Read as Unread, Run as Ran};
 ghost use Rattle.tas_engines.specs.Faults.{cart_fault, text_fault};
 
-use crate::fault_lines::{halted_frame_line, halted_line, no_frame_line, range_line};
+use crate::fault_lines::{halted_frame_line, halted_line, no_frame_line, range_line, seat_line};
 use byte_text::WriteFault;
 use std::alloc::AllocError;
 use tas_movie::{ReadError, TextError};
@@ -115,8 +115,35 @@ pub enum RunFault {
     Memory,
 }
 
-/// Why an engine ended without its answer: it didn't read its inputs, or it had. Its text is the line, without the
-/// newline, that the program writes to standard error; the program's status is then 1.
+/// How the conversation of a desk's seat ended, where neither `quit` nor the end of its input ended it. The edits that it made
+/// stay in the desk's history.
+#[derive(Clone, Copy, Debug, PartialEq, Eq, Error)]
+pub enum SeatFault {
+    /// One of the seat's two files couldn't be opened. No line was read.
+    #[error("not opened")]
+    NotOpened,
+    /// A read failed. The answers to the lines that were read whole are written.
+    #[error("read failed")]
+    Read,
+    /// A write failed, or took no byte. The line whose answer it was is carried out.
+    #[error("write failed after {written} bytes")]
+    Write {
+        /// How many bytes of the whole conversation had gone out: the first ones of its answers.
+        written: usize,
+    },
+    /// Memory was refused. The answers to the lines before are written.
+    #[error("out of memory")]
+    Memory,
+    /// The seat's reader found its writer gone. The answers to the lines before are written.
+    #[error("no entry")]
+    NoEntry,
+    /// The history has an edit of the seat's that this conversation didn't make. It is proved that none ends so.
+    #[error("foreign edit")]
+    Foreign,
+}
+
+/// Why an engine ended without its answer: it didn't read its inputs, or it had; or, with its answer, how a seat's conversation
+/// ended. Its text is the line, without the newline, that the program writes to standard error; the program's status is then 1.
 #[derive(Clone, Copy, Debug, PartialEq, Eq, Error)]
 pub enum ToolFault {
     /// An input wasn't read whole.
@@ -125,6 +152,14 @@ pub enum ToolFault {
     /// The inputs were read.
     #[error("fault: {0}")]
     Run(RunFault),
+    /// The conversation of a desk's seat ended with this fault, and no seat before it with one. The movie is written.
+    #[error(fmt = seat_line)]
+    Seat {
+        /// The seat, counted from 0.
+        seat: u32,
+        /// How its conversation ended.
+        fault: SeatFault,
+    },
 }
 
 impl From<CartError> for RunFault {

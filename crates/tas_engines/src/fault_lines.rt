@@ -1,5 +1,6 @@
-//! The texts of the faults that have several numbers.
+//! The texts of the faults that have several parts.
 
+use crate::SeatFault;
 use std::fmt::{Formatter, Result, Write};
 
 /// That of `RunFault::NoFrame`.
@@ -25,4 +26,9 @@ pub fn halted_frame_line<W: Write>(
     f: &mut Formatter<W>,
 ) -> Result {
     write!(f, "frame {frame} halted at {at:04X} by {opcode:02X}")
+}
+
+/// That of `ToolFault::Seat`.
+pub fn seat_line<W: Write>(seat: &u32, fault: &SeatFault, f: &mut Formatter<W>) -> Result {
+    write!(f, "fault: seat {seat}: {fault}")
 }

@@ -62,7 +62,7 @@ fn next_start<A: Allocator>(
 }
 
 /// The lines of the lag frames among a movie's frames `from` to `to` - 1, played from the state in which frame `from` begins: a
-/// line `A B` for each longest stretch of them, cut at `from` and at `to` (own). `AllocError` where memory is refused.
+/// line `A B` for each longest stretch of them, cut at `from` and at `to`. `AllocError` where memory is refused.
 pub fn lag_between<A: Allocator, B: Allocator>(
     alloc: B,
     movie: &Movie<A>,
@@ -124,7 +124,7 @@ fn show_lag<A: Allocator + Copy, W: Write>(
 }
 
 /// Reads a cartridge and a movie text, and writes a line `A B` for each longest stretch of lag frames, those from A to
-/// B - 1 (own): frames that come to the same whatever their input. A halted machine reads nothing, so its frames are
+/// B - 1: frames that come to the same whatever their input. A halted machine reads nothing, so its frames are
 /// among them.
 ///
 /// Faults, in order: those of [`read_two`] and those of [`movie_of`], each with nothing written; `Memory` with nothing

@@ -7,7 +7,7 @@ ghost use Rattle.tas_engines.specs.declared.fault.RunFault.TheVariants.{Memory};
 ghost use Rattle.tas_engines.specs.Movies.{IsMovieOf, IsMovieFault};
 
 /// A cartridge and a text make one movie at most; and where they make one, no fault but `Memory` says that
-/// they don't (own).
+/// they don't.
 pub fn one_movie_per_cartridge_and_text()
     ensures movie { (image bytes : List ℕ) (a b : MovieContent) → IsMovieOf image bytes a
         → IsMovieOf image bytes b → a ≡ b }

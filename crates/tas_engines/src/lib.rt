@@ -4,10 +4,9 @@
 //! An engine reads its inputs whole before it writes anything, and then runs on the bytes that it
 //! read. Its contract says what it left in its readers, and that it either wrote just the bytes that
 //! the definition names for what it read, or ends with a [`ToolFault`] whose cause holds.
-//!
-//! '(own)' marks a decision of this project, one that no manual makes.
 #![tactic(auto)]
 
+mod alike;
 mod anchors;
 mod checking;
 mod compare;
@@ -29,6 +28,7 @@ mod reading;
 mod retouching;
 mod scripts;
 mod shooting;
+mod stages;
 mod tracing;
 mod writing;
 
@@ -39,7 +39,7 @@ pub use cutting::cut_run;
 pub use diffing::diff_run;
 pub use digest::digest_run;
 pub use editing::{edit_run, edit_with_run};
-pub use fault::{ReadFault, RunFault, ToolFault};
+pub use fault::{ReadFault, RunFault, SeatFault, ToolFault};
 pub use lag::{lag_between, lag_run};
 pub use laws::one_movie_per_cartridge_and_text;
 pub use making::{ChangeError, check_change, edit_of, make_line};

@@ -13,7 +13,7 @@ use tas_language::{Change, EditLine};
 use tas_movie::{Edit, EditRefusal, Inputs, Movie, apply, check_insertion, check_place};
 use vcs_machine::Input;
 
-/// Why a change wasn't made; the movie is as before (own).
+/// Why a change wasn't made; the movie is as before.
 #[derive(Clone, Copy)]
 pub enum ChangeError {
     /// It isn't allowed on this movie.
@@ -103,7 +103,7 @@ fn line_edit<A: Allocator, B: Allocator, C: Allocator>(
     }
 }
 
-/// Makes a line of `tas edit` on a movie, where it is allowed (own): `Refused` where it isn't, and this comes before memory is
+/// Makes a line of `tas edit` on a movie, where it is allowed: `Refused` where it isn't, and this comes before memory is
 /// asked for; `Memory` where the room for the frames of a line that is allowed was refused. Both leave the
 /// movie as it was.
 pub fn make_line<A: Allocator, B: Allocator, C: Allocator>(

@@ -38,7 +38,7 @@ fn migrate_movie<A: Allocator + Copy, W: Write>(
 }
 
 /// Reads a cartridge and a movie text of either kind, and writes the text of runs of the movie that it
-/// is one of (own).
+/// is one of.
 ///
 /// Faults: those of [`read_two`], then those of [`movie_of`], with nothing written; `Write` with the first
 /// bytes of the answer written, and how many.

@@ -8,9 +8,9 @@ use std::alloc::Allocator;
 use tas_movie::{Movie, read_text};
 use vcs_machine::Cart;
 
-/// The movie whose cartridge is the image and of which the bytes are a text (own).
+/// The movie whose cartridge is the image and of which the bytes are a text.
 ///
-/// Faults, in order: `Size`, `Text`; `Memory` at any point behind `Size`.
+/// Faults, in order: `Size`, `Text`; `Memory` at any point after `Size`.
 pub fn movie_of<A: Allocator + Copy>(
     alloc: A,
     image: &[u8],

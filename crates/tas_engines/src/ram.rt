@@ -129,7 +129,7 @@ fn show_ram<A: Allocator + Copy, W: Write>(
 }
 
 /// Reads a cartridge and a movie text, and writes RAM after K frames of the movie for each K from `from` to `to` - 1
-/// (own): lines `K DIGITS`, 256 upper case hexadecimal digits, each written before the next frame is played. K is a
+///: lines `K DIGITS`, 256 upper case hexadecimal digits, each written before the next frame is played. K is a
 /// number of frames, so 0 is power-on and `to` is at most the movie's length and one. A halted machine has its RAM.
 ///
 /// Faults, in order: those of [`read_two`], those of [`movie_of`], then `Range`, each with nothing written; `Write` with

@@ -9,7 +9,7 @@ use crate::ReadFault;
 use std::alloc::Allocator;
 use std::io::Read;
 
-/// How many bytes an input has at most (own). One more is read, to see that it is too long.
+/// How many bytes an input has at most. One more is read, to see that it is too long.
 pub const INPUT_LIMIT: usize = 16_777_216;
 
 /// How many bytes one read asks for.
@@ -28,7 +28,7 @@ fn read_some<R: Read>(reader: &mut R, buffer: &mut [u8]) -> Option<usize>
     reader.read(buffer).ok()
 }
 
-/// Reads an input to its end, and returns its bytes: at most [`INPUT_LIMIT`] (own).
+/// Reads an input to its end, and returns its bytes: at most [`INPUT_LIMIT`].
 ///
 /// Reading ends at the first read that fails (`Read`) or gives no bytes, or with the byte past the
 /// limit (`TooLong`); at most the limit and one byte leave the reader. No read is tried again (no
@@ -58,7 +58,7 @@ pub fn read_input<A: Allocator, R: Read>(alloc: A, reader: &mut R) -> Result<Vec
     }
 }
 
-/// Reads two inputs, each as [`read_input`] does (own). Where reading the first one fails, the second
+/// Reads two inputs, each as [`read_input`] does. Where reading the first one fails, the second
 /// one is left untouched.
 pub fn read_two<A: Allocator + Copy, C: Read, R: Read>(
     alloc: A,
@@ -78,7 +78,7 @@ pub fn read_two<A: Allocator + Copy, C: Read, R: Read>(
     Ok((bytes, more))
 }
 
-/// The bytes of three inputs that were read whole (own).
+/// The bytes of three inputs that were read whole.
 #[derive(Drop)]
 pub struct ThreeInputs<A: Allocator> {
     /// Those of the input that was read first.
@@ -89,7 +89,7 @@ pub struct ThreeInputs<A: Allocator> {
     pub third: Vec<u8, A>,
 }
 
-/// Reads three inputs, each as [`read_input`] does (own). Where reading one fails, those after it are
+/// Reads three inputs, each as [`read_input`] does. Where reading one fails, those after it are
 /// left untouched.
 pub fn read_three<A: Allocator + Copy, F: Read, S: Read, T: Read>(
     alloc: A,
@@ -116,7 +116,7 @@ pub fn read_three<A: Allocator + Copy, F: Read, S: Read, T: Read>(
     })
 }
 
-/// The bytes of four inputs that were read whole (own).
+/// The bytes of four inputs that were read whole.
 #[derive(Drop)]
 pub struct FourInputs<A: Allocator> {
     /// Those of the input that was read first.
@@ -129,7 +129,7 @@ pub struct FourInputs<A: Allocator> {
     pub fourth: Vec<u8, A>,
 }
 
-/// Reads four inputs, each as [`read_input`] does (own). Where reading one fails, those after it are
+/// Reads four inputs, each as [`read_input`] does. Where reading one fails, those after it are
 /// left untouched.
 pub fn read_four<A: Allocator + Copy, F: Read, S: Read, T: Read, L: Read>(
     alloc: A,

@@ -52,7 +52,7 @@ fn stick_released(stick: Stick, less: Stick) -> Stick
     }
 }
 
-/// The input with all pressed that another one has pressed; the rest stays (own).
+/// The input with all pressed that another one has pressed; the rest stays.
 pub fn pressed_too(input: Input, more: Input) -> Input
     ensures { result ≡ pressed_too input more }
 {
@@ -67,7 +67,7 @@ pub fn pressed_too(input: Input, more: Input) -> Input
     }
 }
 
-/// The input with all released that another one has pressed; the rest stays (own).
+/// The input with all released that another one has pressed; the rest stays.
 pub fn released(input: Input, less: Input) -> Input
     ensures { result ≡ released input less }
 {
@@ -110,7 +110,7 @@ fn check_repeat(len: usize, at: usize, count: usize, times: usize) -> Result<(),
     Ok(())
 }
 
-/// Whether a retouch is allowed on a movie of `len` frames (own): `Place` where the frames that it takes, or its place, are past
+/// Whether a retouch is allowed on a movie of `len` frames: `Place` where the frames that it takes, or its place, are past
 /// the last one, and then `Long` where the movie would have more than `MAX_FRAMES`.
 pub fn check_retouch(len: usize, retouch: Retouch) -> Result<(), EditRefusal>
     ensures { (movie : MovieContent) → length movie.inputs ≡ len
@@ -125,7 +125,7 @@ pub fn check_retouch(len: usize, retouch: Retouch) -> Result<(), EditRefusal>
     }
 }
 
-/// The frames that a retouch takes from a movie: the first one, and how many (own).
+/// The frames that a retouch takes from a movie: the first one, and how many.
 pub fn taken_frames(retouch: Retouch) -> (usize, usize)
     ensures from { result.0 ≡ taken_from retouch }
     ensures count { result.1 ≡ taken_count retouch }
@@ -168,7 +168,7 @@ fn all_released<A: Allocator>(
     Ok(Inputs::from_vec(list))
 }
 
-/// The frames so many times, one after the other.
+/// The frames this many times, one after the other.
 fn repeated<A: Allocator>(alloc: A, frames: &[Input], times: usize) -> Result<Inputs<A>, AllocError>
     ensures { IfOk result (λ inputs. inputs ≡ times_over times frames.now) }
 {
@@ -179,7 +179,7 @@ fn repeated<A: Allocator>(alloc: A, frames: &[Input], times: usize) -> Result<In
     Ok(Inputs::from_vec(list))
 }
 
-/// The edit that a retouch is, by the frames that it takes (own). `AllocError` where memory is refused.
+/// The edit that a retouch is, by the frames that it takes. `AllocError` where memory is refused.
 pub fn edit_with<A: Allocator>(
     alloc: A,
     taken: &[Input],
@@ -211,7 +211,7 @@ pub fn edit_with<A: Allocator>(
     }
 }
 
-/// The edit that a retouch is on a movie with these inputs (own). `AllocError` where memory is refused.
+/// The edit that a retouch is on a movie with these inputs. `AllocError` where memory is refused.
 pub fn retouch_edit<A: Allocator>(
     alloc: A,
     inputs: &[Input],

@@ -11,7 +11,7 @@ use std::alloc::{AllocError, Allocator};
 use tas_language::{Change, EditLine, change_line, one_edit_line_per_line, read_edit_line};
 use tas_movie::{EditRefusal, Movie};
 
-/// Why a script wasn't made to its end (own). Lines are counted from 1.
+/// Why a script wasn't made to its end. Lines are counted from 1.
 #[derive(Clone, Copy, Debug, PartialEq, Eq)]
 pub enum ScriptFault {
     /// The line isn't understood, or no newline ends it.
@@ -60,7 +60,7 @@ fn read_line<A: Allocator>(line: &[u8], other: &Option<Movie<A>>) -> Option<Edit
     }
 }
 
-/// Makes the lines of a script of `tas edit`, one by one, on a movie beside which there may be a second one (own). The first
+/// Makes the lines of a script of `tas edit`, one by one, on a movie beside which there may be a second one. The first
 /// line that isn't understood or is refused ends it with its fault, and so does one for which memory is refused (`Memory`);
 /// the lines before it are made then.
 pub fn edit_movie<A: Allocator, B: Allocator, C: Allocator + Copy>(
@@ -101,7 +101,7 @@ fn push_change<A: Allocator + Copy>(
     bytes.extend_from_slice(line.as_slice())
 }
 
-/// The script of some changes, a line each (own). `AllocError` where memory is refused.
+/// The script of some changes, a line each. `AllocError` where memory is refused.
 pub fn print_changes<A: Allocator + Copy>(
     alloc: A,
     changes: &[Change],

@@ -83,7 +83,7 @@ fn shoot_movie<A: Allocator + Copy, W: Write>(
 }
 
 /// Reads a cartridge and a movie text, and writes the picture of the movie's frame `k`, counted
-/// from 0, as a binary portable pixmap (own).
+/// from 0, as a binary portable pixmap.
 ///
 /// Faults, in order: those of [`read_two`], those of [`movie_of`], then `NoFrame`, then `Halted`,
 /// each with nothing written; `Memory` with nothing written; `Write` with the first bytes of the answer

@@ -25,7 +25,7 @@ fn trace_image<A: Allocator, W: Write>(
     }
 }
 
-/// Reads a cartridge and writes the trace of its first `n` instructions from power-on (own).
+/// Reads a cartridge and writes the trace of its first `n` instructions from power-on.
 ///
 /// Faults, in order: those of [`read_input`], then `Size`, each with nothing written; `Memory` with
 /// nothing written; `Write` with the first bytes of the trace written, and how many.

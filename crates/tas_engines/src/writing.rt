@@ -8,7 +8,7 @@ use crate::RunFault;
 use byte_text::write_counted;
 use std::io::Write;
 
-/// Writes all of an answer (own). A write that fails or takes no byte ends the call with
+/// Writes all of an answer. A write that fails or takes no byte ends the call with
 /// [`RunFault::Write`], which tells how many bytes had gone out; no write is tried again (no clause
 /// says so; a test does).
 pub fn write_all<W: Write>(writer: &mut W, bytes: &[u8]) -> Result<(), RunFault>

@@ -1,4 +1,4 @@
--- What holds of the first item and of those behind it holds of all, and the other way round. `P at x` may say that a call is allowed, `R at x y` what it leaves.
+-- What holds of the first item and of those after it holds of all, and the other way round. `P at x` may say that a call is allowed, `R at x y` what it leaves.
 use Rattle.std.proofs.Common.{◌≡◌, ℕ, zero, suc, ◌+◌, ◌<◌, List, ◌∷◌, length, get_or, sym, subst, arith, add-zero}
 
 pub allowed_first : {T : Type 0} (P : ℕ → T → Type 0) (at : ℕ) (items : List T) (x : T) (xs : List T) → items ≡ x ∷ xs → ((k : ℕ) (d : T) → k < length items → P (at + k) (get_or items k d)) → P at x

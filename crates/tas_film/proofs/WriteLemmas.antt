@@ -44,7 +44,7 @@ front_of : (a b c : List ℕ) (n : ℕ) → n ≤ length b → a ++ take n b ≡
 front_of [] b c n le = sym (take-append-le n b c le) ∙ ap (λ (k : ℕ). take k (b ++ c)) (sym (zero-add n))
 front_of (x ∷ a) b c n le = ap (λ (xs : List ℕ). x ∷ xs) (front_of a b c n le) ∙ ap (λ (k : ℕ). take k (x ∷ ((a ++ b) ++ c))) (sym (suc-add (length a) n))
 
--- the first bytes of a piece stand behind the pieces before it
+-- the first bytes of a piece stand after the pieces before it
 pub pieces_front : (xs : List (List ℕ)) (i : ℕ) (x : List ℕ) (before all : ℕ) → i < length xs → x ≡ get_or xs i x → before ≡ length (concat (take i xs)) → before ≤ all → all ≤ before + length x
     → concat (take i xs) ++ take (all - before) x ≡ take all (concat xs)
 pieces_front xs i x before all lt is count low high =

@@ -7,7 +7,7 @@ use Rattle.tas_film.specs.declared.exporting.ExportFault.TheVariants.{Memory, Ha
 use Rattle.tas_film.specs.declared.runs.Plan.{Plan}
 use Rattle.tas_film.specs.Frames.{AllDrawn, IsLeastHalted, IsRefused, pixmaps_of}
 
--- after want of memory and after a halt nothing is written; where something is, no frame is halted
+-- after being out of memory and after a halt nothing is written; where something is, no frame is halted
 abbrev pub IsExportFault : MovieContent → Plan → Option (List ℕ) → Option (List ℕ) → ExportFault → Type 0
 IsExportFault movie plan old new Memory = new ≡ old
 IsExportFault movie plan old new (Halted halted) = IsLeastHalted movie plan.from plan.to halted × (new ≡ old)

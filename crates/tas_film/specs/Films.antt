@@ -9,7 +9,7 @@ use Rattle.tas_film.specs.declared.film.FilmStop.{FilmStop}
 use Rattle.tas_film.specs.declared.film.FilmStop.TheVariants.{Memory, Halted, Write}
 use Rattle.tas_film.specs.Frames.{IsDrawn, AllDrawn, IsLeastHalted, pixmaps_of}
 
--- a write failed in the pixmap of the frame `last`: all those before it are out, and so many bytes in all. No frame up to it is halted
+-- a write failed in the pixmap of the frame `last`: all those before it are out, and this many bytes in all. No frame up to it is halted
 pub record IsFilmCut (movie : MovieContent) (from to : ℕ) (old new : Option (List ℕ)) (written : ℕ) : Type 0 where
   pub last : ℕ
   pub within : last < to
@@ -25,7 +25,7 @@ IsFilm movie from to old new (Err Memory) = new ≡ old
 IsFilm movie from to old new (Err (Halted halted)) = IsLeastHalted movie from to halted × Appends old new (pixmaps_of movie from (halted.frame - from))
 IsFilm movie from to old new (Err (Write fault)) = IsFilmCut movie from to old new fault.written
 
--- why a frame's pixmap isn't out, or not all of it: the frame is halted, and nothing is written; or a write failed, and so many bytes are out with
+-- why a frame's pixmap isn't out, or not all of it: the frame is halted, and nothing is written; or a write failed, and this many bytes are out with
 -- those before it
 abbrev pub IsFilmStop : MovieContent → ℕ → ℕ → Option (List ℕ) → Option (List ℕ) → FilmStop → Type 0
 IsFilmStop movie frame before old new Memory = ⊥

@@ -17,7 +17,7 @@ first_of_run plan i = plan.from + i * (plan.to - plan.from) / plan.workers
 abbrev pub cost : List Savestate → ℕ → ℕ → ℕ
 cost zone first next = if nat_lt first next then next - nearest first zone else 0
 
--- the frames that so many runs play, from run i on
+-- the frames that this many runs play, from run i on
 abbrev pub costs : List Savestate → Plan → ℕ → ℕ → ℕ
 costs zone plan i count = sum (map (λ j. cost zone (first_of_run plan j) (first_of_run plan (j + 1))) (range_with_len i count))
 
@@ -43,7 +43,7 @@ pub record IsRunEnd (movie : MovieContent) (zone : List Savestate) (first next :
 abbrev pub pixmaps_in : {A : Type 0} → List (Run A) → List (List ℕ)
 pixmaps_in runs = map (λ run. run.pixmaps) runs
 
--- how the first so many runs end: their pixmaps, one after the other, show all frames of these runs
+-- how the first n runs end: their pixmaps, one after the other, show all frames of these runs
 pub record AreRunsEnd (movie : MovieContent) (zone : List Savestate) (plan : Plan) (count : ℕ) (all_pixmaps : List (List ℕ)) (end : RunEnd) : Type 0 where
   pub shows : Shows movie plan.from (first_of_run plan count) (concat all_pixmaps) end.stop
   pub played : end.stop ≡ None → end.played ≡ costs zone plan 0 count

@@ -18,3 +18,4 @@ pub use film::{FilmStop, write_film};
 pub use gate::Gate;
 pub use pixmaps::HaltedFrame;
 pub use runs::{MAX_WORKERS, Plan};
+pub use threads::for_each_on_threads;

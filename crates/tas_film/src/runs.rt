@@ -17,7 +17,7 @@ use tas_green::Green;
 use tas_movie::Movie;
 use vcs_machine::Meter;
 
-/// How many workers one export has at most (own).
+/// How many workers one export has at most.
 pub const MAX_WORKERS: usize = 16;
 
 /// Which frames are drawn, from `from` to the one before `to`, and by how many workers.

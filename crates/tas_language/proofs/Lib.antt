@@ -4,3 +4,5 @@ pub mod OneCommand
 pub mod CommandLemmas
 pub mod OneRequest
 pub mod RequestLemmas
+pub mod MadeLemmas
+pub mod HistoryLemmas

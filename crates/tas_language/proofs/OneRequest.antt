@@ -18,7 +18,7 @@ use Rattle.tas_language.specs.declared.retouch.Retouch.TheVariants.{Press, Relea
 use Rattle.tas_language.specs.declared.edit_line.EditLine.{EditLine}
 use Rattle.tas_language.specs.declared.edit_line.EditLine.TheVariants as edit
 use Rattle.tas_language.specs.declared.request.Request.{Request}
-use Rattle.tas_language.specs.declared.request.Request.TheVariants.{Do, Picture, Pictures, Ram, Digest, Lag, Movie, States, Quit}
+use Rattle.tas_language.specs.declared.request.Request.TheVariants.{Do, Picture, Pictures, Ram, Digest, Lag, Movie, States, Share, History, Quit}
 use Rattle.tas_language.specs.declared.request.Request.TheVariants as request
 use Rattle.byte_text.specs.Splitting.{NoByte}
 use Rattle.tas_language.specs.Commands.{IsNumber, Says, IsChangeLine, pair_text, triple_text, frames_text}
@@ -52,7 +52,7 @@ no_space (x ∷ xs) is = go (x == 32) refl is (no_space xs)
 
 -- ---- what follows the first word
 
--- numbers, then at most one frame, each behind one space
+-- numbers, then at most one frame, each after one space
 abbrev after_word : List ℕ → Option Input → List ℕ
 after_word [] None = []
 after_word [] (Some input) = 32 ∷ frame_text input
@@ -129,6 +129,8 @@ words_of (Digest frame) = record { word = codes "digest"; numbers = frame ∷ []
 words_of (Lag from to) = record { word = codes "lag"; numbers = from ∷ to ∷ []; frame = None }
 words_of Movie = record { word = codes "movie"; numbers = []; frame = None }
 words_of States = record { word = codes "states"; numbers = []; frame = None }
+words_of Share = record { word = codes "share"; numbers = []; frame = None }
+words_of (History from) = record { word = codes "history"; numbers = from ∷ []; frame = None }
 words_of Quit = record { word = codes "quit"; numbers = []; frame = None }
 
 -- the request of such words
@@ -148,6 +150,8 @@ request_of w =
     else if is_word w.word (codes "lag") then Lag a b
     else if is_word w.word (codes "movie") then Movie
     else if is_word w.word (codes "states") then States
+    else if is_word w.word (codes "share") then Share
+    else if is_word w.word (codes "history") then History a
     else Quit
 
 -- a line of a script has another first word
@@ -196,6 +200,8 @@ known line (Digest frame) p = inr (record { text = p.0 ∙ one_number (codes "di
 known line (Lag from to) p = inr (record { text = p.0 ∙ two_numbers (codes "lag") from to; numbers = (p.1, (p.2, tt)); one = refl; makes = refl; other = refl })
 known line Movie p = inr (record { text = p ∙ sym (append-nil (codes "movie")); numbers = tt; one = refl; makes = refl; other = refl })
 known line States p = inr (record { text = p ∙ sym (append-nil (codes "states")); numbers = tt; one = refl; makes = refl; other = refl })
+known line Share p = inr (record { text = p ∙ sym (append-nil (codes "share")); numbers = tt; one = refl; makes = refl; other = refl })
+known line (History from) p = inr (record { text = p.0 ∙ one_number (codes "history") from; numbers = (p.1, tt); one = refl; makes = refl; other = refl })
 known line Quit p = inr (record { text = p ∙ sym (append-nil (codes "quit")); numbers = tt; one = refl; makes = refl; other = refl })
 
 -- ---- the first word of a script's line

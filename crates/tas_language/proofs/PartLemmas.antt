@@ -82,7 +82,7 @@ all_bytes digits room k len le done = sym (take_all (2 * k) digits (omega arith)
 
 -- ---- words
 
--- what is parted behind the first word begins with the space
+-- what is parted after the first word begins with the space
 pub word_end_at : (bytes word more rest : List ℕ) → bytes ≡ word ++ 32 ∷ more → rest ≡ drop (length word) bytes → IsWordEnd rest
 unfolding IsWordEnd
 word_end_at bytes word more rest is r = rw (r, is, drop-append_seam word (32 ∷ more)) refl
@@ -162,7 +162,7 @@ same_word (k ∷ a) (m ∷ b) x y ha hb ex ey e =
     let whole : k ∷ a ≡ m ∷ b = cc in
     (whole, both.1)
 
--- a word and its end, behind a space
+-- a word and its end, after a space
 pub spaced : (text : List ℕ) (first : ℕ) (more word rest : List ℕ) → text ≡ first ∷ more → first ≡ 32 → more ≡ word ++ rest → text ≡ 32 ∷ word ++ rest
 spaced text first more word rest whole is w = whole ∙ ap (λ (n : ℕ). n ∷ more) is ∙ ap (λ (l : List ℕ). 32 ∷ l) w
 

@@ -1,6 +1,5 @@
 -- Words and numbers.
-use Rattle.std.proofs.Common.{◌≡◌, ℕ, ◌+◌, ◌<◌, ◌≤◌, List, [], ◌∷◌, ◌++◌, length, take, get_or, Option, Some, None, refl, sym, subst, ◌∙◌, arith}
-use Rattle.std.proofs.lemmas.List.{take_more}
+use Rattle.std.proofs.Common.{◌≡◌, ℕ, ◌+◌, ◌<◌, ◌≤◌, List, Option, Some, None, sym, ◌∙◌, arith}
 use Rattle.std.proofs.Common.{◌%◌, ◌^◌}
 use Rattle.std.specs.Prelude.{decimal, MatchOption, IfSome, IfNone}
 use Rattle.std.proofs.lemmas.Fmt.{decimal_by_steps, decimal_injective}

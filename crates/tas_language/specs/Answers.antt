@@ -17,7 +17,7 @@ picture_text made k pixmap = codes "picture " ++ decimal made ++ codes " " ++ de
 abbrev pub movie_text : ℕ → List ℕ → List ℕ
 movie_text made text = codes "movie " ++ decimal made ++ codes " " ++ decimal (length text) ++ codes "\n" ++ text
 
--- a frame's number behind one space
+-- a frame's number after one space
 abbrev pub frame_word : ℕ → List ℕ
 frame_word frame = 32 ∷ decimal frame
 
@@ -25,7 +25,7 @@ frame_word frame = 32 ∷ decimal frame
 abbrev pub states_text : ℕ → List ℕ → List ℕ
 states_text made frames = codes "states " ++ decimal made ++ codes " " ++ decimal (length frames) ++ flat_map frame_word frames ++ codes "\n"
 
--- RAM after so many frames: each byte as two upper case hexadecimal digits
+-- RAM after this many frames: each byte as two upper case hexadecimal digits
 abbrev pub ram_text : ℕ → ℕ → List ℕ → List ℕ
 ram_text made frames ram = codes "ram " ++ decimal made ++ codes " " ++ decimal frames ++ codes " " ++ flat_map hex_byte ram ++ codes "\n"
 
@@ -40,3 +40,14 @@ lag_head made a b count = codes "lag " ++ decimal made ++ codes " " ++ decimal a
 
 abbrev pub lag_text : ℕ → ℕ → ℕ → List ℕ → List ℕ
 lag_text made a b lines = lag_head made a b (length lines) ++ lines
+
+-- how many states the greenzone gained
+abbrev pub share_text : ℕ → ℕ → List ℕ
+share_text made gained = codes "share " ++ decimal made ++ codes " " ++ decimal gained ++ codes "\n"
+
+-- the entries of the history from one on: a line that tells how many they are and how many bytes follow, and their lines
+abbrev pub history_head : ℕ → ℕ → ℕ → ℕ → List ℕ
+history_head made from count bytes = codes "history " ++ decimal made ++ codes " " ++ decimal from ++ codes " " ++ decimal count ++ codes " " ++ decimal bytes ++ codes "\n"
+
+abbrev pub history_text : ℕ → ℕ → ℕ → List ℕ → List ℕ
+history_text made from count lines = history_head made from count (length lines) ++ lines

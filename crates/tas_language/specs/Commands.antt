@@ -1,5 +1,5 @@
 -- The lines of a script (own).
-use Rattle.std.specs.Prelude.{◌≡◌, ℕ, ◌≤◌, List, [], ◌∷◌, ◌++◌, codes, decimal}
+use Rattle.std.specs.Prelude.{◌≡◌, ℕ, ◌≤◌, List, ◌∷◌, ◌++◌, codes, decimal}
 use Rattle.tas_movie.specs.Text.{frame_text}
 use Rattle.vcs_machine.specs.declared.input.Input.{Input}
 use Rattle.tas_language.specs.declared.command.Command.{Command}
@@ -51,7 +51,7 @@ abbrev pub image_bytes : Image → List ℕ
 image_bytes (Large bytes) = bytes
 image_bytes (Small bytes) = bytes
 
--- the line loads this image: by the parts behind `load`, or behind `load2` where the cartridge is small
+-- the line loads this image: by the parts after `load`, or after `load2` where the cartridge is small
 abbrev pub Loads : List ℕ → Image → Type 0
 Loads said (Large image) = (parts : List ℕ) × (said ≡ codes "load" ++ parts) × IsImageOf 4096 parts image
 Loads said (Small image) = (parts : List ℕ) × (said ≡ codes "load2" ++ parts) × IsImageOf 2048 parts image

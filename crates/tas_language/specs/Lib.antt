@@ -5,3 +5,5 @@ pub mod Retouches
 pub mod Requests
 pub mod Held
 pub mod Answers
+pub mod Edits
+pub mod History

@@ -21,7 +21,7 @@ pub record Part : Type 0 where
 abbrev pub IsBytes : List ℕ → Type 0
 IsBytes bytes = (k : ℕ) → slice_index bytes k < 256
 
--- at least one byte, and none past the end of an image of so many bytes
+-- at least one byte, and none past the end of an image of this many bytes
 pub record IsPart (size : ℕ) (part : Part) : Type 0 where
   pub some : 0 < length part.bytes
   pub within : part.offset + length part.bytes ≤ size
@@ -36,7 +36,7 @@ IsWordEnd (byte ∷ bytes) = byte ≡ 32
 abbrev pub word_text : Part → List ℕ
 word_text part = offset_text part.offset ++ 61 ∷ hex_text part.bytes
 
--- a part stands behind one space
+-- a part stands after one space
 abbrev pub part_text : Part → List ℕ
 part_text part = 32 ∷ word_text part
 
@@ -49,12 +49,12 @@ unfoldable pub overwritten_by_all : List ℕ → List Part → List ℕ
 overwritten_by_all image [] = image
 overwritten_by_all image (part ∷ parts) = overwritten_by_all (overwritten part image) parts
 
--- each is a part of an image of so many bytes
+-- each is a part of an image of this many bytes
 unfoldable pub AreParts : ℕ → List Part → Type 0
 AreParts size [] = Unit {0}
 AreParts size (part ∷ parts) = IsPart size part × AreParts size parts
 
--- the text names one or more parts, and the image of so many bytes is theirs, over zeros
+-- the text names one or more parts, and the image of this many bytes is theirs, over zeros
 pub record IsImageOf (size : ℕ) (said : List ℕ) (image : List ℕ) : Type 0 where
   pub parts : List Part
   pub some : 0 < length parts

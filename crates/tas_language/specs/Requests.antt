@@ -2,7 +2,7 @@
 use Rattle.std.specs.Prelude.{◌≡◌, ℕ, ◌+◌, ◌<◌, ◌≤◌, List, ◌++◌, length, codes, decimal, Option, Some, None}
 use Rattle.tas_language.specs.Commands.{Says, IsNumber, pair_text}
 use Rattle.tas_language.specs.declared.request.Request.{Request}
-use Rattle.tas_language.specs.declared.request.Request.TheVariants.{Do, Picture, Pictures, Ram, Digest, Lag, Movie, States, Quit}
+use Rattle.tas_language.specs.declared.request.Request.TheVariants.{Do, Picture, Pictures, Ram, Digest, Lag, Movie, States, Share, History, Quit}
 use Rattle.tas_language.specs.declared.request.Request.TheVariants as request
 use Rattle.tas_language.specs.Retouches.{IsRetouchLine}
 
@@ -25,12 +25,15 @@ Asks said (Digest frame) = (said ≡ codes "digest " ++ decimal frame) × IsNumb
 Asks said (Lag from to) = (said ≡ codes "lag " ++ pair_text from to) × IsNumber from × IsNumber to
 Asks said Movie = said ≡ codes "movie"
 Asks said States = said ≡ codes "states"
+Asks said Share = said ≡ codes "share"
+Asks said (History from) = (said ≡ codes "history " ++ decimal from) × IsNumber from
 Asks said Quit = said ≡ codes "quit"
 
 -- a line of one word. Private functions cite it
 abbrev pub IsOneWord : Request → Type 0
 IsOneWord Movie = Unit {0}
 IsOneWord States = Unit {0}
+IsOneWord Share = Unit {0}
 IsOneWord Quit = Unit {0}
 IsOneWord (Do command) = ⊥
 IsOneWord (request.Retouch retouch) = ⊥
@@ -39,6 +42,7 @@ IsOneWord (Pictures from to) = ⊥
 IsOneWord (Ram frames) = ⊥
 IsOneWord (Digest frame) = ⊥
 IsOneWord (Lag from to) = ⊥
+IsOneWord (History from) = ⊥
 
 -- how many bytes a line has at most that is understood, without its newline
 abbrev pub most_bytes : ℕ

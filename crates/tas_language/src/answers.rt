@@ -4,7 +4,7 @@ ghost use Rattle.std.specs.Prelude.{◌≡◌, ◌++◌, length, IfOk, OnOk};
 ghost use Rattle.std.specs.List.{flat_map};
 ghost use Rattle.vcs_tia.specs.Image.{ppm_bytes};
 ghost use Rattle.tas_movie.specs.Text.{text2};
-ghost use Rattle.tas_language.specs.Answers.{picture_text, movie_text, states_text, frame_word};
+ghost use Rattle.tas_language.specs.Answers.{picture_text, movie_text, states_text, share_text, frame_word};
 
 use itoa::Buffer;
 use std::alloc::{AllocError, Allocator};
@@ -28,7 +28,7 @@ pub fn push_pixmap<A: Allocator, B: Allocator>(
 }
 
 /// The answer to `picture K`: `picture AT K BYTES`, a newline, and the picture as a binary portable pixmap of this many bytes
-/// (own). `AllocError` where memory is refused.
+///. `AllocError` where memory is refused.
 pub fn picture_answer<A: Allocator + Copy, B: Allocator>(
     alloc: A,
     at: u64,
@@ -43,7 +43,7 @@ pub fn picture_answer<A: Allocator + Copy, B: Allocator>(
 }
 
 /// The answer to `movie`: `movie AT BYTES`, a newline, and the movie's text of this many bytes, with a line for each run of equal
-/// frames (own). `AllocError` where memory is refused.
+/// frames. `AllocError` where memory is refused.
 pub fn movie_answer<A: Allocator + Copy, B: Allocator>(
     alloc: A,
     at: u64,
@@ -77,7 +77,7 @@ fn push_frames<A: Allocator>(bytes: &mut Vec<u8, A>, frames: &[usize]) -> Result
     Ok(())
 }
 
-/// The answer to `states`: `states AT N` and the N frames, in the order in which they are given (own). `AllocError` where memory
+/// The answer to `states`: `states AT N` and the N frames, in the order in which they are given. `AllocError` where memory
 /// is refused.
 pub fn states_answer<A: Allocator>(
     alloc: A,
@@ -91,4 +91,16 @@ pub fn states_answer<A: Allocator>(
     push_frames(&mut bytes, frames)?;
     bytes.push(b'\n')?;
     Ok(bytes)
+}
+
+/// The answer to `share`: `share AT N`, with the number of states that the greenzone gained. `AllocError` where memory is
+/// refused.
+pub fn share_answer<A: Allocator>(
+    alloc: A,
+    at: u64,
+    gained: usize,
+) -> Result<Vec<u8, A>, AllocError>
+    ensures { IfOk result (λ bytes. bytes.items ≡ share_text at gained) }
+{
+    Ok(format!(in alloc; "share {at} {gained}\n")?.into_bytes())
 }

@@ -11,7 +11,7 @@ use std::alloc::{AllocError, Allocator};
 use tas_movie::print_frame;
 use vcs_machine::Input;
 
-/// A change of a movie's inputs, as one line of a script says it (own).
+/// A change of a movie's inputs, as one line of a script says it.
 #[derive(Clone, Copy, Debug, PartialEq, Eq)]
 pub enum Change {
     /// `insert PLACE COUNT FRAME`: copies of one input are put in.
@@ -41,7 +41,7 @@ pub enum Change {
     },
 }
 
-/// The change that a line, without its newline, says; nothing where it says none (own). The lines are
+/// The change that a line, without its newline, says; nothing where it says none. The lines are
 /// those of `tas script`, of which only these three kinds are changes.
 pub fn read_change(line: &[u8]) -> Option<Change>
     ensures some { IfSome result (IsChangeLine line.now) }
@@ -80,7 +80,7 @@ fn delete_line<A: Allocator>(alloc: A, at: usize, count: usize) -> Result<Vec<u8
     Ok(format!(in alloc; "delete {at} {count}\n")?.into_bytes())
 }
 
-/// The line that says a change, with its newline (own). `AllocError` where memory is refused.
+/// The line that says a change, with its newline. `AllocError` where memory is refused.
 pub fn change_line<A: Allocator>(alloc: A, change: Change) -> Result<Vec<u8, A>, AllocError>
     ensures { IfOk result (λ bytes. bytes.items ≡ line (change_text change)) }
 {

@@ -2,7 +2,7 @@
 
 use crate::{Change, Image};
 
-/// What a line of a script asks for (own). Numbers are at most [`MAX_NUMBER`](crate::MAX_NUMBER).
+/// What a line of a script asks for. Numbers are at most [`MAX_NUMBER`](crate::MAX_NUMBER).
 #[derive(Clone, Copy, Debug, PartialEq, Eq)]
 pub enum Command {
     /// `load OFF=HEX ..`, or `load2 OFF=HEX ..` for a small cartridge: another cartridge.

@@ -7,7 +7,7 @@ ghost use Rattle.tas_language.specs.Retouches.{IsEditLine};
 use crate::words::{strip, triple};
 use crate::{Change, Retouch, read_change, read_retouch};
 
-/// A line of `tas edit` (own).
+/// A line of `tas edit`.
 #[derive(Clone, Copy, Debug, PartialEq, Eq)]
 pub enum EditLine {
     /// A line of a script that changes the inputs.
@@ -25,7 +25,7 @@ pub enum EditLine {
     },
 }
 
-/// What a line of `tas edit`, without its newline, says; nothing where it isn't understood (own). Takes no memory.
+/// What a line of `tas edit`, without its newline, says; nothing where it isn't understood. Takes no memory.
 pub fn read_edit_line(line: &[u8]) -> Option<EditLine>
     ensures some { IfSome result (IsEditLine line.now) }
     ensures none { IfNone result ((said : Asked) → IsEditLine line.now said → ⊥) }

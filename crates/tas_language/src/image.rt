@@ -4,7 +4,7 @@ ghost use Rattle.std.specs.Prelude.{◌≡◌};
 
 use vcs_machine::{CART_SIZE, SMALL_CART_SIZE};
 
-/// A cartridge's bytes, as a line of a script writes them (own).
+/// A cartridge's bytes, as a line of a script writes them.
 #[derive(Clone, Copy, Debug, PartialEq, Eq)]
 pub enum Image {
     /// Those of a cartridge that is no small one.

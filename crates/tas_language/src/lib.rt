@@ -3,14 +3,13 @@
 //!
 //! A script has the lines of [`Command`]; a conversation has those and some more ([`Request`]). A script's replies are those of
 //! [`Reply`]; the other lines of a conversation have answers of their own. A script of `tas edit` has the lines of [`EditLine`].
-//!
-//! '(own)' marks a decision of this project, one that no manual makes.
 #![tactic(auto)]
 
 mod answers;
 mod change;
 mod command;
 mod edit_line;
+mod history;
 mod image;
 mod laws;
 mod line;
@@ -23,12 +22,15 @@ mod request;
 mod retouch;
 mod words;
 
-pub use answers::{movie_answer, picture_answer, states_answer};
+pub use answers::{movie_answer, picture_answer, share_answer, states_answer};
 pub use change::{Change, change_line, read_change};
 pub use command::Command;
 pub use edit_line::{EditLine, read_edit_line};
+pub use history::{history_answer, push_edit_lines, push_entry};
 pub use image::Image;
-pub use laws::{one_command_per_line, one_edit_line_per_line, one_request_per_line};
+pub use laws::{
+    edit_lines_make_the_edit, one_command_per_line, one_edit_line_per_line, one_request_per_line,
+};
 pub use line::{Line, MAX_LINE};
 pub use looks::{digest_answer, lag_answer, ram_answer};
 pub use parsing::{MAX_PICTURES, parse_line, parse_request};

@@ -7,10 +7,10 @@ ghost use Rattle.tas_language.specs.Held.{HoldsLine};
 use crate::{Request, parse_request};
 use std::alloc::{AllocError, Allocator, Global};
 
-/// The longest line that is understood, in bytes without its newline (own).
+/// The longest line that is understood, in bytes without its newline.
 pub const MAX_LINE: usize = 16_384;
 
-/// The bytes of a line so far (own). Of one that is longer than [`MAX_LINE`] only this is known, so it never takes more memory
+/// The bytes of a line so far. Of one that is longer than [`MAX_LINE`] only this is known, so it never takes more memory
 /// (no clause says so).
 #[derive(Drop)]
 pub struct Line<A: Allocator = Global> {

@@ -13,7 +13,7 @@ use std::alloc::{AllocError, Allocator};
 use vcs_tia::Picture;
 
 /// Appends each byte as two upper case hexadecimal digits.
-fn push_digits<A: Allocator>(out: &mut Vec<u8, A>, bytes: &[u8]) -> Result<(), AllocError>
+pub fn push_digits<A: Allocator>(out: &mut Vec<u8, A>, bytes: &[u8]) -> Result<(), AllocError>
     ensures { OnOk result (out.new.items ≡ out.old.items ++ flat_map hex_byte bytes.now) }
 {
     for byte in bytes {
@@ -22,7 +22,7 @@ fn push_digits<A: Allocator>(out: &mut Vec<u8, A>, bytes: &[u8]) -> Result<(), A
     Ok(())
 }
 
-/// The answer to `ram K`: `ram AT K` and two upper case hexadecimal digits for each byte of RAM (own). `AllocError` where memory is
+/// The answer to `ram K`: `ram AT K` and two upper case hexadecimal digits for each byte of RAM. `AllocError` where memory is
 /// refused.
 pub fn ram_answer<A: Allocator>(
     alloc: A,
@@ -39,7 +39,7 @@ pub fn ram_answer<A: Allocator>(
 }
 
 /// The answer to `digest K`: `digest AT K ram HEX picture HEX`, with the SHA-256 of RAM after the frame, and that of the picture's
-/// binary portable pixmap (own). `AllocError` where memory is refused.
+/// binary portable pixmap. `AllocError` where memory is refused.
 pub fn digest_answer<A: Allocator + Copy, B: Allocator>(
     alloc: A,
     at: u64,
@@ -70,7 +70,7 @@ fn lag_head<A: Allocator>(
     Ok(format!(in alloc; "lag {at} {from} {to} {count}\n")?.into_bytes())
 }
 
-/// The answer to `lag A B`: `lag AT A B BYTES`, a newline, and this many bytes: the lines of the stretches of lag frames (own).
+/// The answer to `lag A B`: `lag AT A B BYTES`, a newline, and this many bytes: the lines of the stretches of lag frames.
 /// `AllocError` where memory is refused.
 pub fn lag_answer<A: Allocator>(
     alloc: A,

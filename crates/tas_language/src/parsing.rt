@@ -10,7 +10,7 @@ use crate::loading::load_image;
 use crate::words::{frames, number, pair, strip};
 use crate::{Change, Command, Image, Request, read_retouch};
 
-/// What a line, without its newline, asks for; nothing where it isn't understood (own). Takes no memory.
+/// What a line, without its newline, asks for; nothing where it isn't understood. Takes no memory.
 pub fn parse_line(line: &[u8]) -> Option<Command>
     ensures some { IfSome result (Says line.now) }
     ensures none { IfNone result ((command : Asked) → Says line.now command → ⊥) }
@@ -60,7 +60,7 @@ fn numbered(line: &[u8], front: &[u8]) -> Option<usize>
     number(rest)
 }
 
-/// How many pictures one line asks for at most (own).
+/// How many pictures one line asks for at most.
 pub const MAX_PICTURES: usize = 1024;
 
 /// The frames of a `pictures` line.
@@ -102,13 +102,16 @@ fn one_word(line: &[u8]) -> Option<Request>
     if line == b"states".as_slice() {
         return Some(Request::States);
     }
+    if line == b"share".as_slice() {
+        return Some(Request::Share);
+    }
     if line == b"quit".as_slice() {
         return Some(Request::Quit);
     }
     None
 }
 
-/// What a line of any length, without its newline, asks for; nothing where it isn't understood (own). Takes no memory.
+/// What a line of any length, without its newline, asks for; nothing where it isn't understood. Takes no memory.
 pub fn parse_request(line: &[u8]) -> Option<Request>
     ensures some { IfSome result (Asks line.now) }
     ensures none { IfNone result ((request : AskedFor) → Asks line.now request → ⊥) }
@@ -127,6 +130,9 @@ pub fn parse_request(line: &[u8]) -> Option<Request>
     }
     if let Some(frame) = numbered(line, b"digest ") {
         return Some(Request::Digest { frame });
+    }
+    if let Some(from) = numbered(line, b"history ") {
+        return Some(Request::History { from });
     }
     if let Some((from, to)) = lag_frames(line) {
         return Some(Request::Lag { from, to });

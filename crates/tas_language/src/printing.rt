@@ -110,7 +110,7 @@ fn out_of_memory_line<A: Allocator>(alloc: A) -> Result<Vec<u8, A>, AllocError>
     Vec::from_slice(alloc, b"out of memory\n")
 }
 
-/// The line of a reply, with its newline (own). `AllocError` where memory is refused.
+/// The line of a reply, with its newline. `AllocError` where memory is refused.
 pub fn reply_line<A: Allocator>(alloc: A, reply: Reply) -> Result<Vec<u8, A>, AllocError>
     ensures { IfOk result (λ bytes. bytes.items ≡ reply_text reply) }
 {

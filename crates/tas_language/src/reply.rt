@@ -2,7 +2,7 @@
 
 use vcs_machine::Input;
 
-/// What is answered to a line of a script (own). `at` is the number of edits that were made before the reply, an
+/// What is answered to a line of a script. `at` is the number of edits that were made before the reply, an
 /// accepted edit of this line included.
 #[derive(Clone, Copy, Debug)]
 pub enum Reply {

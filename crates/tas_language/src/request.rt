@@ -2,7 +2,7 @@
 
 use crate::{Command, Retouch};
 
-/// What a line of a conversation asks for (own).
+/// What a line of a conversation asks for.
 #[derive(Clone, Copy)]
 pub enum Request {
     /// A line of a script.
@@ -21,7 +21,7 @@ pub enum Request {
         /// The place after the last one.
         to: usize,
     },
-    /// `ram K`: RAM after so many frames.
+    /// `ram K`: RAM after this many frames.
     Ram {
         /// The number of frames from power-on.
         frames: usize,
@@ -42,6 +42,13 @@ pub enum Request {
     Movie,
     /// `states`: the frames of the kept states.
     States,
+    /// `share`: the greenzone is brought up to the movie, and gains the states that are kept for all.
+    Share,
+    /// `history FROM`: the entries of the history from one on.
+    History {
+        /// The number of the first entry, counted from 0.
+        from: usize,
+    },
     /// `quit`: the conversation's end.
     Quit,
 }

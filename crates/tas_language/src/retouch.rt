@@ -7,7 +7,7 @@ ghost use Rattle.tas_language.specs.Retouches.{IsRetouchLine};
 use crate::words::{frames, strip, triple};
 use vcs_machine::Input;
 
-/// A change that depends on the movie's frames, as one line says it (own).
+/// A change that depends on the movie's frames, as one line says it.
 #[derive(Clone, Copy, Debug, PartialEq, Eq)]
 pub enum Retouch {
     /// `press AT COUNT FRAME`: the switches of an input are pressed in some frames, whatever else is pressed there.
@@ -48,7 +48,7 @@ pub enum Retouch {
     },
 }
 
-/// The retouch that a line, without its newline, says; nothing where it says none (own). Takes no memory.
+/// The retouch that a line, without its newline, says; nothing where it says none. Takes no memory.
 pub fn read_retouch(line: &[u8]) -> Option<Retouch>
     ensures some { IfSome result (IsRetouchLine line.now) }
     ensures none { IfNone result ((retouch : Asked) → IsRetouchLine line.now retouch → ⊥) }

@@ -9,10 +9,10 @@ use byte_text::{read_decimal, split_once};
 use tas_movie::read_frame;
 use vcs_machine::Input;
 
-/// The greatest number of a script: seven digits (own).
+/// The greatest number of a script: seven digits.
 pub const MAX_NUMBER: usize = 9_999_999;
 
-/// The bytes of `line` behind `front`; nothing where the line doesn't begin with it (own).
+/// The bytes of `line` after `front`; nothing where the line doesn't begin with it.
 pub fn strip<'a>(line: &'a [u8], front: &[u8]) -> Option<&'a [u8]>
     ensures some { IfSome result (λ rest. line.entry.now ≡ front.now ++ rest.now) }
     ensures none { IfNone result ((rest : List ℕ) → line.entry.now ≢ front.now ++ rest) }
@@ -21,7 +21,7 @@ pub fn strip<'a>(line: &'a [u8], front: &[u8]) -> Option<&'a [u8]>
 }
 
 /// The number of one to seven digits without leading zeros that these bytes write; nothing where they
-/// write none (own).
+/// write none.
 pub fn number(word: &[u8]) -> Option<usize>
     ensures some { IfSome result (λ n. (word.now ≡ decimal n) × IsNumber n) }
     ensures none { IfNone result ((n : ℕ) → IsNumber n → word.now ≢ decimal n) }

@@ -1,1 +1,3 @@
+pub mod DeskLines
+pub mod PairLemmas
 pub mod ProgramLemmas

@@ -10,9 +10,10 @@ use Rattle.tas_words.specs.declared.request.Request.TheVariants.{Do, Show, Refus
 use Rattle.tas_words.specs.declared.task.Task.{Task}
 use Rattle.tas_words.specs.Requests.{AreGiven, IsNoTask, IsRequest}
 use Rattle.tas_program.specs.Program.{IsAskedBy, end_status, FileEngine, TwoFilesEngine, ThreeFilesEngine, EndsOver, EndsOverTwo, EndsOverThree, DoesTask, TaskEnds}
+use Rattle.tas_program.specs.Files.{FileBytes}
 use Rattle.tas_program.specs.Streams.{StreamBytes}
 
-pub task_ends : (files : List ℕ → Option (List ℕ)) (chosen : Task) (old new : StreamBytes) (end : Result (Unit {0}) ToolFault) → DoesTask files chosen old new end → TaskEnds files chosen old new (end_status end)
+pub task_ends : (files : FileBytes) (chosen : Task) (old new : StreamBytes) (end : Result (Unit {0}) ToolFault) → DoesTask files chosen old new end → TaskEnds files chosen old new (end_status end)
 task_ends files chosen old new (Ok u) does = does
 task_ends files chosen old new (Err fault) does = (fault, does)
 

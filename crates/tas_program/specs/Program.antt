@@ -1,5 +1,5 @@
--- How the program ends: what it writes, and its status (own).
-use Rattle.std.specs.Prelude.{◌≡◌, ℕ, max, List, ◌⊎◌, Option, Some, None, Result, Ok, Err, String, string_bytes}
+-- How the program ends: what it writes, and its status.
+use Rattle.std.specs.Prelude.{◌≡◌, ℕ, max, map, List, ◌⊎◌, Option, Some, None, Result, Ok, Err, String, string_bytes}
 use Rattle.std.specs.declared.vec.IntoIter.{IntoIter}
 use Rattle.std.specs.declared.io.Error.{Error}
 use Rattle.std.specs.Io.KnownBytes.{Appends}
@@ -25,18 +25,25 @@ use Rattle.tas_engines.specs.Ram.{IsRamRun}
 use Rattle.tas_tool.specs.Films.{IsFilmRun}
 use Rattle.tas_engines.specs.Editing.{IsEditRun, IsEditWithRun}
 use Rattle.tas_engines.specs.Cutting.{IsCutRun}
+use Rattle.std.specs.Global.{Global as GlobalType}
+use Rattle.tas_seat.specs.Lines.{LineEnds, line_facts}
+use Rattle.tas_tool.specs.Desks.{IsDeskRun}
+use Rattle.tas_words.specs.Task.{pairs_in}
+use Rattle.tas_words.specs.declared.task.Pair.{Pair}
+use Rattle.tas_words.specs.declared.task.Pairs.{Pairs}
 use Rattle.tas_words.specs.declared.request.Request.{Request}
 use Rattle.tas_words.specs.declared.request.Request.TheVariants.{Do, Show, Refuse, NoMemory}
 use Rattle.tas_program.specs.declared.status.Status.{Status}
 use Rattle.tas_program.specs.declared.status.Status.TheVariants.{Done, Fault, Misuse}
 use Rattle.tas_words.specs.declared.task.Task.{Task}
-use Rattle.tas_words.specs.declared.task.Task.TheVariants.{Trace, Check, Migrate, Shot, Film, Export, Ram, Digest, Compare, Lag, Edit, Cut, Diff, Script, Talk}
+use Rattle.tas_words.specs.declared.task.Task.TheVariants.{Trace, Check, Migrate, Shot, Film, Export, Ram, Digest, Compare, Lag, Edit, Cut, Diff, Script, Talk, Desk}
 use Rattle.tas_words.specs.declared.task.Start.TheVariants.{Blank, Cart, Movie}
 use Rattle.clap.specs.Walk.{Text}
 use Rattle.tas_words.specs.Requests.{AreGiven, IsRequest}
+use Rattle.tas_program.specs.Files.{FileBytes}
 use Rattle.tas_program.specs.Streams.{StreamBytes}
 
--- the number that the system is told
+-- the number that is reported to the system
 abbrev pub status_code : Status → ℕ
 status_code Done = 0
 status_code Fault = 1
@@ -74,31 +81,44 @@ EndsOverThree one two three engine old new end =
     ((end ≡ Err (Read Failed)) × (new ≡ old))
     ⊎ ((left left' left'' : Option (List ℕ)) × engine one left two left' three left'' old.input new.input old.output new.output end)
 
+-- the line of a desk's pair: the bytes of its first file, and those that its second one holds
+abbrev pub line_by : FileBytes → Pair → LineEnds
+line_by files pair = record { given = files.read pair.input.now; held = files.held pair.output.now }
+
+-- those of its pairs, in order
+abbrev pub lines_of : FileBytes → Pairs → List LineEnds
+lines_of files pairs = map (line_by files) (pairs_in pairs)
+
+-- a desk of these lines, over a cartridge and a movie; it reads nothing of the input
+abbrev pub IsDeskTask : List LineEnds → TwoFilesEngine
+IsDeskTask lines cart cart' movie movie' input input' output output' end = (input' ≡ input) × IsDeskRun GlobalType line_facts lines lines cart cart' movie movie' output output' end
+
 -- a task ends as the definition of its command says, over its files and the streams
-abbrev pub DoesTask : (List ℕ → Option (List ℕ)) → Task → StreamBytes → StreamBytes → Result (Unit {0}) ToolFault → Type 0
+abbrev pub DoesTask : FileBytes → Task → StreamBytes → StreamBytes → Result (Unit {0}) ToolFault → Type 0
 DoesTask files (Trace n) old new end = IsTraceRun n old.input new.input old.output new.output end
-DoesTask files (Check cart) old new end = EndsOver (files cart.now) (IsMovieRun IsCheckAnswer) old new end
-DoesTask files (Migrate cart) old new end = EndsOver (files cart.now) (IsMovieRun IsMigrateAnswer) old new end
-DoesTask files (Shot cart k) old new end = EndsOver (files cart.now) (IsMovieRun (IsShotAnswer k)) old new end
-DoesTask files (Film cart from to) old new end = EndsOver (files cart.now) (IsFilmRun from to) old new end
-DoesTask files (Export cart from to workers) old new end = EndsOver (files cart.now) (IsMovieRun (IsExportAnswer from to)) old new end
-DoesTask files (Ram cart from to) old new end = EndsOver (files cart.now) (IsRamRun from to) old new end
-DoesTask files (Digest cart every) old new end = EndsOver (files cart.now) (IsDigestRun (max every 1)) old new end
-DoesTask files (Compare cart before) old new end = EndsOverTwo (files cart.now) (files before.now) IsCompareRun old new end
-DoesTask files (Lag cart) old new end = EndsOver (files cart.now) IsLagRun old new end
-DoesTask files (Edit cart script None) old new end = EndsOverTwo (files cart.now) (files script.now) IsEditRun old new end
+DoesTask files (Check cart) old new end = EndsOver (files.read cart.now) (IsMovieRun IsCheckAnswer) old new end
+DoesTask files (Migrate cart) old new end = EndsOver (files.read cart.now) (IsMovieRun IsMigrateAnswer) old new end
+DoesTask files (Shot cart k) old new end = EndsOver (files.read cart.now) (IsMovieRun (IsShotAnswer k)) old new end
+DoesTask files (Film cart from to) old new end = EndsOver (files.read cart.now) (IsFilmRun from to) old new end
+DoesTask files (Export cart from to workers) old new end = EndsOver (files.read cart.now) (IsMovieRun (IsExportAnswer from to)) old new end
+DoesTask files (Ram cart from to) old new end = EndsOver (files.read cart.now) (IsRamRun from to) old new end
+DoesTask files (Digest cart every) old new end = EndsOver (files.read cart.now) (IsDigestRun (max every 1)) old new end
+DoesTask files (Compare cart before) old new end = EndsOverTwo (files.read cart.now) (files.read before.now) IsCompareRun old new end
+DoesTask files (Lag cart) old new end = EndsOver (files.read cart.now) IsLagRun old new end
+DoesTask files (Edit cart script None) old new end = EndsOverTwo (files.read cart.now) (files.read script.now) IsEditRun old new end
 DoesTask files (Edit cart script (Some other)) old new end =
-    EndsOverThree (files cart.now) (files script.now) (files other.now) IsEditWithRun old new end
-DoesTask files (Cut cart from to) old new end = EndsOver (files cart.now) (IsCutRun from to) old new end
-DoesTask files (Diff cart before) old new end = EndsOverTwo (files cart.now) (files before.now) IsDiffRun old new end
+    EndsOverThree (files.read cart.now) (files.read script.now) (files.read other.now) IsEditWithRun old new end
+DoesTask files (Cut cart from to) old new end = EndsOver (files.read cart.now) (IsCutRun from to) old new end
+DoesTask files (Diff cart before) old new end = EndsOverTwo (files.read cart.now) (files.read before.now) IsDiffRun old new end
 DoesTask files (Script None) old new end = IsScriptRun old.input new.input old.output new.output end
-DoesTask files (Script (Some start)) old new end = EndsOverTwo (files start.cart.now) (files start.movie.now) IsMovieScriptRun old new end
+DoesTask files (Script (Some start)) old new end = EndsOverTwo (files.read start.cart.now) (files.read start.movie.now) IsMovieScriptRun old new end
 DoesTask files (Talk Blank) old new end = IsTalk (talk_state_from None) old.input new.input old.output new.output end
-DoesTask files (Talk (Cart cart)) old new end = EndsOver (files cart.now) IsCartTalk old new end
-DoesTask files (Talk (Movie start)) old new end = EndsOverTwo (files start.cart.now) (files start.movie.now) IsMovieTalk old new end
+DoesTask files (Talk (Cart cart)) old new end = EndsOver (files.read cart.now) IsCartTalk old new end
+DoesTask files (Talk (Movie start)) old new end = EndsOverTwo (files.read start.cart.now) (files.read start.movie.now) IsMovieTalk old new end
+DoesTask files (Desk cart movie pairs) old new end = EndsOverTwo (files.read cart.now) (files.read movie.now) (IsDeskTask (lines_of files pairs)) old new end
 
 -- the program's end after a task: done where the task is, else a fault
-abbrev pub TaskEnds : (List ℕ → Option (List ℕ)) → Task → StreamBytes → StreamBytes → Status → Type 0
+abbrev pub TaskEnds : FileBytes → Task → StreamBytes → StreamBytes → Status → Type 0
 TaskEnds files chosen old new Done = DoesTask files chosen old new (Ok tt)
 TaskEnds files chosen old new Fault = (fault : ToolFault) × DoesTask files chosen old new (Err fault)
 TaskEnds files chosen old new Misuse = ⊥
@@ -110,7 +130,7 @@ TextEnds text old new Fault = (fault : RunFault) × StopsWriting old new text fa
 TextEnds text old new Misuse = ⊥
 
 -- the program's end after a request: where there is no task, nothing is read, and where there is nothing to show, nothing is written
-abbrev pub CarriesOut : {A : Type 0} → (List ℕ → Option (List ℕ)) → Request A → StreamBytes → StreamBytes → Status → Type 0
+abbrev pub CarriesOut : {A : Type 0} → FileBytes → Request A → StreamBytes → StreamBytes → Status → Type 0
 CarriesOut files (Do chosen) old new status = TaskEnds files chosen old new status
 CarriesOut files (Show text) old new status = (new.input ≡ old.input) × TextEnds (string_bytes text) old.output new.output status
 CarriesOut files (Refuse text) old new status = (status ≡ Misuse) × (new ≡ old)
@@ -122,5 +142,5 @@ IsAskedBy {A = A} given (Do chosen) = (words : List Text) × AreGiven given word
 IsAskedBy given _ = Unit {0}
 
 -- the program carries out what the words may ask for
-abbrev pub ProgramEnds : {A : Type 0} → Result (IntoIter (String A) A) Error → (List ℕ → Option (List ℕ)) → StreamBytes → StreamBytes → Status → Type 0
+abbrev pub ProgramEnds : {A : Type 0} → Result (IntoIter (String A) A) Error → FileBytes → StreamBytes → StreamBytes → Status → Type 0
 ProgramEnds {A = A} given files old new status = (request : Request A) × IsAskedBy given request × CarriesOut files request old new status

@@ -3,11 +3,10 @@
 //!
 //! [`run_program`] reads the words into a [`Request`] and carries it out. The program's crate only
 //! hands it the real arguments, files and streams; tests hand it others.
-//!
-//! '(own)' marks a decision of this project, one that no manual makes.
 #![tactic(auto)]
 
 mod folder;
+mod pipes;
 mod running;
 mod status;
 mod streams;
@@ -17,6 +16,6 @@ pub use running::{carry_out, run_program, run_task};
 pub use status::Status;
 pub use streams::Streams;
 pub use tas_words::{
-    MAX_EVERY, MAX_FRAME_NUMBER, MAX_INSTRUCTIONS, MAX_WORKERS, MovieFiles, Request, Start, Task,
-    USUAL_EVERY, read_request, read_words,
+    MAX_EVERY, MAX_FRAME_NUMBER, MAX_INSTRUCTIONS, MAX_WORKERS, MovieFiles, Pair, Pairs, Request,
+    Start, Task, USUAL_EVERY, read_request, read_words,
 };

@@ -1,12 +1,14 @@
 //! Carrying a request out.
 
-ghost use Rattle.std.specs.Prelude.{◌≡◌, IfOk, IfErr, OnOk, OnErr};
+ghost use Rattle.std.specs.Prelude.{◌≡◌, ℕ, List, Option, IfOk, IfErr, OnOk, OnErr};
 ghost use Rattle.std.specs.Io.KnownBytes.{Appends};
 ghost use Rattle.tas_engines.specs.declared.fault.RunFault.{RunFault};
 ghost use Rattle.tas_engines.specs.Output.{StopsWriting};
-ghost use Rattle.tas_words.specs.declared.task.Task.TheVariants.{Edit, Script, Talk};
+ghost use Rattle.tas_words.specs.declared.task.Task.TheVariants.{Desk, Edit, Script, Talk};
+ghost use Rattle.tas_program.specs.Files.{files_by};
 ghost use Rattle.tas_program.specs.Program.{DoesTask, CarriesOut, ProgramEnds, end_status};
 
+use crate::pipes::pipes_of;
 use crate::{Folder, Status, Streams};
 use std::alloc::{Allocator, Global};
 use std::env::Args;
@@ -15,12 +17,12 @@ use std::io::{Read, Write};
 use std::sync::Wait;
 use std::thread::Threads;
 use tas_tool::{
-    ReadFault, RunFault, ToolFault, cart_talk_run, check_run, compare_run, cut_run, diff_run,
-    digest_run, edit_run, edit_with_run, export_run, film_run, lag_run, migrate_run,
+    ReadFault, RunFault, ToolFault, cart_talk_run, check_run, compare_run, cut_run, desk_run,
+    diff_run, digest_run, edit_run, edit_with_run, export_run, film_run, lag_run, migrate_run,
     movie_script_run, movie_talk_run, ram_run, script_run, shot_run, talk_run, trace_run,
     write_all,
 };
-use tas_words::{MovieFiles, Request, Start, Task, collect_words, read_request};
+use tas_words::{MovieFiles, Pairs, Request, Start, Task, collect_words, read_request};
 
 /// Opens a file of this name.
 fn open<F: Folder>(folder: &F, name: &str) -> Result<F::File, ToolFault>
@@ -41,7 +43,8 @@ fn run_script<T: Wait, A: Allocator + Copy, F: Folder, R: Read, W: Write>(
     input: &mut R,
     output: &mut W,
 ) -> Result<(), ToolFault>
-    ensures { DoesTask (F.bytes_of folder.now) (Script start.entry)
+    ensures { DoesTask (files_by (F.bytes_of folder.now) (F.held_by folder.now))
+        (Script start.entry)
         (record { input = R.remaining input.old; output = W.contents output.old })
         (record { input = R.remaining input.new; output = W.contents output.new }) result }
 {
@@ -64,7 +67,8 @@ fn run_edit<A: Allocator + Copy, F: Folder, R: Read, W: Write>(
     input: &mut R,
     output: &mut W,
 ) -> Result<(), ToolFault>
-    ensures { DoesTask (F.bytes_of folder.now) (Edit cart.entry script.entry other.entry)
+    ensures { DoesTask (files_by (F.bytes_of folder.now) (F.held_by folder.now))
+        (Edit cart.entry script.entry other.entry)
         (record { input = R.remaining input.old; output = W.contents output.old })
         (record { input = R.remaining input.new; output = W.contents output.new }) result }
 {
@@ -87,7 +91,8 @@ fn run_talk<T: Wait, A: Allocator + Copy, F: Folder, R: Read, W: Write>(
     input: &mut R,
     output: &mut W,
 ) -> Result<(), ToolFault>
-    ensures { DoesTask (F.bytes_of folder.now) (Talk start.entry)
+    ensures { DoesTask (files_by (F.bytes_of folder.now) (F.held_by folder.now))
+        (Talk start.entry)
         (record { input = R.remaining input.old; output = W.contents output.old })
         (record { input = R.remaining input.new; output = W.contents output.new }) result }
 {
@@ -101,22 +106,47 @@ fn run_talk<T: Wait, A: Allocator + Copy, F: Folder, R: Read, W: Write>(
     }
 }
 
-/// Does a task by its engine, over the two streams that engines know.
+/// Answers the lines of several files at once, on one movie.
+fn run_desk<T: Wait + Threads + Sync, F: Folder + Sync, W: Write>(
+    rt: &T,
+    alloc: Global,
+    cart: &str,
+    movie: &str,
+    pairs: Pairs<'_>,
+    folder: &F,
+    output: &mut W,
+) -> Result<(), ToolFault>
+    ensures { (input : Option (List ℕ)) →
+        DoesTask (files_by (F.bytes_of folder.now) (F.held_by folder.now))
+        (Desk cart.entry movie.entry pairs.entry)
+        (record { input = input; output = W.contents output.old })
+        (record { input = input; output = W.contents output.new }) result }
+{
+    let (mut cart, mut movie) = (open(folder, cart)?, open(folder, movie)?);
+    let Ok(mut doors) = pipes_of(alloc, folder, pairs) else {
+        return Err(ToolFault::Read(ReadFault::Memory));
+    };
+    desk_run(rt, alloc, &mut cart, &mut movie, &mut doors, output)
+}
+
+/// Does a task by its engine, over the two streams that engines know. A desk takes its memory from `global`, all else from `alloc`.
 fn run_engine<
     T: Wait + Threads + Sync,
     A: Allocator + Copy + Send + Sync,
-    F: Folder,
+    F: Folder + Sync,
     R: Read,
     W: Write,
 >(
     rt: &T,
+    global: Global,
     alloc: A,
     task: Task<'_>,
     folder: &F,
     input: &mut R,
     output: &mut W,
 ) -> Result<(), ToolFault>
-    ensures { DoesTask (F.bytes_of folder.now) task.entry
+    ensures { DoesTask (files_by (F.bytes_of folder.now) (F.held_by folder.now))
+        task.entry
         (record { input = R.remaining input.old; output = W.contents output.old })
         (record { input = R.remaining input.new; output = W.contents output.new }) result }
 {
@@ -164,29 +194,35 @@ fn run_engine<
         }
         Task::Script(start) => run_script(rt, alloc, start, folder, input, output),
         Task::Talk(start) => run_talk(rt, alloc, start, folder, input, output),
+        Task::Desk { cart, movie, pairs } => {
+            run_desk(rt, global, cart, movie, pairs, folder, output)
+        }
     }
 }
 
-/// Does a task by its engine (own): the files that it names are opened first, a failure being `Read`, then
+/// Does a task by its engine: the files that it names are opened first, a failure being `Read`, then
 /// the engine reads them and the input, and writes its answer to the output.
 pub fn run_task<
     T: Wait + Threads + Sync,
     A: Allocator + Copy + Send + Sync,
-    F: Folder,
+    F: Folder + Sync,
     R: Read,
     W: Write,
     E: Write,
 >(
     rt: &T,
+    global: Global,
     alloc: A,
     task: Task<'_>,
     folder: &F,
     streams: &mut Streams<R, W, E>,
 ) -> Result<(), ToolFault>
-    ensures { DoesTask (F.bytes_of folder.now) task.entry streams.old streams.new result }
+    ensures { DoesTask (files_by (F.bytes_of folder.now) (F.held_by folder.now))
+        task.entry streams.old streams.new result }
 {
     run_engine(
         rt,
+        global,
         alloc,
         task,
         folder,
@@ -232,21 +268,29 @@ fn show<W: Write>(output: &mut W, text: &str) -> Result<(), ToolFault>
     Ok(write_all(output, text.as_bytes())?)
 }
 
-/// Carries a request out, and returns the program's status (own): 0 where it was done, 1 after a fault, whose
+/// Carries a request out, and returns the program's status: 0 where it was done, 1 after a fault, whose
 /// line is written to standard error, and 2 where the words weren't understood, whose text goes there too.
 pub fn carry_out<
     T: Wait + Threads + Sync,
     A: Allocator + Copy + Send + Sync,
-    F: Folder,
+    F: Folder + Sync,
     R: Read,
     W: Write,
     E: Write,
->(rt: &T, alloc: A, request: Request<'_, A>, folder: &F, streams: &mut Streams<R, W, E>) -> Status
-    ensures { CarriesOut (F.bytes_of folder.now) request.entry streams.old streams.new result }
+>(
+    rt: &T,
+    global: Global,
+    alloc: A,
+    request: Request<'_, A>,
+    folder: &F,
+    streams: &mut Streams<R, W, E>,
+) -> Status
+    ensures { CarriesOut (files_by (F.bytes_of folder.now) (F.held_by folder.now))
+        request.entry streams.old streams.new result }
 {
     match request {
         Request::Do(task) => {
-            let end = run_task(rt, alloc, task, folder, streams);
+            let end = run_task(rt, global, alloc, task, folder, streams);
             tell(alloc, &mut streams.errors, end)
         }
         Request::Show(text) => {
@@ -265,12 +309,12 @@ pub fn carry_out<
     }
 }
 
-/// The whole program (own): reads the words, the first of which is its name, and does what they ask for. clap takes its memory from
-/// `global` alone, all else from `alloc`.
+/// The whole program: reads the words, the first of which is its name, and does what they ask for. clap and a desk take their memory
+/// from `global` alone, all else from `alloc`.
 pub fn run_program<
     T: Wait + Threads + Sync,
     A: Allocator + Copy + Send + Sync,
-    F: Folder,
+    F: Folder + Sync,
     R: Read,
     W: Write,
     E: Write,
@@ -282,13 +326,14 @@ pub fn run_program<
     folder: &F,
     streams: &mut Streams<R, W, E>,
 ) -> Status
-    ensures { ProgramEnds words (F.bytes_of folder.now) streams.old streams.new result }
+    ensures { ProgramEnds words (files_by (F.bytes_of folder.now) (F.held_by folder.now))
+        streams.old streams.new result }
 {
     match collect_words(alloc, words) {
         Ok(words) => {
             let request = read_request(global, alloc, words.as_slice());
-            carry_out(rt, alloc, request, folder, streams)
+            carry_out(rt, global, alloc, request, folder, streams)
         }
-        Err(request) => carry_out(rt, alloc, request, folder, streams),
+        Err(request) => carry_out(rt, global, alloc, request, folder, streams),
     }
 }

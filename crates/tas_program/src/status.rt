@@ -3,7 +3,7 @@
 ghost use Rattle.std.specs.Prelude.{◌≡◌};
 ghost use Rattle.tas_program.specs.Program.{status_code};
 
-/// How the program ended (own).
+/// How the program ended.
 #[derive(Clone, Copy, Debug, PartialEq, Eq)]
 pub enum Status {
     /// What was asked for is done: 0.
@@ -15,7 +15,7 @@ pub enum Status {
 }
 
 impl Status {
-    /// The number that the system is told.
+    /// The number that is reported to the system.
     pub fn code(self) -> u8
         ensures { result ≡ status_code self }
     {

@@ -10,7 +10,7 @@ use Rattle.tas_session.specs.Shots.{shot_error}
 use Rattle.tas_session.specs.Version.{VersionContent}
 use Rattle.tas_session.specs.History.{movie_of}
 
--- a movie with so many frames has frame k
+-- a movie with this many frames has frame k
 pub found_frame : {A : Type 0} (v w : ReaderView A) (known : VersionContent A) (k frames : ℕ) (found : ℕ × Option (MovieCopy A)) → frames ≡ min (k + 1) 18446744073709551615 → FoundMovie v w known frames (Ok found) → FoundCopy v w known k (Ok found)
 found_frame v w known k frames found is (more, at, within, version, most) = (more, at, omega arith, version, omega arith)
 

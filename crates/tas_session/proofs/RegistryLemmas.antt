@@ -16,7 +16,7 @@ looks_at numbered = []
 abbrev moves_on : {A : Type 0} → Numbered A → Numbered A → ℕ → Type 0
 moves_on before after answer = Unit {0}
 
--- the number behind an expected one, where that one is found
+-- the number after an expected one, where that one is found
 abbrev next_of : ℕ → ℕ → ℕ
 next_of expected found = either (found == expected) (expected + 1) found
 
@@ -28,7 +28,7 @@ Exchange known entries expected cells numbered =
 counted : {A : Type 0} (numbered more : Numbered A) (n : ℕ) → n ≡ length (numbered ++ more) → CountsHistories ((n, true) ∷ (0, true) ∷ []) (numbered ++ more)
 counted numbered more n is = record { counter = ap (λ (k : ℕ). (k, true) ∷ (0, true) ∷ []) is }
 
--- where the number is the expected one, the history comes right behind those that are known: they are all there are
+-- where the number is the expected one, the history comes directly after those that are known: they are all there are
 numbers_next : {A : Type 0} (numbered known : Numbered A) (entries : List (Entry A)) (expected : ℕ) → length known ≡ expected → IsPrefix known numbered → (length numbered == expected) ≡ true
     → Exchange known entries expected ((length numbered, true) ∷ (0, true) ∷ []) numbered
 numbers_next numbered known entries expected size begins is =

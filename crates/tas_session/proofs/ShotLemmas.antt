@@ -69,7 +69,7 @@ pub was_played : {B : Type 0} (k at ran : ℕ) (picture : List ℕ) (end : Resul
 was_played {B} k at ran picture (Ok u) r P Q shot halted p = subst (λ (a : Result (Shot B) ShotError). MatchPlayed a P Q) (sym shot) p
 was_played {B} k at ran picture (Err halt) r P Q shot halted p = subst (λ (a : Result (Shot B) ShotError). MatchPlayed a P Q) (sym halted) p
 
--- and so many
+-- and this many
 pub so_many : {B : Type 0} (k at ran : ℕ) (picture : List ℕ) (end : Result (Unit {0}) Halt) (r : Result (Shot B) ShotError) (P : ℕ → Type 0)
     → OnOk end (r ≡ Ok (record { at = at; frame = k; ran = ran; picture = picture })) → IfErr end (λ halt. r ≡ Err (Halted at halt)) → P ran → IfOk r (λ shot. P shot.ran)
 so_many {B} k at ran picture (Ok u) r P shot halted p = subst (λ (a : Result (Shot B) ShotError). IfOk a (λ s. P s.ran)) (sym shot) p

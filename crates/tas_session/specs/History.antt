@@ -1,10 +1,10 @@
--- Histories of edits (own).
+-- Histories of edits.
 use Rattle.std.specs.Prelude.{◌≡◌, ℕ, ◌==◌, List, [], ◌∷◌, ◌++◌, count_by}
 use Rattle.tas_movie.specs.Content.{MovieContent, blank_movie}
 use Rattle.tas_movie.specs.Edit.{IsAllowed, edited}
 use Rattle.tas_session.specs.declared.entry.Entry.{Entry}
 
--- how many edits a history has at most (own)
+-- how many edits a history has at most
 abbrev pub most_edits : ℕ
 most_edits = 1000000
 
@@ -21,7 +21,7 @@ movie_of history = movie_from blank_movie history
 abbrev pub entries_of : {A : Type 0} → ℕ → List (Entry A) → ℕ
 entries_of seat history = count_by (λ entry. entry.seat == seat) history
 
--- an entry is legal behind a history: its edit is allowed there, and its serial is the number of its seat's entries before it
+-- an entry is legal after a history: its edit is allowed there, and its serial is the number of its seat's entries before it
 pub record IsLegalEntry {A : Type 0} (history : List (Entry A)) (entry : Entry A) : Type 0 where
   pub allowed : IsAllowed (movie_of history) entry.edit
   pub serial : entry.serial ≡ entries_of entry.seat history

@@ -1,4 +1,4 @@
--- What is published, and the rule between what is published and what readers have seen (own).
+-- What is published, and the rule between what is published and what readers have seen.
 use Rattle.std.specs.Prelude.{◌≡◌, ℕ, ◌+◌, ◌≤◌, nat_lt, if◌then◌else◌, List, [], ◌∷◌, ◌++◌, length, true, false}
 use mathlib.Core.Option.{some}
 use mathlib.Core.List.{IsPrefix}

@@ -1,4 +1,4 @@
--- What a reader finds in the published movie, and what it has seen then (own).
+-- What a reader finds in the published movie, and what it has seen then.
 use Rattle.std.specs.Prelude.{◌≡◌, ℕ, ◌<◌, ◌≤◌, length, Result, Ok, Err, Option, Some, None}
 use Rattle.vcs_machine.specs.declared.input.Input.{Input}
 use Rattle.tas_movie.specs.Content.{most_inputs}
@@ -32,7 +32,7 @@ FoundInput v w k (Ok found) = HasSeenMore v w × (found.0 ≡ length w.seen) × 
 FoundInput v w k (Err (NoFrame at len)) = HasSeenMore v w × (at ≡ length w.seen) × (len ≡ length (movie_of w.seen).inputs) × (len ≤ k)
 FoundInput v w k (Err NoEntry) = w ≡ v
 
--- what a look at a published movie of so many frames or more brings to the one who knows this history: a copy of the movie where another
+-- what a look at a published movie of at least this many frames brings to the one who knows this history: a copy of the movie where another
 -- history is published, of the same registry
 abbrev pub FoundMovie : {A : Type 0} → ReaderView A → ReaderView A → VersionContent A → ℕ → Result (ℕ × Option (MovieCopy A)) StateError → Type 0
 FoundMovie v w known frames (Ok found) = HasSeenMore v w × (found.0 ≡ length w.seen) × (frames ≤ length (movie_of w.seen).inputs) × (version_after known found.1 ≡ version_of known.registry w.seen) × (frames ≤ most_inputs)

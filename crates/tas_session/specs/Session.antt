@@ -1,4 +1,4 @@
--- A session as contracts see it (own).
+-- A session as contracts see it.
 use Rattle.std.specs.Prelude.{◌≡◌, ℕ, ◌==◌, ◌<◌, ◌≤◌, List, [], ◌∷◌, ◌++◌, length, filter, if◌then◌else◌, Option, Some, None}
 use Rattle.logbook.specs.Pages.{Book}
 use Rattle.tas_movie.specs.Content.{MovieContent}
@@ -20,7 +20,7 @@ pub record SessionContent (A : Type 0) : Type 0 where
   pub movie : MovieContent
   pub zone : List Savestate
 
--- what every session keeps: the history is legal and has at most so many entries, the movie is the history's, and the
+-- what every session keeps: the history is legal and has at most this many entries, the movie is the history's, and the
 -- kept states are lawful for it
 pub record IsSound {A : Type 0} (history : List (Entry A)) (content : MovieContent) (kept : List Savestate) : Type 0 where
   pub legal : IsLegal history
@@ -39,13 +39,17 @@ error_at at None = None
 error_at at (Some (PlaceRefusal place len)) = Some (Place at place len)
 error_at at (Some (LongRefusal len)) = Some (Long at len)
 
--- why an edit of a seat that says it has made so many is refused, where it is: first where the history has another
--- number of the seat's entries, then where the history is full, then where the movie doesn't allow it
-abbrev pub refusal_of : {A : Type 0} → List (Entry A) → MovieContent → ℕ → ℕ → Edit A → Option EditError
-refusal_of history movie seat made edit =
+-- why an edit of a seat that says it has made this many is refused, where it is: first where the history has another
+-- number of the seat's entries, then where the history is full, then where the movie refuses it
+abbrev pub refusal_by : {A : Type 0} → List (Entry A) → ℕ → ℕ → Option EditRefusal → Option EditError
+refusal_by history seat made refused =
     if entries_of seat history == made then
-    (if length history == most_edits then Some (Full (length history)) else error_at (length history) (refusal movie edit))
+    (if length history == most_edits then Some (Full (length history)) else error_at (length history) refused)
     else Some (Serial (length history) (entries_of seat history))
+
+-- the same of an edit of this movie
+abbrev pub refusal_of : {A : Type 0} → List (Entry A) → MovieContent → ℕ → ℕ → Edit A → Option EditError
+refusal_of history movie seat made edit = refusal_by history seat made (refusal movie edit)
 
 abbrev pub edit_refusal : {A : Type 0} → SessionContent A → ℕ → ℕ → Edit A → Option EditError
 edit_refusal session seat made edit = refusal_of session.journal session.movie seat made edit
@@ -54,7 +58,7 @@ edit_refusal session seat made edit = refusal_of session.journal session.movie s
 abbrev pub refusal_at : {A : Type 0} → List (Entry A) → ℕ → ℕ → Edit A → Option EditError
 refusal_at history seat made edit = refusal_of history (movie_of history) seat made edit
 
--- an error of an edit is want of memory, where nothing else refuses it, or just what refuses it
+-- an error of an edit is being out of memory, where nothing else refuses it, or just what refuses it
 abbrev pub IsEditError : Option EditError → EditError → Type 0
 IsEditError found Memory = found ≡ None
 IsEditError found (Serial at counted) = found ≡ Some (Serial at counted)

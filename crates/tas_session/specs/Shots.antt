@@ -1,4 +1,4 @@
--- Replies to shots and offers (own).
+-- Replies to shots and offers.
 use Rattle.std.specs.Prelude.{◌≡◌, ℕ, ◌+◌, ◌<◌, List, length, Some, None, Result, Ok, Err}
 use Rattle.tas_green.specs.Zone.{nearest}
 use Rattle.tas_session.specs.declared.replies.Shot.{Shot}
@@ -11,7 +11,7 @@ use Rattle.tas_session.specs.declared.entry.Entry.{Entry}
 use Rattle.tas_session.specs.History.{movie_of}
 use Rattle.tas_session.specs.Answers.{answer_shot}
 
--- a shot shows the frame, and tells how many frames were played for it: those behind the nearest kept state
+-- a shot shows the frame, and tells how many frames were played for it: those after the nearest kept state
 pub record IsShot {A B : Type 0} (session : SessionContent A) (k : ℕ) (shot : Shot B) : Type 0 where
   pub shows : answer_shot session.movie k ≡ Some (Ok shot.picture)
   pub at : shot.at ≡ length session.journal

@@ -1,4 +1,4 @@
--- Versions of the history (own).
+-- Versions of the history.
 use Rattle.std.specs.Prelude.{List}
 use Rattle.logbook.specs.Pages.{Book}
 use Rattle.tas_session.specs.declared.entry.Entry.{Entry}

@@ -101,7 +101,7 @@ impl<A: Allocator + Copy> MovieReader<A> {
         }
     }
 
-    /// The same of a movie with so many frames or more.
+    /// The same of a movie with at least this many frames.
     pub fn copy_of(
         &mut self,
         alloc: A,
@@ -161,7 +161,7 @@ fn look_input<A: Allocator>(
     }
 }
 
-/// Copies the movie, where it has so many frames or more and its history isn't the known one.
+/// Copies the movie, where it has at least this many frames and its history isn't the known one.
 fn look_copy<A: Allocator + Copy>(
     reader: RuledReader<A>,
     alloc: A,

@@ -35,7 +35,7 @@ type MovieWriter<A> = Writer<PublishedMovie<A>, PublishedEdit<A>, ReaderView<A>,
 /// What reads the published movie, under the rule.
 pub(crate) type RuledReader<A> = Reader<PublishedMovie<A>, ReaderView<A>, PrefixRule, A>;
 
-/// What a session leaves (own).
+/// What a session leaves.
 #[derive(Drop)]
 pub struct Closed<A: Allocator = Global> {
     /// The movie.

@@ -1,17 +1,19 @@
 //! What a session or a desk answers. In every reply `at` is the number of edits in the history at which the reply stands.
 
-ghost use Rattle.std.specs.Prelude.{◌≡◌, Ok, Err, OnOk, IfErr};
+ghost use Rattle.std.specs.Prelude.{◌≡◌, Some, Ok, Err, OnOk, IfErr};
 ghost use Rattle.tas_session.specs.declared.replies.ShotError.TheVariants.{Halted};
+ghost use Rattle.tas_session.specs.Session.{error_at};
 ghost use Rattle.tas_session.specs.Shots.{shot_error};
 
 use std::alloc::{Allocator, Global};
 use tas_green::Batch;
+use tas_movie::EditRefusal;
 use thiserror::Error;
 use vcs_cpu::Halt;
 use vcs_machine::State;
 use vcs_tia::Picture;
 
-/// Why no session or desk was opened (own).
+/// Why no session or desk was opened.
 #[derive(Clone, Copy, Debug, PartialEq, Eq, Error)]
 pub enum OpenError {
     /// Memory was refused.
@@ -22,13 +24,13 @@ pub enum OpenError {
     NoPlace,
 }
 
-/// The seat's reader found its writer gone; the seat is as it was (own). A desk that isn't closed has its writer, so this
+/// The seat's reader found its writer gone; the seat is as it was. A desk that isn't closed has its writer, so this
 /// never comes, but no clause says so.
 #[derive(Clone, Copy, Debug, PartialEq, Eq, Error)]
 #[error("no entry")]
 pub struct NoEntry;
 
-/// Why there is no input (own).
+/// Why there is no input.
 #[derive(Clone, Copy, Debug, PartialEq, Eq, Error)]
 pub enum InputError {
     /// The seat's reader found its writer gone, as in [`NoEntry`](crate::NoEntry); the seat is as it was.
@@ -44,7 +46,7 @@ pub enum InputError {
     },
 }
 
-/// An edit was made (own).
+/// An edit was made.
 #[derive(Clone, Copy, Debug, PartialEq, Eq)]
 pub struct Receipt {
     /// How many edits the history has, this one included.
@@ -53,7 +55,7 @@ pub struct Receipt {
     pub len: usize,
 }
 
-/// Why an edit was refused; history, movie and greenzone are as they were (own).
+/// Why an edit was refused; history, movie and greenzone are as they were.
 #[derive(Clone, Copy, Debug, PartialEq, Eq, Error)]
 pub enum EditError {
     /// The history has another number of this seat's entries than the caller says.
@@ -93,7 +95,19 @@ pub enum EditError {
     Memory,
 }
 
-/// A frame was drawn (own).
+impl EditError {
+    /// The movie refuses an edit, at a history of `at` edits.
+    pub fn refused(at: u64, refusal: EditRefusal) -> EditError
+        ensures { error_at at (Some refusal) ≡ Some result }
+    {
+        match refusal {
+            EditRefusal::Place { at: place, len } => EditError::Place { at, place, len },
+            EditRefusal::Long { len } => EditError::Long { at, len },
+        }
+    }
+}
+
+/// A frame was drawn.
 #[derive(Drop)]
 pub struct Shot<A: Allocator = Global> {
     /// How many edits the history has.
@@ -106,7 +120,7 @@ pub struct Shot<A: Allocator = Global> {
     pub picture: Picture<A>,
 }
 
-/// Why a frame wasn't drawn (own).
+/// Why a frame wasn't drawn.
 #[derive(Clone, Copy, Debug, PartialEq, Eq, Error)]
 pub enum ShotError {
     /// The seat's reader found its writer gone, as in [`NoEntry`](crate::NoEntry); the seat is as it was. A session never
@@ -134,7 +148,7 @@ pub enum ShotError {
     },
 }
 
-/// The machine after some frames (own).
+/// The machine after some frames.
 #[derive(Clone, Copy, Debug)]
 pub struct Reached {
     /// How many edits the history has.
@@ -145,7 +159,7 @@ pub struct Reached {
     pub state: State,
 }
 
-/// Why a state wasn't reached (own).
+/// Why a state wasn't reached.
 #[derive(Clone, Copy, Debug, PartialEq, Eq, Error)]
 pub enum StateError {
     /// The seat's reader found its writer gone, as in [`NoEntry`](crate::NoEntry); the seat is as it was.
@@ -199,7 +213,7 @@ pub fn shown<A: Allocator>(
     }
 }
 
-/// A batch was taken (own).
+/// A batch was taken.
 #[derive(Clone, Copy, Debug, PartialEq, Eq)]
 pub struct Offered {
     /// How many edits the history has.
@@ -210,7 +224,7 @@ pub struct Offered {
     pub kept: usize,
 }
 
-/// Why a batch wasn't taken; the greenzone is as it was (own).
+/// Why a batch wasn't taken; the greenzone is as it was.
 #[derive(Drop)]
 pub enum OfferError<A: Allocator = Global> {
     /// The batch's cartridge has other bytes than the movie's.

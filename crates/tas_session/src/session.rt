@@ -1,8 +1,9 @@
 //! The editor for one caller.
 
-ghost use Rattle.std.specs.Prelude.{◌≡◌, ◌≢◌, ◌↔◌, ◌⊎◌, ℕ, ◌+◌, ◌<◌, ◌≤◌, ◌^◌, [], length, take, min, Some, None, IfOk, IfErr, OnOk, OnErr, MatchResult};
+ghost use Rattle.std.specs.Prelude.{◌≡◌, ◌≢◌, ◌↔◌, ◌⊎◌, ℕ, ◌+◌, ◌<◌, ◌≤◌, ◌^◌, [], length, take, min, Option, Some, None, IfOk, IfErr, OnOk, OnErr, MatchResult};
 ghost use mathlib.Core.List.{IsPrefix};
 ghost use Rattle.tas_movie.specs.Content.{blank_movie};
+ghost use Rattle.tas_movie.specs.declared.edit.EditRefusal.{EditRefusal};
 ghost use Rattle.tas_movie.specs.Edit.{edited};
 ghost use Rattle.tas_green.specs.Run.{state_after};
 ghost use Rattle.tas_green.specs.Zone.{state_at, nearest, first_of, where_true, is_on_grid, is_passed};
@@ -11,8 +12,8 @@ ghost use Rattle.tas_movie.specs.Front.{IsCommonFront};
 ghost use Rattle.tas_green.specs.Green.{IsLawful, HoldsGrid};
 ghost use Rattle.tas_session.specs.declared.replies.OfferError.TheVariants.{Cartridge, Memory};
 ghost use Rattle.tas_session.specs.declared.replies.OpenError.TheVariants.{Memory as OutOfMemory};
-ghost use Rattle.tas_session.specs.History.{most_edits, IsLegal, movie_of};
-ghost use Rattle.tas_session.specs.Session.{IsNextEntry, edit_refusal, IsEditError, after_entry};
+ghost use Rattle.tas_session.specs.History.{most_edits, entries_of, IsLegal, movie_of};
+ghost use Rattle.tas_session.specs.Session.{IsNextEntry, edit_refusal, refusal_by, error_at, IsEditError, after_entry};
 ghost use Rattle.tas_session.specs.Version.{version_of};
 ghost use Rattle.tas_session.specs.Published.{view_of, KnowsRegistry};
 ghost use Rattle.tas_session.specs.Shots.{IsShot, IsShotError, MatchPlayed};
@@ -27,14 +28,14 @@ use std::alloc::{AllocError, Allocator, Global};
 use std::marker::Model;
 use std::sync::Wait;
 use tas_green::{Batch, Green, Job, MergeError};
-use tas_movie::{Edit, EditRefusal, Movie, check};
+use tas_movie::{Edit, Movie, check};
 use vcs_machine::Meter;
 use vcs_tia::Picture;
 
-/// How many edits a history has at most (own).
+/// How many edits a history has at most.
 pub const MAX_EDITS: u64 = 1_000_000;
 
-/// A movie, the history of its edits, and its greenzone (own). The type keeps that the history is legal, that the movie is
+/// A movie, the history of its edits, and its greenzone. The type keeps that the history is legal, that the movie is
 /// the history's, and that each kept state is the movie's machine's.
 ///
 /// It owns what is published to readers, so it can't be dropped: end it by `close`.
@@ -185,6 +186,26 @@ impl<A: Allocator + Copy> Session<A> {
             (IsNextEntry self.now.journal
             (record { seat = seat; serial = made; edit = edit.now })) }
     {
+        self.check_turn(seat, made)?;
+        match check(self.movie(), edit) {
+            Ok(()) => Ok(()),
+            Err(refused) => Err(EditError::refused(self.at(), refused)),
+        }
+    }
+
+    /// Whether `seat`, which says that it has made `made` edits before, may make one now, whatever the movie says of it: the
+    /// first half of the checks of [`Session::edit`].
+    ///
+    /// `Serial` comes first, where the history has another number of the seat's entries, and then `Full`.
+    pub fn check_turn(&self, seat: u32, made: u64) -> Result<(), EditError>
+        ensures turn { OnOk result
+            ((made ≡ entries_of seat self.now.journal)
+            × (length self.now.journal < most_edits)) }
+        ensures refusal { (refused : Option EditRefusal) → MatchResult result
+            (λ _. refusal_by self.now.journal seat made refused
+            ≡ error_at (length self.now.journal) refused)
+            (λ error. refusal_by self.now.journal seat made refused ≡ Some error) }
+    {
         let at = self.at();
         let counted = self.counts.count(seat);
         if counted != made {
@@ -193,11 +214,7 @@ impl<A: Allocator + Copy> Session<A> {
         if at == MAX_EDITS {
             return Err(EditError::Full { at });
         }
-        match check(self.movie(), edit) {
-            Ok(()) => Ok(()),
-            Err(EditRefusal::Place { at: place, len }) => Err(EditError::Place { at, place, len }),
-            Err(EditRefusal::Long { len }) => Err(EditError::Long { at, len }),
-        }
+        Ok(())
     }
 
     /// Makes an allowed edit: all growths come first, and then nothing can fail.

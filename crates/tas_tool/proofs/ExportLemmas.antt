@@ -24,9 +24,8 @@ use Rattle.tas_engines.specs.Movies.{IsMovieOf}
 use Rattle.tas_engines.specs.Shooting.{halt_fault}
 use Rattle.tas_engines.specs.Output.{Ends}
 use Rattle.tas_tool.specs.Pixmaps.{IsPixmapsAnswer, IsExportAnswer}
-use Rattle.tas_tool.specs.Inside.Checking.{checked_end}
-use Rattle.tas_tool.specs.Inside.TwoEdits.{export_end, HoldsMovie, IsMakingFault, StandsAtOwn}
-use Rattle.tas_tool.proofs.TurnLemmas.{longer, more_than, checked_cases}
+use Rattle.tas_tool.specs.Inside.TwoEdits.{checked_end, export_end, HoldsMovie, IsMakingFault, StandsAtOwn}
+use Rattle.tas_tool.proofs.CheckedLemmas.{longer, more_than, checked_cases}
 
 pub still_holds : {A : Type 0} (before now : SeatContent A) (movie : MovieContent) → HasSeen before now → HoldsMovie before movie → HoldsMovie now movie
 still_holds {A} before now movie seen holds =
@@ -67,7 +66,7 @@ own_here seat at end made two is stands =
 foreign_room : ◌≡◌ {A = RunFault} Foreign Memory → ⊥
 foreign_room e = cc
 
--- an end that isn't want of memory is none where it is compared
+-- an end that isn't being out of memory is none where it is compared
 other_here : (X : Type 0) (at : ℕ) (fault : RunFault) → (fault ≡ Memory → ⊥) → IfErr (checked_end {X = Unit {0}} 2 at (Err fault)) (λ (f : RunFault). f ≡ Memory → X)
 other_here X at fault ne =
     checked_cases {X = Unit {0}} 2 at (Err fault) (checked_end 2 at (Err fault)) (λ (r : Result (Unit {0}) RunFault). IfErr r (λ (f : RunFault). f ≡ Memory → X)) refl
@@ -103,7 +102,7 @@ write_ends movie plan old new written range drawn cut =
       stops = record { written = written; is_write = refl; cut = cut };
     })
 
--- what a desk answers is told so
+-- what a desk answers is reported so
 export_ends : {A : Type 0} (seat : SeatContent A) (zone : ZoneContent A) (plan : Plan) (old new : Option (List ℕ)) (answer : Result Exported ExportError) → seat.made ≡ 2 → 2 ≤ length seat.front
     → IsExport zone (movie_of seat.front) (length seat.front) plan old new answer → length seat.front ≤ seat.made
     → Ends (IsPixmapsAnswer (movie_of seat.front) plan.from plan.to) old new (export_end plan.from plan.to answer)

@@ -19,7 +19,7 @@ halted_ends : (movie : MovieContent) (from to : ℕ) (old new : Option (List ℕ
     → IsLeastHalted movie from to (record { frame = frame; halt = halt }) → Appends old new (pixmaps_of movie from (frame - from)) → IsFilmOf movie from to old new (Err fault)
 halted_ends movie from to old new frame (Undocumented at opcode) fault told frames least out = rw told (frames, least, out)
 
--- what stopped a film is told so
+-- what stopped a film is reported so
 pub stop_ends : (movie : MovieContent) (from to : ℕ) (old new : Option (List ℕ)) (stop : FilmStop) (fault : RunFault) → fault ≡ stop_fault stop → AreFrames (length movie.inputs) from to
     → IsFilm movie from to old new (Err stop) → IsFilmOf movie from to old new (Err fault)
 stop_ends movie from to old new OutOfRoom fault told frames is = rw told (frames, is)

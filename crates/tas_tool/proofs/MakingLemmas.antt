@@ -21,10 +21,8 @@ use Rattle.tas_desk.specs.Zones.{ZoneContent}
 use Rattle.tas_session.proofs.HistoryLemmas.{movie_of-push, movie_of-none}
 use Rattle.tas_engines.specs.declared.fault.RunFault.{RunFault}
 use Rattle.tas_engines.specs.declared.fault.RunFault.TheVariants.{Foreign, Memory}
-use Rattle.tas_tool.specs.Turns.{HasForeign}
-use Rattle.tas_tool.specs.Inside.Checking.{checked_end}
-use Rattle.tas_tool.specs.Inside.TwoEdits.{edit_fault, HoldsMovie, IsMakingFault, next_edit, IsUnrefused}
-use Rattle.tas_tool.proofs.TurnLemmas.{entries_push, more_than, checked_cases}
+use Rattle.tas_tool.specs.Inside.TwoEdits.{HasForeign, checked_end, edit_fault, HoldsMovie, IsMakingFault, next_edit, IsUnrefused}
+use Rattle.tas_tool.proofs.CheckedLemmas.{entries_push, more_than, checked_cases}
 
 -- ---- the first edit
 

@@ -1,34 +1,33 @@
 -- Scripts that start from a movie.
 use Rattle.std.proofs.Common.{◌≡◌, ℕ, ◌≤◌, List, [], length, take, Option, Result, Ok, Err, inl, inr, refl, sym, ap, subst, ◌∙◌, arith}
 use Rattle.std.proofs.KnownBytes.{Appends-nil}
+use Rattle.std.proofs.lemmas.List.{take_all}
 use Rattle.std.specs.Io.KnownBytes.{Appends}
 use Rattle.tas_movie.specs.Content.{MovieContent}
-use Rattle.tas_session.specs.History.{movie_of, entries_of}
+use Rattle.tas_session.specs.declared.entry.Entry.{Entry}
+use Rattle.tas_session.specs.History.{movie_of}
 use Rattle.tas_desk.specs.Seats.{SeatContent}
 use Rattle.tas_engines.specs.declared.fault.RunFault.{RunFault}
 use Rattle.tas_engines.specs.declared.fault.RunFault.TheVariants.{Write, Size, Text, NoFrame as OffMovie, Range as OffRange, Halted as Stopped, HaltedFrame as StoppedFrame, Script, Place, Long, NoPlace, NoEntry, Foreign, Memory}
 use Rattle.tas_engines.specs.Movies.{IsMovieOf}
-use Rattle.tas_tool.specs.Turns.{OwnEdits, own_edits_of, BeginsWithOwn}
+use Rattle.tas_seat.specs.Turns.{Standing, standing_of}
+use Rattle.tas_tool.specs.Inside.Alone.{SeesOwn}
 use Rattle.tas_tool.specs.Inside.TwoEdits.{HoldsMovie, IsMakingFault}
 use Rattle.tas_tool.specs.Scripts.{Answers}
-use Rattle.tas_tool.specs.MovieScripts.{own_edits_of_movie, IsUnmade, AnswersOver, RunsOver}
+use Rattle.tas_tool.specs.MovieScripts.{standing_of_movie, IsUnmade, AnswersOver, RunsOver}
 use Rattle.tas_tool.proofs.ScriptLemmas.{written}
 
--- a seat that holds a movie begins with its own edits
-pub holds_own : {A : Type 0} (seat : SeatContent A) (movie : MovieContent) → HoldsMovie seat movie → BeginsWithOwn seat
-holds_own {A} seat movie holds =
-    let made = holds.made in
-    let seen = holds.seen in
-    record {
-      seen = omega (arith, made, seen);
-      own = ap (λ (n : ℕ). entries_of seat.number (take n seat.front)) made ∙ holds.own ∙ sym made;
-    }
+-- a seat that holds a movie has seen all that it made
+pub holds_seen : {A : Type 0} (seat : SeatContent A) (movie : MovieContent) → HoldsMovie seat movie → seat.made ≤ length seat.front
+holds_seen seat movie holds = omega (arith, holds.made, holds.seen)
 
--- which make the movie
-pub holds_own_edits : {A : Type 0} (seat : SeatContent A) (movie : MovieContent) → HoldsMovie seat movie → own_edits_of seat ≡ own_edits_of_movie movie
-holds_own_edits {A} seat movie holds =
-    ap (λ (n : ℕ). let f : OwnEdits = record { movie = movie_of (take n seat.front); made = n } in f) holds.made
-    ∙ ap (λ (m : MovieContent). let f : OwnEdits = record { movie = m; made = 2 } in f) holds.movie_is
+-- and where it sees its own edits alone, these make the movie
+pub holds_standing : {A : Type 0} (seat : SeatContent A) (movie : MovieContent) → HoldsMovie seat movie → SeesOwn seat → standing_of seat.front ≡ standing_of_movie movie
+holds_standing {A} seat movie holds own =
+    let two : length seat.front ≡ 2 = omega (arith, holds.made, holds.seen, own.few) in
+    let whole : take 2 seat.front ≡ seat.front = take_all 2 seat.front (omega (arith, two)) in
+    ap (λ (m : MovieContent). let x : Standing = record { movie = m; made = length seat.front } in x) (ap (λ (l : List (Entry A)). movie_of l) (sym whole) ∙ holds.movie_is)
+    ∙ ap (λ (n : ℕ). let x : Standing = record { movie = movie; made = n } in x) two
 
 -- the movie isn't made
 unmade_by : {A : Type 0} (seat : SeatContent A) (fault : RunFault) → IsMakingFault seat fault → length seat.front ≤ seat.made → IsUnmade fault
@@ -51,9 +50,9 @@ pub unmade : (A : Type 0) (movie : MovieContent) (bytes text : List ℕ) (seat :
 unmade A movie bytes text seat fault none is own = inl (none, unmade_by seat fault is own)
 
 -- the lines are answered from the movie's two edits on
-pub answered_over : (movie : MovieContent) (own : OwnEdits) (bytes text : List ℕ) (end : Result (Unit {0}) RunFault) → own ≡ own_edits_of_movie movie → Answers own bytes text end → AnswersOver movie bytes text end
-answered_over movie own bytes text (Ok u) at answers = subst (λ (f : OwnEdits). Answers f bytes text (Ok u)) at answers
-answered_over movie own bytes text (Err fault) at answers = inr (subst (λ (f : OwnEdits). Answers f bytes text (Err fault)) at answers)
+pub answered_over : (movie : MovieContent) (own : Standing) (bytes text : List ℕ) (end : Result (Unit {0}) RunFault) → own ≡ standing_of_movie movie → Answers own bytes text end → AnswersOver movie bytes text end
+answered_over movie own bytes text (Ok u) at answers = subst (λ (f : Standing). Answers f bytes text (Ok u)) at answers
+answered_over movie own bytes text (Err fault) at answers = inr (subst (λ (f : Standing). Answers f bytes text (Err fault)) at answers)
 
 -- there is no desk for the movie
 pub unopened_over : (image said bytes : List ℕ) (movie : MovieContent) (old : Option (List ℕ)) → IsMovieOf image said movie → RunsOver image said bytes old old (Err Memory)

@@ -1,9 +1,10 @@
 -- A desk of one seat, from its opening to its end.
-use Rattle.std.proofs.Common.{◌≡◌, ℕ, zero, suc, ◌+◌, ◌<◌, ◌≤◌, List, [], ◌∷◌, ◌++◌, length, take, set, Bool, true, false, cond, Some, ◌⊎◌, inl, inr, refl, sym, ap, subst, ◌∙◌, arith, length-append}
+use Rattle.std.proofs.Common.{◌≡◌, ℕ, zero, suc, ◌+◌, ◌<◌, ◌≤◌, List, [], ◌∷◌, ◌++◌, length, take, set, Bool, true, false, cond, Some, ◌⊎◌, inl, inr, sym, ap, subst, ◌∙◌, arith, length-append}
 use Rattle.std.specs.Prelude.{All, count_by, ◌==◌, slice_get, slice_index_or}
 use Rattle.logbook.specs.Pages.{Book}
 use Rattle.tas_movie.specs.Content.{MovieContent, blank_movie}
 use Rattle.tas_session.specs.declared.entry.Entry.{Entry}
+use Rattle.tas_session.specs.History.{entries_of}
 use Rattle.tas_desk.specs.Seats.{SeatContent, seat_of, IsSettled, IsWhole}
 use Rattle.tas_desk.specs.Zones.{ZoneContent, blank_zone}
 use Rattle.tas_desk.specs.Closing.{made_by}
@@ -11,8 +12,10 @@ use Rattle.tas_session.proofs.HistoryLemmas.{movie_of-none}
 use Rattle.tas_desk.proofs.SeatLemmas.{count_by-cons}
 use Rattle.tas_engines.specs.declared.fault.RunFault.{RunFault}
 use Rattle.tas_engines.specs.declared.fault.RunFault.TheVariants.{NoPlace, Memory}
-use Rattle.tas_tool.specs.Turns.{OwnEdits, own_edits_of, BeginsWithOwn}
-use Rattle.tas_tool.specs.Scripts.{own_edits_at_start}
+use Rattle.tas_seat.specs.Turns.{Standing, standing_of}
+use Rattle.tas_tool.specs.Scripts.{standing_at_start}
+use Rattle.tas_tool.specs.Inside.Alone.{SeesOwn}
+use Rattle.tas_tool.proofs.AloneLemmas.{alone_before}
 
 -- ---- the seat of a desk that was just opened
 
@@ -25,14 +28,11 @@ pub first_of : {X : Type 0} (xs : List X) (x d : X) → slice_get xs 0 ≡ Some 
 first_of [] x d e = absurd (cc e)
 first_of (y ∷ xs) x d e = cc e
 
-pub fresh_own : {A : Type 0} (seat : SeatContent A) (zone : ZoneContent A) → seat ≡ seat_of 0 0 [] zone → BeginsWithOwn seat
-fresh_own seat zone is = subst BeginsWithOwn (sym is) (record { seen = omega arith; own = refl })
+pub fresh_seen : {A : Type 0} (seat : SeatContent A) (zone : ZoneContent A) → seat ≡ seat_of 0 0 [] zone → seat.made ≤ length seat.front
+fresh_seen {A} seat zone is = omega (arith, ap (λ (s : SeatContent A). s.made) is)
 
-pub fresh_made : {A : Type 0} (seat : SeatContent A) (zone : ZoneContent A) → seat ≡ seat_of 0 0 [] zone → seat.made ≡ 0
-fresh_made {A} seat zone is = ap (λ (s : SeatContent A). s.made) is
-
-pub fresh_own_edits : {A : Type 0} (seat : SeatContent A) (zone : ZoneContent A) → seat ≡ seat_of 0 0 [] zone → own_edits_of seat ≡ own_edits_at_start
-fresh_own_edits {A} seat zone is = ap (λ (s : SeatContent A). own_edits_of s) is ∙ ap (λ (m : MovieContent). let f : OwnEdits = record { movie = m; made = 0 } in f) (movie_of-none A)
+pub fresh_standing : {A : Type 0} (seat : SeatContent A) (zone : ZoneContent A) → seat ≡ seat_of 0 0 [] zone → standing_of seat.front ≡ standing_at_start
+fresh_standing {A} seat zone is = ap (λ (s : SeatContent A). standing_of s.front) is ∙ ap (λ (m : MovieContent). let x : Standing = record { movie = m; made = 0 } in x) (movie_of-none A)
 
 pub fresh_first : {A : Type 0} (seat : SeatContent A) (zone : ZoneContent A) → seat ≡ seat_of 0 0 [] zone → (seat.number ≡ 0) × (seat.made ≡ 0) × (seat.front ≡ [])
 fresh_first {A} seat zone is = (ap (λ (s : SeatContent A). s.number) is, ap (λ (s : SeatContent A). s.made) is, ap (λ (s : SeatContent A). s.front) is)
@@ -73,6 +73,19 @@ sees_own {A} journal seats seat is settled count =
     let mine : IsSettled journal seat = one zero seat (omega arith) in
     let sum : length journal ≡ seat.made + 0 = count ∙ ap (λ (l : List (SeatContent A)). made_by l) is in
     omega (arith, length-append seat.front mine.begins.0, ap (λ (l : List (Entry A)). length l) mine.begins.1, sum)
+
+-- so it sees its own edits alone
+pub sees_alone : {A : Type 0} (journal : List (Entry A)) (seats : List (SeatContent A)) (seat : SeatContent A) → seats ≡ seat ∷ [] → All (IsSettled journal) seats → length journal ≡ made_by seats → seat.number ≡ 0 → SeesOwn seat
+sees_alone {A} journal seats seat is settled count nought =
+    let one : All (IsSettled journal) (seat ∷ []) = subst (λ (l : List (SeatContent A)). All (IsSettled journal) l) is settled in
+    let mine : IsSettled journal seat = one zero seat (omega arith) in
+    let sum : length journal ≡ seat.made + 0 = count ∙ ap (λ (l : List (SeatContent A)). made_by l) is in
+    let all : entries_of 0 journal ≡ seat.made = ap (λ (n : ℕ). entries_of n journal) (sym nought) ∙ mine.exact in
+    record {
+      number = nought;
+      few = sees_own journal seats seat is settled count;
+      alone = alone_before 0 seat.front journal mine.begins (omega (arith, all, sum));
+    }
 
 -- the one seat, written back
 pub written_back : {X : Type 0} (xs rest out : List X) (x : X) (n : ℕ) → length xs ≡ 1 → n ≡ 1 → out ≡ take n (set xs 0 x ++ rest) → out ≡ x ∷ []

@@ -15,10 +15,18 @@ use Rattle.tas_language.specs.declared.reply.Reply.{Reply}
 use Rattle.tas_language.specs.Commands.{Says}
 use Rattle.byte_text.specs.Splitting.{NoByte}
 use Rattle.tas_language.specs.Replies.{reply_text}
+use Rattle.tas_movie.specs.declared.edit.Edit.{Edit}
+use Rattle.tas_session.specs.declared.entry.Entry.{Entry}
+use Rattle.tas_session.specs.History.{entries_of}
 use Rattle.tas_desk.specs.Seats.{SeatContent}
-use Rattle.tas_tool.specs.Turns.{OwnEdits, IsDeskFault, reply_to, own_edits_after}
-use Rattle.tas_tool.specs.Scripts.{Turn, turn_line, AreSaid, own_edits_after_all, replies_to_all, IsUnclear, IsStop, Reads, Answers, own_edits_at_start, EndsWithReplies, RunsScript, IsScriptRun}
+use Rattle.tas_seat.specs.Turns.{Standing, standing_of, reply_to, standing_after, IsTurn}
+use Rattle.tas_seat.specs.Seats.{IsAnswered}
+use Rattle.tas_seat.specs.Inside.Telling.{IsUnanswered}
+use Rattle.tas_seat.proofs.HistoryLemmas.{Leaves, leaves_after, leaves_same, leaves_seen}
+use Rattle.tas_tool.specs.Scripts.{Turn, turn_line, AreSaid, standing_after_all, replies_to_all, IsUnclear, IsStop, Reads, Answers, standing_at_start, EndsWithReplies, RunsScript, IsScriptRun}
 use Rattle.byte_text.proofs.SplitLemmas.{no_parts, same_front}
+use Rattle.tas_tool.specs.Inside.Alone.{SeesOwn}
+use Rattle.tas_tool.proofs.AloneLemmas.{at_front, seen_after}
 
 -- ---- one line more
 
@@ -31,28 +39,28 @@ unfolding AreSaid
 said_more [] turn h s n = ((s, n), tt)
 said_more (t ∷ turns) turn h s n = (h.0, said_more turns turn h.1 s n)
 
-own_edits_more : (own : OwnEdits) (turns : List Turn) (turn : Turn) → own_edits_after_all own (turns ++ turn ∷ []) ≡ own_edits_after turn.unforeseen (own_edits_after_all own turns) turn.command
-unfolding own_edits_after_all
-own_edits_more own [] turn = refl
-own_edits_more own (t ∷ turns) turn = own_edits_more (own_edits_after t.unforeseen own t.command) turns turn
+standing_more : (own : Standing) (turns : List Turn) (turn : Turn) → standing_after_all own (turns ++ turn ∷ []) ≡ standing_after turn.unforeseen (standing_after_all own turns) turn.command
+unfolding standing_after_all
+standing_more own [] turn = refl
+standing_more own (t ∷ turns) turn = standing_more (standing_after t.unforeseen own t.command) turns turn
 
-replies_more : (own : OwnEdits) (turns : List Turn) (turn : Turn)
-    → replies_to_all own (turns ++ turn ∷ []) ≡ replies_to_all own turns ++ reply_text (reply_to turn.unforeseen (own_edits_after_all own turns) turn.command)
-unfolding replies_to_all own_edits_after_all
+replies_more : (own : Standing) (turns : List Turn) (turn : Turn)
+    → replies_to_all own (turns ++ turn ∷ []) ≡ replies_to_all own turns ++ reply_text (reply_to turn.unforeseen (standing_after_all own turns) turn.command)
+unfolding replies_to_all standing_after_all
 replies_more own [] turn = append-nil (reply_text (reply_to turn.unforeseen own turn.command))
 replies_more own (t ∷ turns) turn =
     let first : List ℕ = reply_text (reply_to t.unforeseen own t.command) in
-    let next : OwnEdits = own_edits_after t.unforeseen own t.command in
+    let next : Standing = standing_after t.unforeseen own t.command in
     ap (λ (r : List ℕ). first ++ r) (replies_more next turns turn)
-    ∙ sym (append_assoc first (replies_to_all next turns) (reply_text (reply_to turn.unforeseen (own_edits_after_all next turns) turn.command)))
+    ∙ sym (append_assoc first (replies_to_all next turns) (reply_text (reply_to turn.unforeseen (standing_after_all next turns) turn.command)))
 
 pub reads_none : (bytes : List ℕ) → Reads bytes [] bytes
 unfolding AreSaid
 reads_none bytes = record { text = refl; said = tt }
 
 -- nothing is read at first
-pub begun : (own : OwnEdits) → (own_edits_after_all own [] ≡ own) × (replies_to_all own [] ≡ [])
-unfolding own_edits_after_all replies_to_all
+pub begun : (own : Standing) → (standing_after_all own [] ≡ own) × (replies_to_all own [] ≡ [])
+unfolding standing_after_all replies_to_all
 begun own = (refl, refl)
 
 pub count_more : (turns : List Turn) (turn : Turn) → length (turns ++ turn ∷ []) ≡ length turns + 1
@@ -67,17 +75,17 @@ reads_more bytes rest first after turns turn reads same is none says = record {
   said = said_more turns turn reads.said (subst (λ (l : List ℕ). Says l turn.command) (sym same) says) (subst (λ (l : List ℕ). NoByte 10 l) (sym same) none);
 }
 
-pub own_edits_answered : (start old new : OwnEdits) (turns : List Turn) (turn : Turn) (reply : Reply) → own_edits_after_all start turns ≡ old → new ≡ own_edits_after turn.unforeseen old turn.command
-    → own_edits_after_all start (turns ++ turn ∷ []) ≡ new
-own_edits_answered start old new turns turn reply at is = own_edits_more start turns turn ∙ ap (λ (f : OwnEdits). own_edits_after turn.unforeseen f turn.command) at ∙ sym is
+pub standing_answered : (start old new : Standing) (turns : List Turn) (turn : Turn) (reply : Reply) → standing_after_all start turns ≡ old → new ≡ standing_after turn.unforeseen old turn.command
+    → standing_after_all start (turns ++ turn ∷ []) ≡ new
+standing_answered start old new turns turn reply at is = standing_more start turns turn ∙ ap (λ (f : Standing). standing_after turn.unforeseen f turn.command) at ∙ sym is
 
-pub replies_answered : (start old : OwnEdits) (turns : List Turn) (turn : Turn) (reply : Reply) (before words after : List ℕ) → own_edits_after_all start turns ≡ old
+pub replies_answered : (start old : Standing) (turns : List Turn) (turn : Turn) (reply : Reply) (before words after : List ℕ) → standing_after_all start turns ≡ old
     → reply ≡ reply_to turn.unforeseen old turn.command → before ≡ replies_to_all start turns → words ≡ reply_text reply → after ≡ before ++ words
     → after ≡ replies_to_all start (turns ++ turn ∷ [])
 replies_answered start old turns turn reply before words after at is text line put =
     put
     ∙ ap (λ (l : List ℕ). l ++ words) text
-    ∙ ap (λ (l : List ℕ). replies_to_all start turns ++ l) (line ∙ ap reply_text (is ∙ ap (λ (f : OwnEdits). reply_to turn.unforeseen f turn.command) (sym at)))
+    ∙ ap (λ (l : List ℕ). replies_to_all start turns ++ l) (line ∙ ap reply_text (is ∙ ap (λ (f : Standing). reply_to turn.unforeseen f turn.command) (sym at)))
     ∙ sym (replies_more start turns turn)
 
 -- ---- a line that isn't understood
@@ -100,31 +108,64 @@ reads_all bytes (b ∷ rest) turns none reads = absurd (omega arith)
 
 -- no line is answered
 pub nothing_answered : (bytes : List ℕ) (old : Option (List ℕ)) → RunsScript bytes old old (Err Memory)
-nothing_answered bytes old = inl ([], ([], bytes, reads_none bytes, sym (begun own_edits_at_start).1, tt), Appends-nil old)
+nothing_answered bytes old = inl ([], ([], bytes, reads_none bytes, sym (begun standing_at_start).1, tt), Appends-nil old)
 
 -- no line is answered yet
-pub unanswered : (bytes text : List ℕ) → text ≡ [] → Answers own_edits_at_start bytes text (Err Memory)
-unanswered bytes text is = ([], bytes, reads_none bytes, is ∙ sym (begun own_edits_at_start).1, tt)
+pub unanswered : (bytes text : List ℕ) → text ≡ [] → Answers standing_at_start bytes text (Err Memory)
+unanswered bytes text is = ([], bytes, reads_none bytes, is ∙ sym (begun standing_at_start).1, tt)
 
-pub unplaced : (bytes text : List ℕ) → text ≡ [] → Answers own_edits_at_start bytes text (Err NoPlace)
-unplaced bytes text is = ([], bytes, reads_none bytes, is ∙ sym (begun own_edits_at_start).1, refl)
+pub unplaced : (bytes text : List ℕ) → text ≡ [] → Answers standing_at_start bytes text (Err NoPlace)
+unplaced bytes text is = ([], bytes, reads_none bytes, is ∙ sym (begun standing_at_start).1, refl)
 
--- a fault of the desk's stops the script, where the seat has seen just its own edits
-pub desk_stop : {A : Type 0} (seat : SeatContent A) (fault : RunFault) (turns : List Turn) (rest : List ℕ) → 0 < length rest → IsDeskFault seat fault → length seat.front ≤ seat.made → IsStop rest turns fault
-desk_stop seat Foreign turns rest some is own = absurd (omega (arith, is, own))
-desk_stop seat NoEntry turns rest some is own = some
-desk_stop seat (Write written) turns rest some is own = absurd is
-desk_stop seat (Size n) turns rest some is own = absurd is
-desk_stop seat (Text error) turns rest some is own = absurd is
-desk_stop seat (OffMovie frame len) turns rest some is own = absurd is
-desk_stop seat (OffRange from to len) turns rest some is own = absurd is
-desk_stop seat (Stopped at opcode) turns rest some is own = absurd is
-desk_stop seat (StoppedFrame frame at opcode) turns rest some is own = absurd is
-desk_stop seat (Script line) turns rest some is own = absurd is
-desk_stop seat (Place line) turns rest some is own = absurd is
-desk_stop seat (Long line) turns rest some is own = absurd is
-desk_stop seat NoPlace turns rest some is own = absurd is
-desk_stop seat Memory turns rest some is own = absurd is
+-- ---- a command on a desk of one seat
+
+-- a command that is answered leaves its edits of the seat
+pub command_leaves : (A : Type 0) (before now : SeatContent A) (command : Command) (reply : Reply) → IsAnswered A before now command reply → (edits : List (Edit A)) × Leaves before now edits
+command_leaves A before now command reply is = (_, leaves_after before now is.at _ is.seat)
+
+-- its reply is the definition's at what the seat had seen
+pub command_turn : (A : Type 0) (before now : SeatContent A) (command : Command) (reply : Reply) → IsAnswered A before now command reply → before.made ≤ length before.front → SeesOwn now
+    → IsTurn (standing_of before.front) command reply (standing_of now.front)
+command_turn A before now command reply is seen own =
+    subst (λ (h : List (Entry A)). IsTurn (standing_of h) command reply (standing_of now.front)) (at_front before now is.at _ is.seat seen own) is.turn
+
+-- a command that isn't answered leaves none
+pub unanswered_leaves : {A : Type 0} (before now : SeatContent A) (fault : RunFault) → IsUnanswered before now fault → Leaves before now []
+unanswered_leaves before now NoEntry is = leaves_same before now is
+unanswered_leaves before now Foreign is = leaves_seen before now is.seen
+unanswered_leaves before now (Write written) is = absurd is
+unanswered_leaves before now (Size n) is = absurd is
+unanswered_leaves before now (Text error) is = absurd is
+unanswered_leaves before now (OffMovie frame len) is = absurd is
+unanswered_leaves before now (OffRange from to len) is = absurd is
+unanswered_leaves before now (Stopped at opcode) is = absurd is
+unanswered_leaves before now (StoppedFrame frame at opcode) is = absurd is
+unanswered_leaves before now (Script line) is = absurd is
+unanswered_leaves before now (Place line) is = absurd is
+unanswered_leaves before now (Long line) is = absurd is
+unanswered_leaves before now NoPlace is = absurd is
+unanswered_leaves before now Memory is = absurd is
+
+-- and stops the script, where the seat has seen just its own edits
+pub desk_stop : {A : Type 0} (before now : SeatContent A) (fault : RunFault) (turns : List Turn) (rest : List ℕ) → 0 < length rest → IsUnanswered before now fault → before.made ≤ length before.front → SeesOwn now → IsStop rest turns fault
+desk_stop {A} before now Foreign turns rest some is seen own =
+    let counted : entries_of now.number now.front ≡ length now.front = ap (λ (n : ℕ). entries_of n now.front) own.number ∙ own.alone in
+    absurd (is.other (omega (arith, counted, own.few, seen_after before now [] (leaves_seen before now is.seen) seen)))
+desk_stop before now NoEntry turns rest some is seen own = some
+desk_stop before now (Write written) turns rest some is seen own = absurd is
+desk_stop before now (Size n) turns rest some is seen own = absurd is
+desk_stop before now (Text error) turns rest some is seen own = absurd is
+desk_stop before now (OffMovie frame len) turns rest some is seen own = absurd is
+desk_stop before now (OffRange from to len) turns rest some is seen own = absurd is
+desk_stop before now (Stopped at opcode) turns rest some is seen own = absurd is
+desk_stop before now (StoppedFrame frame at opcode) turns rest some is seen own = absurd is
+desk_stop before now (Script line) turns rest some is seen own = absurd is
+desk_stop before now (Place line) turns rest some is seen own = absurd is
+desk_stop before now (Long line) turns rest some is seen own = absurd is
+desk_stop before now NoPlace turns rest some is seen own = absurd is
+desk_stop before now Memory turns rest some is seen own = absurd is
+
+-- ---- the replies
 
 -- the replies are written, or a write of them failed
 pub written : (answers : List ℕ → Result (Unit {0}) RunFault → Type 0) (items text : List ℕ) (old new : Option (List ℕ)) (end : Result (Unit {0}) RunFault) → answers items end → text ≡ items → Appends old new text

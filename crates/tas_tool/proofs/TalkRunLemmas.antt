@@ -1,17 +1,82 @@
 -- Conversations over a cartridge or a movie.
-use Rattle.std.proofs.Common.{◌≡◌, ℕ, List, [], length, true, Option, Some, Ok, Err, inl, inr, refl, sym, ap, subst}
-use Rattle.std.proofs.KnownBytes.{Keeps-refl}
+use Rattle.std.proofs.Common.{◌≡◌, ℕ, List, [], length, true, Option, Some, Result, Ok, Err, inl, inr, refl, sym, ap, subst, ◌∙◌, arith}
+use Rattle.std.proofs.KnownBytes.{Appends-nil, Consumes-nil, Keeps-refl}
 use Rattle.vcs_machine.specs.Cart.{is_cart_size}
-use Rattle.tas_movie.specs.Content.{MovieContent}
+use Rattle.tas_movie.specs.Content.{MovieContent, blank_movie}
+use Rattle.tas_green.specs.declared.savestate.Savestate.{Savestate}
+use Rattle.tas_session.specs.declared.entry.Entry.{Entry}
+use Rattle.tas_session.proofs.HistoryLemmas.{movie_of-none}
+use Rattle.tas_desk.specs.Seats.{SeatContent}
+use Rattle.tas_desk.specs.Zones.{ZoneContent}
 use Rattle.tas_engines.specs.declared.fault.ReadFault.{ReadFault}
 use Rattle.tas_engines.specs.declared.fault.RunFault.{RunFault}
+use Rattle.tas_engines.specs.declared.fault.RunFault.TheVariants.{Write, Size, Text, NoFrame as OffMovie, Range as OffRange, Halted as Stopped, HaltedFrame as StoppedFrame, Script, Place, Long, NoPlace, NoEntry, Foreign, Memory}
 use Rattle.tas_engines.specs.declared.fault.ToolFault.{ToolFault}
 use Rattle.tas_engines.specs.declared.fault.ToolFault.TheVariants.{Read, Run}
 use Rattle.tas_engines.specs.Input.{IsReadWhole, StopsReading, StopsReadingTwo}
 use Rattle.tas_engines.specs.Movies.{IsMovieOf, IsMovieFault}
 use Rattle.tas_engines.specs.Tracing.{IsImageFault}
-use Rattle.tas_tool.specs.Talk.{IsUntouched, IsCartTalk, IsMovieTalk, IsTalk, talk_state_from}
-use Rattle.tas_tool.specs.Inside.Talking.{StartsTalk}
+use Rattle.tas_tool.specs.Talk.{IsUntouched, IsCartTalk, IsMovieTalk, AreExchanges, IsTalk, fresh_talk_state, talk_state_from}
+use Rattle.tas_tool.specs.Inside.Alone.{SeesOwn, StartsTalk}
+use Rattle.tas_seat.specs.Turns.{Standing, standing_of}
+use Rattle.tas_seat.specs.Requests.{TalkState}
+use Rattle.tas_tool.specs.Scripts.{standing_at_start}
+use Rattle.tas_tool.specs.MovieScripts.{standing_of_movie}
+use Rattle.tas_tool.specs.Inside.TwoEdits.{HoldsMovie, IsMakingFault}
+use Rattle.tas_tool.proofs.AloneLemmas.{state_of}
+use Rattle.tas_tool.proofs.MovieScriptLemmas.{holds_standing}
+
+-- ---- before the first line
+
+no_exchanges : (state : TalkState) → AreExchanges state [] state
+unfolding AreExchanges
+no_exchanges state = refl
+
+pub no_memory_yet : (start : TalkState) (input output : Option (List ℕ)) → IsTalk start input input output output (Err (Run Memory))
+no_memory_yet start input output = record { exchanges = []; state = start; rest = []; answered = no_exchanges start; left = Consumes-nil input; ends = Appends-nil output }
+
+pub no_place_yet : (start : TalkState) (input output : Option (List ℕ)) → IsTalk start input input output output (Err (Run NoPlace))
+no_place_yet start input output = record { exchanges = []; state = start; rest = []; answered = no_exchanges start; left = Consumes-nil input; ends = (refl, refl, Appends-nil output) }
+
+-- the movie wasn't made
+pub unmade_talk : {A : Type 0} (start : TalkState) (seat : SeatContent A) (fault : RunFault) (input output : Option (List ℕ)) → IsMakingFault seat fault → SeesOwn seat → IsTalk start input input output output (Err (Run fault))
+unmade_talk {A} start seat Memory input output is own = no_memory_yet start input output
+unmade_talk start seat Foreign input output is own = absurd (omega (arith, is, own.few))
+unmade_talk start seat NoEntry input output is own = absurd is
+unmade_talk start seat NoPlace input output is own = absurd is
+unmade_talk start seat (Write written) input output is own = absurd is
+unmade_talk start seat (Size n) input output is own = absurd is
+unmade_talk start seat (Text error) input output is own = absurd is
+unmade_talk start seat (OffMovie frame len) input output is own = absurd is
+unmade_talk start seat (OffRange from to len) input output is own = absurd is
+unmade_talk start seat (Stopped at opcode) input output is own = absurd is
+unmade_talk start seat (StoppedFrame frame at opcode) input output is own = absurd is
+unmade_talk start seat (Script number) input output is own = absurd is
+unmade_talk start seat (Place number) input output is own = absurd is
+unmade_talk start seat (Long number) input output is own = absurd is
+
+-- ---- from what a conversation starts
+
+-- a state in which nothing is kept
+fresh_at : {A : Type 0} (seat : SeatContent A) (stands : Standing) → standing_of seat.front ≡ stands → seat.zone.movie ≡ blank_movie → seat.zone.states ≡ [] → state_of seat ≡ fresh_talk_state stands
+fresh_at seat stands at movie none =
+    ap (λ (f : Standing). let x : TalkState = record { stands = f; kept_for = seat.zone.movie; states = seat.zone.states } in x) at
+    ∙ ap (λ (m : MovieContent). let x : TalkState = record { stands = stands; kept_for = m; states = seat.zone.states } in x) movie
+    ∙ ap (λ (l : List Savestate). let x : TalkState = record { stands = stands; kept_for = blank_movie; states = l } in x) none
+
+pub first_state : {A : Type 0} (seat : SeatContent A) → seat.front ≡ [] → seat.zone.movie ≡ blank_movie → seat.zone.states ≡ [] → state_of seat ≡ fresh_talk_state standing_at_start
+first_state {A} seat front movie none =
+    fresh_at seat standing_at_start (ap (λ (l : List (Entry A)). standing_of l) front ∙ ap (λ (m : MovieContent). let x : Standing = record { movie = m; made = 0 } in x) (movie_of-none A)) movie none
+
+pub made_state : {A : Type 0} (before now : SeatContent A) (movie : MovieContent) → HoldsMovie now movie → SeesOwn now → now.zone ≡ before.zone → before.zone.movie ≡ blank_movie → before.zone.states ≡ []
+    → state_of now ≡ fresh_talk_state (standing_of_movie movie)
+made_state {A} before now movie holds own zone blank none =
+    fresh_at now (standing_of_movie movie) (holds_standing now movie holds own) (ap (λ (z : ZoneContent A). z.movie) zone ∙ blank) (ap (λ (z : ZoneContent A). z.states) zone ∙ none)
+
+-- the same conversation, its start named otherwise
+pub talk_as : (start other : TalkState) (input input' output output' : Option (List ℕ)) (result : Result (Unit {0}) ToolFault) → start ≡ other → IsTalk start input input' output output' result
+    → IsTalk other input input' output output' result
+talk_as start other input input' output output' result same talk = subst (λ (f : TalkState). IsTalk f input input' output output' result) same talk
 
 untouched : (input output : Option (List ℕ)) → IsUntouched input input output output
 untouched input output = record { unread = refl; unwritten = Keeps-refl output }

@@ -1,4 +1,4 @@
--- What `tas film` writes, and how it ends (own).
+-- What `tas film` writes, and how it ends.
 use Rattle.std.specs.Prelude.{◌≡◌, ℕ, ◌-◌, ◌≤◌, List, length, unwrap_or, ◌⊎◌, Option, Result, Ok, Err}
 use Rattle.std.specs.Io.KnownBytes.{Appends}
 use Rattle.vcs_cpu.specs.declared.halt.Halt.{Halt}

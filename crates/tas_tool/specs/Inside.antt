@@ -1,4 +1,4 @@
 -- What names shapes of the code: invariants and private contracts need it, no reader of a promise does.
-pub mod Checking
-pub mod Talking
+pub mod Alone
+pub mod Holding
 pub mod TwoEdits

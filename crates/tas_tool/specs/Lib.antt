@@ -1,7 +1,7 @@
+pub mod Desks
 pub mod Films
 pub mod Inside
 pub mod MovieScripts
 pub mod Pixmaps
 pub mod Scripts
 pub mod Talk
-pub mod Turns

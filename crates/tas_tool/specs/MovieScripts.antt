@@ -1,4 +1,4 @@
--- Scripts that start from a movie (own).
+-- Scripts that start from a movie.
 use Rattle.std.specs.Prelude.{◌≡◌, ℕ, List, [], Option, Result, Ok, Err, ◌⊎◌}
 use Rattle.std.specs.Io.KnownBytes.{Keeps}
 use Rattle.tas_movie.specs.Content.{MovieContent}
@@ -7,12 +7,12 @@ use Rattle.tas_engines.specs.declared.fault.RunFault.TheVariants.{NoPlace, Memor
 use Rattle.tas_engines.specs.declared.fault.ToolFault.{ToolFault}
 use Rattle.tas_engines.specs.Movies.{IsMovieOf, IsMovieFault}
 use Rattle.tas_engines.specs.ThreeInputs.{EndsAfterThree}
-use Rattle.tas_tool.specs.Turns.{OwnEdits}
+use Rattle.tas_seat.specs.Turns.{Standing}
 use Rattle.tas_tool.specs.Scripts.{Answers, EndsWithReplies}
 
 -- a movie is made by two edits: its cartridge is loaded, then its inputs are put in
-abbrev pub own_edits_of_movie : MovieContent → OwnEdits
-own_edits_of_movie movie = record { movie = movie; made = 2 }
+abbrev pub standing_of_movie : MovieContent → Standing
+standing_of_movie movie = record { movie = movie; made = 2 }
 
 -- why a desk wasn't given its movie: there was no place on it, or memory was refused
 abbrev pub IsUnmade : RunFault → Type 0
@@ -23,8 +23,8 @@ IsUnmade _ = ⊥
 -- the replies to a script that starts from a movie, and how it ends: the movie isn't made, and there are none; or they are
 -- those from its two edits on
 abbrev pub AnswersOver : MovieContent → List ℕ → List ℕ → Result (Unit {0}) RunFault → Type 0
-AnswersOver movie bytes text (Ok u) = Answers (own_edits_of_movie movie) bytes text (Ok u)
-AnswersOver movie bytes text (Err fault) = ((text ≡ []) × IsUnmade fault) ⊎ Answers (own_edits_of_movie movie) bytes text (Err fault)
+AnswersOver movie bytes text (Ok u) = Answers (standing_of_movie movie) bytes text (Ok u)
+AnswersOver movie bytes text (Err fault) = ((text ≡ []) × IsUnmade fault) ⊎ Answers (standing_of_movie movie) bytes text (Err fault)
 
 -- how a script ends that was read with a cartridge and a movie's text: there is no such movie, and nothing is written; or it
 -- is answered from the movie on

@@ -1,4 +1,4 @@
--- What `tas export` writes, and why it ends without it (own).
+-- What `tas export` writes, and why it ends without it.
 use Rattle.std.specs.Prelude.{◌≡◌, ℕ, ◌-◌, List, length, Result, Ok, Err, ◌⊎◌}
 use Rattle.vcs_cpu.specs.declared.halt.Halt.TheVariants.{Undocumented}
 use Rattle.tas_movie.specs.Content.{MovieContent}

@@ -1,4 +1,4 @@
--- Whole scripts (own).
+-- Whole scripts.
 use Rattle.std.specs.Prelude.{◌≡◌, ℕ, ◌+◌, ◌<◌, List, [], ◌∷◌, ◌++◌, length, Option, Result, Ok, Err, ◌⊎◌}
 use Rattle.std.specs.List.{flat_map}
 use Rattle.std.specs.Io.KnownBytes.{Appends}
@@ -13,7 +13,7 @@ use Rattle.tas_language.specs.declared.command.Command.{Command}
 use Rattle.tas_language.specs.Commands.{Says}
 use Rattle.byte_text.specs.Splitting.{NoByte}
 use Rattle.tas_language.specs.Replies.{reply_text}
-use Rattle.tas_tool.specs.Turns.{Unforeseen, OwnEdits, reply_to, own_edits_after}
+use Rattle.tas_seat.specs.Turns.{Unforeseen, Standing, reply_to, standing_after}
 
 -- a line, the command that it is, and what no session of cartridge and inputs alone can tell of its reply
 pub record Turn : Type 0 where
@@ -30,15 +30,15 @@ AreSaid [] = Unit {0}
 AreSaid (turn ∷ turns) = (Says turn.said turn.command × NoByte 10 turn.said) × AreSaid turns
 
 -- what is made after some lines
-unfoldable pub own_edits_after_all : OwnEdits → List Turn → OwnEdits
-own_edits_after_all own [] = own
-own_edits_after_all own (turn ∷ turns) = own_edits_after_all (own_edits_after turn.unforeseen own turn.command) turns
+unfoldable pub standing_after_all : Standing → List Turn → Standing
+standing_after_all stands [] = stands
+standing_after_all stands (turn ∷ turns) = standing_after_all (standing_after turn.unforeseen stands turn.command) turns
 
 -- the replies to some lines, each at what the lines before it made
-unfoldable pub replies_to_all : OwnEdits → List Turn → List ℕ
-replies_to_all own [] = []
-replies_to_all own (turn ∷ turns) =
-    reply_text (reply_to turn.unforeseen own turn.command) ++ replies_to_all (own_edits_after turn.unforeseen own turn.command) turns
+unfoldable pub replies_to_all : Standing → List Turn → List ℕ
+replies_to_all stands [] = []
+replies_to_all stands (turn ∷ turns) =
+    reply_text (reply_to turn.unforeseen stands turn.command) ++ replies_to_all (standing_after turn.unforeseen stands turn.command) turns
 
 -- the first line isn't understood, or no newline ends it
 abbrev pub IsUnclear : List ℕ → Type 0
@@ -49,7 +49,7 @@ pub record Reads (bytes : List ℕ) (turns : List Turn) (rest : List ℕ) : Type
   pub text : bytes ≡ flat_map turn_line turns ++ rest
   pub said : AreSaid turns
 
--- why the lines after some are not answered: the next one isn't understood, and its number is told; or there was no place on
+-- why the lines after some are not answered: the next one isn't understood, and its number is reported; or there was no place on
 -- the desk, before the first line; or memory or a reader's entry was refused. That a desk has another's edit is no cause
 abbrev pub IsStop : List ℕ → List Turn → RunFault → Type 0
 IsStop rest turns (Script number) = (number ≡ length turns + 1) × (0 < length rest) × IsUnclear rest
@@ -59,13 +59,13 @@ IsStop rest turns NoEntry = 0 < length rest
 IsStop rest turns _ = ⊥
 
 -- the replies to a script that goes on from these own edits, and how it ends: all lines are answered, or the first ones up to a fault
-abbrev pub Answers : OwnEdits → List ℕ → List ℕ → Result (Unit {0}) RunFault → Type 0
+abbrev pub Answers : Standing → List ℕ → List ℕ → Result (Unit {0}) RunFault → Type 0
 Answers start bytes text (Ok _) = (turns : List Turn) × Reads bytes turns [] × (text ≡ replies_to_all start turns)
 Answers start bytes text (Err fault) = (turns : List Turn) × (rest : List ℕ) × Reads bytes turns rest × (text ≡ replies_to_all start turns) × IsStop rest turns fault
 
 -- nothing is made yet
-abbrev pub own_edits_at_start : OwnEdits
-own_edits_at_start = record { movie = blank_movie; made = 0 }
+abbrev pub standing_at_start : Standing
+standing_at_start = record { movie = blank_movie; made = 0 }
 
 -- the replies to a script stand written, and the script ended so
 abbrev pub WritesReplies : (List ℕ → Result (Unit {0}) RunFault → Type 0) → Option (List ℕ) → Option (List ℕ) → Result (Unit {0}) RunFault → Type 0
@@ -85,7 +85,7 @@ EndsWithReplies answers old new (Err fault) = WritesReplies answers old new (Err
 
 -- how a script that was read ends
 abbrev pub RunsScript : List ℕ → Option (List ℕ) → Option (List ℕ) → Result (Unit {0}) RunFault → Type 0
-RunsScript bytes old new end = EndsWithReplies (Answers own_edits_at_start bytes) old new end
+RunsScript bytes old new end = EndsWithReplies (Answers standing_at_start bytes) old new end
 
 -- `tas script`, from what the reader has and the writer holds before to what they have and hold afterwards
 abbrev pub IsScriptRun : (input input' output output' : Option (List ℕ)) → Result (Unit {0}) ToolFault → Type 0

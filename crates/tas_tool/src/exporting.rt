@@ -11,15 +11,14 @@ ghost use Rattle.tas_engines.specs.Output.{Ends};
 ghost use Rattle.tas_tool.specs.Pixmaps.{IsPixmapsAnswer, IsExportAnswer};
 ghost use Rattle.tas_tool.specs.Inside.TwoEdits.{export_end, StandsAtOwn};
 
-use crate::answering::{OpenGate, checked};
-use crate::making::{MOVIE_EDITS, put_movie};
+use crate::making::{MOVIE_EDITS, checked, put_movie};
 use crate::opening::open_alone;
 use std::alloc::Allocator;
 use std::io::{Read, Write};
 use std::marker::Brand;
 use std::sync::Wait;
 use std::thread::Threads;
-use tas_desk::{CloseOnDrop, Desk, ExportError, Exported, MAX_WORKERS, Name, Seat, Unopened};
+use tas_desk::{CloseOnDrop, Desk, ExportError, Exported, Gate, MAX_WORKERS, Name, Seat, Unopened};
 use tas_engines::{RunFault, ToolFault, halt_fault, movie_of, read_two};
 use tas_movie::Movie;
 
@@ -29,6 +28,13 @@ struct Frames {
     from: usize,
     to: usize,
     workers: usize,
+}
+
+/// A gate that stands open.
+struct OpenGate;
+
+impl Gate for OpenGate {
+    fn pass(&self, _piece: usize) {}
 }
 
 /// What a desk's answer is reported as: one that tells of the movie's frames is compared with the two edits that made it.

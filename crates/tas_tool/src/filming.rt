@@ -65,7 +65,7 @@ fn film_movie<A: Allocator + Copy, W: Write>(
 /// Reads a cartridge and a movie text, and writes the pictures of the movie's frames from `from` to the one before `to`,
 /// counted from 0, as binary portable pixmaps, one after the other, each as soon as it is drawn: any number of them. `from` is 0
 /// and `to` the movie's length where they aren't given. The movie is played once. Beside its inputs the call holds the movie and
-/// one picture (own).
+/// one picture.
 ///
 /// Faults, in order: those of [`read_two`], those of [`movie_of`], then `Range` where the movie hasn't these frames, each with
 /// nothing written; then `HaltedFrame` with the least halted frame, and the pictures of the frames before it are written.

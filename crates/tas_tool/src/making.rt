@@ -3,9 +3,8 @@
 ghost use Rattle.std.specs.Prelude.{◌≡◌, ◌≤◌, [], length, OnOk, IfOk, IfErr};
 ghost use Rattle.tas_movie.specs.Content.{most_inputs};
 ghost use Rattle.tas_engines.specs.declared.fault.RunFault.TheVariants.{Memory};
-ghost use Rattle.tas_tool.specs.Inside.TwoEdits.{edit_fault, HoldsMovie, IsMakingFault, IsUnrefused};
+ghost use Rattle.tas_tool.specs.Inside.TwoEdits.{checked_end, edit_fault, HoldsMovie, IsMakingFault, IsUnrefused};
 
-use crate::answering::checked;
 use std::alloc::{AllocError, Allocator};
 use std::sync::Wait;
 use tas_desk::{CloseOnDrop, Desk, EditError, Name, Seat};
@@ -15,6 +14,17 @@ use vcs_machine::Cart;
 
 /// How many edits [`put_movie`] makes.
 pub const MOVIE_EDITS: u64 = 2;
+
+/// An answer, or another end, where it stands at just the seat's own edits.
+pub fn checked<T: Copy>(made: u64, at: u64, end: Result<T, RunFault>) -> Result<T, RunFault>
+    ensures { result ≡ checked_end made at end }
+{
+    if at == made {
+        end
+    } else {
+        Err(RunFault::Foreign)
+    }
+}
 
 /// What a refused edit is reported as: only being out of memory can refuse one, where the desk has no other edits.
 fn edit_fault(error: EditError) -> RunFault

@@ -1,10 +1,11 @@
 //! `tas script` over a movie.
 
-ghost use Rattle.std.specs.Prelude.{◌≡◌, ◌≤◌, [], length};
+ghost use Rattle.std.specs.Prelude.{◌≡◌, []};
 ghost use Rattle.tas_desk.specs.Seats.{name_of};
 ghost use Rattle.tas_tool.specs.MovieScripts.{AnswersOver, RunsOver, IsMovieScriptRun};
+ghost use Rattle.tas_tool.specs.Inside.Alone.{SeesOwn};
 
-use crate::making::{MOVIE_EDITS, put_movie};
+use crate::making::put_movie;
 use crate::opening::open_alone;
 use crate::scripting::answer_lines;
 use std::alloc::Allocator;
@@ -28,11 +29,11 @@ fn answer_made<N: Name, W: CloseOnDrop, A: Allocator + Copy, R: Wait>(
     requires first { (seat.old.number ≡ 0) × (seat.old.made ≡ 0) × (seat.old.front ≡ []) }
     requires empty { text.old.items ≡ [] }
     ensures number { seat.new.number ≡ 0 }
-    ensures answers { length seat.new.front ≤ seat.new.made
+    ensures answers { SeesOwn seat.new
         → AnswersOver movie.now bytes.now text.new.items result }
 {
     put_movie(rt, alloc, desk, seat, movie)?;
-    answer_lines(rt, alloc, desk, seat, MOVIE_EDITS, bytes, text)
+    answer_lines(rt, alloc, desk, seat, bytes, text)
 }
 
 /// Does what the lines ask for on a desk of one seat that has the movie, puts the replies into the empty text, and closes the
@@ -81,7 +82,7 @@ fn run_over<A: Allocator + Copy, R: Wait, W: Write>(
 
 /// Reads a cartridge, a movie text and a script, and writes a reply for each line of the script, as
 /// [`script_run`](crate::script_run) does, but from this movie on: its cartridge is loaded and its inputs are put in before the
-/// first line, by two edits, which no reply tells (own).
+/// first line, by two edits, which no reply tells.
 ///
 /// Faults, in order: those of reading the three, then `Size` and `Text`, each with nothing written; `NoPlace`, and `Memory` before
 /// the first line, with nothing written; then those of `script_run`.

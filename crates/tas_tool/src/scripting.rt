@@ -2,10 +2,10 @@
 
 ghost use Rattle.std.specs.Prelude.{◌≡◌, ◌≤◌, [], length};
 ghost use Rattle.tas_desk.specs.Seats.{name_of};
-ghost use Rattle.tas_tool.specs.Turns.{own_edits_of, BeginsWithOwn};
-ghost use Rattle.tas_tool.specs.Scripts.{own_edits_at_start, Answers, RunsScript, IsScriptRun};
+ghost use Rattle.tas_seat.specs.Turns.{standing_of};
+ghost use Rattle.tas_tool.specs.Scripts.{standing_at_start, Answers, RunsScript, IsScriptRun};
+ghost use Rattle.tas_tool.specs.Inside.Alone.{SeesOwn};
 
-use crate::answering::answer_command;
 use crate::opening::open_alone;
 use byte_text::split_once;
 use std::alloc::Allocator;
@@ -15,28 +15,27 @@ use std::sync::Wait;
 use tas_desk::{CloseOnDrop, Desk, Name, Seat, Unopened};
 use tas_engines::{RunFault, ToolFault, read_input, write_all};
 use tas_language::{parse_line, reply_line};
+use tas_seat::answer_command;
 
-/// Does what the lines ask for, as a seat that has made this many edits, and puts the replies into the empty text. `Foreign` comes
-/// only where the seat has seen more than its own edits.
+/// Does what the lines ask for, and puts the replies into the empty text. `Foreign` comes only where the seat has seen more than its own
+/// edits.
 pub fn answer_lines<N: Name, W: CloseOnDrop, A: Allocator + Copy, R: Wait>(
     rt: &R,
     alloc: A,
     desk: &Desk<N, W, A>,
     seat: &mut Seat<N, A>,
-    before: u64,
     bytes: &[u8],
     text: &mut Vec<u8, A>,
 ) -> Result<(), RunFault>
-    requires own { BeginsWithOwn seat.old }
-    requires made { before ≡ seat.old.made }
+    requires seen { seat.old.made ≤ length seat.old.front }
     requires empty { text.old.items ≡ [] }
     ensures number { seat.new.number ≡ seat.old.number }
-    ensures answers { length seat.new.front ≤ seat.new.made
-        → Answers (own_edits_of seat.old) bytes.now text.new.items result }
+    ensures answers { SeesOwn seat.new
+        → SeesOwn seat.old
+        × Answers (standing_of seat.old.front) bytes.now text.new.items result }
 {
     let mut rest = bytes;
     let mut number = 1;
-    let mut made = before;
     while !rest.is_empty() {
         let Some((line, after)) = split_once(rest, b'\n') else {
             return Err(RunFault::Script { line: number });
@@ -44,10 +43,9 @@ pub fn answer_lines<N: Name, W: CloseOnDrop, A: Allocator + Copy, R: Wait>(
         let Some(command) = parse_line(line) else {
             return Err(RunFault::Script { line: number });
         };
-        let answered = answer_command(rt, alloc, desk, seat, made, command)?;
-        let words = reply_line(alloc, answered.reply)?;
+        let reply = answer_command(rt, alloc, desk, seat, command)?;
+        let words = reply_line(alloc, reply)?;
         text.extend_from_slice(words.as_slice())?;
-        made = answered.made;
         rest = after;
         number += 1;
     }
@@ -66,11 +64,11 @@ fn answer_script<N: Name, A: Allocator + Copy, R: Wait>(
     requires name { unopened ≡ name_of N.registry N.name N.parts }
     requires one { unopened.seats ≡ 1 }
     requires empty { text.old.items ≡ [] }
-    ensures { Answers own_edits_at_start bytes.now text.new.items result }
+    ensures { Answers standing_at_start bytes.now text.new.items result }
 {
     let (desk, mut seats) = open_alone::<N, A, R>(rt, alloc, unopened)?;
     let seat = &mut seats.as_mut_slice()[0];
-    let end = answer_lines(rt, alloc, &desk, seat, 0, bytes, text);
+    let end = answer_lines(rt, alloc, &desk, seat, bytes, text);
     drop(desk.close(rt, seats));
     end
 }
@@ -93,7 +91,7 @@ fn run_script<A: Allocator + Copy, R: Wait, W: Write>(
     end
 }
 
-/// Reads a script and writes a reply for each of its lines, up to the first line that isn't understood (own). The script
+/// Reads a script and writes a reply for each of its lines, up to the first line that isn't understood. The script
 /// runs on a desk of one seat.
 ///
 /// Faults: those of [`read_input`] with nothing written; `NoPlace` with nothing written; `Script` with the line's number,

@@ -1,16 +1,15 @@
 //! `tas talk`.
 
-ghost use Rattle.std.specs.Prelude.{◌≡◌, ◌≤◌, [], true, length, None, MatchResult};
+ghost use Rattle.std.specs.Prelude.{◌≡◌, [], true, length, None, MatchResult};
 ghost use Rattle.vcs_machine.specs.Cart.{is_cart_size};
 ghost use Rattle.tas_desk.specs.Seats.{name_of};
 ghost use Rattle.tas_engines.specs.Tracing.{IsImageFault};
 ghost use Rattle.tas_movie.specs.Content.{blank_movie};
 ghost use Rattle.tas_tool.specs.Talk.{talk_state_from, IsCartTalk, IsMovieTalk, IsTalk};
-ghost use Rattle.tas_tool.specs.Inside.Talking.{StartsTalk};
+ghost use Rattle.tas_tool.specs.Inside.Alone.{SeesOwn, StartsTalk};
 
-use crate::making::{MOVIE_EDITS, put_movie};
+use crate::making::put_movie;
 use crate::opening::open_alone;
-use crate::talking::converse;
 use std::alloc::Allocator;
 use std::io::{Read, Write};
 use std::marker::Brand;
@@ -18,6 +17,7 @@ use std::sync::Wait;
 use tas_desk::{CloseOnDrop, Desk, Name, Seat, Unopened};
 use tas_engines::{RunFault, ToolFault, movie_of, read_input, read_two};
 use tas_movie::Movie;
+use tas_seat::converse;
 use vcs_machine::Cart;
 
 /// Gives a desk without edits its movie, where there is one, and answers lines.
@@ -33,17 +33,17 @@ fn talk_made<N: Name, C: CloseOnDrop, A: Allocator + Copy, T: Wait, R: Read, W: 
     requires first { (seat.old.number ≡ 0) × (seat.old.made ≡ 0) × (seat.old.front ≡ []) }
     requires zone { (seat.old.zone.movie ≡ blank_movie) × (seat.old.zone.states ≡ []) }
     ensures number { seat.new.number ≡ 0 }
-    ensures talk { length seat.new.front ≤ seat.new.made
+    ensures talk { SeesOwn seat.new
         → IsTalk (talk_state_from movie) (R.remaining input.old) (R.remaining input.new)
         (W.contents output.old) (W.contents output.new) result }
 {
     let Some(movie) = movie else {
-        return converse(rt, alloc, desk, seat, 0, input, output);
+        return converse(rt, alloc, desk, seat, input, output);
     };
     put_movie(rt, alloc, desk, seat, &movie)?;
     // The desk has copies of its cartridge and inputs, and a conversation may be long.
     drop(movie);
-    converse(rt, alloc, desk, seat, MOVIE_EDITS, input, output)
+    converse(rt, alloc, desk, seat, input, output)
 }
 
 /// Answers lines on a desk of one seat, from a movie on where there is one, and closes the desk. That nobody else made an edit is
@@ -97,7 +97,7 @@ fn blank_movie_of<A: Allocator + Copy>(alloc: A, image: &[u8]) -> Result<Movie<A
     Ok(Movie::new(alloc, &cart)?)
 }
 
-/// Reads a cartridge, and makes the movie of it with no inputs. What was read is let go here, since a conversation may be long.
+/// Reads a cartridge, and makes the movie of it with no inputs. What was read is dropped here, since a conversation may be long.
 ///
 /// Faults, in order: those of [`read_input`], then those of `blank_movie_of`.
 fn read_blank_movie<A: Allocator + Copy, C: Read>(
@@ -110,7 +110,7 @@ fn read_blank_movie<A: Allocator + Copy, C: Read>(
     Ok(blank_movie_of(alloc, image.as_slice())?)
 }
 
-/// Reads a cartridge and a movie text, and makes the movie of them. What was read is let go here, since a conversation may be
+/// Reads a cartridge and a movie text, and makes the movie of them. What was read is dropped here, since a conversation may be
 /// long.
 ///
 /// Faults, in order: those of [`read_two`], then those of [`movie_of`].
@@ -127,7 +127,7 @@ fn read_movie<A: Allocator + Copy, C: Read, M: Read>(
     Ok(movie_of(alloc, image.as_slice(), bytes.as_slice())?)
 }
 
-/// Reads lines and answers each of them, from a blank cartridge with no inputs on (own): an answer is handed out whole before more
+/// Reads lines and answers each of them, from a blank cartridge with no inputs on: an answer is handed out whole before more
 /// is read. The lines are those of a [`Request`](tas_language::Request): a script's, edits that depend on the movie's frames, looks, and
 /// `quit`; another line, or one of more than
 /// [`MAX_LINE`](tas_language::MAX_LINE) bytes, is answered `unknown` and changes nothing, and so is what stands after the last
@@ -149,7 +149,7 @@ pub fn talk_run<A: Allocator + Copy, T: Wait, R: Read, W: Write>(
 }
 
 /// Reads a cartridge, and then talks as [`talk_run`] does, but from this cartridge with no inputs on: it is loaded, and no
-/// inputs are put in, by two edits that no answer tells (own).
+/// inputs are put in, by two edits that no answer tells.
 ///
 /// Faults, in order: those of [`read_input`], and `Size`, each before anything is read of the input or written; `Memory`; then those
 /// of `talk_run`.
@@ -168,7 +168,7 @@ pub fn cart_talk_run<A: Allocator + Copy, T: Wait, C: Read, R: Read, W: Write>(
 }
 
 /// Reads a cartridge and a movie text, and then talks as [`talk_run`] does, but from this movie on: its cartridge is loaded and
-/// its inputs are put in by two edits that no answer tells (own).
+/// its inputs are put in by two edits that no answer tells.
 ///
 /// Faults, in order: those of [`read_two`], then those of [`movie_of`], each before anything is read of the input or written; then those
 /// of `talk_run`.

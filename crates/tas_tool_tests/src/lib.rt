@@ -9,6 +9,12 @@ mod checks;
 #[cfg(test)]
 mod commands;
 #[cfg(test)]
+mod desk_files;
+#[cfg(test)]
+mod desk_program_tests;
+#[cfg(test)]
+mod desk_word_tests;
+#[cfg(test)]
 mod export_tests;
 #[cfg(test)]
 mod film_tests;
@@ -40,6 +46,8 @@ mod tails;
 mod talk_file_tests;
 #[cfg(test)]
 mod talk_hand_tests;
+#[cfg(test)]
+mod talk_history_tests;
 #[cfg(test)]
 mod talk_look_tests;
 #[cfg(test)]

@@ -13,6 +13,7 @@ use std::process::Abort;
 use std::sync::Wait;
 use std::thread::Threads;
 use tas_program::{Folder, Streams, run_program};
+use test_streams::Taker;
 
 /// A folder with the files `game.bin` and `other`.
 #[derive(Clone, Copy)]
@@ -24,6 +25,8 @@ pub struct TwoFiles<'a> {
 impl<'a> Folder for TwoFiles<'a> {
     type File = &'a [u8];
 
+    type Sink = Taker;
+
     ghost bytes_of = { λ s name. Some (if pointwise nat_eq name (codes "game.bin") then s.game.now else s.other.now) };
 
     fn open(&self, name: &str) -> io::Result<&'a [u8]> {
@@ -34,6 +37,10 @@ impl<'a> Folder for TwoFiles<'a> {
         } else {
             Err(Error::from(ErrorKind::NotFound))
         }
+    }
+
+    fn open_to_write(&self, _name: &str) -> io::Result<Taker> {
+        Err(Error::from(ErrorKind::NotFound))
     }
 }
 

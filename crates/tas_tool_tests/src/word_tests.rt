@@ -308,7 +308,7 @@ fn begins(text: &[u8], start: &[u8]) -> bool {
 
 /// Fails where the program, run with these words over this cartridge and input, ends with another status, or what it writes or
 /// what it tells begins in another way.
-fn check_begins<R: Threads + Wait + Abort + Sync>(
+pub fn check_begins<R: Threads + Wait + Abort + Sync>(
     rt: &R,
     alloc: Global,
     case: (&str, usize),

@@ -13,7 +13,7 @@ use Rattle.tas_film.specs.Runs.{most_workers}
 use Rattle.tas_words.specs.declared.subcommands.Subcommand.{Subcommand}
 use Rattle.tas_words.specs.declared.subcommands.Word.{Word}
 use Rattle.tas_words.specs.declared.subcommands.WordKind.{WordKind}
-use Rattle.tas_words.specs.declared.subcommands.WordKind.TheVariants.{File, OptionalFile, Flag, Number, OptionalNumber}
+use Rattle.tas_words.specs.declared.subcommands.WordKind.TheVariants.{File, OptionalFile, PairedFile, Flag, Number, OptionalNumber}
 use Rattle.tas_words.specs.declared.task.Task.{Task}
 use Rattle.tas_words.specs.Task.{HasWords, most_every}
 
@@ -51,6 +51,10 @@ frame_rule name = number_rule name 0 most_number
 abbrev pub may_word_rule : Text → Rule
 may_word_rule name = record (new_rule name) { action = Some Set }
 
+-- the same of a word that goes with another one
+abbrev pub paired_word_rule : Text → Rule
+paired_word_rule name = record (may_word_rule name) { is_free = false }
+
 -- a number in a range that may stand there
 abbrev pub may_number_rule : Text → ℕ → ℕ → Rule
 may_number_rule name least most = record (may_word_rule name) { parser = Some (numbers least most) }
@@ -72,6 +76,7 @@ flag_rule name flag = record (new_rule name) {
 abbrev pub kind_rule : Text → WordKind → Rule
 kind_rule name File = file_rule name
 kind_rule name OptionalFile = may_word_rule name
+kind_rule name (PairedFile other) = paired_word_rule name
 kind_rule name (Flag flag other) = flag_rule name flag.now
 kind_rule name (Number least most) = number_rule name least most
 kind_rule name (OptionalNumber least most) = may_number_rule name least most
@@ -114,6 +119,15 @@ line_of shapes = record {
   subs = shapes;
 }
 
+-- the files of the pairs of `tas desk`: of each pair but the first both names stand there or none
+abbrev pub pair_rules : List Rule
+pair_rules =
+    file_rule (codes "IN0") ∷ file_rule (codes "OUT0")
+    ∷ paired_word_rule (codes "IN1") ∷ paired_word_rule (codes "OUT1") ∷ paired_word_rule (codes "IN2") ∷ paired_word_rule (codes "OUT2")
+    ∷ paired_word_rule (codes "IN3") ∷ paired_word_rule (codes "OUT3") ∷ paired_word_rule (codes "IN4") ∷ paired_word_rule (codes "OUT4")
+    ∷ paired_word_rule (codes "IN5") ∷ paired_word_rule (codes "OUT5") ∷ paired_word_rule (codes "IN6") ∷ paired_word_rule (codes "OUT6")
+    ∷ paired_word_rule (codes "IN7") ∷ paired_word_rule (codes "OUT7") ∷ []
+
 -- the program's first commands
 abbrev pub first_shapes : List Shape
 first_shapes =
@@ -137,6 +151,7 @@ later_shapes =
     ∷ shape_with (codes "diff") (cart_rule ∷ file_rule (codes "OLD") ∷ [])
     ∷ shape_with (codes "script") (flag_rule (codes "CART") (codes "cart") ∷ flag_rule (codes "MOVIE") (codes "movie") ∷ [])
     ∷ shape_with (codes "talk") (may_word_rule (codes "CART") ∷ may_word_rule (codes "MOVIE") ∷ [])
+    ∷ shape_with (codes "desk") (cart_rule ∷ file_rule (codes "MOVIE") ∷ pair_rules)
     ∷ []
 
 -- the first part of the program's command line

@@ -1,14 +1,17 @@
 -- What the words of each command ask for (own).
-use Rattle.std.specs.Prelude.{◌≡◌, ℕ, ◌≤◌, List, ◌⊎◌, Option, Some, None, codes}
+use Rattle.std.specs.Prelude.{◌≡◌, ℕ, ◌≤◌, List, [], ◌∷◌, ◌⊎◌, Option, Some, None, codes}
+use Rattle.std.specs.List.{filter_map}
 use Rattle.std.specs.Borrow.{Bor}
 use Rattle.std.specs.Str.Parse.{digits_value, without_leading_plus}
 use Rattle.clap.specs.Walk.{Row, Text, first_of, one_of}
 use Rattle.tas_language.specs.Commands.{most_number}
 use Rattle.tas_film.specs.Runs.{most_workers}
+use Rattle.tas_words.specs.declared.task.Pair.{Pair}
+use Rattle.tas_words.specs.declared.task.Pairs.{Pairs}
 use Rattle.tas_words.specs.declared.task.Start.{Start}
 use Rattle.tas_words.specs.declared.task.Start.TheVariants.{Blank, Cart, Movie}
 use Rattle.tas_words.specs.declared.task.Task.{Task}
-use Rattle.tas_words.specs.declared.task.Task.TheVariants.{Trace, Check, Migrate, Shot, Film, Export, Ram, Digest, Compare, Lag, Edit, Cut, Diff, Script, Talk}
+use Rattle.tas_words.specs.declared.task.Task.TheVariants.{Trace, Check, Migrate, Shot, Film, Export, Ram, Digest, Compare, Lag, Edit, Cut, Diff, Script, Talk, Desk}
 
 -- the word of this name is this text
 abbrev pub IsWord : List Row → Text → Text → Type 0
@@ -58,6 +61,32 @@ IsStart rows Blank = HasNoWord rows (codes "CART") × HasNoWord rows (codes "MOV
 IsStart rows (Cart cart) = IsWord rows (codes "CART") cart.now × HasNoWord rows (codes "MOVIE")
 IsStart rows (Movie files) = IsWord rows (codes "CART") files.cart.now × IsWord rows (codes "MOVIE") files.movie.now
 
+-- the words of these two names are a pair
+abbrev pub IsPair : List Row → Text × Text → Pair → Type 0
+IsPair rows names pair = IsWord rows names.0 pair.input.now × IsWord rows names.1 pair.output.now
+
+-- the same of a pair that may be left out
+abbrev pub IsOptionalPair : List Row → Text × Text → Option Pair → Type 0
+IsOptionalPair rows names None = HasNoWord rows names.0 × HasNoWord rows names.1
+IsOptionalPair rows names (Some pair) = IsPair rows names pair
+
+-- the words name these pairs
+abbrev pub ArePairs : List Row → Pairs → Type 0
+ArePairs rows pairs =
+    IsPair rows (codes "IN0", codes "OUT0") pairs.first
+    × IsOptionalPair rows (codes "IN1", codes "OUT1") pairs.second
+    × IsOptionalPair rows (codes "IN2", codes "OUT2") pairs.third
+    × IsOptionalPair rows (codes "IN3", codes "OUT3") pairs.fourth
+    × IsOptionalPair rows (codes "IN4", codes "OUT4") pairs.fifth
+    × IsOptionalPair rows (codes "IN5", codes "OUT5") pairs.sixth
+    × IsOptionalPair rows (codes "IN6", codes "OUT6") pairs.seventh
+    × IsOptionalPair rows (codes "IN7", codes "OUT7") pairs.eighth
+
+-- the pairs that are there, in order
+abbrev pub pairs_in : Pairs → List Pair
+pairs_in pairs =
+    filter_map (λ pair. pair) (Some pairs.first ∷ pairs.second ∷ pairs.third ∷ pairs.fourth ∷ pairs.fifth ∷ pairs.sixth ∷ pairs.seventh ∷ pairs.eighth ∷ [])
+
 -- a task is that of the command of this name, and its files and numbers are the command's words, the numbers in their ranges
 abbrev pub HasWords : Text → List Row → Task → Type 0
 HasWords name rows (Trace instructions) = (name ≡ codes "trace") × IsNumberWord rows (codes "N") 0 1000000 instructions
@@ -82,3 +111,5 @@ HasWords name rows (Diff cart old) = (name ≡ codes "diff") × IsWord rows (cod
 HasWords name rows (Script None) = (name ≡ codes "script") × IsStart rows Blank
 HasWords name rows (Script (Some files)) = (name ≡ codes "script") × IsStart rows (Movie files)
 HasWords name rows (Talk start) = (name ≡ codes "talk") × IsStart rows start
+HasWords name rows (Desk cart movie pairs) =
+    (name ≡ codes "desk") × IsWord rows (codes "CART") cart.now × IsWord rows (codes "MOVIE") movie.now × ArePairs rows pairs

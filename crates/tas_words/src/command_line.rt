@@ -2,7 +2,7 @@
 
 ghost use Rattle.std.specs.Prelude.{◌≡◌, IfOk, None, false, map};
 ghost use Rattle.clap.specs.Words.{app_of, rule_of};
-ghost use Rattle.tas_words.specs.CommandLine.{empty_line, flag_rule, may_number_rule, may_word_rule, number_rule, rule_of_word, with_commands, word_rule, HasRules, IsCommandLine};
+ghost use Rattle.tas_words.specs.CommandLine.{empty_line, flag_rule, may_number_rule, may_word_rule, number_rule, paired_word_rule, rule_of_word, with_commands, word_rule, HasRules, IsCommandLine};
 
 use crate::subcommands::{Subcommand, Word, WordKind, first_subcommands, later_subcommands};
 use clap::{Arg, ArgAction, Command, value_parser};
@@ -32,6 +32,22 @@ fn optional_file<'a>(alloc: Global, name: &'a str, help: &'a str) -> Arg<'a>
     ensures rule { rule_of result ≡ may_word_rule name.now }
 {
     Arg::new(alloc, name).action(ArgAction::Set).help(help)
+}
+
+/// A word that may name a file, and goes with another one.
+fn paired_file<'a>(
+    alloc: Global,
+    name: &'a str,
+    other: &'a str,
+    help: &'a str,
+) -> Result<Arg<'a>, AllocError>
+    ensures local { IfOk result (λ arg. arg.global ≡ false) }
+    ensures rule { IfOk result (λ arg. rule_of arg ≡ paired_word_rule name.now) }
+{
+    Arg::new(alloc, name)
+        .action(ArgAction::Set)
+        .help(help)
+        .requires_arg(other)
 }
 
 /// A word that names a file, after a flag, and goes with another one.
@@ -91,6 +107,7 @@ fn arg_of<'a>(alloc: Global, word: Word) -> Result<Arg<'a>, AllocError>
     match word.kind {
         WordKind::File => Ok(file(alloc, name, help)),
         WordKind::OptionalFile => Ok(optional_file(alloc, name, help)),
+        WordKind::PairedFile { other } => paired_file(alloc, name, other, help),
         WordKind::Flag { flag: long, other } => flag(alloc, name, long, other, help),
         WordKind::Number { least, most } => Ok(number(alloc, name, help, least, most)),
         WordKind::OptionalNumber { least, most } => {

@@ -1,11 +1,10 @@
 //! The words of the command line: what the program can be asked to do, and the request that some words are.
 //!
 //! [`read_request`] reads words into a [`Request`]: a [`Task`], a text to show, or a refusal.
-//!
-//! '(own)' marks a decision of this project, one that no manual makes.
 #![tactic(auto)]
 
 mod command_line;
+mod helps;
 mod request;
 mod subcommands;
 mod task;
@@ -13,7 +12,7 @@ mod words;
 
 pub use request::{Request, collect_words, read_request};
 pub use task::{
-    MAX_EVERY, MAX_FRAME_NUMBER, MAX_INSTRUCTIONS, MAX_WORKERS, MovieFiles, Start, Task,
-    USUAL_EVERY,
+    MAX_EVERY, MAX_FRAME_NUMBER, MAX_INSTRUCTIONS, MAX_WORKERS, MovieFiles, Pair, Pairs, Start,
+    Task, USUAL_EVERY,
 };
 pub use words::read_words;

@@ -10,7 +10,7 @@ use std::alloc::{Allocator, Global};
 use std::env::Args;
 use std::io;
 
-/// What the words on the command line ask for (own).
+/// What the words on the command line ask for.
 #[derive(Debug, Drop)]
 pub enum Request<'a, A: Allocator = Global> {
     /// A command.

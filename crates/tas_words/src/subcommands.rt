@@ -3,6 +3,10 @@
 ghost use Rattle.std.specs.Prelude.{◌≡◌};
 ghost use Rattle.tas_words.specs.CommandLine.{command_line, empty_line, first_line, with_commands};
 
+use crate::helps::{
+    CHECK_HELP, COMPARE_HELP, CUT_HELP, DESK_HELP, DIFF_HELP, DIGEST_HELP, EDIT_HELP, EXPORT_HELP,
+    FILM_HELP, LAG_HELP, MIGRATE_HELP, RAM_HELP, SCRIPT_HELP, SHOT_HELP, TALK_HELP, TRACE_HELP,
+};
 use crate::{MAX_EVERY, MAX_FRAME_NUMBER, MAX_INSTRUCTIONS, MAX_WORKERS};
 
 /// What a word of a command is.
@@ -12,6 +16,10 @@ pub(crate) enum WordKind {
     File,
     /// The name of a file that may be left out.
     OptionalFile,
+    /// The name of a file that may be left out, together with another one.
+    PairedFile {
+        other: &'static str,
+    },
     /// The name of a file after a flag, which goes with another one.
     Flag {
         flag: &'static str,
@@ -46,199 +54,6 @@ pub(crate) struct Subcommand {
     pub(crate) words: &'static [Word],
 }
 
-const TRACE_HELP: &str = "\
-Standard input is the cartridge: its image of 4096 or 2048 bytes, as an assembler writes it.
-Standard output has one line for each instruction from power-on, with nothing pressed:
-its address, its opcode, the registers A X Y S P after it, and its CPU cycles.
-A byte that is no documented opcode ends the trace with a line such as 'F006 02 halt'.
-
-Example:
-  examples/cart counter | ./tas trace 3";
-
-const CHECK_HELP: &str = "\
-Standard input is the movie text: a line 'a26movie 2', a line 'cart ' with the SHA-256 of the
-cartridge, and a line for each run of equal frames: 'R.... ..... .....' is one frame, and
-'R.... ..... ..... x60' sixty. An older text, 'a26movie 1' with a line for each frame, is read too.
-A frame is 'RLDUF RLDUF rsbAB': right, left, down, up and fire of the left stick; the same of the right
-stick; reset, select, black and white, left difficulty A, right difficulty A. A dot in a letter's place
-means that it isn't pressed or set: '..D.F ..... .....' pushes the left stick down and fires.
-Standard output is 'ok F frames', where the text is one of a movie of F frames with this cartridge.
-Otherwise the first line at fault is reported. Only the text is read: no frame is played, so a movie
-that halts is 'ok'. 'tas digest' plays it.
-
-Example:
-  examples/cart joystick > joystick.bin
-  ./tas check joystick.bin < examples/joystick.movie";
-
-const MIGRATE_HELP: &str = "\
-Standard input is a movie text, as for 'tas check'.
-Standard output is the same movie as a text of runs: 'a26movie 2', and a line for each run of equal
-frames.
-
-Example:
-  ./tas migrate joystick.bin < examples/older.movie > new.movie";
-
-const SHOT_HELP: &str = "\
-Standard input is the movie text, as for 'tas check'.
-Standard output is the picture of frame K, 160 by 210 pixels as a binary portable pixmap (P6),
-replayed from power-on.
-
-Example:
-  examples/cart joystick > joystick.bin
-  ./tas shot joystick.bin 60 < examples/joystick.movie > frame60.ppm";
-
-const FILM_HELP: &str = "\
-Standard input is the movie text, as for 'tas check'.
-Standard output is the pictures of the frames FROM to TO - 1, each as for 'tas shot', one after the
-other: any number of them, each written as soon as it is played. FROM is 0 and TO the movie's length
-if not given. A halted frame ends the film with its fault; the pictures of the frames before it are
-written.
-
-Example:
-  examples/cart joystick > joystick.bin
-  ./tas film joystick.bin < examples/joystick.movie |
-    ffmpeg -f ppm_pipe -framerate 60 -i - -vf scale=640:420:flags=neighbor -pix_fmt yuv420p film.mp4";
-
-const EXPORT_HELP: &str = "\
-Standard input is the movie text, as for 'tas check'.
-Standard output is the pictures of the frames FROM to TO - 1, at most 1024, each as for 'tas shot',
-one after the other. WORKERS threads replay the movie from power-on and share the frames; the
-pictures don't depend on their number. Nothing is written before all are ready. For a longer film
-there is 'tas film', which writes each picture as soon as it is played.
-
-Example:
-  examples/cart joystick > joystick.bin
-  ./tas export joystick.bin 0 120 4 < examples/joystick.movie |
-    ffmpeg -f ppm_pipe -framerate 60 -i - -vf scale=640:420:flags=neighbor -pix_fmt yuv420p film.mp4";
-
-const RAM_HELP: &str = "\
-Standard input is the movie text, as for 'tas check'.
-Standard output has a line 'K DIGITS' for each K from FROM to TO - 1: the 128 bytes of RAM after K
-frames from power-on, addresses 80 to FF, as 256 upper case hexadecimal digits. K is a number of
-frames: 0 is power-on, and TO is at most the movie's length and one. Frame K - 1 is the last one that
-is played before line K.
-
-Example, address 81 after each of the first ten frames:
-  examples/cart joystick > joystick.bin
-  ./tas ram joystick.bin 1 11 < examples/joystick.movie | awk '{ print $1, substr($2, 3, 2) }'";
-
-const DIGEST_HELP: &str = "\
-Standard input is the movie text, as for 'tas check'.
-Standard output is what to keep beside a movie, to show later that it still plays the same: the
-machine's version, the SHA-256 of the cartridge and of the movie's text of runs, and a line
-'frames A to B ram HEX picture HEX' for each stretch of EVERY frames, 600 if not given (B isn't
-included): the SHA-256 of RAM after each frame of the stretch, and that of the picture of its last
-frame. 'diff' of two digests shows the first stretch that plays differently. A halted frame is a
-fault, and nothing is written then.
-
-Example:
-  examples/cart joystick > joystick.bin
-  ./tas digest joystick.bin 60 < examples/joystick.movie > joystick.digest";
-
-const COMPARE_HELP: &str = "\
-Standard input is a movie text, as for 'tas check', and OLD is the file with the text of an older one.
-Standard output has three lines, 'input I', 'ram R' and 'picture P': the first frame, counted from 0,
-at which the inputs of the two movies differ, RAM after the frame, and the picture; or 'none'. Where
-one movie ends sooner, they differ at its end. Up to the first input that differs they are played as
-one.
-
-Example:
-  examples/cart joystick > joystick.bin
-  ./tas edit joystick.bin examples/mend.script < examples/joystick.movie > mended.movie
-  ./tas compare joystick.bin examples/joystick.movie < mended.movie";
-
-const LAG_HELP: &str = "\
-Standard input is the movie text, as for 'tas check'.
-Standard output is the lag frames of the movie, those whose input nothing reads, as lines 'A B': frames
-A to B - 1, counted from 0. Whatever the input of such a frame, its picture and all that follows are
-the same.
-
-Example:
-  examples/cart joystick > joystick.bin
-  ./tas lag joystick.bin < examples/joystick.movie";
-
-const EDIT_HELP: &str = "\
-Standard input is the movie text, as for 'tas check'. The script's file has edits, a line each:
-  insert PLACE COUNT FRAME   insert COUNT frames such as 'R.... ..... .....'
-  replace PLACE COUNT FRAME  replace COUNT frames
-  delete PLACE COUNT         delete COUNT frames
-  press AT COUNT FRAME       press what FRAME has in COUNT frames; the rest of them stays
-  release AT COUNT FRAME     release what FRAME has in COUNT frames; the rest of them stays
-  repeat AT COUNT TIMES      insert COUNT frames TIMES more times, directly after themselves
-  copy FROM COUNT AT         insert a copy of the COUNT frames from FROM before frame AT
-  copy other FROM COUNT AT   the same, from the movie whose text is in the file OTHER
-A frame is 'RLDUF RLDUF rsbAB': right, left, down, up and fire of the left stick; the same of the right
-stick; reset, select, black and white, left difficulty A, right difficulty A. A dot in a letter's place
-means that it isn't pressed or set: '..D.F ..... .....' pushes the left stick down and fires.
-Frames are counted from 0. The lines are made in order, each on the movie that those before it made.
-Standard output is the text of the last one. A line that isn't understood, or that reaches past the
-last frame or makes the movie too long, ends the command with its fault and nothing written.
-
-Examples:
-  ./tas edit joystick.bin examples/mend.script < examples/joystick.movie > mended.movie
-  echo press 30 5 ....F ..... ..... > fire.script
-  ./tas edit joystick.bin fire.script < examples/joystick.movie > fired.movie";
-
-const CUT_HELP: &str = "\
-Standard input is the movie text, as for 'tas check'.
-Standard output is the text of the movie of the frames FROM to TO - 1 alone, which begins at power-on
-as every movie does.
-
-Example, all but the first second:
-  examples/cart joystick > joystick.bin
-  ./tas cut joystick.bin 60 120 < examples/joystick.movie > end.movie";
-
-const DIFF_HELP: &str = "\
-Standard input is a movie text, as for 'tas check', and OLD is the file with the text of an older one.
-Standard output is a script for 'tas edit' that turns the old movie into the new one: nothing where
-they are equal.
-
-Example:
-  ./tas diff joystick.bin examples/joystick.movie < mended.movie";
-
-const SCRIPT_HELP: &str = "\
-Standard input is the script: edits of a movie and looks at it, a line each:
-  load OFF=HEX ..            take a cartridge of 4096 zeros with these bytes
-  load2 OFF=HEX ..           take one of 2048 zeros
-  insert PLACE COUNT FRAME   insert COUNT frames such as 'R.... ..... .....'
-  replace PLACE COUNT FRAME  replace COUNT frames
-  delete PLACE COUNT         delete COUNT frames
-  len, input K, shot K       report the length, an input, or what frame K shows
-  work K                     keep states up to frame K
-Standard output has a reply for each line; refusals are replies, too. A line that isn't understood
-ends the script. With --cart and --movie the script starts from this movie, which counts as two
-edits; else from a blank cartridge with no frames.
-
-Examples:
-  ./tas script < examples/edits.script
-  echo shot 60 | ./tas script --cart joystick.bin --movie examples/joystick.movie";
-
-const TALK_HELP: &str = "\
-Standard input is lines, as of 'tas script', and standard output has the answer to each before the
-next one is read, so that another program can hold the conversation. It has these lines, too:
-  press AT COUNT FRAME       press what FRAME has in COUNT frames; the rest of them stays
-  release AT COUNT FRAME     release what FRAME has in COUNT frames; the rest of them stays
-  repeat AT COUNT TIMES      insert COUNT frames TIMES more times, directly after themselves
-  copy FROM COUNT AT         insert a copy of the COUNT frames from FROM before frame AT
-  picture K                  a line 'picture AT K BYTES', then BYTES bytes: the pixmap of frame K
-  pictures FROM TO           the answers to 'picture K' for FROM to TO - 1, 1 to 1024 of them
-  ram K                      'ram AT K' and 256 hexadecimal digits: RAM after K frames from power-on
-  digest K                   'digest AT K ram HEX picture HEX': SHA-256 of RAM after frame K, and of its pixmap
-  lag A B                    a line 'lag AT A B BYTES', then BYTES bytes: the lag frames of A to B - 1
-  movie                      a line 'movie AT BYTES', then BYTES bytes: the movie's text
-  states                     'states AT N' and the N frames after which a machine state is kept
-  quit                       ends the conversation, as the end of standard input does
-AT is the number of edits so far. A line that isn't understood, or longer than 16384 bytes, is
-answered 'unknown' and changes nothing. With CART it starts from this cartridge, with MOVIE from this
-movie. That counts as two edits. A step from a picture to the next one plays one frame. Fill a long movie
-by 'work' in steps, as 'work 4096', 'work 8192': each answer is the progress.
-A frame is 'RLDUF RLDUF rsbAB': right, left, down, up and fire of the left stick; the same of the right
-stick; reset, select, black and white, left difficulty A, right difficulty A. A dot in a letter's place
-means that it isn't pressed or set.
-
-Example:
-  printf 'len\\nshot 60\\nstates\\nquit\\n' | ./tas talk joystick.bin examples/joystick.movie";
-
 const CARTRIDGE: Word = Word {
     name: "CART",
     help: "The cartridge's file: its image of 4096 or 2048 bytes",
@@ -260,6 +75,10 @@ const OLD: Word = Word {
     help: "The file with the older movie's text",
     kind: WordKind::File,
 };
+
+const LINES: &str = "A file that another program's lines are read from";
+
+const ANSWERS: &str = "The file that their answers are written to; goes with the one before it";
 
 /// The program's first commands. They are two lists, since a proof of one list of all is too large.
 static FIRST_SUBCOMMANDS: [Subcommand; 10] = [
@@ -394,7 +213,7 @@ static FIRST_SUBCOMMANDS: [Subcommand; 10] = [
 ];
 
 /// Those after them.
-static LATER_SUBCOMMANDS: [Subcommand; 5] = [
+static LATER_SUBCOMMANDS: [Subcommand; 6] = [
     Subcommand {
         name: "edit",
         about: "Makes the edits of a script on a movie and writes its text",
@@ -477,6 +296,99 @@ static LATER_SUBCOMMANDS: [Subcommand; 5] = [
                 name: "MOVIE",
                 help: "The file with the text of a movie to start from",
                 kind: WordKind::OptionalFile,
+            },
+        ],
+    },
+    Subcommand {
+        name: "desk",
+        about: "Answers the lines of several programs at once, which edit one movie",
+        help: DESK_HELP,
+        words: &[
+            CARTRIDGE,
+            Word {
+                name: "MOVIE",
+                help: "The file with the text of the movie to start from",
+                kind: WordKind::File,
+            },
+            Word {
+                name: "IN0",
+                help: "The file that the first program's lines are read from",
+                kind: WordKind::File,
+            },
+            Word {
+                name: "OUT0",
+                help: "The file that their answers are written to",
+                kind: WordKind::File,
+            },
+            Word {
+                name: "IN1",
+                help: LINES,
+                kind: WordKind::PairedFile { other: "OUT1" },
+            },
+            Word {
+                name: "OUT1",
+                help: ANSWERS,
+                kind: WordKind::PairedFile { other: "IN1" },
+            },
+            Word {
+                name: "IN2",
+                help: LINES,
+                kind: WordKind::PairedFile { other: "OUT2" },
+            },
+            Word {
+                name: "OUT2",
+                help: ANSWERS,
+                kind: WordKind::PairedFile { other: "IN2" },
+            },
+            Word {
+                name: "IN3",
+                help: LINES,
+                kind: WordKind::PairedFile { other: "OUT3" },
+            },
+            Word {
+                name: "OUT3",
+                help: ANSWERS,
+                kind: WordKind::PairedFile { other: "IN3" },
+            },
+            Word {
+                name: "IN4",
+                help: LINES,
+                kind: WordKind::PairedFile { other: "OUT4" },
+            },
+            Word {
+                name: "OUT4",
+                help: ANSWERS,
+                kind: WordKind::PairedFile { other: "IN4" },
+            },
+            Word {
+                name: "IN5",
+                help: LINES,
+                kind: WordKind::PairedFile { other: "OUT5" },
+            },
+            Word {
+                name: "OUT5",
+                help: ANSWERS,
+                kind: WordKind::PairedFile { other: "IN5" },
+            },
+            Word {
+                name: "IN6",
+                help: LINES,
+                kind: WordKind::PairedFile { other: "OUT6" },
+            },
+            Word {
+                name: "OUT6",
+                help: ANSWERS,
+                kind: WordKind::PairedFile { other: "IN6" },
+            },
+            Word {
+                name: "IN7",
+                help: LINES,
+                kind: WordKind::PairedFile { other: "OUT7" },
+            },
+            Word {
+                name: "OUT7",
+                help: ANSWERS,
+                kind: WordKind::PairedFile { other: "IN7" },
             },
         ],
     },

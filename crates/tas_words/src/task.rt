@@ -2,22 +2,22 @@
 
 use tas_language::MAX_NUMBER;
 
-/// The most instructions of one trace (own).
+/// The most instructions of one trace.
 pub const MAX_INSTRUCTIONS: u32 = 1_000_000;
 
-/// The greatest number of a frame, which is that of a script's numbers (own).
+/// The greatest number of a frame, which is that of a script's numbers.
 pub const MAX_FRAME_NUMBER: u32 = MAX_NUMBER as u32;
 
-/// The most frames of one stretch of a digest (own).
+/// The most frames of one stretch of a digest.
 pub const MAX_EVERY: u32 = 262_144;
 
-/// How many frames a stretch of a digest has, where the words don't say it (own).
+/// How many frames a stretch of a digest has, where the words don't say it.
 pub const USUAL_EVERY: u32 = 600;
 
-/// The most workers of one export (own).
+/// The most workers of one export.
 pub const MAX_WORKERS: u32 = tas_film::MAX_WORKERS as u32;
 
-/// The names of a movie's two files (own).
+/// The names of a movie's two files.
 #[derive(Clone, Copy, Debug, PartialEq, Eq)]
 pub struct MovieFiles<'a> {
     /// The name of the cartridge's file.
@@ -26,7 +26,7 @@ pub struct MovieFiles<'a> {
     pub movie: &'a str,
 }
 
-/// What a conversation starts from (own).
+/// What a conversation starts from.
 #[derive(Clone, Copy, Debug, PartialEq, Eq)]
 pub enum Start<'a> {
     /// A blank cartridge with no frames.
@@ -40,7 +40,37 @@ pub enum Start<'a> {
     Movie(MovieFiles<'a>),
 }
 
-/// A command with its words (own).
+/// The names of the two files of one of a desk's conversations.
+#[derive(Clone, Copy, Debug, PartialEq, Eq)]
+pub struct Pair<'a> {
+    /// The name of the file that its lines are read from.
+    pub input: &'a str,
+    /// The name of the file that its answers are written to.
+    pub output: &'a str,
+}
+
+/// One to eight pairs, in order.
+#[derive(Clone, Copy, Debug, PartialEq, Eq)]
+pub struct Pairs<'a> {
+    /// The first pair.
+    pub first: Pair<'a>,
+    /// The second one.
+    pub second: Option<Pair<'a>>,
+    /// The third one.
+    pub third: Option<Pair<'a>>,
+    /// The fourth one.
+    pub fourth: Option<Pair<'a>>,
+    /// The fifth one.
+    pub fifth: Option<Pair<'a>>,
+    /// The sixth one.
+    pub sixth: Option<Pair<'a>>,
+    /// The seventh one.
+    pub seventh: Option<Pair<'a>>,
+    /// The eighth one.
+    pub eighth: Option<Pair<'a>>,
+}
+
+/// A command with its words.
 #[derive(Clone, Copy, Debug, PartialEq, Eq)]
 pub enum Task<'a> {
     /// Trace the first instructions of the cartridge on standard input.
@@ -142,4 +172,13 @@ pub enum Task<'a> {
     Script(Option<MovieFiles<'a>>),
     /// Answer the lines on standard input, each before the next one is read.
     Talk(Start<'a>),
+    /// Answer the lines of several files at once, all on one movie, and write the text of the movie that they make.
+    Desk {
+        /// The name of the cartridge's file of the movie to start from.
+        cart: &'a str,
+        /// The name of the file with this movie's text.
+        movie: &'a str,
+        /// The files of lines and of answers.
+        pairs: Pairs<'a>,
+    },
 }

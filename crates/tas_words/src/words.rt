@@ -2,13 +2,13 @@
 
 ghost use Rattle.std.specs.Prelude.{◌≡◌, IfOk, IfSome, codes, map, option_map, string_bytes};
 ghost use Rattle.clap.specs.Words.{first_of, found_of, rows_of, subcommand_rows_of};
-ghost use Rattle.tas_words.specs.Task.{HasWords, IsEvery, IsFrameWord, IsNumberWord, IsOptionalFrameWord, IsOptionalNumberWord};
+ghost use Rattle.tas_words.specs.Task.{ArePairs, HasWords, IsEvery, IsFrameWord, IsNumberWord, IsOptionalFrameWord, IsOptionalNumberWord, IsOptionalPair};
 ghost use Rattle.tas_words.specs.CommandLine.{HasWordsOf, IsAsked, IsCommandLine};
 
 use crate::command_line::command_line;
 use crate::{
-    MAX_EVERY, MAX_FRAME_NUMBER, MAX_INSTRUCTIONS, MAX_WORKERS, MovieFiles, Start, Task,
-    USUAL_EVERY,
+    MAX_EVERY, MAX_FRAME_NUMBER, MAX_INSTRUCTIONS, MAX_WORKERS, MovieFiles, Pair, Pairs, Start,
+    Task, USUAL_EVERY,
 };
 use clap::error::ErrorKind;
 use clap::{ArgMatches, Command, Error};
@@ -101,6 +101,45 @@ fn talk_task<'a>(matches: &ArgMatches<'a>) -> Option<Task<'a>>
     }
 }
 
+/// The pair of these names; `Some(None)` where there is none, and `None` where one of them is alone.
+fn pair_of<'a>(matches: &ArgMatches<'a>, input: &str, output: &str) -> Option<Option<Pair<'a>>>
+    ensures { IfSome result
+        (IsOptionalPair (rows_of (found_of matches.now)) (input.now, output.now)) }
+{
+    match (word_of(matches, input), word_of(matches, output)) {
+        (Some(input), Some(output)) => Some(Some(Pair { input, output })),
+        (None, None) => Some(None),
+        _ => None,
+    }
+}
+
+/// The pairs of files of `tas desk`.
+fn pairs_of<'a>(matches: &ArgMatches<'a>) -> Option<Pairs<'a>>
+    ensures { IfSome result (ArePairs (rows_of (found_of matches.now))) }
+{
+    Some(Pairs {
+        first: pair_of(matches, "IN0", "OUT0")??,
+        second: pair_of(matches, "IN1", "OUT1")?,
+        third: pair_of(matches, "IN2", "OUT2")?,
+        fourth: pair_of(matches, "IN3", "OUT3")?,
+        fifth: pair_of(matches, "IN4", "OUT4")?,
+        sixth: pair_of(matches, "IN5", "OUT5")?,
+        seventh: pair_of(matches, "IN6", "OUT6")?,
+        eighth: pair_of(matches, "IN7", "OUT7")?,
+    })
+}
+
+/// What the words of `tas desk` ask for; `None` where a pair has one name alone.
+fn desk_task<'a>(matches: &ArgMatches<'a>) -> Option<Task<'a>>
+    ensures { IfSome result (HasWords (codes "desk") (rows_of (found_of matches.now))) }
+{
+    Some(Task::Desk {
+        cart: word_of(matches, "CART")?,
+        movie: word_of(matches, "MOVIE")?,
+        pairs: pairs_of(matches)?,
+    })
+}
+
 /// What the command of this name asks for with its words; `None` where it is none of these, which write texts.
 fn text_task<'a>(name: &str, words: &ArgMatches<'a>) -> Option<Task<'a>>
     ensures { IfSome result (HasWords name.now (rows_of (found_of words.now))) }
@@ -131,6 +170,7 @@ fn text_task<'a>(name: &str, words: &ArgMatches<'a>) -> Option<Task<'a>>
         }),
         "script" => script_task(words),
         "talk" => talk_task(words),
+        "desk" => desk_task(words),
         _ => None,
     }
 }

@@ -1,4 +1,4 @@
--- The registry of versions: histories in the order in which they were numbered (own).
+-- The registry of versions: histories in the order in which they were numbered.
 use Rattle.std.specs.Prelude.{ℕ, ◌≡◌, ◌==◌, true, List, [], ◌∷◌, ◌++◌, length, MatchBool}
 use Rattle.logbook.specs.Pages.{Cell, Step, View, Book, Named}
 use Rattle.tas_session.specs.declared.entry.Entry.{Entry}
@@ -16,7 +16,7 @@ abbrev pub counter_of : Book → Named
 counter_of b = record { tracked = true; key = 0; book = b }
 
 -- what an exchange of the counter's number for the next one tells: where the number that it found was the expected one, the history that was asked for is numbered,
--- right behind all those that the caller knew; else the caller has learnt as many histories as it found
+-- directly after all those that the caller knew; else the caller has learnt as many histories as it found
 abbrev pub Numbers : {A : Type 0} → Step (List (Entry A)) → View (List (Entry A)) ℕ → ℕ → View (List (Entry A)) ℕ → Type 0
 Numbers step before found after = MatchBool (found == step.old) (after.0 ≡ before.0 ++ step.ask ∷ []) (length after.0 ≡ found)
 

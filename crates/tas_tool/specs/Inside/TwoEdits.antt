@@ -1,5 +1,5 @@
--- A desk's seat that makes a movie by its first two edits (own). Private functions cite this file.
-use Rattle.std.specs.Prelude.{◌≡◌, ℕ, ◌≤◌, ◌==◌, if◌then◌else◌, length, take, None, Result, Ok, Err}
+-- A desk's seat that makes a movie by its first two edits. Private functions cite this file.
+use Rattle.std.specs.Prelude.{◌≡◌, ℕ, ◌<◌, ◌≤◌, ◌==◌, if◌then◌else◌, length, take, None, Result, Ok, Err}
 use Rattle.tas_movie.specs.Content.{MovieContent}
 use Rattle.tas_movie.specs.declared.edit.Edit.{Edit}
 use Rattle.tas_movie.specs.declared.edit.Edit.TheVariants.{Load, Insert}
@@ -14,8 +14,6 @@ use Rattle.tas_session.specs.declared.replies.EditError.TheVariants.{Memory as N
 use Rattle.tas_engines.specs.declared.fault.RunFault.{RunFault}
 use Rattle.tas_engines.specs.declared.fault.RunFault.TheVariants.{Range, Halted, Write, Foreign, Memory}
 use Rattle.tas_engines.specs.Shooting.{halt_fault}
-use Rattle.tas_tool.specs.Inside.Checking.{checked_end}
-use Rattle.tas_tool.specs.Turns.{HasForeign}
 
 -- the seat made two edits, which are the first ones of what it has seen, and make this movie
 pub record HoldsMovie {A : Type 0} (seat : SeatContent A) (movie : MovieContent) : Type 0 where
@@ -24,18 +22,26 @@ pub record HoldsMovie {A : Type 0} (seat : SeatContent A) (movie : MovieContent)
   pub own : entries_of seat.number (take 2 seat.front) ≡ 2
   pub movie_is : movie_of (take 2 seat.front) ≡ movie
 
--- what a refused edit is told as
+-- the seat has seen more edits than it made
+abbrev pub HasForeign : {A : Type 0} → SeatContent A → Type 0
+HasForeign seat = seat.made < length seat.front
+
+-- an answer, or another end, that stands at this many edits, where these are just the seat's own
+abbrev pub checked_end : {X : Type 0} → ℕ → ℕ → Result X RunFault → Result X RunFault
+checked_end made at end = if at == made then end else Err Foreign
+
+-- what a refused edit is reported as
 abbrev pub edit_fault : EditError → RunFault
 edit_fault NoRoom = Memory
 edit_fault _ = Foreign
 
--- why the two edits weren't made: want of memory, or the seat has seen more edits than its own
+-- why the two edits weren't made: being out of memory, or the seat has seen more edits than its own
 abbrev pub IsMakingFault : {A : Type 0} → SeatContent A → RunFault → Type 0
 IsMakingFault seat Memory = Unit {0}
 IsMakingFault seat Foreign = HasForeign seat
 IsMakingFault seat _ = ⊥
 
--- the edit of the two that comes after so many of them
+-- the edit of the two that comes after this many of them
 abbrev pub next_edit : (A : Type 0) → MovieContent → ℕ → Edit A
 next_edit A movie made = if made == 0 then Load movie.cart else Insert 0 movie.inputs
 
@@ -43,7 +49,7 @@ next_edit A movie made = if made == 0 then Load movie.cart else Insert 0 movie.i
 abbrev pub IsUnrefused : (A : Type 0) → SeatContent A → MovieContent → Type 0
 IsUnrefused A seat movie = refusal_at seat.front seat.number seat.made (next_edit A movie seat.made) ≡ None
 
--- what a desk's answer to an export is told as: one that tells of the movie's frames is compared with the two edits
+-- what a desk's answer to an export is reported as: one that tells of the movie's frames is compared with the two edits
 abbrev pub export_end : ℕ → ℕ → Result Exported ExportError → Result (Unit {0}) RunFault
 export_end from to (Ok exported) = checked_end 2 exported.at (Ok tt)
 export_end from to (Err (OffRange at len)) = checked_end 2 at (Err (Range from to len))

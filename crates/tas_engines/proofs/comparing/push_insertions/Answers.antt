@@ -5,7 +5,7 @@ use Rattle.tas_movie.specs.Runs.{runs_of}
 use Rattle.tas_language.specs.declared.change.Change.{Change}
 use Rattle.tas_language.specs.declared.change.Change.TheVariants.{Insert}
 use Rattle.tas_engines.specs.Hunks.{insertions}
-use Rattle.tas_engines.proofs.GapLemmas.{between, first_insertion, none_left}
+use Rattle.tas_engines.proofs.GapSteps.{between, first_insertion, none_left}
 use Rattle.tas_engines.proofs.comparing.push_insertions.Goals as goal
 
 pub loop-at-preserved : goal.loop-at-preserved

@@ -1,7 +1,7 @@
 use Rattle.std.proofs.Common.{◌≡◌, ◌-◌, ◌++◌}
 use Rattle.tas_movie.specs.Runs.{runs_of}
 use Rattle.tas_engines.specs.Hunks.{insertions}
-use Rattle.tas_engines.proofs.GapLemmas.{between}
+use Rattle.tas_engines.proofs.GapSteps.{between}
 use Rattle.tas_engines.proofs.comparing.push_insertions.Given as goal
 
 abbrev pub invariant-loop-at : goal.invariant-loop-at

@@ -1,6 +1,7 @@
 use Rattle.std.proofs.Common.{◌≡◌, ◌+◌, ◌-◌, ℕ, take, drop, subst, arith}
 use Rattle.tas_engines.specs.Hunks.{AddsReplacement}
-use Rattle.tas_engines.proofs.GapLemmas.{replacing_none, replacing_next, left_to_replace}
+use Rattle.tas_engines.proofs.GapSteps.{replacing_none, replacing_next}
+use Rattle.tas_engines.proofs.GapLemmas.{left_to_replace}
 use Rattle.tas_engines.proofs.comparing.push_replacements.Goals as goal
 
 pub loop-done-init : goal.loop-done-init

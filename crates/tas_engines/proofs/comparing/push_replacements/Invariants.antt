@@ -1,5 +1,5 @@
 use Rattle.std.proofs.Common.{◌≤◌, ◌-◌}
-use Rattle.tas_engines.proofs.GapLemmas.{Replacing}
+use Rattle.tas_engines.proofs.GapSteps.{Replacing}
 use Rattle.tas_engines.proofs.comparing.push_replacements.Given as goal
 
 abbrev pub invariant-loop-done : goal.invariant-loop-done

@@ -1,4 +1,4 @@
-use Rattle.std.proofs.Common.{◌≡◌, ◌<◌, length, ◌∙◌, arith, get_or}
+use Rattle.std.proofs.Common.{◌≡◌, ◌<◌, ◌∙◌, arith, get_or}
 use Rattle.vcs_machine.specs.Input.{no_input}
 use Rattle.vcs_machine.proofs.LagFrames.{lag_law}
 use Rattle.tas_green.specs.Run.{state_after}

@@ -1,4 +1,4 @@
-use Rattle.std.proofs.Common.{◌≡◌, ◌≤◌}
+use Rattle.std.proofs.Common.{◌≡◌}
 use Rattle.tas_green.specs.Run.{state_after}
 use Rattle.tas_engines.specs.Lag.{is_lag}
 use Rattle.tas_engines.proofs.StretchLemmas.{IsOnTheWay}

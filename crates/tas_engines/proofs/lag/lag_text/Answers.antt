@@ -1,4 +1,4 @@
-use Rattle.std.proofs.Common.{◌∙◌, ap, sym, subst}
+use Rattle.std.proofs.Common.{◌∙◌, ap}
 use Rattle.vcs_machine.specs.Machine.{power_on}
 use Rattle.tas_green.proofs.RunLemmas.{after_none}
 use Rattle.tas_engines.proofs.lag.lag_text.Goals as goal

@@ -69,3 +69,6 @@ pub returns-in_ok-old-in-Diff : goal.returns-in_ok-old-in-Diff
 returns-in_ok-old-in-Diff g c =
     rw c.in-Diff.is
     (over_two IsDiffRun (g.F.Folder.bytes_of c.args.folder.now c.in-Diff.cart.now) (g.F.Folder.bytes_of c.args.folder.now c.in-Diff.old.now) (g.F.File.Read.remaining c.in_ok-cart-in-Diff.cart) (g.F.File.Read.remaining c.diff_run.new.cart) (g.F.File.Read.remaining c.in_ok-old-in-Diff.old) (g.F.File.Read.remaining c.diff_run.new.before) (record { input = g.R.Read.remaining c.args.input.now; output = g.W.Write.contents c.args.output.now }) (record { input = g.R.Read.remaining c.diff_run.new.input; output = g.W.Write.contents c.diff_run.new.output }) c.diff_run.result c.in_ok-cart-in-Diff.ensures.file c.in_ok-old-in-Diff.ensures.file c.diff_run.ensures)
+
+pub returns-in-Desk : goal.returns-in-Desk
+returns-in-Desk g c = rw c.in-Desk.is (c.run_desk.ensures (g.R.Read.remaining c.args.input.now))

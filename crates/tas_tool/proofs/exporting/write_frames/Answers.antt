@@ -5,7 +5,7 @@ use Rattle.tas_desk.specs.Exports.{IsInRange}
 use Rattle.tas_session.specs.History.{movie_of}
 use Rattle.tas_engines.specs.declared.fault.RunFault.TheVariants.{Memory}
 use Rattle.tas_tool.specs.Inside.TwoEdits.{StandsAtOwn}
-use Rattle.tas_tool.proofs.TurnLemmas.{longer}
+use Rattle.tas_tool.proofs.CheckedLemmas.{longer}
 use Rattle.tas_tool.proofs.ExportLemmas.{frames_end, export_own, export_room}
 use Rattle.tas_tool.proofs.exporting.write_frames.Goals as goal
 

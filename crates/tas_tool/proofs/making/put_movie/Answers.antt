@@ -1,9 +1,8 @@
-use Rattle.tas_tool.proofs.TurnLemmas.{edited_number}
 use Rattle.std.proofs.Common.{Ok, Err, subst, sym, ◌∙◌}
 use Rattle.std.proofs.lemmas.Result.{err_from_is_err_and}
 use Rattle.tas_tool.specs.Inside.TwoEdits.{IsMakingFault}
 use Rattle.tas_tool.proofs.MakingLemmas.{loaded, movie_made, insert_refused, load_refused, unrefused_at_first, load_unrefused, insert_unrefused, compared}
-use Rattle.tas_tool.proofs.GreenLemmas.{edited_zone}
+use Rattle.tas_tool.proofs.CheckedLemmas.{edited_number, edited_zone}
 use Rattle.tas_tool.proofs.making.put_movie.Goals as goal
 
 pub returns-in-Ok-edit-clause-holds : goal.returns-in-Ok-edit-clause-holds

@@ -2,7 +2,7 @@ use Rattle.std.proofs.Common.{◌≡◌, ◌∙◌, length, refl, sym, ap, inl, 
 use Rattle.std.proofs.lemmas.Result.{err_from_is_err_and}
 use Rattle.std.specs.Prelude.{slice_get}
 use Rattle.tas_tool.specs.MovieScripts.{IsUnmade}
-use Rattle.tas_tool.proofs.OneSeatLemmas.{either_fault, first_of, fresh_first, whole_alone, sees_own, written_back}
+use Rattle.tas_tool.proofs.OneSeatLemmas.{either_fault, first_of, fresh_first, whole_alone, sees_alone, written_back}
 use Rattle.tas_tool.proofs.movie_scripting.answer_over.Goals as goal
 
 pub answer_made-end-requires-clause-first : goal.answer_made-end-requires-clause-first
@@ -27,7 +27,7 @@ returns g c =
     let lent = c.as_mut_slice.ensures in
     let one : length c.as_mut_slice.result.now ≡ 1 = ap (λ l. length l) lent.value ∙ c.in_ok-desk.ensures.alone in
     let alone = written_back c.as_mut_slice.result.now _ _ c.answer_made-end.new.seat c.in_ok-desk.seats.len one (sym lent.len ∙ one) refl in
-    c.answer_made-end.ensures.answers (sees_own _ _ c.answer_made-end.new.seat alone c.close.ensures.seats c.close.ensures.count)
+    c.answer_made-end.ensures.answers (sees_alone _ _ c.answer_made-end.new.seat alone c.close.ensures.seats c.close.ensures.count c.answer_made-end.ensures.number)
 
 pub bounds-as_mut_slice-0 : goal.bounds-as_mut_slice-0
 bounds-as_mut_slice-0 g c =

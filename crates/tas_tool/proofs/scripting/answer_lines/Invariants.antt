@@ -1,18 +1,22 @@
 use Rattle.std.proofs.Common.{◌≡◌, ◌≤◌, ◌+◌, List, length}
-use Rattle.tas_tool.specs.Turns.{own_edits_of, BeginsWithOwn}
-use Rattle.tas_tool.specs.Scripts.{Turn, Reads, own_edits_after_all, replies_to_all}
+use Rattle.tas_movie.specs.declared.edit.Edit.{Edit}
+use Rattle.tas_seat.specs.Turns.{standing_of}
+use Rattle.tas_seat.proofs.HistoryLemmas.{Leaves}
+use Rattle.tas_tool.specs.Scripts.{Turn, Reads, standing_after_all, replies_to_all}
+use Rattle.tas_tool.specs.Inside.Alone.{SeesOwn}
 use Rattle.tas_tool.proofs.scripting.answer_lines.Given as goal
 
 abbrev pub invariant-loop-rest : goal.invariant-loop-rest
-invariant-loop-rest g l = (turns : List Turn) × record {
-  reads : Reads l.bytes turns l.rest;
-  seat : l.seat.number ≡ l.fn.seat.number;
-  own : BeginsWithOwn l.seat;
-  made : l.made ≡ l.seat.made;
-  edits : own_edits_after_all (own_edits_of l.fn.seat) turns ≡ own_edits_of l.seat;
-  number : l.number ≡ length turns + 1;
+invariant-loop-rest g l = record {
+  left : (edits : List (Edit g.row.A.Denot)) × Leaves l.fn.seat l.seat edits;
   room : l.number + length l.rest ≤ length l.bytes + 1;
-  replies : l.text.items ≡ replies_to_all (own_edits_of l.fn.seat) turns;
+  answered : SeesOwn l.seat
+      → (turns : List Turn) × record {
+        reads : Reads l.bytes turns l.rest;
+        stands : standing_after_all (standing_of l.fn.seat.front) turns ≡ standing_of l.seat.front;
+        number : l.number ≡ length turns + 1;
+        replies : l.text.items ≡ replies_to_all (standing_of l.fn.seat.front) turns;
+      };
 }
 
 abbrev pub decreases-loop-rest : goal.decreases-loop-rest

@@ -1,5 +1,5 @@
 use Rattle.tas_tool.specs.Talk.{talk_state_from}
-use Rattle.tas_tool.proofs.TalkLemmas.{no_memory_yet}
+use Rattle.tas_tool.proofs.TalkRunLemmas.{no_memory_yet}
 use Rattle.tas_tool.proofs.talk_runs.talk_from.Goals as goal
 
 pub returns-in_default : goal.returns-in_default

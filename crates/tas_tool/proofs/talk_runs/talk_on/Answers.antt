@@ -3,8 +3,8 @@ use Rattle.std.proofs.lemmas.Result.{err_from_is_err_and}
 use Rattle.std.specs.Prelude.{slice_get}
 use Rattle.tas_engines.specs.declared.fault.ToolFault.TheVariants.{Run}
 use Rattle.tas_tool.specs.Talk.{talk_state_from, IsTalk}
-use Rattle.tas_tool.proofs.OneSeatLemmas.{either_fault, first_of, fresh_first, fresh_zone, whole_alone, sees_own, written_back}
-use Rattle.tas_tool.proofs.TalkLemmas.{no_memory_yet, no_place_yet}
+use Rattle.tas_tool.proofs.OneSeatLemmas.{either_fault, first_of, fresh_first, fresh_zone, whole_alone, sees_alone, written_back}
+use Rattle.tas_tool.proofs.TalkRunLemmas.{no_memory_yet, no_place_yet}
 use Rattle.tas_tool.proofs.talk_runs.talk_on.Goals as goal
 
 pub talk_made-end-requires-clause-first : goal.talk_made-end-requires-clause-first
@@ -31,7 +31,7 @@ returns g c =
     let lent = c.as_mut_slice.ensures in
     let one : length c.as_mut_slice.result.now ≡ 1 = ap (λ l. length l) lent.value ∙ c.in_ok-desk.ensures.alone in
     let alone = written_back c.as_mut_slice.result.now _ _ c.talk_made-end.new.seat c.in_ok-desk.seats.len one (sym lent.len ∙ one) refl in
-    c.talk_made-end.ensures.talk (sees_own _ _ c.talk_made-end.new.seat alone c.close.ensures.seats c.close.ensures.count)
+    c.talk_made-end.ensures.talk (sees_alone _ _ c.talk_made-end.new.seat alone c.close.ensures.seats c.close.ensures.count c.talk_made-end.ensures.number)
 
 pub bounds-as_mut_slice-0 : goal.bounds-as_mut_slice-0
 bounds-as_mut_slice-0 g c =

@@ -7,11 +7,5 @@ returns-in-Ok-clause-refusal g c = search rules
 pub returns-in-Ok-clause-next : goal.returns-in-Ok-clause-next
 returns-in-Ok-clause-next g c = search rules
 
-pub returns-in-Err-Place-clause-refusal : goal.returns-in-Err-Place-clause-refusal
-returns-in-Err-Place-clause-refusal g c = search rules
-
-pub returns-in-Err-Long-clause-refusal : goal.returns-in-Err-Long-clause-refusal
-returns-in-Err-Long-clause-refusal g c = search rules
-
-pub returns-then-at-eq-MAX_EDITS-clause-refusal : goal.returns-then-at-eq-MAX_EDITS-clause-refusal
-returns-then-at-eq-MAX_EDITS-clause-refusal g c = search rules
+pub returns-in-Err-clause-refusal : goal.returns-in-Err-clause-refusal
+returns-in-Err-clause-refusal g c = search rules

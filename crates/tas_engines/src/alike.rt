@@ -1,0 +1,124 @@
+//! Where two lists of runs go on alike.
+
+ghost use Rattle.std.specs.Prelude.{◌≡◌, ◌<◌, ◌≤◌, ◌↔◌, IsTrue, length};
+ghost use Rattle.tas_movie.specs.Content.{most_inputs};
+ghost use Rattle.tas_engines.specs.Differences.{frames, GoOnAlike};
+ghost use Rattle.tas_engines.specs.Hunks.{IsLongestFront, HasRoom, IsAt, IsNearest, IsNext};
+
+use crate::anchors::Anchor;
+use tas_movie::{FrameRun, MAX_FRAMES};
+
+/// How many runs in a row are the same where both lists go on alike.
+const ALIKE_RUNS: usize = 4;
+
+/// Such a place is looked for where fewer runs than these come before it.
+const REACH: usize = 512;
+
+/// What the movie has where the runs begin.
+#[derive(Clone, Copy)]
+pub(crate) struct Room {
+    /// The frames before them.
+    pub(crate) made: usize,
+    /// The old frames from them on.
+    pub(crate) left: usize,
+}
+
+/// Whether two runs are the same.
+fn same_run(a: FrameRun, b: FrameRun) -> bool
+    ensures { IsTrue result ↔ (a ≡ b) }
+{
+    a.count == b.count && a.input == b.input
+}
+
+/// How many runs are the same at the beginning of both lists.
+pub(crate) fn common_runs(old: &[FrameRun], new: &[FrameRun]) -> usize
+    ensures { IsLongestFront old.now new.now result }
+{
+    let mut same = 0;
+    while same < old.len() && same < new.len() && same_run(old[same], new[same]) {
+        same += 1;
+    }
+    same
+}
+
+/// How many frames these runs have.
+pub(crate) fn frames_of(runs: &[FrameRun]) -> usize
+    requires { frames runs.now ≤ most_inputs }
+    ensures { result ≡ frames runs.now }
+{
+    let mut count = 0;
+    for i in 0..runs.len() {
+        count += runs[i].count;
+    }
+    count
+}
+
+/// Whether both lists go on alike from a place on, and the movie isn't too long with the new runs before it and the old
+/// ones from it on.
+fn go_on_alike(old: &[FrameRun], new: &[FrameRun], at: Anchor, room: Room) -> bool
+    requires old_within { at.old ≤ length old.now }
+    requires new_within { at.new ≤ length new.now }
+    requires room { HasRoom old.now new.now room }
+    ensures { IsTrue result ↔ GoOnAlike old.now new.now room.made room.left at.old at.new }
+{
+    if common_runs(&old[at.old..], &new[at.new..]) < ALIKE_RUNS {
+        return false;
+    }
+    let made = room.made + frames_of(&new[..at.new]);
+    let left = room.left - frames_of(&old[..at.old]);
+    made + left <= MAX_FRAMES
+}
+
+/// A place from which both lists go on alike, with this many runs of the two before it.
+fn alike_at(old: &[FrameRun], new: &[FrameRun], distance: usize, room: Room) -> Option<Anchor>
+    requires near { distance < 512 }
+    requires room { HasRoom old.now new.now room }
+    ensures { IsAt old.now new.now room distance result }
+{
+    let first = distance.saturating_sub(new.len());
+    for i in first..distance.min(old.len()) + 1 {
+        let at = Anchor {
+            old: i,
+            new: distance - i,
+        };
+        if go_on_alike(old, new, at, room) {
+            return Some(at);
+        }
+    }
+    None
+}
+
+/// The place nearest to the beginning from which both lists go on alike.
+fn nearest(old: &[FrameRun], new: &[FrameRun], room: Room) -> Option<Anchor>
+    requires { HasRoom old.now new.now room }
+    ensures { IsNearest old.now new.now room result }
+{
+    let mut distance = 0;
+    while distance < REACH && distance < old.len().saturating_add(new.len()) {
+        let found = alike_at(old, new, distance, room);
+        if found.is_some() {
+            return found;
+        }
+        distance += 1;
+    }
+    None
+}
+
+/// A place from which both lists go on alike, where they don't before it: `far` where they do there and at no nearer one.
+pub(crate) fn next_alike(
+    old: &[FrameRun],
+    new: &[FrameRun],
+    far: Anchor,
+    room: Room,
+) -> Option<Anchor>
+    requires { HasRoom old.now new.now room }
+    ensures { IsNext old.now new.now room result }
+{
+    if far.old > old.len() || far.new > new.len() || !go_on_alike(old, new, far, room) {
+        return nearest(old, new, room);
+    }
+    match nearest(&old[..far.old], &new[..far.new], room) {
+        Some(near) => Some(near),
+        None => Some(far),
+    }
+}

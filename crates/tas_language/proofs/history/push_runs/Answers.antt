@@ -1,0 +1,21 @@
+use Rattle.std.proofs.Common.{length, arith, ap, length-drop}
+use Rattle.std.proofs.lemmas.List.{take_rest}
+use Rattle.tas_language.proofs.HistoryLemmas.{run_begins, run_told, all_told}
+use Rattle.tas_language.proofs.history.push_runs.Goals as goal
+
+pub loop-done-preserved : goal.loop-done-preserved
+loop-done-preserved g c =
+    let inputs = c.args.inputs.now in
+    let done = c.loop-done.done in
+    let n = c.run_length-count.result in
+    let fits = c.run_length-count.ensures.bound in
+    let cut = take_rest inputs done in
+    record {
+      told = run_told c.loop-done.text.items _ c.args.prefix.now c.args.word.now inputs _ c.args.at done n _ _ cut
+          (run_begins inputs _ done n _ cut c.loop-done-test.true c.run_length-count.ensures.longest)
+          c.run_length-count.ensures.same c.run_length-count.ensures.longest c.in_ok-push_run.ensures c.loop-done.invariant.told;
+      bound = omega (arith, fits, ap length cut, length-drop done inputs, c.loop-done-test.true);
+    }
+
+pub returns : goal.returns
+returns g c = all_told c.loop-done.text.items c.args.prefix.now c.args.word.now c.args.inputs.now _ c.loop-done.done _ (omega (arith, c.loop-done-test.false)) c.loop-done.invariant.told

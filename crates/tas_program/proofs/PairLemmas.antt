@@ -1,0 +1,71 @@
+-- The pairs of a desk, and their lines.
+use Rattle.std.proofs.Common.{◌≡◌, ℕ, ◌<◌, ◌≤◌, ◌+◌, List, [], ◌∷◌, ◌++◌, Option, Some, None, Result, Err, inl, subst, All, arith, length, map, take, get_or, append-nil, refl, sym, ap, ◌∙◌}
+use Rattle.std.proofs.lemmas.List.{map-append, take_more}
+use Rattle.std.proofs.lemmas.List.Elements.{All-head, All-push, All-tail, filter_map-append}
+use Rattle.std.specs.List.{cons_option, filter_map}
+use Rattle.std.specs.Global.{Global as GlobalType}
+use Rattle.std.specs.Io.KnownBytes.{Consumes}
+use Rattle.std.proofs.KnownBytes.{Keeps-refl}
+use Rattle.tas_engines.specs.declared.fault.ReadFault.TheVariants.{Memory}
+use Rattle.tas_engines.specs.declared.fault.ToolFault.{ToolFault}
+use Rattle.tas_engines.specs.declared.fault.ToolFault.TheVariants.{Read}
+use Rattle.tas_seat.specs.Lines.{DoorFacts, LineEnds, line_facts}
+use Rattle.tas_tool.specs.Desks.{IsDeskRun}
+use Rattle.tas_words.specs.Task.{pairs_in}
+use Rattle.tas_words.specs.declared.task.Pair.{Pair}
+use Rattle.tas_words.specs.declared.task.Pairs.{Pairs}
+use Rattle.tas_program.specs.Files.{files_by}
+use Rattle.tas_program.specs.Program.{EndsOverTwo, IsDeskTask, line_by, lines_of}
+use Rattle.tas_program.specs.Streams.{StreamBytes}
+use Rattle.tas_program.proofs.DeskLines.{desk_run_lines, line_of}
+use Rattle.tas_program.proofs.ProgramLemmas.{over_two}
+
+-- the pairs of the places up to this one
+pub pairs_more : (places : List (Option Pair)) (i : ℕ) (d : Option Pair) → i < length places
+    → filter_map (λ pair. pair) (take (i + 1) places) ≡ filter_map (λ pair. pair) (take i places) ++ cons_option (get_or places i d) []
+pairs_more places i d below = ap (filter_map (λ pair. pair)) (take_more places i d below) ∙ filter_map-append (λ pair. pair) (take i places) (get_or places i d ∷ [])
+
+-- a door at a place that has a pair
+pub with_door : {D : Type 0} (pair_of : D → Pair) (P : D → Type 0) (places : List (Option Pair)) (i : ℕ) (d : Option Pair) (before after : List D) (door : D) → i < length places
+    → get_or places i d ≡ Some (pair_of door) → after ≡ before ++ door ∷ [] → P door → (map pair_of before ≡ filter_map (λ pair. pair) (take i places)) × All P before
+    → (map pair_of after ≡ filter_map (λ pair. pair) (take (i + 1) places)) × All P after
+with_door pair_of P places i d before after door below is now fits (pairs, all) =
+    rw now (map-append pair_of before (door ∷ []) ∙ ap (λ l. l ++ pair_of door ∷ []) pairs ∙ sym (pairs_more places i d below ∙ ap (λ p. filter_map (λ pair. pair) (take i places) ++ cons_option p []) is), All-push P before door all fits)
+
+-- no door at a place without one
+pub without_door : (places : List (Option Pair)) (i : ℕ) (d : Option Pair) → i < length places → ((pair : Pair) → get_or places i d ≡ Some pair → ⊥)
+    → filter_map (λ pair. pair) (take (i + 1) places) ≡ filter_map (λ pair. pair) (take i places)
+without_door places i d below none = go (get_or places i d) refl
+  where
+    go : (p : Option Pair) → get_or places i d ≡ p → filter_map (λ pair. pair) (take (i + 1) places) ≡ filter_map (λ pair. pair) (take i places)
+    go None e = pairs_more places i d below ∙ rw e (append-nil (filter_map (λ pair. pair) (take i places)))
+    go (Some pair) e = absurd (none pair e)
+
+-- the lines of doors to these pairs in one folder are the pairs' lines
+pub lines_are : {D F : Type 0} (read held : F → List ℕ → Option (List ℕ)) (folder_of : D → F) (pair_of : D → Pair) (folder : F) (doors : List D) (pairs : Pairs) → All (λ door. folder_of door ≡ folder) doors
+    → map pair_of doors ≡ pairs_in pairs
+    → map (λ door. line_by (files_by (read (folder_of door)) (held (folder_of door))) (pair_of door)) doors ≡ lines_of (files_by (read folder) (held folder)) pairs
+lines_are {D = D} {F = F} read held folder_of pair_of folder doors pairs all is = go doors all ∙ ap (λ l. map (line_by (files_by (read folder) (held folder))) l) is
+  where
+    line : D → LineEnds
+    line door = line_by (files_by (read (folder_of door)) (held (folder_of door))) (pair_of door)
+
+    go : (l : List D) → All (λ door. folder_of door ≡ folder) l → map line l ≡ map (line_by (files_by (read folder) (held folder))) (map pair_of l)
+    go [] all = refl
+    go (door ∷ l) all = rw (All-head (λ d. folder_of d ≡ folder) door l all) (ap (λ r. line_by (files_by (read folder) (held folder)) (pair_of door) ∷ r) (go l (All-tail (λ d. folder_of d ≡ folder) door l all)))
+
+-- a desk was run over two files and the lines of these doors
+pub over_lines : {D : Type 0} (facts : DoorFacts D) (doors doors' : List D) (lines : List LineEnds) (one two file left file' left' : Option (List ℕ)) (old new : StreamBytes) (end : Result (Unit {0}) ToolFault) → file ≡ one → file' ≡ two
+    → new.input ≡ old.input → map (line_of facts) doors ≡ lines → IsDeskRun GlobalType facts doors doors' file left file' left' old.output new.output end → EndsOverTwo one two (IsDeskTask lines) old new end
+over_lines facts doors doors' lines one two file left file' left' old new end is is' unread are ran =
+    over_two (IsDeskTask lines) one two file left file' left' old new end is is'
+    (unread, subst (λ l. IsDeskRun GlobalType line_facts l l file left file' left' old.output new.output end) are (desk_run_lines facts doors doors' file left file' left' old.output new.output end ran))
+
+-- memory was refused for the doors, and nothing is read or written
+pub no_doors : (lines : List LineEnds) (one two file file' : Option (List ℕ)) (old : StreamBytes) → file ≡ one → file' ≡ two → EndsOverTwo one two (IsDeskTask lines) old old (Err (Read Memory))
+no_doors lines one two file file' old is is' =
+    over_two (IsDeskTask lines) one two file file file' file' old old (Err (Read Memory)) is is' (refl, inl (Memory, refl, inl (([], unread file, omega arith), refl), (refl, Keeps-refl old.output)))
+  where
+    unread : (known : Option (List ℕ)) → Consumes known known []
+    unread None = tt
+    unread (Some bytes) = refl

@@ -1,0 +1,71 @@
+//! The files of a desk's conversations.
+
+ghost use Rattle.std.specs.Prelude.{◌≡◌, ◌≤◌, All, length, map, IfOk};
+ghost use Rattle.tas_desk.specs.Seats.{most_seats};
+ghost use Rattle.tas_words.specs.Task.{pairs_in};
+
+use crate::Folder;
+use std::alloc::{AllocError, Global};
+use std::io;
+use tas_tool::Door;
+use tas_words::{Pair, Pairs};
+
+/// A pair of a folder's files, by their names: a conversation's lines come from one, and its answers go to the other.
+#[derive(Drop)]
+pub(crate) struct Pipes<'a, F> {
+    folder: &'a F,
+    pair: Pair<'a>,
+}
+
+impl<F: Folder> Door for Pipes<'_, F> {
+    type Input = F::File;
+
+    type Output = F::Sink;
+
+    ghost facts = { record {
+      given = λ pipes. F.bytes_of pipes.folder.now pipes.pair.input.now;
+      held = λ pipes. F.held_by pipes.folder.now pipes.pair.output.now;
+      left = λ pipes input output. Unit {0};
+      refused = λ pipes. Unit {0};
+    } };
+
+    fn open(&mut self) -> io::Result<(F::File, F::Sink)> {
+        let input = self.folder.open(self.pair.input)?;
+        let output = self.folder.open_to_write(self.pair.output)?;
+        Ok((input, output))
+    }
+
+    fn close(&mut self, input: F::File, output: F::Sink) {
+        drop((input, output));
+    }
+}
+
+/// The pairs' files in a folder, in order.
+pub(crate) fn pipes_of<'a, F: Folder>(
+    alloc: Global,
+    folder: &'a F,
+    pairs: Pairs<'a>,
+) -> Result<Vec<Pipes<'a, F>>, AllocError>
+    ensures pairs { IfOk result (λ doors. map (λ door. door.pair) doors.items
+        ≡ pairs_in pairs.entry) }
+    ensures folder { IfOk result (λ doors. All (λ door. door.folder.now ≡ folder.now) doors.items) }
+    ensures few { length (pairs_in pairs.entry) ≤ most_seats }
+{
+    let places = [
+        Some(pairs.first),
+        pairs.second,
+        pairs.third,
+        pairs.fourth,
+        pairs.fifth,
+        pairs.sixth,
+        pairs.seventh,
+        pairs.eighth,
+    ];
+    let mut doors = Vec::new(alloc);
+    for place in places {
+        if let Some(pair) = place {
+            doors.push(Pipes { folder, pair })?;
+        }
+    }
+    Ok(doors)
+}

@@ -1,0 +1,11 @@
+pub mod SeatLemmas
+pub mod EditLemmas
+pub mod LookLemmas
+pub mod TellingLemmas
+pub mod ReachLemmas
+pub mod KeptLemmas
+pub mod StripLemmas
+pub mod HistoryTextLemmas
+pub mod TalkLemmas
+pub mod HistoryLemmas
+pub mod HeldLemmas

@@ -1,0 +1,11 @@
+use Rattle.std.proofs.Common.{subst}
+use Rattle.std.specs.Prelude.{slice_index_or}
+use Rattle.tas_seat.specs.declared.callers.Caller.{Caller}
+use Rattle.tas_seat.specs.Lines.{WasHeld}
+use Rattle.tas_seat.proofs.callers.converse_all.Goals as goal
+
+pub returns : goal.returns
+returns g c k d lt =
+    let at = (c.for_each_on_threads.ensures k d lt).1 in
+    let P : Caller g.row.N.Denot g.row.D.Denot → Caller g.row.N.Denot g.row.D.Denot → Type 0 = λ x y. WasHeld g.D.Door.facts x.door y.door x.seat y.seat y.end in
+    subst (λ y. P (slice_index_or c.args.callers.now k d) y) at.left (subst (λ x. P x at.after_call.now) at.argument_is at.call)

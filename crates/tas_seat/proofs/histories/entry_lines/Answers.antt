@@ -1,0 +1,13 @@
+use Rattle.std.proofs.Common.{◌∙◌, arith}
+use Rattle.tas_seat.proofs.HistoryTextLemmas.{no_lines, lines_more}
+use Rattle.tas_seat.proofs.histories.entry_lines.Goals as goal
+
+pub loop-entry-init : goal.loop-entry-init
+loop-entry-init g c = record { number = omega arith; text = c.new-text.ensures.items ∙ no_lines g.row.A.Denot c.args.first }
+
+pub loop-entry-preserved : goal.loop-entry-preserved
+loop-entry-preserved g c = record {
+  number = let so_far = c.loop-entry.invariant.number in omega (arith, so_far);
+  text = lines_more c.args.first c.loop-entry.number c.loop-entry.entry-index c.args.entries.now c.entry-item.result c.loop-entry.text.items c.push_entry.new.text.items c.loop-entry-test.true c.entry-item.is
+      c.loop-entry.invariant.number c.loop-entry.invariant.text c.in_ok-push_entry.ensures.text;
+}

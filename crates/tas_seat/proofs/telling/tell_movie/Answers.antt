@@ -1,0 +1,20 @@
+use Rattle.std.proofs.Common.{subst, sym}
+use Rattle.std.proofs.lemmas.Result.{IfOk-weaker}
+use Rattle.tas_language.specs.declared.reply.Reply.TheVariants.{OutOfMemory}
+use Rattle.tas_language.specs.Replies.{reply_text}
+use Rattle.tas_language.specs.declared.request.Request.TheVariants.{Movie}
+use Rattle.tas_seat.specs.Inside.Telling.{IsTold}
+use Rattle.tas_seat.proofs.TellingLemmas.{told_text, told_or, told_movie, unshared_movie, unwritten_movie}
+use Rattle.tas_seat.proofs.telling.tell_movie.Goals as goal
+
+pub returns-in_default : goal.returns-in_default
+returns-in_default g c =
+    told_text c.args.seat.now c.bring.new.seat Movie (reply_text OutOfMemory) c.told_reply.result (λ bytes. bytes.items) c.told_reply.ensures
+    (unshared_movie g.row.A.Denot c.args.seat.now c.bring.new.seat c.bring.ensures.seat c.in_default.ensures.zone)
+
+pub returns : goal.returns
+returns g c =
+    let told = told_movie g.row.A.Denot c.args.seat.now c.bring.new.seat c.in-Ok.brought.at c.in-Ok.brought.gained c.zone_movie.result.now c.bring.ensures.seat c.in-Ok.ensures.at c.zone_movie.ensures c.in-Ok.ensures.zone in
+    told_or c.args.seat.now c.bring.new.seat Movie c.movie_answer-bytes.result c.told_or_refused.result (λ bytes. bytes.items) c.told_or_refused.ensures
+    (IfOk-weaker c.movie_answer-bytes.result _ _ (λ bytes is. subst (IsTold g.row.A.Denot c.args.seat.now c.bring.new.seat Movie) (sym is) told) c.movie_answer-bytes.ensures)
+    (unwritten_movie g.row.A.Denot c.args.seat.now c.bring.new.seat c.in-Ok.brought.gained c.bring.ensures.seat c.in-Ok.ensures.zone)

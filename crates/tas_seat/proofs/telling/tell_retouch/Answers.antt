@@ -1,0 +1,15 @@
+use Rattle.std.proofs.lemmas.Result.{err_from_is_err_and}
+use Rattle.tas_language.specs.Replies.{reply_text}
+use Rattle.tas_language.specs.declared.request.Request.TheVariants.{Retouch}
+use Rattle.tas_seat.proofs.TellingLemmas.{told_text, strange_untold, told_retouch}
+use Rattle.tas_seat.proofs.telling.tell_retouch.Goals as goal
+
+pub returns : goal.returns
+returns g c =
+    told_text c.args.seat.now c.make_edit.new.seat (Retouch c.args.retouch) (reply_text c.in_ok-reply.reply) c.told_reply.result (λ bytes. bytes.items) c.told_reply.ensures
+    (told_retouch g.row.A.Denot c.args.seat.now c.make_edit.new.seat c.args.retouch c.in_ok-reply.reply c.in_ok-reply.ensures)
+
+pub returns-in_err-reply : goal.returns-in_err-reply
+returns-in_err-reply g c =
+    let p = err_from_is_err_and c.from_residual.result c.from_residual.ensures.1 in
+    rw (p.1, p.2) (strange_untold c.args.seat.now c.make_edit.new.seat (Retouch c.args.retouch) c.in_err-reply.field-0.0 c.in_err-reply.ensures)

@@ -1,0 +1,9 @@
+pub mod Turns
+pub mod Requests
+pub mod Edits
+pub mod HistoryText
+pub mod Seats
+pub mod Talk
+pub mod Histories
+pub mod Lines
+pub mod Inside

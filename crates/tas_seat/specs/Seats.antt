@@ -1,0 +1,87 @@
+-- At which histories a seat is answered, and what the seat is afterwards.
+use Rattle.std.specs.Prelude.{◌≡◌, ℕ, ◌+◌, ◌-◌, List, [], ◌∷◌, ◌++◌, length, take, drop, Bool, if◌then◌else◌, Option, Some, None}
+use Rattle.std.specs.List.{flat_map}
+use mathlib.Core.List.{IsPrefix}
+use Rattle.tas_movie.specs.declared.edit.Edit.{Edit}
+use Rattle.tas_session.specs.declared.entry.Entry.{Entry}
+use Rattle.tas_session.specs.History.{movie_of}
+use Rattle.tas_desk.specs.Seats.{SeatContent, entry_of}
+use Rattle.tas_desk.specs.Zones.{ZoneContent}
+use Rattle.tas_language.specs.declared.command.Command.{Command}
+use Rattle.tas_language.specs.declared.reply.Reply.{Reply}
+use Rattle.tas_language.specs.declared.reply.Reply.TheVariants.{OutOfMemory}
+use Rattle.tas_language.specs.Replies.{reply_text}
+use Rattle.tas_language.specs.Answers.{unknown_text}
+use Rattle.tas_language.specs.declared.request.Request.{Request}
+use Rattle.tas_language.specs.declared.request.Request.TheVariants.{Do, Picture, Pictures, History}
+use Rattle.tas_seat.specs.Edits.{edits_by_command, edits_asked, made_between}
+use Rattle.tas_seat.specs.Turns.{standing_of, IsTurn}
+use Rattle.tas_seat.specs.Requests.{TalkState, CommandLeaves, IsAnswerTo}
+use Rattle.tas_seat.specs.HistoryText.{history_told}
+
+-- a seat's edits as entries of the history, from this serial on
+abbrev pub entries_from : {A : Type 0} → ℕ → ℕ → List (Edit A) → List (Entry A)
+entries_from number serial [] = []
+entries_from number serial (edit ∷ edits) = entry_of number serial edit ∷ entries_from number (serial + 1) edits
+
+-- what a history comes to, and a seat's greenzone
+abbrev pub talk_state_at : {A : Type 0} → List (Entry A) → ZoneContent A → TalkState
+talk_state_at history zone = record { stands = standing_of history; kept_for = zone.movie; states = zone.states }
+
+-- a seat was answered at a history: it had seen a beginning of this, and has now seen this and, after it, the edits that it made
+pub record IsSeatAfter {A : Type 0} (before : SeatContent A) (at : List (Entry A)) (edits : List (Edit A)) (now : SeatContent A) : Type 0 where
+  pub begins : IsPrefix before.front at
+  pub front : now.front ≡ at ++ entries_from before.number before.made edits
+  pub number : now.number ≡ before.number
+  pub made : now.made ≡ before.made + length edits
+
+-- a command is answered at some history, by the definition's reply there
+pub record IsAnswered (A : Type 0) (before now : SeatContent A) (command : Command) (reply : Reply) : Type 0 where
+  pub at : List (Entry A)
+  pub turn : IsTurn (standing_of at) command reply (standing_of now.front)
+  pub leaves : CommandLeaves (talk_state_at at before.zone) (talk_state_at now.front now.zone) command reply
+  pub seat : IsSeatAfter before at (made_between (standing_of at) (standing_of now.front) (edits_by_command A command)) now
+
+-- a request is answered at some history, by the definition's answer there; the edits are those that it makes
+pub record IsAnsweredAt (A : Type 0) (before now : SeatContent A) (request : Request) (answer : List ℕ) (edits : List (Edit A)) : Type 0 where
+  pub at : List (Entry A)
+  pub answered : IsAnswerTo (talk_state_at at before.zone) request answer (talk_state_at now.front now.zone)
+  pub made : edits ≡ made_between (standing_of at) (standing_of now.front) (edits_asked A (movie_of at) request)
+  pub seat : IsSeatAfter before at edits now
+
+-- a picture of a strip: its answer, and the seat then
+pub record StripAnswer (A : Type 0) : Type 0 where
+  pub answer : List ℕ
+  pub next : SeatContent A
+
+-- frames from `from` on are answered as by `picture`, each at a history of its own; the last seat is what all of them left
+unfoldable pub AreStrip : {A : Type 0} → SeatContent A → ℕ → List (StripAnswer A) → SeatContent A → Type 0
+AreStrip seat from [] last = last ≡ seat
+AreStrip {A} seat from (shown ∷ strip) last = IsAnsweredAt A seat shown.next (Picture from) shown.answer [] × AreStrip shown.next (from + 1) strip last
+
+-- the answers of a strip, one after the other
+abbrev pub strip_answers : {A : Type 0} → List (StripAnswer A) → List ℕ
+strip_answers strip = flat_map (λ shown. shown.answer) strip
+
+-- how many entries one answer tells at most
+abbrev pub most_told : ℕ
+most_told = 256
+
+-- `history FROM` is answered at some history: by entries of it, or memory was refused. It leaves the seat's greenzone
+pub record IsHistoryAnswered (A : Type 0) (before now : SeatContent A) (from : ℕ) (answer : List ℕ) : Type 0 where
+  pub no_memory : Bool
+  pub answer_is : answer ≡ (if no_memory then reply_text OutOfMemory else history_told (length now.front) from (take most_told (drop from now.front)))
+  pub zone : now.zone ≡ before.zone
+  pub seat : IsSeatAfter before now.front [] now
+
+-- a request is answered, and makes these edits
+abbrev pub IsRequestAnswered : (A : Type 0) → SeatContent A → SeatContent A → Request → List ℕ → List (Edit A) → Type 0
+IsRequestAnswered A before now (Pictures from to) answer edits =
+    (edits ≡ []) × (strip : List (StripAnswer A)) × (length strip ≡ to - from) × AreStrip before from strip now × (answer ≡ strip_answers strip)
+IsRequestAnswered A before now (History from) answer edits = (edits ≡ []) × IsHistoryAnswered A before now from answer
+IsRequestAnswered A before now request answer edits = IsAnsweredAt A before now request answer edits
+
+-- a line that isn't understood is answered `unknown`, and changes nothing
+abbrev pub IsLineAnswered : (A : Type 0) → SeatContent A → SeatContent A → Option Request → List ℕ → List (Edit A) → Type 0
+IsLineAnswered A before now (Some request) answer edits = IsRequestAnswered A before now request answer edits
+IsLineAnswered A before now None answer edits = (answer ≡ unknown_text) × (edits ≡ []) × (now ≡ before)

@@ -1,0 +1,85 @@
+//! Seats with their doors.
+
+ghost use Rattle.std.specs.Prelude.{◌≡◌, ℕ, ◌<◌, length, slice_index_or};
+ghost use Rattle.tas_seat.specs.Lines.{WasHeld, seat_end};
+
+use crate::{Door, converse};
+use std::alloc::Global;
+use std::sync::Wait;
+use std::thread::Threads;
+use tas_desk::{CloseOnDrop, Desk, Name, Seat};
+use tas_engines::{RunFault, SeatFault, ToolFault};
+use tas_film::for_each_on_threads;
+
+/// A seat, the door to its other end, and how its conversation ended.
+#[derive(Drop)]
+pub struct Caller<N: Name, D> {
+    /// The seat.
+    pub seat: Seat<N>,
+    /// The door.
+    pub door: D,
+    /// How the conversation ended.
+    pub end: Result<(), SeatFault>,
+}
+
+impl<N: Name, D: Door + Drop> Caller<N, D> {
+    /// Opens the door, holds the conversation, and closes the door.
+    fn converse<C: CloseOnDrop, T: Wait>(&mut self, rt: &T, alloc: Global, desk: &Desk<N, C>)
+        ensures held { WasHeld D.facts self.old.door self.new.door self.old.seat self.new.seat
+            self.new.end }
+    {
+        self.end = hold(rt, alloc, desk, &mut self.seat, &mut self.door);
+    }
+}
+
+/// How a conversation's end is reported as its seat's.
+fn seat_end(end: Result<(), ToolFault>) -> Result<(), SeatFault>
+    ensures { result ≡ seat_end end }
+{
+    match end {
+        Ok(()) => Ok(()),
+        Err(ToolFault::Read(_)) => Err(SeatFault::Read),
+        Err(ToolFault::Run(RunFault::Write { written })) => Err(SeatFault::Write { written }),
+        Err(ToolFault::Run(RunFault::NoEntry)) => Err(SeatFault::NoEntry),
+        Err(ToolFault::Run(RunFault::Memory)) => Err(SeatFault::Memory),
+        Err(ToolFault::Run(_)) => Err(SeatFault::Foreign),
+        Err(ToolFault::Seat { seat: _, fault }) => Err(fault),
+    }
+}
+
+/// Opens a door, holds a seat's conversation, and closes the door.
+fn hold<N: Name, C: CloseOnDrop, T: Wait, D: Door + Drop>(
+    rt: &T,
+    alloc: Global,
+    desk: &Desk<N, C>,
+    seat: &mut Seat<N>,
+    door: &mut D,
+) -> Result<(), SeatFault>
+    ensures { WasHeld D.facts door.old door.new seat.old seat.new result }
+{
+    let Ok((mut input, mut output)) = door.open() else {
+        return Err(SeatFault::NotOpened);
+    };
+    let end = converse(rt, alloc, desk, seat, &mut input, &mut output);
+    door.close(input, output);
+    seat_end(end)
+}
+
+/// Holds all conversations, each on a thread of its own.
+pub fn converse_all<N: Name + Send + Sync, T: Wait + Threads + Sync, D: Door + Drop + Send>(
+    rt: &T,
+    alloc: Global,
+    desk: &Desk<N, &T>,
+    callers: &mut [Caller<N, D>],
+)
+    ensures { (k : ℕ) (d : _) → k < length callers.old
+        → WasHeld D.facts (slice_index_or callers.old k d).door
+        (slice_index_or callers.new k d).door (slice_index_or callers.old k d).seat
+        (slice_index_or callers.new k d).seat (slice_index_or callers.new k d).end }
+{
+    let hold = move |_number: usize, caller: &mut Caller<N, D>|
+        ensures { WasHeld D.facts caller.entry.now.door caller.exit.now.door
+            caller.entry.now.seat caller.exit.now.seat caller.exit.now.end }
+    { caller.converse(rt, alloc, desk) };
+    for_each_on_threads(rt, callers, &hold);
+}

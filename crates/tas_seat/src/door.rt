@@ -1,0 +1,28 @@
+//! The ways to the other ends of seats.
+
+ghost use Rattle.std.specs.Prelude.{◌≡◌, IfOk, OnErr};
+ghost use Rattle.tas_seat.specs.Lines.{DoorFacts, unknown_facts};
+
+use std::io;
+use std::io::{Read, Write};
+
+/// The way to a seat's other end, which is opened once the seat's conversation begins, and closed when it has ended.
+pub trait Door {
+    /// What the seat reads from.
+    type Input: Read + Drop + Send + Sync;
+    /// What it writes to.
+    type Output: Write + Drop + Send + Sync;
+
+    // What is known of such a door: the bytes of both ends before it is opened and once it is closed, and that it couldn't be opened.
+    ghost facts: { DoorFacts Self } = { unknown_facts };
+
+    /// Opens the input, and then the output; it may wait for their other ends. An error where one can't be opened.
+    fn open(&mut self) -> io::Result<(Self::Input, Self::Output)>
+        ensures input { IfOk result (λ ends. Self.Input.remaining ends.0 ≡ facts.given self.old) }
+        ensures output { IfOk result (λ ends. Self.Output.contents ends.1 ≡ facts.held self.old) }
+        ensures refused { OnErr result (facts.refused self.new) };
+
+    /// Closes both.
+    fn close(&mut self, input: Self::Input, output: Self::Output)
+        ensures { facts.left self.new (Self.Input.remaining input) (Self.Output.contents output) };
+}

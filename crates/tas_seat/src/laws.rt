@@ -1,0 +1,45 @@
+//! Laws of a seat's conversation: what the history that its desk leaves shows of it.
+
+ghost use Rattle.std.specs.Prelude.{◌≡◌, ◌≤◌, ◌++◌, ◌∷◌, ℕ, List, Option, Result, Err};
+ghost use mathlib.Core.List.{IsPrefix};
+ghost use Rattle.tas_movie.specs.declared.edit.Edit.{Edit};
+ghost use Rattle.tas_session.specs.declared.entry.Entry.{Entry};
+ghost use Rattle.tas_session.specs.History.{entries_of};
+ghost use Rattle.tas_desk.specs.Seats.{SeatContent, IsSettled};
+ghost use Rattle.tas_engines.specs.declared.fault.ToolFault.{ToolFault};
+ghost use Rattle.tas_engines.specs.declared.fault.ToolFault.TheVariants.{Run};
+ghost use Rattle.tas_engines.specs.declared.fault.RunFault.TheVariants.{Foreign};
+ghost use Rattle.tas_seat.specs.Seats.{IsSeatAfter};
+ghost use Rattle.tas_seat.specs.Talk.{Exchange, AreExchanges, IsTalk, all_edits};
+ghost use Rattle.tas_seat.specs.Histories.{IsInHistory};
+
+use std::alloc::Allocator;
+
+/// The history that a closed desk leaves shows of each seat just the edits of its conversation, in order, after those with which it
+/// began; nobody else's are counted as its own, and no conversation ends with `Foreign`.
+pub fn talks_are_in_history<A: Allocator>()
+    ensures shows { (start last : SeatContent A) (input input' output output' : Option (List ℕ))
+        (end : Result (Unit {0}) ToolFault)
+        (talk : IsTalk start last input input' output output' end) (history : List (Entry A))
+        → start.made ≤ entries_of start.number start.front → IsSettled history last
+        → IsInHistory history start last (all_edits talk) }
+    ensures never_foreign { (start last : SeatContent A)
+        (input input' output output' : Option (List ℕ)) (end : Result (Unit {0}) ToolFault)
+        (history : List (Entry A)) → IsTalk start last input input' output output' end
+        → start.made ≤ entries_of start.number start.front → IsSettled history last
+        → end ≡ Err (Run Foreign) → ⊥ }
+{}
+
+/// Each line of a conversation is answered at a beginning of the history that its desk leaves, and these never get shorter from line to
+/// line.
+pub fn answers_are_at_beginnings<A: Allocator>()
+    ensures at { (before now : SeatContent A) (history : List (Entry A)) (edits : List (Edit A))
+        → IsSeatAfter before history edits now → IsPrefix history now.front }
+    ensures begins { (start last : SeatContent A) (before after : List (Exchange A))
+        (x : Exchange A) (history : List (Entry A))
+        → AreExchanges start (before ++ x ∷ after) last → IsPrefix last.front history
+        → IsPrefix x.next.front history }
+    ensures grows { (start last : SeatContent A) (before between after : List (Exchange A))
+        (x y : Exchange A) → AreExchanges start (before ++ x ∷ (between ++ y ∷ after)) last
+        → IsPrefix x.next.front y.next.front }
+{}

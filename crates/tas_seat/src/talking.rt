@@ -1,0 +1,162 @@
+//! A seat's conversation: its lines, one after the other.
+
+ghost use Rattle.std.specs.Prelude.{◌≡◌, ◌≤◌, ◌+◌, ◌++◌, ℕ, List, length, min, IfOk, IfErr, IfSome, OnOk, MatchResult};
+ghost use Rattle.std.specs.Io.KnownBytes.{Appends};
+ghost use Rattle.byte_text.specs.Splitting.{NoByte};
+ghost use Rattle.tas_language.specs.Answers.{unknown_text};
+ghost use Rattle.tas_language.specs.Held.{HoldsLine};
+ghost use Rattle.tas_seat.specs.Talk.{last_answer, most_counted, IsTalk};
+ghost use Rattle.tas_seat.specs.Inside.Talking.{CutsOff, IsLineTurn, IsPartTurn};
+
+use crate::telling::answer_request;
+use byte_text::{split_once, write_counted};
+use std::alloc::Allocator;
+use std::io::{Read, Write};
+use std::sync::Wait;
+use tas_desk::{CloseOnDrop, Desk, Name, Seat};
+use tas_engines::{ReadFault, RunFault, ToolFault};
+use tas_language::Line;
+
+/// How many bytes one read asks for.
+const CHUNK: usize = 4096;
+
+/// Hands an answer out whole, and returns how many bytes have gone out with those before.
+fn hand_out<W: Write>(output: &mut W, bytes: &[u8], before: usize) -> Result<usize, RunFault>
+    ensures out { OnOk result (Appends (W.contents output.old) (W.contents output.new) bytes.now) }
+    ensures count { IfOk result (λ n. n ≡ min (before + length bytes.now) most_counted) }
+    ensures fault { IfErr result
+        (CutsOff before bytes.now (W.contents output.old) (W.contents output.new)) }
+{
+    if let Err(fault) = write_counted(bytes, 0, output) {
+        return Err(RunFault::Write {
+            written: before.saturating_add(fault.written),
+        });
+    }
+    // A flush that fails isn't reported: a writer that can't pass on what it holds may fail at its next write, and after the
+    // last answer there is none.
+    let _ = output.flush();
+    Ok(before.saturating_add(bytes.len()))
+}
+
+/// Answers a line that isn't understood.
+fn tell_unknown<W: Write>(output: &mut W, before: usize) -> Result<usize, RunFault>
+    ensures out { OnOk result
+        (Appends (W.contents output.old) (W.contents output.new) unknown_text) }
+    ensures count { IfOk result (λ n. n ≡ min (before + length unknown_text) most_counted) }
+    ensures fault { IfErr result
+        (CutsOff before unknown_text (W.contents output.old) (W.contents output.new)) }
+{
+    hand_out(output, b"unknown\n", before)
+}
+
+/// Answers the line that is held, and returns how many bytes of answers have gone out then; nothing comes back where it asks for the
+/// end.
+fn answer_line<N: Name, C: CloseOnDrop, A: Allocator + Copy, R: Wait, W: Write>(
+    rt: &R,
+    alloc: A,
+    desk: &Desk<N, C, A>,
+    seat: &mut Seat<N, A>,
+    written: usize,
+    line: &Line<A>,
+    output: &mut W,
+) -> Result<Option<usize>, RunFault>
+    ensures { (said : List ℕ) → HoldsLine said line.now.bytes.items line.now.long
+        → NoByte 10 said
+        → IsLineTurn seat.old seat.new said written (W.contents output.old)
+        (W.contents output.new) result }
+{
+    let Some(request) = line.request() else {
+        return Ok(Some(tell_unknown(output, written)?));
+    };
+    let Some(bytes) = answer_request(rt, alloc, desk, seat, request)? else {
+        return Ok(None);
+    };
+    Ok(Some(hand_out(output, bytes.as_slice(), written)?))
+}
+
+/// Answers each line that ends in a part of the input, the first of which may have begun before it, and holds what stands
+/// after the last newline; nothing comes back where a line asks for the end.
+fn answer_part<N: Name, C: CloseOnDrop, A: Allocator + Copy, R: Wait, W: Write>(
+    rt: &R,
+    alloc: A,
+    desk: &Desk<N, C, A>,
+    seat: &mut Seat<N, A>,
+    before: usize,
+    line: &mut Line<A>,
+    part: &[u8],
+    output: &mut W,
+) -> Result<Option<usize>, RunFault>
+    ensures { (said : List ℕ) → HoldsLine said line.old.bytes.items line.old.long
+        → NoByte 10 said
+        → IsPartTurn seat.old seat.new (said ++ part.now) before line.new.bytes.items
+        line.new.long (W.contents output.old) (W.contents output.new) result }
+{
+    let mut rest = part;
+    let mut written = before;
+    while let Some((front, after)) = split_once(rest, b'\n') {
+        line.add(front)?;
+        let Some(next) = answer_line(rt, alloc, desk, seat, written, line, output)? else {
+            return Ok(None);
+        };
+        written = next;
+        line.clear();
+        rest = after;
+    }
+    line.add(rest)?;
+    Ok(Some(written))
+}
+
+/// Answers what stands after the last newline.
+fn answer_last<A: Allocator, W: Write>(
+    line: &Line<A>,
+    written: usize,
+    output: &mut W,
+) -> Result<(), RunFault>
+    ensures { (said : List ℕ) → HoldsLine said line.now.bytes.items line.now.long
+        → MatchResult result
+        (λ _. Appends (W.contents output.old) (W.contents output.new) (last_answer said))
+        (CutsOff written (last_answer said) (W.contents output.old) (W.contents output.new)) }
+{
+    if line.is_empty() {
+        return Ok(());
+    }
+    tell_unknown(output, written)?;
+    Ok(())
+}
+
+/// Holds a seat's conversation: reads lines and answers each before it reads on, until one asks for the end or no more bytes come.
+///
+/// Faults: `Read` where a read failed, with each whole line answered; `Write`, with the first bytes of the answers written, and how
+/// many; `NoEntry`, and `Memory` where it is refused for a line or for its reply, with the lines before answered; `Foreign` where
+/// the history has another number of the seat's edits than it made.
+pub fn converse<N: Name, C: CloseOnDrop, A: Allocator + Copy, T: Wait, R: Read, W: Write>(
+    rt: &T,
+    alloc: A,
+    desk: &Desk<N, C, A>,
+    seat: &mut Seat<N, A>,
+    input: &mut R,
+    output: &mut W,
+) -> Result<(), ToolFault>
+    ensures { IsTalk seat.old seat.new (R.remaining input.old) (R.remaining input.new)
+        (W.contents output.old) (W.contents output.new) result }
+{
+    let Ok(mut line) = Line::new(alloc) else {
+        return Err(ToolFault::Run(RunFault::Memory));
+    };
+    let mut written = 0;
+    let mut buffer = [0; CHUNK];
+    for _ in rt.forever() {
+        let Ok(count) = input.read(&mut buffer) else {
+            return Err(ToolFault::Read(ReadFault::Failed));
+        };
+        if count == 0 {
+            return Ok(answer_last(&line, written, output)?);
+        }
+        let part = &buffer[..count];
+        match answer_part(rt, alloc, desk, seat, written, &mut line, part, output)? {
+            Some(next) => written = next,
+            None => return Ok(()),
+        }
+    }
+    unreachable!()
+}

@@ -1,0 +1,303 @@
+-- A conversation on a desk of one seat: each line is answered at what the lines before it made.
+use Rattle.std.proofs.Common.{◌≡◌, ℕ, ◌+◌, ◌≤◌, List, [], ◌∷◌, ◌++◌, length, take, drop, Bool, true, false, Option, Some, None, Result, Ok, Err, inl, inr, refl, sym, ap, subst, ◌∙◌, arith, append-nil}
+use Rattle.std.specs.Prelude.{map, if◌then◌else◌, ◌==◌}
+use Rattle.std.proofs.lemmas.List.{length-map, take-map, drop-map}
+use Rattle.std.specs.Io.KnownBytes.{Consumes}
+use mathlib.Core.List.{IsPrefix}
+use Rattle.tas_movie.specs.Text.{line}
+use Rattle.tas_movie.specs.Content.{MovieContent}
+use Rattle.tas_movie.specs.declared.edit.Edit.{Edit}
+use Rattle.tas_movie.specs.declared.edit.Edit.TheVariants.{Load, Insert, Replace, Delete}
+use Rattle.tas_movie.specs.declared.edit.EditRefusal.{EditRefusal}
+use Rattle.tas_movie.specs.Edit.{refusal, changed, edited, edited_unless}
+use Rattle.tas_session.specs.declared.entry.Entry.{Entry}
+use Rattle.tas_session.specs.History.{movie_of, movie_from, entries_of}
+use Rattle.tas_desk.specs.Seats.{SeatContent}
+use Rattle.tas_desk.specs.Zones.{ZoneContent}
+use Rattle.tas_desk.proofs.SeatLemmas.{count_by-cons}
+use Rattle.tas_engines.specs.Changes.{EditContent}
+use Rattle.tas_engines.specs.declared.fault.ToolFault.{ToolFault}
+use Rattle.tas_engines.specs.declared.fault.ToolFault.TheVariants.{Read, Run, Seat}
+use Rattle.tas_engines.specs.declared.fault.ReadFault.TheVariants.{TooLong, Failed, Memory as NoRoom}
+use Rattle.tas_engines.specs.declared.fault.RunFault.TheVariants.{Write, Size, Text, NoFrame as OffMovie, Range as OffRange, Halted as Stopped, HaltedFrame as StoppedFrame, Script, Place, Long, NoPlace, NoEntry, Foreign, Memory}
+use Rattle.tas_language.specs.declared.reply.Reply.TheVariants.{OutOfMemory}
+use Rattle.tas_language.specs.Replies.{reply_text}
+use Rattle.tas_language.specs.History.{entry_text}
+use Rattle.tas_language.specs.Answers.{history_text}
+use Rattle.tas_language.specs.declared.request.Request.{Request}
+use Rattle.tas_language.specs.declared.request.Request.TheVariants.{Do, Retouch, Picture, Pictures, Ram, Digest, Lag, Movie, States, Share, History, Quit}
+use Rattle.tas_seat.specs.HistoryText.{entry_lines, history_told}
+use Rattle.tas_seat.specs.Requests.{TalkState, IsAnswerTo as IsAnswerAt}
+use Rattle.tas_seat.specs.Seats.{most_told, talk_state_at, IsSeatAfter, IsAnsweredAt, StripAnswer as SeatAnswer, AreStrip as AreSeatStrip, strip_answers as seat_answers, IsHistoryAnswered, IsRequestAnswered, IsLineAnswered}
+use Rattle.tas_seat.specs.Talk.{Exchange as SeatExchange, IsExchange as IsSeatExchange, AreExchanges as AreSeatExchanges, TalkEnds as SeatEnds, IsTalk as IsSeatTalk, lines_of as seat_lines, answers_of as seat_texts, edits_of}
+use Rattle.tas_seat.proofs.HistoryLemmas.{Leaves, prefix_length, by_length, by_rest, front_length, leaves_after, strip_leaves, exchange_leaves, exchanges_leave, rested, Rested}
+use Rattle.tas_tool.specs.Talk.{EntryContent, StripAnswer, AreStrip, strip_answers, IsOwnHistory, IsAnswerTo, IsLineAnswer, Exchange, IsExchange, AreExchanges, TalkEnds, IsTalk, lines_of, answers_of}
+use Rattle.tas_tool.specs.Inside.Alone.{SeesOwn}
+
+-- what the seat has seen comes to, and its greenzone
+abbrev pub state_of : {A : Type 0} → SeatContent A → TalkState
+state_of seat = talk_state_at seat.front seat.zone
+
+-- ---- nobody else's edits stand between a seat's own
+
+-- a beginning of a history that has a seat's entries alone has these alone
+pub alone_before : {A : Type 0} (n : ℕ) (xs ys : List (Entry A)) → IsPrefix xs ys → entries_of n ys ≡ length ys → entries_of n xs ≡ length xs
+alone_before {A} n xs ys p alone =
+    let few = entries_few n xs in
+    let rest = entries_few n p.0 in
+    omega (arith, few, rest, alone, prefix_length xs ys p, by_rest n xs ys p, by_length n xs, by_length n ys, by_length n p.0)
+  where
+    one_few : (b : Bool) → (if b then 1 else 0) ≤ 1
+    one_few true = omega arith
+    one_few false = omega arith
+
+    entries_few : (n : ℕ) (zs : List (Entry A)) → entries_of n zs ≤ length zs
+    entries_few n [] = omega arith
+    entries_few n (z ∷ zs) = omega (arith, count_by-cons (λ (e : Entry A). e.seat == n) z zs, one_few (z.seat == n), entries_few n zs)
+
+-- a seat that leaves one which sees its own edits alone sees them alone, too
+pub sees_before : {A : Type 0} (seat last : SeatContent A) (edits : List (Edit A)) → Leaves seat last edits → SeesOwn last → SeesOwn seat
+sees_before {A} seat last edits left own = record {
+  number = sym left.number ∙ own.number;
+  few = omega (arith, left.made, left.longer, own.few);
+  alone = alone_before 0 seat.front last.front left.seen own.alone;
+}
+
+-- and one that has seen all that it made has so afterwards
+pub seen_after : {A : Type 0} (seat last : SeatContent A) (edits : List (Edit A)) → Leaves seat last edits → seat.made ≤ length seat.front → last.made ≤ length last.front
+seen_after seat last edits left seen = omega (arith, left.made, left.longer, seen)
+
+none_left : {X : Type 0} (xs : List X) → length xs ≡ 0 → xs ≡ []
+none_left [] is = refl
+none_left (x ∷ xs) is = absurd (omega (arith, is))
+
+-- the history at which it is answered is what it had seen
+pub at_front : {A : Type 0} (seat next : SeatContent A) (at : List (Entry A)) (edits : List (Edit A)) → IsSeatAfter seat at edits next → seat.made ≤ length seat.front → SeesOwn next → at ≡ seat.front
+at_front {A} seat next at edits is seen own =
+    let none : is.begins.0 ≡ [] = none_left is.begins.0 (omega (arith, seen, own.few, is.made, front_length seat next at edits is, prefix_length seat.front at is.begins)) in
+    sym is.begins.1 ∙ ap (λ (l : List (Entry A)). seat.front ++ l) none ∙ append-nil seat.front
+
+-- ---- entries, whatever allocator their edits are on
+
+abbrev edit_content : {A : Type 0} → Edit A → EditContent
+edit_content (Load cart) = Load cart
+edit_content (Insert at inputs) = Insert at inputs
+edit_content (Replace at inputs) = Replace at inputs
+edit_content (Delete at count) = Delete at count
+
+abbrev entry_content : {A : Type 0} → Entry A → EntryContent
+entry_content entry = record { seat = entry.seat; serial = entry.serial; edit = edit_content entry.edit }
+
+same_refusal : {A : Type 0} (movie : MovieContent) (edit : Edit A) → refusal movie (edit_content edit) ≡ refusal movie edit
+same_refusal movie (Load cart) = refl
+same_refusal movie (Insert at inputs) = refl
+same_refusal movie (Replace at inputs) = refl
+same_refusal movie (Delete at count) = refl
+
+same_changed : {A : Type 0} (movie : MovieContent) (edit : Edit A) → changed movie (edit_content edit) ≡ changed movie edit
+same_changed movie (Load cart) = refl
+same_changed movie (Insert at inputs) = refl
+same_changed movie (Replace at inputs) = refl
+same_changed movie (Delete at count) = refl
+
+same_unless : {A : Type 0} (refused : Option EditRefusal) (movie : MovieContent) (edit : Edit A) → edited_unless refused movie (edit_content edit) ≡ edited_unless refused movie edit
+same_unless None movie edit = same_changed movie edit
+same_unless (Some refused) movie edit = refl
+
+same_edited : {A : Type 0} (movie : MovieContent) (edit : Edit A) → edited movie (edit_content edit) ≡ edited movie edit
+same_edited movie edit = ap (λ (r : Option EditRefusal). edited_unless r movie (edit_content edit)) (same_refusal movie edit) ∙ same_unless (refusal movie edit) movie edit
+
+same_text : {A : Type 0} (number seat : ℕ) (edit : Edit A) → entry_text number seat (edit_content edit) ≡ entry_text number seat edit
+same_text number seat (Load cart) = refl
+same_text number seat (Insert at inputs) = refl
+same_text number seat (Replace at inputs) = refl
+same_text number seat (Delete at count) = refl
+
+same_movie : {A : Type 0} (movie : MovieContent) (entries : List (Entry A)) → movie_from movie (map (λ (e : Entry A). entry_content e) entries) ≡ movie_from movie entries
+unfolding movie_from
+same_movie movie [] = refl
+same_movie {A} movie (entry ∷ entries) =
+    ap (λ (m : MovieContent). movie_from m (map (λ (e : Entry A). entry_content e) entries)) (same_edited movie entry.edit) ∙ same_movie (edited movie entry.edit) entries
+
+same_lines : {A : Type 0} (number : ℕ) (entries : List (Entry A)) → entry_lines number (map (λ (e : Entry A). entry_content e) entries) ≡ entry_lines number entries
+unfolding entry_lines
+same_lines number [] = refl
+same_lines {A} number (entry ∷ entries) =
+    ap (λ (l : List ℕ). l ++ entry_lines (number + 1) (map (λ (e : Entry A). entry_content e) entries)) (same_text number entry.seat entry.edit)
+    ∙ ap (λ (l : List ℕ). entry_text number entry.seat entry.edit ++ l) (same_lines (number + 1) entries)
+
+same_count : {A : Type 0} (n : ℕ) (entries : List (Entry A)) → entries_of n (map (λ (e : Entry A). entry_content e) entries) ≡ entries_of n entries
+same_count n [] = refl
+same_count {A} n (entry ∷ entries) =
+    let one = count_by-cons (λ (e : EntryContent). e.seat == n) (entry_content entry) (map (λ (e : Entry A). entry_content e) entries) in
+    let other = count_by-cons (λ (e : Entry A). e.seat == n) entry entries in
+    omega (arith, one, other, same_count n entries)
+
+same_told : {A : Type 0} (made from most : ℕ) (entries : List (Entry A)) → history_told made from (take most (drop from (map (λ (e : Entry A). entry_content e) entries))) ≡ history_told made from (take most (drop from entries))
+same_told {A} made from most entries =
+    let content : Entry A → EntryContent = λ (e : Entry A). entry_content e in
+    let part : List (Entry A) = take most (drop from entries) in
+    let moved : take most (drop from (map content entries)) ≡ map content part =
+    ap (λ (l : List EntryContent). take most l) (drop-map content from entries) ∙ take-map content most (drop from entries) in
+    ap (λ (l : List EntryContent). history_told made from l) moved
+    ∙ ap (λ (n : ℕ). history_text made from n (entry_lines from (map content part))) (length-map part content)
+    ∙ ap (λ (l : List ℕ). history_text made from (length part) l) (same_lines from part)
+
+-- ---- one line
+
+own_answer : (A : Type 0) (before now : SeatContent A) (request : Request) (answer : List ℕ) (edits : List (Edit A)) → IsAnsweredAt A before now request answer edits → before.made ≤ length before.front → SeesOwn now
+    → IsAnswerAt (state_of before) request answer (state_of now)
+own_answer A before now request answer edits is seen own =
+    subst (λ (h : List (Entry A)). IsAnswerAt (talk_state_at h before.zone) request answer (state_of now)) (at_front before now is.at edits is.seat seen own) is.answered
+
+own_shown : {A : Type 0} → List (SeatAnswer A) → List StripAnswer
+own_shown [] = []
+own_shown (shown ∷ strip) = record { answer = shown.answer; next = state_of shown.next } ∷ own_shown strip
+
+shown_length : {A : Type 0} (strip : List (SeatAnswer A)) → length (own_shown strip) ≡ length strip
+unfolding own_shown
+shown_length [] = refl
+shown_length (shown ∷ strip) = omega (arith, shown_length strip)
+
+shown_answers : {A : Type 0} (strip : List (SeatAnswer A)) → strip_answers (own_shown strip) ≡ seat_answers strip
+unfolding own_shown
+shown_answers [] = refl
+shown_answers (shown ∷ strip) = ap (λ (l : List ℕ). shown.answer ++ l) (shown_answers strip)
+
+own_strip : (A : Type 0) (seat last : SeatContent A) (from : ℕ) (strip : List (SeatAnswer A)) → AreSeatStrip seat from strip last → seat.made ≤ length seat.front → SeesOwn last → AreStrip (state_of seat) from (own_shown strip) (state_of last)
+unfolding AreSeatStrip AreStrip own_shown
+own_strip A seat last from [] is seen own = ap (λ (s : SeatContent A). state_of s) is
+own_strip A seat last from (shown ∷ strip) is seen own =
+    let next : SeesOwn shown.next = sees_before shown.next last [] (strip_leaves shown.next last (from + 1) strip is.1) own in (
+      own_answer A seat shown.next (Picture from) shown.answer [] is.0 seen next,
+      own_strip A shown.next last (from + 1) strip is.1 (seen_after seat shown.next [] (leaves_after seat shown.next is.0.at [] is.0.seat) seen) own,
+    )
+
+state_stays : {A : Type 0} (before now : SeatContent A) → now.front ≡ before.front → now.zone ≡ before.zone → state_of now ≡ state_of before
+state_stays {A} before now front zone =
+    ap (λ (h : List (Entry A)). talk_state_at h now.zone) front ∙ ap (λ (z : ZoneContent A). talk_state_at before.front z) zone
+
+own_history : (A : Type 0) (before now : SeatContent A) (from : ℕ) (answer : List ℕ) → IsHistoryAnswered A before now from answer → before.made ≤ length before.front → SeesOwn now → IsOwnHistory (state_of before) from answer (state_of now)
+own_history A before now from answer is seen own =
+    let same : now.front ≡ before.front = at_front before now now.front [] is.seat seen own in
+    let content : Entry A → EntryContent = λ (e : Entry A). entry_content e in
+    let long : length (map content now.front) ≡ length now.front = length-map now.front content in
+    let told : history_told (length now.front) from (take most_told (drop from now.front)) ≡ history_told (length before.front) from (take most_told (drop from (map content now.front))) =
+    ap (λ (h : List (Entry A)). history_told (length h) from (take most_told (drop from now.front))) same ∙ sym (same_told (length before.front) from most_told now.front) in
+    record {
+      entries = map content now.front;
+      movie = same_movie _ now.front ∙ ap (λ (h : List (Entry A)). movie_of h) same;
+      made = long ∙ ap (λ (h : List (Entry A)). length h) same;
+      alone = same_count 0 now.front ∙ own.alone ∙ sym long;
+      no_memory = is.no_memory;
+      answer_is = is.answer_is ∙ ap (λ (l : List ℕ). if is.no_memory then reply_text OutOfMemory else l) told;
+      rests = state_stays before now same is.zone;
+    }
+
+own_request : (A : Type 0) (before now : SeatContent A) (request : Request) (answer : List ℕ) (edits : List (Edit A)) → IsRequestAnswered A before now request answer edits → before.made ≤ length before.front → SeesOwn now
+    → IsAnswerTo (state_of before) request answer (state_of now)
+own_request A before now (Pictures from to) answer edits (none, strip, long, are, told) seen own =
+    (own_shown strip, shown_length strip ∙ long, own_strip A before now from strip are seen own, told ∙ sym (shown_answers strip))
+own_request A before now (History from) answer edits (none, is) seen own = own_history A before now from answer is seen own
+own_request A before now (Do command) answer edits is seen own = own_answer A before now (Do command) answer edits is seen own
+own_request A before now (Retouch retouch) answer edits is seen own = own_answer A before now (Retouch retouch) answer edits is seen own
+own_request A before now (Picture k) answer edits is seen own = own_answer A before now (Picture k) answer edits is seen own
+own_request A before now (Ram k) answer edits is seen own = own_answer A before now (Ram k) answer edits is seen own
+own_request A before now (Digest k) answer edits is seen own = own_answer A before now (Digest k) answer edits is seen own
+own_request A before now (Lag a b) answer edits is seen own = own_answer A before now (Lag a b) answer edits is seen own
+own_request A before now Movie answer edits is seen own = own_answer A before now Movie answer edits is seen own
+own_request A before now States answer edits is seen own = own_answer A before now States answer edits is seen own
+own_request A before now Share answer edits is seen own = own_answer A before now Share answer edits is seen own
+own_request A before now Quit answer edits is seen own = own_answer A before now Quit answer edits is seen own
+
+own_line : (A : Type 0) (before now : SeatContent A) (heard : Option Request) (answer : List ℕ) (edits : List (Edit A)) → IsLineAnswered A before now heard answer edits → before.made ≤ length before.front → SeesOwn now
+    → IsLineAnswer (state_of before) heard answer (state_of now)
+own_line A before now (Some request) answer edits is seen own = own_request A before now request answer edits is seen own
+own_line A before now None answer edits (told, none, same) seen own = (told, ap (λ (s : SeatContent A). state_of s) same)
+
+-- ---- all lines
+
+abbrev own_exchange : {A : Type 0} → SeatExchange A → Exchange
+own_exchange x = record { said = x.said; heard = x.heard; answer = x.answer; next = state_of x.next }
+
+own_is : {A : Type 0} (seat : SeatContent A) (x : SeatExchange A) → IsSeatExchange seat x → seat.made ≤ length seat.front → SeesOwn x.next → IsExchange (state_of seat) (own_exchange x)
+own_is {A} seat x is seen own = record { whole = is.whole; heard = is.heard; answered = own_line A seat x.next x.heard x.answer x.edits is.answered seen own }
+
+own_all : {A : Type 0} → List (SeatExchange A) → List Exchange
+own_all [] = []
+own_all (x ∷ xs) = own_exchange x ∷ own_all xs
+
+all_lines : {A : Type 0} (xs : List (SeatExchange A)) → lines_of (own_all xs) ≡ seat_lines xs
+unfolding own_all
+all_lines [] = refl
+all_lines (x ∷ xs) = ap (λ (l : List ℕ). line x.said ++ l) (all_lines xs)
+
+all_answers : {A : Type 0} (xs : List (SeatExchange A)) → answers_of (own_all xs) ≡ seat_texts xs
+unfolding own_all
+all_answers [] = refl
+all_answers (x ∷ xs) = ap (λ (l : List ℕ). x.answer ++ l) (all_answers xs)
+
+own_exchanges : {A : Type 0} (start last : SeatContent A) (xs : List (SeatExchange A)) → AreSeatExchanges start xs last → start.made ≤ length start.front → SeesOwn last → AreExchanges (state_of start) (own_all xs) (state_of last)
+unfolding AreSeatExchanges AreExchanges own_all
+own_exchanges {A} start last [] is seen own = ap (λ (s : SeatContent A). state_of s) is
+own_exchanges {A} start last (x ∷ xs) is seen own =
+    let next : SeesOwn x.next = sees_before x.next last (edits_of xs) (exchanges_leave x.next last xs is.1) own in
+    (own_is start x is.0 seen next, own_exchanges x.next last xs is.1 (seen_after start x.next x.edits (exchange_leaves start x is.0) seen) own)
+
+-- ---- the end
+
+own_ends : {A : Type 0} (seat last : SeatContent A) (rest told : List ℕ) (edits : List (Edit A)) (input output output' : Option (List ℕ)) (result : Result (Unit {0}) ToolFault) → SeatEnds seat last rest told edits input output output' result
+    → (result ≡ Err (Run Foreign) → ⊥) → seat.made ≤ length seat.front → SeesOwn last → TalkEnds (state_of seat) rest told input output output' result
+own_ends seat last rest told edits input output output' (Ok u) is other seen own = is.1
+own_ends seat last rest told edits input output output' (Err (Read Failed)) is other seen own = (is.1, is.2)
+own_ends {A} seat last rest told edits input output output' (Err (Run (Write written))) (answer, inl is, cut) other seen own =
+    let next : SeesOwn is.exchange.next = subst (λ (s : SeatContent A). SeesOwn s) is.last_is own in
+    (answer, inl (own_exchange is.exchange, is.more, own_is seat is.exchange is.is seen next, is.text, is.answer_is), cut)
+own_ends seat last rest told edits input output output' (Err (Run (Write written))) (answer, inr is, cut) other seen own = (answer, inr (is.1, is.2, is.3), cut)
+own_ends seat last rest told edits input output output' (Err (Run Memory)) is other seen own = is.1
+own_ends seat last rest told edits input output output' (Err (Run NoEntry)) is other seen own = (is.1, is.2)
+own_ends seat last rest told edits input output output' (Err (Run Foreign)) is other seen own = absurd (other refl)
+own_ends seat last rest told edits input output output' (Err (Read TooLong)) is other seen own = absurd is
+own_ends seat last rest told edits input output output' (Err (Read NoRoom)) is other seen own = absurd is
+own_ends seat last rest told edits input output output' (Err (Run (Size n))) is other seen own = absurd is
+own_ends seat last rest told edits input output output' (Err (Run (Text error))) is other seen own = absurd is
+own_ends seat last rest told edits input output output' (Err (Run (OffMovie frame len))) is other seen own = absurd is
+own_ends seat last rest told edits input output output' (Err (Run (OffRange from to len))) is other seen own = absurd is
+own_ends seat last rest told edits input output output' (Err (Run (Stopped at opcode))) is other seen own = absurd is
+own_ends seat last rest told edits input output output' (Err (Run (StoppedFrame frame at opcode))) is other seen own = absurd is
+own_ends seat last rest told edits input output output' (Err (Run (Script number))) is other seen own = absurd is
+own_ends seat last rest told edits input output output' (Err (Run (Place number))) is other seen own = absurd is
+own_ends seat last rest told edits input output output' (Err (Run (Long number))) is other seen own = absurd is
+own_ends seat last rest told edits input output output' (Err (Run NoPlace)) is other seen own = absurd is
+own_ends seat last rest told edits input output output' (Err (Seat number fault)) is other seen own = absurd is
+
+-- a seat's conversation on a desk where nobody else makes edits is one of a single seat
+pub own_talk : {A : Type 0} (start last : SeatContent A) (input input' output output' : Option (List ℕ)) (result : Result (Unit {0}) ToolFault) → IsSeatTalk start last input input' output output' result → start.made ≤ length start.front
+    → SeesOwn last → IsTalk (state_of start) input input' output output' result × SeesOwn start
+own_talk {A} start last input input' output output' result talk seen own = go (rested talk.seat last talk.rest _ talk.more input' output output' result talk.ends)
+  where
+    first : Leaves start talk.seat (edits_of talk.exchanges)
+    first = exchanges_leave start talk.seat talk.exchanges talk.answered
+
+    seen_all : talk.seat.made ≤ length talk.seat.front
+    seen_all = seen_after start talk.seat (edits_of talk.exchanges) first seen
+
+    go : Rested talk.seat last talk.more result → IsTalk (state_of start) input input' output output' result × SeesOwn start
+    go (inl strange) =
+        let more = prefix_length talk.seat.front last.front strange.seen.begins in
+        let counted : entries_of last.number last.front ≡ length last.front = ap (λ (n : ℕ). entries_of n last.front) own.number ∙ own.alone in
+        absurd (strange.other (omega (arith, more, counted, own.few, seen_all, strange.seen.made)))
+    go (inr (left, other)) =
+        let middle : SeesOwn talk.seat = sees_before talk.seat last talk.more left own in
+        let ends : TalkEnds (state_of talk.seat) talk.rest (seat_texts talk.exchanges) input' output output' result =
+        own_ends talk.seat last talk.rest (seat_texts talk.exchanges) talk.more input' output output' result talk.ends other seen_all own in (
+          record {
+            exchanges = own_all talk.exchanges;
+            state = state_of talk.seat;
+            rest = talk.rest;
+            answered = own_exchanges start talk.seat talk.exchanges talk.answered seen middle;
+            left = subst (λ (l : List ℕ). Consumes input input' (l ++ talk.rest)) (sym (all_lines talk.exchanges)) talk.left;
+            ends = subst (λ (l : List ℕ). TalkEnds (state_of talk.seat) talk.rest l input' output output' result) (sym (all_answers talk.exchanges)) ends;
+          },
+          sees_before start talk.seat (edits_of talk.exchanges) first middle,
+        )

@@ -1,0 +1,50 @@
+-- Answers that are compared with the seat's own edits, and what an edit leaves of a seat.
+use Rattle.std.proofs.Common.{◌≡◌, ℕ, ◌+◌, ◌<◌, ◌≤◌, List, [], ◌∷◌, ◌++◌, length, Bool, true, false, Result, Ok, Err, inl, inr, refl, sym, ap, subst, ◌∙◌, arith, length-append}
+use Rattle.std.specs.Prelude.{◌==◌, if◌then◌else◌}
+use Rattle.std.proofs.lemmas.Bool.{eqb-true, eq-eqb, cases_lt}
+use Rattle.std.proofs.lemmas.List.Sums.{sum_by-append}
+use Rattle.tas_movie.specs.declared.edit.Edit.{Edit}
+use Rattle.tas_session.specs.declared.entry.Entry.{Entry}
+use Rattle.tas_session.specs.declared.replies.Receipt.{Receipt}
+use Rattle.tas_session.specs.declared.replies.EditError.{EditError}
+use Rattle.tas_session.specs.History.{entries_of}
+use Rattle.tas_desk.specs.Seats.{SeatContent, HasSeen, IsEdited}
+use Rattle.tas_engines.specs.declared.fault.RunFault.{RunFault}
+use Rattle.tas_engines.specs.declared.fault.RunFault.TheVariants.{Foreign}
+use Rattle.tas_tool.specs.Inside.TwoEdits.{checked_end}
+
+-- ---- compared answers
+
+-- a number that isn't the least one is more
+pub more_than : (a b : ℕ) → a ≤ b → (b ≡ a → ⊥) → a < b
+more_than a b le other = elim (cases_lt a b) [
+  | inl h ↦ h
+  | inr h ↦ absurd (other (omega (arith, le, h)))
+]
+
+-- what was compared is as it was where it stands at just these edits, and `Foreign` where it doesn't
+pub checked_cases : {X : Type 0} (made at : ℕ) (end r : Result X RunFault) (P : Result X RunFault → Type 0) → r ≡ checked_end made at end → (at ≡ made → P end) → ((at ≡ made → ⊥) → P (Err Foreign)) → P r
+checked_cases {X} made at end r P is same_at other_at = go (at == made) refl
+  where
+    go : (b : Bool) → at == made ≡ b → P r
+    go true e = let e' : r ≡ end = is ∙ rw e refl in subst P (sym e') (same_at (eqb-true at made e))
+    go false e = let e' : r ≡ Err Foreign = is ∙ rw e refl in subst P (sym e') (other_at (λ (same : at ≡ made). let t : true ≡ false = sym (eq-eqb at made same) ∙ e in absurd (cc t)))
+
+-- ---- seats
+
+pub longer : {A : Type 0} (before now : SeatContent A) → HasSeen before now → length before.front ≤ length now.front
+longer before now seen = omega (arith, sym (ap length seen.begins.1) ∙ length-append before.front seen.begins.0)
+
+pub entries_push : {A : Type 0} (history : List (Entry A)) (entry : Entry A) (k : ℕ) → entry.seat ≡ k → entries_of k (history ++ entry ∷ []) ≡ entries_of k history + 1
+entries_push {A} history entry k is =
+    let e = sum_by-append (λ (y : Entry A). if y.seat == k then 1 else 0) history (entry ∷ []) in
+    let one : ◌≡◌ {A = ℕ} (if entry.seat == k then 1 else 0) 1 = rw (eq-eqb entry.seat k is) refl in
+    omega (arith, e, one)
+
+pub edited_number : {A : Type 0} (before now : SeatContent A) (edit : Edit A) (answer : Result Receipt EditError) → IsEdited before now edit answer → now.number ≡ before.number
+edited_number {A} before now edit (Ok receipt) e = ap (λ (s : SeatContent A). s.number) e.seat
+edited_number {A} before now edit (Err error) e = ap (λ (s : SeatContent A). s.number) e.seat
+
+pub edited_zone : {A : Type 0} (before now : SeatContent A) (edit : Edit A) (answer : Result Receipt EditError) → IsEdited before now edit answer → now.zone ≡ before.zone
+edited_zone {A} before now edit (Ok receipt) is = ap (λ (s : SeatContent A). s.zone) is.seat
+edited_zone {A} before now edit (Err error) is = ap (λ (s : SeatContent A). s.zone) is.seat

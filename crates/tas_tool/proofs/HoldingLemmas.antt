@@ -1,0 +1,420 @@
+-- A desk's seats from its opening to its end.
+use Rattle.std.proofs.Common.{◌≡◌, ℕ, zero, suc, ◌+◌, ◌<◌, ◌≤◌, ◌==◌, Bool, true, false, cond, List, [], ◌∷◌, ◌++◌, length, take, map, set, get_or, Option, Some, Result, Ok, Err, ◌⊎◌, inl, inr, refl, sym, ap, subst, ◌∙◌, arith}
+use Rattle.std.specs.Prelude.{All, count_by, slice_get, OnOk, IfErr, MatchResult}
+use Rattle.std.specs.Io.KnownBytes.{Appends}
+use Rattle.std.proofs.lemmas.Bool.{cases_lt}
+use Rattle.std.proofs.lemmas.Bool.Decides.{nat_tests}
+use Rattle.std.proofs.lemmas.List.{append-nil, get_or-set_same, get_or-set_other, take-append-le, length-append, length-map}
+use Rattle.std.proofs.lemmas.Option.{same_Some, slice_get-get_or, slice_get_within, get_or_from_slice_get}
+use mathlib.Core.List.{IsPrefix}
+use Rattle.tas_movie.specs.Content.{MovieContent}
+use Rattle.tas_movie.specs.Text.{text2}
+use Rattle.tas_session.specs.declared.entry.Entry.{Entry}
+use Rattle.tas_session.specs.History.{movie_of, entries_of, IsLegal}
+use Rattle.tas_session.proofs.PrefixLemmas.{prefix_trans}
+use Rattle.tas_desk.specs.Seats.{SeatContent, seat_of, HasSeen, KeepsZone, IsWhole, IsSettled}
+use Rattle.tas_desk.specs.Zones.{ZoneContent}
+use Rattle.tas_desk.specs.Closing.{made_by}
+use Rattle.tas_desk.proofs.SeatLemmas.{count_by-cons, entries_of-prefix, had_by, had_by-le, looked_twice, none_above}
+use Rattle.tas_engines.specs.Output.{StopsWriting}
+use Rattle.tas_engines.specs.declared.fault.RunFault.{RunFault}
+use Rattle.tas_engines.specs.declared.fault.RunFault.TheVariants.{Write, Size, Text, NoFrame, Range, Halted, HaltedFrame, Script, Place, Long, NoPlace, NoEntry, Foreign, Memory}
+use Rattle.tas_engines.specs.declared.fault.SeatFault.{SeatFault}
+use Rattle.tas_seat.specs.Lines.{DoorFacts, WasHeld}
+use Rattle.tas_tool.specs.Desks.{edits_before, IsSeatOf, IsDeskHistory, IsUnwritten}
+use Rattle.tas_tool.specs.Inside.TwoEdits.{HoldsMovie, IsMakingFault}
+use Rattle.tas_tool.specs.Inside.Holding.{AreNumbered, HaveMadeNone, AreFresh, HaveMovie, IsUnmade, IsHeldIn, HoldsAll}
+use Rattle.tas_seat.proofs.HeldLemmas.{held_seen, held_in_history}
+
+-- ---- lists
+
+-- a list that was lent and written back
+pub whole_back : {X : Type 0} (xs rest out : List X) (n : ℕ) → n ≡ length xs → out ≡ take n (xs ++ rest) → out ≡ xs
+whole_back {X} xs rest out n same is = is ∙ ap (λ (k : ℕ). take k (xs ++ rest)) same ∙ front xs rest
+  where
+    front : (ys zs : List X) → take (length ys) (ys ++ zs) ≡ ys
+    front [] zs = refl
+    front (y ∷ ys) zs = ap (λ (l : List X). y ∷ l) (front ys zs)
+
+take_prefix : {X : Type 0} (n : ℕ) (xs ys : List X) → IsPrefix xs ys → n ≤ length xs → take n ys ≡ take n xs
+take_prefix {X} n xs ys p le = ap (λ (l : List X). take n l) (sym p.1) ∙ take-append-le n xs p.0 le
+
+prefix_longer : {X : Type 0} (xs ys : List X) → IsPrefix xs ys → length xs ≤ length ys
+prefix_longer {X} xs ys p = omega (arith, length-append xs p.0, ap (λ (l : List X). length l) p.1)
+
+begin_of : {X : Type 0} (n : ℕ) (xs : List X) → IsPrefix (take n xs) xs
+begin_of zero xs = (xs, refl)
+begin_of (suc n) [] = ([], refl)
+begin_of {X} (suc n) (x ∷ xs) = let p = begin_of n xs in (p.0, ap (λ (l : List X). x ∷ l) p.1)
+
+-- one more of a list's items was changed
+pub set_each : {X : Type 0} (P : ℕ → X → X → Type 0) (xs : List X) (i : ℕ) (y : X) → i < length xs → ((k : ℕ) (d : X) → k < i → P k d (get_or xs k d)) → ((d : X) → P i d y)
+    → (k : ℕ) (d : X) → k < i + 1 → P k d (get_or (set xs i y) k d)
+set_each {X} P xs i y low all one k d lt = elim (cases_lt k i) [
+  | inl h ↦ subst (λ (x : X). P k d x) (sym (get_or-set_other xs i k y d (λ e. absurd (omega (arith, h, e))))) (all k d h)
+  | inr h ↦ let here : i ≡ k = omega (arith, h, lt) in
+      subst (λ (j : ℕ). P j d (get_or (set xs i y) j d)) here (subst (λ (x : X). P i d x) (sym (get_or-set_same xs i y d low)) (one d))
+]
+
+pub set_past : {X : Type 0} (xs ys : List X) (i : ℕ) (y : X) → ((k : ℕ) (d : X) → i ≤ k → get_or xs k d ≡ get_or ys k d) → (k : ℕ) (d : X) → i + 1 ≤ k → get_or (set xs i y) k d ≡ get_or ys k d
+set_past xs ys i y rest k d le = get_or-set_other xs i k y d (λ e. absurd (omega (arith, le, e))) ∙ rest k d (omega (arith, le))
+
+-- what stands at a place of a list as long as one that has something there
+pub there : {X Y : Type 0} (xs : List X) (ys : List Y) (k : ℕ) (y : Y) → length xs ≡ length ys → slice_get ys k ≡ Some y → (x : X) × (slice_get xs k ≡ Some x)
+there [] [] k y same is = absurd (cc is)
+there [] (z ∷ ys) k y same is = absurd (omega (arith, same))
+there (x ∷ xs) [] k y same is = absurd (omega (arith, same))
+there (x ∷ xs) (z ∷ ys) zero y same is = (x, refl)
+there (x ∷ xs) (z ∷ ys) (suc k) y same is = there xs ys k y (omega (arith, same)) is
+
+-- ---- numbers
+
+-- numbered from a number on
+abbrev AreFrom : {A : Type 0} → ℕ → List (SeatContent A) → Type 0
+AreFrom {A} m seats = (k : ℕ) (seat : SeatContent A) → slice_get seats k ≡ Some seat → seat.number ≡ m + k
+
+rest_from : {A : Type 0} (m : ℕ) (s : SeatContent A) (ss : List (SeatContent A)) → AreFrom m (s ∷ ss) → AreFrom (m + 1) ss
+rest_from m s ss are k seat is = let e = are (suc k) seat is in omega (arith, e)
+
+abbrev one_if : Bool → ℕ
+one_if b = cond b 1 0
+
+none_before : {A : Type 0} (m j : ℕ) (ss : List (SeatContent A)) → AreFrom m ss → j < m → count_by (λ (s : SeatContent A). s.number == j) ss ≡ 0
+none_before m j [] are lt = refl
+none_before {A} m j (s ∷ ss) are lt =
+    let rest = none_before (m + 1) j ss (rest_from m s ss are) (omega (arith, lt)) in
+    let c = count_by-cons (λ (t : SeatContent A). t.number == j) s ss in
+    let here = are zero s refl in
+    let no : (s.number == j) ≡ false = grind (arith, nat_tests) in
+    let none : one_if (s.number == j) ≡ 0 = ap one_if no in
+    omega (arith, c, rest, none)
+
+at_most_one : (b : Bool) → one_if b ≤ 1
+at_most_one true = omega arith
+at_most_one false = omega arith
+
+once_from : {A : Type 0} (m j : ℕ) (ss : List (SeatContent A)) → AreFrom m ss → count_by (λ (s : SeatContent A). s.number == j) ss ≤ 1
+once_from m j [] are = omega arith
+once_from {A} m j (s ∷ ss) are =
+    let c = count_by-cons (λ (t : SeatContent A). t.number == j) s ss in
+    let tail = rest_from m s ss are in
+    let here = are zero s refl in
+    elim (cases_lt m j) [
+      | inl h ↦ let no : (s.number == j) ≡ false = grind (arith, nat_tests) in
+          let none : one_if (s.number == j) ≡ 0 = ap one_if no in
+          omega (arith, c, none, once_from (m + 1) j ss tail)
+      | inr h ↦ omega (arith, c, at_most_one (s.number == j), none_before (m + 1) j ss tail (omega (arith, h)))
+    ]
+
+-- seats with the numbers from 0 on are all of their desk's
+pub whole_seats : {A : Type 0} (n : ℕ) (ss : List (SeatContent A)) → AreNumbered ss → length ss ≡ n → IsWhole n ss
+whole_seats {A} n ss are long = record {
+  all = long;
+  below = λ k d low. let e = are k (get_or ss k d) (slice_get-get_or ss k d low) in omega (arith, e, low, long);
+  once = λ k. once_from 0 k ss (λ j seat is. are j seat is ∙ omega arith);
+}
+
+-- ---- the history
+
+eq_sym : (a b : ℕ) → (a == b) ≡ (b == a)
+eq_sym a b = grind (arith)
+
+had_by-cons : {A : Type 0} (e : Entry A) (log : List (Entry A)) (ss : List (SeatContent A)) → had_by (e ∷ log) ss ≡ count_by (λ (s : SeatContent A). s.number == e.seat) ss + had_by log ss
+had_by-cons {A} e log [] = refl
+had_by-cons {A} e log (s ∷ ss) =
+    let here = count_by-cons (λ (x : Entry A). x.seat == s.number) e log in
+    let there = count_by-cons (λ (t : SeatContent A). t.number == e.seat) s ss in
+    let same : one_if (e.seat == s.number) ≡ one_if (s.number == e.seat) = ap one_if (eq_sym e.seat s.number) in
+    let rest = had_by-cons e log ss in
+    omega (arith, here, there, same, rest)
+
+made_had : {A : Type 0} (log : List (Entry A)) (ss : List (SeatContent A)) → All (IsSettled log) ss → made_by ss ≡ had_by log ss
+made_had log [] settled = refl
+made_had {A} log (s ∷ ss) settled =
+    let one : IsSettled log s = settled zero s (omega arith) in
+    let rest = made_had log ss (λ k d low. settled (suc k) d (omega (arith, low))) in
+    omega (arith, one.exact, rest)
+
+had_named : {A : Type 0} (n : ℕ) (log : List (Entry A)) (ss : List (SeatContent A)) → IsWhole n ss → length log ≤ had_by log ss → All (λ (e : Entry A). e.seat < n) log
+had_named n [] ss whole le k d low = absurd (omega (arith, low))
+had_named {A} n (e ∷ log) ss whole le zero d low =
+    let h = had_by-cons e log ss in
+    let r = had_by-le log ss whole.once in
+    elim (cases_lt e.seat n) [ inl lt ↦ lt | inr above ↦ absurd (omega (arith, le, h, r, none_above n e.seat ss whole.below above)) ]
+had_named {A} n (e ∷ log) ss whole le (suc k) d low =
+    let h = had_by-cons e log ss in
+    let o = whole.once e.seat in
+    had_named n log ss whole (omega (arith, le, h, o)) k d (omega (arith, low))
+
+-- nobody but these seats has entries
+pub nobody_else : {A : Type 0} (n : ℕ) (log : List (Entry A)) (ss : List (SeatContent A)) → IsWhole n ss → All (IsSettled log) ss → length log ≡ made_by ss → All (λ (e : Entry A). e.seat < n) log
+nobody_else n log ss whole settled count = had_named n log ss whole (omega (arith, count, made_had log ss settled))
+
+-- ---- conversations
+
+-- what a caller's conversation leaves of the caller
+abbrev Leaves : {A D X : Type 0} → DoorFacts D → (X → D) → (X → SeatContent A) → (X → Result (Unit {0}) SeatFault) → List X → List X → Type 0
+Leaves {X = X} facts door seat end old new = (k : ℕ) (d : X) → k < length old → WasHeld facts (door (get_or old k d)) (door (get_or new k d)) (seat (get_or old k d)) (seat (get_or new k d)) (end (get_or new k d))
+
+-- each caller's conversation was held, by index and by what stands there
+pub each_held : {A D X : Type 0} (facts : DoorFacts D) (door : X → D) (seat : X → SeatContent A) (end : X → Result (Unit {0}) SeatFault) (old new : List X) → length new ≡ length old → Leaves facts door seat end old new
+    → (k : ℕ) (p q : D) (start last : SeatContent A) (e : Result (Unit {0}) SeatFault) → slice_get (map door old) k ≡ Some p → slice_get (map door new) k ≡ Some q → slice_get (map seat old) k ≡ Some start → slice_get (map seat new) k ≡ Some last
+    → slice_get (map end new) k ≡ Some e → WasHeld facts p q start last e
+each_held facts door seat end [] new same held k p q start last e is is' at at' ended = absurd (cc is)
+each_held facts door seat end (x ∷ old) [] same held k p q start last e is is' at at' ended = absurd (omega (arith, same))
+each_held {A} {D} facts door seat end (x ∷ old) (y ∷ new) same held zero p q start last e is is' at at' ended =
+    let here : WasHeld facts (door x) (door y) (seat x) (seat y) (end y) = held 0 x (omega arith) in
+    subst (λ (v : D). WasHeld facts v q start last e) (same_Some (door x) p is)
+    (subst (λ (v : D). WasHeld facts (door x) v start last e) (same_Some (door y) q is')
+    (subst (λ (v : SeatContent A). WasHeld facts (door x) (door y) v last e) (same_Some (seat x) start at)
+    (subst (λ (v : SeatContent A). WasHeld facts (door x) (door y) (seat x) v e) (same_Some (seat y) last at')
+    (subst (λ (v : Result (Unit {0}) SeatFault). WasHeld facts (door x) (door y) (seat x) (seat y) v) (same_Some (end y) e ended) here))))
+each_held {A} {D} {X} facts door seat end (x ∷ old) (y ∷ new) same held (suc k) p q start last e is is' at at' ended =
+    each_held facts door seat end old new (omega (arith, same)) (λ (j : ℕ) (d : X) lt. held (suc j) d (omega (arith, lt))) k p q start last e is is' at at' ended
+
+-- the seats keep their numbers
+pub still_numbered : {A D X : Type 0} (facts : DoorFacts D) (door : X → D) (seat : X → SeatContent A) (end : X → Result (Unit {0}) SeatFault) (old new : List X) → length new ≡ length old → Leaves facts door seat end old new
+    → AreNumbered (map seat old) → AreNumbered (map seat new)
+still_numbered {A} {D} {X} facts door seat end old new same held are k last is =
+    let before = there (map seat old) (map seat new) k last (length-map old seat ∙ sym same ∙ sym (length-map new seat)) is in
+    let p = there (map door old) (map seat new) k last (length-map old door ∙ sym same ∙ sym (length-map new seat)) is in
+    let q = there (map door new) (map seat new) k last (length-map new door ∙ sym (length-map new seat)) is in
+    let e = there (map end new) (map seat new) k last (length-map new end ∙ sym (length-map new seat)) is in
+    let held' = each_held facts door seat end old new same held k p.0 q.0 before.0 last e.0 p.1 q.1 before.1 is e.1 in
+    (held_seen facts p.0 q.0 before.0 last e.0 held').0 ∙ are k before.0 before.1
+
+-- the desk that is closed shows all conversations
+holds_all : {A D X : Type 0} (n : ℕ) (facts : DoorFacts D) (door : X → D) (seat : X → SeatContent A) (end : X → Result (Unit {0}) SeatFault) (old new : List X) (log : List (Entry A)) → length new ≡ length old → length old ≡ n
+    → Leaves facts door seat end old new → IsWhole n (map seat new) → IsLegal log → All (IsSettled log) (map seat new) → length log ≡ made_by (map seat new)
+    → HoldsAll facts (map door old) (map door new) (map seat old) (map end new) log
+holds_all {A} {D} {X} n facts door seat end old new log same long held whole legal settled count = record {
+  legal = legal;
+  back = length-map new door ∙ same ∙ sym (length-map old door);
+  many = length-map new end ∙ same ∙ sym (length-map old door);
+  each = λ k p q start e is is' at ended. let last = there (map seat new) (map end new) k e (length-map new seat ∙ sym (length-map new end)) ended in
+      let held' = each_held facts door seat end old new same held k p q start last.0 e is is' at last.1 ended in
+      record { last = last.0; edits = held'.0; held = held'.1; settled = settled_at k last.0 last.1 };
+  no_others = subst (λ (m : ℕ). All (λ (x : Entry A). x.seat < m) log) (sym (length-map old door ∙ long)) (nobody_else n log (map seat new) whole settled count);
+}
+  where
+    settled_at : (k : ℕ) (last : SeatContent A) → slice_get (map seat new) k ≡ Some last → IsSettled log last
+    settled_at k last is = subst (IsSettled log) (get_or_from_slice_get (map seat new) k last last is) (settled k last (slice_get_within (map seat new) k last is))
+
+-- ---- the first seat's movie
+
+first_made : {A : Type 0} (first : SeatContent A) (movie : MovieContent) → HoldsMovie first movie → first.number ≡ 0 → entries_of 0 (take 2 first.front) ≡ 2
+first_made {A} first movie holds nought = subst (λ (n : ℕ). entries_of n (take 2 first.front) ≡ 2) nought holds.own
+
+-- what a seat had made when its conversation began, and that it had seen as much
+pub begun : {A : Type 0} (movie : MovieContent) (seats : List (SeatContent A)) (k : ℕ) (start : SeatContent A) → HaveMovie movie seats → AreNumbered seats → HaveMadeNone seats → slice_get seats k ≡ Some start
+    → (start.made ≡ edits_before k) × (start.made ≤ entries_of start.number start.front)
+begun {A} movie seats zero start has are none is =
+    let same : has.first ≡ start = same_Some has.first start (sym has.first_is ∙ is) in
+    let mine : (has.first.made ≡ 2) × (has.first.made ≤ entries_of has.first.number has.first.front) =
+    (has.holds.made, omega (arith, has.holds.made, has.holds.own, entries_of-prefix has.first.number (take 2 has.first.front) has.first.front (begin_of 2 has.first.front))) in
+    subst (λ (s : SeatContent A). (s.made ≡ 2) × (s.made ≤ entries_of s.number s.front)) same mine
+begun movie seats (suc k) start has are none is = let e = none k start is in (e, omega (arith, e))
+
+-- a desk that was held on a movie
+pub desk_history : {A D : Type 0} (facts : DoorFacts D) (movie : MovieContent) (doors doors' : List D) (seats : List (SeatContent A)) (ends : List (Result (Unit {0}) SeatFault)) (log : List (Entry A)) → length seats ≡ length doors
+    → HaveMovie movie seats → AreNumbered seats → HaveMadeNone seats → HoldsAll facts doors doors' seats ends log → IsDeskHistory facts movie doors doors' ends log
+desk_history {A} {D} facts movie doors doors' seats ends log long has are none all =
+    record {
+      legal = all.legal;
+      long = omega (arith, prefix_longer has.first.front log begins, has.holds.seen);
+      first = subst (λ (l : List (Entry A)). entries_of 0 l ≡ 2) (sym same) (first_made has.first movie has.holds (are 0 has.first has.first_is));
+      movie_is = ap movie_of same ∙ has.holds.movie_is;
+      back = all.back;
+      many = all.many;
+      seats = one;
+      no_others = all.no_others;
+    }
+  where
+    door0 : (p : D) × (slice_get doors 0 ≡ Some p)
+    door0 = there doors seats 0 has.first (sym long) has.first_is
+
+    door0' : (p : D) × (slice_get doors' 0 ≡ Some p)
+    door0' = there doors' seats 0 has.first (all.back ∙ sym long) has.first_is
+
+    end0 : (e : Result (Unit {0}) SeatFault) × (slice_get ends 0 ≡ Some e)
+    end0 = there ends seats 0 has.first (all.many ∙ sym long) has.first_is
+
+    held0 : IsHeldIn facts log door0.0 door0'.0 has.first end0.0
+    held0 = all.each 0 door0.0 door0'.0 has.first end0.0 door0.1 door0'.1 has.first_is end0.1
+
+    begins : IsPrefix has.first.front log
+    begins = prefix_trans has.first.front held0.last.front log (held_seen facts door0.0 door0'.0 has.first held0.last end0.0 (held0.edits, held0.held)).1 held0.settled.begins
+
+    same : take 2 log ≡ take 2 has.first.front
+    same = take_prefix 2 has.first.front log begins has.holds.seen
+
+    one : (k : ℕ) (p q : D) (e : Result (Unit {0}) SeatFault) → slice_get doors k ≡ Some p → slice_get doors' k ≡ Some q → slice_get ends k ≡ Some e → IsSeatOf facts log k p q e
+    one k p q e is is' ended =
+        let start = there seats doors k p long is in
+        let held = all.each k p q start.0 e is is' start.1 ended in
+        let made = begun movie seats k start.0 has are none start.1 in
+        let shown = held_in_history facts p q start.0 held.last held.edits e log held.held made.1 held.settled in
+        record {
+          start = start.0;
+          last = held.last;
+          edits = held.edits;
+          number_is = are k start.0 start.1;
+          made = made.0;
+          begins = subst (λ (t : List (Entry A)). IsPrefix t start.0.front) (sym same) (has.met k start.0 start.1);
+          held = held.held;
+          shows = shown.0;
+          not_foreign = shown.1;
+        }
+
+-- ---- a movie that wasn't made
+
+made_first : {A : Type 0} (seats : List (SeatContent A)) (first : SeatContent A) → slice_get seats 0 ≡ Some first → HaveMadeNone seats → made_by seats ≡ first.made
+made_first [] first is none = absurd (cc is)
+made_first {A} (s ∷ ss) first is none = omega (arith, nothing ss none, ap (λ (t : SeatContent A). t.made) (same_Some s first is))
+  where
+    nothing : (ts : List (SeatContent A)) → ((k : ℕ) (t : SeatContent A) → slice_get ts k ≡ Some t → t.made ≡ 0) → made_by ts ≡ 0
+    nothing [] made = refl
+    nothing (t ∷ ts) made = omega (arith, made zero t refl, nothing ts (λ k u is'. made (suc k) u is'))
+
+-- only memory was refused: the closed desk shows that there are no edits but the first seat's
+pub unmade_fault : {A : Type 0} (seats : List (SeatContent A)) (log : List (Entry A)) (fault : RunFault) → IsUnmade seats fault → HaveMadeNone seats → All (IsSettled log) seats → length log ≡ made_by seats → (fault ≡ Memory) ⊎ (fault ≡ NoPlace)
+unmade_fault {A} seats log fault (first, is, why) none settled count = go fault why
+  where
+    mine : IsSettled log first
+    mine = subst (IsSettled log) (get_or_from_slice_get seats 0 first first is) (settled 0 first (slice_get_within seats 0 first is))
+
+    go : (f : RunFault) → IsMakingFault first f → (f ≡ Memory) ⊎ (f ≡ NoPlace)
+    go Memory w = inl refl
+    go Foreign w = absurd (omega (arith, w, prefix_longer first.front log mine.begins, count, made_first seats first is none))
+    go (Write written) w = absurd w
+    go (Size n) w = absurd w
+    go (Text error) w = absurd w
+    go (NoFrame frame len) w = absurd w
+    go (Range from to len) w = absurd w
+    go (Halted at opcode) w = absurd w
+    go (HaltedFrame frame at opcode) w = absurd w
+    go (Script line) w = absurd w
+    go (Place line) w = absurd w
+    go (Long line) w = absurd w
+    go NoPlace w = absurd w
+    go NoEntry w = absurd w
+
+-- ---- the first seat and the others
+
+-- seats that were just opened, numbered from 0
+pub fresh_numbered : {A : Type 0} (first first' : SeatContent A) (others others' : List (SeatContent A)) → AreFresh (first ∷ others) → first'.number ≡ 0 → length others' ≡ length others
+    → ((k : ℕ) (d : SeatContent A) → k < length others → HasSeen (get_or others k d) (get_or others' k d)) → AreNumbered (first' ∷ others') × HaveMadeNone (first' ∷ others')
+fresh_numbered {A} first first' others others' fresh nought same seen = (numbers, made)
+  where
+    at : (k : ℕ) (s : SeatContent A) → slice_get others' k ≡ Some s → (s.number ≡ suc k) × (s.made ≡ 0)
+    at k s is =
+        let before = there others others' k s (sym same) is in
+        let got = get_or_from_slice_get others k before.0 s before.1 in
+        let got' = get_or_from_slice_get others' k s s is in
+        let one : HasSeen before.0 s = subst (λ (x : SeatContent A). HasSeen before.0 x) got' (subst (λ (x : SeatContent A). HasSeen x (get_or others' k s)) got (seen k s (slice_get_within others k before.0 before.1))) in
+        let was = fresh (suc k) before.0 before.1 in
+        (one.number ∙ was.0, one.made ∙ was.1)
+
+    numbers : AreNumbered (first' ∷ others')
+    numbers zero s is = ap (λ (t : SeatContent A). t.number) (sym (same_Some first' s is)) ∙ nought
+    numbers (suc k) s is = (at k s is).0
+
+    made : HaveMadeNone (first' ∷ others')
+    made k s is = (at k s is).1
+
+pub all_met : {A : Type 0} (movie : MovieContent) (first first' : SeatContent A) (others others' : List (SeatContent A)) → HoldsMovie first movie → HasSeen first first' → length others' ≡ length others
+    → ((k : ℕ) (d : SeatContent A) → k < length others → IsPrefix first.front (get_or others' k d).front) → HaveMovie movie (first' ∷ others')
+all_met {A} movie first first' others others' holds seen same met = record {
+  first = first';
+  first_is = refl;
+  holds = record {
+    made = seen.made ∙ holds.made;
+    seen = omega (arith, holds.seen, prefix_longer first.front first'.front seen.begins);
+    own = subst (λ (l : List (Entry A)). entries_of first'.number l ≡ 2) (sym two) (subst (λ (n : ℕ). entries_of n (take 2 first.front) ≡ 2) (sym seen.number) holds.own);
+    movie_is = ap movie_of two ∙ holds.movie_is;
+  };
+  met = at;
+}
+  where
+    two : take 2 first'.front ≡ take 2 first.front
+    two = take_prefix 2 first.front first'.front seen.begins holds.seen
+
+    begins : IsPrefix (take 2 first'.front) first.front
+    begins = subst (λ (l : List (Entry A)). IsPrefix l first.front) (sym two) (begin_of 2 first.front)
+
+    at : (k : ℕ) (s : SeatContent A) → slice_get (first' ∷ others') k ≡ Some s → IsPrefix (take 2 first'.front) s.front
+    at zero s is = subst (λ (t : SeatContent A). IsPrefix (take 2 first'.front) t.front) (same_Some first' s is) (begin_of 2 first'.front)
+    at (suc k) s is =
+        let low : k < length others = omega (arith, slice_get_within others' k s is, same) in
+        prefix_trans (take 2 first'.front) first.front s.front begins
+        (subst (λ (t : SeatContent A). IsPrefix first.front t.front) (get_or_from_slice_get others' k s s is) (met k s low))
+
+-- seats that have met nobody
+pub not_met : {A : Type 0} (seats : List (SeatContent A)) (k : ℕ) (d : SeatContent A) → k < length seats → HasSeen (get_or seats k d) (get_or seats k d)
+not_met seats k d lt = record { number = refl; made = refl; begins = ([], append-nil (get_or seats k d).front) }
+
+-- after one more meeting
+pub seen_twice : {A : Type 0} (s t u : SeatContent A) → KeepsZone s t → KeepsZone t u → KeepsZone s u
+seen_twice s t u one other = looked_twice s t u one other
+
+get_any : {X : Type 0} (xs : List X) (k : ℕ) (d e : X) → k < length xs → get_or xs k d ≡ get_or xs k e
+get_any [] k d e low = absurd (omega (arith, low))
+get_any (x ∷ xs) zero d e low = refl
+get_any (x ∷ xs) (suc k) d e low = get_any xs k d e (omega (arith, low))
+
+-- an item that wasn't changed yet
+pub item_before : {X : Type 0} (xs was : List X) (i : ℕ) (x d : X) → i < length xs → ((k : ℕ) (e : X) → i ≤ k → get_or xs k e ≡ get_or was k e) → get_or xs i x ≡ get_or was i d
+item_before xs was i x d low rest = get_any xs i x d low ∙ rest i d (omega arith)
+
+-- ---- callers
+
+-- the seats that come back are all of the desk's
+pub whole_made : {A D X : Type 0} (n : ℕ) (facts : DoorFacts D) (door : X → D) (seat : X → SeatContent A) (end : X → Result (Unit {0}) SeatFault) (old lent new : List X) (backs : List (SeatContent A)) → lent ≡ old → length new ≡ length lent → length old ≡ n
+    → Leaves facts door seat end lent new → AreNumbered (map seat old) → backs ≡ map seat new → IsWhole n backs
+whole_made {A} {D} {X} n facts door seat end old lent new backs is same long held are back =
+    let are' : AreNumbered (map seat lent) = subst (λ (l : List X). AreNumbered (map seat l)) (sym is) are in
+    let count : length (map seat new) ≡ n = length-map new seat ∙ same ∙ ap (λ (l : List X). length l) is ∙ long in
+    subst (λ (l : List (SeatContent A)). IsWhole n l) (sym back) (whole_seats n (map seat new) (still_numbered facts door seat end lent new same held are') count)
+
+-- and the closed desk shows all conversations
+pub holds_made : {A D X : Type 0} (n : ℕ) (facts : DoorFacts D) (door : X → D) (seat : X → SeatContent A) (end : X → Result (Unit {0}) SeatFault) (old lent new : List X) (doors' : List D) (backs : List (SeatContent A)) (ends : List (Result (Unit {0}) SeatFault))
+    (log : List (Entry A)) → lent ≡ old → length new ≡ length lent → length old ≡ n → Leaves facts door seat end lent new → AreNumbered (map seat old) → doors' ≡ map door new → backs ≡ map seat new → ends ≡ map end new
+    → IsLegal log → All (IsSettled log) backs → length log ≡ made_by backs → HoldsAll facts (map door old) doors' (map seat old) ends log
+holds_made {A} {D} {X} n facts door seat end old lent new doors' backs ends log is same long held are returned back ended legal settled count =
+    let whole : IsWhole n (map seat new) = subst (λ (l : List (SeatContent A)). IsWhole n l) back (whole_made n facts door seat end old lent new backs is same long held are back) in
+    let settled' : All (IsSettled log) (map seat new) = subst (λ (l : List (SeatContent A)). All (IsSettled log) l) back settled in
+    let count' : length log ≡ made_by (map seat new) = count ∙ ap (λ (l : List (SeatContent A)). made_by l) back in
+    let all : HoldsAll facts (map door lent) (map door new) (map seat lent) (map end new) log = holds_all n facts door seat end lent new log same (ap (λ (l : List X). length l) is ∙ long) held whole legal settled' count' in
+    subst (λ (l : List D). HoldsAll facts (map door old) l (map seat old) ends log) (sym returned)
+    (subst (λ (l : List (Result (Unit {0}) SeatFault)). HoldsAll facts (map door old) (map door new) (map seat old) l log) (sym ended) (subst (λ (l : List X). HoldsAll facts (map door l) (map door new) (map seat l) (map end new) log) is all))
+
+-- the callers were these seats with these doors
+pub held_as : {A D : Type 0} (facts : DoorFacts D) (doors was doors' : List D) (seats starts : List (SeatContent A)) (ends : List (Result (Unit {0}) SeatFault)) (log : List (Entry A)) → was ≡ doors → starts ≡ seats → HoldsAll facts was doors' starts ends log
+    → HoldsAll facts doors doors' seats ends log
+held_as {A} {D} facts doors was doors' seats starts ends log same same' all =
+    subst (λ (l : List (SeatContent A)). HoldsAll facts doors doors' l ends log) same' (subst (λ (l : List D). HoldsAll facts l doors' starts ends log) same all)
+
+-- ---- the desk that was opened
+
+pub opened_fresh : {A : Type 0} (n : ℕ) (seats : List (SeatContent A)) (zone : ZoneContent A) → length seats ≡ n → ((k : ℕ) → k < n → slice_get seats k ≡ Some (seat_of k 0 [] zone)) → AreFresh seats
+opened_fresh {A} n seats zone long fresh k seat is =
+    let low : k < n = omega (arith, slice_get_within seats k seat is, long) in
+    let same : seat ≡ seat_of k 0 [] zone = same_Some seat (seat_of k 0 [] zone) (sym is ∙ fresh k low) in
+    (ap (λ (s : SeatContent A). s.number) same, ap (λ (s : SeatContent A). s.made) same, ap (λ (s : SeatContent A). s.front) same)
+
+-- seats that were lent and came back
+pub whole_lent : {A : Type 0} (n : ℕ) (old lent new back : List (SeatContent A)) → lent ≡ old → length old ≡ n → length new ≡ length lent → AreNumbered new → back ≡ new → IsWhole n back
+whole_lent {A} n old lent new back is long same are returned =
+    subst (λ (l : List (SeatContent A)). IsWhole n l) (sym returned) (whole_seats n new are (same ∙ ap (λ (l : List (SeatContent A)). length l) is ∙ long))
+
+pub unmade_closed : {A : Type 0} (seats back : List (SeatContent A)) (log : List (Entry A)) (fault : RunFault) → back ≡ seats → IsUnmade seats fault → HaveMadeNone seats → All (IsSettled log) back → length log ≡ made_by back
+    → (fault ≡ Memory) ⊎ (fault ≡ NoPlace)
+unmade_closed {A} seats back log fault is why none settled count =
+    unmade_fault seats log fault why none (subst (λ (l : List (SeatContent A)). All (IsSettled log) l) is settled) (count ∙ ap (λ (l : List (SeatContent A)). made_by l) is)
+
+-- ---- the movie's text
+
+pub written : (movie : MovieContent) (old new : Option (List ℕ)) (bytes : List ℕ) (r : Result (Unit {0}) RunFault) → bytes ≡ text2 movie → OnOk r (Appends old new bytes) → IfErr r (λ fault. StopsWriting old new bytes fault)
+    → MatchResult r (λ _. Appends old new (text2 movie)) (λ fault. IsUnwritten movie old new fault)
+written movie old new bytes (Ok u) is out stops = subst (λ (l : List ℕ). Appends old new l) is out
+written movie old new bytes (Err fault) is out stops = inr (subst (λ (l : List ℕ). StopsWriting old new l fault) is stops)

@@ -1,0 +1,30 @@
+use Rattle.std.proofs.Common.{List, length, refl, sym, ap, subst, ◌∙◌}
+use Rattle.tas_desk.specs.Seats.{SeatContent}
+use Rattle.tas_tool.specs.Inside.Holding.{AreFresh, AreNumbered}
+use Rattle.tas_tool.proofs.HoldingLemmas.{whole_back, whole_lent, unmade_closed, desk_history, held_as}
+use Rattle.tas_tool.proofs.desk_runs.hold_opened.Goals as goal
+
+pub put_for_all-requires-clause-fresh : goal.put_for_all-requires-clause-fresh
+put_for_all-requires-clause-fresh g c = subst (λ (l : List (SeatContent _)). AreFresh l) (sym c.as_mut_slice.ensures.value) c.requires.fresh
+
+pub close-requires : goal.close-requires
+close-requires g c =
+    let back = whole_back c.put_for_all.new.seats _ _ _ (sym (c.put_for_all.ensures.count ∙ c.as_mut_slice.ensures.len)) refl in
+    record { whole = whole_lent g.N.Ledger.parts c.args.seats.items c.as_mut_slice.result.now c.put_for_all.new.seats _ c.as_mut_slice.ensures.value c.requires.count.1 c.put_for_all.ensures.count c.put_for_all.ensures.numbers back }
+
+pub returns-in-Err-clause-fault : goal.returns-in-Err-clause-fault
+returns-in-Err-clause-fault g c =
+    let back = whole_back c.put_for_all.new.seats _ _ _ (sym (c.put_for_all.ensures.count ∙ c.as_mut_slice.ensures.len)) refl in
+    unmade_closed c.put_for_all.new.seats _ c.close.result.journal.items _ back c.in-Err.ensures.fault c.in-Err.ensures.others c.close.ensures.seats c.close.ensures.count
+
+pub hold_made-requires-clause-numbers : goal.hold_made-requires-clause-numbers
+hold_made-requires-clause-numbers g c κs within =
+    let back = whole_back c.put_for_all.new.seats _ _ _ (sym (c.put_for_all.ensures.count ∙ c.as_mut_slice.ensures.len)) refl in
+    subst (λ (l : List (SeatContent _)). AreNumbered l) (sym back) c.put_for_all.ensures.numbers
+
+pub returns-clause-history : goal.returns-clause-history
+returns-clause-history g c =
+    let back = whole_back c.put_for_all.new.seats _ _ _ (sym (c.put_for_all.ensures.count ∙ c.as_mut_slice.ensures.len)) refl in
+    desk_history g.D.Door.facts c.args.movie c.args.doors.now.items c.hold_made.new.doors.items c.put_for_all.new.seats _ _
+    (c.put_for_all.ensures.count ∙ ap (λ l. length l) c.as_mut_slice.ensures.value ∙ c.requires.count.1 ∙ sym c.requires.count.0) c.in_default.ensures.movie c.put_for_all.ensures.numbers c.put_for_all.ensures.others
+    (held_as g.D.Door.facts c.args.doors.now.items _ c.hold_made.new.doors.items c.put_for_all.new.seats _ _ _ refl back c.hold_made.ensures.history)

@@ -1,0 +1,66 @@
+-- A desk's seats on the way from its opening to its end. Private functions cite this file.
+use Rattle.std.specs.Prelude.{◌≡◌, ℕ, suc, ◌<◌, ◌≤◌, List, [], length, take, All, slice_get, Option, Some, Result, Ok, Err, ◌⊎◌, Vec, vec_len, vec_capacity}
+use mathlib.Core.List.{IsPrefix}
+use Rattle.tas_movie.specs.Content.{MovieContent}
+use Rattle.tas_movie.specs.declared.edit.Edit.{Edit}
+use Rattle.tas_session.specs.declared.entry.Entry.{Entry}
+use Rattle.tas_session.specs.History.{IsLegal}
+use Rattle.tas_desk.specs.Seats.{SeatContent, IsSettled}
+use Rattle.tas_engines.specs.declared.fault.ReadFault.{ReadFault}
+use Rattle.tas_engines.specs.declared.fault.RunFault.{RunFault}
+use Rattle.tas_engines.specs.declared.fault.SeatFault.{SeatFault}
+use Rattle.tas_engines.specs.declared.fault.ToolFault.{ToolFault}
+use Rattle.tas_engines.specs.declared.fault.ToolFault.TheVariants.{Read, Run}
+use Rattle.tas_engines.specs.Input.{IsReadWhole, StopsReadingTwo}
+use Rattle.tas_engines.specs.Movies.{IsMovieOf, IsMovieFault}
+use Rattle.tas_seat.specs.Lines.{DoorFacts, IsHeld}
+use Rattle.tas_tool.specs.Inside.TwoEdits.{HoldsMovie, IsMakingFault}
+
+-- seats have the numbers from 0 on
+abbrev pub AreNumbered : {A : Type 0} → List (SeatContent A) → Type 0
+AreNumbered {A} seats = (k : ℕ) (seat : SeatContent A) → slice_get seats k ≡ Some seat → seat.number ≡ k
+
+-- none of them but the first has made an edit
+abbrev pub HaveMadeNone : {A : Type 0} → List (SeatContent A) → Type 0
+HaveMadeNone {A} seats = (k : ℕ) (seat : SeatContent A) → slice_get seats (suc k) ≡ Some seat → seat.made ≡ 0
+
+-- the seats of a desk that was just opened
+abbrev pub AreFresh : {A : Type 0} → List (SeatContent A) → Type 0
+AreFresh {A} seats = (k : ℕ) (seat : SeatContent A) → slice_get seats k ≡ Some seat → (seat.number ≡ k) × (seat.made ≡ 0) × (seat.front ≡ [])
+
+-- the first seat made a movie by two edits, and all have seen them
+pub record HaveMovie {A : Type 0} (movie : MovieContent) (seats : List (SeatContent A)) : Type 0 where
+  pub first : SeatContent A
+  pub first_is : slice_get seats 0 ≡ Some first
+  pub holds : HoldsMovie first movie
+  pub met : (k : ℕ) (seat : SeatContent A) → slice_get seats k ≡ Some seat → IsPrefix (take 2 first.front) seat.front
+
+-- why the first seat didn't make a movie
+abbrev pub IsUnmade : {A : Type 0} → List (SeatContent A) → RunFault → Type 0
+IsUnmade {A} seats fault = (first : SeatContent A) × (slice_get seats 0 ≡ Some first) × IsMakingFault first fault
+
+-- a seat whose conversation was held, and what the history has of it
+pub record IsHeldIn {A D : Type 0} (facts : DoorFacts D) (history : List (Entry A)) (door door' : D) (start : SeatContent A) (end : Result (Unit {0}) SeatFault) : Type 0 where
+  pub last : SeatContent A
+  pub edits : List (Edit A)
+  pub held : IsHeld facts door door' start last edits end
+  pub settled : IsSettled history last
+
+-- the conversations of all seats, from what these were to the history that the closed desk leaves
+pub record HoldsAll {A D : Type 0} (facts : DoorFacts D) (doors doors' : List D) (starts : List (SeatContent A)) (ends : List (Result (Unit {0}) SeatFault)) (history : List (Entry A)) : Type 0 where
+  pub legal : IsLegal history
+  pub back : length doors' ≡ length doors
+  pub many : length ends ≡ length doors
+  pub each : (k : ℕ) (door door' : D) (start : SeatContent A) (end : Result (Unit {0}) SeatFault) → slice_get doors k ≡ Some door → slice_get doors' k ≡ Some door' → slice_get starts k ≡ Some start → slice_get ends k ≡ Some end → IsHeldIn facts history door door' start end
+  pub no_others : All (λ entry. entry.seat < length doors) history
+
+-- an empty list with room for some items
+abbrev pub HasRoom : {X A : Type 0} → ℕ → Vec X A → Type 0
+HasRoom count items = (vec_len items ≡ 0) × (count ≤ vec_capacity items)
+
+-- a cartridge and a movie text were read, and make this movie; or not
+abbrev pub ReadsMovie : (cart cart' movie movie' : Option (List ℕ)) → Result MovieContent ToolFault → Type 0
+ReadsMovie cart cart' movie movie' (Ok content) = (image : List ℕ) × (said : List ℕ) × IsReadWhole cart cart' image × IsReadWhole movie movie' said × IsMovieOf image said content
+ReadsMovie cart cart' movie movie' (Err end) =
+    ((fault : ReadFault) × (end ≡ Read fault) × StopsReadingTwo cart cart' movie movie' fault)
+    ⊎ ((image : List ℕ) × (said : List ℕ) × IsReadWhole cart cart' image × IsReadWhole movie movie' said × ((fault : RunFault) × (end ≡ Run fault) × IsMovieFault image said fault))

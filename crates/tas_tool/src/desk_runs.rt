@@ -1,0 +1,166 @@
+//! `tas desk`.
+
+ghost use Rattle.std.specs.Prelude.{◌≡◌, ◌≤◌, ◌⊎◌, length, IfOk, IfErr, OnErr, MatchResult};
+ghost use Rattle.std.specs.Global.{Global as GlobalType};
+ghost use Rattle.std.specs.Io.KnownBytes.{Appends};
+ghost use Rattle.tas_movie.specs.Text.{text2};
+ghost use Rattle.tas_session.specs.History.{movie_of};
+ghost use Rattle.tas_desk.specs.Seats.{most_seats, name_of};
+ghost use Rattle.tas_engines.specs.declared.fault.RunFault.TheVariants.{Memory, NoPlace};
+ghost use Rattle.tas_tool.specs.Desks.{first_fault, IsDeskHistory, IsDeskOn, IsDeskRun, IsUnwritten};
+ghost use Rattle.tas_tool.specs.Inside.Holding.{AreFresh, ReadsMovie};
+
+use crate::holding::{Held, Room, hold_made, put_for_all};
+use std::alloc::Global;
+use std::io::{Read, Write};
+use std::marker::Brand;
+use std::sync::Wait;
+use std::thread::Threads;
+use tas_desk::{Desk, Name, OpenError, Seat, Unopened};
+use tas_engines::{RunFault, SeatFault, ToolFault, movie_of, read_two, write_all};
+use tas_movie::{Movie, print_text};
+use tas_seat::Door;
+
+/// Gives an open desk its movie, holds a conversation at each door, and closes the desk.
+fn hold_opened<N: Name + Send + Sync, T: Wait + Threads + Sync, D: Door + Drop + Send>(
+    rt: &T,
+    alloc: Global,
+    desk: Desk<N, &T>,
+    mut seats: Vec<Seat<N>>,
+    movie: Movie,
+    doors: &mut Vec<D>,
+) -> Result<Held, RunFault>
+    requires some { 1 ≤ length doors.old.items }
+    requires count { (length doors.old.items ≡ N.parts) × (length seats.items ≡ N.parts) }
+    requires fresh { AreFresh seats.items }
+    ensures history { IfOk result
+        (λ held. IsDeskHistory D.facts movie doors.old.items doors.new.items
+        held.ends.items held.closed.journal.items) }
+    ensures movie { IfOk result (λ held. held.closed.movie ≡ movie_of held.closed.journal.items) }
+    ensures fault { IfErr result (λ fault. (fault ≡ Memory) ⊎ (fault ≡ NoPlace)) }
+    ensures unopened { OnErr result (doors.new.items ≡ doors.old.items) }
+{
+    if let Err(fault) = put_for_all(rt, alloc, &desk, seats.as_mut_slice(), &movie) {
+        // The closed desk shows that nobody else made an edit, so that only memory was refused.
+        drop(desk.close(rt, seats));
+        return Err(fault);
+    }
+    // The desk has copies of its cartridge and inputs, and conversations may be long.
+    drop(movie);
+    let room = Room::new(alloc, seats.len())?;
+    Ok(hold_made(rt, alloc, desk, seats, doors, room))
+}
+
+/// Opens a desk with a seat for each door, gives it the movie, holds a conversation at each door, and closes the desk.
+fn hold_desk<N: Name + Send + Sync, T: Wait + Threads + Sync, D: Door + Drop + Send>(
+    rt: &T,
+    alloc: Global,
+    unopened: Unopened,
+    movie: Movie,
+    doors: &mut Vec<D>,
+) -> Result<Held, RunFault>
+    requires name { unopened ≡ name_of N.registry N.name N.parts }
+    requires some { 1 ≤ length doors.old.items }
+    requires many { unopened.seats ≡ length doors.old.items }
+    ensures history { IfOk result
+        (λ held. IsDeskHistory D.facts movie doors.old.items doors.new.items
+        held.ends.items held.closed.journal.items) }
+    ensures movie { IfOk result (λ held. held.closed.movie ≡ movie_of held.closed.journal.items) }
+    ensures fault { IfErr result (λ fault. (fault ≡ Memory) ⊎ (fault ≡ NoPlace)) }
+    ensures unopened { OnErr result (doors.new.items ≡ doors.old.items) }
+{
+    match Desk::<N, &T>::open(rt, alloc, unopened) {
+        Ok((desk, seats)) => hold_opened(rt, alloc, desk, seats, movie, doors),
+        Err(OpenError::Memory) => Err(RunFault::Memory),
+        Err(OpenError::NoPlace) => Err(RunFault::NoPlace),
+    }
+}
+
+/// Writes the text of a movie.
+fn write_movie<W: Write>(alloc: Global, movie: &Movie, output: &mut W) -> Result<(), RunFault>
+    ensures { MatchResult result
+        (λ _. Appends (W.contents output.old) (W.contents output.new) (text2 movie.now))
+        (IsUnwritten movie.now (W.contents output.old) (W.contents output.new)) }
+{
+    let text = print_text(alloc, movie)?;
+    write_all(output, text.as_slice())
+}
+
+/// The fault of the least seat whose conversation ended with one.
+fn first_fault(ends: &[Result<(), SeatFault>]) -> Result<(), ToolFault>
+    requires { length ends.now ≤ most_seats }
+    ensures { result ≡ first_fault 0 ends.now }
+{
+    for seat in 0..ends.len() {
+        if let Err(fault) = ends[seat] {
+            return Err(ToolFault::Seat {
+                seat: seat as u32,
+                fault,
+            });
+        }
+    }
+    Ok(())
+}
+
+/// Holds a desk on a movie, and writes the movie that it leaves.
+fn desk_on<T: Wait + Threads + Sync, D: Door + Drop + Send, W: Write>(
+    rt: &T,
+    alloc: Global,
+    movie: Movie,
+    doors: &mut Vec<D>,
+    output: &mut W,
+) -> Result<(), ToolFault>
+    requires some { 1 ≤ length doors.old.items }
+    requires few { length doors.old.items ≤ most_seats }
+    ensures { IsDeskOn GlobalType D.facts doors.old.items doors.new.items movie
+        (W.contents output.old) (W.contents output.new) result }
+{
+    let Ok(unopened) = Unopened::new(alloc, doors.len() as u32) else {
+        return Err(ToolFault::Run(RunFault::Memory));
+    };
+    let held = hold_desk::<Brand, T, D>(rt, alloc, unopened, movie, doors)?;
+    write_movie(alloc, &held.closed.movie, output)?;
+    first_fault(held.ends.as_slice())
+}
+
+/// Reads a cartridge and a movie text, and makes the movie of them. What was read is dropped here, since conversations may be
+/// long.
+///
+/// Faults, in order: those of [`read_two`], then those of [`movie_of`].
+fn read_movie<C: Read, M: Read>(
+    alloc: Global,
+    cart: &mut C,
+    movie: &mut M,
+) -> Result<Movie, ToolFault>
+    ensures { ReadsMovie (C.remaining cart.old) (C.remaining cart.new) (M.remaining movie.old)
+        (M.remaining movie.new) result }
+{
+    let (image, bytes) = read_two(alloc, cart, movie)?;
+    Ok(movie_of(alloc, image.as_slice(), bytes.as_slice())?)
+}
+
+/// Reads a cartridge and a movie text, and holds a conversation at each door, 1 to [`MAX_SEATS`](tas_desk::MAX_SEATS) of them: all on
+/// this movie, each by a seat of its own on a thread of its own. Seat 0 makes the movie by two edits that no answer reports, and each
+/// seat has seen them before its first line is answered. Once all conversations have ended it writes the text of the movie that
+/// all their edits have made. The doors come back, in their order.
+///
+/// Faults, in order: those of [`read_two`], then those of [`movie_of`]; `Memory` and `NoPlace` for the desk; each of these before a door
+/// is opened. Then, with nothing undone, `Memory` for the text and `Write` for its write; and, with the movie written, `Seat`: the fault
+/// of the least seat whose conversation ended with one. `Foreign` never comes.
+pub fn desk_run<T: Wait + Threads + Sync, C: Read, M: Read, D: Door + Drop + Send, W: Write>(
+    rt: &T,
+    alloc: Global,
+    cart: &mut C,
+    movie: &mut M,
+    doors: &mut Vec<D>,
+    output: &mut W,
+) -> Result<(), ToolFault>
+    requires some { 1 ≤ length doors.old.items }
+    requires few { length doors.old.items ≤ most_seats }
+    ensures { IsDeskRun GlobalType D.facts doors.old.items doors.new.items (C.remaining cart.old)
+        (C.remaining cart.new) (M.remaining movie.old) (M.remaining movie.new)
+        (W.contents output.old) (W.contents output.new) result }
+{
+    let movie = read_movie(alloc, cart, movie)?;
+    desk_on(rt, alloc, movie, doors, output)
+}

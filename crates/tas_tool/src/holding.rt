@@ -1,0 +1,196 @@
+//! Conversations on one desk, from seats and doors to the closed desk.
+
+ghost use Rattle.std.specs.Prelude.{◌≡◌, ◌≤◌, ◌<◌, ℕ, [], length, map, IfOk, IfErr, OnOk, slice_index_or};
+ghost use mathlib.Core.List.{IsPrefix};
+ghost use Rattle.tas_session.specs.History.{movie_of};
+ghost use Rattle.tas_desk.specs.Seats.{KeepsZone};
+ghost use Rattle.tas_tool.specs.Inside.Holding.{AreFresh, AreNumbered, HaveMadeNone, HaveMovie, IsUnmade, HasRoom, HoldsAll};
+
+use crate::making::put_movie;
+use std::alloc::{AllocError, Global};
+use std::mem;
+use std::sync::Wait;
+use std::thread::Threads;
+use tas_desk::{CloseOnDrop, Closed, Desk, Name, Seat};
+use tas_engines::{RunFault, SeatFault};
+use tas_movie::Movie;
+use tas_seat::{Caller, Door, converse_all};
+
+/// Lets each other seat see what the first one has seen.
+fn meet_all<N: Name, C: CloseOnDrop, T: Wait>(
+    rt: &T,
+    desk: &Desk<N, C>,
+    first: &mut Seat<N>,
+    others: &mut [Seat<N>],
+)
+    ensures first { KeepsZone first.old first.new }
+    ensures others { (k : ℕ) (d : _) → k < length others.old
+        → KeepsZone (slice_index_or others.old k d) (slice_index_or others.new k d) }
+    ensures met { (k : ℕ) (d : _) → k < length others.old
+        → IsPrefix first.old.front (slice_index_or others.new k d).front }
+{
+    for other in others.iter_mut() {
+        desk.meet(rt, first, other);
+    }
+}
+
+/// Gives the first seat of a desk without edits its movie, and lets the others see it.
+///
+/// Faults: those of [`put_movie`].
+pub fn put_for_all<N: Name, C: CloseOnDrop, T: Wait>(
+    rt: &T,
+    alloc: Global,
+    desk: &Desk<N, C>,
+    seats: &mut [Seat<N>],
+    movie: &Movie,
+) -> Result<(), RunFault>
+    requires some { 0 < length seats.old }
+    requires fresh { AreFresh seats.old }
+    ensures count { length seats.new ≡ length seats.old }
+    ensures numbers { AreNumbered seats.new }
+    ensures others { HaveMadeNone seats.new }
+    ensures movie { OnOk result (HaveMovie movie.now seats.new) }
+    ensures fault { IfErr result (IsUnmade seats.new) }
+{
+    let Some((first, others)) = seats.split_first_mut() else {
+        return Err(RunFault::NoPlace);
+    };
+    put_movie(rt, alloc, desk, first, movie)?;
+    meet_all(rt, desk, first, others);
+    Ok(())
+}
+
+/// Room for seats that come back, and for how their conversations ended.
+#[derive(Drop)]
+struct Back<N: Name> {
+    seats: Vec<Seat<N>>,
+    ends: Vec<Result<(), SeatFault>>,
+}
+
+/// Room for the conversations of a desk. It is made before they begin, since none of them may be lost for lack of memory.
+#[derive(Drop)]
+pub struct Room<N: Name, D> {
+    callers: Vec<Caller<N, D>>,
+    doors: Vec<D>,
+    back: Back<N>,
+}
+
+impl<N: Name, D: Drop> Room<N, D> {
+    /// Room for this many conversations.
+    pub fn new(alloc: Global, count: usize) -> Result<Room<N, D>, AllocError>
+        ensures callers { IfOk result (λ room. HasRoom count room.callers) }
+        ensures doors { IfOk result (λ room. HasRoom count room.doors) }
+        ensures seats { IfOk result (λ room. HasRoom count room.back.seats) }
+        ensures ends { IfOk result (λ room. HasRoom count room.back.ends) }
+    {
+        let callers = Vec::with_capacity(alloc, count)?;
+        let doors = Vec::with_capacity(alloc, count)?;
+        let seats = Vec::with_capacity(alloc, count)?;
+        let ends = Vec::with_capacity(alloc, count)?;
+        let back = Back { seats, ends };
+        Ok(Room {
+            callers,
+            doors,
+            back,
+        })
+    }
+}
+
+/// Puts the seats with their doors into an empty list that has room for them.
+fn gather<N: Name, D: Door + Drop>(
+    seats: Vec<Seat<N>>,
+    doors: Vec<D>,
+    callers: &mut Vec<Caller<N, D>>,
+)
+    requires same { length seats.items ≡ length doors.items }
+    requires room { HasRoom (length seats.items) callers.old }
+    ensures seats { map (λ c. c.seat) callers.new.items ≡ seats.items }
+    ensures doors { map (λ c. c.door) callers.new.items ≡ doors.items }
+{
+    for (seat, door) in seats.into_iter().zip(doors) {
+        callers.push_reserved(Caller {
+            seat,
+            door,
+            end: Ok(()),
+        });
+    }
+}
+
+/// Puts the doors, the seats, and how their conversations ended, into empty lists that have room for them.
+fn part<N: Name, D: Door + Drop>(callers: Vec<Caller<N, D>>, doors: &mut Vec<D>, back: &mut Back<N>)
+    requires doors { HasRoom (length callers.items) doors.old }
+    requires seats { HasRoom (length callers.items) back.old.seats }
+    requires ends { HasRoom (length callers.items) back.old.ends }
+    ensures doors { doors.new.items ≡ map (λ c. c.door) callers.items }
+    ensures seats { back.new.seats.items ≡ map (λ c. c.seat) callers.items }
+    ensures ends { back.new.ends.items ≡ map (λ c. c.end) callers.items }
+{
+    for caller in callers {
+        let Caller { seat, door, end } = caller;
+        doors.push_reserved(door);
+        back.seats.push_reserved(seat);
+        back.ends.push_reserved(end);
+    }
+}
+
+/// How a desk's conversations ended, and what it left.
+#[derive(Drop)]
+pub struct Held {
+    /// How each conversation ended.
+    pub ends: Vec<Result<(), SeatFault>>,
+    /// The movie and the history that made it.
+    pub closed: Closed,
+}
+
+/// Holds the conversations of some callers, closes the desk, and puts the doors into an empty list.
+fn hold_callers<N: Name + Send + Sync, T: Wait + Threads + Sync, D: Door + Drop + Send>(
+    rt: &T,
+    alloc: Global,
+    desk: Desk<N, &T>,
+    mut callers: Vec<Caller<N, D>>,
+    doors: &mut Vec<D>,
+    mut back: Back<N>,
+) -> Held
+    requires all { length callers.items ≡ N.parts }
+    requires numbers { AreNumbered (map (λ c. c.seat) callers.items) }
+    requires doors { HasRoom N.parts doors.old }
+    requires seats { HasRoom N.parts back.seats }
+    requires ends { HasRoom N.parts back.ends }
+    ensures history { HoldsAll D.facts (map (λ c. c.door) callers.items) doors.new.items
+        (map (λ c. c.seat) callers.items) result.ends.items result.closed.journal.items }
+    ensures movie { result.closed.movie ≡ movie_of result.closed.journal.items }
+{
+    converse_all(rt, alloc, &desk, callers.as_mut_slice());
+    part(callers, doors, &mut back);
+    let Back { seats, ends } = back;
+    let closed = desk.close(rt, seats);
+    Held { ends, closed }
+}
+
+/// Holds a conversation at each door, by the desk's seats in their order, and closes the desk. The doors come back.
+pub fn hold_made<N: Name + Send + Sync, T: Wait + Threads + Sync, D: Door + Drop + Send>(
+    rt: &T,
+    alloc: Global,
+    desk: Desk<N, &T>,
+    seats: Vec<Seat<N>>,
+    doors: &mut Vec<D>,
+    room: Room<N, D>,
+) -> Held
+    requires all { (length seats.items ≡ N.parts) × (length doors.old.items ≡ N.parts) }
+    requires numbers { AreNumbered seats.items }
+    requires callers { HasRoom N.parts room.callers }
+    requires doors { HasRoom N.parts room.doors }
+    requires seats { HasRoom N.parts room.back.seats }
+    requires ends { HasRoom N.parts room.back.ends }
+    ensures history { HoldsAll D.facts doors.old.items doors.new.items seats.items
+        result.ends.items result.closed.journal.items }
+    ensures movie { result.closed.movie ≡ movie_of result.closed.journal.items }
+{
+    let Room {
+        mut callers,
+        doors: empty,
+        back,
+    } = room;
+    gather(seats, mem::replace(doors, empty), &mut callers);
+    hold_callers(rt, alloc, desk, callers, doors, back)
+}
