@@ -1,10 +1,11 @@
 -- One instruction more of a run.
-use Rattle.std.proofs.Common.{◌≡◌, ℕ, zero, suc, ◌-◌, ◌<◌, ◌∙◌, ap, sym, refl, Bool, true, false, Option, Some, None, Result, Ok, Err, if◌then◌else◌, arith}
+use Rattle.std.proofs.Common.{◌≡◌, ℕ, zero, suc, ◌≤◌, ◌∙◌, ap, sym, subst, refl, Bool, true, false, Option, Some, None, Result, Ok, Err, if◌then◌else◌, arith}
 use Rattle.vcs_cpu.specs.declared.regs.Regs.{Regs}
 use Rattle.vcs_cpu.specs.declared.halt.Halt.{Halt}
 use Rattle.vcs_cpu.specs.Device.{Device}
 use Rattle.vcs_cpu.specs.Steps.{Step, step_of}
-use Rattle.vcs_cpu.specs.Runs.{RunEnd, Settling, SettlesBy, HasCome, HasEnded, run_within, over_or_next, end_or_next}
+use Rattle.vcs_cpu.specs.Runs.{RunEnd, Settling, run_within, over_or_next, end_or_next}
+use Rattle.vcs_cpu.specs.Inside.Leading.{length_within, one_more, Leads, IsLedTo}
 
 module _ {Content : Type 0} (d : Device Content) (settling : Settling Content) where
   -- one instruction, of which this is known
@@ -32,52 +33,99 @@ module _ {Content : Type 0} (d : Device Content) (settling : Settling Content) w
   unfolding run_within
   run_within-none k r c e = ap (λ j. run_within d settling j r c) e
 
-module _ {Bus Content Held : Type 0} (d : Device Content) (content_of : Bus → Content) (held : Bus → Held) (settling : Settling Content) (most : ℕ) (first : Regs) (start : Bus) where
-  -- a run that has come no further than its start
-  pub has_come-nowhere : (halt : Option Halt) → halt ≡ None → HasCome d content_of held settling most first start most first start halt
-  unfolding HasCome
-  has_come-nowhere halt going = (refl, (going, refl))
+  -- a run that ends within n instructions ends so within more
+  more_by_over : (over : Bool) (q : Regs) (x : Content) (e : RunEnd Content) (shorter longer : Regs → Content → Option (RunEnd Content)) →
+      (shorter q x ≡ Some e → longer q x ≡ Some e) → (if over then Some (record { regs = q; content = x; halt = None }) else shorter q x) ≡ Some e →
+      (if over then Some (record { regs = q; content = x; halt = None }) else longer q x) ≡ Some e
+  more_by_over true q x e shorter longer more is = is
+  more_by_over false q x e shorter longer more is = more is
 
-  -- a run that came to a halt
-  pub has_ended-halt : (left : ℕ) (r : Regs) (bus : Bus) (halt : Option Halt) (why : Halt) → HasCome d content_of held settling most first start left r bus halt → 0 < left → step_of d r (content_of bus) ≡ Err why →
-      HasEnded d content_of held settling most first start r bus (Some why)
-  unfolding HasCome HasEnded
-  has_ended-halt left r bus halt why come some halts =
-      let one : left ≡ suc (left - 1) = omega arith in
-      (sym come.0 ∙ run_within-halt d settling (left - 1) left r (content_of bus) why one halts, come.1.1)
+  more_by_step : (step : Result (Step Content) Halt) (r : Regs) (c : Content) (e : RunEnd Content) (shorter longer : Regs → Content → Option (RunEnd Content)) →
+      ((q : Regs) (x : Content) → shorter q x ≡ Some e → longer q x ≡ Some e) → end_or_next d settling step r c shorter ≡ Some e → end_or_next d settling step r c longer ≡ Some e
+  more_by_step (Err halt) r c e shorter longer more is = is
+  more_by_step (Ok step) r c e shorter longer more is =
+      more_by_over (settling.is_over (settling.after step.content)) step.regs (settling.after step.content) e shorter longer (more step.regs (settling.after step.content)) is
 
-  -- one that has an end came nowhere without an instruction left
-  pub has_come-unended : (left : ℕ) (r : Regs) (bus : Bus) (halt : Option Halt) (e : RunEnd Content) → HasCome d content_of held settling most first start left r bus halt → left ≡ zero →
-      run_within d settling most first (content_of start) ≡ Some e → HasEnded d content_of held settling most first start r bus halt
-  unfolding HasCome
-  has_come-unended left r bus halt e come spent ends =
-      let none = sym (run_within-none d settling left r (content_of bus) spent) ∙ come.0 ∙ ends in
-      cc
+  run_within-more : (n more : ℕ) (r : Regs) (c : Content) (e : RunEnd Content) → n ≤ more → run_within d settling n r c ≡ Some e → run_within d settling more r c ≡ Some e
+  unfolding run_within
+  run_within-more zero more r c e few is = cc
+  run_within-more (suc n) zero r c e few is = absurd (omega (arith, few))
+  run_within-more (suc n) (suc more) r c e few is =
+      more_by_step (step_of d r c) r c e (run_within d settling n) (run_within d settling more) (λ q x. run_within-more n more q x e (omega (arith, few))) is
 
-  -- an instruction of a run, after which the bus settled
-  module _ (left : ℕ) (halt : Option Halt) (r s : Regs) (before after y : Bus) (time : ℕ) (over : Bool) (Settles : Bus → Bus → Bool → Type 0)
-      (stepped : step_of d r (content_of before) ≡ Ok (record { regs = s; content = content_of after; cycles = time })) (settled : Settles after y over) (fixed : held y ≡ held before) where
-    leads : 0 < left → SettlesBy content_of Settles settling →
-        run_within d settling left r (content_of before) ≡ (if over then Some (record { regs = s; content = content_of y; halt = None }) else run_within d settling (left - 1) s (content_of y))
-    leads some settles =
-        let one : left ≡ suc (left - 1) = omega arith in
-        let is = settles after y over settled in
-        ap (λ j. run_within d settling j r (content_of before)) one
-        ∙ run_within-settled d settling (left - 1) r s (content_of before) (content_of after) (content_of y) time over stepped is.0 is.1
+  -- and takes as many
+  same_by_over : (over : Bool) (q : Regs) (x : Content) (e : RunEnd Content) (ends : Regs → Content → Option (RunEnd Content)) (shorter longer : Regs → Content → ℕ) →
+      (ends q x ≡ Some e → longer q x ≡ shorter q x) → (if over then Some (record { regs = q; content = x; halt = None }) else ends q x) ≡ Some e →
+      (if over then zero else suc (longer q x)) ≡ (if over then zero else suc (shorter q x))
+  same_by_over true q x e ends shorter longer same is = refl
+  same_by_over false q x e ends shorter longer same is = ap suc (same is)
 
-    pub has_ended-there : over ≡ true → HasCome d content_of held settling most first start left r before halt → 0 < left → SettlesBy content_of Settles settling → HasEnded d content_of held settling most first start s y halt
-    unfolding HasCome HasEnded
-    has_ended-there ends come some settles = (
-      sym come.0
-          ∙ leads some settles
-          ∙ ap (λ (b : Bool). if b then Some (record { regs = s; content = content_of y; halt = None }) else run_within d settling (left - 1) s (content_of y)) ends
-          ∙ ap (λ (h : Option Halt). Some (record { regs = s; content = content_of y; halt = h })) (sym come.1.0),
-      fixed ∙ come.1.1,
-    )
+  same_by_step : (step : Result (Step Content) Halt) (r : Regs) (c : Content) (e : RunEnd Content) (ends : Regs → Content → Option (RunEnd Content)) (shorter longer : Regs → Content → ℕ) →
+      ((q : Regs) (x : Content) → ends q x ≡ Some e → longer q x ≡ shorter q x) → end_or_next d settling step r c ends ≡ Some e → one_more d settling step longer ≡ one_more d settling step shorter
+  same_by_step (Err halt) r c e ends shorter longer same is = refl
+  same_by_step (Ok step) r c e ends shorter longer same is =
+      same_by_over (settling.is_over (settling.after step.content)) step.regs (settling.after step.content) e ends shorter longer (same step.regs (settling.after step.content)) is
 
-    pub has_come-there : over ≡ false → HasCome d content_of held settling most first start left r before halt → 0 < left → SettlesBy content_of Settles settling → HasCome d content_of held settling most first start (left - 1) s y halt
-    unfolding HasCome
-    has_come-there on come some settles = (
-      sym (leads some settles ∙ ap (λ (b : Bool). if b then Some (record { regs = s; content = content_of y; halt = None }) else run_within d settling (left - 1) s (content_of y)) on) ∙ come.0,
-      (come.1.0, fixed ∙ come.1.1),
-    )
+  length_within-more : (n more : ℕ) (r : Regs) (c : Content) (e : RunEnd Content) → n ≤ more → run_within d settling n r c ≡ Some e →
+      length_within d settling more r c ≡ length_within d settling n r c
+  unfolding run_within length_within
+  length_within-more zero more r c e few is = cc
+  length_within-more (suc n) zero r c e few is = absurd (omega (arith, few))
+  length_within-more (suc n) (suc more) r c e few is =
+      same_by_step (step_of d r c) r c e (run_within d settling n) (length_within d settling n) (length_within d settling more) (λ q x. length_within-more n more q x e (omega (arith, few))) is
+
+  -- an instruction that doesn't end the run
+  length_within-settled : (n : ℕ) (r q : Regs) (c x y : Content) (time : ℕ) → step_of d r c ≡ Ok (record { regs = q; content = x; cycles = time }) → y ≡ settling.after x →
+      false ≡ settling.is_over y → length_within d settling (suc n) r c ≡ suc (length_within d settling n q y)
+  unfolding length_within
+  length_within-settled n r q c x y time stepped is h =
+      ap (λ (z : Result (Step Content) Halt). one_more d settling z (length_within d settling n)) stepped
+      ∙ ap (λ z. if settling.is_over z then zero else suc (length_within d settling n q z)) (sym is)
+      ∙ ap (λ (b : Bool). if b then zero else suc (length_within d settling n q y)) (sym h)
+
+  pub leads_on : (most : ℕ) (r q : Regs) (c x y : Content) (time : ℕ) → step_of d r c ≡ Ok (record { regs = q; content = x; cycles = time }) → y ≡ settling.after x →
+      false ≡ settling.is_over y → Leads d settling most r c q y
+  unfolding Leads
+  leads_on zero r q c x y time stepped is h = λ e ends. let none = run_within-none zero r c refl in cc
+  leads_on (suc n) r q c x y time stepped is h = λ e ends.
+      let there : run_within d settling n q y ≡ Some e = sym (run_within-settled n r q c x y time false stepped is h) ∙ ends in
+      let few : n ≤ suc n = omega arith in
+      let before = length_within-settled n r q c x y time stepped is h in
+      let after = length_within-more n (suc n) q y e few there in
+      (run_within-more n (suc n) q y e few there, omega (arith, before, after))
+
+  -- one that ends it
+  pub settled_end : (most : ℕ) (r q : Regs) (c x y : Content) (time : ℕ) (e : RunEnd Content) (halt : Option Halt) → halt ≡ None →
+      step_of d r c ≡ Ok (record { regs = q; content = x; cycles = time }) → y ≡ settling.after x → true ≡ settling.is_over y → run_within d settling most r c ≡ Some e →
+      e ≡ record { regs = q; content = y; halt = halt }
+  settled_end zero r q c x y time e halt going stepped is h ends = let none = run_within-none zero r c refl in cc
+  settled_end (suc n) r q c x y time e halt going stepped is h ends =
+      let there = run_within-settled n r q c x y time true stepped is h in cc
+
+  -- a halt that ends it
+  pub halted_end : (most : ℕ) (r : Regs) (c : Content) (e : RunEnd Content) (why : Halt) → step_of d r c ≡ Err why → run_within d settling most r c ≡ Some e →
+      e ≡ record { regs = r; content = c; halt = Some why }
+  halted_end zero r c e why halts ends = let none = run_within-none zero r c refl in cc
+  halted_end (suc n) r c e why halts ends = let there = run_within-halt n (suc n) r c why refl halts in cc
+
+  -- two ways, one after the other
+  pub leads_further : (most : ℕ) (r q p : Regs) (c x y : Content) → Leads d settling most r c q x → Leads d settling most q x p y → Leads d settling most r c p y
+  unfolding Leads
+  leads_further most r q p c x y first second = λ e ends.
+      let there = first e ends in
+      let further = second e there.0 in
+      let sooner = there.1 in
+      let yet_sooner = further.1 in
+      (further.0, omega (arith, sooner, yet_sooner))
+
+-- from a bus that has the same content and holds the same
+pub led_from-same : {Bus Content Held : Type 0} (d : Device Content) (content_of : Bus → Content) (Settles : Bus → Bus → Bool → Type 0) (Ready : Bus → Type 0) (held : Bus → Held)
+    (r q : Regs) (bus other after : Bus) (over : Bool) (halt : Option Halt) → content_of other ≡ content_of bus → held other ≡ held bus →
+    IsLedTo d content_of Settles Ready held r other over q after halt → IsLedTo d content_of Settles Ready held r bus over q after halt
+led_from-same d content_of Settles Ready held r q bus other after over halt same fixed led = record {
+  ends = λ s most e is settles ends. led.ends s most e is settles (ap (λ x. run_within d s most r x) same ∙ ends);
+  goes_on = λ s most on settles. subst (λ x. Leads d s most r x q (content_of after)) same (led.goes_on s most on settles);
+  going = led.going;
+  ready = led.ready;
+  fixed = led.fixed ∙ fixed;
+}

@@ -1,5 +1,5 @@
 -- Runs: instructions one after the other, on a bus that does something by itself after each of them and says then whether the run is over.
-use Rattle.std.specs.Prelude.{◌≡◌, ◌<◌, ◌≤◌, ◌-◌, ℕ, zero, suc, Bool, true, false, List, Option, Some, None, Result, Ok, Err, if◌then◌else◌}
+use Rattle.std.specs.Prelude.{◌≡◌, ◌≤◌, ℕ, zero, suc, Bool, List, Option, Some, None, Result, Ok, Err, if◌then◌else◌}
 use Rattle.vcs_cpu.specs.declared.regs.Regs.{Regs}
 use Rattle.vcs_cpu.specs.declared.halt.Halt.{Halt}
 use Rattle.vcs_cpu.specs.Device.{Device, after_loads, after_writes}
@@ -49,21 +49,3 @@ pub record IsAfterInstruction {Bus Content : Type 0} (d : Device Content) (conte
   pub reads : List ℕ
   pub writes : List (ℕ × ℕ)
   pub is : content ≡ after_writes d (after_loads d (d.after_advance (content_of before) cycles) reads) writes
-
-module _ {Bus Content Held : Type 0} (d : Device Content) (content_of : Bus → Content) (held : Bus → Held) (s : Settling Content) (most : ℕ) (first : Regs) (start : Bus) where
-  -- a run of at most so many instructions from the start has come here with some left: they lead where all of them lead, no halt ended it so far, and the bus holds what it held
-  unfoldable pub HasCome : ℕ → Regs → Bus → Option Halt → Type 0
-  HasCome left regs bus halt = (run_within d s left regs (content_of bus) ≡ run_within d s most first (content_of start)) × ((halt ≡ None) × (held bus ≡ held start))
-
-  -- it has ended here, and the bus holds what it held
-  unfoldable pub HasEnded : Regs → Bus → Option Halt → Type 0
-  HasEnded regs bus halt = (run_within d s most first (content_of start) ≡ Some (record { regs = regs; content = content_of bus; halt = halt })) × (held bus ≡ held start)
-
--- where an instruction and what the bus does after it led, however the bus settles: a run that had come to the first place with an instruction left
--- has ended at the second, or has come there with one instruction less and may go on
-pub record IsLedTo {Bus Content Held : Type 0} (d : Device Content) (content_of : Bus → Content) (Settles : Bus → Bus → Bool → Type 0) (Ready : Bus → Type 0) (held : Bus → Held) (regs : Regs) (bus : Bus) (over : Bool) (regs' : Regs) (bus' : Bus) : Type 0 where
-  pub ends : (s : Settling Content) (most left : ℕ) (first : Regs) (start : Bus) (halt : Option Halt) → over ≡ true → HasCome d content_of held s most first start left regs bus halt → 0 < left
-      → SettlesBy content_of Settles s → HasEnded d content_of held s most first start regs' bus' halt
-  pub goes_on : (s : Settling Content) (most left : ℕ) (first : Regs) (start : Bus) (halt : Option Halt) → over ≡ false → HasCome d content_of held s most first start left regs bus halt → 0 < left
-      → SettlesBy content_of Settles s → HasCome d content_of held s most first start (left - 1) regs' bus' halt
-  pub ready : over ≡ false → Ready bus'

@@ -1,10 +1,11 @@
 //! Polls: loops of an LDA and a BNE that wait for a byte to become 0.
 #![tactic(auto)]
 
-ghost use Rattle.std.specs.Prelude.{◌≡◌, ℕ, ◌+◌, ◌-◌, ◌*◌, ◌/◌, ◌%◌, ◌==◌, ◌<◌, ◌≤◌, not, true, false, Option, Some};
+ghost use Rattle.std.specs.Prelude.{◌≡◌, ℕ, ◌+◌, ◌/◌, ◌%◌, ◌==◌, ◌<◌, not, true};
 ghost use Rattle.vcs_cpu.specs.Operands.{IsCode, address_after};
 ghost use Rattle.vcs_cpu.specs.Effects.{after_load_a};
-ghost use Rattle.vcs_cpu.specs.Runs.{HasCome, HasEnded, RunEnd, Settling, SettlesBy, run_within};
+ghost use Rattle.vcs_cpu.specs.Runs.{Settling, SettlesBy};
+ghost use Rattle.vcs_cpu.specs.Inside.Leading.{IsNext, IsLedTo, Leads};
 ghost use Rattle.vcs_cpu.specs.Status.{bit};
 
 use crate::bus::{Poll, Settle};
@@ -46,41 +47,38 @@ fn branch_cycles(pc: u16) -> u8
 }
 
 /// Lets the polls pass at once that begin with the LDA whose code is given, if some do, and returns their
-/// number and the byte that the last one read. At most half of the instructions that are left pass.
+/// number and the byte that the last one read.
 #[inline(always)]
-fn pass_polls<B: Settle>(code: u32, regs: &Regs, bus: &mut B, left: u32) -> (u32, u8)
+fn pass_polls<B: Settle>(code: u32, regs: &Regs, bus: &mut B) -> (u32, u8)
     requires code { IsCode code regs.now.pc (B.device.byte_at (B.content bus.old)) }
     requires lda { B.device.byte_at (B.content bus.old) regs.now.pc ≡ 0xad }
     requires ready { B.Ready bus.old }
-    ensures most { 2 * result.0 ≤ left }
     ensures none { result.0 ≡ 0 → B.content bus.new ≡ B.content bus.old }
-    ensures come { (s : Settling B.Content) (most : ℕ) (first : Regs) (start : B)
-        (halt : Option Halt) → 0 < result.0 → SettlesBy B.content B.Settles s
-        → HasCome B.device B.content B.fixed s most first start (left + 1) regs.now bus.old halt
-        → HasCome B.device B.content B.fixed s most first start (left + 1 - 2 * result.0)
-        (after_load_a regs.now result.1) bus.new halt }
+    ensures some { (s : Settling B.Content) (most : ℕ) → 0 < result.0
+        → SettlesBy B.content B.Settles s
+        → Leads B.device s most regs.now (B.content bus.old) (after_load_a regs.now result.1)
+        (B.content bus.new) }
     ensures ready { B.Ready bus.new }
     ensures fixed { B.fixed bus.new ≡ B.fixed bus.old }
 {
     if may_begin_poll(code) {
-        return pass_polls_at(code, regs, bus, left);
+        return pass_polls_at(code, regs, bus);
     }
     (0, 0)
 }
 
-/// The same, with a look at the code after the LDA.
+/// The same, with a look at the code after the LDA. All polls may pass that the bus lets pass: a run that ends comes
+/// to its end past them.
 #[inline(never)]
-fn pass_polls_at<B: Settle>(code: u32, regs: &Regs, bus: &mut B, left: u32) -> (u32, u8)
+fn pass_polls_at<B: Settle>(code: u32, regs: &Regs, bus: &mut B) -> (u32, u8)
     requires code { IsCode code regs.now.pc (B.device.byte_at (B.content bus.old)) }
     requires lda { B.device.byte_at (B.content bus.old) regs.now.pc ≡ 0xad }
     requires ready { B.Ready bus.old }
-    ensures most { 2 * result.0 ≤ left }
     ensures none { result.0 ≡ 0 → B.content bus.new ≡ B.content bus.old }
-    ensures come { (s : Settling B.Content) (most : ℕ) (first : Regs) (start : B)
-        (halt : Option Halt) → 0 < result.0 → SettlesBy B.content B.Settles s
-        → HasCome B.device B.content B.fixed s most first start (left + 1) regs.now bus.old halt
-        → HasCome B.device B.content B.fixed s most first start (left + 1 - 2 * result.0)
-        (after_load_a regs.now result.1) bus.new halt }
+    ensures some { (s : Settling B.Content) (most : ℕ) → 0 < result.0
+        → SettlesBy B.content B.Settles s
+        → Leads B.device s most regs.now (B.content bus.old) (after_load_a regs.now result.1)
+        (B.content bus.new) }
     ensures ready { B.Ready bus.new }
     ensures fixed { B.fixed bus.new ≡ B.fixed bus.old }
 {
@@ -95,39 +93,38 @@ fn pass_polls_at<B: Settle>(code: u32, regs: &Regs, bus: &mut B, left: u32) -> (
         address,
         branch: branch_cycles(pc),
     };
-    bus.pass_polls(poll, left / 2)
+    bus.pass_polls(poll, u32::MAX)
 }
 
 /// Goes on by an LDA of an absolute address, or past the polls that begin with it, and answers whether the run is over
-/// once the bus has settled. The instructions that are left after it are given; polls pass only within
-/// them, but take no more of them than the LDA does, since a run that ends within fewer ends within these.
+/// once the bus has settled.
 #[inline(always)]
 pub(crate) fn go_on_by_load<B: Settle>(
     opcode: u8,
     code: u32,
     regs: &mut Regs,
     bus: &mut B,
-    left: u32,
+    halt: &Option<Halt>,
 ) -> bool
-    requires opcode { opcode ≡ B.device.byte_at (B.content bus.old) regs.old.pc }
+    requires next { IsNext B.device B.content B.Ready opcode code regs.old bus.old halt.now }
     requires lda { opcode ≡ 0xad }
-    requires code { IsCode code regs.old.pc (B.device.byte_at (B.content bus.old)) }
-    requires ready { B.Ready bus.old }
-    ensures ends { (s : Settling B.Content) (most : ℕ) (first : Regs) (start : B)
-        (halt : Option Halt) → result ≡ true → SettlesBy B.content B.Settles s
-        → HasCome B.device B.content B.fixed s most first start (left + 1) regs.old bus.old halt
-        → HasEnded B.device B.content B.fixed s most first start regs.new bus.new halt }
-    ensures goes_on { (s : Settling B.Content) (most : ℕ) (first : Regs) (start : B)
-        (halt : Option Halt) → result ≡ false → SettlesBy B.content B.Settles s
-        → ((e : RunEnd B.Content) × (run_within B.device s most first (B.content start) ≡ Some e))
-        → HasCome B.device B.content B.fixed s most first start (left + 1) regs.old bus.old halt
-        → HasCome B.device B.content B.fixed s most first start left regs.new bus.new halt }
-    ensures ready { result ≡ false → B.Ready bus.new }
+    ensures { IsLedTo B.device B.content B.Settles B.Ready B.fixed regs.old bus.old result regs.new
+        bus.new halt.now }
 {
-    let (polls, byte) = pass_polls(code, regs, bus, left);
+    let (polls, byte) = pass_polls(code, regs, bus);
     if polls > 0 {
         load_a(regs, byte);
         return false;
     }
-    perform_and_settle(opcode, code, Read::Lda, mode::Absolute, 4, false, regs, bus)
+    perform_and_settle(
+        opcode,
+        code,
+        Read::Lda,
+        mode::Absolute,
+        4,
+        false,
+        regs,
+        bus,
+        halt,
+    )
 }

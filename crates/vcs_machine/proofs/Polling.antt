@@ -1,5 +1,5 @@
 -- Polls of the timer while nothing else happens.
-use Rattle.std.proofs.Common.{◌≡◌, ℕ, zero, suc, ◌+◌, ◌*◌, ◌/◌, ◌%◌, ◌==◌, ◌&&◌, ◌<◌, ◌≤◌, ◌∙◌, not, ap, sym, subst, refl, Bool, true, false, true≢false, List, [], ◌++◌, if◌then◌else◌, arith}
+use Rattle.std.proofs.Common.{◌≡◌, ℕ, zero, suc, ◌+◌, ◌*◌, ◌/◌, ◌%◌, ◌==◌, ◌&&◌, ◌<◌, ◌≤◌, ◌∙◌, not, ap, sym, subst, refl, Bool, true, false, true≢false, List, [], ◌++◌, arith}
 use Rattle.std.proofs.Math.Nat.{mul-le-mul_right}
 use Rattle.vcs_cpu.specs.declared.bus.Poll.{Poll}
 use Rattle.vcs_cpu.specs.Operands.{address_after}
@@ -13,16 +13,18 @@ use Rattle.vcs_riot.specs.Chip.{riot_after_ticks, byte_at}
 use Rattle.vcs_riot.specs.Timer.{IsAboveZero}
 use Rattle.vcs_tia.specs.declared.chip.Tia.{Tia}
 use Rattle.vcs_tia.specs.declared.chip.Sync.{Sync}
-use Rattle.vcs_tia.specs.Tia.{read_at}
+use Rattle.vcs_tia.specs.Tia.{clocks_passed}
 use Rattle.vcs_tia.proofs.Later.{sync-after_clocks}
 use Rattle.vcs_machine.specs.Cart.{rom_byte}
 use Rattle.vcs_machine.specs.Bus.{Board, Observed, observed_of, is_intim, board_byte_at, board_after_load, bus_device, after_time}
-use Rattle.vcs_machine.specs.Inside.Chips.{IsQuiet}
-use Rattle.vcs_machine.specs.Inside.Console.{content_of}
+use Rattle.vcs_machine.specs.Inside.Chips.{IsStill}
+use Rattle.vcs_machine.specs.Inside.Times.{end_time}
+use Rattle.vcs_machine.specs.Inside.Console.{content_of, ticks_of, clocks_of}
 use Rattle.vcs_machine.specs.Frame.{console_settling}
 use Rattle.vcs_machine.specs.declared.bus.ConsoleBus.{ConsoleBus}
-use Rattle.vcs_machine.specs.declared.bus.Observer.{Ghosts}
-use Rattle.vcs_machine.proofs.Lagging.{lagging_of, with_riot, after_time-add, after_wait-none, not_over-early}
+use Rattle.vcs_machine.specs.declared.observer.Observer.{Ghosts}
+use Rattle.vcs_machine.proofs.Lagging.{lagging_of, after_time-add, after_wait-none, not_over-early, lagging-same}
+use Rattle.vcs_machine.proofs.BusTime.{past}
 
 -- the lines of INTIM's addresses
 record AreIntim (a b c d e : Bool) : Type 0 where
@@ -82,10 +84,10 @@ module _ {Seen : Type 0} (observe : List Tia → Seen → Seen) (nil : (s : Seen
   later n = lagging_of observe rom pins riot t seen n (clocks + 3 * n)
 
   -- it rests where no wait is owed and the frame isn't over
-  pub later-settled : (n : ℕ) → IsQuiet (clocks + 3 * n) t → IsSettled (console_settling observe) (later n) (later n) false
-  later-settled n quiet = (
-    sym (after_wait-none observe nil append (later n) (ap (λ (s : Sync). s.wait_owed) (sync-after_clocks (clocks + 3 * n) t) ∙ quiet.waits)),
-    sym (not_over-early (clocks + 3 * n) t quiet.rose quiet.low),
+  pub later-settled : (n : ℕ) → IsStill t → clocks_passed t + (clocks + 3 * n) < 320 * 228 → IsSettled (console_settling observe) (later n) (later n) false
+  later-settled n still low = (
+    sym (after_wait-none observe nil append (later n) (ap (λ (s : Sync). s.wait_owed) (sync-after_clocks (clocks + 3 * n) t) ∙ still.waits)),
+    sym (not_over-early (clocks + 3 * n) t still.rose low),
   )
 
   later-advance : (n k : ℕ) → after_time observe k (3 * k) (later n) ≡ later (n + k)
@@ -146,34 +148,38 @@ settles_of {O} {observer} before after over = IsSettled (console_settling observ
 -- a bus whose RIOT has caught up
 module _ {O : Type 0} {observer : Ghosts O} (nil : (s : observer.Seen) → observer.observe [] s ≡ s)
     (append : (xs ys : List Tia) (s : observer.Seen) → observer.observe (xs ++ ys) s ≡ observer.observe ys (observer.observe xs s))
-    (b : ConsoleBus O observer) (none : b.ticks ≡ 0) where
+    (b : ConsoleBus O observer) (none : ticks_of b ≡ 0) where
   -- its content so many cycles later
   abbrev pub at : ℕ → Observed observer.Seen
-  at = later observer.observe nil append b.rom.now b.pins b.riot.now b.tia.now (observer.seen b.observer.now) b.clocks
+  at = later observer.observe nil append b.rom.now b.pins b.riot.now b.tia.now (observer.seen b.observer.now) (clocks_of b)
 
   at-now : at 0 ≡ content_of b
   at-now =
-      let clocks : b.clocks + 3 * 0 ≡ b.clocks = omega arith in
+      let clocks : clocks_of b + 3 * 0 ≡ clocks_of b = omega arith in
       ap (λ n. lagging_of observer.observe b.rom.now b.pins b.riot.now b.tia.now (observer.seen b.observer.now) 0 n) clocks
-      ∙ ap (λ n. lagging_of observer.observe b.rom.now b.pins b.riot.now b.tia.now (observer.seen b.observer.now) n b.clocks) (sym none)
+      ∙ ap (λ n. lagging_of observer.observe b.rom.now b.pins b.riot.now b.tia.now (observer.seen b.observer.now) n (clocks_of b)) (sym none)
 
-  -- until the quiet ends it rests
-  at-rests : (n : ℕ) → b.clocks + 3 * n < b.quiet → Rests (bus_device observer.observe) (content_of {O = O} {observer = observer}) settles_of (at n)
+  -- until the count has come to its end it rests
+  at-rests : (n : ℕ) → b.count + n < end_time → Rests (bus_device observer.observe) (content_of {O = O} {observer = observer}) settles_of (at n)
   at-rests n few =
-      let quiet = b.still (b.clocks + 3 * n) few in
-      let low = quiet.low in
+      let still = b.still (omega (arith, few)) in
+      let low : clocks_passed b.tia.now + (clocks_of b + 3 * n) < 320 * 228 = omega (arith, past b, b.tia_past, few) in
+      let later : ConsoleBus O observer = record b { count = b.count + n; riot_past = omega (arith, b.riot_past); tia_past = omega (arith, b.tia_past); low = omega (arith, few); still = λ h. still } in
+      let is : content_of later ≡ at n = lagging-same observer.observe nil append b.rom.now b.pins b.riot.now b.tia.now (observer.seen b.observer.now) (ticks_of later) (clocks_of later) n (clocks_of b + 3 * n)
+      (omega (arith, none, b.riot_past)) (omega (arith, b.tia_past)) in
       record {
-        bus = record b { ticks = n; clocks = b.clocks + 3 * n; few = omega arith; low = omega (arith, low) };
-        is = refl;
-        settles = later-settled observer.observe nil append b.rom.now b.pins b.riot.now b.tia.now (observer.seen b.observer.now) b.clocks n quiet;
+        bus = later;
+        is = is;
+        settles = subst (λ (o : Observed observer.Seen). IsSettled (console_settling observer.observe) o o false) (sym is)
+            (later-settled observer.observe nil append b.rom.now b.pins b.riot.now b.tia.now (observer.seen b.observer.now) (clocks_of b) n still low);
       }
 
   module _ (poll : Poll) (is : is_intim poll.address ≡ true) (polls above_zero : ℕ) (above : (n : ℕ) → n < above_zero → IsAboveZero (riot_after_ticks n b.riot.now).timer)
-      (reads : (i : ℕ) → i < polls → i * (4 + poll.branch) + 4 < above_zero) (fit : b.clocks + 3 * (polls * (4 + poll.branch)) < b.quiet) where
+      (reads : (i : ℕ) → i < polls → i * (4 + poll.branch) + 4 < above_zero) (fit : b.count + polls * (4 + poll.branch) < end_time) where
     pub at-polls : (i : ℕ) → i ≤ polls → after_polls (bus_device observer.observe) poll i (content_of b) ≡ at (0 + i * (4 + poll.branch))
     at-polls i few =
         ap (after_polls (bus_device observer.observe) poll i) (sym at-now)
-        ∙ later-polls observer.observe nil append b.rom.now b.pins b.riot.now b.tia.now (observer.seen b.observer.now) b.clocks poll.pc poll.address poll.branch is i 0
+        ∙ later-polls observer.observe nil append b.rom.now b.pins b.riot.now b.tia.now (observer.seen b.observer.now) (clocks_of b) poll.pc poll.address poll.branch is i 0
         (λ j h. let read = reads j (omega (arith, h, few)) in above (0 + j * (4 + poll.branch) + 4) (omega (arith, read)))
 
     at-is_poll : (i : ℕ) → i < polls → 4096 ≤ poll.pc % 8192 → poll.pc % 8192 ≤ 8187 → poll.pc < 65536 →
@@ -182,7 +188,7 @@ module _ {O : Type 0} {observer : Ghosts O} (nil : (s : observer.Seen) → obser
         let read = reads i h in
         let within = polls-before i polls (4 + poll.branch) h in
         subst (IsPoll (bus_device observer.observe) (content_of {O = O} {observer = observer}) settles_of poll (content_of b)) (sym (at-polls i (omega (arith, h))))
-        (later-is_poll observer.observe nil append b.rom.now b.pins b.riot.now b.tia.now (observer.seen b.observer.now) b.clocks poll.pc poll.address poll.branch is
+        (later-is_poll observer.observe nil append b.rom.now b.pins b.riot.now b.tia.now (observer.seen b.observer.now) (clocks_of b) poll.pc poll.address poll.branch is
         (content_of {O = O} {observer = observer}) settles_of (content_of b) (0 + i * (4 + poll.branch)) refl first last fits
         (above (0 + i * (4 + poll.branch) + 4) (omega (arith, read)))
         (at-rests (0 + i * (4 + poll.branch) + 4) (omega (arith, within, fit)))
@@ -204,5 +210,5 @@ module _ {O : Type 0} {observer : Ghosts O} (nil : (s : observer.Seen) → obser
         let same : last ≡ 0 + i * (4 + poll.branch) + 4 = omega (arith, all, end) in
         ap (λ n. byte_at poll.address b.pins (riot_after_ticks n b.riot.now)) same
         ∙ intim-riot (riot_after_ticks (0 + i * (4 + poll.branch) + 4) b.riot.now) b.pins poll.address is
-        ∙ sym (later-byte observer.observe nil append b.rom.now b.pins b.riot.now b.tia.now (observer.seen b.observer.now) b.clocks poll.pc poll.address poll.branch is (0 + i * (4 + poll.branch)))
+        ∙ sym (later-byte observer.observe nil append b.rom.now b.pins b.riot.now b.tia.now (observer.seen b.observer.now) (clocks_of b) poll.pc poll.address poll.branch is (0 + i * (4 + poll.branch)))
         ∙ ap (polled_byte (bus_device observer.observe) poll) (sym (at-polls i (omega (arith, more))))

@@ -4,5 +4,6 @@ pub mod Console
 pub mod Observing
 pub mod PinBits
 pub mod Sending
+pub mod Times
 pub mod TraceFrames
 pub mod Noting

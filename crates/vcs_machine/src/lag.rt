@@ -1,10 +1,11 @@
 //! Lag frames: frames whose input nothing reads.
 #![tactic(auto)]
 
-ghost use Rattle.std.specs.Prelude.{◌≡◌, ◌+◌, ◌*◌, ◌^◌, ◌<◌, true, false, length, Some};
+ghost use Rattle.std.specs.Prelude.{◌≡◌, ◌+◌, ◌%◌, ◌^◌, ◌<◌, true, false, length, Some};
 ghost use Rattle.vcs_machine.specs.Bus.{observed_of, nothing_seen};
 ghost use Rattle.vcs_machine.specs.Cart.{is_cart_size};
-ghost use Rattle.vcs_machine.specs.Inside.Console.{chips_of, content_of, fixed_of};
+ghost use Rattle.vcs_machine.specs.Inside.Console.{chips_of, content_of, fixed_of, now_of};
+ghost use Rattle.vcs_machine.specs.Inside.Times.{first_time, end_time, most_instructions};
 ghost use Rattle.vcs_machine.specs.Frame.{end_within};
 ghost use Rattle.vcs_machine.specs.Lag.{ignores_input, is_ignored_within, is_lag_frame, IsSameFrame};
 ghost use Rattle.vcs_machine.specs.Machine.{frame};
@@ -12,11 +13,12 @@ ghost use Rattle.vcs_machine.specs.Inside.Noting.{LeadsTo};
 ghost use Rattle.vcs_machine.specs.declared.input.Input.{Input};
 ghost use Rattle.vcs_tia.specs.Tia.{clocks_passed, shows_button};
 
-use crate::bus::{ConsoleBus, Nobody, Observer};
-use crate::cart::{Cart, code_sides, code_start};
+use crate::bus::ConsoleBus;
+use crate::cart::Cart;
 use crate::frame::{MOST_INSTRUCTIONS, console_step, is_frame_over};
 use crate::input::Input;
 use crate::meter::Meter;
+use crate::observer::{Nobody, Observer};
 use crate::state::State;
 use std::alloc::Allocator;
 use vcs_cpu::{Halt, Regs, Watch, reads_watched};
@@ -69,10 +71,10 @@ fn ignores_input<O: Observer>(regs: &Regs, bus: &ConsoleBus<'_, O>) -> bool
 
 /// One step of a frame, and whether it ignored the input.
 fn step_noting<O: Observer>(regs: &mut Regs, bus: &mut ConsoleBus<'_, O>) -> Noted
-    requires { clocks_passed bus.old.tia.now + bus.old.clocks < 320 * 228 }
+    requires { now_of bus.old < end_time }
     ensures led { LeadsTo O.observe regs.old (content_of bus.old) result regs.new
         (content_of bus.new) }
-    ensures low { result.over ≡ false → clocks_passed bus.new.tia.now + bus.new.clocks < 320 * 228 }
+    ensures low { result.over ≡ false → now_of bus.new < end_time }
     ensures fixed { fixed_of bus.new ≡ fixed_of bus.old }
 {
     let ignored = ignores_input(regs, bus);
@@ -96,15 +98,15 @@ fn step_noting<O: Observer>(regs: &mut Regs, bus: &mut ConsoleBus<'_, O>) -> Not
 /// Steps until the frame ends, and answers the halt that ended it if one did, and whether all steps ignored the
 /// input. Then the chips don't lag behind any more.
 fn run_noting<O: Observer>(regs: &mut Regs, bus: &mut ConsoleBus<'_, O>) -> (Option<Halt>, bool)
-    requires beam { clocks_passed bus.old.tia.now < 228 }
-    requires fresh { bus.old.clocks ≡ 0 }
-    ensures ended { end_within O.observe 12160 regs.old (chips_of bus.old)
+    requires low { now_of bus.old < first_time + 76 }
+    ensures ended { end_within O.observe most_instructions regs.old (content_of bus.old)
         ≡ Some (record {
           regs = regs.new;
           halt = result.0;
           observed = chips_of bus.new;
         }) }
-    ensures ignored { result.1 ≡ is_ignored_within O.observe 12160 regs.old (chips_of bus.old) }
+    ensures ignored { result.1 ≡ is_ignored_within O.observe most_instructions regs.old (content_of bus.old) }
+    ensures thirds { clocks_passed bus.new.tia.now % 3 ≡ 0 }
     ensures fixed { fixed_of bus.new ≡ fixed_of bus.old }
 {
     let mut ignored = true;
@@ -131,7 +133,8 @@ fn run_chips_noting(
 ) -> (Option<Halt>, bool)
     requires rom_size { is_cart_size (length rom.now) ≡ true }
     requires beam { clocks_passed tia.old < 228 }
-    ensures ended { end_within nothing_seen 12160 regs.old
+    requires thirds { clocks_passed tia.old % 3 ≡ 0 }
+    ensures ended { end_within nothing_seen most_instructions regs.old
         (observed_of rom.now pins riot.old tia.old tt)
         ≡ Some
         (record {
@@ -141,22 +144,12 @@ fn run_chips_noting(
               tia.new tt;
         }) }
     ensures ignored { result.1
-        ≡ is_ignored_within nothing_seen 12160 regs.old
+        ≡ is_ignored_within nothing_seen most_instructions regs.old
         (observed_of rom.now pins riot.old tia.old tt) }
+    ensures thirds { clocks_passed tia.new % 3 ≡ 0 }
 {
     let mut nobody = Nobody;
-    let mut bus = ConsoleBus {
-        rom,
-        start: code_start(rom),
-        sides: code_sides(rom),
-        pins,
-        riot,
-        tia,
-        observer: &mut nobody,
-        ticks: 0,
-        clocks: 0,
-        quiet: 0,
-    };
+    let mut bus = ConsoleBus::new(rom, pins, riot, tia, &mut nobody);
     run_noting(regs, &mut bus)
 }
 

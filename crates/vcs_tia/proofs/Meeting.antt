@@ -1,18 +1,14 @@
 -- Where no pair can be new, clocks move the beam alone.
-use Rattle.std.proofs.Common.{◌≡◌, ℕ, zero, suc, ◌+◌, ◌-◌, ◌/◌, ◌%◌, ◌<◌, ◌≤◌, ◌||◌, ◌&&◌, ◌==◌, nat_lt, nat_eq, Bool, true, false, ltb, bit_and, ◌∙◌, ap, sym, refl, arith, ⊎_elim}
-use Rattle.std.proofs.lemmas.Bool.{cases_Bool, cases_eq, cond-true, cond-false, eqb-true, and_right, and_parts, lt-ltb, le-ltb, eq-eqb, ne_eqb}
+use Rattle.std.proofs.Common.{◌≡◌, ℕ, zero, suc, ◌+◌, ◌-◌, ◌/◌, ◌%◌, ◌<◌, ◌≤◌, ◌&&◌, ◌==◌, nat_lt, Bool, true, false, ltb, ◌∙◌, ap, sym, refl, arith, ⊎_elim}
+use Rattle.std.proofs.lemmas.Bool.{cases_Bool, cases_eq, cond-true, cond-false, and_right, lt-ltb, le-ltb, eq-eqb, ne_eqb}
 use Rattle.vcs_tia.specs.declared.beam.Beam.{Beam}
 use Rattle.vcs_tia.specs.declared.beam.Latches.{Latches}
 use Rattle.vcs_tia.specs.declared.chip.Tia.{Tia}
-use Rattle.vcs_tia.specs.declared.words.Windows.{Windows}
 use Rattle.vcs_tia.specs.Beam.{beam_after_clock, pairs_added}
-use Rattle.vcs_tia.specs.Units.{has_bit}
 use Rattle.vcs_tia.specs.Inside.Spans.{beam_after_clocks}
 use Rattle.vcs_tia.specs.Tia.{after_clock, in_hmove_blank, latches_at, lit_at}
 use Rattle.vcs_tia.specs.Trace.{after_clocks}
-use Rattle.vcs_tia.specs.Inside.Words.{window_bits}
-use Rattle.vcs_tia.proofs.Bits.{has_bit-zero, has_bit-and}
-use Rattle.vcs_tia.proofs.Later.{latches_by_fields, after_clocks-changes, with_clocked}
+use Rattle.vcs_tia.proofs.Later.{after_clocks-changes, with_clocked}
 use Rattle.vcs_tia.proofs.Parts.{blank_latches}
 
 -- ---- the beam
@@ -111,59 +107,3 @@ beam_later (suc n) t low = beam_later n (after_clock t) (beam_low t.beam low) �
 pub beam_alone : (n : ℕ) (t : Tia) → t.beam.clock < 228 → (after_clocks n t).latches ≡ t.latches → with_beam t (beam_after_clocks n t.beam) ≡ after_clocks n t
 beam_alone n t low same =
     sym (after_clocks-changes n t ∙ ap (λ (v : Latches). with_clocked t v (after_clocks n t).beam) same ∙ ap (with_beam t) (beam_later n t low))
-
--- ---- pairs that are all latched
-
--- a pair that is latched, or whose objects have no pixel in common
-settled : (f : Bool) (a b i : ℕ) → (f || nat_eq (bit_and a b) 0) ≡ true → (f || (has_bit a i && has_bit b i)) ≡ f
-settled true a b i h = refl
-settled false a b i h = sym (has_bit-and a b i) ∙ ap (λ v. has_bit v i) (eqb-true (bit_and a b) 0 h) ∙ has_bit-zero i
-
-pub all_settled : (l : Latches) (w : Windows) (i : ℕ) →
-    ((l.player0_player1 || nat_eq (bit_and w.player0 w.player1) 0)
-    && (l.player0_missile0 || nat_eq (bit_and w.player0 w.missile0) 0)
-    && (l.player0_missile1 || nat_eq (bit_and w.player0 w.missile1) 0)
-    && (l.player0_ball || nat_eq (bit_and w.player0 w.ball) 0)
-    && (l.player0_playfield || nat_eq (bit_and w.player0 w.playfield) 0)
-    && (l.player1_missile0 || nat_eq (bit_and w.player1 w.missile0) 0)
-    && (l.player1_missile1 || nat_eq (bit_and w.player1 w.missile1) 0)
-    && (l.player1_ball || nat_eq (bit_and w.player1 w.ball) 0)
-    && (l.player1_playfield || nat_eq (bit_and w.player1 w.playfield) 0)
-    && (l.missile0_missile1 || nat_eq (bit_and w.missile0 w.missile1) 0)
-    && (l.missile0_ball || nat_eq (bit_and w.missile0 w.ball) 0)
-    && (l.missile0_playfield || nat_eq (bit_and w.missile0 w.playfield) 0)
-    && (l.missile1_ball || nat_eq (bit_and w.missile1 w.ball) 0)
-    && (l.missile1_playfield || nat_eq (bit_and w.missile1 w.playfield) 0)
-    && (l.ball_playfield || nat_eq (bit_and w.ball w.playfield) 0)) ≡ true →
-    pairs_added l (window_bits w i) ≡ l
-all_settled l w i all =
-    let p14 = and_parts _ _ all in
-    let p13 = and_parts _ _ p14.0 in
-    let p12 = and_parts _ _ p13.0 in
-    let p11 = and_parts _ _ p12.0 in
-    let p10 = and_parts _ _ p11.0 in
-    let p9 = and_parts _ _ p10.0 in
-    let p8 = and_parts _ _ p9.0 in
-    let p7 = and_parts _ _ p8.0 in
-    let p6 = and_parts _ _ p7.0 in
-    let p5 = and_parts _ _ p6.0 in
-    let p4 = and_parts _ _ p5.0 in
-    let p3 = and_parts _ _ p4.0 in
-    let p2 = and_parts _ _ p3.0 in
-    let p1 = and_parts _ _ p2.0 in
-    latches_by_fields _ _ _ _ _ _ _ _ _ _ _ _ _ _ _ _ _ _ _ _ _ _ _ _ _ _ _ _ _ _
-    (settled l.player0_player1 w.player0 w.player1 i p1.0)
-    (settled l.player0_missile0 w.player0 w.missile0 i p1.1)
-    (settled l.player0_missile1 w.player0 w.missile1 i p2.1)
-    (settled l.player0_ball w.player0 w.ball i p3.1)
-    (settled l.player0_playfield w.player0 w.playfield i p4.1)
-    (settled l.player1_missile0 w.player1 w.missile0 i p5.1)
-    (settled l.player1_missile1 w.player1 w.missile1 i p6.1)
-    (settled l.player1_ball w.player1 w.ball i p7.1)
-    (settled l.player1_playfield w.player1 w.playfield i p8.1)
-    (settled l.missile0_missile1 w.missile0 w.missile1 i p9.1)
-    (settled l.missile0_ball w.missile0 w.ball i p10.1)
-    (settled l.missile0_playfield w.missile0 w.playfield i p11.1)
-    (settled l.missile1_ball w.missile1 w.ball i p12.1)
-    (settled l.missile1_playfield w.missile1 w.playfield i p13.1)
-    (settled l.ball_playfield w.ball w.playfield i p14.1)

@@ -1,5 +1,5 @@
 -- What the bus does with one of its chips, and when neither a wait nor a frame's end is near. Only what is private to the bus cites this file.
-use Rattle.std.specs.Prelude.{◌≡◌, ◌<◌, ℕ, ◌+◌, ◌*◌, false}
+use Rattle.std.specs.Prelude.{◌≡◌, ℕ, false}
 use Rattle.vcs_riot.specs.Chip as riot
 use Rattle.vcs_tia.specs.declared.chip.Tia.{Tia}
 use Rattle.vcs_tia.specs.Tia as tia
@@ -17,8 +17,7 @@ after_riot_write addr v o = record o { board = record o.board { riot = riot.riot
 abbrev pub after_tia_write : {Seen : Type 0} → ℕ → ℕ → Observed Seen → Observed Seen
 after_tia_write addr v o = record o { board = record o.board { tia = tia.written_at addr v o.board.tia } }
 
--- no wait is owed, and the frame isn't over with so many clocks more
-pub record IsQuiet (n : ℕ) (t : Tia) : Type 0 where
+-- no wait is owed, and VSYNC hasn't ended the frame
+pub record IsStill (t : Tia) : Type 0 where
   pub waits : t.sync.wait_owed ≡ false
   pub rose : tia.vsync_rose t ≡ false
-  pub low : tia.clocks_passed t + n < 320 * 228

@@ -1,23 +1,30 @@
 -- What a bus holds and shows as a whole. Only the private functions of the bus cite this file.
-use Rattle.std.specs.Prelude.{ℕ, List}
+use Rattle.std.specs.Prelude.{ℕ, ◌-◌, ◌*◌, List}
 use Rattle.vcs_riot.specs.declared.chip.Pins.{Pins}
-use Rattle.vcs_tia.specs.declared.chip.Tia.{Tia}
 use Rattle.vcs_machine.specs.Bus.{Observed, observed_of, after_time}
-use Rattle.vcs_machine.specs.declared.bus.Observer.{Ghosts}
+use Rattle.vcs_machine.specs.declared.observer.Observer.{Ghosts}
 use Rattle.vcs_machine.specs.declared.bus.ConsoleBus.{ConsoleBus}
 
 module _ {O : Type 0} {observer : Ghosts O} where
+  -- the processor's time
+  abbrev pub now_of : ConsoleBus O observer → ℕ
+  now_of b = b.count - b.added
+
+  -- CPU cycles that have yet to pass on the RIOT
+  abbrev pub ticks_of : ConsoleBus O observer → ℕ
+  ticks_of b = now_of b - b.riot_at
+
+  -- colour clocks that have yet to pass on the TIA
+  abbrev pub clocks_of : ConsoleBus O observer → ℕ
+  clocks_of b = 3 * (now_of b - b.tia_at)
+
   -- what the chips hold and the observer has seen so far, without the ticks and clocks that are owed
   abbrev pub chips_of : ConsoleBus O observer → Observed observer.Seen
   chips_of b = observed_of b.rom.now b.pins b.riot.now b.tia.now (observer.seen b.observer.now)
 
   -- what the bus shows: the same after the ticks and clocks that are owed
   abbrev pub content_of : ConsoleBus O observer → Observed observer.Seen
-  content_of b = after_time observer.observe b.ticks b.clocks (chips_of b)
-
-  -- the same with another TIA
-  abbrev pub content_with : Tia → ConsoleBus O observer → Observed observer.Seen
-  content_with t b = after_time observer.observe b.ticks b.clocks (observed_of b.rom.now b.pins b.riot.now t (observer.seen b.observer.now))
+  content_of b = after_time observer.observe (ticks_of b) (clocks_of b) (chips_of b)
 
   -- what no call on the bus changes: bytes and pins, and which chips and observer it holds
   abbrev pub fixed_of : ConsoleBus O observer → List ℕ × (Pins × (ℕ × (ℕ × ℕ)))

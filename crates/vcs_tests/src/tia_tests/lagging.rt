@@ -49,10 +49,10 @@ impl Lagging {
 
     /// A write; the clocks pass first where it may be seen.
     fn write(&mut self, number: u16, value: u8, picture: &mut Picture) {
-        if !self.tia.is_unseen(number, value, self.draws) {
+        if !self.tia.write_early(number, value, self.draws) {
             self.catch_up(picture);
+            self.tia.write(number, value);
         }
-        self.tia.write(number, value);
     }
 
     /// The clocks of a wait, which are owed then.

@@ -1,7 +1,5 @@
-use Rattle.std.proofs.Common.{◌∙◌, ap, sym}
-use Rattle.vcs_tia.specs.Tia.{latches_presses}
-use Rattle.vcs_machine.specs.Bus.{Observed}
-use Rattle.vcs_machine.specs.Inside.Console.{content_of}
+use Rattle.std.proofs.Common.{◌∙◌, sym, refl}
+use Rattle.vcs_machine.specs.Inside.Console.{content_of, clocks_of}
 use Rattle.vcs_machine.proofs.Notings.{step-halts, step-leads, latches_presses-later}
 use Rattle.vcs_machine.proofs.lag.step_noting.Goals as goal
 
@@ -13,7 +11,7 @@ returns-in-Err-clause-led g c =
 
 pub returns-in-Ok-clause-led : goal.returns-in-Ok-clause-led
 returns-in-Ok-clause-led g c =
-    let b = c.is_frame_over-over.new.bus in
+    let b = c.console_step.new.bus in
     step-leads g.O.Observer.observe c.args.regs.now (content_of c.args.bus.now) (content_of b) _ c.is_frame_over-over.result c.ignores_input-ignored.result c.latches_presses.result
-    c.in-Ok.ensures.done c.is_frame_over-over.ensures.content c.is_frame_over-over.ensures.over c.ignores_input-ignored.ensures
-    (c.latches_presses.ensures ∙ sym (latches_presses-later b.clocks b.tia.now) ∙ ap (λ (o : Observed g.O.Observer.Seen). latches_presses o.board.tia) c.is_frame_over-over.ensures.content)
+    c.in-Ok.ensures.done refl c.is_frame_over-over.ensures.over c.ignores_input-ignored.ensures
+    (c.latches_presses.ensures ∙ sym (latches_presses-later (clocks_of b) b.tia.now))

@@ -2,5 +2,5 @@ use Rattle.std.proofs.Common.{arith}
 use Rattle.std.proofs.lemmas.Grind.{common_steps}
 use Rattle.vcs_machine.proofs.playback.run_chips.Goals as goal
 
-pub returns : goal.returns
-returns g c = grind (arith, common_steps)
+pub returns-clause-ended : goal.returns-clause-ended
+returns-clause-ended g c = grind (arith, common_steps)

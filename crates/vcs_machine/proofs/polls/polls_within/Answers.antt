@@ -1,4 +1,4 @@
-use Rattle.std.proofs.Common.{◌≡◌, ℕ, ◌+◌, ◌-◌, ◌*◌, ◌/◌, ◌≤◌, arith}
+use Rattle.std.proofs.Common.{◌-◌, ◌/◌, ◌≤◌, arith}
 use Rattle.vcs_riot.proofs.TimerLemmas.{at_least_intervals}
 use Rattle.vcs_machine.proofs.polls.polls_within.Goals as goal
 

@@ -3,6 +3,7 @@ use Rattle.vcs_riot.specs.Timer.{after_ticks}
 use Rattle.vcs_riot.specs.Chip.{byte_at, riot_after_load, riot_after_ticks}
 use Rattle.vcs_machine.specs.Bus.{Observed}
 use Rattle.vcs_machine.specs.Inside.Chips.{after_riot_load}
+use Rattle.vcs_machine.specs.Inside.Console.{ticks_of, clocks_of}
 use Rattle.vcs_machine.proofs.Lagging.{lagging-no_ticks}
 use Rattle.vcs_machine.proofs.bus.ConsoleBus.load_timer.Goals as goal
 
@@ -18,6 +19,6 @@ pub returns-clause-content : goal.returns-clause-content
 returns-clause-content g c =
     let b = c.catch_up_riot.new.self in
     let seen = g.O.Observer.seen b.observer.now in
-    lagging-no_ticks g.O.Observer.observe g.met.O.Observer.observe_nil g.met.O.Observer.observe_append (riot_after_load c.args.address) b.rom.now b.pins b.riot.now c.load.new.self b.tia.now seen b.ticks b.clocks
+    lagging-no_ticks g.O.Observer.observe g.met.O.Observer.observe_nil g.met.O.Observer.observe_append (riot_after_load c.args.address) b.rom.now b.pins b.riot.now c.load.new.self b.tia.now seen (ticks_of b) (clocks_of b)
     c.catch_up_riot.ensures.ticks c.load.ensures.after
     ∙ ap (λ (o : Observed g.O.Observer.Seen). after_riot_load c.args.address o) c.catch_up_riot.ensures.content

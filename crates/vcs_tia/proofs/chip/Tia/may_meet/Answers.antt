@@ -1,5 +1,4 @@
-use Rattle.std.proofs.Common.{⊎_elim, arith}
-use Rattle.std.proofs.lemmas.Bool.{cases_lt}
+use Rattle.vcs_tia.proofs.Later.{latches_by_fields}
 use Rattle.vcs_tia.proofs.Meeting.{blank_clocks, none_new_latches}
 use Rattle.vcs_tia.proofs.chip.Tia.may_meet.Goals as goal
 
@@ -10,11 +9,19 @@ pub returns : goal.returns
 returns c = λ no.
     none_new_latches c.args.clocks c.args.self.now c.are_blank.ensures.low
     (λ x inside.
-    ⊎_elim
-    (λ left. c.may_meet_on.ensures c.if-may_meet_on.false x (omega arith) (omega arith) inside)
-    (λ later.
-    ⊎_elim
-    (λ middle. c.may_meet_on-2.ensures c.if-may_meet_on-2.false x (omega arith) (omega arith) inside)
-    (λ right. c.may_meet_on-3.ensures no x (omega arith) (omega arith) inside)
-    (cases_lt x 128))
-    (cases_lt x 64))
+    latches_by_fields _ _ _ _ _ _ _ _ _ _ _ _ _ _ _ _ _ _ _ _ _ _ _ _ _ _ _ _ _ _
+    (c.player0_may_meet.ensures.player1 c.if-player0_may_meet.false x inside)
+    (c.player0_may_meet.ensures.missile0 c.if-player0_may_meet.false x inside)
+    (c.player0_may_meet.ensures.missile1 c.if-player0_may_meet.false x inside)
+    (c.player0_may_meet.ensures.ball c.if-player0_may_meet.false x inside)
+    (c.player0_may_meet.ensures.playfield c.if-player0_may_meet.false x inside)
+    (c.player1_may_meet.ensures.missile0 c.if-player1_may_meet.false x inside)
+    (c.player1_may_meet.ensures.missile1 c.if-player1_may_meet.false x inside)
+    (c.player1_may_meet.ensures.ball c.if-player1_may_meet.false x inside)
+    (c.player1_may_meet.ensures.playfield c.if-player1_may_meet.false x inside)
+    (c.missile0_may_meet.ensures.missile1 c.if-missile0_may_meet.false x inside)
+    (c.missile0_may_meet.ensures.ball c.if-missile0_may_meet.false x inside)
+    (c.missile0_may_meet.ensures.playfield c.if-missile0_may_meet.false x inside)
+    (c.missile1_may_meet.ensures.ball c.if-missile1_may_meet.false x inside)
+    (c.missile1_may_meet.ensures.playfield c.if-missile1_may_meet.false x inside)
+    (c.ball_may_meet.ensures no x inside))

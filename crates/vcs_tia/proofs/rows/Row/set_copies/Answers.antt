@@ -1,18 +1,10 @@
-use Rattle.std.proofs.Common.{arith}
-use Rattle.std.proofs.lemmas.Grind.{common_steps}
+use Rattle.std.proofs.Common.{◌∙◌, ◌+◌, ◌-◌, ◌%◌, ◌<◌, arith}
+use Rattle.vcs_tia.specs.Objects.{distance}
+use Rattle.vcs_tia.proofs.Turned.{from_place}
 use Rattle.vcs_tia.proofs.rows.Row.set_copies.Goals as goal
 
-pub returns-in-TwoClose-clause-bits : goal.returns-in-TwoClose-clause-bits
-returns-in-TwoClose-clause-bits c = grind (arith, common_steps)
-
-pub returns-in-TwoMedium-clause-bits : goal.returns-in-TwoMedium-clause-bits
-returns-in-TwoMedium-clause-bits c = grind (arith, common_steps)
-
-pub returns-in-TwoWide-clause-bits : goal.returns-in-TwoWide-clause-bits
-returns-in-TwoWide-clause-bits c = grind (arith, common_steps)
-
-pub returns-in-ThreeClose-clause-bits : goal.returns-in-ThreeClose-clause-bits
-returns-in-ThreeClose-clause-bits c = grind (arith, common_steps)
-
-pub returns-in-ThreeMedium-clause-bits : goal.returns-in-ThreeMedium-clause-bits
-returns-in-ThreeMedium-clause-bits c = grind (arith, common_steps)
+pub returns-clause-bits : goal.returns-clause-bits
+returns-clause-bits c = λ x inside.
+    c.turned.ensures.bits x inside
+    ∙ c.copied.ensures.bits (distance x c.args.place 0) (let q : (x + 320 - c.args.place - 0) % 160 < 160 = omega arith in q)
+    ∙ from_place c.args.pattern x c.args.place c.args.copies (omega arith) inside
