@@ -10,7 +10,8 @@ use std::alloc::{AllocError, Global};
 use std::process::Abort;
 use std::sync::Wait;
 use tas_desk::{
-    Desk, EditError, Name, OfferError, Offered, Receipt, Seat, Shot, ShotError, WorkError, Worked,
+    CommitError, Desk, EditError, Name, OfferError, Offered, Receipt, Seat, Shot, ShotError,
+    Stroke, WorkError, Worked,
 };
 use tas_green::Batch;
 
@@ -25,6 +26,8 @@ pub enum Call {
     Edit(Change),
     /// Seat 1 makes an edit that depends on the movie, its first.
     EditBy,
+    /// Seat 1 makes two edits as one step, its first.
+    Commit,
     /// Seat 1 asks for the whole history.
     History,
     /// Seat 1, whose zone is that of the blank movie, shoots frame 383.
@@ -82,6 +85,24 @@ fn edit_by<'a, N: Name, R: Wait>(
             Ok(receipt == Receipt { at: 5, len: 403 } && last == Ok((5, input)))
         }
         Err(EditError::Memory) => Err(AllocError),
+        Err(_) => Ok(false),
+    }
+}
+
+/// Two edits as one step: whether they are the fifth and the sixth, and the movie has the inputs of both then.
+fn commit<'a, N: Name, R: Wait + Abort>(
+    rt: &R,
+    heap: &'a Heap,
+    desk: &Desk<N, &R, &'a Heap>,
+    seat: &mut Seat<N, &'a Heap>,
+    number: u64,
+) -> Result<bool, AllocError> {
+    let last = expect_ok(rt, edit_of(heap, Change::Insert(400, 3)));
+    let first = expect_ok(rt, edit_of(heap, Change::Insert(0, 2)));
+    refuse(heap, number);
+    match desk.commit(rt, seat, 4, Stroke::Two(last, first)) {
+        Ok(receipt) => Ok(receipt == Receipt { at: 6, len: 405 } && desk.len(seat) == Ok((6, 405))),
+        Err(CommitError::Refused(EditError::Memory)) => Err(AllocError),
         Err(_) => Ok(false),
     }
 }
@@ -235,6 +256,7 @@ fn take<'a, N: Name, R: Wait + Abort>(
     match call {
         Call::Edit(change) => make_edit(rt, heap, desk, seat, change, number),
         Call::EditBy => edit_by(rt, heap, desk, seat, number),
+        Call::Commit => commit(rt, heap, desk, seat, number),
         Call::History => ask_history(rt, heap, desk, seat, number),
         Call::FirstShot => shoot(heap, desk, seat, 384, number),
         Call::Shot => shoot(heap, desk, seat, 256, number),
@@ -356,11 +378,11 @@ pub fn take_call<'a, N: Name, R: Wait + Abort>(
 }
 
 /// Each call, and how many growths it has. An edit has those of its second copy and of the journal, as in a session; one that depends on the movie has that of its inputs,
-/// too. The history has its list, and those of a cartridge and of two lists of inputs. A shot has those of its picture and of its zone's list of states; the first one copies a movie before, which has two, and so does a share. A picture has
+/// too, and a step of two those of both second copies and of the journal. The history has its list, and those of a cartridge and of two lists of inputs. A shot has those of its picture and of its zone's list of states; the first one copies a movie before, which has two, and so does a share. A picture has
 /// that of its window's list, too. A job has
 /// those of its cartridge, its inputs and its list of states, an offer that of the desk's list, and work on two targets those of two
 /// jobs and of the list.
-static CALLS: [(Call, &str, u64); 14] = [
+static CALLS: [(Call, &str, u64); 15] = [
     (Call::Edit(Change::Load), "Edit(Load)", 2),
     (
         Call::Edit(Change::Insert(400, 3)),
@@ -378,6 +400,7 @@ static CALLS: [(Call, &str, u64); 14] = [
         1,
     ),
     (Call::EditBy, "EditBy", 3),
+    (Call::Commit, "Commit", 3),
     (Call::History, "History", 4),
     (Call::FirstShot, "FirstShot", 4),
     (Call::Shot, "Shot", 2),

@@ -165,6 +165,9 @@ fn history_after(call: Call) -> &'static str {
         Call::EditBy => {
             "0 0 load\n0 1 insert 0 200\n0 2 insert 200 200\n0 3 delete 0 0\n1 0 insert 400 3\n"
         }
+        Call::Commit => {
+            "0 0 load\n0 1 insert 0 200\n0 2 insert 200 200\n0 3 delete 0 0\n1 0 insert 400 3\n1 1 insert 0 2\n"
+        }
         Call::TwoJobs => "0 0 load\n0 1 insert 0 200\n",
         _ => "0 0 load\n0 1 insert 0 200\n0 2 insert 200 200\n0 3 delete 0 0\n",
     }

@@ -1,4 +1,5 @@
 pub mod AnswerLemmas
+pub mod CommitLemmas
 pub mod CutLemmas
 pub mod LockedLemmas
 pub mod PlanLemmas

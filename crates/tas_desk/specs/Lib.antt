@@ -1,4 +1,5 @@
 pub mod Closing
+pub mod Commits
 pub mod Exports
 pub mod Inside
 pub mod Locked

@@ -1,5 +1,5 @@
 -- What lies under the lock of a desk.
-use Rattle.std.specs.Prelude.{List, [], ◌∷◌, ◌++◌}
+use Rattle.std.specs.Prelude.{List, [], ◌∷◌, ◌++◌, fold}
 use Rattle.tas_green.specs.declared.savestate.Savestate.{Savestate}
 use Rattle.tas_session.specs.declared.entry.Entry.{Entry}
 use Rattle.tas_session.specs.History.{movie_of}
@@ -19,3 +19,7 @@ locked_after locked entry = record {
   journal = locked.journal ++ entry ∷ [];
   zone = left_by (movie_of locked.journal) entry.edit locked.zone;
 }
+
+-- after entries, one after the other
+abbrev pub locked_after_all : {A : Type 0} → LockedContent A → List (Entry A) → LockedContent A
+locked_after_all locked entries = fold locked_after locked entries

@@ -10,11 +10,13 @@ ghost use Rattle.std.specs.Prelude.{◌≡◌, ◌≢◌, ◌↔◌, ◌⊎◌, 
 ghost use Rattle.tas_session.specs.declared.replies.OfferError.TheVariants.{Cartridge, Memory};
 ghost use Rattle.tas_session.specs.declared.replies.OpenError.TheVariants.{Memory as OutOfMemory};
 ghost use Rattle.tas_session.specs.Answers.{answer_len};
-ghost use Rattle.tas_session.specs.History.{movie_of, IsLegal};
+ghost use Rattle.tas_session.specs.History.{most_edits, movie_of, IsLegal};
 ghost use Rattle.tas_session.specs.Shots.{IsShotAt, MatchPlayed};
 ghost use Rattle.tas_desk.specs.States.{IsStateAt, IsStateFor, IsZoneReached};
 ghost use Rattle.tas_desk.specs.Zones.{CutsWindow, IsShared, IsShort, IsZoneAway, blank_zone};
 ghost use Rattle.tas_green.specs.Grid.{most_states};
+ghost use Rattle.tas_session.specs.Strokes.{edits_of};
+ghost use Rattle.tas_desk.specs.Commits.{IsCommitted};
 ghost use Rattle.tas_desk.specs.Closing.{made_by};
 ghost use Rattle.tas_desk.specs.Seats.{most_seats, name_of, seat_of, HasSeen, KeepsZone, IsZoneShot, IsZoneViewed, IsEdited, IsEditedBy, IsWhole, IsSettled, IsInput};
 ghost use Rattle.tas_desk.specs.Work.{IsJobOf, IsTaken};
@@ -23,8 +25,8 @@ use crate::desk_lock::DeskLock;
 use crate::locked_session::{CloseOnDrop, LockedSession};
 use crate::seating::new_seats;
 use crate::{
-    Closed, EditError, History, InputError, Name, NoEntry, OfferError, Offered, OpenError, Plan,
-    Reached, Receipt, Seat, Session, Shared, Shot, ShotError, StateError,
+    Closed, CommitError, EditError, History, InputError, Name, NoEntry, OfferError, Offered,
+    OpenError, Plan, Reached, Receipt, Seat, Session, Shared, Shot, ShotError, StateError, Stroke,
 };
 use std::alloc::{AllocError, Allocator, Global};
 use std::marker::Model;
@@ -225,6 +227,24 @@ impl<N: Name, W: CloseOnDrop, A: Allocator + Copy> Desk<N, W, A> {
         self.locked.lock(rt).edit_by(rt, seat, plan)
     }
 
+    /// Makes the edits of a stroke as one step, as the seat, where the history has `at` edits: nobody's edit comes before or between
+    /// them, and nobody sees one without the other. The receipt tells how many edits there are then, and how many inputs.
+    ///
+    /// It is refused, in this order, for `Serial` as [`Desk::edit`] is, for `Moved` (the history has another number of edits), `Full`
+    /// (no room for all of the edits below 1,000,000), `Place` and `Long` (the first edit that is refused) and `Memory`. After a refusal
+    /// the history has nothing of this call.
+    pub fn commit<R: Wait>(
+        &self,
+        rt: &R,
+        seat: &mut Seat<N, A>,
+        at: u64,
+        stroke: Stroke<A>,
+    ) -> Result<Receipt, CommitError>
+        ensures { IsCommitted seat.old seat.new at (edits_of stroke) result }
+    {
+        self.locked.lock(rt).commit(rt, seat, at, stroke)
+    }
+
     /// Draws frame `k`, counted from 0, played from the nearest state of the seat's own zone. It takes no lock. The zone is
     /// first cut at the common front of the inputs that it was made for and the present ones, and emptied where the cartridge
     /// differs, and so is its window; then the zone gains the states on the way that are on the grid. The picture takes its
@@ -315,6 +335,7 @@ impl<N: Name, W: CloseOnDrop, A: Allocator + Copy> Desk<N, W, A> {
     pub fn bring<R: Wait>(&self, rt: &R, seat: &mut Seat<N, A>) -> Result<Shared, AllocError>
         ensures seat { HasSeen seat.old seat.new }
         ensures at { IfOk result (λ shared. shared.at ≡ length seat.new.front) }
+        ensures most { IfOk result (λ shared. shared.at ≤ most_edits) }
         ensures zone { MatchResult result
             (λ shared. IsShared seat.old.zone seat.new.zone seat.new.front shared.gained)
             (λ _. seat.new.zone ≡ seat.old.zone) }

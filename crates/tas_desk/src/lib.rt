@@ -29,7 +29,7 @@ pub use seat::Seat;
 pub use shared::Shared;
 pub use tas_film::{FilmStop, Gate, HaltedFrame, MAX_WORKERS, for_each_on_threads, write_film};
 pub use tas_session::{
-    Closed, EditError, Entry, InputError, MAX_EDITS, NoEntry, OfferError, Offered, OpenError,
-    Reached, Receipt, Session, Shot, ShotError, StateError,
+    Closed, CommitError, EditError, Entry, InputError, MAX_EDITS, NoEntry, OfferError, Offered,
+    OpenError, Reached, Receipt, Session, Shot, ShotError, StateError, Stroke,
 };
 pub use work::{WorkError, Worked};

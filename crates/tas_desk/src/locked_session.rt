@@ -6,9 +6,10 @@ ghost use Rattle.tas_movie.specs.Edit.{edited, IsAllowed};
 ghost use Rattle.tas_green.specs.Grid.{most_states};
 ghost use Rattle.tas_green.specs.Green.{IsLawful};
 ghost use Rattle.tas_session.specs.declared.replies.OfferError.TheVariants.{Cartridge, Memory};
-ghost use Rattle.tas_session.specs.History.{movie_of, entries_of, IsLegal};
+ghost use Rattle.tas_session.specs.History.{most_edits, movie_of, entries_of, IsLegal};
 ghost use Rattle.tas_session.specs.Session.{refusal_at, refusal_by, IsEditError};
-ghost use Rattle.tas_desk.specs.Locked.{locked_of, locked_after};
+ghost use Rattle.tas_session.specs.Strokes.{edits_of, entries_by, edited_by, commit_refusal_at, IsCommitError};
+ghost use Rattle.tas_desk.specs.Locked.{locked_of, locked_after, locked_after_all};
 ghost use Rattle.tas_desk.specs.Zones.{CutsWindow, IsMadeFor, Shares};
 ghost use Rattle.tas_desk.specs.Inside.Exporting.{FoundRange};
 ghost use Rattle.tas_desk.specs.Work.{IsJobFrom, Takes};
@@ -19,8 +20,8 @@ use crate::export::{ExportError, is_in_range};
 use crate::history::part_of;
 use crate::plan::planned;
 use crate::{
-    Closed, EditError, Entry, History, Name, OfferError, Offered, Plan, Receipt, Seat, Session,
-    Shared,
+    Closed, CommitError, EditError, Entry, History, Name, OfferError, Offered, Plan, Receipt, Seat,
+    Session, Shared, Stroke,
 };
 use std::alloc::{AllocError, Allocator, Global};
 use std::marker::Model;
@@ -221,6 +222,42 @@ impl<N: Name, W: CloseOnDrop, A: Allocator + Copy> LockedSession<N, W, A> {
         self.edit(rt, seat, edit)
     }
 
+    /// Takes the edits of a stroke as one step of a seat, where the history has `at` edits. A refusal leaves history and kept states
+    /// as they were.
+    pub fn commit<R: Wait>(
+        &mut self,
+        rt: &R,
+        seat: &mut Seat<N, A>,
+        at: u64,
+        stroke: Stroke<A>,
+    ) -> Result<Receipt, CommitError>
+        ensures begins { IsPrefix seat.old.front self.old.journal }
+        ensures receipt { IfOk result (λ receipt. receipt ≡ record {
+          at = length self.old.journal + length (edits_of stroke);
+          len = length (edited_by (movie_of self.old.journal) (edits_of stroke)).inputs;
+        }) }
+        ensures refusal { MatchResult result
+            (λ _. commit_refusal_at self.old.journal seat.old.number seat.old.made at
+            (edits_of stroke) ≡ None)
+            (IsCommitError (commit_refusal_at self.old.journal seat.old.number seat.old.made at
+            (edits_of stroke))) }
+        ensures done { OnOk result (self.new ≡ locked_after_all self.old
+            (entries_by seat.old.number seat.old.made (edits_of stroke))) }
+        ensures refused { OnErr result (self.new ≡ self.old) }
+        ensures seat { MatchResult result
+            (λ _. seat.new ≡ seat_of seat.old.number (seat.old.made + length (edits_of stroke))
+            self.new.journal seat.old.zone)
+            (λ _. seat.new ≡ seat_of seat.old.number seat.old.made self.new.journal seat.old.zone) }
+    {
+        self.session.show_to(rt, &mut seat.reader);
+        let count = stroke.count();
+        let receipt = self.session.commit(rt, seat.number, seat.made, at, stroke)?;
+        self.session.show_to(rt, &mut seat.reader);
+        self.book.add(&mut seat.share, count);
+        seat.made += count;
+        Ok(receipt)
+    }
+
     /// Copies at most this many entries of the history from a place on.
     pub fn history<R: Wait>(
         &self,
@@ -277,6 +314,7 @@ impl<N: Name, W: CloseOnDrop, A: Allocator + Copy> LockedSession<N, W, A> {
             ≡ seat_of seat.old.number seat.old.made self.now.journal seat.new.zone }
         ensures made { OnOk result (IsMadeFor seat.new.zone self.now.journal) }
         ensures at { IfOk result (λ shared. shared.at ≡ length self.now.journal) }
+        ensures most { IfOk result (λ shared. shared.at ≤ most_edits) }
         ensures gained { IfOk result (λ shared. Shares seat.old.zone.movie seat.new.zone.movie
             seat.old.zone.states self.now.zone seat.new.zone.states shared.gained) }
         ensures cut { OnOk result (CutsWindow seat.old.zone seat.new.zone) }

@@ -2,6 +2,7 @@
 
 ghost use Rattle.std.specs.Prelude.{◌≡◌, ◌+◌, ◌≤◌, length, is_some, MatchResult, IfOk, OnOk};
 ghost use Rattle.tas_green.specs.Grid.{most_states};
+ghost use Rattle.tas_green.specs.Green.{IsLawful};
 ghost use Rattle.tas_green.specs.Zone.{state_at};
 ghost use Rattle.tas_session.specs.Shots.{IsShotAt, MatchPlayed};
 ghost use Rattle.tas_session.specs.Answers.{answer_len};
@@ -13,9 +14,10 @@ ghost use Rattle.tas_desk.specs.Seats.{seat_of, HasSeen, KeepsZone, IsInput, IsZ
 
 use crate::seat_zone::SeatZone;
 use crate::{InputError, Name, NoEntry, Reached, Shot, ShotError, StateError};
-use std::alloc::{Allocator, Global};
+use std::alloc::{AllocError, Allocator, Global};
 use std::marker::Model;
 use std::sync::ledger::Share;
+use tas_green::Green;
 use tas_movie::Movie;
 use tas_session::{MovieReader, shown};
 use vcs_machine::{Input, Meter};
@@ -114,6 +116,15 @@ impl<N: Name, A: Allocator> Seat<N, A> {
 }
 
 impl<N: Name, A: Allocator + Copy> Seat<N, A> {
+    /// A copy of its greenzone: a zone of the same movie, [`Seat::zone_movie`], for one who plays it or an edited copy of it elsewhere. It
+    /// takes its memory from `alloc`; the seat isn't changed.
+    pub fn copy_zone<B: Allocator>(&self, alloc: B) -> Result<Green<B>, AllocError>
+        ensures same { IfOk result (λ green. green ≡ self.now.zone.states) }
+        ensures lawful { IfOk result (λ green. IsLawful self.now.zone.movie green) }
+    {
+        self.zone.copy_states(alloc)
+    }
+
     /// Draws frame `k` from the seat's own zone.
     pub(crate) fn shot<B: Allocator>(&mut self, alloc: B, k: usize) -> Result<Shot<B>, ShotError>
         ensures seat { HasSeen self.old self.new }

@@ -270,6 +270,15 @@ impl<A: Allocator + Copy> SeatZone<A> {
         Ok(gained)
     }
 
+    /// A copy of the states; the zone isn't changed.
+    pub fn copy_states<B: Allocator>(&self, alloc: B) -> Result<Green<B>, AllocError>
+        ensures same { IfOk result (λ green. green ≡ self.now.states) }
+        ensures lawful { IfOk result (λ green. IsLawful self.now.movie green) }
+    {
+        let movie = &self.made_for.movie;
+        self.green.moved(alloc, movie, movie)
+    }
+
     /// A copy of the states that is cut for a movie, as `shot` cuts; the zone isn't changed.
     pub fn moved<B: Allocator, C: Allocator>(
         &self,

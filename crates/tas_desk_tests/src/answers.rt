@@ -11,8 +11,8 @@ use std::process::Abort;
 use std::sync::Wait;
 use std::thread::Threads;
 use tas_desk::{
-    CloseOnDrop, Desk, EditError, ExportError, Gate, Name, OfferError, Offered, Receipt, Seat,
-    Shot, ShotError,
+    CloseOnDrop, CommitError, Desk, EditError, ExportError, Gate, Name, OfferError, Offered,
+    Receipt, Seat, Shot, ShotError, Stroke,
 };
 use tas_green::Batch;
 use vcs_cpu::Halt;
@@ -60,6 +60,25 @@ pub fn edit<N: Name, W: CloseOnDrop, R: Wait + Abort>(
     change: Change,
 ) -> Result<Receipt, EditError> {
     desk.edit(rt, seat, edit_of(rt, alloc, change))
+}
+
+/// None, one or two edits as one step, where the history has this many.
+pub fn commit<N: Name, W: CloseOnDrop, R: Wait + Abort>(
+    rt: &R,
+    alloc: Global,
+    desk: &Desk<N, W>,
+    seat: &mut Seat<N>,
+    at: u64,
+    changes: &[Change],
+) -> Result<Receipt, CommitError> {
+    let stroke = match changes {
+        [change, next, ..] => {
+            Stroke::Two(edit_of(rt, alloc, *change), edit_of(rt, alloc, *next))
+        }
+        [change] => Stroke::One(edit_of(rt, alloc, *change)),
+        [] => Stroke::Nothing,
+    };
+    desk.commit(rt, seat, at, stroke)
 }
 
 /// What a shot's answer shows, or why nothing is shown.

@@ -3,7 +3,7 @@
 ghost use Rattle.std.specs.Prelude.{◌≤◌};
 ghost use Rattle.tas_desk.specs.Seats.{most_seats};
 
-use crate::answers::{Refused, Shown, edit, export, shoot, view};
+use crate::answers::{Refused, Shown, commit, edit, export, shoot, view};
 use crate::changes::{Change, fire};
 use crate::checks::check_that;
 use crate::desks::{Task, lend};
@@ -15,8 +15,8 @@ use std::process::Abort;
 use std::sync::Wait;
 use std::thread::Threads;
 use tas_desk::{
-    CloseOnDrop, Closed, Desk, EditError, InputError, MAX_WORKERS, Name, Receipt, Seat, Shared,
-    ShotError, StateError, Worked,
+    CloseOnDrop, Closed, CommitError, Desk, EditError, InputError, MAX_WORKERS, Name, Receipt,
+    Seat, Shared, ShotError, StateError, Worked,
 };
 use vcs_machine::Input;
 
@@ -27,6 +27,8 @@ pub enum Call {
     Made(u32, Change, u64, usize),
     /// An edit that is refused.
     Refused(u32, Change, EditError),
+    /// None, one or two edits as one step, where the history has this many.
+    Committed(u32, u64, &'static [Change], Result<Receipt, CommitError>),
     /// The number of edits and the length.
     Len(u32, u64, usize),
     /// An input.
@@ -159,6 +161,9 @@ fn is_answered<N: Name, W: CloseOnDrop, R: Threads + Wait + Abort + Sync>(
             edit(rt, alloc, desk, seat, change) == Ok(Receipt { at, len })
         }
         Call::Refused(_, change, error) => edit(rt, alloc, desk, seat, change) == Err(error),
+        Call::Committed(_, at, changes, answer) => {
+            commit(rt, alloc, desk, seat, at, changes) == answer
+        }
         Call::Work(_, targets, worked) => {
             let gate = InOrder::new();
             let told = desk.work(rt, alloc, seat, targets, &gate);
@@ -190,6 +195,7 @@ fn caller(call: Call) -> u32 {
     match call {
         Call::Made(seat, ..)
         | Call::Refused(seat, ..)
+        | Call::Committed(seat, ..)
         | Call::Len(seat, ..)
         | Call::Input(seat, ..)
         | Call::Drawn(seat, ..)

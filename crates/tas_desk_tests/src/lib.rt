@@ -15,6 +15,8 @@ mod changes;
 #[cfg(test)]
 mod checks;
 #[cfg(test)]
+mod commit_tests;
+#[cfg(test)]
 mod desk_tests;
 #[cfg(test)]
 mod desks;

@@ -1,5 +1,6 @@
 -- Histories that grow by an entry.
-use Rattle.std.proofs.Common.{◌≡◌, ℕ, ◌+◌, ◌<◌, List, [], ◌∷◌, ◌++◌, length, take, refl, ap, sym, ◌∙◌, subst, arith, length-append}
+use Rattle.std.proofs.Common.{◌≡◌, ℕ, ◌+◌, ◌<◌, ◌≤◌, List, [], ◌∷◌, ◌++◌, length, take, refl, ap, sym, ◌∙◌, subst, arith, length-append, append_assoc}
+use Rattle.std.proofs.lemmas.List.{append-nil}
 use Rattle.tas_movie.specs.Content.{MovieContent, blank_movie}
 use Rattle.std.specs.Prelude.{◌==◌, if◌then◌else◌}
 use Rattle.std.proofs.lemmas.List.Sums.{sum_by-append}
@@ -8,7 +9,8 @@ use Rattle.tas_session.proofs.EditLemmas.{edited_before, edited_cart}
 use Rattle.tas_green.specs.declared.savestate.Savestate.{Savestate}
 use Rattle.tas_green.specs.Green.{IsLawful, AgreeUpTo}
 use Rattle.tas_session.specs.declared.entry.Entry.{Entry}
-use Rattle.tas_session.specs.History.{movie_from, movie_of, entries_of, IsLegal, IsLegalEntry}
+use Rattle.tas_session.specs.History.{most_edits, movie_from, movie_of, entries_of, IsLegal, IsLegalEntry}
+use Rattle.tas_session.specs.Strokes.{edits_in, edited_by, AreNext}
 use Rattle.tas_session.specs.Session.{IsSound, IsNextEntry}
 
 movie_from-push : {A : Type 0} (movie : MovieContent) (history : List (Entry A)) (entry : Entry A) → movie_from movie (history ++ entry ∷ []) ≡ edited (movie_from movie history) entry.edit
@@ -51,6 +53,30 @@ legal-push {A} history last legal next before entry rest p = elim (cut_of histor
   | at_end was is ↦ subst (λ (b : List (Entry A)). IsLegalEntry b entry) was (subst (λ (y : Entry A). IsLegalEntry history y) is next)
   | within more was ↦ legal before entry more was
 ]
+
+-- the movie of a history that goes on
+pub movie_of-on : {A : Type 0} (history entries : List (Entry A)) → movie_of (history ++ entries) ≡ edited_by (movie_of history) (edits_in entries)
+movie_of-on {A} history [] = ap (λ (h : List (Entry A)). movie_of h) (append-nil history)
+movie_of-on {A} history (entry ∷ entries) =
+    ap (λ (h : List (Entry A)). movie_of h) (sym (append_assoc history (entry ∷ []) entries))
+    ∙ movie_of-on (history ++ entry ∷ []) entries
+    ∙ ap (λ (m : MovieContent). edited_by m (edits_in entries)) (movie_of-push history entry)
+
+-- entries that can come next leave the history legal
+pub legal-on : {A : Type 0} (history entries : List (Entry A)) → IsLegal history → AreNext history entries → IsLegal (history ++ entries)
+legal-on {A} history [] legal next = subst (λ (h : List (Entry A)). IsLegal h) (sym (append-nil history)) legal
+legal-on {A} history (entry ∷ entries) legal next =
+    subst (λ (h : List (Entry A)). IsLegal h) (append_assoc history (entry ∷ []) entries)
+    (legal-on (history ++ entry ∷ []) entries (legal-push history entry legal next.0.legal) next.1)
+
+-- and no longer than it may be
+pub room-on : {A : Type 0} (history entries : List (Entry A)) → length history ≤ most_edits → AreNext history entries → length history + length entries ≤ most_edits
+room-on {A} history [] most next = omega (arith, most)
+room-on {A} history (entry ∷ entries) most next =
+    let long = length-append history (entry ∷ []) in
+    let room = next.0.room in
+    let rest = room-on (history ++ entry ∷ []) entries (omega (arith, long, room)) next.1 in
+    omega (arith, long, rest)
 
 -- a session that opens
 pub sound_opened : {A : Type 0} (history : List (Entry A)) (movie : MovieContent) (zone : List Savestate) → history ≡ [] → movie ≡ blank_movie → IsLawful movie zone → IsSound history movie zone

@@ -7,3 +7,4 @@ pub mod PublishedRule
 pub mod ReaderLemmas
 pub mod RegistryLemmas
 pub mod ShotLemmas
+pub mod StepLemmas

@@ -1,8 +1,7 @@
 -- The steps that keep the rule.
-use Rattle.std.proofs.Common.{◌≡◌, ℕ, ◌≢◌, Bool, true, false, true≢false, List, [], ◌∷◌, ◌++◌, set, refl, ap, subst, sym, ◌∙◌, ⊎_elim, zero, suc, length, arith}
+use Rattle.std.proofs.Common.{◌≡◌, ℕ, ◌≢◌, Bool, true, false, true≢false, List, [], ◌∷◌, set, refl, ap, subst, sym, ◌∙◌, ⊎_elim, zero, suc, length, arith}
 use Rattle.std.specs.Prelude.{nat_lt, if◌then◌else◌}
 use Rattle.std.proofs.lemmas.Bool.Decides.{nat_tests}
-use Rattle.logbook.specs.Pages.{Book}
 use mathlib.Core.Option.{some, some-ne-none, some-injective}
 use mathlib.Core.List.{IsPrefix}
 use lib.ListN.{get_elem?}
@@ -13,7 +12,8 @@ use Rattle.tas_session.specs.declared.entry.Entry.{Entry}
 use Rattle.tas_session.specs.declared.reader_view.ReaderView.{ReaderView}
 use Rattle.tas_session.specs.Version.{VersionContent}
 use Rattle.tas_session.specs.History.{movie_of, IsLegal}
-use Rattle.tas_session.specs.Published.{PublishedContent, published_of, IsSoundPublished, HasSeenPrefix, HasSeenAll, HasSeenMore, HasOneMore, Holds, Sees, PublishesOne, PublishesNothing, learned, view_of, blank_view, ChangeContent, after, Follows, IsCurrent}
+use Rattle.tas_session.specs.Inside.Steps.{entries_in}
+use Rattle.tas_session.specs.Published.{PublishedContent, published_of, IsSoundPublished, HasSeenPrefix, HasSeenAll, HasSeenMore, HasStepMore, Holds, Sees, PublishesStep, PublishesNothing, learned, view_of, blank_view, ChangeContent, after, Follows, IsCurrent}
 use Rattle.tas_session.proofs.PrefixLemmas.{prefix_trans, prefix_self, prefix_shorter}
 use Rattle.tas_session.proofs.HistoryLemmas.{legal_none, movie_of-none}
 
@@ -68,16 +68,16 @@ looks seat v x views h at = (
   record { same = refl; fits = h.fits seat v at; seen = refl; sound = h.sound },
 )
 
--- one entry more is published
-one_more_turns : {A : Type 0} (seat : ℕ) (v : ReaderView A) (x y : PublishedContent A) → HasSeenAll x v → HasOneMore x y → TurnsAt Holds seat v x y PublishesOne
-one_more_turns seat v x y known more views h at = (
+-- the entries of one step are published
+step_turns : {A : Type 0} (seat : ℕ) (v : ReaderView A) (x y : PublishedContent A) → HasSeenAll x v → HasStepMore x y → TurnsAt Holds seat v x y PublishesStep
+step_turns seat v x y known more views h at = (
   view_of y.version,
-  moves seat x y views more.registry (more.entry ∷ [], sym more.one) more.sound h,
+  moves seat x y views more.registry (entries_in more.step, sym more.more) more.sound h,
   record { known = known; more = more; seen = refl; sound = more.sound h.sound },
 )
 
-pub publishes_one : {A : Type 0} (seat : ℕ) (v : ReaderView A) (x y next : PublishedContent A) → next ≡ y → HasSeenAll x v → HasOneMore x y → TurnsAt Holds seat v x next PublishesOne
-publishes_one {A} seat v x y next is known more = subst (λ (p : PublishedContent A). TurnsAt Holds seat v x p PublishesOne) (sym is) (one_more_turns seat v x y known more)
+pub publishes_step : {A : Type 0} (seat : ℕ) (v : ReaderView A) (x y next : PublishedContent A) → next ≡ y → HasSeenAll x v → HasStepMore x y → TurnsAt Holds seat v x next PublishesStep
+publishes_step {A} seat v x y next is known more = subst (λ (p : PublishedContent A). TurnsAt Holds seat v x p PublishesStep) (sym is) (step_turns seat v x y known more)
 
 -- nothing is published
 same_turns : {A : Type 0} (seat : ℕ) (v : ReaderView A) (x : PublishedContent A) → HasSeenAll x v → TurnsAt Holds seat v x x PublishesNothing
@@ -139,10 +139,10 @@ all_of w false lt = refl
 pub learned_all : {A : Type 0} (m : VersionContent A) → learned blank_view (view_of m) ≡ view_of m
 learned_all m = all_of (view_of m) (nat_lt (length m.history) 0) refl
 
--- what follows is one entry more
-pub follows_on : {A : Type 0} (x was y : PublishedContent A) (c : ChangeContent A) → x ≡ was → y ≡ after was c → Follows was c → HasOneMore x y
+-- what follows is one step more
+pub follows_on : {A : Type 0} (x was y : PublishedContent A) (c : ChangeContent A) → x ≡ was → y ≡ after was c → Follows was c → HasStepMore x y
 follows_on {A} x was y c same is f =
-    subst (λ (p : PublishedContent A). HasOneMore p y) (sym same) (subst (λ (p : PublishedContent A). HasOneMore was p) (sym is) (record { registry = f.registry; entry = f.entry; one = f.one; sound = λ _. f.sound }))
+    subst (λ (p : PublishedContent A). HasStepMore p y) (sym same) (subst (λ (p : PublishedContent A). HasStepMore was p) (sym is) (record { registry = f.registry; step = f.step; more = f.more; sound = λ _. f.sound }))
 
 -- a session that opens: nothing waits to be published, and what is published is the empty history
 pub opened_as : {A : Type 0} (x : PublishedContent A) (pending : List (ChangeContent A)) (newest : VersionContent A) (journal : List (Entry A)) (v : ReaderView A) → pending ≡ [] → x ≡ published_of blank_movie 0 newest → newest.history ≡ [] → journal ≡ [] → v ≡ blank_view → IsCurrent x pending newest.registry journal v.seen

@@ -1,5 +1,5 @@
 -- What a look brings.
-use Rattle.std.proofs.Common.{◌≡◌, ℕ, ◌+◌, ◌≤◌, length, Option, Result, Ok, Err, min, subst, sym, arith}
+use Rattle.std.proofs.Common.{◌≡◌, ℕ, ◌+◌, Option, Ok, Err, min, subst, sym, arith}
 use Rattle.tas_session.specs.declared.movie_copy.MovieCopy.{MovieCopy}
 use Rattle.tas_session.specs.declared.reader_view.ReaderView.{ReaderView}
 use Rattle.tas_session.specs.declared.replies.ShotError.{ShotError}
@@ -8,7 +8,6 @@ use Rattle.tas_session.specs.declared.replies.StateError.TheVariants.{NoEntry, N
 use Rattle.tas_session.specs.Readings.{FoundMovie, FoundCopy}
 use Rattle.tas_session.specs.Shots.{shot_error}
 use Rattle.tas_session.specs.Version.{VersionContent}
-use Rattle.tas_session.specs.History.{movie_of}
 
 -- a movie with this many frames has frame k
 pub found_frame : {A : Type 0} (v w : ReaderView A) (known : VersionContent A) (k frames : ℕ) (found : ℕ × Option (MovieCopy A)) → frames ≡ min (k + 1) 18446744073709551615 → FoundMovie v w known frames (Ok found) → FoundCopy v w known k (Ok found)

@@ -5,4 +5,5 @@ pub mod Published
 pub mod Readings
 pub mod Session
 pub mod Shots
+pub mod Strokes
 pub mod Version

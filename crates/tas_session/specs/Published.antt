@@ -1,16 +1,18 @@
 -- What is published, and the rule between what is published and what readers have seen.
-use Rattle.std.specs.Prelude.{◌≡◌, ℕ, ◌+◌, ◌≤◌, nat_lt, if◌then◌else◌, List, [], ◌∷◌, ◌++◌, length, true, false}
+use Rattle.std.specs.Prelude.{◌≡◌, ℕ, ◌+◌, ◌≤◌, nat_lt, min, if◌then◌else◌, List, [], ◌++◌, length, true, false}
 use mathlib.Core.Option.{some}
 use mathlib.Core.List.{IsPrefix}
 use lib.ListN.{get_elem?}
 use Rattle.logbook.specs.Pages.{Book}
 use Rattle.tas_movie.specs.Content.{MovieContent}
 use Rattle.tas_movie.specs.declared.edit.Edit.{Edit}
-use Rattle.tas_movie.specs.Edit.{edited}
 use Rattle.tas_session.specs.declared.entry.Entry.{Entry}
 use Rattle.tas_session.specs.declared.reader_view.ReaderView.{ReaderView}
 use Rattle.tas_session.specs.Version.{VersionContent}
 use Rattle.tas_session.specs.History.{most_edits, movie_of, IsLegal}
+use Rattle.tas_session.specs.declared.journal.Step.{Step}
+use Rattle.tas_session.specs.Inside.Steps.{entries_in}
+use Rattle.tas_session.specs.Strokes.{edits_in, edited_by}
 
 -- a movie, the number of edits that made it, and these edits with their registry
 pub record PublishedContent (A : Type 0) : Type 0 where
@@ -24,22 +26,27 @@ pub record PublisherContent (A : Type 0) : Type 0 where
   pub journal : List (Entry A)
   pub movie : MovieContent
 
--- an edit, and all edits up to it
+-- edits that are made at once, and all edits up to them
 pub record ChangeContent (A : Type 0) : Type 0 where
-  pub edit : Edit A
+  pub edits : List (Edit A)
   pub version : VersionContent A
+
+-- the publisher after entries, one after the other
+abbrev pub pushed_by : {A : Type 0} → PublisherContent A → List (Entry A) → PublisherContent A
+pushed_by publisher entries = record {
+  registry = publisher.registry;
+  journal = publisher.journal ++ entries;
+  movie = edited_by publisher.movie (edits_in entries);
+}
 
 abbrev pub published_of : {A : Type 0} → MovieContent → ℕ → VersionContent A → PublishedContent A
 published_of m n v = record { movie = m; at = n; version = v }
 
-abbrev pub change_of : {A : Type 0} → Edit A → VersionContent A → ChangeContent A
-change_of e v = record { edit = e; version = v }
-
-abbrev pub one_more : ℕ → ℕ
-one_more n = if nat_lt n 18446744073709551615 then n + 1 else n
+abbrev pub change_of : {A : Type 0} → List (Edit A) → VersionContent A → ChangeContent A
+change_of edits v = record { edits = edits; version = v }
 
 abbrev pub after : {A : Type 0} → PublishedContent A → ChangeContent A → PublishedContent A
-after x c = published_of (edited x.movie c.edit) (one_more x.at) c.version
+after x c = published_of (edited_by x.movie c.edits) (min (x.at + length c.edits) 18446744073709551615) c.version
 
 -- what the one who knows this history of this registry has seen
 abbrev pub view_of : {A : Type 0} → VersionContent A → ReaderView A
@@ -79,17 +86,17 @@ pub record Sees {A : Type 0} (v : ReaderView A) (x y : PublishedContent A) (w : 
 abbrev pub HasSeenAll : {A : Type 0} → PublishedContent A → ReaderView A → Type 0
 HasSeenAll x v = v.seen ≡ x.version.history
 
--- just one entry more in the same registry, which leaves what is published sound
-pub record HasOneMore {A : Type 0} (x y : PublishedContent A) : Type 0 where
+-- just the entries of one step more, one or two, in the same registry, which leave what is published sound
+pub record HasStepMore {A : Type 0} (x y : PublishedContent A) : Type 0 where
   pub registry : x.version.registry ≡ y.version.registry
-  pub entry : Entry A
-  pub one : y.version.history ≡ x.version.history ++ entry ∷ []
+  pub step : Step A
+  pub more : y.version.history ≡ x.version.history ++ entries_in step
   pub sound : IsSoundPublished x → IsSoundPublished y
 
--- a publish of one edit by the writer, which had seen all that was published and has then seen the one entry more, too
-pub record PublishesOne {A : Type 0} (v : ReaderView A) (x y : PublishedContent A) (w : ReaderView A) : Type 0 where
+-- a publish of one step by the writer, which had seen all that was published and has then seen the step's entries, too
+pub record PublishesStep {A : Type 0} (v : ReaderView A) (x y : PublishedContent A) (w : ReaderView A) : Type 0 where
   pub known : HasSeenAll x v
-  pub more : HasOneMore x y
+  pub more : HasStepMore x y
   pub seen : w ≡ view_of y.version
   pub sound : IsSoundPublished y
 
@@ -114,11 +121,11 @@ pub record IsCurrent {A : Type 0} (x : PublishedContent A) (pending : List (Chan
   pub view : writers ≡ journal
   pub sound : IsSoundPublished x
 
--- a change of what is published that adds just one entry and leaves it sound
+-- a change of what is published that adds just the entries of one step and leaves it sound
 pub record Follows {A : Type 0} (x : PublishedContent A) (c : ChangeContent A) : Type 0 where
   pub registry : x.version.registry ≡ c.version.registry
-  pub entry : Entry A
-  pub one : c.version.history ≡ x.version.history ++ entry ∷ []
+  pub step : Step A
+  pub more : c.version.history ≡ x.version.history ++ entries_in step
   pub sound : IsSoundPublished (after x c)
 
 -- who has this view knows the registry

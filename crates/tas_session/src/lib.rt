@@ -4,8 +4,10 @@
 //! "(own)" marks a rule that is this project's own; where a rule comes from a manual, its section is named.
 #![tactic(auto)]
 
+mod commit;
 mod counts;
 mod entry;
+mod journal;
 mod movie_copy;
 mod movie_reader;
 mod published;
@@ -13,6 +15,7 @@ mod publisher;
 mod reader_view;
 mod replies;
 mod session;
+mod stroke;
 mod version;
 
 pub use entry::Entry;
@@ -20,8 +23,9 @@ pub use movie_copy::MovieCopy;
 pub use movie_reader::MovieReader;
 pub use publisher::Closed;
 pub use replies::{
-    EditError, InputError, NoEntry, OfferError, Offered, OpenError, Reached, Receipt, Shot,
-    ShotError, StateError, shown,
+    CommitError, EditError, InputError, NoEntry, OfferError, Offered, OpenError, Reached, Receipt,
+    Shot, ShotError, StateError, shown,
 };
 pub use session::{MAX_EDITS, Session};
+pub use stroke::Stroke;
 pub use version::{Version, VersionRule};

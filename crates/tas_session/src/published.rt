@@ -3,11 +3,12 @@
 
 ghost use Rattle.std.specs.Prelude.{◌≡◌};
 ghost use Rattle.tas_movie.specs.Edit.{edited};
+ghost use Rattle.tas_session.specs.Strokes.{edits_of, edited_by};
 ghost use Rattle.tas_session.specs.Published.{published_of, change_of};
 
-use crate::Entry;
 use crate::reader_view::ReaderView;
 use crate::version::{Version, VersionRule};
+use crate::{Entry, Stroke};
 use atomic_table::{Join, Split};
 use crossbeam_utils::rule::{Outcome, Protocol};
 use left_right::Absorb;
@@ -39,33 +40,34 @@ where
     ghost view = { λ s. published_of s.movie s.at s.version };
 }
 
-/// An accepted edit on its way into both copies, with the version of the history that it ends.
+/// The accepted edits of one step on their way into both copies, with the version of the history that they end.
 #[derive(Drop)]
-pub struct PublishedEdit<A: Allocator = Global>
+pub struct PublishedStep<A: Allocator = Global>
 where
     VersionRule: Rule<LinkedList<Entry<A>, A>, u64>,
 {
-    edit: Edit<A>,
+    stroke: Stroke<A>,
     version: Version<A>,
 }
 
-impl<A: Allocator> Model for PublishedEdit<A>
+impl<A: Allocator> Model for PublishedStep<A>
 where
     VersionRule: Rule<LinkedList<Entry<A>, A>, u64>,
 {
     ghost use Rattle.tas_session.specs.Published.{ChangeContent, change_of};
+    ghost use Rattle.tas_session.specs.Strokes.{edits_of};
 
     ghost Value = { ChangeContent A };
 
-    ghost view = { λ o. change_of o.edit o.version };
+    ghost view = { λ o. change_of (edits_of o.stroke) o.version };
 }
 
-impl<A: Allocator> PublishedEdit<A> {
-    /// An edit, with the version of the history that it ends.
-    pub fn new(edit: Edit<A>, version: Version<A>) -> PublishedEdit<A>
-        ensures { result ≡ change_of edit version }
+impl<A: Allocator> PublishedStep<A> {
+    /// Edits, with the version of the history that they end.
+    pub fn new(stroke: Stroke<A>, version: Version<A>) -> PublishedStep<A>
+        ensures { result ≡ change_of (edits_of stroke) version }
     {
-        PublishedEdit { edit, version }
+        PublishedStep { stroke, version }
     }
 }
 
@@ -124,7 +126,21 @@ fn apply_if_allowed<A: Allocator>(movie: &mut Movie<A>, edit: &Edit<A>)
     }
 }
 
-impl<A: Allocator> Absorb<PublishedEdit<A>> for PublishedMovie<A> {
+/// Makes the edits of a stroke, one after the other, each where it is allowed.
+fn apply_stroke<A: Allocator>(movie: &mut Movie<A>, stroke: &Stroke<A>)
+    ensures { movie.new ≡ edited_by movie.old (edits_of stroke.now) }
+{
+    match stroke {
+        Stroke::Nothing => {}
+        Stroke::One(edit) => apply_if_allowed(movie, edit),
+        Stroke::Two(edit, next) => {
+            apply_if_allowed(movie, edit);
+            apply_if_allowed(movie, next);
+        }
+    }
+}
+
+impl<A: Allocator> Absorb<PublishedStep<A>> for PublishedMovie<A> {
     ghost use Rattle.tas_session.specs.Published.{after};
 
     type State = PublishedMovie<A>;
@@ -137,13 +153,11 @@ impl<A: Allocator> Absorb<PublishedEdit<A>> for PublishedMovie<A> {
 
     fn absorb_first(
         &mut self,
-        operation: &PublishedEdit<A>,
+        operation: &PublishedStep<A>,
         _other: &PublishedMovie<A>,
     ) -> Result<(), AllocError> {
-        apply_if_allowed(&mut self.movie, &operation.edit);
-        if self.at < u64::MAX {
-            self.at += 1;
-        }
+        apply_stroke(&mut self.movie, &operation.stroke);
+        self.at = self.at.saturating_add(operation.stroke.count());
         self.version = operation.version.copy();
         Ok(())
     }
@@ -170,13 +184,13 @@ impl<A: Allocator> Outcome<PublishedMovie<A>, ReaderView<A>> for Look {
     ghost then = { Sees };
 }
 
-/// The writer publishes one edit: the published history gains just one entry.
-pub struct PublishOne;
+/// The writer publishes one step: the published history gains just its entries, one or two, at once.
+pub struct PublishStep;
 
-impl<A: Allocator> Outcome<PublishedMovie<A>, ReaderView<A>> for PublishOne {
-    ghost use Rattle.tas_session.specs.Published.{PublishesOne};
+impl<A: Allocator> Outcome<PublishedMovie<A>, ReaderView<A>> for PublishStep {
+    ghost use Rattle.tas_session.specs.Published.{PublishesStep};
 
-    ghost then = { PublishesOne };
+    ghost then = { PublishesStep };
 }
 
 /// The writer publishes nothing, by which it comes to know the registry of what is published, for a new reader.

@@ -1,19 +1,21 @@
 //! The history, and what is published of it.
 
-ghost use Rattle.std.specs.Prelude.{◌≡◌, ◌<◌, ◌^◌, List, [], ◌∷◌, ◌++◌, drop, fold, IfOk, OnOk, OnErr, MatchResult};
+ghost use Rattle.std.specs.Prelude.{◌≡◌, ◌<◌, ◌^◌, [], ◌∷◌, ◌++◌, drop, fold, IfOk, OnOk, OnErr, MatchResult};
 ghost use Rattle.left_right.specs.Sides.{view};
 ghost use mathlib.Core.List.{IsPrefix};
 ghost use Rattle.tas_movie.specs.Content.{blank_movie};
 ghost use Rattle.tas_movie.specs.Edit.{edited};
-ghost use Rattle.tas_session.specs.declared.entry.Entry.{Entry};
 ghost use Rattle.tas_session.specs.Session.{IsNextEntry};
 ghost use Rattle.tas_session.specs.Version.{version_of};
-ghost use Rattle.tas_session.specs.Published.{published_of, blank_view, after, HasSeenAll, HasOneMore, Follows, learned, view_of, KnowsRegistry};
+ghost use Rattle.tas_session.specs.Strokes.{AreNext};
+ghost use Rattle.tas_session.specs.Inside.Steps.{entries_in};
+ghost use Rattle.tas_session.specs.Published.{published_of, blank_view, after, HasSeenAll, HasStepMore, Follows, pushed_by, learned, view_of, KnowsRegistry};
 
 use crate::Entry;
+use crate::journal::{Step, add_step, take_back};
 use crate::movie_reader::MovieReader;
 use crate::published::{
-    Look, PrefixRule, PublishNothing, PublishOne, PublishedEdit, PublishedMovie, TellAll,
+    Look, PrefixRule, PublishNothing, PublishStep, PublishedMovie, PublishedStep, TellAll,
 };
 use crate::reader_view::ReaderView;
 use crate::version::{LatestVersion, Version, VersionRule};
@@ -27,10 +29,10 @@ use std::alloc::{AllocError, Allocator, Global};
 use std::collections::LinkedList;
 use std::marker::Model;
 use std::sync::Wait;
-use tas_movie::{Edit, Movie};
+use tas_movie::Movie;
 
 /// What publishes the movie.
-type MovieWriter<A> = Writer<PublishedMovie<A>, PublishedEdit<A>, ReaderView<A>, PrefixRule, A>;
+type MovieWriter<A> = Writer<PublishedMovie<A>, PublishedStep<A>, ReaderView<A>, PrefixRule, A>;
 
 /// What reads the published movie, under the rule.
 pub(crate) type RuledReader<A> = Reader<PublishedMovie<A>, ReaderView<A>, PrefixRule, A>;
@@ -48,7 +50,7 @@ pub struct Closed<A: Allocator = Global> {
 pub struct Publisher<A: Allocator = Global>
 where
     VersionRule: Rule<LinkedList<Entry<A>, A>, u64>,
-    PublishedMovie<A>: Absorb<PublishedEdit<A>, State = PublishedMovie<A>>,
+    PublishedMovie<A>: Absorb<PublishedStep<A>, State = PublishedMovie<A>>,
     PrefixRule: Protocol<PublishedMovie<A>, ReaderView<A>>,
 {
     journal: Vec<Entry<A>, A>,
@@ -59,7 +61,7 @@ where
 impl<A: Allocator> Model for Publisher<A>
 where
     VersionRule: Rule<LinkedList<Entry<A>, A>, u64>,
-    PublishedMovie<A>: Absorb<PublishedEdit<A>, State = PublishedMovie<A>>,
+    PublishedMovie<A>: Absorb<PublishedStep<A>, State = PublishedMovie<A>>,
     PrefixRule: Protocol<PublishedMovie<A>, ReaderView<A>>,
 {
     ghost use Rattle.std.specs.Prelude.{drop};
@@ -114,40 +116,18 @@ fn renew<A: Allocator, R: Wait>(rt: &R, latest: &mut LatestVersion<A>, journal: 
     unreachable!()
 }
 
-/// Adds an entry to a journal, and returns a second copy of its edit. Where a growth is refused the journal is as it was.
-fn add_entry<A: Allocator + Copy>(
-    journal: &mut Vec<Entry<A>, A>,
-    next: Entry<A>,
-) -> Result<Edit<A>, AllocError>
-    ensures edit { IfOk result (λ edit. edit ≡ next.edit) }
-    ensures journal { MatchResult result (λ _. journal.new.items ≡ journal.old.items ++ next ∷ [])
-        (λ _. journal.new.items ≡ journal.old.items) }
-{
-    let edit = next.edit.copy(*journal.allocator())?;
-    journal.push(next)?;
-    Ok(edit)
-}
-
-/// Takes the last entry out of a journal again.
-fn take_back<A: Allocator>(journal: &mut Vec<Entry<A>, A>)
-    ensures { (before : List (Entry A)) (last : Entry A) → journal.old.items ≡ before ++ last ∷ []
-        → journal.new.items ≡ before }
-{
-    journal.pop();
-}
-
-/// Publishes the one edit that is pending, by value, so that the writer has seen it.
-fn publish_one<A: Allocator, R: Wait>(writer: MovieWriter<A>, rt: &R) -> MovieWriter<A>
+/// Publishes the one step that is pending, by value, so that the writer has seen it.
+fn publish_step<A: Allocator, R: Wait>(writer: MovieWriter<A>, rt: &R) -> MovieWriter<A>
     requires known { HasSeenAll writer.desk.shown.value (view writer.desk.place) }
-    requires more { HasOneMore writer.desk.shown.value
+    requires more { HasStepMore writer.desk.shown.value
         (fold after writer.desk.shown.value (drop writer.behind writer.log.items)) }
     ensures none { drop result.behind result.log.items ≡ [] }
     ensures value { result.desk.shown.value
         ≡ fold after writer.desk.shown.value (drop writer.behind writer.log.items) }
-    ensures one { HasOneMore writer.desk.shown.value result.desk.shown.value }
+    ensures more { HasStepMore writer.desk.shown.value result.desk.shown.value }
     ensures view { view result.desk.place ≡ view_of result.desk.shown.value.version }
 {
-    let (writer, _) = writer.publish_as::<PublishOne, R>(rt);
+    let (writer, _) = writer.publish_as::<PublishStep, R>(rt);
     writer
 }
 
@@ -168,7 +148,7 @@ fn publish_nothing<A: Allocator, R: Wait>(writer: MovieWriter<A>, rt: &R) -> Mov
 fn publish_edit<A: Allocator, R: Wait>(
     writer: MovieWriter<A>,
     rt: &R,
-    change: PublishedEdit<A>,
+    change: PublishedStep<A>,
 ) -> (MovieWriter<A>, Result<(), AllocError>)
     requires none { drop writer.behind writer.log.items ≡ [] }
     requires known { HasSeenAll writer.desk.shown.value (view writer.desk.place) }
@@ -177,7 +157,7 @@ fn publish_edit<A: Allocator, R: Wait>(
     ensures value { MatchResult result.1
         (λ _. result.0.desk.shown.value ≡ after writer.desk.shown.value change)
         (λ _. result.0.desk.shown.value ≡ writer.desk.shown.value) }
-    ensures one { OnOk result.1 (HasOneMore writer.desk.shown.value result.0.desk.shown.value) }
+    ensures more { OnOk result.1 (HasStepMore writer.desk.shown.value result.0.desk.shown.value) }
     ensures view { MatchResult result.1
         (λ _. view result.0.desk.place ≡ view_of result.0.desk.shown.value.version)
         (λ _. view result.0.desk.place ≡ view writer.desk.place) }
@@ -186,7 +166,7 @@ fn publish_edit<A: Allocator, R: Wait>(
     if let Err(_) = writer.append(change) {
         return (writer, Err(AllocError));
     }
-    (publish_one(writer, rt), Ok(()))
+    (publish_step(writer, rt), Ok(()))
 }
 
 /// Tells a reader of this writer all that the writer has seen. The reader has seen no less than before.
@@ -256,35 +236,31 @@ impl<A: Allocator + Copy> Publisher<A> {
             }) }
         ensures refused { OnErr result (self.new ≡ self.old) }
     {
+        self.push_step(rt, Step::One(next))
+    }
+
+    /// Adds the entries of a step that can come next, one after the other, and publishes them at once. All growths come first, and
+    /// then nothing can fail.
+    pub fn push_step<R: Wait>(&mut self, rt: &R, step: Step<A>) -> Result<(), AllocError>
+        requires { AreNext self.old.journal (entries_in step) }
+        ensures done { OnOk result (self.new ≡ pushed_by self.old (entries_in step)) }
+        ensures refused { OnErr result (self.new ≡ self.old) }
+    {
         replace_with(
             self,
-            next,
-            |publisher: Publisher<A>, next: Entry<A>| -> (Publisher<A>, Result<(), AllocError>)
-                requires { IsNextEntry publisher.journal next }
-                ensures done { OnOk result.1
-                    (result.0
-                    ≡ record {
-                      registry = publisher.registry;
-                      journal = publisher.journal
-                          ++ next ∷ [];
-                      movie = edited publisher.movie next.edit;
-                    }) }
+            step,
+            |publisher: Publisher<A>, step: Step<A>| -> (Publisher<A>, Result<(), AllocError>)
+                requires { AreNext publisher.journal (entries_in step) }
+                ensures done { OnOk result.1 (result.0 ≡ pushed_by publisher (entries_in step)) }
                 ensures refused { OnErr result.1 (result.0 ≡ publisher) }
-            { publisher.pushed(rt, next) },
+            { publisher.pushed(rt, step) },
         )
     }
 
-    /// As [`Publisher::push`], by value, since the writer publishes by value.
-    fn pushed<R: Wait>(self, rt: &R, next: Entry<A>) -> (Publisher<A>, Result<(), AllocError>)
-        requires { IsNextEntry self.journal next }
-        ensures done { OnOk result.1
-            (result.0
-            ≡ record {
-              registry = self.registry;
-              journal = self.journal
-                  ++ next ∷ [];
-              movie = edited self.movie next.edit;
-            }) }
+    /// As [`Publisher::push_step`], by value, since the writer publishes by value.
+    fn pushed<R: Wait>(self, rt: &R, step: Step<A>) -> (Publisher<A>, Result<(), AllocError>)
+        requires { AreNext self.journal (entries_in step) }
+        ensures done { OnOk result.1 (result.0 ≡ pushed_by self (entries_in step)) }
         ensures refused { OnErr result.1 (result.0 ≡ self) }
     {
         let Publisher {
@@ -292,14 +268,15 @@ impl<A: Allocator + Copy> Publisher<A> {
             mut latest,
             writer,
         } = self;
-        match add_entry(&mut journal, next) {
-            Ok(edit) => {
+        let kept = journal.as_slice().len();
+        match add_step(&mut journal, step) {
+            Ok(stroke) => {
                 renew(rt, &mut latest, &journal);
                 let version = latest.version().copy();
-                let change = PublishedEdit::new(edit, version);
+                let change = PublishedStep::new(stroke, version);
                 let (writer, answer) = publish_edit(writer, rt, change);
                 if answer.is_err() {
-                    take_back(&mut journal);
+                    take_back(&mut journal, kept);
                 }
                 let publisher = Publisher {
                     journal,

@@ -107,6 +107,21 @@ impl EditError {
     }
 }
 
+/// Why a step of edits was refused: none of them was made, and history, movie and greenzone are as they were.
+#[derive(Clone, Copy, Debug, PartialEq, Eq, Error)]
+pub enum CommitError {
+    /// The history has another number of edits than the caller says.
+    #[error("moved to {at}")]
+    Moved {
+        /// How many edits the history has.
+        at: u64,
+    },
+    /// As an edit is refused; `Full` also where there is room for the first edit alone, and `Place` and `Long` of the first edit
+    /// that is refused, in the movie that those before it leave.
+    #[error("{0}")]
+    Refused(EditError),
+}
+
 /// A frame was drawn.
 #[derive(Drop)]
 pub struct Shot<A: Allocator = Global> {

@@ -40,9 +40,9 @@ pub const MAX_EDITS: u64 = 1_000_000;
 ///
 /// It owns what is published to readers, so it can't be dropped: end it by `close`.
 pub struct Session<A: Allocator = Global> {
-    publisher: Publisher<A>,
-    counts: EntryCounts<A>,
-    green: Green<A>,
+    pub(crate) publisher: Publisher<A>,
+    pub(crate) counts: EntryCounts<A>,
+    pub(crate) green: Green<A>,
 }
 
 impl<A: Allocator> Model for Session<A> {
@@ -218,7 +218,7 @@ impl<A: Allocator + Copy> Session<A> {
     }
 
     /// Makes an allowed edit: all growths come first, and then nothing can fail.
-    fn accept<R: Wait>(&mut self, rt: &R, next: Entry<A>) -> Result<(), AllocError>
+    pub(crate) fn accept<R: Wait>(&mut self, rt: &R, next: Entry<A>) -> Result<(), AllocError>
         requires { IsNextEntry self.old.journal next }
         ensures done { OnOk result (self.new ≡ after_entry self.old next) }
         ensures refused { OnErr result (self.new ≡ self.old) }

@@ -1,4 +1,3 @@
-use Rattle.std.proofs.Common.{arith}
 use Rattle.tas_session.proofs.PublishedRule.{looks}
 use Rattle.tas_session.proofs.movie_reader.look_input.Goals as goal
 

@@ -1,6 +1,5 @@
-use Rattle.std.proofs.Common.{List, ◌++◌, ap, ◌∙◌}
+use Rattle.std.proofs.Common.{◌++◌, ap, ◌∙◌}
 use Rattle.left_right.specs.Sides.{view}
-use Rattle.tas_session.specs.declared.entry.Entry.{Entry}
 use Rattle.tas_session.specs.declared.reader_view.ReaderView.{ReaderView}
 use Rattle.tas_session.specs.Published.{learned}
 use Rattle.tas_session.proofs.PublishedRule.{admits, learned_all}

@@ -1,9 +1,9 @@
-use Rattle.tas_session.proofs.PublishedRule.{publishes_one}
+use Rattle.tas_session.proofs.PublishedRule.{publishes_step}
 use Rattle.tas_session.proofs.PublishLemmas.{done_of}
-use Rattle.tas_session.proofs.publisher.publish_one.Goals as goal
+use Rattle.tas_session.proofs.publisher.publish_step.Goals as goal
 
 pub publish_as-writer-requires : goal.publish_as-writer-requires
-publish_as-writer-requires g c = λ next is. publishes_one _ _ _ _ next is c.requires.known c.requires.more
+publish_as-writer-requires g c = λ next is. publishes_step _ _ _ _ next is c.requires.known c.requires.more
 
 pub returns-clause-none : goal.returns-clause-none
 returns-clause-none g c =
@@ -15,8 +15,8 @@ returns-clause-value g c =
     let e = c.publish_as-writer.ensures in
     (done_of _ _ c.publish_as-writer.result.1 (e.succeeds tt) e.values).0
 
-pub returns-clause-one : goal.returns-clause-one
-returns-clause-one g c =
+pub returns-clause-more : goal.returns-clause-more
+returns-clause-more g c =
     let e = c.publish_as-writer.ensures in
     (done_of _ _ c.publish_as-writer.result.1 (e.succeeds tt) e.rule).more
 
