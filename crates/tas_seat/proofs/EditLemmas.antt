@@ -32,12 +32,12 @@ use Rattle.tas_language.specs.declared.command.Command.{Command}
 use Rattle.tas_language.specs.declared.command.Command.TheVariants.{Load as LoadCommand, Edit as EditCommand}
 use Rattle.tas_language.specs.declared.reply.Reply.{Reply}
 use Rattle.tas_language.specs.declared.reply.Reply.TheVariants.{Edited, Place as PlaceReply, Long as LongReply, Full, OutOfMemory}
-use Rattle.tas_seat.specs.declared.asking.Asked.{Asked}
-use Rattle.tas_seat.specs.declared.asking.Asked.TheVariants.{Load, Change, Retouch}
+use Rattle.tas_seat.specs.declared.edit_requests.EditRequest.{EditRequest}
+use Rattle.tas_seat.specs.declared.edit_requests.EditRequest.TheVariants.{Load, Change, Retouch}
 use Rattle.tas_seat.specs.Turns.{Unforeseen, Standing, standing_of, refused_reply, refusal_reply, edit_reply, standing_unless}
 use Rattle.tas_seat.specs.Seats.{IsSeatAfter, IsAnswered}
-use Rattle.tas_seat.specs.Inside.Asking.{asked_refusal, asked_edit}
-use Rattle.tas_seat.specs.Inside.Telling.{refused_as, IsTurnOf, IsEditAnswered, IsStrange, IsUnanswered}
+use Rattle.tas_seat.specs.Inside.EditRequests.{requested_refusal, requested_edit}
+use Rattle.tas_seat.specs.Inside.Outcomes.{refused_as, IsTurnOf, IsEditAnswered, IsMiscounted, IsUnanswered}
 use Rattle.tas_seat.proofs.SeatLemmas.{stood, rests, made_none, made_all}
 
 -- ---- the same edit on any allocator
@@ -61,13 +61,13 @@ retouch_edited A movie taken retouch =
     ap (λ (r : Option EditRefusal). edited_unless r movie (retouch_with A taken retouch)) (retouch_same A movie taken retouch)
     ∙ retouch_unless A (refusal movie (retouch_with (Unit {0}) taken retouch)) movie taken retouch
 
-asked_edited : (A : Type 0) (asked : Asked) (movie : MovieContent) → edited movie (asked_edit A asked movie) ≡ edited movie (asked_edit (Unit {0}) asked movie)
+pub asked_edited : (A : Type 0) (asked : EditRequest) (movie : MovieContent) → edited movie (requested_edit A asked movie) ≡ edited movie (requested_edit (Unit {0}) asked movie)
 asked_edited A (Load image) movie = refl
 asked_edited A (Change change) movie = change_edited A movie change
 asked_edited A (Retouch retouch) movie = retouch_edited A movie (taken_by movie.inputs retouch) retouch
 
 -- an edit that isn't refused is allowed
-pub asked_allowed : (A : Type 0) (asked : Asked) (movie : MovieContent) → asked_refusal asked movie ≡ None → IsAllowed movie (asked_edit A asked movie)
+pub asked_allowed : (A : Type 0) (asked : EditRequest) (movie : MovieContent) → requested_refusal asked movie ≡ None → IsAllowed movie (requested_edit A asked movie)
 asked_allowed A (Load image) movie none = refl
 asked_allowed A (Change change) movie none = change_refusal A movie change ∙ none
 asked_allowed A (Retouch retouch) movie none = retouch_allowed A movie retouch none
@@ -102,21 +102,21 @@ not_serial false n k at counted (Some (LongRefusal len)) e = absurd (cc e)
 
 -- ---- turns
 
-turn_refused : {A : Type 0} (s : Standing) (refused : Option EditRefusal) (edit : Edit A) (reply : Reply) → refused_reply s.made refused ≡ Some reply → IsTurnOf s refused edit reply s
+pub turn_refused : {A : Type 0} (s : Standing) (refused : Option EditRefusal) (edit : Edit A) (reply : Reply) → refused_reply s.made refused ≡ Some reply → IsTurnOf s refused edit reply s
 turn_refused s refused edit reply is = (
   false,
   sym (ap (λ (o : Option Reply). edit_reply o false s.made (length (edited s.movie edit).inputs)) is),
   sym (ap (λ (o : Option Reply). standing_unless o false s edit) is),
 )
 
-turn_without_memory : {A : Type 0} (s : Standing) (refused : Option EditRefusal) (edit : Edit A) → refused_reply s.made refused ≡ None → IsTurnOf s refused edit OutOfMemory s
+pub turn_without_memory : {A : Type 0} (s : Standing) (refused : Option EditRefusal) (edit : Edit A) → refused_reply s.made refused ≡ None → IsTurnOf s refused edit OutOfMemory s
 turn_without_memory s refused edit is = (
   true,
   sym (ap (λ (o : Option Reply). edit_reply o true s.made (length (edited s.movie edit).inputs)) is),
   sym (ap (λ (o : Option Reply). standing_unless o true s edit) is),
 )
 
-turn_made : {A : Type 0} (s : Standing) (refused : Option EditRefusal) (edit : Edit A) → refused_reply s.made refused ≡ None
+pub turn_made : {A : Type 0} (s : Standing) (refused : Option EditRefusal) (edit : Edit A) → refused_reply s.made refused ≡ None
     → IsTurnOf s refused edit (Edited (s.made + 1) (length (edited s.movie edit).inputs)) (record { movie = edited s.movie edit; made = s.made + 1 })
 turn_made s refused edit is = (
   false,
@@ -126,15 +126,15 @@ turn_made s refused edit is = (
 
 -- ---- an edit on the desk
 
-pub edit_made : (A : Type 0) (before now : SeatContent A) (asked : Asked) (receipt : Receipt) → IsEditedBy before now (asked_refusal asked) (asked_edit A asked) (Ok receipt) → IsEditAnswered A before now asked (Edited receipt.at receipt.len)
+pub edit_made : (A : Type 0) (before now : SeatContent A) (asked : EditRequest) (receipt : Receipt) → IsEditedBy before now (requested_refusal asked) (requested_edit A asked) (Ok receipt) → IsEditAnswered A before now asked (Edited receipt.at receipt.len)
 edit_made A before now asked receipt e =
     let movie : MovieContent = movie_of e.at in
-    let edit : Edit A = asked_edit A asked movie in
-    let content : EditContent = asked_edit (Unit {0}) asked movie in
+    let edit : Edit A = requested_edit A asked movie in
+    let content : EditContent = requested_edit (Unit {0}) asked movie in
     let entry : Entry A = entry_of before.number before.made edit in
     let pushed : List (Entry A) = e.at ++ entry ∷ [] in
-    let free : refused_reply (length e.at) (asked_refusal asked movie) ≡ None =
-    unrefused (entries_of before.number e.at == before.made) (length e.at == most_edits) (length e.at) (entries_of before.number e.at) (asked_refusal asked movie) e.refusal in
+    let free : refused_reply (length e.at) (requested_refusal asked movie) ≡ None =
+    unrefused (entries_of before.number e.at == before.made) (length e.at == most_edits) (length e.at) (entries_of before.number e.at) (requested_refusal asked movie) e.refusal in
     let front : now.front ≡ pushed = ap (λ (s : SeatContent A). s.front) e.seat in
     let long : length pushed ≡ length e.at + 1 = omega (arith, length-append e.at (entry ∷ [])) in
     let same : edited movie edit ≡ edited movie content = asked_edited A asked movie in
@@ -142,7 +142,7 @@ edit_made A before now asked receipt e =
     ap (λ (l : List (Entry A)). standing_of l) front
     ∙ ap (λ (m : MovieContent). let f : Standing = record { movie = m; made = length pushed } in f) (movie_of-push e.at entry ∙ same)
     ∙ ap (λ (n : ℕ). let f : Standing = record { movie = edited movie content; made = n } in f) long in
-    let turn = turn_made (standing_of e.at) (asked_refusal asked movie) content free in
+    let turn = turn_made (standing_of e.at) (requested_refusal asked movie) content free in
     record {
       at = e.at;
       turn = (turn.0, ap (λ (r : Receipt). Edited r.at r.len) e.receipt ∙ ap (λ (m : MovieContent). Edited (length e.at + 1) (length m.inputs)) same ∙ turn.1, next ∙ turn.2);
@@ -152,36 +152,36 @@ edit_made A before now asked receipt e =
     }
 
 -- an edit that wasn't made leaves the seat at the history
-unmade : (A : Type 0) (before now : SeatContent A) (asked : Asked) (reply : Reply) (at : List (Entry A)) → IsPrefix before.front at → now ≡ seat_of before.number before.made at before.zone
-    → IsTurnOf (standing_of at) (asked_refusal asked (movie_of at)) (asked_edit (Unit {0}) asked (movie_of at)) reply (standing_of at) → IsEditAnswered A before now asked reply
+unmade : (A : Type 0) (before now : SeatContent A) (asked : EditRequest) (reply : Reply) (at : List (Entry A)) → IsPrefix before.front at → now ≡ seat_of before.number before.made at before.zone
+    → IsTurnOf (standing_of at) (requested_refusal asked (movie_of at)) (requested_edit (Unit {0}) asked (movie_of at)) reply (standing_of at) → IsEditAnswered A before now asked reply
 unmade A before now asked reply at begins is turn =
     let front : now.front ≡ at = ap (λ (s : SeatContent A). s.front) is in
     record {
       at = at;
-      turn = subst (λ (l : List (Entry A)). IsTurnOf (standing_of at) (asked_refusal asked (movie_of at)) (asked_edit (Unit {0}) asked (movie_of at)) reply (standing_of l)) (sym front) turn;
+      turn = subst (λ (l : List (Entry A)). IsTurnOf (standing_of at) (requested_refusal asked (movie_of at)) (requested_edit (Unit {0}) asked (movie_of at)) reply (standing_of l)) (sym front) turn;
       zone = ap (λ (s : SeatContent A). s.zone) is;
-      seat = subst (λ (l : List (Edit A)). IsSeatAfter before at l now) (made_none (standing_of at) (standing_of now.front) (asked_edit A asked (movie_of at) ∷ []) (ap (λ (l : List (Entry A)). length l) front))
+      seat = subst (λ (l : List (Edit A)). IsSeatAfter before at l now) (made_none (standing_of at) (standing_of now.front) (requested_edit A asked (movie_of at) ∷ []) (ap (λ (l : List (Entry A)). length l) front))
           (stood before now at begins is);
     }
 
-refused_edit : (A : Type 0) (before now : SeatContent A) (asked : Asked) (error : EditError) (reply : Reply) (at : List (Entry A)) → IsPrefix before.front at → now ≡ seat_of before.number before.made at before.zone
-    → refusal_by at before.number before.made (asked_refusal asked (movie_of at)) ≡ Some error → refused_as error ≡ Ok reply → IsEditAnswered A before now asked reply
+refused_edit : (A : Type 0) (before now : SeatContent A) (asked : EditRequest) (error : EditError) (reply : Reply) (at : List (Entry A)) → IsPrefix before.front at → now ≡ seat_of before.number before.made at before.zone
+    → refusal_by at before.number before.made (requested_refusal asked (movie_of at)) ≡ Some error → refused_as error ≡ Ok reply → IsEditAnswered A before now asked reply
 refused_edit A before now asked error reply at begins is found says =
     unmade A before now asked reply at begins is
-    (turn_refused (standing_of at) (asked_refusal asked (movie_of at)) (asked_edit (Unit {0}) asked (movie_of at)) reply
-    (told_refusal (entries_of before.number at == before.made) (length at == most_edits) (length at) (entries_of before.number at) (asked_refusal asked (movie_of at)) error reply found says))
+    (turn_refused (standing_of at) (requested_refusal asked (movie_of at)) (requested_edit (Unit {0}) asked (movie_of at)) reply
+    (told_refusal (entries_of before.number at == before.made) (length at == most_edits) (length at) (entries_of before.number at) (requested_refusal asked (movie_of at)) error reply found says))
 
-memory_edit : (A : Type 0) (before now : SeatContent A) (asked : Asked) (at : List (Entry A)) → IsPrefix before.front at → now ≡ seat_of before.number before.made at before.zone
-    → refusal_by at before.number before.made (asked_refusal asked (movie_of at)) ≡ None → IsEditAnswered A before now asked OutOfMemory
+memory_edit : (A : Type 0) (before now : SeatContent A) (asked : EditRequest) (at : List (Entry A)) → IsPrefix before.front at → now ≡ seat_of before.number before.made at before.zone
+    → refusal_by at before.number before.made (requested_refusal asked (movie_of at)) ≡ None → IsEditAnswered A before now asked OutOfMemory
 memory_edit A before now asked at begins is found =
     unmade A before now asked OutOfMemory at begins is
-    (turn_without_memory (standing_of at) (asked_refusal asked (movie_of at)) (asked_edit (Unit {0}) asked (movie_of at))
-    (unrefused (entries_of before.number at == before.made) (length at == most_edits) (length at) (entries_of before.number at) (asked_refusal asked (movie_of at)) found))
+    (turn_without_memory (standing_of at) (requested_refusal asked (movie_of at)) (requested_edit (Unit {0}) asked (movie_of at))
+    (unrefused (entries_of before.number at == before.made) (length at == most_edits) (length at) (entries_of before.number at) (requested_refusal asked (movie_of at)) found))
 
-strange_edit : (A : Type 0) (before now : SeatContent A) (asked : Asked) (n counted : ℕ) (at : List (Entry A)) → IsPrefix before.front at → now ≡ seat_of before.number before.made at before.zone
-    → refusal_by at before.number before.made (asked_refusal asked (movie_of at)) ≡ Some (Serial n counted) → IsStrange before now
+strange_edit : (A : Type 0) (before now : SeatContent A) (asked : EditRequest) (n counted : ℕ) (at : List (Entry A)) → IsPrefix before.front at → now ≡ seat_of before.number before.made at before.zone
+    → refusal_by at before.number before.made (requested_refusal asked (movie_of at)) ≡ Some (Serial n counted) → IsMiscounted before now
 strange_edit A before now asked n counted at begins is found =
-    let refused : Option EditRefusal = asked_refusal asked (movie_of at) in
+    let refused : Option EditRefusal = requested_refusal asked (movie_of at) in
     let front : now.front ≡ at = ap (λ (s : SeatContent A). s.front) is in
     let number : now.number ≡ before.number = ap (λ (s : SeatContent A). s.number) is in
     let made : now.made ≡ before.made = ap (λ (s : SeatContent A). s.made) is in
@@ -195,12 +195,12 @@ strange_edit A before now asked n counted at begins is found =
           not_serial (length at == most_edits) (length at) (entries_of before.number at) n counted refused found';
     }
 
-pub edit_refused : (A : Type 0) (before now : SeatContent A) (asked : Asked) (error : EditError) (r : Result Reply RunFault) → IsEditedBy before now (asked_refusal asked) (asked_edit A asked) (Err error) → r ≡ refused_as error
-    → MatchResult r (IsEditAnswered A before now asked) (λ fault. (fault ≡ Foreign) × IsStrange before now)
+pub edit_refused : (A : Type 0) (before now : SeatContent A) (asked : EditRequest) (error : EditError) (r : Result Reply RunFault) → IsEditedBy before now (requested_refusal asked) (requested_edit A asked) (Err error) → r ≡ refused_as error
+    → MatchResult r (IsEditAnswered A before now asked) (λ fault. (fault ≡ Foreign) × IsMiscounted before now)
 edit_refused A before now asked error r e is =
-    subst (λ (x : Result Reply RunFault). MatchResult x (IsEditAnswered A before now asked) (λ fault. (fault ≡ Foreign) × IsStrange before now)) (sym is) (go error e)
+    subst (λ (x : Result Reply RunFault). MatchResult x (IsEditAnswered A before now asked) (λ fault. (fault ≡ Foreign) × IsMiscounted before now)) (sym is) (go error e)
   where
-    go : (x : EditError) → IsEditedBy before now (asked_refusal asked) (asked_edit A asked) (Err x) → MatchResult (refused_as x) (IsEditAnswered A before now asked) (λ fault. (fault ≡ Foreign) × IsStrange before now)
+    go : (x : EditError) → IsEditedBy before now (requested_refusal asked) (requested_edit A asked) (Err x) → MatchResult (refused_as x) (IsEditAnswered A before now asked) (λ fault. (fault ≡ Foreign) × IsMiscounted before now)
     go (Serial at counted) i = (refl, strange_edit A before now asked at counted i.at i.begins i.seat i.refusal)
     go (AllMade at) i = refused_edit A before now asked (AllMade at) (Full at) i.at i.begins i.seat i.refusal refl
     go (OutOfPlace at place len) i = refused_edit A before now asked (OutOfPlace at place len) (PlaceReply at len) i.at i.begins i.seat i.refusal refl
@@ -229,17 +229,17 @@ change_answered A before now change reply e = record {
 }
 
 -- the history has another number of the seat's edits than it made
-pub strange_fault : {A : Type 0} (before now : SeatContent A) (fault : RunFault) → (fault ≡ Foreign) × IsStrange before now → IsUnanswered before now fault
+pub strange_fault : {A : Type 0} (before now : SeatContent A) (fault : RunFault) → (fault ≡ Foreign) × IsMiscounted before now → IsUnanswered before now fault
 strange_fault before now fault is = subst (λ (f : RunFault). IsUnanswered before now f) (sym is.0) is.1
 
 pub load_line : (A : Type 0) (before now : SeatContent A) (command : Command) (image : Image) (r : Result Reply RunFault) → command ≡ LoadCommand image
-    → MatchResult r (IsEditAnswered A before now (Load image)) (λ fault. (fault ≡ Foreign) × IsStrange before now) → MatchResult r (IsAnswered A before now command) (IsUnanswered before now)
+    → MatchResult r (IsEditAnswered A before now (Load image)) (λ fault. (fault ≡ Foreign) × IsMiscounted before now) → MatchResult r (IsAnswered A before now command) (IsUnanswered before now)
 load_line A before now command image r is e =
     subst (λ (c : Command). MatchResult r (IsAnswered A before now c) (IsUnanswered before now)) (sym is)
     (MatchResult-weaker r e (load_answered A before now image) (strange_fault before now))
 
 pub change_line : (A : Type 0) (before now : SeatContent A) (command : Command) (change : ChangeLine) (r : Result Reply RunFault) → command ≡ EditCommand change
-    → MatchResult r (IsEditAnswered A before now (Change change)) (λ fault. (fault ≡ Foreign) × IsStrange before now) → MatchResult r (IsAnswered A before now command) (IsUnanswered before now)
+    → MatchResult r (IsEditAnswered A before now (Change change)) (λ fault. (fault ≡ Foreign) × IsMiscounted before now) → MatchResult r (IsAnswered A before now command) (IsUnanswered before now)
 change_line A before now command change r is e =
     subst (λ (c : Command). MatchResult r (IsAnswered A before now c) (IsUnanswered before now)) (sym is)
     (MatchResult-weaker r e (change_answered A before now change) (strange_fault before now))

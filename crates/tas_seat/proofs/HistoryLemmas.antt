@@ -1,6 +1,6 @@
 -- What the history that a desk leaves has of a seat.
 use Rattle.std.proofs.Common.{◌≡◌, ℕ, suc, ◌+◌, ◌≤◌, List, [], ◌∷◌, ◌++◌, length, Option, Some, None, Result, Ok, Err, ◌⊎◌, inl, inr, refl, sym, ap, subst, ◌∙◌, arith, append_assoc, append-nil, length-append}
-use Rattle.std.specs.Prelude.{◌==◌, filter}
+use Rattle.std.specs.Prelude.{◌==◌}
 use Rattle.std.proofs.lemmas.Bool.{eq-eqb}
 use Rattle.std.proofs.lemmas.List.Elements.{filter-append}
 use Rattle.std.proofs.lemmas.List.Sums.{length-filter}
@@ -12,12 +12,11 @@ use Rattle.tas_desk.specs.Seats.{SeatContent, entry_of, HasSeen, IsSettled}
 use Rattle.tas_engines.specs.declared.fault.ToolFault.{ToolFault}
 use Rattle.tas_engines.specs.declared.fault.ToolFault.TheVariants.{Read, Run, Seat}
 use Rattle.tas_engines.specs.declared.fault.ReadFault.TheVariants.{TooLong, Failed, Memory as NoRoom}
-use Rattle.tas_engines.specs.declared.fault.RunFault.{RunFault}
 use Rattle.tas_engines.specs.declared.fault.RunFault.TheVariants.{Write, Size, Text, NoFrame as OffMovie, Range as OffRange, Halted as Stopped, HaltedFrame as StoppedFrame, Script, Place, Long, NoPlace, NoEntry, Foreign, Memory}
 use Rattle.tas_language.specs.declared.request.Request.{Request}
 use Rattle.tas_language.specs.declared.request.Request.TheVariants.{Do, Retouch, Picture, Pictures, Ram, Digest, Lag, Movie, States, Share, History, Quit}
 use Rattle.tas_seat.specs.Seats.{entries_from, IsSeatAfter, IsAnsweredAt, StripAnswer, AreStrip, IsRequestAnswered, IsLineAnswered}
-use Rattle.tas_seat.specs.Inside.Telling.{IsStrange}
+use Rattle.tas_seat.specs.Inside.Outcomes.{IsMiscounted}
 use Rattle.tas_seat.specs.Talk.{Exchange, IsExchange, AreExchanges, IsLeft, HasLooked, IsCarriedOut, TalkEnds, IsTalk, edits_of, all_edits}
 use Rattle.tas_seat.specs.Histories.{entries_by, IsInHistory}
 
@@ -196,7 +195,7 @@ exchanges_leave {A} start last (x ∷ xs) is = leaves_more start x.next last x.e
 
 -- what was done of the rest, or the end that never comes
 abbrev pub Rested : {A : Type 0} → (seat last : SeatContent A) → List (Edit A) → Result (Unit {0}) ToolFault → Type 0
-Rested {A} seat last edits result = IsStrange seat last ⊎ (Leaves seat last edits × (result ≡ Err (Run Foreign) → ⊥))
+Rested {A} seat last edits result = IsMiscounted seat last ⊎ (Leaves seat last edits × (result ≡ Err (Run Foreign) → ⊥))
 
 left_rest : {A : Type 0} (seat last : SeatContent A) (edits : List (Edit A)) (result : Result (Unit {0}) ToolFault) → (result ≡ Err (Run Foreign) → ⊥) → IsLeft seat last edits → Rested seat last edits result
 left_rest {A} seat last edits result other is = inr (leaves_none seat last edits is.none (leaves_same seat last is.same), other)

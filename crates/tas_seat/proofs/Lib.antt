@@ -1,7 +1,7 @@
 pub mod SeatLemmas
 pub mod EditLemmas
 pub mod LookLemmas
-pub mod TellingLemmas
+pub mod AnswerLemmas
 pub mod ReachLemmas
 pub mod KeptLemmas
 pub mod StripLemmas
@@ -9,3 +9,7 @@ pub mod HistoryTextLemmas
 pub mod TalkLemmas
 pub mod HistoryLemmas
 pub mod HeldLemmas
+pub mod DraftLemmas
+pub mod DraftEditLemmas
+pub mod DraftStripLemmas
+pub mod StrokeLemmas

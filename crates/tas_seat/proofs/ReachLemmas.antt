@@ -38,21 +38,21 @@ use Rattle.tas_language.specs.Answers.{ram_text, lag_text}
 use Rattle.tas_seat.specs.Turns.{standing_of}
 use Rattle.tas_seat.specs.Requests.{LookLeaves, answer_ram, answer_to_ram, answer_to_digest, drawn_digest, has_frames, answer_lag, answer_to_lag}
 use Rattle.tas_seat.specs.Seats.{talk_state_at}
-use Rattle.tas_seat.specs.Inside.Telling.{unshown_as, IsDigest, IsTold, IsUntold}
+use Rattle.tas_seat.specs.Inside.Outcomes.{unshown_as, IsDigest, HasAnswer, HasNoAnswer}
 use Rattle.tas_seat.proofs.SeatLemmas.{rests, reaches_at, answered_here}
-use Rattle.tas_seat.proofs.TellingLemmas.{shown_frame}
+use Rattle.tas_seat.proofs.AnswerLemmas.{shown_frame}
 
 -- ---- what is there
 
-ram_there : (movie : MovieContent) (k : ℕ) → k ≤ length movie.inputs → answer_ram movie k ≡ Some (state_after movie k).riot.ram
+pub ram_there : (movie : MovieContent) (k : ℕ) → k ≤ length movie.inputs → answer_ram movie k ≡ Some (state_after movie k).riot.ram
 ram_there movie k le =
     let yes : nat_le k (length movie.inputs) ≡ true = grind (arith, nat_tests) in ap (λ (b : Bool). if b then Some (state_after movie k).riot.ram else None) yes
 
-ram_none : (movie : MovieContent) (k : ℕ) → length movie.inputs < k → answer_ram movie k ≡ None
+pub ram_none : (movie : MovieContent) (k : ℕ) → length movie.inputs < k → answer_ram movie k ≡ None
 ram_none movie k lt =
     let never : nat_le k (length movie.inputs) ≡ false = grind (arith, nat_tests) in ap (λ (b : Bool). if b then Some (state_after movie k).riot.ram else None) never
 
-shot_none : (movie : MovieContent) (k : ℕ) → length movie.inputs ≤ k → answer_shot movie k ≡ None
+pub shot_none : (movie : MovieContent) (k : ℕ) → length movie.inputs ≤ k → answer_shot movie k ≡ None
 shot_none movie k le =
     let never : nat_lt k (length movie.inputs) ≡ false = grind (arith, nat_tests) in ap (λ (b : Bool). if b then Some (shown_of (state_after movie (k + 1)).halt (picture_of movie k)) else None) never
 
@@ -114,7 +114,7 @@ few_inputs : {A : Type 0} (history : List (Entry A)) → length (movie_of histor
 few_inputs history = few_from blank_movie history (omega arith)
 
 -- the place after a frame, modulo the words, is a place of the movie after it just where the movie has the frame
-next_place : (k n : ℕ) → k < 2 ^ 64 → k ≤ (k + 1) % 2 ^ 64 → (k + 1) % 2 ^ 64 ≤ n → k < n
+pub next_place : (k n : ℕ) → k < 2 ^ 64 → k ≤ (k + 1) % 2 ^ 64 → (k + 1) % 2 ^ 64 ≤ n → k < n
 next_place k n fits order within =
     elim (cases_lt (k + 1) (2 ^ 64)) [
       | inl small ↦ let is = mod-eq_of_lt small in omega (arith, is, within)
@@ -124,7 +124,7 @@ next_place k n fits order within =
           omega (arith, none, order, last)
     ]
 
-no_next_place : (k n : ℕ) → n ≤ most_inputs → (k ≤ (k + 1) % 2 ^ 64 → (k + 1) % 2 ^ 64 ≤ n → ⊥) → n ≤ k
+pub no_next_place : (k n : ℕ) → n ≤ most_inputs → (k ≤ (k + 1) % 2 ^ 64 → (k + 1) % 2 ^ 64 ≤ n → ⊥) → n ≤ k
 no_next_place k n few never =
     elim (cases_lt k n) [
       | inl within ↦
@@ -137,13 +137,13 @@ no_next_place k n few never =
 
 -- what a request is answered where the movie hasn't the frames, and where memory was refused
 unreached : (A : Type 0) (before now : SeatContent A) (request : Request) (from to : ℕ) (error : StateError) → HasSeen before now → IsStateFor now.front from to (Err error) → IsZoneReached before now from (Err error)
-    → ((from ≤ to → to ≤ length (movie_of now.front).inputs → ⊥) → now.zone ≡ before.zone → IsTold A before now request (reply_text (NoFrame (length now.front) (length (movie_of now.front).inputs))))
-    → (from ≤ to → to ≤ length (movie_of now.front).inputs → now.zone ≡ before.zone → IsTold A before now request (reply_text OutOfMemory))
-    → MatchResult (unshown_as (shot_error error)) (λ reply. IsTold A before now request (reply_text reply)) (IsUntold before now request)
+    → ((from ≤ to → to ≤ length (movie_of now.front).inputs → ⊥) → now.zone ≡ before.zone → HasAnswer A before now request (reply_text (NoFrame (length now.front) (length (movie_of now.front).inputs))))
+    → (from ≤ to → to ≤ length (movie_of now.front).inputs → now.zone ≡ before.zone → HasAnswer A before now request (reply_text OutOfMemory))
+    → MatchResult (unshown_as (shot_error error)) (λ reply. HasAnswer A before now request (reply_text reply)) (HasNoAnswer before now request)
 unreached A before now request from to NoStateEntry seen reply zone few lost = seen
 unreached A before now request from to (FewFrames at len) seen reply zone few lost =
-    subst (λ (n : ℕ). IsTold A before now request (reply_text (NoFrame n len))) (sym reply.0)
-    (subst (λ (n : ℕ). IsTold A before now request (reply_text (NoFrame (length now.front) n))) (sym reply.1)
+    subst (λ (n : ℕ). HasAnswer A before now request (reply_text (NoFrame n len))) (sym reply.0)
+    (subst (λ (n : ℕ). HasAnswer A before now request (reply_text (NoFrame (length now.front) n))) (sym reply.1)
     (few (λ (order : from ≤ to) (within : to ≤ length (movie_of now.front).inputs). reply.2 order (subst (λ (n : ℕ). to ≤ n) (sym reply.1) within)) zone))
 unreached A before now request from to NoStateMemory seen reply zone few lost = lost reply.0 reply.1 zone
 
@@ -153,9 +153,9 @@ shown_as shown error P Q is found = subst (λ (x : ShotError). MatchResult (unsh
 
 -- ---- `ram K`
 
-told_ram_as : (A : Type 0) (before now : SeatContent A) (k : ℕ) (no_memory : Bool) (found : Option (List ℕ)) (answer : List ℕ) → HasSeen before now → answer_ram (movie_of now.front) k ≡ found
-    → answer ≡ answer_to_ram no_memory (standing_of now.front) k found → LookLeaves no_memory (talk_state_at now.front before.zone) (talk_state_at now.front now.zone) k found → IsTold A before now (Ram k) answer
-told_ram_as A before now k no_memory found answer seen there is leaves = (
+ram_answered_as : (A : Type 0) (before now : SeatContent A) (k : ℕ) (no_memory : Bool) (found : Option (List ℕ)) (answer : List ℕ) → HasSeen before now → answer_ram (movie_of now.front) k ≡ found
+    → answer ≡ answer_to_ram no_memory (standing_of now.front) k found → LookLeaves no_memory (talk_state_at now.front before.zone) (talk_state_at now.front now.zone) k found → HasAnswer A before now (Ram k) answer
+ram_answered_as A before now k no_memory found answer seen there is leaves = (
   [],
   answered_here A before now (Ram k) answer seen (
     no_memory,
@@ -166,11 +166,11 @@ told_ram_as A before now k no_memory found answer seen there is leaves = (
 )
 
 pub unreached_ram : (A : Type 0) (before now : SeatContent A) (k : ℕ) (error : StateError) → HasSeen before now → IsStateFor now.front k k (Err error) → IsZoneReached before now k (Err error)
-    → MatchResult (unshown_as (shot_error error)) (λ reply. IsTold A before now (Ram k) (reply_text reply)) (IsUntold before now (Ram k))
+    → MatchResult (unshown_as (shot_error error)) (λ reply. HasAnswer A before now (Ram k) (reply_text reply)) (HasNoAnswer before now (Ram k))
 unreached_ram A before now k error seen reply zone =
     unreached A before now (Ram k) k k error seen reply zone
-    (λ never same. told_ram_as A before now k false None _ seen (ram_none (movie_of now.front) k (past never)) refl (rests before now now.front now.front same))
-    (λ order within same. told_ram_as A before now k true _ _ seen (ram_there (movie_of now.front) k within) refl (inl (rests before now now.front now.front same)))
+    (λ never same. ram_answered_as A before now k false None _ seen (ram_none (movie_of now.front) k (past never)) refl (rests before now now.front now.front same))
+    (λ order within same. ram_answered_as A before now k true _ _ seen (ram_there (movie_of now.front) k within) refl (inl (rests before now now.front now.front same)))
   where
     past : (k ≤ k → k ≤ length (movie_of now.front).inputs → ⊥) → length (movie_of now.front).inputs < k
     past never = elim (cases_lt (length (movie_of now.front).inputs) k) [
@@ -178,21 +178,21 @@ unreached_ram A before now k error seen reply zone =
       | inr le ↦ absurd (never (omega arith) le)
     ]
 
-pub told_ram : (A : Type 0) (before now : SeatContent A) (k at ran : ℕ) (state : State) (ram : List ℕ) → HasSeen before now → k ≤ length (movie_of now.front).inputs → state ≡ state_after (movie_of now.front) k → at ≡ length now.front
-    → IsReached before.zone now.zone now.front k ran → ram ≡ state.riot.ram → IsTold A before now (Ram k) (ram_text at k ram)
-told_ram A before now k at ran state ram seen within is here reached same =
-    told_ram_as A before now k false _ (ram_text at k ram) seen (ram_there (movie_of now.front) k within)
+pub ram_answered : (A : Type 0) (before now : SeatContent A) (k at ran : ℕ) (state : State) (ram : List ℕ) → HasSeen before now → k ≤ length (movie_of now.front).inputs → state ≡ state_after (movie_of now.front) k → at ≡ length now.front
+    → IsReached before.zone now.zone now.front k ran → ram ≡ state.riot.ram → HasAnswer A before now (Ram k) (ram_text at k ram)
+ram_answered A before now k at ran state ram seen within is here reached same =
+    ram_answered_as A before now k false _ (ram_text at k ram) seen (ram_there (movie_of now.front) k within)
     (ap (λ (n : ℕ). ram_text n k ram) here ∙ ap (ram_text (length now.front) k) (same ∙ ap (λ (s : State). s.riot.ram) is)) (ran, reaches_at before now now.front k ran reached)
 
-pub lost_ram : (A : Type 0) (before now : SeatContent A) (k ran : ℕ) → HasSeen before now → k ≤ length (movie_of now.front).inputs → IsReached before.zone now.zone now.front k ran → IsTold A before now (Ram k) (reply_text OutOfMemory)
+pub lost_ram : (A : Type 0) (before now : SeatContent A) (k ran : ℕ) → HasSeen before now → k ≤ length (movie_of now.front).inputs → IsReached before.zone now.zone now.front k ran → HasAnswer A before now (Ram k) (reply_text OutOfMemory)
 lost_ram A before now k ran seen within reached =
-    told_ram_as A before now k true _ _ seen (ram_there (movie_of now.front) k within) refl (inr (ran, reaches_at before now now.front k ran reached))
+    ram_answered_as A before now k true _ _ seen (ram_there (movie_of now.front) k within) refl (inr (ran, reaches_at before now now.front k ran reached))
 
 -- ---- `digest K`
 
-told_digest_as : (A : Type 0) (before now : SeatContent A) (k : ℕ) (no_memory : Bool) (found : Option (Result (List ℕ) Halt)) (answer : List ℕ) → HasSeen before now → answer_shot (movie_of now.front) k ≡ found
-    → answer ≡ answer_to_digest no_memory (standing_of now.front) k found → LookLeaves no_memory (talk_state_at now.front before.zone) (talk_state_at now.front now.zone) k found → IsTold A before now (Digest k) answer
-told_digest_as A before now k no_memory found answer seen there is leaves = (
+digest_answered_as : (A : Type 0) (before now : SeatContent A) (k : ℕ) (no_memory : Bool) (found : Option (Result (List ℕ) Halt)) (answer : List ℕ) → HasSeen before now → answer_shot (movie_of now.front) k ≡ found
+    → answer ≡ answer_to_digest no_memory (standing_of now.front) k found → LookLeaves no_memory (talk_state_at now.front before.zone) (talk_state_at now.front now.zone) k found → HasAnswer A before now (Digest k) answer
+digest_answered_as A before now k no_memory found answer seen there is leaves = (
   [],
   answered_here A before now (Digest k) answer seen (
     no_memory,
@@ -203,44 +203,44 @@ told_digest_as A before now k no_memory found answer seen there is leaves = (
 )
 
 pub unreached_digest : (A : Type 0) (before now : SeatContent A) (k to : ℕ) (error : StateError) → k < 2 ^ 64 → to ≡ (k + 1) % 2 ^ 64 → HasSeen before now → IsStateFor now.front k to (Err error) → IsZoneReached before now k (Err error)
-    → MatchResult (unshown_as (shot_error error)) (λ reply. IsTold A before now (Digest k) (reply_text reply)) (IsUntold before now (Digest k))
+    → MatchResult (unshown_as (shot_error error)) (λ reply. HasAnswer A before now (Digest k) (reply_text reply)) (HasNoAnswer before now (Digest k))
 unreached_digest A before now k to error fits next seen reply zone =
     let reply' = subst (λ (n : ℕ). IsStateFor now.front k n (Err error)) next reply in
     unreached A before now (Digest k) k ((k + 1) % 2 ^ 64) error seen reply' zone
-    (λ never same. told_digest_as A before now k false None _ seen (shot_none (movie_of now.front) k (no_next_place k (length (movie_of now.front).inputs) (few_inputs now.front) never)) refl (rests before now now.front now.front same))
-    (λ order within same. told_digest_as A before now k true _ _ seen (shown_frame (movie_of now.front) k (next_place k (length (movie_of now.front).inputs) fits order within)) refl (inl (rests before now now.front now.front same)))
+    (λ never same. digest_answered_as A before now k false None _ seen (shot_none (movie_of now.front) k (no_next_place k (length (movie_of now.front).inputs) (few_inputs now.front) never)) refl (rests before now now.front now.front same))
+    (λ order within same. digest_answered_as A before now k true _ _ seen (shown_frame (movie_of now.front) k (next_place k (length (movie_of now.front).inputs) fits order within)) refl (inl (rests before now now.front now.front same)))
 
 -- the frame was reached, and the movie is the zone's
 pub frame_within : (A : Type 0) (now : SeatContent A) (movie : MovieContent) (k to : ℕ) → k < 2 ^ 64 → to ≡ (k + 1) % 2 ^ 64 → k ≤ to → to ≤ length (movie_of now.front).inputs → movie ≡ movie_of now.front → k < length movie.inputs
 frame_within A now movie k to fits next order within is =
     next_place k (length movie.inputs) fits (subst (λ (n : ℕ). k ≤ n) next order) (subst (λ (m : MovieContent). (k + 1) % 2 ^ 64 ≤ length m.inputs) (sym is) (subst (λ (n : ℕ). n ≤ length (movie_of now.front).inputs) next within))
 
-pub told_digest : (A : Type 0) (before now : SeatContent A) (k at ran : ℕ) (movie : MovieContent) (answer : List ℕ) → HasSeen before now → at ≡ length now.front → movie ≡ movie_of now.front
-    → IsReached before.zone now.zone now.front k ran → IsDigest at movie k answer → IsTold A before now (Digest k) answer
-told_digest A before now k at ran movie answer seen here is reached digest =
-    told_digest_as A before now k false (Some digest.shown) answer seen (ap (λ (m : MovieContent). answer_shot m k) (sym is) ∙ digest.there)
+pub digest_answered : (A : Type 0) (before now : SeatContent A) (k at ran : ℕ) (movie : MovieContent) (answer : List ℕ) → HasSeen before now → at ≡ length now.front → movie ≡ movie_of now.front
+    → IsReached before.zone now.zone now.front k ran → IsDigest at movie k answer → HasAnswer A before now (Digest k) answer
+digest_answered A before now k at ran movie answer seen here is reached digest =
+    digest_answered_as A before now k false (Some digest.shown) answer seen (ap (λ (m : MovieContent). answer_shot m k) (sym is) ∙ digest.there)
     (digest.text_is ∙ ap (λ (n : ℕ). drawn_digest (record { movie = movie; made = n }) k digest.shown) here ∙ ap (λ (m : MovieContent). drawn_digest (record { movie = m; made = length now.front }) k digest.shown) is)
     (ran, reaches_at before now now.front k ran reached)
 
 pub lost_digest : (A : Type 0) (before now : SeatContent A) (k ran : ℕ) (movie : MovieContent) → HasSeen before now → k < length movie.inputs → movie ≡ movie_of now.front → IsReached before.zone now.zone now.front k ran
-    → IsTold A before now (Digest k) (reply_text OutOfMemory)
+    → HasAnswer A before now (Digest k) (reply_text OutOfMemory)
 lost_digest A before now k ran movie seen within is reached =
-    told_digest_as A before now k true _ _ seen (shown_frame (movie_of now.front) k (subst (λ (m : MovieContent). k < length m.inputs) is within)) refl (inr (ran, reaches_at before now now.front k ran reached))
+    digest_answered_as A before now k true _ _ seen (shown_frame (movie_of now.front) k (subst (λ (m : MovieContent). k < length m.inputs) is within)) refl (inr (ran, reaches_at before now now.front k ran reached))
 
 -- ---- `lag A B`
 
-lag_ignored : (movie : MovieContent) → LagFramesIgnoreInput movie
+pub lag_ignored : (movie : MovieContent) → LagFramesIgnoreInput movie
 lag_ignored movie = λ k other is. lag_law movie.cart (state_after movie k) (get_or movie.inputs k no_input) other is
 
-lag_there : (movie : MovieContent) (a b : ℕ) → a ≤ b → b ≤ length movie.inputs → answer_lag movie a b ≡ Some (lag_lines_between movie a b)
+pub lag_there : (movie : MovieContent) (a b : ℕ) → a ≤ b → b ≤ length movie.inputs → answer_lag movie a b ≡ Some (lag_lines_between movie a b)
 lag_there movie a b order within = ap (λ (t : Bool). if t then Some (lag_lines_between movie a b) else None) (frames_there (length movie.inputs) a b order within)
 
-lag_none : (movie : MovieContent) (a b : ℕ) → (a ≤ b → b ≤ length movie.inputs → ⊥) → answer_lag movie a b ≡ None
+pub lag_none : (movie : MovieContent) (a b : ℕ) → (a ≤ b → b ≤ length movie.inputs → ⊥) → answer_lag movie a b ≡ None
 lag_none movie a b never = ap (λ (t : Bool). if t then Some (lag_lines_between movie a b) else None) (frames_none (length movie.inputs) a b never)
 
-told_lag_as : (A : Type 0) (before now : SeatContent A) (a b : ℕ) (no_memory : Bool) (found : Option (List ℕ)) (answer : List ℕ) → HasSeen before now → answer_lag (movie_of now.front) a b ≡ found
-    → answer ≡ answer_to_lag no_memory (standing_of now.front) a b found → LookLeaves no_memory (talk_state_at now.front before.zone) (talk_state_at now.front now.zone) a found → IsTold A before now (Lag a b) answer
-told_lag_as A before now a b no_memory found answer seen there is leaves = (
+lag_answered_as : (A : Type 0) (before now : SeatContent A) (a b : ℕ) (no_memory : Bool) (found : Option (List ℕ)) (answer : List ℕ) → HasSeen before now → answer_lag (movie_of now.front) a b ≡ found
+    → answer ≡ answer_to_lag no_memory (standing_of now.front) a b found → LookLeaves no_memory (talk_state_at now.front before.zone) (talk_state_at now.front now.zone) a found → HasAnswer A before now (Lag a b) answer
+lag_answered_as A before now a b no_memory found answer seen there is leaves = (
   [],
   answered_here A before now (Lag a b) answer seen (
     no_memory,
@@ -252,18 +252,18 @@ told_lag_as A before now a b no_memory found answer seen there is leaves = (
 )
 
 pub unreached_lag : (A : Type 0) (before now : SeatContent A) (a b : ℕ) (error : StateError) → HasSeen before now → IsStateFor now.front a b (Err error) → IsZoneReached before now a (Err error)
-    → MatchResult (unshown_as (shot_error error)) (λ reply. IsTold A before now (Lag a b) (reply_text reply)) (IsUntold before now (Lag a b))
+    → MatchResult (unshown_as (shot_error error)) (λ reply. HasAnswer A before now (Lag a b) (reply_text reply)) (HasNoAnswer before now (Lag a b))
 unreached_lag A before now a b error seen reply zone =
     unreached A before now (Lag a b) a b error seen reply zone
-    (λ never same. told_lag_as A before now a b false None _ seen (lag_none (movie_of now.front) a b never) refl (rests before now now.front now.front same))
-    (λ order within same. told_lag_as A before now a b true _ _ seen (lag_there (movie_of now.front) a b order within) refl (inl (rests before now now.front now.front same)))
+    (λ never same. lag_answered_as A before now a b false None _ seen (lag_none (movie_of now.front) a b never) refl (rests before now now.front now.front same))
+    (λ order within same. lag_answered_as A before now a b true _ _ seen (lag_there (movie_of now.front) a b order within) refl (inl (rests before now now.front now.front same)))
 
-pub told_lag : (A : Type 0) (before now : SeatContent A) (a b at ran : ℕ) (movie : MovieContent) → HasSeen before now → a ≤ b → b ≤ length (movie_of now.front).inputs → at ≡ length now.front → movie ≡ movie_of now.front
-    → IsReached before.zone now.zone now.front a ran → IsTold A before now (Lag a b) (lag_text at a b (lag_lines_between movie a b))
-told_lag A before now a b at ran movie seen order within here is reached =
-    told_lag_as A before now a b false _ (lag_text at a b (lag_lines_between movie a b)) seen (lag_there (movie_of now.front) a b order within)
+pub lag_answered : (A : Type 0) (before now : SeatContent A) (a b at ran : ℕ) (movie : MovieContent) → HasSeen before now → a ≤ b → b ≤ length (movie_of now.front).inputs → at ≡ length now.front → movie ≡ movie_of now.front
+    → IsReached before.zone now.zone now.front a ran → HasAnswer A before now (Lag a b) (lag_text at a b (lag_lines_between movie a b))
+lag_answered A before now a b at ran movie seen order within here is reached =
+    lag_answered_as A before now a b false _ (lag_text at a b (lag_lines_between movie a b)) seen (lag_there (movie_of now.front) a b order within)
     (ap (λ (n : ℕ). lag_text n a b (lag_lines_between movie a b)) here ∙ ap (λ (m : MovieContent). lag_text (length now.front) a b (lag_lines_between m a b)) is) (ran, reaches_at before now now.front a ran reached)
 
-pub lost_lag : (A : Type 0) (before now : SeatContent A) (a b ran : ℕ) → HasSeen before now → a ≤ b → b ≤ length (movie_of now.front).inputs → IsReached before.zone now.zone now.front a ran → IsTold A before now (Lag a b) (reply_text OutOfMemory)
+pub lost_lag : (A : Type 0) (before now : SeatContent A) (a b ran : ℕ) → HasSeen before now → a ≤ b → b ≤ length (movie_of now.front).inputs → IsReached before.zone now.zone now.front a ran → HasAnswer A before now (Lag a b) (reply_text OutOfMemory)
 lost_lag A before now a b ran seen order within reached =
-    told_lag_as A before now a b true _ _ seen (lag_there (movie_of now.front) a b order within) refl (inr (ran, reaches_at before now now.front a ran reached))
+    lag_answered_as A before now a b true _ _ seen (lag_there (movie_of now.front) a b order within) refl (inr (ran, reaches_at before now now.front a ran reached))

@@ -13,7 +13,7 @@ use Rattle.tas_seat.specs.Edits.{made_between}
 use Rattle.tas_seat.specs.Turns.{Standing, standing_of}
 use Rattle.tas_seat.specs.Requests.{Rests, IsGreen, Plays, Reaches, Gains, IsAnswerTo}
 use Rattle.tas_seat.specs.Seats.{talk_state_at, IsSeatAfter, IsAnsweredAt}
-use Rattle.tas_seat.specs.Inside.Telling.{IsStrange}
+use Rattle.tas_seat.specs.Inside.Outcomes.{IsMiscounted}
 
 -- ---- what a seat has seen
 
@@ -52,7 +52,7 @@ stood {A} before now at begins is = record {
   made = omega (arith, ap (λ (s : SeatContent A). s.made) is);
 }
 
-pub strange_later : {A : Type 0} (before mid now : SeatContent A) → HasSeen before mid → IsStrange mid now → IsStrange before now
+pub strange_later : {A : Type 0} (before mid now : SeatContent A) → HasSeen before mid → IsMiscounted mid now → IsMiscounted before now
 strange_later before mid now seen strange = record { seen = seen_more before mid now seen strange.seen; other = strange.other }
 
 -- ---- what was made

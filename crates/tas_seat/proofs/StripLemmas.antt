@@ -8,18 +8,18 @@ use Rattle.tas_engines.specs.declared.fault.RunFault.TheVariants.{NoEntry, Memor
 use Rattle.tas_language.specs.declared.request.Request.TheVariants.{Picture, Pictures}
 use Rattle.tas_seat.specs.Turns.{standing_of}
 use Rattle.tas_seat.specs.Seats.{IsAnsweredAt, StripAnswer, AreStrip, strip_answers}
-use Rattle.tas_seat.specs.Inside.Telling.{IsTold, IsUntold}
+use Rattle.tas_seat.specs.Inside.Outcomes.{HasAnswer, HasNoAnswer}
 use Rattle.tas_seat.proofs.SeatLemmas.{seen_self, seen_more, seen_after, strange_later, made_nothing}
 
 -- ---- one frame
 
 -- a picture makes no edit
-picture_alone : (A : Type 0) (before now : SeatContent A) (k : ℕ) (answer : List ℕ) → IsTold A before now (Picture k) answer → IsAnsweredAt A before now (Picture k) answer []
+picture_alone : (A : Type 0) (before now : SeatContent A) (k : ℕ) (answer : List ℕ) → HasAnswer A before now (Picture k) answer → IsAnsweredAt A before now (Picture k) answer []
 picture_alone A before now k answer told =
     let is = told.1 in
     subst (λ (l : List (Edit A)). IsAnsweredAt A before now (Picture k) answer l) (is.made ∙ made_nothing (standing_of is.at) (standing_of now.front)) is
 
-pub picture_seen : (A : Type 0) (before now : SeatContent A) (k : ℕ) (answer : List ℕ) → IsTold A before now (Picture k) answer → HasSeen before now
+pub picture_seen : (A : Type 0) (before now : SeatContent A) (k : ℕ) (answer : List ℕ) → HasAnswer A before now (Picture k) answer → HasSeen before now
 picture_seen A before now k answer told = let is = picture_alone A before now k answer told in seen_after before now is.at is.seat
 
 -- ---- frames from one to the one before another were answered, and these are the answers
@@ -55,7 +55,7 @@ answers_more (first ∷ strip) shown = ap (λ (bytes : List ℕ). first.answer +
 pub nothing_shown : (A : Type 0) (seat : SeatContent A) (from : ℕ) (bytes : List ℕ) → bytes ≡ [] → HasShown A seat seat from from bytes
 nothing_shown A seat from bytes none = record { strip = []; many = omega arith; are = no_strip A seat from; told = none; seen = seen_self seat }
 
-pub shown_more : (A : Type 0) (before mid now : SeatContent A) (from frame : ℕ) (bytes more next : List ℕ) → from ≤ frame → HasShown A before mid from frame bytes → IsTold A mid now (Picture frame) more → next ≡ bytes ++ more
+pub shown_more : (A : Type 0) (before mid now : SeatContent A) (from frame : ℕ) (bytes more next : List ℕ) → from ≤ frame → HasShown A before mid from frame bytes → HasAnswer A mid now (Picture frame) more → next ≡ bytes ++ more
     → HasShown A before now from (frame + 1) next
 shown_more A before mid now from frame bytes more next le shown told is =
     let one : StripAnswer A = record { answer = more; next = now } in
@@ -70,29 +70,29 @@ shown_more A before mid now from frame bytes more next le shown told is =
     }
 
 -- all of a strip was told
-pub told_strip : (A : Type 0) (before now : SeatContent A) (from to frame : ℕ) (bytes : List ℕ) → HasShown A before now from frame bytes → frame - from ≡ to - from → IsTold A before now (Pictures from to) bytes
-told_strip A before now from to frame bytes shown end = ([], (refl, shown.strip, shown.many ∙ end, shown.are, shown.told))
+pub strip_answered : (A : Type 0) (before now : SeatContent A) (from to frame : ℕ) (bytes : List ℕ) → HasShown A before now from frame bytes → frame - from ≡ to - from → HasAnswer A before now (Pictures from to) bytes
+strip_answered A before now from to frame bytes shown end = ([], (refl, shown.strip, shown.many ∙ end, shown.are, shown.told))
 
 -- ---- a strip that isn't told
 
 -- memory was refused for a strip: some of its pictures may be drawn
-pub strip_without_memory : (A : Type 0) (before now : SeatContent A) (from to : ℕ) (fault : RunFault) → fault ≡ Memory → HasSeen before now → IsUntold before now (Pictures from to) fault
-strip_without_memory A before now from to fault is seen = subst (IsUntold before now (Pictures from to)) (sym is) (inl seen)
+pub strip_without_memory : (A : Type 0) (before now : SeatContent A) (from to : ℕ) (fault : RunFault) → fault ≡ Memory → HasSeen before now → HasNoAnswer before now (Pictures from to) fault
+strip_without_memory A before now from to fault is seen = subst (HasNoAnswer before now (Pictures from to)) (sym is) (inl seen)
 
 -- a picture of it isn't told
-pub strip_untold : (A : Type 0) (before mid now : SeatContent A) (from to frame : ℕ) (fault : RunFault) → HasSeen before mid → IsUntold mid now (Picture frame) fault → IsUntold before now (Pictures from to) fault
-strip_untold A before mid now from to frame NoEntry seen is = seen_more before mid now seen is
-strip_untold A before mid now from to frame Foreign seen is = strange_later before mid now seen is
-strip_untold A before mid now from to frame Memory seen (inl more) = inl (seen_more before mid now seen more)
-strip_untold A before mid now from to frame Memory seen (inr told) = inl (seen_more before mid now seen (picture_seen A mid now frame told.0 told.1))
-strip_untold A before mid now from to frame (Write written) seen is = absurd is
-strip_untold A before mid now from to frame (Size n) seen is = absurd is
-strip_untold A before mid now from to frame (Text error) seen is = absurd is
-strip_untold A before mid now from to frame (OffMovie k len) seen is = absurd is
-strip_untold A before mid now from to frame (OffRange a b len) seen is = absurd is
-strip_untold A before mid now from to frame (Stopped at opcode) seen is = absurd is
-strip_untold A before mid now from to frame (StoppedFrame k at opcode) seen is = absurd is
-strip_untold A before mid now from to frame (Script line) seen is = absurd is
-strip_untold A before mid now from to frame (Place line) seen is = absurd is
-strip_untold A before mid now from to frame (Long line) seen is = absurd is
-strip_untold A before mid now from to frame NoPlace seen is = absurd is
+pub strip_unanswered : (A : Type 0) (before mid now : SeatContent A) (from to frame : ℕ) (fault : RunFault) → HasSeen before mid → HasNoAnswer mid now (Picture frame) fault → HasNoAnswer before now (Pictures from to) fault
+strip_unanswered A before mid now from to frame NoEntry seen is = seen_more before mid now seen is
+strip_unanswered A before mid now from to frame Foreign seen is = strange_later before mid now seen is
+strip_unanswered A before mid now from to frame Memory seen (inl more) = inl (seen_more before mid now seen more)
+strip_unanswered A before mid now from to frame Memory seen (inr told) = inl (seen_more before mid now seen (picture_seen A mid now frame told.0 told.1))
+strip_unanswered A before mid now from to frame (Write written) seen is = absurd is
+strip_unanswered A before mid now from to frame (Size n) seen is = absurd is
+strip_unanswered A before mid now from to frame (Text error) seen is = absurd is
+strip_unanswered A before mid now from to frame (OffMovie k len) seen is = absurd is
+strip_unanswered A before mid now from to frame (OffRange a b len) seen is = absurd is
+strip_unanswered A before mid now from to frame (Stopped at opcode) seen is = absurd is
+strip_unanswered A before mid now from to frame (StoppedFrame k at opcode) seen is = absurd is
+strip_unanswered A before mid now from to frame (Script line) seen is = absurd is
+strip_unanswered A before mid now from to frame (Place line) seen is = absurd is
+strip_unanswered A before mid now from to frame (Long line) seen is = absurd is
+strip_unanswered A before mid now from to frame NoPlace seen is = absurd is

@@ -1,5 +1,5 @@
 -- Conversations, line by line.
-use Rattle.std.proofs.Common.{◌≡◌, ℕ, ◌+◌, ◌-◌, ◌<◌, ◌≤◌, List, [], ◌∷◌, ◌++◌, length, take, Bool, Option, Some, None, Result, Ok, Err, ◌⊎◌, inl, inr, refl, sym, ap, subst, ◌∙◌, arith, append_assoc, length-append, append-nil}
+use Rattle.std.proofs.Common.{◌≡◌, ℕ, ◌+◌, ◌-◌, ◌<◌, ◌≤◌, List, [], ◌∷◌, ◌++◌, length, take, Bool, Option, Some, None, Ok, Err, inl, inr, refl, sym, ap, subst, ◌∙◌, arith, append_assoc, length-append, append-nil}
 use Rattle.std.specs.Prelude.{min}
 use Rattle.std.specs.Io.KnownBytes.{Appends, Consumes, Keeps, IsAtEnd}
 use Rattle.std.proofs.KnownBytes.{Appends-nil, Appends-trans, Consumes-nil, Consumes-trans, Consumes-kept}
@@ -12,16 +12,14 @@ use Rattle.tas_movie.specs.declared.edit.Edit.{Edit}
 use Rattle.tas_desk.specs.Seats.{SeatContent, HasSeen}
 use Rattle.tas_engines.specs.declared.fault.RunFault.{RunFault}
 use Rattle.tas_engines.specs.declared.fault.RunFault.TheVariants.{Write, Size, Text, NoFrame as OffMovie, Range as OffRange, Halted as Stopped, HaltedFrame as StoppedFrame, Script, Place, Long, NoPlace, NoEntry, Foreign, Memory}
-use Rattle.tas_engines.specs.declared.fault.ToolFault.{ToolFault}
 use Rattle.tas_engines.specs.declared.fault.ToolFault.TheVariants.{Read, Run}
 use Rattle.tas_engines.specs.declared.fault.ReadFault.TheVariants.{Failed}
 use Rattle.tas_language.specs.declared.request.Request.{Request}
-use Rattle.tas_language.specs.declared.request.Request.TheVariants.{Quit}
 use Rattle.tas_language.specs.Requests.{IsHeard}
 use Rattle.tas_language.specs.Held.{HoldsLine}
 use Rattle.tas_language.specs.Answers.{unknown_text}
 use Rattle.tas_seat.specs.Seats.{IsRequestAnswered}
-use Rattle.tas_seat.specs.Inside.Telling.{IsUntold}
+use Rattle.tas_seat.specs.Inside.Outcomes.{HasNoAnswer}
 use Rattle.tas_seat.specs.Talk.{Exchange, IsExchange, AreExchanges, IsLeft, HasLooked, IsCarriedOut, IsAnswerCutOff, IsTalk, lines_of, answers_of, last_answer, most_counted}
 use Rattle.tas_seat.specs.Inside.Talking.{CutsOff, HasAnswered, Breaks, StopsAfter, IsLineTurn, IsPartTurn}
 
@@ -143,19 +141,19 @@ pub not_looked : {A : Type 0} (seat : SeatContent A) → HasLooked seat seat []
 not_looked seat = looked seat seat (record { number = refl; made = refl; begins = ([], append-nil seat.front) })
 
 -- a line whose answer memory was refused for
-untold_line : {A : Type 0} (before now : SeatContent A) (said : List ℕ) (request : Request) (told : ℕ) (old : Option (List ℕ)) (more : List ℕ) → NoByte 10 said → IsHeard said (Some request) → IsUntold before now request Memory
+unanswered_line : {A : Type 0} (before now : SeatContent A) (said : List ℕ) (request : Request) (told : ℕ) (old : Option (List ℕ)) (more : List ℕ) → NoByte 10 said → IsHeard said (Some request) → HasNoAnswer before now request Memory
     → (edits : List (Edit A)) × Breaks before now (line said ++ more) edits told old old Memory
 unfolding known_exchange
-untold_line before now said request told old more none heard (inl seen) = ([], (inl (looked before now seen), Appends-nil old))
-untold_line before now said request told old more none heard (inr (answer, (edits, is))) =
+unanswered_line before now said request told old more none heard (inl seen) = ([], (inl (looked before now seen), Appends-nil old))
+unanswered_line before now said request told old more none heard (inr (answer, (edits, is))) =
     let x = known_exchange now said answer request edits in
     (edits, (inr (answer, carried_out before now x more (is_known before now said answer request edits is none heard) refl), Appends-nil old))
 
 -- a request wasn't answered
-pub line_fault : {A : Type 0} (before now : SeatContent A) (said : List ℕ) (request : Request) (told : ℕ) (old : Option (List ℕ)) (fault : RunFault) → NoByte 10 said → IsHeard said (Some request) → IsUntold before now request fault
+pub line_fault : {A : Type 0} (before now : SeatContent A) (said : List ℕ) (request : Request) (told : ℕ) (old : Option (List ℕ)) (fault : RunFault) → NoByte 10 said → IsHeard said (Some request) → HasNoAnswer before now request fault
     → IsLineTurn before now said told old old (Err fault)
 line_fault before now said request told old NoEntry none heard is = λ more. ([], (looked before now is, omega (arith, length-append (said ++ 10 ∷ []) more, length-append said (10 ∷ [])), Appends-nil old))
-line_fault before now said request told old Memory none heard is = λ more. untold_line before now said request told old more none heard is
+line_fault before now said request told old Memory none heard is = λ more. unanswered_line before now said request told old more none heard is
 line_fault before now said request told old Foreign none heard is = λ more. ([], is)
 line_fault before now said request told old (Write written) none heard is = absurd is
 line_fault before now said request told old (Size n) none heard is = absurd is

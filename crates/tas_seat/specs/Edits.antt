@@ -23,10 +23,10 @@ edits_by_command A (EditLine change) = edit_on A change ∷ []
 edits_by_command A _ = []
 
 -- the edit that a line asks for where the movie is this: one, or none
-abbrev pub edits_asked : (A : Type 0) → MovieContent → Request → List (Edit A)
-edits_asked A movie (Do command) = edits_by_command A command
-edits_asked A movie (Retouch retouch) = retouch_on A movie.inputs retouch ∷ []
-edits_asked A movie _ = []
+abbrev pub requested_edits : (A : Type 0) → MovieContent → Request → List (Edit A)
+requested_edits A movie (Do command) = edits_by_command A command
+requested_edits A movie (Retouch retouch) = retouch_on A movie.inputs retouch ∷ []
+requested_edits A movie _ = []
 
 -- those of them that were made, from what there was before to what there is then
 abbrev pub made_between : {A : Type 0} → Standing → Standing → List (Edit A) → List (Edit A)

@@ -10,5 +10,5 @@ entry_lines number [] = []
 entry_lines number (entry ∷ entries) = entry_text number entry.seat entry.edit ++ entry_lines (number + 1) entries
 
 -- the answer to `history FROM` at this many edits: these entries
-abbrev pub history_told : {A : Type 0} → ℕ → ℕ → List (Entry A) → List ℕ
-history_told made from entries = history_text made from (length entries) (entry_lines from entries)
+abbrev pub history_reply_text : {A : Type 0} → ℕ → ℕ → List (Entry A) → List ℕ
+history_reply_text made from entries = history_text made from (length entries) (entry_lines from entries)

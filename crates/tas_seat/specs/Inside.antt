@@ -1,3 +1,4 @@
-pub mod Asking
+pub mod EditRequests
 pub mod Talking
-pub mod Telling
+pub mod Outcomes
+pub mod Drafting

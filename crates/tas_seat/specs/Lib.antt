@@ -3,6 +3,7 @@ pub mod Requests
 pub mod Edits
 pub mod HistoryText
 pub mod Seats
+pub mod Drafts
 pub mod Talk
 pub mod Histories
 pub mod Lines

@@ -1,6 +1,6 @@
 -- What a line of a conversation is answered at some history and greenzone, and what it leaves of both.
-use Rattle.std.specs.Prelude.{◌≡◌, ℕ, ◌+◌, ◌-◌, ◌<◌, ◌≤◌, nat_le, ◌&&◌, min, List, [], ◌∷◌, ◌++◌, length, filter, is_some, Bool, true, false, if◌then◌else◌, Option, Some, None, Result, Ok, Err, ◌⊎◌}
-use Rattle.std.specs.List.{flat_map, range_with_len}
+use Rattle.std.specs.Prelude.{◌≡◌, ℕ, ◌+◌, nat_le, ◌&&◌, List, length, filter, is_some, Bool, true, false, if◌then◌else◌, Option, Some, None, Result, Ok, Err, ◌⊎◌}
+use Rattle.std.specs.List.{range_with_len}
 use Rattle.vcs_cpu.specs.declared.halt.Halt.{Halt}
 use Rattle.vcs_tia.specs.Image.{ppm_bytes}
 use Rattle.tas_movie.specs.Content.{MovieContent}
@@ -19,7 +19,7 @@ use Rattle.tas_language.specs.declared.reply.Reply.TheVariants.{NoFrame, Drawn, 
 use Rattle.tas_language.specs.Replies.{reply_text}
 use Rattle.tas_language.specs.declared.request.Request.{Request}
 use Rattle.tas_language.specs.declared.request.Request.TheVariants.{Do, Retouch, Picture, Pictures, Ram, Digest, Lag, Movie, States, Share, History, Quit}
-use Rattle.tas_language.specs.Answers.{unknown_text, picture_text, ram_text, frame_digest_text, lag_text, movie_text, states_text, share_text}
+use Rattle.tas_language.specs.Answers.{picture_text, ram_text, frame_digest_text, lag_text, movie_text, states_text, share_text}
 use Rattle.tas_seat.specs.Turns.{Standing, halted_reply, IsRetouchTurn, IsTurn}
 
 -- ---- what is made and kept

@@ -13,11 +13,11 @@ use Rattle.tas_language.specs.declared.reply.Reply.TheVariants.{OutOfMemory}
 use Rattle.tas_language.specs.Replies.{reply_text}
 use Rattle.tas_language.specs.Answers.{unknown_text}
 use Rattle.tas_language.specs.declared.request.Request.{Request}
-use Rattle.tas_language.specs.declared.request.Request.TheVariants.{Do, Picture, Pictures, History}
-use Rattle.tas_seat.specs.Edits.{edits_by_command, edits_asked, made_between}
+use Rattle.tas_language.specs.declared.request.Request.TheVariants.{Picture, Pictures, History}
+use Rattle.tas_seat.specs.Edits.{edits_by_command, requested_edits, made_between}
 use Rattle.tas_seat.specs.Turns.{standing_of, IsTurn}
 use Rattle.tas_seat.specs.Requests.{TalkState, CommandLeaves, IsAnswerTo}
-use Rattle.tas_seat.specs.HistoryText.{history_told}
+use Rattle.tas_seat.specs.HistoryText.{history_reply_text}
 
 -- a seat's edits as entries of the history, from this serial on
 abbrev pub entries_from : {A : Type 0} → ℕ → ℕ → List (Edit A) → List (Entry A)
@@ -46,7 +46,7 @@ pub record IsAnswered (A : Type 0) (before now : SeatContent A) (command : Comma
 pub record IsAnsweredAt (A : Type 0) (before now : SeatContent A) (request : Request) (answer : List ℕ) (edits : List (Edit A)) : Type 0 where
   pub at : List (Entry A)
   pub answered : IsAnswerTo (talk_state_at at before.zone) request answer (talk_state_at now.front now.zone)
-  pub made : edits ≡ made_between (standing_of at) (standing_of now.front) (edits_asked A (movie_of at) request)
+  pub made : edits ≡ made_between (standing_of at) (standing_of now.front) (requested_edits A (movie_of at) request)
   pub seat : IsSeatAfter before at edits now
 
 -- a picture of a strip: its answer, and the seat then
@@ -64,13 +64,13 @@ abbrev pub strip_answers : {A : Type 0} → List (StripAnswer A) → List ℕ
 strip_answers strip = flat_map (λ shown. shown.answer) strip
 
 -- how many entries one answer tells at most
-abbrev pub most_told : ℕ
-most_told = 256
+abbrev pub most_entries : ℕ
+most_entries = 256
 
 -- `history FROM` is answered at some history: by entries of it, or memory was refused. It leaves the seat's greenzone
 pub record IsHistoryAnswered (A : Type 0) (before now : SeatContent A) (from : ℕ) (answer : List ℕ) : Type 0 where
   pub no_memory : Bool
-  pub answer_is : answer ≡ (if no_memory then reply_text OutOfMemory else history_told (length now.front) from (take most_told (drop from now.front)))
+  pub answer_is : answer ≡ (if no_memory then reply_text OutOfMemory else history_reply_text (length now.front) from (take most_entries (drop from now.front)))
   pub zone : now.zone ≡ before.zone
   pub seat : IsSeatAfter before now.front [] now
 

@@ -1,5 +1,5 @@
 -- A seat's conversation: each line is answered at a beginning of the desk's history, and these never get shorter.
-use Rattle.std.specs.Prelude.{◌≡◌, ℕ, ◌<◌, ◌≤◌, min, List, [], ◌∷◌, ◌++◌, length, Option, Some, None, Result, Ok, Err, ◌⊎◌}
+use Rattle.std.specs.Prelude.{◌≡◌, ℕ, ◌<◌, ◌≤◌, min, List, [], ◌∷◌, ◌++◌, length, Option, Some, Result, Ok, Err, ◌⊎◌}
 use Rattle.std.specs.List.{flat_map}
 use Rattle.std.specs.Io.KnownBytes.{Appends, Consumes, IsAtEnd}
 use Rattle.byte_text.specs.CutOff.{IsCutOff}
@@ -16,7 +16,7 @@ use Rattle.tas_language.specs.declared.request.Request.TheVariants.{Quit}
 use Rattle.tas_language.specs.Requests.{IsHeard}
 use Rattle.tas_language.specs.Answers.{unknown_text}
 use Rattle.tas_seat.specs.Seats.{IsLineAnswered}
-use Rattle.tas_seat.specs.Inside.Telling.{IsStrange}
+use Rattle.tas_seat.specs.Inside.Outcomes.{IsMiscounted}
 
 -- ---- lines, one after the other
 
@@ -108,7 +108,7 @@ TalkEnds seat last rest told edits input output output' (Err (Run (Write written
     (answer : List ℕ) × (IsCarriedOut seat last rest edits answer ⊎ (IsLeft seat last edits × NoByte 10 rest × IsAtEnd input × (answer ≡ last_answer rest))) × IsAnswerCutOff told answer output output' written
 TalkEnds seat last rest told edits input output output' (Err (Run Memory)) = (HasLooked seat last edits ⊎ ((answer : List ℕ) × IsCarriedOut seat last rest edits answer)) × Appends output output' told
 TalkEnds seat last rest told edits input output output' (Err (Run NoEntry)) = HasLooked seat last edits × (0 < length rest) × Appends output output' told
-TalkEnds seat last rest told edits input output output' (Err (Run Foreign)) = IsStrange seat last
+TalkEnds seat last rest told edits input output output' (Err (Run Foreign)) = IsMiscounted seat last
 TalkEnds seat last rest told edits input output output' (Err _) = ⊥
 
 -- a seat's conversation, from the seat as it was to the seat as it is, and from what the reader has and the writer holds before to what they

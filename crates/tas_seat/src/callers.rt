@@ -4,7 +4,7 @@ ghost use Rattle.std.specs.Prelude.{◌≡◌, ℕ, ◌<◌, length, slice_index
 ghost use Rattle.tas_seat.specs.Lines.{WasHeld, seat_end};
 
 use crate::{Door, converse};
-use std::alloc::Global;
+use std::alloc::{Allocator, Global};
 use std::sync::Wait;
 use std::thread::Threads;
 use tas_desk::{CloseOnDrop, Desk, Name, Seat};
@@ -13,18 +13,18 @@ use tas_film::for_each_on_threads;
 
 /// A seat, the door to its other end, and how its conversation ended.
 #[derive(Drop)]
-pub struct Caller<N: Name, D> {
+pub struct Caller<N: Name, D, A: Allocator = Global> {
     /// The seat.
-    pub seat: Seat<N>,
+    pub seat: Seat<N, A>,
     /// The door.
     pub door: D,
     /// How the conversation ended.
     pub end: Result<(), SeatFault>,
 }
 
-impl<N: Name, D: Door + Drop> Caller<N, D> {
+impl<N: Name, D: Door + Drop, A: Allocator + Copy> Caller<N, D, A> {
     /// Opens the door, holds the conversation, and closes the door.
-    fn converse<C: CloseOnDrop, T: Wait>(&mut self, rt: &T, alloc: Global, desk: &Desk<N, C>)
+    fn converse<C: CloseOnDrop, T: Wait>(&mut self, rt: &T, alloc: A, desk: &Desk<N, C, A>)
         ensures held { WasHeld D.facts self.old.door self.new.door self.old.seat self.new.seat
             self.new.end }
     {
@@ -33,7 +33,7 @@ impl<N: Name, D: Door + Drop> Caller<N, D> {
 }
 
 /// How a conversation's end is reported as its seat's.
-fn seat_end(end: Result<(), ToolFault>) -> Result<(), SeatFault>
+pub fn seat_end(end: Result<(), ToolFault>) -> Result<(), SeatFault>
     ensures { result ≡ seat_end end }
 {
     match end {
@@ -48,11 +48,11 @@ fn seat_end(end: Result<(), ToolFault>) -> Result<(), SeatFault>
 }
 
 /// Opens a door, holds a seat's conversation, and closes the door.
-fn hold<N: Name, C: CloseOnDrop, T: Wait, D: Door + Drop>(
+fn hold<N: Name, C: CloseOnDrop, A: Allocator + Copy, T: Wait, D: Door + Drop>(
     rt: &T,
-    alloc: Global,
-    desk: &Desk<N, C>,
-    seat: &mut Seat<N>,
+    alloc: A,
+    desk: &Desk<N, C, A>,
+    seat: &mut Seat<N, A>,
     door: &mut D,
 ) -> Result<(), SeatFault>
     ensures { WasHeld D.facts door.old door.new seat.old seat.new result }
@@ -66,18 +66,18 @@ fn hold<N: Name, C: CloseOnDrop, T: Wait, D: Door + Drop>(
 }
 
 /// Holds all conversations, each on a thread of its own.
-pub fn converse_all<N: Name + Send + Sync, T: Wait + Threads + Sync, D: Door + Drop + Send>(
-    rt: &T,
-    alloc: Global,
-    desk: &Desk<N, &T>,
-    callers: &mut [Caller<N, D>],
-)
+pub fn converse_all<
+    N: Name + Send + Sync,
+    A: Allocator + Copy + Send + Sync,
+    T: Wait + Threads + Sync,
+    D: Door + Drop + Send,
+>(rt: &T, alloc: A, desk: &Desk<N, &T, A>, callers: &mut [Caller<N, D, A>])
     ensures { (k : ℕ) (d : _) → k < length callers.old
         → WasHeld D.facts (slice_index_or callers.old k d).door
         (slice_index_or callers.new k d).door (slice_index_or callers.old k d).seat
         (slice_index_or callers.new k d).seat (slice_index_or callers.new k d).end }
 {
-    let hold = move |_number: usize, caller: &mut Caller<N, D>|
+    let hold = move |_number: usize, caller: &mut Caller<N, D, A>|
         ensures { WasHeld D.facts caller.entry.now.door caller.exit.now.door
             caller.entry.now.seat caller.exit.now.seat caller.exit.now.end }
     { caller.converse(rt, alloc, desk) };

@@ -2,10 +2,10 @@
 
 ghost use Rattle.std.specs.Prelude.{◌≡◌, ◌+◌, ◌<◌, ◌≤◌, ◌^◌, length, max, IfOk, MatchResult};
 ghost use Rattle.tas_language.specs.declared.request.Request.TheVariants.{History as HistoryLine};
-ghost use Rattle.tas_seat.specs.HistoryText.{entry_lines, history_told};
-ghost use Rattle.tas_seat.specs.Inside.Telling.{IsTold, IsUntold};
+ghost use Rattle.tas_seat.specs.HistoryText.{entry_lines, history_reply_text};
+ghost use Rattle.tas_seat.specs.Inside.Outcomes.{HasAnswer, HasNoAnswer};
 
-use crate::telling::{told_or_refused, told_reply};
+use crate::requests::{answer_of_reply, answer_or_refusal};
 use std::alloc::{AllocError, Allocator};
 use std::sync::Wait;
 use tas_desk::{CloseOnDrop, Desk, Entry, Name, Seat};
@@ -13,7 +13,7 @@ use tas_engines::RunFault;
 use tas_language::{Reply, history_answer, push_entry};
 
 /// How many entries one answer to `history` has at most.
-pub const MAX_TOLD: usize = 256;
+pub const MAX_ENTRIES: usize = 256;
 
 /// The lines of some entries, the first of which has this number.
 fn entry_lines<A: Allocator + Copy>(
@@ -41,14 +41,14 @@ fn list_entries<A: Allocator + Copy>(
     entries: &[Entry<A>],
 ) -> Result<Vec<u8, A>, AllocError>
     requires { from + length entries.now ≤ max at from }
-    ensures { IfOk result (λ bytes. bytes.items ≡ history_told at from entries.now) }
+    ensures { IfOk result (λ bytes. bytes.items ≡ history_reply_text at from entries.now) }
 {
     let lines = entry_lines(alloc, from, entries)?;
     history_answer(alloc, at, from, entries.len(), lines.as_slice())
 }
 
 /// A `history` line.
-pub fn tell_history<N: Name, W: CloseOnDrop, A: Allocator + Copy, R: Wait>(
+pub fn answer_history<N: Name, W: CloseOnDrop, A: Allocator + Copy, R: Wait>(
     rt: &R,
     alloc: A,
     desk: &Desk<N, W, A>,
@@ -56,12 +56,12 @@ pub fn tell_history<N: Name, W: CloseOnDrop, A: Allocator + Copy, R: Wait>(
     from: usize,
 ) -> Result<Vec<u8, A>, RunFault>
     ensures { MatchResult result
-        (λ bytes. IsTold A seat.old seat.new (HistoryLine from) bytes.items)
-        (IsUntold seat.old seat.new (HistoryLine from)) }
+        (λ bytes. HasAnswer A seat.old seat.new (HistoryLine from) bytes.items)
+        (HasNoAnswer seat.old seat.new (HistoryLine from)) }
 {
-    let Ok(history) = desk.history(rt, alloc, seat, from, MAX_TOLD) else {
-        return told_reply(alloc, Reply::OutOfMemory);
+    let Ok(history) = desk.history(rt, alloc, seat, from, MAX_ENTRIES) else {
+        return answer_of_reply(alloc, Reply::OutOfMemory);
     };
     let bytes = list_entries(alloc, history.at, from, history.entries.as_slice());
-    told_or_refused(alloc, bytes)
+    answer_or_refusal(alloc, bytes)
 }

@@ -4,20 +4,27 @@
 //! Nothing here asks whether other seats edit the movie, too: a desk of one seat is the case in which nobody else does.
 #![tactic(auto)]
 
-mod answering;
-mod asking;
 mod callers;
+mod commands;
 mod door;
+mod draft;
+mod draft_answers;
+mod draft_looks;
+mod draft_stroke;
+mod edit_requests;
 mod histories;
+mod kept;
 mod laws;
 mod looks;
+mod requests;
 mod talking;
-mod telling;
 
-pub use answering::answer_command;
-pub use callers::{Caller, converse_all};
+pub use callers::{Caller, converse_all, seat_end};
+pub use commands::reply_to_command;
 pub use door::Door;
-pub use histories::MAX_TOLD;
+pub use draft::Draft;
+pub use draft_stroke::stroke_between;
+pub use histories::MAX_ENTRIES;
 pub use laws::{answers_are_at_beginnings, talks_are_in_history};
+pub use requests::answer_request;
 pub use talking::converse;
-pub use telling::answer_request;

@@ -5,10 +5,10 @@ ghost use Rattle.tas_green.specs.Run.{state_after};
 ghost use Rattle.tas_engines.specs.Lag.{lag_lines_between};
 ghost use Rattle.tas_language.specs.Answers.{lag_text};
 ghost use Rattle.tas_language.specs.declared.request.Request.TheVariants.{Ram as RamLine, Digest as DigestLine, Lag as LagLine};
-ghost use Rattle.tas_seat.specs.Inside.Telling.{IsDigest, IsTold, IsUntold};
+ghost use Rattle.tas_seat.specs.Inside.Outcomes.{IsDigest, HasAnswer, HasNoAnswer};
 
-use crate::answering::halted_reply;
-use crate::telling::{told_or_refused, told_unshown};
+use crate::commands::halted_reply;
+use crate::requests::{answer_or_refusal, unshown_answer};
 use std::alloc::{AllocError, Allocator};
 use tas_desk::{CloseOnDrop, Desk, Name, Seat};
 use tas_engines::{RunFault, lag_between};
@@ -18,26 +18,26 @@ use vcs_machine::{Meter, State, play};
 use vcs_tia::Picture;
 
 /// A `ram` line.
-pub fn tell_ram<N: Name, W: CloseOnDrop, A: Allocator + Copy>(
+pub fn answer_ram<N: Name, W: CloseOnDrop, A: Allocator + Copy>(
     alloc: A,
     desk: &Desk<N, W, A>,
     seat: &mut Seat<N, A>,
     frames: usize,
 ) -> Result<Vec<u8, A>, RunFault>
     ensures { MatchResult result
-        (λ bytes. IsTold A seat.old seat.new (RamLine frames) bytes.items)
-        (IsUntold seat.old seat.new (RamLine frames)) }
+        (λ bytes. HasAnswer A seat.old seat.new (RamLine frames) bytes.items)
+        (HasNoAnswer seat.old seat.new (RamLine frames)) }
 {
     let reached = match desk.state_for(seat, frames, frames) {
         Ok(reached) => reached,
-        Err(error) => return told_unshown(alloc, error.into()),
+        Err(error) => return unshown_answer(alloc, error.into()),
     };
     let bytes = ram_answer(alloc, reached.at, frames, &reached.state.ram());
-    told_or_refused(alloc, bytes)
+    answer_or_refusal(alloc, bytes)
 }
 
 /// Plays a frame from the state in which it begins, and answers `digest` with its digests, or with its halt.
-fn digest_frame<A: Allocator + Copy, B: Allocator>(
+pub fn digest_frame<A: Allocator + Copy, B: Allocator>(
     alloc: A,
     at: u64,
     movie: &Movie<B>,
@@ -64,27 +64,27 @@ fn digest_frame<A: Allocator + Copy, B: Allocator>(
 }
 
 /// A `digest` line.
-pub fn tell_digest<N: Name, W: CloseOnDrop, A: Allocator + Copy>(
+pub fn answer_digest<N: Name, W: CloseOnDrop, A: Allocator + Copy>(
     alloc: A,
     desk: &Desk<N, W, A>,
     seat: &mut Seat<N, A>,
     frame: usize,
 ) -> Result<Vec<u8, A>, RunFault>
     ensures { MatchResult result
-        (λ bytes. IsTold A seat.old seat.new (DigestLine frame) bytes.items)
-        (IsUntold seat.old seat.new (DigestLine frame)) }
+        (λ bytes. HasAnswer A seat.old seat.new (DigestLine frame) bytes.items)
+        (HasNoAnswer seat.old seat.new (DigestLine frame)) }
 {
     // The place after the greatest number wraps to 0, which no movie has after it.
     let reached = match desk.state_for(seat, frame, frame.wrapping_add(1)) {
         Ok(reached) => reached,
-        Err(error) => return told_unshown(alloc, error.into()),
+        Err(error) => return unshown_answer(alloc, error.into()),
     };
     let bytes = digest_frame(alloc, reached.at, seat.zone_movie(), frame, reached.state);
-    told_or_refused(alloc, bytes)
+    answer_or_refusal(alloc, bytes)
 }
 
 /// Plays some frames from the state in which the first one begins, and answers `lag` with the lag frames among them.
-fn find_lag<A: Allocator + Copy, B: Allocator>(
+pub fn find_lag<A: Allocator + Copy, B: Allocator>(
     alloc: A,
     at: u64,
     movie: &Movie<B>,
@@ -103,7 +103,7 @@ fn find_lag<A: Allocator + Copy, B: Allocator>(
 }
 
 /// A `lag` line.
-pub fn tell_lag<N: Name, W: CloseOnDrop, A: Allocator + Copy>(
+pub fn answer_lag<N: Name, W: CloseOnDrop, A: Allocator + Copy>(
     alloc: A,
     desk: &Desk<N, W, A>,
     seat: &mut Seat<N, A>,
@@ -111,12 +111,12 @@ pub fn tell_lag<N: Name, W: CloseOnDrop, A: Allocator + Copy>(
     to: usize,
 ) -> Result<Vec<u8, A>, RunFault>
     ensures { MatchResult result
-        (λ bytes. IsTold A seat.old seat.new (LagLine from to) bytes.items)
-        (IsUntold seat.old seat.new (LagLine from to)) }
+        (λ bytes. HasAnswer A seat.old seat.new (LagLine from to) bytes.items)
+        (HasNoAnswer seat.old seat.new (LagLine from to)) }
 {
     let reached = match desk.state_for(seat, from, to) {
         Ok(reached) => reached,
-        Err(error) => return told_unshown(alloc, error.into()),
+        Err(error) => return unshown_answer(alloc, error.into()),
     };
     let bytes = find_lag(
         alloc,
@@ -126,5 +126,5 @@ pub fn tell_lag<N: Name, W: CloseOnDrop, A: Allocator + Copy>(
         to,
         reached.state,
     );
-    told_or_refused(alloc, bytes)
+    answer_or_refusal(alloc, bytes)
 }

@@ -8,7 +8,7 @@ ghost use Rattle.tas_language.specs.Held.{HoldsLine};
 ghost use Rattle.tas_seat.specs.Talk.{last_answer, most_counted, IsTalk};
 ghost use Rattle.tas_seat.specs.Inside.Talking.{CutsOff, IsLineTurn, IsPartTurn};
 
-use crate::telling::answer_request;
+use crate::requests::answer_request;
 use byte_text::{split_once, write_counted};
 use std::alloc::Allocator;
 use std::io::{Read, Write};
@@ -39,7 +39,7 @@ fn hand_out<W: Write>(output: &mut W, bytes: &[u8], before: usize) -> Result<usi
 }
 
 /// Answers a line that isn't understood.
-fn tell_unknown<W: Write>(output: &mut W, before: usize) -> Result<usize, RunFault>
+fn answer_unknown<W: Write>(output: &mut W, before: usize) -> Result<usize, RunFault>
     ensures out { OnOk result
         (Appends (W.contents output.old) (W.contents output.new) unknown_text) }
     ensures count { IfOk result (λ n. n ≡ min (before + length unknown_text) most_counted) }
@@ -66,7 +66,7 @@ fn answer_line<N: Name, C: CloseOnDrop, A: Allocator + Copy, R: Wait, W: Write>(
         (W.contents output.new) result }
 {
     let Some(request) = line.request() else {
-        return Ok(Some(tell_unknown(output, written)?));
+        return Ok(Some(answer_unknown(output, written)?));
     };
     let Some(bytes) = answer_request(rt, alloc, desk, seat, request)? else {
         return Ok(None);
@@ -120,7 +120,7 @@ fn answer_last<A: Allocator, W: Write>(
     if line.is_empty() {
         return Ok(());
     }
-    tell_unknown(output, written)?;
+    answer_unknown(output, written)?;
     Ok(())
 }
 

@@ -26,9 +26,9 @@ use Rattle.tas_language.specs.History.{entry_text}
 use Rattle.tas_language.specs.Answers.{history_text}
 use Rattle.tas_language.specs.declared.request.Request.{Request}
 use Rattle.tas_language.specs.declared.request.Request.TheVariants.{Do, Retouch, Picture, Pictures, Ram, Digest, Lag, Movie, States, Share, History, Quit}
-use Rattle.tas_seat.specs.HistoryText.{entry_lines, history_told}
+use Rattle.tas_seat.specs.HistoryText.{entry_lines, history_reply_text}
 use Rattle.tas_seat.specs.Requests.{TalkState, IsAnswerTo as IsAnswerAt}
-use Rattle.tas_seat.specs.Seats.{most_told, talk_state_at, IsSeatAfter, IsAnsweredAt, StripAnswer as SeatAnswer, AreStrip as AreSeatStrip, strip_answers as seat_answers, IsHistoryAnswered, IsRequestAnswered, IsLineAnswered}
+use Rattle.tas_seat.specs.Seats.{most_entries, talk_state_at, IsSeatAfter, IsAnsweredAt, StripAnswer as SeatAnswer, AreStrip as AreSeatStrip, strip_answers as seat_answers, IsHistoryAnswered, IsRequestAnswered, IsLineAnswered}
 use Rattle.tas_seat.specs.Talk.{Exchange as SeatExchange, IsExchange as IsSeatExchange, AreExchanges as AreSeatExchanges, TalkEnds as SeatEnds, IsTalk as IsSeatTalk, lines_of as seat_lines, answers_of as seat_texts, edits_of}
 use Rattle.tas_seat.proofs.HistoryLemmas.{Leaves, prefix_length, by_length, by_rest, front_length, leaves_after, strip_leaves, exchange_leaves, exchanges_leave, rested, Rested}
 use Rattle.tas_tool.specs.Talk.{EntryContent, StripAnswer, AreStrip, strip_answers, IsOwnHistory, IsAnswerTo, IsLineAnswer, Exchange, IsExchange, AreExchanges, TalkEnds, IsTalk, lines_of, answers_of}
@@ -133,13 +133,13 @@ same_count {A} n (entry ∷ entries) =
     let other = count_by-cons (λ (e : Entry A). e.seat == n) entry entries in
     omega (arith, one, other, same_count n entries)
 
-same_told : {A : Type 0} (made from most : ℕ) (entries : List (Entry A)) → history_told made from (take most (drop from (map (λ (e : Entry A). entry_content e) entries))) ≡ history_told made from (take most (drop from entries))
+same_told : {A : Type 0} (made from most : ℕ) (entries : List (Entry A)) → history_reply_text made from (take most (drop from (map (λ (e : Entry A). entry_content e) entries))) ≡ history_reply_text made from (take most (drop from entries))
 same_told {A} made from most entries =
     let content : Entry A → EntryContent = λ (e : Entry A). entry_content e in
     let part : List (Entry A) = take most (drop from entries) in
     let moved : take most (drop from (map content entries)) ≡ map content part =
     ap (λ (l : List EntryContent). take most l) (drop-map content from entries) ∙ take-map content most (drop from entries) in
-    ap (λ (l : List EntryContent). history_told made from l) moved
+    ap (λ (l : List EntryContent). history_reply_text made from l) moved
     ∙ ap (λ (n : ℕ). history_text made from n (entry_lines from (map content part))) (length-map part content)
     ∙ ap (λ (l : List ℕ). history_text made from (length part) l) (same_lines from part)
 
@@ -182,8 +182,8 @@ own_history A before now from answer is seen own =
     let same : now.front ≡ before.front = at_front before now now.front [] is.seat seen own in
     let content : Entry A → EntryContent = λ (e : Entry A). entry_content e in
     let long : length (map content now.front) ≡ length now.front = length-map now.front content in
-    let told : history_told (length now.front) from (take most_told (drop from now.front)) ≡ history_told (length before.front) from (take most_told (drop from (map content now.front))) =
-    ap (λ (h : List (Entry A)). history_told (length h) from (take most_told (drop from now.front))) same ∙ sym (same_told (length before.front) from most_told now.front) in
+    let told : history_reply_text (length now.front) from (take most_entries (drop from now.front)) ≡ history_reply_text (length before.front) from (take most_entries (drop from (map content now.front))) =
+    ap (λ (h : List (Entry A)). history_reply_text (length h) from (take most_entries (drop from now.front))) same ∙ sym (same_told (length before.front) from most_entries now.front) in
     record {
       entries = map content now.front;
       movie = same_movie _ now.front ∙ ap (λ (h : List (Entry A)). movie_of h) same;

@@ -45,9 +45,9 @@ not_begun {A} facts doors doors' movie output output' fault result is why same u
     which (inr e) = inr (is ∙ ap (λ (f : RunFault). Err (Run f)) e)
 
 -- the movie that is reported is that of the history
-pub told_as : {A D : Type 0} (facts : DoorFacts D) (doors doors' : List D) (movie told : MovieContent) (history : List (Entry A)) (ends : List (Result (Unit {0}) SeatFault)) (output output' : Option (List ℕ)) (result : Result (Unit {0}) ToolFault)
+pub answer_as : {A D : Type 0} (facts : DoorFacts D) (doors doors' : List D) (movie told : MovieContent) (history : List (Entry A)) (ends : List (Result (Unit {0}) SeatFault)) (output output' : Option (List ℕ)) (result : Result (Unit {0}) ToolFault)
     → IsDeskHistory facts movie doors doors' ends history → told ≡ movie_of history → DeskEnds told ends output output' result → IsDeskOn A facts doors doors' movie output output' result
-told_as facts doors doors' movie told history ends output output' result held same end = inr (history, ends, held, subst (λ (m : MovieContent). DeskEnds m ends output output' result) same end)
+answer_as facts doors doors' movie told history ends output output' result held same end = inr (history, ends, held, subst (λ (m : MovieContent). DeskEnds m ends output output' result) same end)
 
 -- ---- reading
 

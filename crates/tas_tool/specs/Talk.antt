@@ -25,8 +25,8 @@ use Rattle.tas_language.specs.Requests.{IsHeard}
 use Rattle.tas_language.specs.Answers.{unknown_text}
 use Rattle.tas_seat.specs.Turns.{Standing}
 use Rattle.tas_seat.specs.Requests.{TalkState, IsPictureAnswer, IsAnswerTo as IsAnswerAt}
-use Rattle.tas_seat.specs.Seats.{most_told}
-use Rattle.tas_seat.specs.HistoryText.{history_told}
+use Rattle.tas_seat.specs.Seats.{most_entries}
+use Rattle.tas_seat.specs.HistoryText.{history_reply_text}
 use Rattle.tas_seat.specs.Talk.{IsQuit, IsAnswerCutOff, last_answer}
 use Rattle.tas_tool.specs.Scripts.{standing_at_start}
 use Rattle.tas_tool.specs.MovieScripts.{standing_of_movie}
@@ -58,7 +58,7 @@ pub record IsOwnHistory (state : TalkState) (from : ℕ) (answer : List ℕ) (ne
   pub made : length entries ≡ state.stands.made
   pub alone : entries_of 0 entries ≡ length entries
   pub no_memory : Bool
-  pub answer_is : answer ≡ (if no_memory then reply_text OutOfMemory else history_told state.stands.made from (take most_told (drop from entries)))
+  pub answer_is : answer ≡ (if no_memory then reply_text OutOfMemory else history_reply_text state.stands.made from (take most_entries (drop from entries)))
   pub rests : next ≡ state
 
 -- the answer to a request at what was made and kept so far, and what is made and kept then. `quit` is answered nothing: it ends the

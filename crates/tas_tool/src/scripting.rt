@@ -15,7 +15,7 @@ use std::sync::Wait;
 use tas_desk::{CloseOnDrop, Desk, Name, Seat, Unopened};
 use tas_engines::{RunFault, ToolFault, read_input, write_all};
 use tas_language::{parse_line, reply_line};
-use tas_seat::answer_command;
+use tas_seat::reply_to_command;
 
 /// Does what the lines ask for, and puts the replies into the empty text. `Foreign` comes only where the seat has seen more than its own
 /// edits.
@@ -43,7 +43,7 @@ pub fn answer_lines<N: Name, W: CloseOnDrop, A: Allocator + Copy, R: Wait>(
         let Some(command) = parse_line(line) else {
             return Err(RunFault::Script { line: number });
         };
-        let reply = answer_command(rt, alloc, desk, seat, command)?;
+        let reply = reply_to_command(rt, alloc, desk, seat, command)?;
         let words = reply_line(alloc, reply)?;
         text.extend_from_slice(words.as_slice())?;
         rest = after;

@@ -11,8 +11,8 @@ use Rattle.byte_text.specs.Splitting.{NoByte}
 use Rattle.tas_language.specs.declared.request.Request.TheVariants.{Quit}
 use Rattle.tas_language.specs.Requests.{IsHeard}
 use Rattle.tas_language.specs.Held.{HoldsLine}
-use Rattle.tas_seat.specs.Inside.Telling.{IsStrange}
-use Rattle.tas_seat.specs.Talk.{Exchange, IsExchange, AreExchanges, IsQuit, HasLooked, IsCarriedOut, lines_of, answers_of, most_counted}
+use Rattle.tas_seat.specs.Inside.Outcomes.{IsMiscounted}
+use Rattle.tas_seat.specs.Talk.{Exchange, AreExchanges, IsQuit, HasLooked, IsCarriedOut, lines_of, answers_of, most_counted}
 
 -- a write of an answer failed, after this many bytes: its first bytes went out
 abbrev pub CutsOff : ℕ → List ℕ → Option (List ℕ) → Option (List ℕ) → RunFault → Type 0
@@ -29,7 +29,7 @@ abbrev pub Breaks : {A : Type 0} → (seat now : SeatContent A) → List ℕ →
 Breaks seat now rest edits told old new (Write written) = (answer : List ℕ) × IsCarriedOut seat now rest edits answer × CutsOff told answer old new (Write written)
 Breaks seat now rest edits told old new NoEntry = HasLooked seat now edits × (0 < length rest) × Appends old new []
 Breaks seat now rest edits told old new Memory = (HasLooked seat now edits ⊎ ((answer : List ℕ) × IsCarriedOut seat now rest edits answer)) × Appends old new []
-Breaks seat now rest edits told old new Foreign = IsStrange seat now
+Breaks seat now rest edits told old new Foreign = IsMiscounted seat now
 Breaks seat now rest edits told old new _ = ⊥
 
 -- what was read was answered up to a rest that isn't

@@ -8,7 +8,7 @@ use Rattle.tas_green.proofs.RunLemmas.{after_more, picture_drawn}
 use Rattle.tas_session.specs.Answers.{shown_of}
 use Rattle.tas_language.specs.Answers.{frame_digest_text}
 use Rattle.tas_language.specs.Replies.{reply_text}
-use Rattle.tas_seat.proofs.TellingLemmas.{shown_frame}
+use Rattle.tas_seat.proofs.AnswerLemmas.{shown_frame}
 use Rattle.tas_seat.proofs.looks.digest_frame.Goals as goal
 
 pub returns-in-Err : goal.returns-in-Err

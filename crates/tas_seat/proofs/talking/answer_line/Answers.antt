@@ -8,12 +8,12 @@ use Rattle.tas_seat.proofs.talking.answer_line.Goals as goal
 
 pub returns-in_default : goal.returns-in_default
 returns-in_default g c = λ said holds none.
-    unknown_line c.args.seat.now said _ c.args.written _ _ _ none (c.in_default.ensures said holds) refl c.in_ok-tell_unknown.ensures.out c.in_ok-tell_unknown.ensures.count
+    unknown_line c.args.seat.now said _ c.args.written _ _ _ none (c.in_default.ensures said holds) refl c.in_ok-answer_unknown.ensures.out c.in_ok-answer_unknown.ensures.count
 
-pub returns-in_err-tell_unknown : goal.returns-in_err-tell_unknown
-returns-in_err-tell_unknown g c = λ said holds none.
+pub returns-in_err-answer_unknown : goal.returns-in_err-answer_unknown
+returns-in_err-answer_unknown g c = λ said holds none.
     let p = err_from_is_err_and c.from_residual.result c.from_residual.ensures.1 in
-    rw (p.1, p.2) (unknown_cut c.args.seat.now said _ c.args.written _ _ _ none (c.in_default.ensures said holds) refl c.in_err-tell_unknown.ensures.fault)
+    rw (p.1, p.2) (unknown_cut c.args.seat.now said _ c.args.written _ _ _ none (c.in_default.ensures said holds) refl c.in_err-answer_unknown.ensures.fault)
 
 pub returns-in_default-2 : goal.returns-in_default-2
 returns-in_default-2 g c = λ said holds none.

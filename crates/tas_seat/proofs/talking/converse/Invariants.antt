@@ -1,4 +1,4 @@
-use Rattle.std.proofs.Common.{◌≡◌, ℕ, List}
+use Rattle.std.proofs.Common.{ℕ, List}
 use Rattle.tas_seat.specs.Talk.{Exchange}
 use Rattle.tas_seat.proofs.TalkLemmas.{IsUnderway}
 use Rattle.tas_seat.proofs.talking.converse.Given as goal

@@ -1,7 +1,7 @@
 use Rattle.std.proofs.Common.{refl, ap, inl, inr, ◌∙◌}
 use Rattle.std.proofs.lemmas.Result.{err_from_is_err_and}
 use Rattle.tas_tool.specs.Desks.{first_fault}
-use Rattle.tas_tool.proofs.DeskLemmas.{not_begun, told_as}
+use Rattle.tas_tool.proofs.DeskLemmas.{not_begun, answer_as}
 use Rattle.tas_tool.proofs.desk_runs.desk_on.Goals as goal
 
 pub returns-in_default : goal.returns-in_default
@@ -17,11 +17,11 @@ returns-in_err-write_movie g c =
     let p = err_from_is_err_and c.from_residual-in_err-write_movie.result c.from_residual-in_err-write_movie.ensures.1 in
     let held = c.in_ok-held.held in
     rw (p.1, p.2)
-    (told_as g.D.Door.facts c.args.doors.now.items c.hold_desk.new.doors.items c.args.movie held.closed.movie held.closed.journal.items held.ends.items _ _ _ c.in_ok-held.ensures.history c.in_ok-held.ensures.movie
+    (answer_as g.D.Door.facts c.args.doors.now.items c.hold_desk.new.doors.items c.args.movie held.closed.movie held.closed.journal.items held.ends.items _ _ _ c.in_ok-held.ensures.history c.in_ok-held.ensures.movie
     (inr (_, refl, c.in_err-write_movie.ensures)))
 
 pub returns : goal.returns
 returns g c =
     let held = c.in_ok-held.held in
-    told_as g.D.Door.facts c.args.doors.now.items c.hold_desk.new.doors.items c.args.movie held.closed.movie held.closed.journal.items held.ends.items _ _ c.first_fault.result c.in_ok-held.ensures.history c.in_ok-held.ensures.movie
+    answer_as g.D.Door.facts c.args.doors.now.items c.hold_desk.new.doors.items c.args.movie held.closed.movie held.closed.journal.items held.ends.items _ _ c.first_fault.result c.in_ok-held.ensures.history c.in_ok-held.ensures.movie
     (inl (c.in_ok-write_movie.ensures, c.first_fault.ensures ∙ ap (λ l. first_fault 0 l) c.as_slice.ensures.value))

@@ -8,8 +8,8 @@ close-closed-requires g c =
     let new = c.converse_all.new.callers in
     let back = whole_back new _ _ _ (sym (c.converse_all.auto.callers ∙ c.as_mut_slice.ensures.len)) refl in
     record {
-      whole = whole_made g.N.Ledger.parts g.D.Door.facts (λ (x : Caller _ _). x.door) (λ (x : Caller _ _). x.seat) (λ (x : Caller _ _). x.end) c.args.callers.items c.as_mut_slice.result.now new c.part.new.back.seats.items
-          c.as_mut_slice.ensures.value c.converse_all.auto.callers c.requires.all c.converse_all.ensures c.requires.numbers (c.part.ensures.seats ∙ ap (λ (l : List (Caller _ _)). map (λ (x : Caller _ _). x.seat) l) back);
+      whole = whole_made g.N.Ledger.parts g.D.Door.facts (λ (x : Caller _ _ _). x.door) (λ (x : Caller _ _ _). x.seat) (λ (x : Caller _ _ _). x.end) c.args.callers.items c.as_mut_slice.result.now new c.part.new.back.seats.items
+          c.as_mut_slice.ensures.value c.converse_all.auto.callers c.requires.all c.converse_all.ensures c.requires.numbers (c.part.ensures.seats ∙ ap (λ (l : List (Caller _ _ _)). map (λ (x : Caller _ _ _). x.seat) l) back);
     }
 
 pub returns-clause-history : goal.returns-clause-history
@@ -18,7 +18,7 @@ returns-clause-history g c =
     let back = whole_back new _ _ _ (sym (c.converse_all.auto.callers ∙ c.as_mut_slice.ensures.len)) refl in
     let end = c.close-closed.ensures in
     let parts = c.part.ensures in
-    holds_made g.N.Ledger.parts g.D.Door.facts (λ (x : Caller _ _). x.door) (λ (x : Caller _ _). x.seat) (λ (x : Caller _ _). x.end) c.args.callers.items c.as_mut_slice.result.now new c.part.new.doors.items c.part.new.back.seats.items
+    holds_made g.N.Ledger.parts g.D.Door.facts (λ (x : Caller _ _ _). x.door) (λ (x : Caller _ _ _). x.seat) (λ (x : Caller _ _ _). x.end) c.args.callers.items c.as_mut_slice.result.now new c.part.new.doors.items c.part.new.back.seats.items
     c.part.new.back.ends.items c.close-closed.result.journal.items c.as_mut_slice.ensures.value c.converse_all.auto.callers c.requires.all c.converse_all.ensures c.requires.numbers
-    (parts.doors ∙ ap (λ (l : List (Caller _ _)). map (λ (x : Caller _ _). x.door) l) back) (parts.seats ∙ ap (λ (l : List (Caller _ _)). map (λ (x : Caller _ _). x.seat) l) back)
-    (parts.ends ∙ ap (λ (l : List (Caller _ _)). map (λ (x : Caller _ _). x.end) l) back) end.legal end.seats end.count
+    (parts.doors ∙ ap (λ (l : List (Caller _ _ _)). map (λ (x : Caller _ _ _). x.door) l) back) (parts.seats ∙ ap (λ (l : List (Caller _ _ _)). map (λ (x : Caller _ _ _). x.seat) l) back)
+    (parts.ends ∙ ap (λ (l : List (Caller _ _ _)). map (λ (x : Caller _ _ _). x.end) l) back) end.legal end.seats end.count

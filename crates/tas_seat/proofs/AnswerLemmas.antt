@@ -1,0 +1,218 @@
+-- Answers to requests.
+use Rattle.std.proofs.Common.{◌≡◌, ℕ, ◌+◌, ◌<◌, List, [], length, Bool, true, false, Option, Some, None, Result, Ok, Err, IfOk, inl, inr, refl, sym, ap, subst, ◌∙◌}
+use Rattle.std.specs.Prelude.{MatchResult, take, drop}
+use Rattle.std.proofs.lemmas.Bool.{lt-ltb}
+use Rattle.std.proofs.lemmas.Result.{MatchResult-weaker}
+use Rattle.vcs_cpu.specs.declared.halt.Halt.{Halt}
+use Rattle.vcs_tia.specs.Image.{ppm_bytes}
+use Rattle.tas_movie.specs.Content.{MovieContent}
+use Rattle.tas_movie.specs.Text.{text2}
+use Rattle.tas_green.specs.Run.{state_after, picture_of}
+use Rattle.tas_session.specs.Answers.{answer_shot, shown_of}
+use Rattle.tas_session.specs.History.{movie_of}
+use Rattle.tas_session.specs.Shots.{IsShotAt}
+use Rattle.tas_session.specs.declared.entry.Entry.{Entry}
+use Rattle.tas_session.specs.declared.replies.ShotError.{ShotError}
+use Rattle.tas_session.specs.declared.replies.ShotError.TheVariants.{NoEntry as NoShotEntry, NoFrame as NoShotFrame, Memory as NoShotMemory, Halted as ShotHalted}
+use Rattle.tas_desk.specs.Seats.{SeatContent, HasSeen, KeepsZone, IsZoneViewed}
+use Rattle.tas_desk.specs.Zones.{IsViewed, IsShared}
+use Rattle.tas_engines.specs.declared.fault.RunFault.{RunFault}
+use Rattle.tas_engines.specs.declared.fault.RunFault.TheVariants.{NoEntry, Memory, Foreign, Write, Size, Text, NoFrame as OffMovie, Range as OffRange, Halted as Stopped, HaltedFrame as StoppedFrame, Script, Place, Long, NoPlace}
+use Rattle.tas_language.specs.declared.command.Command.{Command}
+use Rattle.tas_language.specs.declared.retouch.Retouch.{Retouch as RetouchLine}
+use Rattle.tas_language.specs.declared.reply.Reply.{Reply}
+use Rattle.tas_language.specs.declared.reply.Reply.TheVariants.{NoFrame, OutOfMemory}
+use Rattle.tas_language.specs.Replies.{reply_text}
+use Rattle.tas_language.specs.declared.request.Request.{Request}
+use Rattle.tas_language.specs.declared.request.Request.TheVariants.{Do, Retouch, Picture, Movie, States, Share, History}
+use Rattle.tas_language.specs.Answers.{picture_text, movie_text, states_text, share_text}
+use Rattle.tas_seat.specs.declared.edit_requests.EditRequest.TheVariants.{Retouch as RetouchAsked}
+use Rattle.tas_seat.specs.Turns.{standing_of, halted_reply}
+use Rattle.tas_seat.specs.Requests.{PictureLeaves, Gains, GainsUnless, answer_to_picture, kept_frames}
+use Rattle.tas_seat.specs.HistoryText.{history_reply_text}
+use Rattle.tas_seat.specs.Seats.{talk_state_at, most_entries, IsAnswered}
+use Rattle.tas_seat.specs.Inside.Outcomes.{unshown_as, IsEditAnswered, IsMiscounted, IsUnanswered, HasAnswer, HasNoAnswer}
+use Rattle.tas_seat.proofs.SeatLemmas.{seen_same, looked_at, rests, green_at, views_at, gains_at, answered_here}
+
+-- ---- answers and faults
+
+-- another name of the answer's bytes
+answer_as : {A : Type 0} (before now : SeatContent A) (request : Request) (answer bytes : List ℕ) → bytes ≡ answer → HasAnswer A before now request answer → HasAnswer A before now request bytes
+answer_as {A} before now request answer bytes is told = subst (λ (l : List ℕ). HasAnswer A before now request l) (sym is) told
+
+untold : {A : Type 0} (before now : SeatContent A) (request : Request) (answer : List ℕ) (fault : RunFault) → fault ≡ Memory → HasAnswer A before now request answer → HasNoAnswer before now request fault
+untold before now request answer fault is told = subst (HasNoAnswer before now request) (sym is) (inr (answer, told))
+
+-- the answer's bytes, or memory was refused for them
+pub told_text : {X A : Type 0} (before now : SeatContent A) (request : Request) (text : List ℕ) (r : Result X RunFault) (bytes_of : X → List ℕ) → MatchResult r (λ bytes. bytes_of bytes ≡ text) (λ fault. fault ≡ Memory) → HasAnswer A before now request text
+    → MatchResult r (λ bytes. HasAnswer A before now request (bytes_of bytes)) (HasNoAnswer before now request)
+told_text before now request text r bytes_of is told =
+    MatchResult-weaker r is (λ bytes e. answer_as before now request text (bytes_of bytes) e told) (λ fault e. untold before now request text fault e told)
+
+-- an answer was made, or memory was refused for it, and then for the line that says so
+pub answered_or : {X E A : Type 0} (before now : SeatContent A) (request : Request) (answer : Result X E) (r : Result X RunFault) (bytes_of : X → List ℕ)
+    → MatchResult answer (λ bytes. r ≡ Ok bytes) (λ fault. MatchResult r (λ bytes. bytes_of bytes ≡ reply_text OutOfMemory) (λ fault. fault ≡ Memory))
+    → IfOk answer (λ bytes. HasAnswer A before now request (bytes_of bytes)) → HasAnswer A before now request (reply_text OutOfMemory)
+    → MatchResult r (λ bytes. HasAnswer A before now request (bytes_of bytes)) (HasNoAnswer before now request)
+answered_or {X} {E} {A} before now request (Ok bytes) r bytes_of is told lost =
+    subst (λ (x : Result X RunFault). MatchResult x (λ bytes. HasAnswer A before now request (bytes_of bytes)) (HasNoAnswer before now request)) (sym is) told
+answered_or before now request (Err fault) r bytes_of is told lost = told_text before now request (reply_text OutOfMemory) r bytes_of is lost
+
+-- a shot, or a look, that shows nothing
+pub shown_answered : {X A : Type 0} (before now : SeatContent A) (request : Request) (shown : Result Reply RunFault) (r : Result X RunFault) (bytes_of : X → List ℕ)
+    → MatchResult shown (λ reply. MatchResult r (λ bytes. bytes_of bytes ≡ reply_text reply) (λ fault. fault ≡ Memory)) (λ fault. r ≡ Err fault)
+    → MatchResult shown (λ reply. HasAnswer A before now request (reply_text reply)) (HasNoAnswer before now request)
+    → MatchResult r (λ bytes. HasAnswer A before now request (bytes_of bytes)) (HasNoAnswer before now request)
+shown_answered before now request (Ok reply) r bytes_of is told = told_text before now request (reply_text reply) r bytes_of is told
+shown_answered {X} {A} before now request (Err fault) r bytes_of is told =
+    subst (λ (x : Result X RunFault). MatchResult x (λ bytes. HasAnswer A before now request (bytes_of bytes)) (HasNoAnswer before now request)) (sym is) told
+
+pub unanswered : {A : Type 0} (before now : SeatContent A) (request : Request) (fault : RunFault) → IsUnanswered before now fault → HasNoAnswer before now request fault
+unanswered before now request NoEntry is = seen_same before now is
+unanswered before now request Foreign is = is
+unanswered before now request Memory is = absurd is
+unanswered before now request (Write written) is = absurd is
+unanswered before now request (Size n) is = absurd is
+unanswered before now request (Text error) is = absurd is
+unanswered before now request (OffMovie frame len) is = absurd is
+unanswered before now request (OffRange from to len) is = absurd is
+unanswered before now request (Stopped at opcode) is = absurd is
+unanswered before now request (StoppedFrame frame at opcode) is = absurd is
+unanswered before now request (Script line) is = absurd is
+unanswered before now request (Place line) is = absurd is
+unanswered before now request (Long line) is = absurd is
+unanswered before now request NoPlace is = absurd is
+
+pub miscounted_unanswered : {A : Type 0} (before now : SeatContent A) (request : Request) (fault : RunFault) → (fault ≡ Foreign) × IsMiscounted before now → HasNoAnswer before now request fault
+miscounted_unanswered before now request fault is = subst (HasNoAnswer before now request) (sym is.0) is.1
+
+-- ---- commands and edits
+
+pub command_answered : (A : Type 0) (before now : SeatContent A) (command : Command) (reply : Reply) → IsAnswered A before now command reply → HasAnswer A before now (Do command) (reply_text reply)
+command_answered A before now command reply is = (_, record { at = is.at; answered = (reply, is.turn, refl, is.leaves); made = refl; seat = is.seat })
+
+pub retouch_answered : (A : Type 0) (before now : SeatContent A) (retouch : RetouchLine) (reply : Reply) → IsEditAnswered A before now (RetouchAsked retouch) reply → HasAnswer A before now (Retouch retouch) (reply_text reply)
+retouch_answered A before now retouch reply is = (_, record { at = is.at; answered = (reply, is.turn, refl, rests before now is.at now.front is.zone); made = refl; seat = is.seat })
+
+-- ---- pictures
+
+told_frame : (A : Type 0) (before now : SeatContent A) (k : ℕ) (no_memory : Bool) (found : Option (Result (List ℕ) Halt)) (answer : List ℕ) → HasSeen before now → answer_shot (movie_of now.front) k ≡ found
+    → answer ≡ answer_to_picture no_memory (standing_of now.front) k found → PictureLeaves no_memory (talk_state_at now.front before.zone) (talk_state_at now.front now.zone) k found → HasAnswer A before now (Picture k) answer
+told_frame A before now k no_memory found answer seen there is leaves = (
+  [],
+  answered_here A before now (Picture k) answer seen (
+    no_memory,
+    is ∙ ap (answer_to_picture no_memory (standing_of now.front) k) (sym there),
+    refl,
+    subst (PictureLeaves no_memory (talk_state_at now.front before.zone) (talk_state_at now.front now.zone) k) (sym there) leaves,
+  ),
+)
+
+pub picture_answered : (A : Type 0) (before now : SeatContent A) (k at ran : ℕ) (picture : List ℕ) → HasSeen before now → answer_shot (movie_of now.front) k ≡ Some (Ok picture) → at ≡ length now.front → IsViewed before.zone now.zone now.front k ran
+    → HasAnswer A before now (Picture k) (picture_text at k (ppm_bytes picture))
+picture_answered A before now k at ran picture seen shown here viewed =
+    told_frame A before now k false (Some (Ok picture)) (picture_text at k (ppm_bytes picture)) seen shown (ap (λ (n : ℕ). picture_text n k (ppm_bytes picture)) here) (viewed.view.rose, views_at before now now.front k ran viewed)
+
+pub lost_picture : (A : Type 0) (before now : SeatContent A) (k ran : ℕ) (picture : List ℕ) → HasSeen before now → answer_shot (movie_of now.front) k ≡ Some (Ok picture) → IsViewed before.zone now.zone now.front k ran
+    → HasAnswer A before now (Picture k) (reply_text OutOfMemory)
+lost_picture A before now k ran picture seen shown viewed =
+    told_frame A before now k true (Some (Ok picture)) (reply_text OutOfMemory) seen shown refl (inr (viewed.view.rose, views_at before now now.front k ran viewed))
+
+-- what a frame shows that is there
+pub shown_frame : (movie : MovieContent) (k : ℕ) → k < length movie.inputs → answer_shot movie k ≡ Some (shown_of (state_after movie (k + 1)).halt (picture_of movie k))
+shown_frame movie k within = rw (lt-ltb k (length movie.inputs) within) refl
+
+-- a view without a picture
+pub undrawn : (A : Type 0) (before now : SeatContent A) (k : ℕ) (error : ShotError) → HasSeen before now → IsShotAt {B = A} now.front k (Err error) → IsZoneViewed {B = A} before now k (Err error)
+    → MatchResult (unshown_as error) (λ reply. HasAnswer A before now (Picture k) (reply_text reply)) (HasNoAnswer before now (Picture k))
+undrawn A before now k NoShotEntry seen shown zone = seen
+undrawn A before now k (NoShotFrame at len) seen shown zone =
+    told_frame A before now k false None (reply_text (NoFrame at len)) seen shown.0
+    (ap (λ (n : ℕ). reply_text (NoFrame n len)) shown.1 ∙ ap (λ (n : ℕ). reply_text (NoFrame (length now.front) n)) shown.2) (rests before now now.front now.front zone)
+undrawn A before now k NoShotMemory seen shown zone =
+    told_frame A before now k true _ (reply_text OutOfMemory) seen (shown_frame (movie_of now.front) k shown) refl (inl (rests before now now.front now.front zone))
+undrawn A before now k (ShotHalted at halt) seen shown zone =
+    told_frame A before now k false (Some (Err halt)) (reply_text (halted_reply at halt)) seen shown.0 (ap (λ (n : ℕ). reply_text (halted_reply n halt)) shown.1)
+    (zone.1.view.rose, views_at before now now.front k zone.0 zone.1)
+
+-- ---- the desk's states
+
+-- what memory's refusal leaves
+unshared : {A : Type 0} (before now : SeatContent A) → now.zone ≡ before.zone → GainsUnless true (talk_state_at now.front before.zone) (talk_state_at now.front now.zone)
+unshared before now zone = inl (rests before now now.front now.front zone)
+
+shared_still : {A : Type 0} (before now : SeatContent A) (gained : ℕ) → IsShared before.zone now.zone now.front gained → GainsUnless true (talk_state_at now.front before.zone) (talk_state_at now.front now.zone)
+shared_still before now gained shared = inr (gains_at before now now.front gained shared)
+
+pub movie_answered : (A : Type 0) (before now : SeatContent A) (at gained : ℕ) (movie : MovieContent) → HasSeen before now → at ≡ length now.front → movie ≡ now.zone.movie → IsShared before.zone now.zone now.front gained
+    → HasAnswer A before now Movie (movie_text at (text2 movie))
+movie_answered A before now at gained movie seen here is shared = (
+  [],
+  answered_here A before now Movie (movie_text at (text2 movie)) seen (
+    false,
+    ap (λ (n : ℕ). movie_text n (text2 movie)) here ∙ ap (λ (m : MovieContent). movie_text (length now.front) (text2 m)) (is ∙ shared.made.movie),
+    refl,
+    gains_at before now now.front gained shared,
+  ),
+)
+
+lost_movie : (A : Type 0) (before now : SeatContent A) → HasSeen before now → GainsUnless true (talk_state_at now.front before.zone) (talk_state_at now.front now.zone) → HasAnswer A before now Movie (reply_text OutOfMemory)
+lost_movie A before now seen leaves = ([], answered_here A before now Movie (reply_text OutOfMemory) seen (true, refl, refl, leaves))
+
+-- memory was refused for the states, or for the answer
+pub unshared_movie : (A : Type 0) (before now : SeatContent A) → HasSeen before now → now.zone ≡ before.zone → HasAnswer A before now Movie (reply_text OutOfMemory)
+unshared_movie A before now seen zone = lost_movie A before now seen (unshared before now zone)
+
+pub unwritten_movie : (A : Type 0) (before now : SeatContent A) (gained : ℕ) → HasSeen before now → IsShared before.zone now.zone now.front gained → HasAnswer A before now Movie (reply_text OutOfMemory)
+unwritten_movie A before now gained seen shared = lost_movie A before now seen (shared_still before now gained shared)
+
+pub states_answered : (A : Type 0) (before now : SeatContent A) (at gained : ℕ) → HasSeen before now → at ≡ length now.front → IsShared before.zone now.zone now.front gained
+    → HasAnswer A before now States (states_text at (kept_frames (length now.zone.movie.inputs) now.zone.states))
+states_answered A before now at gained seen here shared = (
+  [],
+  answered_here A before now States (states_text at (kept_frames (length now.zone.movie.inputs) now.zone.states)) seen (
+    false,
+    ap (λ (n : ℕ). states_text n (kept_frames (length now.zone.movie.inputs) now.zone.states)) here
+        ∙ ap (λ (m : MovieContent). states_text (length now.front) (kept_frames (length m.inputs) now.zone.states)) shared.made.movie,
+    refl,
+    gains_at before now now.front gained shared,
+  ),
+)
+
+lost_states : (A : Type 0) (before now : SeatContent A) → HasSeen before now → GainsUnless true (talk_state_at now.front before.zone) (talk_state_at now.front now.zone) → HasAnswer A before now States (reply_text OutOfMemory)
+lost_states A before now seen leaves = ([], answered_here A before now States (reply_text OutOfMemory) seen (true, refl, refl, leaves))
+
+pub unshared_states : (A : Type 0) (before now : SeatContent A) → HasSeen before now → now.zone ≡ before.zone → HasAnswer A before now States (reply_text OutOfMemory)
+unshared_states A before now seen zone = lost_states A before now seen (unshared before now zone)
+
+pub unwritten_states : (A : Type 0) (before now : SeatContent A) (gained : ℕ) → HasSeen before now → IsShared before.zone now.zone now.front gained → HasAnswer A before now States (reply_text OutOfMemory)
+unwritten_states A before now gained seen shared = lost_states A before now seen (shared_still before now gained shared)
+
+pub share_answered : (A : Type 0) (before now : SeatContent A) (at gained : ℕ) (answer : List ℕ) → HasSeen before now → at ≡ length now.front → IsShared before.zone now.zone now.front gained → answer ≡ share_text at gained
+    → HasAnswer A before now Share answer
+share_answered A before now at gained answer seen here shared is =
+    let gains : Gains (talk_state_at now.front before.zone) (talk_state_at now.front now.zone) =
+    record { green = green_at now.zone now.front shared.made; other = shared.other; others = shared.others; gained = gained; gain = shared.gain } in
+    ([], answered_here A before now Share answer seen (false, (gains, is ∙ ap (λ (n : ℕ). share_text n gained) here), refl))
+
+pub unshared_share : (A : Type 0) (before now : SeatContent A) → HasSeen before now → now.zone ≡ before.zone → HasAnswer A before now Share (reply_text OutOfMemory)
+unshared_share A before now seen zone = ([], answered_here A before now Share (reply_text OutOfMemory) seen (true, (refl, rests before now now.front now.front zone), refl))
+
+-- ---- the history
+
+pub history_answered : (A : Type 0) (before now : SeatContent A) (from at : ℕ) (entries : List (Entry A)) → KeepsZone before now → at ≡ length now.front → entries ≡ take most_entries (drop from now.front) → HasAnswer A before now (History from) (history_reply_text at from entries)
+history_answered A before now from at entries keeps here are = (
+  [],
+  (
+    refl,
+    record {
+      no_memory = false;
+      answer_is = ap (λ (n : ℕ). history_reply_text n from entries) here ∙ ap (history_reply_text (length now.front) from) are;
+      zone = keeps.zone;
+      seat = looked_at before now keeps.seen;
+    },
+  ),
+)
+
+pub lost_history : (A : Type 0) (before now : SeatContent A) (from : ℕ) → KeepsZone before now → HasAnswer A before now (History from) (reply_text OutOfMemory)
+lost_history A before now from keeps = ([], (refl, record { no_memory = true; answer_is = refl; zone = keeps.zone; seat = looked_at before now keeps.seen }))

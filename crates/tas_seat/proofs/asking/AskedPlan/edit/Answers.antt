@@ -1,5 +1,0 @@
-use Rattle.tas_seat.proofs.EditLemmas.{asked_allowed}
-use Rattle.tas_seat.proofs.asking.AskedPlan.edit.Goals as goal
-
-pub returns-in-Retouch-clause-allowed : goal.returns-in-Retouch-clause-allowed
-returns-in-Retouch-clause-allowed g c = asked_allowed _ c.args.self.now c.args.movie.now c.requires

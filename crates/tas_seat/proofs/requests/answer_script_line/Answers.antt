@@ -1,0 +1,15 @@
+use Rattle.std.proofs.lemmas.Result.{err_from_is_err_and}
+use Rattle.tas_language.specs.Replies.{reply_text}
+use Rattle.tas_language.specs.declared.request.Request.TheVariants.{Do}
+use Rattle.tas_seat.proofs.AnswerLemmas.{told_text, unanswered, command_answered}
+use Rattle.tas_seat.proofs.requests.answer_script_line.Goals as goal
+
+pub returns : goal.returns
+returns g c =
+    told_text c.args.seat.now c.reply_to_command.new.seat (Do c.args.command) (reply_text c.in_ok-reply.reply) c.answer_of_reply.result (λ bytes. bytes.items) c.answer_of_reply.ensures
+    (command_answered g.row.A.Denot c.args.seat.now c.reply_to_command.new.seat c.args.command c.in_ok-reply.reply c.in_ok-reply.ensures)
+
+pub returns-in_err-reply : goal.returns-in_err-reply
+returns-in_err-reply g c =
+    let p = err_from_is_err_and c.from_residual.result c.from_residual.ensures.1 in
+    rw (p.1, p.2) (unanswered c.args.seat.now c.reply_to_command.new.seat (Do c.args.command) c.in_err-reply.field-0.0 c.in_err-reply.ensures)

@@ -1,0 +1,14 @@
+use Rattle.tas_language.specs.declared.reply.Reply.TheVariants.{OutOfMemory}
+use Rattle.tas_language.specs.Replies.{reply_text}
+use Rattle.tas_language.specs.declared.request.Request.TheVariants.{Share}
+use Rattle.tas_seat.proofs.AnswerLemmas.{told_text, share_answered, unshared_share}
+use Rattle.tas_seat.proofs.requests.answer_share.Goals as goal
+
+pub returns-in_default : goal.returns-in_default
+returns-in_default g c =
+    told_text c.args.seat.now c.bring.new.seat Share (reply_text OutOfMemory) c.answer_of_reply.result (λ bytes. bytes.items) c.answer_of_reply.ensures
+    (unshared_share g.row.A.Denot c.args.seat.now c.bring.new.seat c.bring.ensures.seat c.in_default.ensures.zone)
+
+pub returns : goal.returns
+returns g c =
+    share_answered g.row.A.Denot c.args.seat.now c.bring.new.seat c.in-Ok.shared.at c.in-Ok.shared.gained c.in_ok-share_answer.field-0.items c.bring.ensures.seat c.in-Ok.ensures.at c.in-Ok.ensures.zone c.in_ok-share_answer.ensures

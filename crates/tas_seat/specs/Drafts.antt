@@ -1,0 +1,138 @@
+-- Drafts: changes of a movie that a conversation gathers before it makes them as one step, and what lines are answered meanwhile.
+use Rattle.std.specs.Prelude.{codes, ◌≡◌, ℕ, ◌+◌, ◌-◌, ◌≤◌, ◌==◌, List, [], ◌∷◌, length, take, drop, reverse, if◌then◌else◌, ◌⊎◌}
+use Rattle.std.specs.List.{flat_map}
+use Rattle.vcs_machine.specs.declared.input.Input.{Input}
+use Rattle.tas_movie.specs.Content.{MovieContent}
+use Rattle.tas_movie.specs.declared.edit.Edit.{Edit}
+use Rattle.tas_movie.specs.declared.edit.Edit.TheVariants.{Insert, Replace, Delete}
+use Rattle.tas_movie.specs.Edit.{IsAllowed, edited}
+use Rattle.tas_movie.specs.Front.{IsCommonFront}
+use Rattle.tas_green.specs.declared.savestate.Savestate.{Savestate}
+use Rattle.tas_green.specs.Green.{IsLawful}
+use Rattle.tas_session.specs.History.{most_edits}
+use Rattle.tas_session.specs.Session.{left_by}
+use Rattle.tas_language.specs.declared.command.Command.TheVariants.{Load}
+use Rattle.tas_language.specs.declared.request.Request.{Request}
+use Rattle.tas_language.specs.declared.request.Request.TheVariants.{Do, Picture, Pictures, Share, History, Quit}
+use Rattle.tas_seat.specs.Turns.{Standing}
+use Rattle.tas_seat.specs.Edits.{requested_edits, made_between}
+use Rattle.tas_seat.specs.Requests.{TalkState, IsAnswerTo}
+
+-- ---- a draft
+
+-- the answer to a line that has no place in a draft, which is open
+abbrev pub in_draft_text : List ℕ
+in_draft_text = codes "in draft\n"
+
+-- a draft: how many edits the history had when it began, the movie then, the movie as it would be, how many changes were made in the
+-- draft, and its greenzone, the states that are kept of the movie as it would be
+pub record DraftContent : Type 0 where
+  pub at : ℕ
+  pub base : MovieContent
+  pub movie : MovieContent
+  pub made : ℕ
+  pub states : List Savestate
+
+-- a draft that begins at this many edits of a history with this movie
+abbrev pub fresh_draft : ℕ → MovieContent → List Savestate → DraftContent
+fresh_draft at movie states = record { at = at; base = movie; movie = movie; made = 0; states = states }
+
+-- what it comes to: the movie, and the history's edits with one more for each change
+abbrev pub draft_standing : DraftContent → Standing
+draft_standing draft = record { movie = draft.movie; made = draft.at + draft.made }
+
+abbrev pub draft_state : DraftContent → TalkState
+draft_state draft = record { stands = draft_standing draft; kept_for = draft.movie; states = draft.states }
+
+-- what each draft keeps: there are at most as many edits as a history may have, the cartridge is the one that it began with, and the kept
+-- states are its movie's
+pub record IsDraft (draft : DraftContent) : Type 0 where
+  pub most : draft.at + draft.made ≤ most_edits
+  pub cart : draft.movie.cart ≡ draft.base.cart
+  pub lawful : IsLawful draft.movie draft.states
+
+-- ---- answers
+
+-- the states that edits leave, made one after the other from this movie on
+abbrev pub left_by_edits : {A : Type 0} → MovieContent → List (Edit A) → List Savestate → List Savestate
+left_by_edits movie [] states = states
+left_by_edits movie (edit ∷ edits) states = left_by_edits (edited movie edit) edits (left_by movie edit states)
+
+-- a draft after a line that comes to this: it began where it did, and what the line changed is cut off its greenzone at once
+pub record IsDraftAfter (draft : DraftContent) (request : Request) (next : TalkState) (draft' : DraftContent) : Type 0 where
+  pub at : draft'.at ≡ draft.at
+  pub base : draft'.base ≡ draft.base
+  pub stands : draft_standing draft' ≡ next.stands
+  pub states : draft'.states ≡ left_by_edits draft.movie (made_between (draft_standing draft) next.stands (requested_edits (Unit {0}) draft.movie request)) next.states
+
+-- a request is answered at a draft as at a history with its movie, its number of edits and its greenzone
+abbrev pub IsAnsweredInDraft : DraftContent → Request → List ℕ → DraftContent → Type 0
+IsAnsweredInDraft draft request answer draft' = (next : TalkState) × IsAnswerTo (draft_state draft) request answer next × IsDraftAfter draft request next draft'
+
+-- a picture of a strip: its answer, and the draft then
+pub record DraftPicture : Type 0 where
+  pub answer : List ℕ
+  pub next : DraftContent
+
+-- frames from `from` on are answered as by `picture`; the last draft is what all of them left
+unfoldable pub AreDraftPictures : DraftContent → ℕ → List DraftPicture → DraftContent → Type 0
+AreDraftPictures draft from [] last = last ≡ draft
+AreDraftPictures draft from (shown ∷ strip) last = IsAnsweredInDraft draft (Picture from) shown.answer shown.next × AreDraftPictures shown.next (from + 1) strip last
+
+-- the answers of a strip, one after the other
+abbrev pub draft_pictures : List DraftPicture → List ℕ
+draft_pictures strip = flat_map (λ shown. shown.answer) strip
+
+-- a request is answered at a draft. A draft has the cartridge of the movie that it began with, so a line that loads one has no place in
+-- it. `history`, `share` and `quit` aren't about a draft
+abbrev pub IsDraftAnswered : DraftContent → Request → List ℕ → DraftContent → Type 0
+IsDraftAnswered draft (Do (Load image)) answer draft' = (answer ≡ in_draft_text) × (draft' ≡ draft)
+IsDraftAnswered draft (Pictures from to) answer draft' =
+    (strip : List DraftPicture) × (length strip ≡ to - from) × AreDraftPictures draft from strip draft' × (answer ≡ draft_pictures strip)
+IsDraftAnswered draft Share answer draft' = ⊥
+IsDraftAnswered draft request answer draft' = IsAnsweredInDraft draft request answer draft'
+
+-- a request that isn't about a draft
+abbrev pub IsAboutDesk : Request → Type 0
+IsAboutDesk Share = Unit {0}
+IsAboutDesk (History from) = Unit {0}
+IsAboutDesk Quit = Unit {0}
+IsAboutDesk _ = ⊥
+
+-- nothing was changed, but some pictures of a strip may have been drawn: the greenzone may have other states of the movie
+pub record IsDraftLookedAt (draft draft' : DraftContent) : Type 0 where
+  pub at : draft'.at ≡ draft.at
+  pub base : draft'.base ≡ draft.base
+  pub stands : draft_standing draft' ≡ draft_standing draft
+
+-- memory was refused for an answer: nothing was changed; or the request was carried out
+abbrev pub IsDraftUnanswered : DraftContent → Request → DraftContent → Type 0
+IsDraftUnanswered draft request draft' = IsDraftLookedAt draft draft' ⊎ ((answer : List ℕ) × IsDraftAnswered draft request answer draft')
+
+-- ---- what a draft comes to
+
+-- the inputs without so many at the front and at the back
+abbrev pub inner_inputs : ℕ → ℕ → List Input → List Input
+inner_inputs front back inputs = take (length inputs - front - back) (drop front inputs)
+
+-- the edits that put these inputs in the place of others at `at`: none, one, or two
+abbrev pub stroke_of : (A : Type 0) → ℕ → List Input → List Input → List (Edit A)
+stroke_of A at [] [] = []
+stroke_of A at [] (new ∷ news) = Insert at (new ∷ news) ∷ []
+stroke_of A at (old ∷ olds) [] = Delete at (length (old ∷ olds)) ∷ []
+stroke_of A at (old ∷ olds) (new ∷ news) =
+    if length olds == length news then Replace at (new ∷ news) ∷ [] else Delete at (length (old ∷ olds)) ∷ Insert at (new ∷ news) ∷ []
+
+-- edits make one movie of another: the inputs with which both begin, and of the rest those with which both end, are left alone; what stands
+-- between is put in the place of what stood there
+pub record IsStroke {A : Type 0} (base new : MovieContent) (edits : List (Edit A)) : Type 0 where
+  pub front : ℕ
+  pub back : ℕ
+  pub begins : IsCommonFront base.inputs new.inputs front
+  pub ends : IsCommonFront (reverse (drop front base.inputs)) (reverse (drop front new.inputs)) back
+  pub edits_are : edits ≡ stroke_of A front (inner_inputs front back base.inputs) (inner_inputs front back new.inputs)
+
+-- one movie allows the edits, one after the other, and they make the other movie of it
+abbrev pub LeadsTo : {A : Type 0} → MovieContent → List (Edit A) → MovieContent → Type 0
+LeadsTo movie [] last = last ≡ movie
+LeadsTo movie (edit ∷ edits) last = IsAllowed movie edit × LeadsTo (edited movie edit) edits last

@@ -1,0 +1,85 @@
+-- Parts of an answer at a draft. Private functions cite this file.
+use Rattle.std.specs.Prelude.{◌≡◌, ℕ, ◌+◌, ◌<◌, ◌≤◌, List, [], ◌∷◌, length, Some, None, Result, Ok, Err}
+use Rattle.tas_movie.specs.declared.edit.Edit.{Edit}
+use Rattle.tas_movie.specs.Content.{most_inputs}
+use Rattle.tas_movie.specs.Edit.{edited}
+use Rattle.tas_green.specs.declared.savestate.Savestate.{Savestate}
+use Rattle.tas_green.specs.Green.{IsLawful, IsShotFrom, IsReachedFrom}
+use Rattle.tas_green.specs.Run.{state_after}
+use Rattle.tas_session.specs.declared.replies.Shot.{Shot}
+use Rattle.tas_session.specs.declared.replies.ShotError.TheVariants.{NoEntry, NoFrame, Memory as NoShotMemory, Halted}
+use Rattle.tas_session.specs.declared.replies.Reached.{Reached}
+use Rattle.tas_session.specs.declared.replies.StateError.{StateError}
+use Rattle.tas_session.specs.declared.replies.StateError.TheVariants.{NoEntry as NoStateEntry, NoFrame as FewFrames, Memory as NoStateMemory}
+use Rattle.tas_session.specs.declared.replies.ShotError.{ShotError}
+use Rattle.tas_session.specs.Session.{left_by}
+use Rattle.tas_session.specs.Answers.{answer_shot}
+use Rattle.tas_engines.specs.declared.fault.RunFault.{RunFault}
+use Rattle.tas_engines.specs.declared.fault.RunFault.TheVariants.{Memory}
+use Rattle.tas_language.specs.declared.reply.Reply.{Reply}
+use Rattle.tas_language.specs.Replies.{reply_text}
+use Rattle.tas_language.specs.declared.request.Request.{Request}
+use Rattle.tas_seat.specs.declared.edit_requests.EditRequest.{EditRequest}
+use Rattle.tas_seat.specs.declared.edit_requests.EditRequest.TheVariants.{Load, Change, Retouch}
+use Rattle.tas_seat.specs.Edits.{made_between}
+use Rattle.tas_seat.specs.Drafts.{DraftContent, draft_standing, left_by_edits, IsDraftAnswered, IsDraftUnanswered}
+use Rattle.tas_seat.specs.Inside.EditRequests.{requested_refusal, requested_edit}
+use Rattle.tas_seat.specs.Inside.Outcomes.{IsTurnOf}
+
+-- the draft with other states
+abbrev pub with_states : DraftContent → List Savestate → DraftContent
+with_states draft states = record { at = draft.at; base = draft.base; movie = draft.movie; made = draft.made; states = states }
+
+-- the draft after an edit
+abbrev pub draft_after : {A : Type 0} → DraftContent → Edit A → DraftContent
+draft_after draft edit = record { at = draft.at; base = draft.base; movie = edited draft.movie edit; made = draft.made + 1; states = left_by draft.movie edit draft.states }
+
+-- an edit that a draft can make: it keeps the cartridge
+abbrev pub KeepsCart : EditRequest → Type 0
+KeepsCart (Load image) = ⊥
+KeepsCart (Change change) = Unit {0}
+KeepsCart (Retouch retouch) = Unit {0}
+
+-- an edit that a line asks for is answered at a draft
+pub record IsDraftChanged (before now : DraftContent) (asked : EditRequest) (reply : Reply) : Type 0 where
+  pub turn : IsTurnOf (draft_standing before) (requested_refusal asked before.movie) (requested_edit (Unit {0}) asked before.movie) reply (draft_standing now)
+  pub at : now.at ≡ before.at
+  pub base : now.base ≡ before.base
+  pub states : now.states ≡ left_by_edits before.movie (made_between (draft_standing before) (draft_standing now) (requested_edit (Unit {0}) asked before.movie ∷ [])) before.states
+
+-- frame k of a draft's movie was played: this many frames, from the nearest kept state
+pub record IsDraftPlayed (before now : DraftContent) (k ran : ℕ) : Type 0 where
+  pub rest : now ≡ with_states before now.states
+  pub lawful : IsLawful before.movie now.states
+  pub shot : IsShotFrom before.movie before.movie k before.states now.states 0 ran
+
+-- a shot at a draft
+abbrev pub IsDraftShot : {B : Type 0} → (before now : DraftContent) → ℕ → Result (Shot B) ShotError → Type 0
+IsDraftShot before now k (Ok shot) = (answer_shot before.movie k ≡ Some (Ok shot.picture)) × (shot.at ≡ before.at + before.made) × (shot.frame ≡ k) × IsDraftPlayed before now k shot.ran
+IsDraftShot before now k (Err NoEntry) = ⊥
+IsDraftShot before now k (Err (NoFrame at len)) = (answer_shot before.movie k ≡ None) × (at ≡ before.at + before.made) × (len ≡ length before.movie.inputs) × (now ≡ before)
+IsDraftShot before now k (Err NoShotMemory) = (k < length before.movie.inputs) × (now ≡ before)
+IsDraftShot before now k (Err (Halted at halt)) = (answer_shot before.movie k ≡ Some (Err halt)) × (at ≡ before.at + before.made) × (ran : ℕ) × IsDraftPlayed before now k ran
+
+-- the state after k frames of a draft's movie was reached
+pub record IsDraftReached (before now : DraftContent) (k : ℕ) : Type 0 where
+  pub rest : now ≡ with_states before now.states
+  pub lawful : IsLawful before.movie now.states
+  pub ran : ℕ
+  pub reach : IsReachedFrom before.movie before.movie k before.states now.states 0 ran
+
+-- the state after `from` frames of a draft's movie, where it has `to` frames or more, and `from` of them
+abbrev pub IsDraftStateFor : (before now : DraftContent) → (from to : ℕ) → Result Reached StateError → Type 0
+IsDraftStateFor before now from to (Ok reached) =
+    (from ≤ to) × (to ≤ length before.movie.inputs) × (reached.at ≡ before.at + before.made) × (reached.state ≡ state_after before.movie from) × IsDraftReached before now from
+IsDraftStateFor before now from to (Err NoStateEntry) = ⊥
+IsDraftStateFor before now from to (Err (FewFrames at len)) = (from ≤ to → to ≤ length before.movie.inputs → ⊥) × (at ≡ before.at + before.made) × (len ≡ length before.movie.inputs) × (len ≤ most_inputs) × (now ≡ before)
+IsDraftStateFor before now from to (Err NoStateMemory) = (from ≤ to) × (to ≤ length before.movie.inputs) × (now ≡ before)
+
+-- a command is replied to at a draft
+abbrev pub IsDraftReply : (before now : DraftContent) → Request → Reply → Type 0
+IsDraftReply before now request reply = IsDraftAnswered before request (reply_text reply) now
+
+-- why a request isn't answered at a draft: memory was refused
+abbrev pub HasNoDraftAnswer : (before now : DraftContent) → Request → RunFault → Type 0
+HasNoDraftAnswer before now request fault = (fault ≡ Memory) × IsDraftUnanswered before request now

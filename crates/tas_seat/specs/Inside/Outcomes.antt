@@ -1,0 +1,84 @@
+-- Parts of an answer to a request, and why there is none. Private functions cite this file.
+use Rattle.std.specs.Prelude.{◌≡◌, ℕ, List, [], ◌∷◌, length, Bool, Option, Some, Result, Ok, Err, ◌⊎◌}
+use Rattle.vcs_cpu.specs.declared.halt.Halt.{Halt}
+use Rattle.tas_movie.specs.Content.{MovieContent}
+use Rattle.tas_movie.specs.declared.edit.Edit.{Edit}
+use Rattle.tas_movie.specs.declared.edit.EditRefusal.{EditRefusal}
+use Rattle.tas_movie.specs.Edit.{edited}
+use Rattle.tas_session.specs.declared.entry.Entry.{Entry}
+use Rattle.tas_session.specs.declared.replies.EditError.{EditError}
+use Rattle.tas_session.specs.declared.replies.EditError.TheVariants.{Serial, Full as AllMade, Place as OutOfPlace, Long as OverLong, Memory as NoRoom}
+use Rattle.tas_session.specs.declared.replies.ShotError.{ShotError}
+use Rattle.tas_session.specs.declared.replies.ShotError.TheVariants.{NoEntry as NoShotEntry, NoFrame as NoShotFrame, Memory as NoShotMemory, Halted as ShotHalted}
+use Rattle.tas_session.specs.Answers.{answer_shot}
+use Rattle.tas_session.specs.History.{movie_of, entries_of}
+use Rattle.tas_desk.specs.Seats.{SeatContent, HasSeen}
+use Rattle.tas_engines.specs.declared.fault.RunFault.{RunFault}
+use Rattle.tas_engines.specs.declared.fault.RunFault.TheVariants.{NoEntry, Foreign, Memory}
+use Rattle.tas_language.specs.declared.reply.Reply.{Reply}
+use Rattle.tas_language.specs.declared.reply.Reply.TheVariants.{Full, Place, Long, NoFrame, OutOfMemory}
+use Rattle.tas_language.specs.declared.request.Request.{Request}
+use Rattle.tas_seat.specs.declared.edit_requests.EditRequest.{EditRequest}
+use Rattle.tas_seat.specs.Edits.{made_between}
+use Rattle.tas_seat.specs.Turns.{Standing, standing_of, refused_reply, edit_reply, standing_unless, halted_reply}
+use Rattle.tas_seat.specs.Requests.{drawn_digest}
+use Rattle.tas_seat.specs.Seats.{IsSeatAfter, IsRequestAnswered}
+use Rattle.tas_seat.specs.Inside.EditRequests.{requested_refusal, requested_edit}
+
+-- what a refused edit is answered
+abbrev pub refused_as : EditError → Result Reply RunFault
+refused_as (Serial at counted) = Err Foreign
+refused_as (AllMade at) = Ok (Full at)
+refused_as (OutOfPlace at place len) = Ok (Place at len)
+refused_as (OverLong at len) = Ok (Long at len)
+refused_as NoRoom = Ok OutOfMemory
+
+-- what a shot without a picture is answered
+abbrev pub unshown_as : ShotError → Result Reply RunFault
+unshown_as NoShotEntry = Err NoEntry
+unshown_as (NoShotFrame at len) = Ok (NoFrame at len)
+unshown_as NoShotMemory = Ok OutOfMemory
+unshown_as (ShotHalted at halt) = Ok (halted_reply at halt)
+
+-- the reply to an edit where this refuses it, and what is made then
+abbrev pub IsTurnOf : {A : Type 0} → Standing → Option EditRefusal → Edit A → Reply → Standing → Type 0
+IsTurnOf stands refused edit reply next =
+    (no_memory : Bool) × (reply ≡ edit_reply (refused_reply stands.made refused) no_memory stands.made (length (edited stands.movie edit).inputs))
+    × (next ≡ standing_unless (refused_reply stands.made refused) no_memory stands edit)
+
+-- an edit that a line asks for is answered at some history
+pub record IsEditAnswered (A : Type 0) (before now : SeatContent A) (asked : EditRequest) (reply : Reply) : Type 0 where
+  pub at : List (Entry A)
+  pub turn : IsTurnOf (standing_of at) (requested_refusal asked (movie_of at)) (requested_edit (Unit {0}) asked (movie_of at)) reply (standing_of now.front)
+  pub zone : now.zone ≡ before.zone
+  pub seat : IsSeatAfter before at (made_between (standing_of at) (standing_of now.front) (requested_edit A asked (movie_of at) ∷ [])) now
+
+-- this text answers `digest K` at this many edits of a movie that has the frame
+pub record IsDigest (made : ℕ) (movie : MovieContent) (k : ℕ) (text : List ℕ) : Type 0 where
+  pub shown : Result (List ℕ) Halt
+  pub there : answer_shot movie k ≡ Some shown
+  pub text_is : text ≡ drawn_digest (record { movie = movie; made = made }) k shown
+
+-- the history that the seat has seen has another number of its edits than it made. Where it was the seat's alone to make them, this never
+-- comes
+pub record IsMiscounted {A : Type 0} (before now : SeatContent A) : Type 0 where
+  pub seen : HasSeen before now
+  pub other : entries_of now.number now.front ≡ now.made → ⊥
+
+-- why a command isn't answered
+abbrev pub IsUnanswered : {A : Type 0} → SeatContent A → SeatContent A → RunFault → Type 0
+IsUnanswered before now NoEntry = now ≡ before
+IsUnanswered before now Foreign = IsMiscounted before now
+IsUnanswered before now _ = ⊥
+
+-- a request is answered, and makes some edits
+abbrev pub HasAnswer : (A : Type 0) → SeatContent A → SeatContent A → Request → List ℕ → Type 0
+HasAnswer A before now request answer = (edits : List (Edit A)) × IsRequestAnswered A before now request answer edits
+
+-- why a request isn't answered: as a command, but that a strip may have been drawn in part; or it was carried out, and memory was refused for its
+-- answer
+abbrev pub HasNoAnswer : {A : Type 0} → SeatContent A → SeatContent A → Request → RunFault → Type 0
+HasNoAnswer before now request NoEntry = HasSeen before now
+HasNoAnswer before now request Foreign = IsMiscounted before now
+HasNoAnswer {A} before now request Memory = HasSeen before now ⊎ ((answer : List ℕ) × HasAnswer A before now request answer)
+HasNoAnswer before now request _ = ⊥

@@ -1,0 +1,150 @@
+//! Answering a command.
+
+ghost use Rattle.std.specs.Prelude.{◌≡◌, MatchResult};
+ghost use Rattle.tas_language.specs.declared.command.Command.TheVariants.{Length as LengthLine, InputAt as InputLine, Shot as ShotLine, Work as WorkLine};
+ghost use Rattle.tas_seat.specs.Turns.{halted_reply};
+ghost use Rattle.tas_seat.specs.Seats.{IsAnswered};
+ghost use Rattle.tas_seat.specs.Inside.Outcomes.{unshown_as, IsUnanswered};
+
+use crate::edit_requests::{EditRequest, make_edit};
+use std::alloc::Allocator;
+use std::sync::Wait;
+use tas_desk::{CloseOnDrop, Desk, Gate, InputError, Name, Seat, ShotError};
+use tas_engines::RunFault;
+use tas_language::{Command, Reply};
+use vcs_cpu::Halt;
+
+/// A `len` line.
+fn show_length<N: Name, W: CloseOnDrop, A: Allocator>(
+    desk: &Desk<N, W, A>,
+    seat: &mut Seat<N, A>,
+) -> Result<Reply, RunFault>
+    ensures { MatchResult result (IsAnswered A seat.old seat.new LengthLine)
+        (IsUnanswered seat.old seat.new) }
+{
+    match desk.len(seat) {
+        Ok((at, len)) => Ok(Reply::Measured { at, len }),
+        Err(_) => Err(RunFault::NoEntry),
+    }
+}
+
+/// An `input` line.
+fn show_input<N: Name, W: CloseOnDrop, A: Allocator>(
+    desk: &Desk<N, W, A>,
+    seat: &mut Seat<N, A>,
+    frame: usize,
+) -> Result<Reply, RunFault>
+    ensures { MatchResult result (IsAnswered A seat.old seat.new (InputLine frame))
+        (IsUnanswered seat.old seat.new) }
+{
+    match desk.input(seat, frame) {
+        Ok((at, input)) => Ok(Reply::Pressed { at, input }),
+        Err(InputError::NoEntry) => Err(RunFault::NoEntry),
+        Err(InputError::NoFrame { at, len }) => Ok(Reply::NoFrame { at, len }),
+    }
+}
+
+/// The reply that reports a halt, at this many edits.
+pub fn halted_reply(at: u64, halt: Halt) -> Reply
+    ensures { result ≡ halted_reply at halt }
+{
+    let Halt::Undocumented {
+        at: address,
+        opcode,
+    } = halt;
+    Reply::Halted {
+        at,
+        address,
+        opcode,
+    }
+}
+
+/// What a shot without a picture is answered.
+pub fn unshown_as(error: ShotError) -> Result<Reply, RunFault>
+    ensures { result ≡ unshown_as error }
+{
+    match error {
+        ShotError::NoEntry => Err(RunFault::NoEntry),
+        ShotError::NoFrame { at, len } => Ok(Reply::NoFrame { at, len }),
+        ShotError::Memory => Ok(Reply::OutOfMemory),
+        ShotError::Halted { at, halt } => Ok(halted_reply(at, halt)),
+    }
+}
+
+/// A `shot` line.
+fn draw<N: Name, W: CloseOnDrop, A: Allocator + Copy>(
+    alloc: A,
+    desk: &Desk<N, W, A>,
+    seat: &mut Seat<N, A>,
+    frame: usize,
+) -> Result<Reply, RunFault>
+    ensures { MatchResult result (IsAnswered A seat.old seat.new (ShotLine frame))
+        (IsUnanswered seat.old seat.new) }
+{
+    let shot = match desk.shot(alloc, seat, frame) {
+        Ok(shot) => shot,
+        Err(error) => return unshown_as(error),
+    };
+    let lit = shot.picture.lit();
+    Ok(Reply::Drawn {
+        at: shot.at,
+        frame: shot.frame,
+        ran: shot.ran,
+        lit,
+    })
+}
+
+/// A gate that stands open.
+struct OpenGate;
+
+impl Gate for OpenGate {
+    fn pass(&self, _piece: usize) {}
+}
+
+/// A `work` line: the states up to a frame are filled, and the seat's zone gains them.
+fn work<N: Name, W: CloseOnDrop, A: Allocator + Copy, R: Wait>(
+    rt: &R,
+    alloc: A,
+    desk: &Desk<N, W, A>,
+    seat: &mut Seat<N, A>,
+    frame: usize,
+) -> Reply
+    ensures { IsAnswered A seat.old seat.new (WorkLine frame) result }
+{
+    let Ok(worked) = desk.work(rt, alloc, seat, &[frame], &OpenGate) else {
+        return Reply::OutOfMemory;
+    };
+    let Ok(_) = desk.share(rt, seat) else {
+        return Reply::OutOfMemory;
+    };
+    Reply::Worked {
+        jobs: worked.jobs,
+        kept: worked.kept,
+        stale: worked.stale,
+    }
+}
+
+/// Does what a command asks for, and answers it: at some history that begins with what the seat had seen. The seat has then
+/// seen this history, and after it the edit that the command made. `OutOfMemory` changes nothing of the movie.
+///
+/// Faults: `NoEntry`, which leaves the seat as it was; `Foreign` where the history has another number of the seat's edits than it
+/// made.
+pub fn reply_to_command<N: Name, W: CloseOnDrop, A: Allocator + Copy, R: Wait>(
+    rt: &R,
+    alloc: A,
+    desk: &Desk<N, W, A>,
+    seat: &mut Seat<N, A>,
+    command: Command,
+) -> Result<Reply, RunFault>
+    ensures { MatchResult result (IsAnswered A seat.old seat.new command)
+        (IsUnanswered seat.old seat.new) }
+{
+    match command {
+        Command::Load { image } => make_edit(rt, desk, seat, EditRequest::Load(image)),
+        Command::Edit(change) => make_edit(rt, desk, seat, EditRequest::Change(change)),
+        Command::Length => show_length(desk, seat),
+        Command::InputAt { frame } => show_input(desk, seat, frame),
+        Command::Shot { frame } => draw(alloc, desk, seat, frame),
+        Command::Work { frame } => Ok(work(rt, alloc, desk, seat, frame)),
+    }
+}

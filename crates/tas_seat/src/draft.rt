@@ -1,0 +1,188 @@
+//! A draft: changes of a movie that a conversation gathers before it makes them as one step.
+
+ghost use Rattle.std.specs.Prelude.{◌≡◌, ◌≤◌, ◌<◌, ◌+◌, Some, None, IfOk};
+ghost use Rattle.tas_movie.specs.Edit.{IsAllowed, edited};
+ghost use Rattle.tas_seat.specs.Turns.{refusal_reply};
+ghost use Rattle.tas_green.specs.Green.{IsLawful};
+ghost use Rattle.tas_session.specs.History.{most_edits};
+ghost use Rattle.tas_session.specs.Strokes.{edits_of};
+ghost use Rattle.tas_seat.specs.Drafts.{IsDraft, fresh_draft, draft_standing, IsStroke, LeadsTo};
+ghost use Rattle.tas_seat.specs.Inside.EditRequests.{requested_refusal};
+ghost use Rattle.tas_seat.specs.Inside.Drafting.{draft_after, KeepsCart, IsDraftChanged};
+
+use crate::edit_requests::EditRequest;
+use crate::stroke_between;
+use std::alloc::{AllocError, Allocator, Global};
+use std::marker::Model;
+use tas_desk::{MAX_EDITS, Plan, Stroke};
+use tas_green::Green;
+use tas_language::Reply;
+use tas_movie::{Edit, EditRefusal, Movie, apply};
+
+/// A draft of a movie: the movie as it was when the draft began, the movie as it would be, and the greenzone of that one. It is a value of
+/// its own: nothing of a desk or a seat changes with it.
+#[derive(Drop)]
+pub struct Draft<A: Allocator = Global> {
+    at: u64,
+    base: Movie<A>,
+    pub(crate) movie: Movie<A>,
+    made: u64,
+    pub(crate) green: Green<A>,
+}
+
+impl<A: Allocator> Model for Draft<A> {
+    ghost use Rattle.tas_seat.specs.Drafts.{DraftContent, IsDraft};
+
+    ghost Value = { DraftContent };
+
+    ghost view = { λ a. record {
+      at = a.at;
+      base = a.base;
+      movie = a.movie;
+      made = a.made;
+      states = a.green;
+    } };
+
+    ghost invariant = { λ a. IsDraft (record {
+      at = a.at;
+      base = a.base;
+      movie = a.movie;
+      made = a.made;
+      states = a.green;
+    }) };
+}
+
+/// What an edit that a movie refuses is answered at this many edits.
+fn refusal_reply(at: u64, refused: EditRefusal) -> Reply
+    ensures { refusal_reply at (Some refused) ≡ Some result }
+{
+    match refused {
+        EditRefusal::Place { at: _, len } => Reply::Place { at, len },
+        EditRefusal::Long { len } => Reply::Long { at, len },
+    }
+}
+
+impl<A: Allocator> Draft<A> {
+    /// A draft that begins at `at` edits of a history. `base` and `movie` are two copies of this history's movie, and `green` is
+    /// a greenzone for it.
+    pub fn new(base: Movie<A>, movie: Movie<A>, green: Green<A>, at: u64) -> Draft<A>
+        requires same { movie ≡ base }
+        requires lawful { IsLawful base green }
+        requires most { at ≤ most_edits }
+        ensures { result ≡ fresh_draft at base green }
+    {
+        Draft {
+            at,
+            base,
+            movie,
+            made: 0,
+            green,
+        }
+    }
+
+    /// How many edits the history had when the draft began.
+    pub fn at(&self) -> u64
+        ensures { result ≡ self.now.at }
+    {
+        self.at
+    }
+
+    /// How many edits there would be with one for each change.
+    pub fn edits(&self) -> u64
+        ensures at { result ≡ (draft_standing self.now).made }
+        ensures most { result ≤ most_edits }
+    {
+        self.at + self.made
+    }
+
+    /// How many changes were made.
+    pub fn changes(&self) -> u64
+        ensures made { result ≡ self.now.made }
+        ensures kept { IsDraft self.now }
+    {
+        self.made
+    }
+
+    /// The movie as it was when the draft began.
+    pub fn base(&self) -> &Movie<A>
+        ensures { result.now ≡ self.now.base }
+    {
+        &self.base
+    }
+
+    /// The movie as it would be.
+    pub fn movie(&self) -> &Movie<A>
+        ensures movie { result.now ≡ self.now.movie }
+        ensures lawful { IsLawful self.now.movie self.now.states }
+        ensures cart { self.now.movie.cart ≡ self.now.base.cart }
+    {
+        &self.movie
+    }
+
+    /// The greenzone of the movie as it would be.
+    pub fn green(&self) -> &Green<A>
+        ensures states { result.now ≡ self.now.states }
+        ensures lawful { IsLawful self.now.movie self.now.states }
+    {
+        &self.green
+    }
+
+    /// Makes an edit that the movie allows: the states past the edited place are cut off the greenzone at once.
+    fn make(&mut self, edit: &Edit<A>)
+        requires allowed { IsAllowed self.old.movie edit.now }
+        requires cart { (edited self.old.movie edit.now).cart ≡ self.old.movie.cart }
+        requires room { self.old.at + self.old.made < most_edits }
+        ensures { self.new ≡ draft_after self.old edit.now }
+    {
+        apply(&mut self.movie, edit);
+        self.green.cut(edit.place(), self.movie.len());
+        self.made += 1;
+    }
+}
+
+impl<A: Allocator + Copy> Draft<A> {
+    /// The edits that make the movie as it would be of the movie as it was when the draft began: the inputs with which both begin, and
+    /// of the rest those with which both end, are left alone. `AllocError` where memory is refused.
+    pub fn stroke(&self, alloc: A) -> Result<Stroke<A>, AllocError>
+        ensures stroke { IfOk result
+            (λ stroke. IsStroke self.now.base self.now.movie (edits_of stroke)) }
+        ensures leads { IfOk result
+            (λ stroke. LeadsTo self.now.base (edits_of stroke) self.now.movie) }
+    {
+        stroke_between(alloc, self.base(), self.movie())
+    }
+
+    /// Makes a change that nothing but memory refuses.
+    fn make_asked(&mut self, alloc: A, asked: EditRequest) -> Reply
+        requires cart { KeepsCart asked }
+        requires room { self.old.at + self.old.made < most_edits }
+        requires free { requested_refusal asked self.old.movie ≡ None }
+        ensures { IsDraftChanged self.old self.new asked result }
+    {
+        let at = self.edits();
+        let Ok(edit) = Plan::<A>::edit(&asked, alloc, self.movie()) else {
+            return Reply::OutOfMemory;
+        };
+        self.make(&edit);
+        Reply::Edited {
+            at: at + 1,
+            len: self.movie().len(),
+        }
+    }
+
+    /// Makes a change: where as many edits are made as a history may have, or the movie refuses it, or memory is refused, nothing is
+    /// changed.
+    pub(crate) fn change(&mut self, alloc: A, asked: EditRequest) -> Reply
+        requires { KeepsCart asked }
+        ensures { IsDraftChanged self.old self.new asked result }
+    {
+        let at = self.edits();
+        if at == MAX_EDITS {
+            return Reply::Full { at };
+        }
+        if let Err(refused) = Plan::<A>::check(&asked, self.movie().len()) {
+            return refusal_reply(at, refused);
+        }
+        self.make_asked(alloc, asked)
+    }
+}

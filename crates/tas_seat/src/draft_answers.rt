@@ -1,0 +1,183 @@
+//! Answering a request at a draft.
+
+ghost use Rattle.std.specs.Prelude.{◌≡◌, MatchOption, MatchResult};
+ghost use Rattle.tas_engines.specs.declared.fault.RunFault.TheVariants.{Memory};
+ghost use Rattle.tas_language.specs.declared.command.Command.TheVariants.{Edit as EditLine, Length as LengthLine, InputAt as InputLine, Shot as ShotLine, Work as WorkLine};
+ghost use Rattle.tas_language.specs.declared.request.Request.TheVariants.{Do as ScriptLine, Retouch as RetouchLine, Pictures as PicturesLine};
+ghost use Rattle.tas_seat.specs.Drafts.{IsDraft, IsDraftAnswered, IsDraftUnanswered, IsAboutDesk};
+ghost use Rattle.tas_seat.specs.Inside.Drafting.{IsDraftReply, HasNoDraftAnswer};
+
+use crate::Draft;
+use crate::edit_requests::EditRequest;
+use crate::requests::{answer_of_reply, unshown_answer};
+use std::alloc::Allocator;
+use tas_engines::RunFault;
+use tas_green::Job;
+use tas_language::{Change, Command, Reply, Request, Retouch};
+
+impl<A: Allocator + Copy> Draft<A> {
+    /// An `insert`, `replace` or `delete` line.
+    fn reply_to_change(&mut self, alloc: A, change: Change) -> Reply
+        ensures { IsDraftReply self.old self.new (ScriptLine (EditLine change)) result }
+    {
+        self.change(alloc, EditRequest::Change(change))
+    }
+
+    /// A `press`, `release`, `repeat` or `copy` line.
+    fn reply_to_retouch(&mut self, alloc: A, retouch: Retouch) -> Reply
+        ensures { IsDraftReply self.old self.new (RetouchLine retouch) result }
+    {
+        self.change(alloc, EditRequest::Retouch(retouch))
+    }
+
+    /// A `len` line.
+    fn show_length(&self) -> Reply
+        ensures { IsDraftReply self.now self.now (ScriptLine LengthLine) result }
+    {
+        Reply::Measured {
+            at: self.edits(),
+            len: self.movie().len(),
+        }
+    }
+
+    /// An `input` line.
+    fn show_input(&self, frame: usize) -> Reply
+        ensures { IsDraftReply self.now self.now (ScriptLine (InputLine frame)) result }
+    {
+        let at = self.edits();
+        let len = self.movie().len();
+        if frame >= len {
+            return Reply::NoFrame { at, len };
+        }
+        Reply::Pressed {
+            at,
+            input: self.movie().input(frame),
+        }
+    }
+
+    /// A `work` line: the states up to a frame are filled, on this thread.
+    fn work(&mut self, alloc: A, frame: usize) -> Reply
+        ensures { IsDraftReply self.old self.new (ScriptLine (WorkLine frame)) result }
+    {
+        let Ok(job) = Job::take(alloc, &self.movie, &self.green, frame) else {
+            return Reply::OutOfMemory;
+        };
+        let batch = job.run();
+        let Ok(merged) = self.green.merge(&self.movie, &batch) else {
+            return Reply::OutOfMemory;
+        };
+        Reply::Worked {
+            jobs: 1,
+            kept: merged.kept,
+            stale: 0,
+        }
+    }
+
+    /// A `shot` line.
+    fn answer_shot(&mut self, alloc: A, frame: usize) -> Result<Vec<u8, A>, RunFault>
+        ensures { MatchResult result
+            (λ bytes. IsDraftAnswered self.old (ScriptLine (ShotLine frame)) bytes.items self.new)
+            (HasNoDraftAnswer self.old self.new (ScriptLine (ShotLine frame))) }
+    {
+        let shot = match self.shot(alloc, frame) {
+            Ok(shot) => shot,
+            Err(error) => return unshown_answer(alloc, error),
+        };
+        let reply = Reply::Drawn {
+            at: shot.at,
+            frame: shot.frame,
+            ran: shot.ran,
+            lit: shot.picture.lit(),
+        };
+        answer_of_reply(alloc, reply)
+    }
+
+    /// A script's line. A draft keeps its cartridge, so it makes no `load`.
+    fn answer_script_line(&mut self, alloc: A, command: Command) -> Result<Vec<u8, A>, RunFault>
+        ensures { MatchResult result
+            (λ bytes. IsDraftAnswered self.old (ScriptLine command) bytes.items self.new)
+            (HasNoDraftAnswer self.old self.new (ScriptLine command)) }
+    {
+        match command {
+            Command::Load { .. } => Ok(Vec::from_slice(alloc, b"in draft\n")?),
+            Command::Edit(change) => {
+                let reply = self.reply_to_change(alloc, change);
+                answer_of_reply(alloc, reply)
+            }
+            Command::Length => answer_of_reply(alloc, self.show_length()),
+            Command::InputAt { frame } => answer_of_reply(alloc, self.show_input(frame)),
+            Command::Shot { frame } => self.answer_shot(alloc, frame),
+            Command::Work { frame } => {
+                let reply = self.work(alloc, frame);
+                answer_of_reply(alloc, reply)
+            }
+        }
+    }
+
+    /// A `press`, `release`, `repeat` or `copy` line.
+    fn answer_retouch(&mut self, alloc: A, retouch: Retouch) -> Result<Vec<u8, A>, RunFault>
+        ensures { MatchResult result
+            (λ bytes. IsDraftAnswered self.old (RetouchLine retouch) bytes.items self.new)
+            (HasNoDraftAnswer self.old self.new (RetouchLine retouch)) }
+    {
+        let reply = self.reply_to_retouch(alloc, retouch);
+        answer_of_reply(alloc, reply)
+    }
+
+    /// A `pictures` line: the answers that `picture` gives to the frames from one to the one before another, one after the other.
+    fn answer_pictures(&mut self, alloc: A, from: usize, to: usize) -> Result<Vec<u8, A>, RunFault>
+        ensures { MatchResult result
+            (λ bytes. IsDraftAnswered self.old (PicturesLine from to) bytes.items self.new)
+            (HasNoDraftAnswer self.old self.new (PicturesLine from to)) }
+    {
+        let mut bytes = Vec::new(alloc);
+        for frame in from..to {
+            let shown = self.answer_picture(alloc, frame)?;
+            bytes.extend_from_slice(shown.as_slice())?;
+        }
+        Ok(bytes)
+    }
+
+    /// The answer to a request, where it is about a draft.
+    fn answer_about_draft(
+        &mut self,
+        alloc: A,
+        request: Request,
+    ) -> Result<Option<Vec<u8, A>>, RunFault>
+        ensures { MatchResult result
+            (λ found. MatchOption found (IsAboutDesk request × (self.new ≡ self.old))
+            (λ bytes. IsDraftAnswered self.old request bytes.items self.new))
+            (HasNoDraftAnswer self.old self.new request) }
+    {
+        match request {
+            Request::Do(command) => Ok(Some(self.answer_script_line(alloc, command)?)),
+            Request::Retouch(retouch) => Ok(Some(self.answer_retouch(alloc, retouch)?)),
+            Request::Picture { frame } => Ok(Some(self.answer_picture(alloc, frame)?)),
+            Request::Pictures { from, to } => Ok(Some(self.answer_pictures(alloc, from, to)?)),
+            Request::Ram { frames } => Ok(Some(self.answer_ram(alloc, frames)?)),
+            Request::Digest { frame } => Ok(Some(self.answer_digest(alloc, frame)?)),
+            Request::Lag { from, to } => Ok(Some(self.answer_lag(alloc, from, to)?)),
+            Request::Movie => Ok(Some(self.answer_movie(alloc)?)),
+            Request::States => Ok(Some(self.answer_states(alloc)?)),
+            Request::Share | Request::History { .. } | Request::Quit => Ok(None),
+        }
+    }
+
+    /// Answers a request as at a history with the draft's movie, its number of edits and its greenzone. A line that loads a cartridge
+    /// is answered `in draft`. `None`, with nothing changed, where the request isn't about a draft: `share`, `history` and `quit`.
+    ///
+    /// The one fault is `Memory`, where it is refused for an answer of one short line, once the request is carried out, or for a strip
+    /// of pictures, some of which may be drawn.
+    pub fn answer(&mut self, alloc: A, request: Request) -> Result<Option<Vec<u8, A>>, RunFault>
+        ensures answer { MatchResult result
+            (λ found. MatchOption found (IsAboutDesk request × (self.new ≡ self.old))
+            (λ bytes. IsDraftAnswered self.old request bytes.items self.new))
+            (λ fault. (fault ≡ Memory) × IsDraftUnanswered self.old request self.new) }
+        ensures kept { IsDraft self.new }
+    {
+        let answer = self.answer_about_draft(alloc, request);
+        // Called for its clause `kept`.
+        let _changes = self.changes();
+        answer
+    }
+}

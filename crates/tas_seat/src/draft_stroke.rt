@@ -1,0 +1,69 @@
+//! What a draft comes to: the edits that make one movie of another.
+
+ghost use Rattle.std.specs.Prelude.{◌≡◌, IfOk, reverse};
+ghost use Rattle.tas_movie.specs.Front.{IsCommonFront};
+ghost use Rattle.tas_session.specs.Strokes.{edits_of};
+ghost use Rattle.tas_seat.specs.Drafts.{stroke_of, IsStroke, LeadsTo};
+
+use std::alloc::{AllocError, Allocator};
+use tas_desk::Stroke;
+use tas_movie::{Edit, Inputs, Movie, common_front};
+use vcs_machine::Input;
+
+/// The length of the longest common end of two lists of inputs, in frames.
+fn common_back(a: &[Input], b: &[Input]) -> usize
+    ensures { IsCommonFront (reverse a.now) (reverse b.now) result }
+{
+    let mut back = 0;
+    while back < a.len() && back < b.len() && a[a.len() - 1 - back] == b[b.len() - 1 - back] {
+        back += 1;
+    }
+    back
+}
+
+/// The edits that put inputs in the place of others at `at`.
+fn stroke_at<A: Allocator>(
+    alloc: A,
+    at: usize,
+    olds: &[Input],
+    news: &[Input],
+) -> Result<Stroke<A>, AllocError>
+    ensures { IfOk result (λ stroke. edits_of stroke ≡ stroke_of A at olds.now news.now) }
+{
+    if news.is_empty() {
+        if olds.is_empty() {
+            return Ok(Stroke::Nothing);
+        }
+        let count = olds.len();
+        return Ok(Stroke::One(Edit::Delete { at, count }));
+    }
+    let inputs = Inputs::from_vec(Vec::from_slice(alloc, news)?);
+    if olds.is_empty() {
+        return Ok(Stroke::One(Edit::Insert { at, inputs }));
+    }
+    if olds.len() == news.len() {
+        return Ok(Stroke::One(Edit::Replace { at, inputs }));
+    }
+    let count = olds.len();
+    let first = Edit::Delete { at, count };
+    Ok(Stroke::Two(first, Edit::Insert { at, inputs }))
+}
+
+/// The edits that make one movie of another with the same cartridge: the inputs with which both begin, and of the rest those with which
+/// both end, are left alone. `AllocError` where memory is refused.
+pub fn stroke_between<A: Allocator, B: Allocator>(
+    alloc: A,
+    base: &Movie<B>,
+    movie: &Movie<B>,
+) -> Result<Stroke<A>, AllocError>
+    requires { movie.now.cart ≡ base.now.cart }
+    ensures stroke { IfOk result (λ stroke. IsStroke base.now movie.now (edits_of stroke)) }
+    ensures leads { IfOk result (λ stroke. LeadsTo base.now (edits_of stroke) movie.now) }
+{
+    let (old, new) = (base.inputs(), movie.inputs());
+    let front = common_front(old, new);
+    let back = common_back(&old[front..], &new[front..]);
+    let olds = &old[front..old.len() - back];
+    let news = &new[front..new.len() - back];
+    stroke_at(alloc, front, olds, news)
+}
