@@ -23,6 +23,8 @@ mod limit_tests;
 #[cfg(test)]
 mod long_script_tests;
 #[cfg(test)]
+mod movie_program_tests;
+#[cfg(test)]
 mod movie_script_tests;
 #[cfg(test)]
 mod movies;
@@ -32,6 +34,8 @@ mod plain_editor;
 mod plain_script;
 #[cfg(test)]
 mod played_tests;
+#[cfg(test)]
+mod program_cases;
 #[cfg(test)]
 mod program_tests;
 #[cfg(test)]
