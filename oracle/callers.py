@@ -344,6 +344,7 @@ def ready(stream):
 
 
 def images_for(rng):
-    """Cartridges for `load` lines, the first of which is the start."""
+    """Cartridges for `load` lines, the first of which is the start. A frame of the last two takes the second machine up to 60 times as long, so they are
+    loaded seldom: what the machine does is for `compare` to see."""
     quick = [cartridges.random_cartridge(rng, "quick") for _ in range(2)]
-    return [brief(1), brief(2), brief(3), brief(1, 2048)] * 3 + quick
+    return [brief(1), brief(2), brief(3), brief(1, 2048)] * 12 + quick

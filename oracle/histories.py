@@ -91,31 +91,27 @@ def at_of(words):
 
 # ---- what a movie's beginning shows
 
+Look = namedtuple("Look", "cart frames facts")  # a beginning of a movie, and each fact with who was shown it by which line
+
+
 class Facts:
-    """What clients were shown of beginnings of movies: equal beginnings must show the same. A sample is kept for the second machine."""
+    """What clients were shown of beginnings of movies, in the order in which they were shown: equal beginnings must show the same."""
 
-    def __init__(self, rng, looks, longest):
-        self.rng, self.looks, self.longest = rng, looks, longest
-        self.known, self.sample, self.seen = {}, [], 0
+    def __init__(self):
+        self.looks, self.places = [], {}
 
-    def add(self, movie, count, name, value):
+    def add(self, movie, count, name, value, shown_to):
         """After `count` frames of the movie, `name` is the value. Returns what it was at such a beginning before, or nothing."""
-        key = (hash(movie.cart), count, hash(tuple(movie.frames[:count])), name)
-        known = self.known.get(key)
-        if known is None:
-            self.known[key] = value
-        if known in (None, value):
-            self.choose(movie, count, name, value)
-        return known
-
-    def choose(self, movie, count, name, value):
-        """Each fact has the same chance to be in the sample."""
-        if count > self.longest:
-            return
-        self.seen += 1
-        place = len(self.sample) if len(self.sample) < self.looks else self.rng.randrange(self.seen)
-        if place < self.looks:
-            self.sample[place:place + 1] = [(movie.cart, tuple(movie.frames[:count]), name, value)]
+        frames = tuple(movie.frames[:count])
+        key = (hash(movie.cart), count, hash(frames))
+        if key not in self.places:
+            self.places[key] = len(self.looks)
+            self.looks.append(Look(movie.cart, frames, {}))
+        facts = self.looks[self.places[key]].facts
+        if name in facts:
+            return facts[name][0]
+        facts[name] = (value, shown_to)
+        return None
 
 
 # The line that shows a fact again, of a beginning of so many frames.
@@ -435,7 +431,7 @@ class History:
         return bool(match)
 
     def fact(self, number, line, head, count, name, value):
-        known = self.facts.add(self.now, count, name, value)
+        known = self.facts.add(self.now, count, name, value, (number, line))
         if known is None:
             self.replay.append((LOOK_AGAIN[name.split(" ")[0]](count, name), name, value))
         elif known != value:

@@ -390,13 +390,20 @@ class Machine:
         self.pc = (address + 1) % 65536
         operand = self.find_operand(mode)
         cycles = self.count_cycles(name, mode, operand)
-        for _ in range(cycles):
-            self.pass_cycle()
+        self.pass_cycles(cycles)
         self.execute(name, mode, operand)
-        # Section 5, "WSYNC"
-        while self.tia.waits and self.tia.h != 0:
-            self.pass_cycle()
+        if self.tia.waits:
+            self.wait_for_line()
         return Step(address, opcode, cycles)
+
+    def pass_cycles(self, count):
+        for _ in range(count):
+            self.pass_cycle()
+
+    def wait_for_line(self):
+        """Section 5, "WSYNC"."""
+        while self.tia.h != 0:
+            self.pass_cycle()
 
     def pass_cycle(self):
         """A CPU cycle is a tick of the timer and three colour clocks."""
@@ -568,7 +575,10 @@ class Machine:
         if tia.has(VBLANK, 6):
             tia.latch_buttons()
         tia.sync_began = False
-        tia.picture = [[BLACK] * WIDTH for _ in range(ROWS)]
+        tia.picture = self.blank_picture()
+
+    def blank_picture(self):
+        return [[BLACK] * WIDTH for _ in range(ROWS)]
 
     def is_frame_over(self):
         return self.tia.sync_began or self.tia.line >= LAST_LINE
