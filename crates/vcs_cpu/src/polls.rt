@@ -2,6 +2,7 @@
 #![tactic(auto)]
 
 ghost use Rattle.std.specs.Prelude.{◌≡◌, ℕ, ◌+◌, ◌/◌, ◌%◌, ◌==◌, ◌<◌, not, true};
+ghost use Rattle.vcs_cpu.specs.declared.regs.Regs.{Regs};
 ghost use Rattle.vcs_cpu.specs.Operands.{IsCode, address_after};
 ghost use Rattle.vcs_cpu.specs.Effects.{after_load_a};
 ghost use Rattle.vcs_cpu.specs.Runs.{Settling, SettlesBy};
@@ -46,23 +47,23 @@ fn branch_cycles(pc: u16) -> u8
     3 + (pc / 256 != pc.wrapping_add(5) / 256) as u8
 }
 
-/// Lets the polls pass at once that begin with the LDA whose code is given, if some do, and returns their
-/// number and the byte that the last one read.
+/// Lets the polls pass at once that begin with the LDA at `pc`, whose code is given, if some do, and returns their
+/// number and the byte that the last one read. No other register matters to them.
 #[inline(always)]
-fn pass_polls<B: Settle>(code: u32, regs: &Regs, bus: &mut B) -> (u32, u8)
-    requires code { IsCode code regs.now.pc (B.device.byte_at (B.content bus.old)) }
-    requires lda { B.device.byte_at (B.content bus.old) regs.now.pc ≡ 0xad }
+fn pass_polls<B: Settle>(code: u32, pc: u16, bus: &mut B) -> (u32, u8)
+    requires code { IsCode code pc (B.device.byte_at (B.content bus.old)) }
+    requires lda { B.device.byte_at (B.content bus.old) pc ≡ 0xad }
     requires ready { B.Ready bus.old }
     ensures none { result.0 ≡ 0 → B.content bus.new ≡ B.content bus.old }
-    ensures some { (s : Settling B.Content) (most : ℕ) → 0 < result.0
-        → SettlesBy B.content B.Settles s
-        → Leads B.device s most regs.now (B.content bus.old) (after_load_a regs.now result.1)
+    ensures some { (s : Settling B.Content) (most : ℕ) (regs : Regs) → regs.pc ≡ pc
+        → 0 < result.0 → SettlesBy B.content B.Settles s
+        → Leads B.device s most regs (B.content bus.old) (after_load_a regs result.1)
         (B.content bus.new) }
     ensures ready { B.Ready bus.new }
     ensures fixed { B.fixed bus.new ≡ B.fixed bus.old }
 {
     if may_begin_poll(code) {
-        return pass_polls_at(code, regs, bus);
+        return pass_polls_at(code, pc, bus);
     }
     (0, 0)
 }
@@ -70,19 +71,18 @@ fn pass_polls<B: Settle>(code: u32, regs: &Regs, bus: &mut B) -> (u32, u8)
 /// The same, with a look at the code after the LDA. All polls may pass that the bus lets pass: a run that ends comes
 /// to its end past them.
 #[inline(never)]
-fn pass_polls_at<B: Settle>(code: u32, regs: &Regs, bus: &mut B) -> (u32, u8)
-    requires code { IsCode code regs.now.pc (B.device.byte_at (B.content bus.old)) }
-    requires lda { B.device.byte_at (B.content bus.old) regs.now.pc ≡ 0xad }
+fn pass_polls_at<B: Settle>(code: u32, pc: u16, bus: &mut B) -> (u32, u8)
+    requires code { IsCode code pc (B.device.byte_at (B.content bus.old)) }
+    requires lda { B.device.byte_at (B.content bus.old) pc ≡ 0xad }
     requires ready { B.Ready bus.old }
     ensures none { result.0 ≡ 0 → B.content bus.new ≡ B.content bus.old }
-    ensures some { (s : Settling B.Content) (most : ℕ) → 0 < result.0
-        → SettlesBy B.content B.Settles s
-        → Leads B.device s most regs.now (B.content bus.old) (after_load_a regs.now result.1)
+    ensures some { (s : Settling B.Content) (most : ℕ) (regs : Regs) → regs.pc ≡ pc
+        → 0 < result.0 → SettlesBy B.content B.Settles s
+        → Leads B.device s most regs (B.content bus.old) (after_load_a regs result.1)
         (B.content bus.new) }
     ensures ready { B.Ready bus.new }
     ensures fixed { B.fixed bus.new ≡ B.fixed bus.old }
 {
-    let pc = regs.pc;
     let next = bus.fetch(pc.wrapping_add(3));
     if !ends_poll(next) {
         return (0, 0);
@@ -111,7 +111,7 @@ pub(crate) fn go_on_by_load<B: Settle>(
     ensures { IsLedTo B.device B.content B.Settles B.Ready B.fixed regs.old bus.old result regs.new
         bus.new halt.now }
 {
-    let (polls, byte) = pass_polls(code, regs, bus);
+    let (polls, byte) = pass_polls(code, regs.pc, bus);
     if polls > 0 {
         load_a(regs, byte);
         return false;

@@ -73,152 +73,22 @@ fn perform_any<B: Settle>(
 }
 
 /// Goes on by the instruction of an opcode: by a row of its own, which says opcode, operation, mode, cycles and whether a
-/// crossed page adds one, or by the last arms.
+/// crossed page adds one, or by the last arms. Returns the registers where the run is over.
 macro_rules! go_on_by_row {
     ($opcode:ident, $code:ident, $regs:ident, $bus:ident, $halt:ident;
      $($number:literal => $op:expr, $mode:expr, $cycles:literal, $crossing:literal;)*
      _ => $rest:block
-     $last:literal => $load:expr) => {
+     $last:literal => $load:block) => {
         match $opcode {
-            $($number => perform_and_settle($opcode, $code, $op, $mode, $cycles, $crossing, $regs, $bus, $halt),)*
-            $last => $load,
+            $($number => {
+                if perform_and_settle($opcode, $code, $op, $mode, $cycles, $crossing, &mut $regs, $bus, $halt) {
+                    return $regs;
+                }
+            })*
+            $last => $load
             _ => $rest
         }
     };
-}
-
-/// Goes on by the instruction at the program counter, whose opcode and code are given, and answers whether the run is
-/// over; `halt` says so where a halt ended it. The opcodes that programs use have an arm of their own, which is
-/// compiled for that one instruction; an arm says what the opcode's row says.
-#[inline(always)]
-#[tactic(auto, unfolding(crate::specs::Rows::instruction_of, crate::specs::Rows::row_of))]
-fn go_on<B: Settle>(
-    opcode: u8,
-    code: u32,
-    regs: &mut Regs,
-    bus: &mut B,
-    halt: &mut Option<Halt>,
-) -> bool
-    requires { IsNext B.device B.content B.Ready opcode code regs.old bus.old halt.old }
-    ensures { IsLedTo B.device B.content B.Settles B.Ready B.fixed regs.old bus.old result regs.new
-        bus.new halt.new }
-{
-    go_on_by_row! {
-        opcode, code, regs, bus, halt;
-        0x05 => Read::Ora, mode::ZeroPage, 3, false;
-        0x06 => Modify::Asl, mode::ZeroPage, 5, false;
-        0x09 => Read::Ora, mode::Immediate, 2, false;
-        0x0a => Modify::Asl, mode::Accumulator, 2, false;
-        0x0d => Read::Ora, mode::Absolute, 4, false;
-        0x10 => Branch::Bpl, mode::Relative, 2, false;
-        0x11 => Read::Ora, mode::IndirectIndexed, 5, true;
-        0x15 => Read::Ora, mode::ZeroPageX, 4, false;
-        0x18 => Implied::Clc, mode::Implied, 2, false;
-        0x19 => Read::Ora, mode::AbsoluteY, 4, true;
-        0x1d => Read::Ora, mode::AbsoluteX, 4, true;
-        0x20 => operation::Jsr, mode::Absolute, 6, false;
-        0x24 => Read::Bit, mode::ZeroPage, 3, false;
-        0x25 => Read::And, mode::ZeroPage, 3, false;
-        0x26 => Modify::Rol, mode::ZeroPage, 5, false;
-        0x29 => Read::And, mode::Immediate, 2, false;
-        0x2a => Modify::Rol, mode::Accumulator, 2, false;
-        0x2c => Read::Bit, mode::Absolute, 4, false;
-        0x2d => Read::And, mode::Absolute, 4, false;
-        0x30 => Branch::Bmi, mode::Relative, 2, false;
-        0x31 => Read::And, mode::IndirectIndexed, 5, true;
-        0x35 => Read::And, mode::ZeroPageX, 4, false;
-        0x38 => Implied::Sec, mode::Implied, 2, false;
-        0x39 => Read::And, mode::AbsoluteY, 4, true;
-        0x3d => Read::And, mode::AbsoluteX, 4, true;
-        0x45 => Read::Eor, mode::ZeroPage, 3, false;
-        0x46 => Modify::Lsr, mode::ZeroPage, 5, false;
-        0x48 => operation::Pha, mode::Implied, 3, false;
-        0x49 => Read::Eor, mode::Immediate, 2, false;
-        0x4a => Modify::Lsr, mode::Accumulator, 2, false;
-        0x4c => operation::Jmp, mode::Absolute, 3, false;
-        0x50 => Branch::Bvc, mode::Relative, 2, false;
-        0x51 => Read::Eor, mode::IndirectIndexed, 5, true;
-        0x60 => operation::Rts, mode::Implied, 6, false;
-        0x65 => Read::Adc, mode::ZeroPage, 3, false;
-        0x66 => Modify::Ror, mode::ZeroPage, 5, false;
-        0x68 => operation::Pla, mode::Implied, 4, false;
-        0x69 => Read::Adc, mode::Immediate, 2, false;
-        0x6a => Modify::Ror, mode::Accumulator, 2, false;
-        0x6c => operation::Jmp, mode::Indirect, 5, false;
-        0x6d => Read::Adc, mode::Absolute, 4, false;
-        0x70 => Branch::Bvs, mode::Relative, 2, false;
-        0x75 => Read::Adc, mode::ZeroPageX, 4, false;
-        0x78 => Implied::Sei, mode::Implied, 2, false;
-        0x79 => Read::Adc, mode::AbsoluteY, 4, true;
-        0x7d => Read::Adc, mode::AbsoluteX, 4, true;
-        0x84 => Store::Sty, mode::ZeroPage, 3, false;
-        0x85 => Store::Sta, mode::ZeroPage, 3, false;
-        0x86 => Store::Stx, mode::ZeroPage, 3, false;
-        0x88 => Implied::Dey, mode::Implied, 2, false;
-        0x8a => Implied::Txa, mode::Implied, 2, false;
-        0x8c => Store::Sty, mode::Absolute, 4, false;
-        0x8d => Store::Sta, mode::Absolute, 4, false;
-        0x8e => Store::Stx, mode::Absolute, 4, false;
-        0x90 => Branch::Bcc, mode::Relative, 2, false;
-        0x91 => Store::Sta, mode::IndirectIndexed, 6, false;
-        0x94 => Store::Sty, mode::ZeroPageX, 4, false;
-        0x95 => Store::Sta, mode::ZeroPageX, 4, false;
-        0x98 => Implied::Tya, mode::Implied, 2, false;
-        0x99 => Store::Sta, mode::AbsoluteY, 5, false;
-        0x9a => Implied::Txs, mode::Implied, 2, false;
-        0x9d => Store::Sta, mode::AbsoluteX, 5, false;
-        0xa0 => Read::Ldy, mode::Immediate, 2, false;
-        0xa2 => Read::Ldx, mode::Immediate, 2, false;
-        0xa4 => Read::Ldy, mode::ZeroPage, 3, false;
-        0xa5 => Read::Lda, mode::ZeroPage, 3, false;
-        0xa6 => Read::Ldx, mode::ZeroPage, 3, false;
-        0xa8 => Implied::Tay, mode::Implied, 2, false;
-        0xa9 => Read::Lda, mode::Immediate, 2, false;
-        0xaa => Implied::Tax, mode::Implied, 2, false;
-        0xac => Read::Ldy, mode::Absolute, 4, false;
-        0xae => Read::Ldx, mode::Absolute, 4, false;
-        0xb0 => Branch::Bcs, mode::Relative, 2, false;
-        0xb1 => Read::Lda, mode::IndirectIndexed, 5, true;
-        0xb4 => Read::Ldy, mode::ZeroPageX, 4, false;
-        0xb5 => Read::Lda, mode::ZeroPageX, 4, false;
-        0xb9 => Read::Lda, mode::AbsoluteY, 4, true;
-        0xba => Implied::Tsx, mode::Implied, 2, false;
-        0xbc => Read::Ldy, mode::AbsoluteX, 4, true;
-        0xbd => Read::Lda, mode::AbsoluteX, 4, true;
-        0xbe => Read::Ldx, mode::AbsoluteY, 4, true;
-        0xc0 => Read::Cpy, mode::Immediate, 2, false;
-        0xc4 => Read::Cpy, mode::ZeroPage, 3, false;
-        0xc5 => Read::Cmp, mode::ZeroPage, 3, false;
-        0xc6 => Modify::Dec, mode::ZeroPage, 5, false;
-        0xc8 => Implied::Iny, mode::Implied, 2, false;
-        0xc9 => Read::Cmp, mode::Immediate, 2, false;
-        0xca => Implied::Dex, mode::Implied, 2, false;
-        0xcd => Read::Cmp, mode::Absolute, 4, false;
-        0xd0 => Branch::Bne, mode::Relative, 2, false;
-        0xd5 => Read::Cmp, mode::ZeroPageX, 4, false;
-        0xd8 => Implied::Cld, mode::Implied, 2, false;
-        0xd9 => Read::Cmp, mode::AbsoluteY, 4, true;
-        0xdd => Read::Cmp, mode::AbsoluteX, 4, true;
-        0xe0 => Read::Cpx, mode::Immediate, 2, false;
-        0xe4 => Read::Cpx, mode::ZeroPage, 3, false;
-        0xe5 => Read::Sbc, mode::ZeroPage, 3, false;
-        0xe6 => Modify::Inc, mode::ZeroPage, 5, false;
-        0xe8 => Implied::Inx, mode::Implied, 2, false;
-        0xe9 => Read::Sbc, mode::Immediate, 2, false;
-        0xea => Implied::Nop, mode::Implied, 2, false;
-        0xf0 => Branch::Beq, mode::Relative, 2, false;
-        0xf5 => Read::Sbc, mode::ZeroPageX, 4, false;
-        0xf9 => Read::Sbc, mode::AbsoluteY, 4, true;
-        0xfd => Read::Sbc, mode::AbsoluteX, 4, true;
-        _ => {
-            // A copy, so that the registers themselves are lent to no call that stays one.
-            let mut copy = *regs;
-            let over = perform_any(opcode, code, &mut copy, bus, halt);
-            *regs = copy;
-            over
-        }
-        0xad => go_on_by_load(opcode, code, regs, bus, halt)
-    }
 }
 
 /// Executes instructions until the run is over, and answers the halt that ended it if one did.
@@ -243,9 +113,11 @@ pub fn run_until_over<B: Settle>(regs: &mut Regs, bus: &mut B, most: u32) -> Opt
     halt
 }
 
-/// As [`run_until_over`], with the registers in a local variable: no reference to it leaves the function, so that
-/// the compiler can keep it in the processor's own registers. No instructions are counted, since the run ends.
+/// As [`run_until_over`], with the registers in a local variable. An arm borrows it only for calls that are marked to be
+/// inlined, so that the compiler can keep it in the processor's own registers. The opcodes that programs use have an
+/// arm of their own; an arm says what the opcode's row says. No instructions are counted, since the run ends.
 /// A halt, which comes once in a run at most, goes out by `halt`: the result is the registers alone.
+#[tactic(auto, unfolding(crate::specs::Rows::instruction_of, crate::specs::Rows::row_of))]
 fn run_by_value<B: Settle>(first: Regs, bus: &mut B, most: u32, halt: &mut Option<Halt>) -> Regs
     ghost settling: { Settling B.Content }
     requires settles { SettlesBy B.content B.Settles settling }
@@ -262,8 +134,127 @@ fn run_by_value<B: Settle>(first: Regs, bus: &mut B, most: u32, halt: &mut Optio
     loop {
         let code = bus.fetch(regs.pc);
         let opcode = opcode_of(code, regs.pc, bus);
-        if go_on(opcode, code, &mut regs, bus, halt) {
-            return regs;
+        go_on_by_row! {
+            opcode, code, regs, bus, halt;
+            0x05 => Read::Ora, mode::ZeroPage, 3, false;
+            0x06 => Modify::Asl, mode::ZeroPage, 5, false;
+            0x09 => Read::Ora, mode::Immediate, 2, false;
+            0x0a => Modify::Asl, mode::Accumulator, 2, false;
+            0x0d => Read::Ora, mode::Absolute, 4, false;
+            0x10 => Branch::Bpl, mode::Relative, 2, false;
+            0x11 => Read::Ora, mode::IndirectIndexed, 5, true;
+            0x15 => Read::Ora, mode::ZeroPageX, 4, false;
+            0x18 => Implied::Clc, mode::Implied, 2, false;
+            0x19 => Read::Ora, mode::AbsoluteY, 4, true;
+            0x1d => Read::Ora, mode::AbsoluteX, 4, true;
+            0x20 => operation::Jsr, mode::Absolute, 6, false;
+            0x24 => Read::Bit, mode::ZeroPage, 3, false;
+            0x25 => Read::And, mode::ZeroPage, 3, false;
+            0x26 => Modify::Rol, mode::ZeroPage, 5, false;
+            0x29 => Read::And, mode::Immediate, 2, false;
+            0x2a => Modify::Rol, mode::Accumulator, 2, false;
+            0x2c => Read::Bit, mode::Absolute, 4, false;
+            0x2d => Read::And, mode::Absolute, 4, false;
+            0x30 => Branch::Bmi, mode::Relative, 2, false;
+            0x31 => Read::And, mode::IndirectIndexed, 5, true;
+            0x35 => Read::And, mode::ZeroPageX, 4, false;
+            0x38 => Implied::Sec, mode::Implied, 2, false;
+            0x39 => Read::And, mode::AbsoluteY, 4, true;
+            0x3d => Read::And, mode::AbsoluteX, 4, true;
+            0x45 => Read::Eor, mode::ZeroPage, 3, false;
+            0x46 => Modify::Lsr, mode::ZeroPage, 5, false;
+            0x48 => operation::Pha, mode::Implied, 3, false;
+            0x49 => Read::Eor, mode::Immediate, 2, false;
+            0x4a => Modify::Lsr, mode::Accumulator, 2, false;
+            0x4c => operation::Jmp, mode::Absolute, 3, false;
+            0x50 => Branch::Bvc, mode::Relative, 2, false;
+            0x51 => Read::Eor, mode::IndirectIndexed, 5, true;
+            0x60 => operation::Rts, mode::Implied, 6, false;
+            0x65 => Read::Adc, mode::ZeroPage, 3, false;
+            0x66 => Modify::Ror, mode::ZeroPage, 5, false;
+            0x68 => operation::Pla, mode::Implied, 4, false;
+            0x69 => Read::Adc, mode::Immediate, 2, false;
+            0x6a => Modify::Ror, mode::Accumulator, 2, false;
+            0x6c => operation::Jmp, mode::Indirect, 5, false;
+            0x6d => Read::Adc, mode::Absolute, 4, false;
+            0x70 => Branch::Bvs, mode::Relative, 2, false;
+            0x75 => Read::Adc, mode::ZeroPageX, 4, false;
+            0x78 => Implied::Sei, mode::Implied, 2, false;
+            0x79 => Read::Adc, mode::AbsoluteY, 4, true;
+            0x7d => Read::Adc, mode::AbsoluteX, 4, true;
+            0x84 => Store::Sty, mode::ZeroPage, 3, false;
+            0x85 => Store::Sta, mode::ZeroPage, 3, false;
+            0x86 => Store::Stx, mode::ZeroPage, 3, false;
+            0x88 => Implied::Dey, mode::Implied, 2, false;
+            0x8a => Implied::Txa, mode::Implied, 2, false;
+            0x8c => Store::Sty, mode::Absolute, 4, false;
+            0x8d => Store::Sta, mode::Absolute, 4, false;
+            0x8e => Store::Stx, mode::Absolute, 4, false;
+            0x90 => Branch::Bcc, mode::Relative, 2, false;
+            0x91 => Store::Sta, mode::IndirectIndexed, 6, false;
+            0x94 => Store::Sty, mode::ZeroPageX, 4, false;
+            0x95 => Store::Sta, mode::ZeroPageX, 4, false;
+            0x98 => Implied::Tya, mode::Implied, 2, false;
+            0x99 => Store::Sta, mode::AbsoluteY, 5, false;
+            0x9a => Implied::Txs, mode::Implied, 2, false;
+            0x9d => Store::Sta, mode::AbsoluteX, 5, false;
+            0xa0 => Read::Ldy, mode::Immediate, 2, false;
+            0xa2 => Read::Ldx, mode::Immediate, 2, false;
+            0xa4 => Read::Ldy, mode::ZeroPage, 3, false;
+            0xa5 => Read::Lda, mode::ZeroPage, 3, false;
+            0xa6 => Read::Ldx, mode::ZeroPage, 3, false;
+            0xa8 => Implied::Tay, mode::Implied, 2, false;
+            0xa9 => Read::Lda, mode::Immediate, 2, false;
+            0xaa => Implied::Tax, mode::Implied, 2, false;
+            0xac => Read::Ldy, mode::Absolute, 4, false;
+            0xae => Read::Ldx, mode::Absolute, 4, false;
+            0xb0 => Branch::Bcs, mode::Relative, 2, false;
+            0xb1 => Read::Lda, mode::IndirectIndexed, 5, true;
+            0xb4 => Read::Ldy, mode::ZeroPageX, 4, false;
+            0xb5 => Read::Lda, mode::ZeroPageX, 4, false;
+            0xb9 => Read::Lda, mode::AbsoluteY, 4, true;
+            0xba => Implied::Tsx, mode::Implied, 2, false;
+            0xbc => Read::Ldy, mode::AbsoluteX, 4, true;
+            0xbd => Read::Lda, mode::AbsoluteX, 4, true;
+            0xbe => Read::Ldx, mode::AbsoluteY, 4, true;
+            0xc0 => Read::Cpy, mode::Immediate, 2, false;
+            0xc4 => Read::Cpy, mode::ZeroPage, 3, false;
+            0xc5 => Read::Cmp, mode::ZeroPage, 3, false;
+            0xc6 => Modify::Dec, mode::ZeroPage, 5, false;
+            0xc8 => Implied::Iny, mode::Implied, 2, false;
+            0xc9 => Read::Cmp, mode::Immediate, 2, false;
+            0xca => Implied::Dex, mode::Implied, 2, false;
+            0xcd => Read::Cmp, mode::Absolute, 4, false;
+            0xd0 => Branch::Bne, mode::Relative, 2, false;
+            0xd5 => Read::Cmp, mode::ZeroPageX, 4, false;
+            0xd8 => Implied::Cld, mode::Implied, 2, false;
+            0xd9 => Read::Cmp, mode::AbsoluteY, 4, true;
+            0xdd => Read::Cmp, mode::AbsoluteX, 4, true;
+            0xe0 => Read::Cpx, mode::Immediate, 2, false;
+            0xe4 => Read::Cpx, mode::ZeroPage, 3, false;
+            0xe5 => Read::Sbc, mode::ZeroPage, 3, false;
+            0xe6 => Modify::Inc, mode::ZeroPage, 5, false;
+            0xe8 => Implied::Inx, mode::Implied, 2, false;
+            0xe9 => Read::Sbc, mode::Immediate, 2, false;
+            0xea => Implied::Nop, mode::Implied, 2, false;
+            0xf0 => Branch::Beq, mode::Relative, 2, false;
+            0xf5 => Read::Sbc, mode::ZeroPageX, 4, false;
+            0xf9 => Read::Sbc, mode::AbsoluteY, 4, true;
+            0xfd => Read::Sbc, mode::AbsoluteX, 4, true;
+            _ => {
+                // A copy, so that no reference to the registers themselves goes to a call that is never inlined.
+                let mut copy = regs;
+                let over = perform_any(opcode, code, &mut copy, bus, halt);
+                regs = copy;
+                if over {
+                    return regs;
+                }
+            }
+            0xad => {
+                if go_on_by_load(opcode, code, &mut regs, bus, halt) {
+                    return regs;
+                }
+            }
         }
     }
 }

@@ -1,4 +1,4 @@
-use Rattle.std.proofs.Common.{◌≡◌, ◌∙◌, ap, sym, subst, arith}
+use Rattle.std.proofs.Common.{◌≡◌, ◌∙◌, ap, sym, subst, refl, arith}
 use Rattle.vcs_cpu.specs.declared.regs.Regs.{Regs}
 use Rattle.vcs_cpu.specs.Operands.{IsCode}
 use Rattle.vcs_cpu.specs.Rows.{row_of, instruction_of}
@@ -27,7 +27,7 @@ returns-then-polls-gt0 g c =
     let passed = c.pass_polls-polls.ensures in
     record {
       ends = λ s most e over settles ends. cc;
-      goes_on = λ s most on settles. subst (λ (q : Regs). Leads g.B.Bus.device s most c.args.regs.now (g.B.Bus.content c.args.bus.now) q (g.B.Bus.content c.pass_polls-polls.new.bus)) (sym c.load_a.ensures) (passed.some s most some settles);
+      goes_on = λ s most on settles. subst (λ (q : Regs). Leads g.B.Bus.device s most c.args.regs.now (g.B.Bus.content c.args.bus.now) q (g.B.Bus.content c.pass_polls-polls.new.bus)) (sym c.load_a.ensures) (passed.some s most c.args.regs.now refl some settles);
       going = λ on. c.requires.next.going;
       ready = λ on. passed.ready;
       fixed = passed.fixed;

@@ -1,4 +1,6 @@
-use Rattle.std.proofs.Common.{◌≡◌, suc, ◌+◌, ◌-◌, ◌/◌, ◌%◌, ◌∙◌, ap, sym, subst, arith}
+use Rattle.std.proofs.Common.{◌≡◌, ℕ, suc, ◌+◌, ◌-◌, ◌/◌, ◌%◌, ◌∙◌, ap, sym, subst, arith}
+use Rattle.vcs_cpu.specs.declared.regs.Regs.{Regs}
+use Rattle.vcs_cpu.specs.declared.bus.Poll.{Poll}
 use Rattle.vcs_cpu.specs.Operands.{address_after}
 use Rattle.vcs_cpu.specs.Polls.{after_polls}
 use Rattle.vcs_cpu.specs.Effects.{after_load_a}
@@ -8,12 +10,14 @@ use Rattle.vcs_cpu.proofs.polls.pass_polls_at.Goals as goal
 
 pub returns-clause-none : goal.returns-clause-none
 returns-clause-none g c = λ none.
-    c.pass_polls.ensures.content ∙ ap (λ n. after_polls g.B.Bus.device (poll_at c.args.regs.now c.operand_word-address.result c.branch_cycles.result) n (g.B.Bus.content c.args.bus.now)) none
+    let poll : Poll = record { pc = c.args.pc; address = c.operand_word-address.result; branch = c.branch_cycles.result } in
+    c.pass_polls.ensures.content ∙ ap (λ n. after_polls g.B.Bus.device poll n (g.B.Bus.content c.args.bus.now)) none
 
 pub returns-clause-some : goal.returns-clause-some
-returns-clause-some g c = λ s most some settles.
+returns-clause-some g c = λ s most regs is some settles.
     let d = g.B.Bus.device in
-    let r = c.args.regs.now in
+    let r : Regs = record regs { pc = c.args.pc } in
+    let same : r ≡ regs = ap (λ (p : ℕ). record regs { pc = p }) (sym is) in
     let before = g.B.Bus.content c.args.bus.now in
     let address = c.operand_word-address.result in
     let branch = c.branch_cycles.result in
@@ -34,9 +38,10 @@ returns-clause-some g c = λ s most some settles.
     let last : polls ≡ polls - 1 + 1 = omega (arith, some) in
     let more : suc (polls - 1) ≡ polls = omega (arith, some) in
     let byte = passed.byte (polls - 1) last in
-    let regs = ap (λ v. after_load_a r v) byte ∙ sym (regs_after-last d (polls - 1) r before address branch) in
+    let loaded = ap (λ v. after_load_a r v) byte ∙ sym (regs_after-last d (polls - 1) r before address branch) in
     let content = passed.content ∙ ap (λ n. after_polls d (poll_at r address branch) n before) (sym more) in
-    subst (λ q. Leads d s most r before q (g.B.Bus.content c.pass_polls.new.self)) (sym regs)
+    subst (λ (q : Regs). Leads d s most q before (after_load_a q c.pass_polls.result.1) (g.B.Bus.content c.pass_polls.new.self)) same
+    (subst (λ (q : Regs). Leads d s most r before q (g.B.Bus.content c.pass_polls.new.self)) (sym loaded)
     (subst (λ x. Leads d s most r before (regs_after d r address branch (suc (polls - 1)) before) x) (sym content)
     (leads_past d g.B.Bus.content g.B.Settle.Settles s settles most (polls - 1) r before before address branch code c.branch_cycles.ensures.value
-    (λ i few. passed.polls i (omega (arith, few, more)))))
+    (λ i few. passed.polls i (omega (arith, few, more))))))
