@@ -3,9 +3,7 @@ use Rattle.std.proofs.Common.{◌≡◌, ℕ, zero, suc, ◌+◌, ◌-◌, ◌*�
 use Rattle.vcs_cpu.specs.Reads.{addresses_read}
 use Rattle.vcs_cpu.specs.Steps.{step_of}
 use Rattle.vcs_cpu.specs.declared.regs.Regs.{Regs}
-use Rattle.vcs_riot.specs.declared.chip.Riot.{Riot}
-use Rattle.vcs_riot.specs.Address.{is_high}
-use Rattle.vcs_riot.specs.Chip.{riot_after_ticks, riot_after_load, riot_after_write}
+use Rattle.vcs_riot.specs.Chip.{riot_after_ticks}
 use Rattle.vcs_tia.specs.declared.beam.Beam.{Beam}
 use Rattle.vcs_tia.specs.declared.chip.Tia.{Tia}
 use Rattle.vcs_tia.specs.declared.chip.Fire.{Fire}
@@ -13,10 +11,13 @@ use Rattle.vcs_tia.specs.declared.chip.Button.{Button}
 use Rattle.vcs_tia.specs.declared.register.Register.{Register}
 use Rattle.vcs_tia.specs.declared.register.Register.TheVariants.{Vsync, Vblank, Wsync, Nusiz0, Nusiz1, Colup0, Colup1, Colupf, Colubk, Ctrlpf, Refp0, Refp1, Pf0, Pf1, Pf2, Resp0, Resp1, Resm0, Resm1, Resbl, Grp0, Grp1, Enam0, Enam1, Enabl, Hmp0, Hmp1, Hmm0, Hmm1, Hmbl, Vdelp0, Vdelp1, Vdelbl, Resmp0, Resmp1, Hmove, Hmclr, Cxclr, Unused}
 use Rattle.vcs_tia.specs.Register.{register_at}
-use Rattle.vcs_tia.specs.Tia.{written, written_at, after_clock, latches_at, clocks_owed, wait_cleared, frame_started, frame_ended, button_pressed}
+use Rattle.vcs_tia.specs.Tia.{written, after_clock, latches_at, clocks_owed, wait_cleared, frame_started, frame_ended, button_pressed}
 use Rattle.vcs_tia.specs.Trace.{after_clocks}
 use Rattle.vcs_tia.proofs.Later.{fire-after_clocks}
-use Rattle.vcs_machine.specs.Bus.{Board, Observed, board_byte_at, board_after_load, board_after_write, bus_device, after_time, after_wait, nothing_seen}
+use Rattle.vcs_machine.specs.declared.address.Region.{Region}
+use Rattle.vcs_machine.specs.declared.address.Region.TheVariants as region
+use Rattle.vcs_machine.specs.Address.{selected}
+use Rattle.vcs_machine.specs.Bus.{Board, Observed, byte_of, stored, board_byte_at, board_after_load, board_after_write, bus_device, after_time, after_wait, nothing_seen}
 use Rattle.vcs_machine.specs.Step.{console_step}
 use Rattle.vcs_machine.specs.Frame.{is_frame_over}
 use Rattle.vcs_machine.specs.Inside.TraceFrames.{board_into_next_frame}
@@ -151,14 +152,21 @@ pub record BoardsAlike (o p : Observed (Unit {0})) : Type 0 where
   pub same : board_without_line o.board ≡ board_without_line p.board
   pub none_pressed : are_pressed o.board.tia ≡ (false, false)
 
+byte_of-without_line : (s : Region) (b : Board) (addr : ℕ) → byte_of s b addr ≡ byte_of s (board_without_line b) addr
+byte_of-without_line region.Cartridge b addr = refl
+byte_of-without_line region.Ram b addr = refl
+byte_of-without_line region.PortsAndTimer b addr = refl
+byte_of-without_line region.Tia b addr = refl
+
 reads-alike : (o p : Observed (Unit {0})) → BoardsAlike o p → (bus_device nothing_seen).byte_at o ≡ (bus_device nothing_seen).byte_at p
-reads-alike o p h = let reads : Board → ℕ → ℕ = λ b addr. board_byte_at b addr in ap reads h.same
+reads-alike o p h = λ i addr.
+    (byte_of-without_line (selected addr) o.board addr ∙ ap (λ (b : Board). board_byte_at b addr) h.same ∙ sym (byte_of-without_line (selected addr) p.board addr)) i
 
 pub byte-alike : (addr : ℕ) (o p : Observed (Unit {0})) → BoardsAlike o p → board_byte_at o.board addr ≡ board_byte_at p.board addr
 byte-alike addr o p h = ap (λ (m : ℕ → ℕ). m addr) (reads-alike o p h)
 
 board_load-without_line : (b : Board) (addr : ℕ) → board_without_line (board_after_load b addr) ≡ board_after_load (board_without_line b) addr
-board_load-without_line b addr = load-changed board_without_line (λ c r. refl) (is_high 12 addr) (is_high 7 addr) b (riot_after_load addr b.riot)
+board_load-without_line b addr = load-changed board_without_line (λ c r. refl) (λ c. refl) b addr
 
 loads-alike : (o p : Observed (Unit {0})) (addr : ℕ) → BoardsAlike o p →
     BoardsAlike ((bus_device nothing_seen).after_load o addr) ((bus_device nothing_seen).after_load p addr)
@@ -167,17 +175,14 @@ loads-alike o p addr h = record {
   none_pressed = ap are_pressed (tia-board_after_load o.board addr) ∙ h.none_pressed;
 }
 
-written-by_region : (cart riot : Bool) (b : Board) (r : Riot) (t u : Tia) → without_line t ≡ without_line u →
-    board_without_line (if cart then b else (if riot then record b { riot = r } else record b { tia = t }))
-    ≡ board_without_line (if cart then board_without_line b else (if riot then record (board_without_line b) { riot = r } else record (board_without_line b) { tia = u }))
-written-by_region true riot b r t u e = refl
-written-by_region false true b r t u e = refl
-written-by_region false false b r t u e = ap (λ (x : Tia). record b { tia = x }) e
+stored-without_line : (s : Region) (b : Board) (addr v : ℕ) → board_without_line (stored s b addr v) ≡ board_without_line (stored s (board_without_line b) addr v)
+stored-without_line region.Cartridge b addr v = refl
+stored-without_line region.Ram b addr v = refl
+stored-without_line region.PortsAndTimer b addr v = refl
+stored-without_line region.Tia b addr v = ap (λ (x : Tia). record b { tia = x }) (written-without_line (register_at addr) v b.tia.beam.clock b.tia)
 
 board_write-without_line : (b : Board) (addr v : ℕ) → board_without_line (board_after_write b addr v) ≡ board_without_line (board_after_write (board_without_line b) addr v)
-board_write-without_line b addr v =
-    written-by_region (is_high 12 addr) (is_high 7 addr) b (riot_after_write addr v b.riot) (written_at addr v b.tia) (written_at addr v (without_line b.tia))
-    (written-without_line (register_at addr) v b.tia.beam.clock b.tia)
+board_write-without_line b addr v = stored-without_line (selected addr) b addr v
 
 pokes-alike : (o p : Observed (Unit {0})) (addr v : ℕ) → BoardsAlike o p →
     BoardsAlike ((bus_device nothing_seen).after_poke o addr v) ((bus_device nothing_seen).after_poke p addr v)

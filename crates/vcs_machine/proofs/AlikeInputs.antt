@@ -8,7 +8,7 @@ use Rattle.vcs_cpu.specs.declared.regs.Regs.{Regs}
 use Rattle.vcs_riot.specs.declared.chip.Riot.{Riot}
 use Rattle.vcs_riot.specs.declared.timer.Timer.{Timer}
 use Rattle.vcs_riot.specs.Address.{is_high}
-use Rattle.vcs_riot.specs.Chip.{byte_at, shows_pin, riot_after_ticks, riot_after_load, riot_after_write, timer_after_load}
+use Rattle.vcs_riot.specs.Chip.{shows_pin, riot_after_ticks, riot_after_load, riot_after_write, timer_after_load}
 use Rattle.vcs_riot.proofs.PinLemmas.{byte-pins}
 use Rattle.vcs_tia.specs.declared.chip.Tia.{Tia}
 use Rattle.vcs_tia.specs.declared.chip.Fire.{Fire}
@@ -18,12 +18,15 @@ use Rattle.vcs_tia.specs.declared.register.Register.TheVariants.{Vsync, Vblank, 
 use Rattle.vcs_tia.specs.Units.{has_bit}
 use Rattle.vcs_tia.specs.Register.{register_at}
 use Rattle.vcs_tia.specs.Later.{drawing_of}
-use Rattle.vcs_tia.specs.Tia.{new_button, written, written_at, after_clock, read_at, read_bytes, shows_button, clocks_owed, wait_cleared}
+use Rattle.vcs_tia.specs.Tia.{new_button, written, written_at, after_clock, read_bytes, shows_button, clocks_owed, wait_cleared}
 use Rattle.vcs_tia.specs.Trace.{after_clocks, trace}
 use Rattle.vcs_tia.proofs.Later.{fire-after_clocks}
-use Rattle.vcs_machine.specs.Bus.{Board, Observed, board_byte_at, board_after_load, board_after_write, bus_device, after_time, after_wait}
+use Rattle.vcs_machine.specs.declared.address.Region.{Region}
+use Rattle.vcs_machine.specs.declared.address.Region.TheVariants as region
+use Rattle.vcs_machine.specs.Address.{selected}
+use Rattle.vcs_machine.specs.Bus.{Board, Observed, byte_of, loaded, stored, board_byte_at, board_after_load, board_after_write, bus_device, after_time, after_wait}
 use Rattle.vcs_machine.specs.Step.{console_step}
-use Rattle.vcs_machine.specs.Lag.{shows_input}
+use Rattle.vcs_machine.specs.Lag.{shows_input_of, shows_input}
 use Rattle.vcs_machine.proofs.AlikeSteps.{EndAlike, instruction-alike, with_wait-alike}
 use Rattle.vcs_machine.proofs.Clocks.{load-changed}
 
@@ -138,17 +141,14 @@ read-with_fire (suc (suc (suc (suc (suc (suc (suc (suc (suc (suc (suc (suc (suc 
 abbrev pub board_unpressed : Board → Board
 board_unpressed b = record b { pins = record { a = 0; b = 0 }; tia = tia_unpressed b.tia }
 
-byte-by_region : (cart riot pin button : Bool) (rom x y p q : ℕ) → (pin ≡ false → x ≡ y) → (button ≡ false → p ≡ q) →
-    (if cart then false else (if riot then pin else button)) ≡ false → (if cart then rom else (if riot then x else p)) ≡ (if cart then rom else (if riot then y else q))
-byte-by_region true riot pin button rom x y p q e f h = refl
-byte-by_region false true pin button rom x y p q e f h = e h
-byte-by_region false false pin button rom x y p q e f h = f h
+byte_of-unpressed : (s : Region) (b : Board) (addr : ℕ) → shows_input_of s b addr ≡ false → byte_of s b addr ≡ byte_of s (board_unpressed b) addr
+byte_of-unpressed region.Cartridge b addr h = refl
+byte_of-unpressed region.Ram b addr h = byte-pins addr b.pins (record { a = 0; b = 0 }) b.riot h
+byte_of-unpressed region.PortsAndTimer b addr h = byte-pins addr b.pins (record { a = 0; b = 0 }) b.riot h
+byte_of-unpressed region.Tia b addr h = read-with_fire (addr % 16) (fire_unpressed b.tia.fire) b.tia h
 
 byte-unpressed : (b : Board) (addr : ℕ) → shows_input b addr ≡ false → board_byte_at b addr ≡ board_byte_at (board_unpressed b) addr
-byte-unpressed b addr h =
-    byte-by_region (is_high 12 addr) (is_high 7 addr) (shows_pin addr b.riot) (shows_button addr) _
-    (byte_at addr b.pins b.riot) (byte_at addr (record { a = 0; b = 0 }) b.riot) (read_at addr b.tia) (read_at addr (tia_unpressed b.tia))
-    (byte-pins addr b.pins (record { a = 0; b = 0 }) b.riot) (read-with_fire (addr % 16) (fire_unpressed b.tia.fire) b.tia) h
+byte-unpressed b addr h = byte_of-unpressed (selected addr) b addr h
 
 -- ---- what shows the input stays the same with loads
 
@@ -160,17 +160,37 @@ pins-by_lines true true r t = refl
 pins-by_lines true false r t = refl
 pins-by_lines false two r t = refl
 
-input-by_region : (cart riot : Bool) (b : Board) (r : Riot) → pins_shown r ≡ pins_shown b.riot →
-    shows_input (if cart then b else (if riot then record b { riot = r } else b)) ≡ shows_input b
-input-by_region true riot b r e = refl
-input-by_region false true b r e =
-    ap {B = ℕ → Bool} (λ (pins : ℕ → Bool) (addr : ℕ). if is_high 12 addr then false else (if is_high 7 addr then pins addr else shows_button addr)) e
-input-by_region false false b r e = refl
+-- what shows the input, by the pins that the RIOT shows
+abbrev shown_with : (ℕ → Bool) → Region → ℕ → Bool
+shown_with pins region.Cartridge addr = false
+shown_with pins region.Ram addr = pins addr
+shown_with pins region.PortsAndTimer addr = pins addr
+shown_with pins region.Tia addr = shows_button addr
+
+shows_input-with : (s : Region) (b : Board) (addr : ℕ) → shows_input_of s b addr ≡ shown_with (pins_shown b.riot) s addr
+shows_input-with region.Cartridge b addr = refl
+shows_input-with region.Ram b addr = refl
+shows_input-with region.PortsAndTimer b addr = refl
+shows_input-with region.Tia b addr = refl
+
+pins-loaded : (b : Board) (addr : ℕ) → pins_shown (riot_after_load addr b.riot) ≡ pins_shown b.riot
+pins-loaded b addr = pins-by_lines (is_high 9 addr) (is_high 2 addr) b.riot (timer_after_load addr b.riot.timer)
+
+pins_of-loaded : (s : Region) (b : Board) (addr : ℕ) → pins_shown (loaded s b addr).riot ≡ pins_shown b.riot
+pins_of-loaded region.Cartridge b addr = refl
+pins_of-loaded region.Ram b addr = pins-loaded b addr
+pins_of-loaded region.PortsAndTimer b addr = pins-loaded b addr
+pins_of-loaded region.Tia b addr = refl
+
+input_by_pins : (b c : Board) → pins_shown b.riot ≡ pins_shown c.riot → shows_input b ≡ shows_input c
+input_by_pins b c e = λ i a.
+    (shows_input-with (selected a) b a ∙ ap (λ (pins : ℕ → Bool). shown_with pins (selected a) a) e ∙ sym (shows_input-with (selected a) c a)) i
 
 input_loaded : (b : Board) (addr : ℕ) → shows_input (board_after_load b addr) ≡ shows_input b
-input_loaded b addr =
-    input-by_region (is_high 12 addr) (is_high 7 addr) b (riot_after_load addr b.riot)
-    (pins-by_lines (is_high 9 addr) (is_high 2 addr) b.riot (timer_after_load addr b.riot.timer))
+input_loaded b addr = input_by_pins (board_after_load b addr) b (pins_of-loaded (selected addr) b addr)
+
+input-unpressed : (b : Board) (addr : ℕ) → shows_input (board_unpressed b) addr ≡ shows_input b addr
+input-unpressed b addr = ap (λ (m : ℕ → Bool). m addr) (input_by_pins (board_unpressed b) b refl)
 
 -- ---- the board
 
@@ -183,27 +203,22 @@ abbrev pub AlikeButInput : {Seen : Type 0} → Observed Seen → Observed Seen �
 AlikeButInput o p = blind o ≡ blind p
 
 load-unpressed : (b : Board) (addr : ℕ) → board_unpressed (board_after_load b addr) ≡ board_after_load (board_unpressed b) addr
-load-unpressed b addr = load-changed board_unpressed (λ c r. refl) (is_high 12 addr) (is_high 7 addr) b (riot_after_load addr b.riot)
+load-unpressed b addr = load-changed board_unpressed (λ c r. refl) (λ c. refl) b addr
 
-abbrev write_by_region : Bool → Bool → Board → Riot → Tia → Board
-write_by_region cart riot b r t = if cart then b else (if riot then record b { riot = r } else record b { tia = t })
-
-written-by_region : (cart riot : Bool) (b c : Board) (r s : Riot) (t u : Tia) → board_unpressed b ≡ board_unpressed c → r ≡ s → tia_unpressed t ≡ tia_unpressed u →
-    board_unpressed (write_by_region cart riot b r t) ≡ board_unpressed (write_by_region cart riot c s u)
-written-by_region true riot b c r s t u e f g = e
-written-by_region false true b c r s t u e f g = λ i. record (e i) { riot = f i }
-written-by_region false false b c r s t u e f g = λ i. record (e i) { tia = g i }
+stored-alike : (s : Region) (b c : Board) (addr v : ℕ) → board_unpressed b ≡ board_unpressed c → board_unpressed (stored s b addr v) ≡ board_unpressed (stored s c addr v)
+stored-alike region.Cartridge b c addr v e = e
+stored-alike region.Ram b c addr v e = λ i. record (e i) { riot = riot_after_write addr v (e i).riot }
+stored-alike region.PortsAndTimer b c addr v e = λ i. record (e i) { riot = riot_after_write addr v (e i).riot }
+stored-alike region.Tia b c addr v e = λ i. record (e i) { tia = written_at-alike addr v b.tia c.tia (ap (λ (x : Board). x.tia) e) i }
 
 write-alike : (b c : Board) (addr v : ℕ) → board_unpressed b ≡ board_unpressed c → board_unpressed (board_after_write b addr v) ≡ board_unpressed (board_after_write c addr v)
-write-alike b c addr v e =
-    written-by_region (is_high 12 addr) (is_high 7 addr) b c (riot_after_write addr v b.riot) (riot_after_write addr v c.riot) (written_at addr v b.tia) (written_at addr v c.tia)
-    e (ap (λ (x : Board). riot_after_write addr v x.riot) e) (written_at-alike addr v b.tia c.tia (ap (λ (x : Board). x.tia) e))
+write-alike b c addr v e = stored-alike (selected addr) b c addr v e
 
 module _ {Seen : Type 0} (observe : List Tia → Seen → Seen) (looks : (n : ℕ) (t u : Tia) (s : Seen) → drawing_of t ≡ drawing_of u → observe (trace n t) s ≡ observe (trace n u) s) where
   reads-alike : (x y : Observed Seen) (addr : ℕ) → AlikeButInput x y → shows_input x.board addr ≡ false → board_byte_at x.board addr ≡ board_byte_at y.board addr
   reads-alike x y addr h none =
       let same = ap (λ (o : Observed Seen). shows_input o.board addr) h in
-      byte-unpressed x.board addr none ∙ ap (λ (o : Observed Seen). board_byte_at o.board addr) h ∙ sym (byte-unpressed y.board addr (sym same ∙ none))
+      byte-unpressed x.board addr none ∙ ap (λ (o : Observed Seen). board_byte_at o.board addr) h ∙ sym (byte-unpressed y.board addr (sym (input-unpressed y.board addr) ∙ sym same ∙ input-unpressed x.board addr ∙ none))
 
   loads-alike : (x y : Observed Seen) (addr : ℕ) → AlikeButInput x y → AlikeButInput ((bus_device observe).after_load x addr) ((bus_device observe).after_load y addr)
   loads-alike x y addr h =
@@ -246,4 +261,4 @@ module _ {Seen : Type 0} (observe : List Tia → Seen → Seen) (looks : (n : �
       let bus = bus_device observe in
       with_wait-alike AlikeButInput observe wait-alike (step_of bus r x) (step_of bus r y)
       (instruction-alike AlikeButInput bus (λ o addr. shows_input o.board addr) reads-alike loads-alike pokes-alike
-      (λ o p n. time-alike o p n (3 * n)) (λ o addr. input_loaded o.board addr) (λ o n. refl) r x y h none)
+      (λ o p n. time-alike o p n (3 * n)) (λ o addr. input_loaded o.board addr) (λ o n. input_by_pins (bus.after_advance o n).board o.board refl) r x y h none)

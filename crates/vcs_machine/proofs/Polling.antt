@@ -9,14 +9,17 @@ use Rattle.vcs_riot.specs.declared.chip.Pins.{Pins}
 use Rattle.vcs_riot.specs.declared.chip.Riot.{Riot}
 use Rattle.vcs_riot.specs.declared.timer.Timer.{Timer}
 use Rattle.vcs_riot.specs.Address.{is_high}
-use Rattle.vcs_riot.specs.Chip.{riot_after_ticks, byte_at}
-use Rattle.vcs_riot.specs.Timer.{IsAboveZero}
+use Rattle.vcs_riot.specs.Chip.{riot_after_ticks, riot_after_load, byte_at}
+use Rattle.vcs_riot.specs.Timer.{IsAboveZero, after_count_loaded}
 use Rattle.vcs_tia.specs.declared.chip.Tia.{Tia}
 use Rattle.vcs_tia.specs.declared.chip.Sync.{Sync}
 use Rattle.vcs_tia.specs.Tia.{clocks_passed}
 use Rattle.vcs_tia.proofs.Later.{sync-after_clocks}
 use Rattle.vcs_machine.specs.Cart.{rom_byte}
-use Rattle.vcs_machine.specs.Bus.{Board, Observed, observed_of, is_intim, board_byte_at, board_after_load, bus_device, after_time}
+use Rattle.vcs_machine.specs.declared.address.Region.{Region}
+use Rattle.vcs_machine.specs.declared.address.Region.TheVariants as region
+use Rattle.vcs_machine.specs.Address.{selected, are_ports_and_timer, is_intim}
+use Rattle.vcs_machine.specs.Bus.{Board, Observed, observed_of, byte_of, loaded, board_byte_at, board_after_load, bus_device, after_time}
 use Rattle.vcs_machine.specs.Inside.Chips.{IsStill}
 use Rattle.vcs_machine.specs.Inside.Times.{end_time}
 use Rattle.vcs_machine.specs.Inside.Console.{content_of, ticks_of, clocks_of}
@@ -25,38 +28,39 @@ use Rattle.vcs_machine.specs.declared.bus.ConsoleBus.{ConsoleBus}
 use Rattle.vcs_machine.specs.declared.observer.Observer.{Ghosts}
 use Rattle.vcs_machine.proofs.Lagging.{lagging_of, after_time-add, after_wait-none, not_over-early, lagging-same}
 use Rattle.vcs_machine.proofs.BusTime.{past}
+use Rattle.vcs_machine.proofs.Selecting.{lines_of_ports}
 
--- the lines of INTIM's addresses
-record AreIntim (a b c d e : Bool) : Type 0 where
-  pub top : a ≡ false
-  pub chip : b ≡ true
-  pub upper : c ≡ true
+-- what INTIM's addresses select, and their lines A2 and A0
+record AreIntim (s : Region) (d e : Bool) : Type 0 where
+  pub selects : s ≡ region.PortsAndTimer
   pub timer : d ≡ true
   pub status : e ≡ false
 
-by_lines : (top chip upper timer status : Bool) → (not top && (chip && (upper && (timer && not status)))) ≡ true → AreIntim top chip upper timer status
-by_lines false true true true false e = record { top = refl; chip = refl; upper = refl; timer = refl; status = refl }
-by_lines true chip upper timer status e = absurd (true≢false (sym e))
-by_lines false false upper timer status e = absurd (true≢false (sym e))
-by_lines false true false timer status e = absurd (true≢false (sym e))
-by_lines false true true false status e = absurd (true≢false (sym e))
-by_lines false true true true true e = absurd (true≢false (sym e))
+intim_lines : (s : Region) (timer status : Bool) → (are_ports_and_timer s && (timer && not status)) ≡ true → AreIntim s timer status
+intim_lines region.PortsAndTimer true false e = record { selects = refl; timer = refl; status = refl }
+intim_lines region.PortsAndTimer false status e = absurd (true≢false (sym e))
+intim_lines region.PortsAndTimer true true e = absurd (true≢false (sym e))
+intim_lines region.Cartridge timer status e = absurd (true≢false (sym e))
+intim_lines region.Ram timer status e = absurd (true≢false (sym e))
+intim_lines region.Tia timer status e = absurd (true≢false (sym e))
 
-lines_of : (addr : ℕ) → is_intim addr ≡ true → AreIntim (is_high 12 addr) (is_high 7 addr) (is_high 9 addr) (is_high 2 addr) (is_high 0 addr)
-lines_of addr = by_lines (is_high 12 addr) (is_high 7 addr) (is_high 9 addr) (is_high 2 addr) (is_high 0 addr)
+lines_of : (addr : ℕ) → is_intim addr ≡ true → AreIntim (selected addr) (is_high 2 addr) (is_high 0 addr)
+lines_of addr = intim_lines (selected addr) (is_high 2 addr) (is_high 0 addr)
 
 -- a read of INTIM shows the count
-pub intim-byte : (b : Board) (addr : ℕ) → is_intim addr ≡ true → board_byte_at b addr ≡ b.riot.timer.count
-intim-byte b addr is = let l = lines_of addr is in rw (l.top, l.chip, l.upper, l.timer, l.status) refl
-
 pub intim-riot : (r : Riot) (pins : Pins) (addr : ℕ) → is_intim addr ≡ true → byte_at addr pins r ≡ r.timer.count
-intim-riot r pins addr is = let l = lines_of addr is in rw (l.upper, l.timer, l.status) refl
+intim-riot r pins addr is = let l = lines_of addr is in rw ((lines_of_ports addr l.selects).upper, l.timer, l.status) refl
+
+pub intim-byte : (b : Board) (addr : ℕ) → is_intim addr ≡ true → board_byte_at b addr ≡ b.riot.timer.count
+intim-byte b addr is = ap (λ s. byte_of s b addr) (lines_of addr is).selects ∙ intim-riot b.riot b.pins addr is
 
 -- above 0 it changes nothing
 intim-load : (b : Board) (addr : ℕ) → is_intim addr ≡ true → IsAboveZero b.riot.timer → board_after_load b addr ≡ b
 intim-load b addr is above =
     let l = lines_of addr is in
-    rw (l.top, l.chip, l.upper, l.timer, l.status) (ap (λ (t : Timer). record b { riot = record b.riot { timer = t } }) above.1)
+    let same : riot_after_load addr b.riot ≡ record b.riot { timer = after_count_loaded b.riot.timer } = rw ((lines_of_ports addr l.selects).upper, l.timer, l.status) refl in
+    ap (λ s. loaded s b addr) l.selects ∙ ap (λ (r : Riot). record b { riot = r }) same
+    ∙ ap (λ (t : Timer). record b { riot = record b.riot { timer = t } }) above.1
 
 add-one : (i period : ℕ) → suc i * period ≡ i * period + period
 add-one i period = grind arith
@@ -74,7 +78,8 @@ same_code b c pc k same first last fits few =
     let addr = address_after pc k in
     let one : addr / 4096 % 2 ≡ 1 = omega (arith, first, last, fits, few) in
     let high : is_high 12 addr ≡ true = ap (λ n. n == 1) one in
-    rw high (ap (λ r. rom_byte r addr) same)
+    let selects : selected addr ≡ region.Cartridge = rw high refl in
+    ap (λ s. byte_of s b addr) selects ∙ ap (λ r. rom_byte r addr) same ∙ sym (ap (λ s. byte_of s c addr) selects)
 
 module _ {Seen : Type 0} (observe : List Tia → Seen → Seen) (nil : (s : Seen) → observe [] s ≡ s)
     (append : (xs ys : List Tia) (s : Seen) → observe (xs ++ ys) s ≡ observe ys (observe xs s))

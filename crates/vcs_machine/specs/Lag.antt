@@ -5,19 +5,27 @@ use Rattle.vcs_cpu.specs.Reads.{addresses_read}
 use Rattle.vcs_cpu.specs.Steps.{Step}
 use Rattle.vcs_cpu.specs.declared.regs.Regs.{Regs}
 use Rattle.vcs_cpu.specs.declared.halt.Halt.{Halt}
-use Rattle.vcs_riot.specs.Address.{is_high}
 use Rattle.vcs_riot.specs.Chip as riot
 use Rattle.vcs_tia.specs.declared.chip.Tia.{Tia}
 use Rattle.vcs_tia.specs.Tia as tia
 use Rattle.vcs_machine.specs.declared.input.Input.{Input}
+use Rattle.vcs_machine.specs.declared.address.Region.{Region}
+use Rattle.vcs_machine.specs.declared.address.Region.TheVariants as region
+use Rattle.vcs_machine.specs.Address.{selected}
 use Rattle.vcs_machine.specs.Bus.{Board, Observed, board_byte_at, nothing_seen}
 use Rattle.vcs_machine.specs.Step.{console_step}
 use Rattle.vcs_machine.specs.Frame.{is_frame_over}
 use Rattle.vcs_machine.specs.Machine.{Machine, frame_start, unless_halted, frame, frame_picture}
 
--- whether a read at an address shows a pin of a port or a fire button: with A12 low, with A7 high of the RIOT, else of the TIA
+-- whether a read shows a pin of a port or a fire button: of the RIOT or of the TIA, the cartridge shows neither
+abbrev pub shows_input_of : Region → Board → ℕ → Bool
+shows_input_of region.Cartridge b addr = false
+shows_input_of region.Ram b addr = riot.shows_pin addr b.riot
+shows_input_of region.PortsAndTimer b addr = riot.shows_pin addr b.riot
+shows_input_of region.Tia b addr = tia.shows_button addr
+
 abbrev pub shows_input : Board → ℕ → Bool
-shows_input b addr = if is_high 12 addr then false else (if is_high 7 addr then riot.shows_pin addr b.riot else tia.shows_button addr)
+shows_input b addr = shows_input_of (selected addr) b addr
 
 -- no press sets a latch, and no read of the next instruction shows a pin or a fire button
 abbrev pub ignores_input : Regs → Board → Bool

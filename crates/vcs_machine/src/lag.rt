@@ -13,6 +13,7 @@ ghost use Rattle.vcs_machine.specs.Inside.Noting.{LeadsTo};
 ghost use Rattle.vcs_machine.specs.declared.input.Input.{Input};
 ghost use Rattle.vcs_tia.specs.Tia.{clocks_passed, shows_button};
 
+use crate::address::{Region, selected};
 use crate::bus::ConsoleBus;
 use crate::cart::Cart;
 use crate::frame::{MOST_INSTRUCTIONS, console_step, is_frame_over};
@@ -22,7 +23,7 @@ use crate::observer::{Nobody, Observer};
 use crate::state::State;
 use std::alloc::Allocator;
 use vcs_cpu::{Halt, Regs, Watch, reads_watched};
-use vcs_riot::{Pins, Riot, is_high};
+use vcs_riot::{Pins, Riot};
 use vcs_tia::Tia;
 
 /// What is noted of a step.
@@ -43,12 +44,10 @@ impl<O: Observer> Watch for ConsoleBus<'_, O> {
     ghost is_watched = { λ b address. shows_input (content_of b).board address };
 
     fn is_watched(&self, address: u16) -> bool {
-        if is_high(12, address) {
-            false
-        } else if is_high(7, address) {
-            self.riot.shows_pin(address)
-        } else {
-            shows_button(address)
+        match selected(address) {
+            Region::Cartridge => false,
+            Region::Ram | Region::PortsAndTimer => self.riot.shows_pin(address),
+            Region::Tia => shows_button(address),
         }
     }
 }

@@ -2,8 +2,9 @@
 #![tactic(auto)]
 
 ghost use Rattle.std.specs.Prelude.{◌≡◌, ℕ, ◌+◌, ◌*◌, ◌%◌, ◌<◌, ◌≤◌, true};
-ghost use Rattle.vcs_machine.specs.Bus.{is_intim};
+ghost use Rattle.vcs_machine.specs.Address.{is_intim};
 
+use crate::address::{Region, selected};
 use vcs_riot::is_high;
 
 /// Whether an address is one of INTIM's.
@@ -11,11 +12,10 @@ use vcs_riot::is_high;
 pub(crate) fn is_intim(address: u16) -> bool
     ensures { result ≡ is_intim address }
 {
-    !is_high(12, address)
-        && is_high(7, address)
-        && is_high(9, address)
-        && is_high(2, address)
-        && !is_high(0, address)
+    match selected(address) {
+        Region::PortsAndTimer => is_high(2, address) && !is_high(0, address),
+        _ => false,
+    }
 }
 
 /// Whether the five bytes from an address on are the cartridge's.

@@ -2,7 +2,7 @@
 #![tactic(auto)]
 
 ghost use Rattle.std.specs.Prelude.{◌≡◌, ◌+◌, ◌-◌, ◌*◌, ◌%◌, ◌<◌, ◌≤◌, true, false};
-ghost use Rattle.vcs_machine.specs.Inside.Times.{first_time, most_time, most_added};
+ghost use Rattle.vcs_machine.specs.Inside.Times.{first_time, most_time, most_offset};
 ghost use Rattle.vcs_tia.specs.Tia.{clock_of, clocks_passed};
 
 use vcs_tia::Tia;
@@ -19,7 +19,7 @@ pub(crate) const END: u32 = 1 << 31;
 /// The time at which a frame's line 0 begins.
 const FIRST: u32 = END - MOST_FRAME_LINES * LINE_CYCLES;
 
-/// What is added to any time of a frame so that it comes to `END`.
+/// The offset that brings any time of a frame to `END`.
 pub(crate) const LATE: u32 = 1 << 30;
 
 /// The time that a TIA has come to on line 0.
@@ -52,12 +52,12 @@ pub(crate) fn after_wait(now: u32, owed: bool) -> u32
     }
 }
 
-/// What is added to the time where VSYNC has ended the frame.
+/// The offset from the time where VSYNC has ended the frame.
 #[inline(always)]
 pub(crate) fn late_where(rose: bool) -> u32
-    ensures late { rose ≡ true → result ≡ most_added }
+    ensures late { rose ≡ true → result ≡ most_offset }
     ensures none { rose ≡ false → result ≡ 0 }
-    ensures most { result ≤ most_added }
+    ensures most { result ≤ most_offset }
 {
     if rose { LATE } else { 0 }
 }

@@ -4,7 +4,8 @@ use Rattle.std.proofs.lemmas.Bool.{cases_Bool, cases_eq, cond-true, cond-false, 
 use Rattle.vcs_tia.specs.declared.beam.Beam.{Beam}
 use Rattle.vcs_tia.specs.declared.beam.Latches.{Latches}
 use Rattle.vcs_tia.specs.declared.chip.Tia.{Tia}
-use Rattle.vcs_tia.specs.Beam.{beam_after_clock, pairs_added}
+use Rattle.vcs_tia.specs.Beam.{beam_after_clock}
+use Rattle.vcs_tia.specs.Latches.{pairs_added}
 use Rattle.vcs_tia.specs.Inside.Spans.{beam_after_clocks}
 use Rattle.vcs_tia.specs.Tia.{after_clock, in_hmove_blank, latches_at, lit_at}
 use Rattle.vcs_tia.specs.Trace.{after_clocks}

@@ -1,5 +1,5 @@
 -- What names shapes of the code: invariants and private contracts need it, no reader of a promise does.
-pub mod Early
+pub mod ConditionalWrite
 pub mod Rows
 pub mod RowsBack
 pub mod Spans

@@ -8,7 +8,7 @@ use Rattle.vcs_machine.specs.declared.bus.ConsoleBus.{ConsoleBus}
 module _ {O : Type 0} {observer : Ghosts O} where
   -- the processor's time
   abbrev pub now_of : ConsoleBus O observer → ℕ
-  now_of b = b.count - b.added
+  now_of b = b.count - b.offset
 
   -- CPU cycles that have yet to pass on the RIOT
   abbrev pub ticks_of : ConsoleBus O observer → ℕ

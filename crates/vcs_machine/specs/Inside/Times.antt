@@ -9,9 +9,9 @@ end_time = 2 ^ 31
 abbrev pub first_time : ℕ
 first_time = end_time - 320 * 76
 
--- what is added to a time for the bus to settle is at most this
-abbrev pub most_added : ℕ
-most_added = 2 ^ 30
+-- the offset of the bus's count from its time is at most this
+abbrev pub most_offset : ℕ
+most_offset = 2 ^ 30
 
 -- a time of the bus is below this one, at which line 400 would begin
 abbrev pub most_time : ℕ

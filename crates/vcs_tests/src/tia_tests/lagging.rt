@@ -49,7 +49,7 @@ impl Lagging {
 
     /// A write; the clocks pass first where it may be seen.
     fn write(&mut self, number: u16, value: u8, picture: &mut Picture) {
-        if !self.tia.write_early(number, value, self.draws) {
+        if !self.tia.write_if_unseen(number, value, self.draws) {
             self.catch_up(picture);
             self.tia.write(number, value);
         }

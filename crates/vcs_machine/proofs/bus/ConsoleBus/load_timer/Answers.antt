@@ -1,9 +1,9 @@
 use Rattle.std.proofs.Common.{◌∙◌, ap, sym}
 use Rattle.vcs_riot.specs.Timer.{after_ticks}
 use Rattle.vcs_riot.specs.Chip.{byte_at, riot_after_load, riot_after_ticks}
-use Rattle.vcs_machine.specs.Bus.{Observed}
+use Rattle.vcs_machine.specs.Bus.{Observed, byte_of}
 use Rattle.vcs_machine.specs.Inside.Chips.{after_riot_load}
-use Rattle.vcs_machine.specs.Inside.Console.{ticks_of, clocks_of}
+use Rattle.vcs_machine.specs.Inside.Console.{content_of, ticks_of, clocks_of}
 use Rattle.vcs_machine.proofs.Lagging.{lagging-no_ticks}
 use Rattle.vcs_machine.proofs.bus.ConsoleBus.load_timer.Goals as goal
 
@@ -11,9 +11,10 @@ pub returns-clause-value : goal.returns-clause-value
 unfolding after_ticks
 returns-clause-value g c =
     let b = c.catch_up_riot.new.self in
-    rw (c.requires.cartridge, c.requires.riot) (c.load.ensures.value
+    c.load.ensures.value
     ∙ ap (λ n. byte_at c.args.address b.pins (riot_after_ticks n b.riot.now)) (sym c.catch_up_riot.ensures.ticks)
-    ∙ ap (λ (o : Observed g.O.Observer.Seen). byte_at c.args.address o.board.pins o.board.riot) c.catch_up_riot.ensures.content)
+    ∙ ap (λ (o : Observed g.O.Observer.Seen). byte_at c.args.address o.board.pins o.board.riot) c.catch_up_riot.ensures.content
+    ∙ sym (ap (λ s. byte_of s (content_of c.args.self.now).board c.args.address) c.requires)
 
 pub returns-clause-content : goal.returns-clause-content
 returns-clause-content g c =

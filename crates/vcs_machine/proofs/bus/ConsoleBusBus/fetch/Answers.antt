@@ -1,6 +1,8 @@
 use Rattle.std.proofs.Common.{◌≡◌, ℕ, ◌+◌, ◌%◌, ◌<◌, ◌∙◌, length, slice_index, ap, sym, refl, arith}
 use Rattle.vcs_machine.specs.Inside.Console.{content_of}
-use Rattle.vcs_machine.proofs.Fetching.{shown-rom, shown-ram, is_ram_beside}
+use Rattle.vcs_machine.specs.Address.{selected}
+use Rattle.vcs_machine.proofs.Selecting.{ram_selected}
+use Rattle.vcs_machine.proofs.Fetching.{shown-rom, shown-ram, ram_beside}
 use Rattle.vcs_machine.proofs.Sizes.{code_shows, code_high, most_bytes}
 use Rattle.vcs_machine.proofs.bus.ConsoleBusBus.fetch.Goals as goal
 
@@ -32,10 +34,10 @@ returns-then-cell-lt125 g c =
     let board = (content_of c.args.self.now).board in
     let fits : pc < 65536 = omega (arith, c.ranges.pc.fits) in
     let few = c.if-cell-lt125.true in
-    let here = sym c.is_ram.ensures ∙ c.if-is_ram.true in
+    let here = ram_selected (selected pc) (sym c.is_ram.ensures ∙ c.if-is_ram.true) in
     let same = λ (k : ℕ). ap (λ bytes. slice_index bytes k) c.ram.ensures in
     record {
       opcode = c.code_at-then-cell-lt125.ensures.first ∙ same cell ∙ shown-ram board pc cell here refl;
-      low = c.code_at-then-cell-lt125.ensures.second ∙ same (cell + 1) ∙ shown-ram board ((pc + 1) % 65536) (cell + 1) (is_ram_beside pc 1 here few (omega arith) fits) (omega (arith, few));
-      high = c.code_at-then-cell-lt125.ensures.third ∙ same (cell + 2) ∙ shown-ram board ((pc + 2) % 65536) (cell + 2) (is_ram_beside pc 2 here few (omega arith) fits) (omega (arith, few));
+      low = c.code_at-then-cell-lt125.ensures.second ∙ same (cell + 1) ∙ shown-ram board ((pc + 1) % 65536) (cell + 1) (ram_beside pc 1 here few (omega arith) fits) (omega (arith, few));
+      high = c.code_at-then-cell-lt125.ensures.third ∙ same (cell + 2) ∙ shown-ram board ((pc + 2) % 65536) (cell + 2) (ram_beside pc 2 here few (omega arith) fits) (omega (arith, few));
     }

@@ -87,5 +87,5 @@ returns-clause-ready g c =
     let b = c.catch_up_riot.new.self in
     let cycles = c.polls_within-polls.result * (4 + c.args.poll.branch) in
     let fit = c.polls_within-polls.ensures.fit in
-    let behind = clocks_passed-after_clocks (3 * (b.count + cycles - b.added - b.tia_at)) b.tia.now in
+    let behind = clocks_passed-after_clocks (3 * (b.count + cycles - b.offset - b.tia_at)) b.tia.now in
     (omega (arith, behind, fit, b.beam, b.tia_past, c.if-self-ge-END.false), λ n few. omega (arith, behind, fit, b.beam, b.tia_past, c.if-self-ge-END.false, few))

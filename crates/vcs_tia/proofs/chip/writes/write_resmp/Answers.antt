@@ -1,6 +1,6 @@
 use Rattle.std.proofs.Common.{arith}
 use Rattle.std.proofs.lemmas.Grind.{common_steps}
-use Rattle.vcs_tia.proofs.chip.Tia.write_nusiz1.Goals as goal
+use Rattle.vcs_tia.proofs.chip.writes.write_resmp.Goals as goal
 
 pub returns : goal.returns
 returns c = grind (arith, common_steps)

@@ -1,4 +1,4 @@
--- Changes that are left out while clocks are still to pass and something shown would change.
+-- Writes that are skipped while clocks are pending, where something that is shown would change.
 use Rattle.std.specs.Prelude.{◌≡◌, ℕ, Bool, true, false}
 use Rattle.vcs_tia.specs.declared.objects.Missile.{Missile}
 use Rattle.vcs_tia.specs.declared.objects.Player.{Player}
@@ -7,12 +7,12 @@ use Rattle.vcs_tia.specs.declared.chip.Tia.{Tia}
 use Rattle.vcs_tia.specs.Units.{has_bit, copies_of, width_of}
 use Rattle.vcs_tia.specs.Objects.{shown_graphics}
 
--- a change is made or left out: always made where it isn't early, and early only where `Unseen` holds
-pub record IsTry {A : Type 0} (early made : Bool) (Unseen : Type 0) (old new asked : A) : Type 0 where
-  pub done : made ≡ true → new ≡ asked
-  pub left : made ≡ false → new ≡ old
-  pub late : early ≡ false → made ≡ true
-  pub unseen : early ≡ true → made ≡ true → Unseen
+-- a write is done or skipped: done where no clocks are pending, and with clocks pending only where `Unseen` holds
+pub record IsConditionalWrite {A : Type 0} (pending done : Bool) (Unseen : Type 0) (old new asked : A) : Type 0 where
+  pub written : done ≡ true → new ≡ asked
+  pub skipped : done ≡ false → new ≡ old
+  pub always : pending ≡ false → done ≡ true
+  pub unseen : pending ≡ true → done ≡ true → Unseen
 
 -- what decides on which pixels the playfield is lit
 abbrev pub lit_playfield : Playfield → Playfield
