@@ -164,7 +164,7 @@ pub enum ShotError {
 }
 
 /// The machine after some frames.
-#[derive(Clone, Copy, Debug)]
+#[derive(Clone, Copy)]
 pub struct Reached {
     /// How many edits the history has.
     pub at: u64,

@@ -1,9 +1,9 @@
 //! Words of `tas desk`, and others.
 
-use crate::checks::check_same;
 use crate::programs::{ONE_FRAME, words_of};
+use crate::tasks::check_task;
 use crate::word_tests::check_begins;
-use tas_program::{Pair, Pairs, Task, read_words};
+use tas_program::{Pair, Pairs, Task};
 
 const FIRST_PAIR: Pair<'static> = Pair {
     input: "c",
@@ -90,13 +90,12 @@ fn one_to_eight_pairs_are_a_desk(rt: HostRuntime) {
     let alloc = rt.alloc();
     for (number, (words, pairs)) in DESKS.iter().enumerate() {
         let words = words_of(&rt, alloc, words);
-        let read = read_words(alloc, words.as_slice()).ok();
         let task = Task::Desk {
             cart: "a.bin",
             movie: "b",
             pairs: *pairs,
         };
-        check_same(&rt, ("words", number), read, Some(task));
+        check_task(&rt, alloc, number, words.as_slice(), task);
     }
 }
 

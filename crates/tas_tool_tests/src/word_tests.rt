@@ -3,12 +3,13 @@
 use crate::checks::{check_same, check_that};
 use crate::movies::{PLAYFIELD, image_of};
 use crate::programs::{ONE_FRAME, check_run, check_unread, only_game, run, words_of};
+use crate::tasks::check_task;
 use std::alloc::Global;
 use std::io::ErrorKind;
 use std::process::Abort;
 use std::sync::Wait;
 use std::thread::Threads;
-use tas_program::{MovieFiles, Start, Task, read_words};
+use tas_program::{MovieFiles, Start, Task};
 
 /// The files of a movie.
 const A_AND_B: MovieFiles<'static> = MovieFiles {
@@ -212,8 +213,7 @@ fn each_command_is_its_task(rt: HostRuntime) {
     let alloc = rt.alloc();
     for (number, (words, task)) in TASKS.iter().enumerate() {
         let words = words_of(&rt, alloc, words);
-        let read = read_words(alloc, words.as_slice()).ok();
-        check_same(&rt, ("words", number), read, Some(*task));
+        check_task(&rt, alloc, number, words.as_slice(), *task);
     }
 }
 

@@ -11,7 +11,7 @@ use std::env::Args;
 use std::io;
 
 /// What the words on the command line ask for.
-#[derive(Debug, Drop)]
+#[derive(Drop)]
 pub enum Request<'a, A: Allocator = Global> {
     /// A command.
     Do(Task<'a>),

@@ -18,7 +18,7 @@ pub const USUAL_EVERY: u32 = 600;
 pub const MAX_WORKERS: u32 = tas_film::MAX_WORKERS as u32;
 
 /// The names of a movie's two files.
-#[derive(Clone, Copy, Debug, PartialEq, Eq)]
+#[derive(Clone, Copy)]
 pub struct MovieFiles<'a> {
     /// The name of the cartridge's file.
     pub cart: &'a str,
@@ -27,7 +27,7 @@ pub struct MovieFiles<'a> {
 }
 
 /// What a conversation starts from.
-#[derive(Clone, Copy, Debug, PartialEq, Eq)]
+#[derive(Clone, Copy)]
 pub enum Start<'a> {
     /// A blank cartridge with no frames.
     Blank,
@@ -41,7 +41,7 @@ pub enum Start<'a> {
 }
 
 /// The names of the two files of one of a desk's conversations.
-#[derive(Clone, Copy, Debug, PartialEq, Eq)]
+#[derive(Clone, Copy)]
 pub struct Pair<'a> {
     /// The name of the file that its lines are read from.
     pub input: &'a str,
@@ -50,7 +50,7 @@ pub struct Pair<'a> {
 }
 
 /// One to eight pairs, in order.
-#[derive(Clone, Copy, Debug, PartialEq, Eq)]
+#[derive(Clone, Copy)]
 pub struct Pairs<'a> {
     /// The first pair.
     pub first: Pair<'a>,
@@ -71,7 +71,7 @@ pub struct Pairs<'a> {
 }
 
 /// A command with its words.
-#[derive(Clone, Copy, Debug, PartialEq, Eq)]
+#[derive(Clone, Copy)]
 pub enum Task<'a> {
     /// Trace the first instructions of the cartridge on standard input.
     Trace {
