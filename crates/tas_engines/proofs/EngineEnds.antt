@@ -1,5 +1,5 @@
 -- How engines end.
-use Rattle.std.proofs.Common.{◌≡◌, sym, subst, ℕ, List, Option, Result, Ok, Err, refl, inr, OnOk, IfErr, MatchResult}
+use Rattle.std.proofs.Common.{◌≡◌, sym, subst, ℕ, List, Option, Result, Ok, Err, refl, inl, inr, OnOk, IfOk, IfErr, MatchResult}
 use Rattle.std.specs.Io.KnownBytes.{Appends}
 use Rattle.tas_engines.specs.declared.fault.RunFault.{RunFault}
 use Rattle.tas_engines.specs.declared.fault.ToolFault.{ToolFault}
@@ -14,6 +14,23 @@ pub ends-written : (answers : Result (List ℕ) RunFault → Type 0) (old new : 
     OnOk r (Appends old new bytes) → IfErr r (StopsWriting old new bytes) → Ends answers old new r
 ends-written answers old new bytes (Ok u) answer all stops = (bytes, answer, all)
 ends-written answers old new bytes (Err e) answer all stops = inr (record { bytes = bytes; answer = answer; stops = stops })
+
+-- what an answer says is what holds of it
+says : {T : Type 0} (answers : Result (List ℕ) RunFault → Type 0) (items : T → List ℕ) (answer : Result T RunFault) (said : Result (List ℕ) RunFault) → IfOk answer (λ t. answers (Ok (items t)))
+    → IfErr answer (λ e. answers (Err e)) → MatchResult answer (λ t. said ≡ Ok (items t)) (λ e. said ≡ Err e) → answers said
+says answers items (Ok t) said holds fails is = subst answers (sym is) holds
+says answers items (Err e) said holds fails is = subst answers (sym is) fails
+
+-- an engine that writes an answer ends as the definition of its answers has it
+pub ends-answered : {T : Type 0} (answers : Result (List ℕ) RunFault → Type 0) (answer : Result T RunFault) (items : T → List ℕ) (old new : Option (List ℕ)) (r : Result (Unit {0}) RunFault)
+    → IfOk answer (λ t. answers (Ok (items t))) → IfErr answer (λ e. answers (Err e)) → Ends (λ said. MatchResult answer (λ t. said ≡ Ok (items t)) (λ e. said ≡ Err e)) old new r → Ends answers old new r
+ends-answered answers answer items old new (Ok u) holds fails (bytes, is, all) = (bytes, says answers items answer (Ok bytes) holds fails is, all)
+ends-answered answers answer items old new (Err e) holds fails (inl kept) = inl (says answers items answer (Err e) holds fails kept.0, kept.1)
+ends-answered answers answer items old new (Err e) holds fails (inr broken) = inr (record {
+  bytes = broken.bytes;
+  answer = says answers items answer (Ok broken.bytes) holds fails broken.answer;
+  stops = broken.stops;
+})
 
 -- what a result was before `map_err`, by what its contract says of it
 pub err-of_mapped : {T E F : Type 0} (r : Result T E) (f : E → F) (error : F) → MatchResult r (λ x. Err error ≡ Ok x) (λ e. error ≡ f e) → (e : E) × (r ≡ Err e) × (error ≡ f e)

@@ -1,5 +1,5 @@
 -- What `tas compare` answers (own).
-use Rattle.std.specs.Prelude.{◌≡◌, ◌≢◌, ℕ, ◌+◌, ◌<◌, nat_lt, if◌then◌else◌, List, [], length, slice_get, ◌++◌, codes, decimal, ◌⊎◌, Bool, true, false, Option, Some, None, Result, Ok, Err}
+use Rattle.std.specs.Prelude.{◌≡◌, ◌≢◌, ℕ, ◌+◌, ◌<◌, nat_lt, if◌then◌else◌, List, [], length, slice_get, ◌++◌, codes, decimal, Bool, true, false, Option, Some, None, Result, Ok, Err}
 use Rattle.vcs_cpu.specs.declared.halt.Halt.{Halt}
 use Rattle.vcs_tia.specs.Image.{ppm_bytes}
 use Rattle.vcs_machine.specs.declared.input.Input.{Input}
@@ -9,7 +9,7 @@ use Rattle.tas_engines.specs.declared.compare.Differences.{Differences}
 use Rattle.tas_engines.specs.declared.compare.Places.{Places}
 use Rattle.tas_engines.specs.declared.fault.RunFault.{RunFault}
 use Rattle.tas_engines.specs.declared.fault.ToolFault.{ToolFault}
-use Rattle.tas_engines.specs.Movies.{IsMovieOf, IsMovieFault}
+use Rattle.tas_engines.specs.Movies.{AreMoviesOf, AreMoviesFault}
 use Rattle.tas_engines.specs.Output.{Ends}
 use Rattle.tas_engines.specs.Ram.{ram_after}
 use Rattle.tas_engines.specs.ThreeInputs.{EndsAfterThree}
@@ -76,11 +76,11 @@ abbrev pub differences_text : Differences → List ℕ
 differences_text found =
     codes "input " ++ place_text found.input ++ codes "\nram " ++ place_text found.ram ++ codes "\npicture " ++ place_text found.picture ++ codes "\n"
 
--- the lines of the two movies, or why there are none: the old text's fault comes first
+-- the lines of the two movies, or why there are none
 abbrev pub IsCompareAnswer : List ℕ → List ℕ → List ℕ → Result (List ℕ) RunFault → Type 0
 IsCompareAnswer image before after (Ok text) =
-    (old new : MovieContent) × (found : Differences) × IsMovieOf image before old × IsMovieOf image after new × AreDifferences old new found × (text ≡ differences_text found)
-IsCompareAnswer image before after (Err e) = IsMovieFault image before e ⊎ ((old : MovieContent) × IsMovieOf image before old × IsMovieFault image after e)
+    (old new : MovieContent) × (found : Differences) × AreMoviesOf image before after old new × AreDifferences old new found × (text ≡ differences_text found)
+IsCompareAnswer image before after (Err e) = AreMoviesFault image before after e
 
 -- `tas compare`, from what its readers (a cartridge, the old text and the new one) have and the writer holds before to what they
 -- have and hold afterwards

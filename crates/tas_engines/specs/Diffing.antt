@@ -1,21 +1,21 @@
 -- What `tas diff` answers (own).
-use Rattle.std.specs.Prelude.{◌≡◌, ℕ, List, ◌⊎◌, Option, Result, Ok, Err}
+use Rattle.std.specs.Prelude.{◌≡◌, ℕ, List, Option, Result, Ok, Err}
 use Rattle.std.specs.List.{flat_map}
 use Rattle.tas_movie.specs.Content.{MovieContent}
 use Rattle.tas_engines.specs.declared.fault.RunFault.{RunFault}
 use Rattle.tas_engines.specs.declared.fault.ToolFault.{ToolFault}
-use Rattle.tas_engines.specs.Movies.{IsMovieOf, IsMovieFault}
+use Rattle.tas_engines.specs.Movies.{AreMoviesOf, AreMoviesFault}
 use Rattle.tas_engines.specs.Output.{Ends}
 use Rattle.tas_engines.specs.ThreeInputs.{EndsAfterThree}
 use Rattle.tas_language.specs.declared.change.Change.{Change}
 use Rattle.tas_engines.specs.Differences.{IsDifference}
 use Rattle.tas_engines.specs.Scripts.{change_line}
 
--- the script of the changes that make the new movie of the old one; or why there is none: the old text's fault comes first
+-- the script of the changes that make the new movie of the old one, or why there is none
 abbrev pub IsDiffAnswer : List ℕ → List ℕ → List ℕ → Result (List ℕ) RunFault → Type 0
 IsDiffAnswer image before after (Ok out) =
-    (old new : MovieContent) × (changes : List Change) × IsMovieOf image before old × IsMovieOf image after new × IsDifference old.inputs new.inputs changes × (out ≡ flat_map change_line changes)
-IsDiffAnswer image before after (Err e) = IsMovieFault image before e ⊎ ((old : MovieContent) × IsMovieOf image before old × IsMovieFault image after e)
+    (old new : MovieContent) × (changes : List Change) × AreMoviesOf image before after old new × IsDifference old.inputs new.inputs changes × (out ≡ flat_map change_line changes)
+IsDiffAnswer image before after (Err e) = AreMoviesFault image before after e
 
 -- `tas diff`, from what its readers (a cartridge, the old text and the new one) have and the writer holds before to what they
 -- have and hold afterwards

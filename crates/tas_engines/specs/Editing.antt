@@ -5,7 +5,7 @@ use Rattle.tas_movie.specs.Text.{text2}
 use Rattle.tas_engines.specs.declared.fault.RunFault.{RunFault}
 use Rattle.tas_engines.specs.declared.fault.RunFault.TheVariants.{Script, Place, Long, Memory as OutOfMemory}
 use Rattle.tas_engines.specs.declared.fault.ToolFault.{ToolFault}
-use Rattle.tas_engines.specs.Movies.{IsMovieOf, IsMovieFault}
+use Rattle.tas_engines.specs.Movies.{IsMovieOf, IsMovieFault, AreMoviesOf, AreMoviesFault}
 use Rattle.tas_engines.specs.Output.{Ends}
 use Rattle.tas_engines.specs.ThreeInputs.{EndsAfterThree, EndsAfterFour}
 use Rattle.tas_engines.specs.declared.scripts.ScriptFault.{ScriptFault}
@@ -28,21 +28,17 @@ IsScriptAnswer other old script (Err e) =
     ⊎ ((new : MovieContent) × MakesAll other old script new (Ok tt) × (e ≡ OutOfMemory))
 
 -- the same of the movie whose cartridge and text these are, or why there is no movie, which comes before the script
-abbrev pub IsAnswerBeside : Option MovieContent → List ℕ → List ℕ → List ℕ → Result (List ℕ) RunFault → Type 0
-IsAnswerBeside other image script bytes (Ok out) = (old : MovieContent) × IsMovieOf image bytes old × IsScriptAnswer other old script (Ok out)
-IsAnswerBeside other image script bytes (Err e) =
-    IsMovieFault image bytes e ⊎ ((old : MovieContent) × IsMovieOf image bytes old × IsScriptAnswer other old script (Err e))
-
--- without a second movie
 abbrev pub IsEditAnswer : List ℕ → List ℕ → List ℕ → Result (List ℕ) RunFault → Type 0
-IsEditAnswer image script bytes answer = IsAnswerBeside None image script bytes answer
+IsEditAnswer image script bytes (Ok out) = (old : MovieContent) × IsMovieOf image bytes old × IsScriptAnswer None old script (Ok out)
+IsEditAnswer image script bytes (Err e) =
+    IsMovieFault image bytes e ⊎ ((old : MovieContent) × IsMovieOf image bytes old × IsScriptAnswer None old script (Err e))
 
--- with a second movie of the same cartridge, by its text; or why there is none, which comes before the first movie's text
+-- with a second movie of the same cartridge, whose text's fault comes before the first movie's
 abbrev pub IsEditWithAnswer : List ℕ → List ℕ → List ℕ → List ℕ → Result (List ℕ) RunFault → Type 0
 IsEditWithAnswer image script more bytes (Ok out) =
-    (other : MovieContent) × IsMovieOf image more other × IsAnswerBeside (Some other) image script bytes (Ok out)
+    (other old : MovieContent) × AreMoviesOf image more bytes other old × IsScriptAnswer (Some other) old script (Ok out)
 IsEditWithAnswer image script more bytes (Err e) =
-    IsMovieFault image more e ⊎ ((other : MovieContent) × IsMovieOf image more other × IsAnswerBeside (Some other) image script bytes (Err e))
+    AreMoviesFault image more bytes e ⊎ ((other old : MovieContent) × AreMoviesOf image more bytes other old × IsScriptAnswer (Some other) old script (Err e))
 
 -- `tas edit`, from what its readers (a cartridge, a script and a movie text) have and the writer holds before to what they
 -- have and hold afterwards

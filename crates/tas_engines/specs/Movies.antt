@@ -1,5 +1,5 @@
 -- The movie of a cartridge and a text, and engines of these two inputs (own).
-use Rattle.std.specs.Prelude.{◌≡◌, ℕ, ◌≤◌, true, false, List, length, Option, Some, Result}
+use Rattle.std.specs.Prelude.{◌≡◌, ℕ, ◌≤◌, true, false, List, length, ◌⊎◌, Option, Some, Result}
 use Rattle.vcs_machine.specs.Cart.{is_cart_size}
 use Rattle.tas_movie.specs.Content.{MovieContent, most_inputs}
 use Rattle.tas_movie.specs.Text.{IsText}
@@ -24,6 +24,15 @@ IsMovieFault image bytes (Size n) = (n ≡ length image) × (is_cart_size n ≡ 
 IsMovieFault image bytes (Text e) = (is_cart_size (length image) ≡ true) × (fault bytes image ≡ Some e)
 IsMovieFault image bytes Memory = is_cart_size (length image) ≡ true
 IsMovieFault image bytes _ = ⊥
+
+-- the two movies of one cartridge of which these are texts
+pub record AreMoviesOf (image text text' : List ℕ) (movie movie' : MovieContent) : Type 0 where
+  pub first : IsMovieOf image text movie
+  pub second : IsMovieOf image text' movie'
+
+-- why there are no two such movies: the first text's fault comes before the second one's
+abbrev pub AreMoviesFault : List ℕ → List ℕ → List ℕ → RunFault → Type 0
+AreMoviesFault image text text' e = IsMovieFault image text e ⊎ ((movie : MovieContent) × IsMovieOf image text movie × IsMovieFault image text' e)
 
 -- an engine of a cartridge and a movie text, read in this order: from what the readers have and the writer holds before to what
 -- they have and hold afterwards

@@ -279,6 +279,22 @@ fn longest_chain<A: Allocator + Copy>(
     chain_of(alloc, &links, &ends)
 }
 
+/// The longest chain of pairs, where marks of four and of sixteen runs are paired, too. `old` and `new` mark one run each.
+fn chain_of_stretches<A: Allocator + Copy>(
+    alloc: A,
+    old: &mut [Mark],
+    new: &mut [Mark],
+) -> Result<Vec<Anchor, A>, AllocError> {
+    for runs in [1, 4] {
+        double(old, runs);
+        double(old, 2 * runs);
+        double(new, runs);
+        double(new, 2 * runs);
+        pair(alloc, old, new)?;
+    }
+    longest_chain(alloc, new)
+}
+
 /// Anchors, from the last to the first: places where a stretch of one, four or sixteen runs begins that occurs once in
 /// each list. They are the longest chain of such pairs that goes forward in both lists. Takes time in proportion to the
 /// lists' lengths, but for the search of the chain: n anchors take n log n steps.
@@ -290,14 +306,7 @@ pub(crate) fn find_anchors<A: Allocator + Copy>(
     let mut olds = marks_of(alloc, old)?;
     let mut news = marks_of(alloc, new)?;
     pair(alloc, &olds, &mut news)?;
-    for runs in [1, 4] {
-        double(&mut olds, runs);
-        double(&mut olds, 2 * runs);
-        double(&mut news, runs);
-        double(&mut news, 2 * runs);
-        pair(alloc, &olds, &mut news)?;
-    }
-    longest_chain(alloc, &news)
+    chain_of_stretches(alloc, &mut olds, &mut news)
 }
 
 /// Anchors in two lists of runs, from the last to the first: the longest chain of places where four or sixteen runs begin
@@ -309,14 +318,7 @@ pub(crate) fn find_run_anchors<A: Allocator + Copy>(
 ) -> Result<Vec<Anchor, A>, AllocError> {
     let mut olds = run_marks(alloc, old)?;
     let mut news = run_marks(alloc, new)?;
-    for runs in [1, 4] {
-        double(&mut olds, runs);
-        double(&mut olds, 2 * runs);
-        double(&mut news, runs);
-        double(&mut news, 2 * runs);
-        pair(alloc, &olds, &mut news)?;
-    }
-    longest_chain(alloc, &news)
+    chain_of_stretches(alloc, &mut olds, &mut news)
 }
 
 /// The first anchor at `from` or after it, as places from there on: beyond all of them where there is none. `anchors` go

@@ -3,7 +3,6 @@
 ghost use Rattle.std.specs.Prelude.{◌≡◌, ◌≢◌, ◌+◌, ◌≤◌, ◌<◌, ◌++◌, length, codes, IsTrue, None, Ok, Err, IfOk, IfErr, OnOk};
 ghost use Rattle.tas_green.specs.Run.{state_after};
 ghost use Rattle.tas_movie.specs.Front.{IsCommonFront};
-ghost use Rattle.tas_engines.specs.Output.{Ends};
 ghost use Rattle.tas_engines.specs.Comparing.{
   pixmap_of,
   first_of,
@@ -15,8 +14,10 @@ ghost use Rattle.tas_engines.specs.Comparing.{
   IsCompareRun,
 };
 
+use crate::movies::movies_of;
 use crate::passing::{draw_frame, fill_pixmap, pass_frames};
-use crate::{RunFault, ToolFault, movie_of, read_three, write_all};
+use crate::writing::write_answer;
+use crate::{RunFault, ToolFault, read_three};
 use itoa::Buffer;
 use std::alloc::{AllocError, Allocator};
 use std::io::{Read, Write};
@@ -216,25 +217,9 @@ fn compare_answer<A: Allocator + Copy>(
     ensures fault { IfErr result
         (λ fault. IsCompareAnswer image.now before.now after.now (Err fault)) }
 {
-    let old = movie_of(alloc, image, before)?;
-    let new = movie_of(alloc, image, after)?;
+    let (old, new) = movies_of(alloc, image, before, after)?;
     let found = find_differences(alloc, &old, &new)?;
     Ok(differences_text(alloc, found)?)
-}
-
-/// Writes the lines of the two movies with this cartridge whose texts these are.
-fn write_comparison<A: Allocator + Copy, W: Write>(
-    alloc: A,
-    image: &[u8],
-    before: &[u8],
-    after: &[u8],
-    output: &mut W,
-) -> Result<(), RunFault>
-    ensures { Ends (IsCompareAnswer image.now before.now after.now) (W.contents output.old)
-        (W.contents output.new) result }
-{
-    let text = compare_answer(alloc, image, before, after)?;
-    write_all(output, text.as_slice())
 }
 
 /// Reads a cartridge and the texts of two movies with it, the old one and the new one, and writes the first frames at which
@@ -257,11 +242,6 @@ pub fn compare_run<A: Allocator + Copy, C: Read, S: Read, R: Read, W: Write>(
         (W.contents output.old) (W.contents output.new) result }
 {
     let read = read_three(alloc, cart, before, input)?;
-    Ok(write_comparison(
-        alloc,
-        read.first.as_slice(),
-        read.second.as_slice(),
-        read.third.as_slice(),
-        output,
-    )?)
+    let answer = compare_answer(alloc, &read.first, &read.second, &read.third);
+    Ok(write_answer(output, answer)?)
 }

@@ -1,10 +1,10 @@
 //! `tas cut`.
 
 ghost use Rattle.std.specs.Prelude.{◌≡◌, Ok, Err, IfOk, IfErr};
-ghost use Rattle.tas_engines.specs.Output.{Ends};
 ghost use Rattle.tas_engines.specs.Cutting.{cut_out, IsCutRange, IsCutFault, IsCutAnswer, IsCutRun};
 
-use crate::{RunFault, ToolFault, movie_of, read_two, write_all};
+use crate::writing::write_answer;
+use crate::{RunFault, ToolFault, movie_of, read_two};
 use std::alloc::Allocator;
 use std::io::{Read, Write};
 use tas_movie::{Edit, Movie, apply, print_text};
@@ -45,22 +45,6 @@ fn cut_text<A: Allocator + Copy>(
     Ok(print_text(alloc, &movie)?)
 }
 
-/// Writes the text of the movie of some frames.
-fn write_cut<A: Allocator + Copy, W: Write>(
-    alloc: A,
-    from: usize,
-    to: usize,
-    image: &[u8],
-    bytes: &[u8],
-    output: &mut W,
-) -> Result<(), RunFault>
-    ensures { Ends (IsCutAnswer from to image.now bytes.now) (W.contents output.old)
-        (W.contents output.new) result }
-{
-    let text = cut_text(alloc, from, to, image, bytes)?;
-    write_all(output, text.as_slice())
-}
-
 /// Reads a cartridge and a movie text, and writes the text of the movie of the frames `from` to `to` - 1 alone, counted from
 /// 0.
 ///
@@ -79,5 +63,6 @@ pub fn cut_run<A: Allocator + Copy, C: Read, R: Read, W: Write>(
         (R.remaining input.new) (W.contents output.old) (W.contents output.new) result }
 {
     let (image, bytes) = read_two(alloc, cart, input)?;
-    Ok(write_cut(alloc, from, to, image.as_slice(), bytes.as_slice(), output)?)
+    let answer = cut_text(alloc, from, to, &image, &bytes);
+    Ok(write_answer(output, answer)?)
 }

@@ -2,13 +2,14 @@
 
 ghost use Rattle.std.specs.Prelude.{◌≡◌, List, Ok, Err, IfOk, IfErr};
 ghost use Rattle.std.specs.List.{flat_map};
-ghost use Rattle.tas_engines.specs.Output.{Ends};
 ghost use Rattle.tas_language.specs.declared.change.Change.{Change};
 ghost use Rattle.tas_engines.specs.Differences.{IsDifference};
 ghost use Rattle.tas_engines.specs.Scripts.{change_line};
 ghost use Rattle.tas_engines.specs.Diffing.{IsDiffAnswer, IsDiffRun};
 
-use crate::{RunFault, ToolFault, changes_between, movie_of, print_changes, read_three, write_all};
+use crate::movies::movies_of;
+use crate::writing::write_answer;
+use crate::{RunFault, ToolFault, changes_between, print_changes, read_three};
 use std::alloc::{AllocError, Allocator};
 use std::io::{Read, Write};
 use tas_movie::Movie;
@@ -39,24 +40,8 @@ fn difference_text<A: Allocator + Copy>(
     ensures fault { IfErr result
         (λ fault. IsDiffAnswer image.now before.now after.now (Err fault)) }
 {
-    let old = movie_of(alloc, image, before)?;
-    let new = movie_of(alloc, image, after)?;
+    let (old, new) = movies_of(alloc, image, before, after)?;
     Ok(script_between(alloc, &old, &new)?)
-}
-
-/// Writes the script that makes one movie of another, both with this cartridge.
-fn write_difference<A: Allocator + Copy, W: Write>(
-    alloc: A,
-    image: &[u8],
-    before: &[u8],
-    after: &[u8],
-    output: &mut W,
-) -> Result<(), RunFault>
-    ensures { Ends (IsDiffAnswer image.now before.now after.now) (W.contents output.old)
-        (W.contents output.new) result }
-{
-    let text = difference_text(alloc, image, before, after)?;
-    write_all(output, text.as_slice())
 }
 
 /// Reads a cartridge and the texts of two movies with it, the old one and the new one, and writes the
@@ -77,11 +62,6 @@ pub fn diff_run<A: Allocator + Copy, C: Read, S: Read, R: Read, W: Write>(
         (W.contents output.old) (W.contents output.new) result }
 {
     let read = read_three(alloc, cart, before, input)?;
-    Ok(write_difference(
-        alloc,
-        read.first.as_slice(),
-        read.second.as_slice(),
-        read.third.as_slice(),
-        output,
-    )?)
+    let answer = difference_text(alloc, &read.first, &read.second, &read.third);
+    Ok(write_answer(output, answer)?)
 }

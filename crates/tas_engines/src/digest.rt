@@ -7,7 +7,6 @@ ghost use Rattle.hex.specs.Hex.{encode_lower};
 ghost use Rattle.sha2.specs.Hashers.{Holds256};
 ghost use Rattle.vcs_tia.specs.Image.{ppm_bytes};
 ghost use Rattle.tas_green.specs.Run.{state_after, picture_of, answer_of};
-ghost use Rattle.tas_engines.specs.Output.{Ends};
 ghost use Rattle.tas_engines.specs.Digests.{
   digest_of,
   ram_of_frames,
@@ -24,7 +23,8 @@ ghost use Rattle.tas_engines.specs.Digests.{
 };
 
 use crate::passing::{draw_frame, fill_pixmap, pass_frame};
-use crate::{RunFault, ToolFault, halt_fault, movie_of, read_two, write_all};
+use crate::writing::write_answer;
+use crate::{RunFault, ToolFault, halt_fault, movie_of, read_two};
 use itoa::Buffer;
 use sha2::{Digest, Sha256};
 use std::alloc::{AllocError, Allocator};
@@ -277,22 +277,6 @@ fn digest_answer<A: Allocator + Copy>(
     digest_movie(alloc, every, &movie)
 }
 
-/// Writes the digest of the movie whose cartridge and text these are.
-fn write_digest<A: Allocator + Copy, W: Write>(
-    alloc: A,
-    every: usize,
-    image: &[u8],
-    bytes: &[u8],
-    output: &mut W,
-) -> Result<(), RunFault>
-    requires { 1 ≤ every }
-    ensures { Ends (IsDigestAnswer every image.now bytes.now) (W.contents output.old)
-        (W.contents output.new) result }
-{
-    let text = digest_answer(alloc, every, image, bytes)?;
-    write_all(output, text.as_slice())
-}
-
 /// Reads a cartridge and a movie text, plays the movie once, and writes its digest in stretches of `every` frames:
 /// SHA-256 digests of the cartridge, of the movie's text of runs, of RAM after each frame of a stretch and of the pixmap
 /// of its last frame.
@@ -312,5 +296,6 @@ pub fn digest_run<A: Allocator + Copy, C: Read, R: Read, W: Write>(
         (W.contents output.new) result }
 {
     let (image, bytes) = read_two(alloc, cart, input)?;
-    Ok(write_digest(alloc, every, image.as_slice(), bytes.as_slice(), output)?)
+    let answer = digest_answer(alloc, every, &image, &bytes);
+    Ok(write_answer(output, answer)?)
 }

@@ -1,20 +1,18 @@
 //! `tas edit`.
 
 ghost use Rattle.std.specs.Prelude.{◌≡◌, Ok, Err, IfOk, IfErr};
-ghost use Rattle.tas_engines.specs.Output.{Ends};
 ghost use Rattle.tas_engines.specs.Editing.{
   script_fault,
   IsScriptAnswer,
-  IsAnswerBeside,
   IsEditAnswer,
   IsEditRun,
   IsEditWithAnswer,
   IsEditWithRun,
 };
 
-use crate::{
-    RunFault, ScriptFault, ToolFault, edit_movie, movie_of, read_four, read_three, write_all,
-};
+use crate::movies::movies_of;
+use crate::writing::write_answer;
+use crate::{RunFault, ScriptFault, ToolFault, edit_movie, movie_of, read_input, read_three};
 use std::alloc::Allocator;
 use std::io::{Read, Write};
 use tas_movie::{Movie, print_text};
@@ -51,33 +49,17 @@ fn text_made<A: Allocator + Copy>(
 /// The text of the movie that a script makes of the one whose cartridge and text these are, or why there is none.
 fn edited_text<A: Allocator + Copy>(
     alloc: A,
-    other: &Option<Movie<A>>,
     image: &[u8],
     script: &[u8],
     bytes: &[u8],
 ) -> Result<Vec<u8, A>, RunFault>
     ensures text { IfOk result
-        (λ text. IsAnswerBeside other.now image.now script.now bytes.now (Ok text.items)) }
+        (λ text. IsEditAnswer image.now script.now bytes.now (Ok text.items)) }
     ensures fault { IfErr result
-        (λ fault. IsAnswerBeside other.now image.now script.now bytes.now (Err fault)) }
+        (λ fault. IsEditAnswer image.now script.now bytes.now (Err fault)) }
 {
     let mut movie = movie_of(alloc, image, bytes)?;
-    text_made(alloc, &mut movie, other, script)
-}
-
-/// Writes the text of the movie that a script makes of the one whose cartridge and text these are.
-fn write_edited<A: Allocator + Copy, W: Write>(
-    alloc: A,
-    image: &[u8],
-    script: &[u8],
-    bytes: &[u8],
-    output: &mut W,
-) -> Result<(), RunFault>
-    ensures { Ends (IsEditAnswer image.now script.now bytes.now) (W.contents output.old)
-        (W.contents output.new) result }
-{
-    let text = edited_text(alloc, &None, image, script, bytes)?;
-    write_all(output, text.as_slice())
+    text_made(alloc, &mut movie, &None, script)
 }
 
 /// The same with a second movie, by its text.
@@ -93,24 +75,8 @@ fn edited_text_with<A: Allocator + Copy>(
     ensures fault { IfErr result
         (λ fault. IsEditWithAnswer image.now script.now more.now bytes.now (Err fault)) }
 {
-    let other = Some(movie_of(alloc, image, more)?);
-    edited_text(alloc, &other, image, script, bytes)
-}
-
-/// Writes the text of the movie that a script makes of the one whose cartridge and text these are, with a second movie.
-fn write_edited_with<A: Allocator + Copy, W: Write>(
-    alloc: A,
-    image: &[u8],
-    script: &[u8],
-    more: &[u8],
-    bytes: &[u8],
-    output: &mut W,
-) -> Result<(), RunFault>
-    ensures { Ends (IsEditWithAnswer image.now script.now more.now bytes.now)
-        (W.contents output.old) (W.contents output.new) result }
-{
-    let text = edited_text_with(alloc, image, script, more, bytes)?;
-    write_all(output, text.as_slice())
+    let (other, mut movie) = movies_of(alloc, image, more, bytes)?;
+    text_made(alloc, &mut movie, &Some(other), script)
 }
 
 /// Reads a cartridge, a script of changes and a movie text, and writes the text of the movie that the
@@ -132,13 +98,8 @@ pub fn edit_run<A: Allocator + Copy, C: Read, S: Read, R: Read, W: Write>(
         (W.contents output.old) (W.contents output.new) result }
 {
     let read = read_three(alloc, cart, script, input)?;
-    Ok(write_edited(
-        alloc,
-        read.first.as_slice(),
-        read.second.as_slice(),
-        read.third.as_slice(),
-        output,
-    )?)
+    let answer = edited_text(alloc, &read.first, &read.second, &read.third);
+    Ok(write_answer(output, answer)?)
 }
 
 /// Reads a cartridge, a script and the texts of two movies with it, the second movie's before the first one's, and writes the
@@ -160,13 +121,8 @@ pub fn edit_with_run<A: Allocator + Copy, C: Read, S: Read, O: Read, R: Read, W:
         (R.remaining input.old) (R.remaining input.new) (W.contents output.old)
         (W.contents output.new) result }
 {
-    let read = read_four(alloc, cart, script, other, input)?;
-    Ok(write_edited_with(
-        alloc,
-        read.first.as_slice(),
-        read.second.as_slice(),
-        read.third.as_slice(),
-        read.fourth.as_slice(),
-        output,
-    )?)
+    let image = read_input(alloc, cart)?;
+    let read = read_three(alloc, script, other, input)?;
+    let answer = edited_text_with(alloc, &image, &read.first, &read.second, &read.third);
+    Ok(write_answer(output, answer)?)
 }

@@ -2,11 +2,11 @@
 
 ghost use Rattle.std.specs.Prelude.{◌≡◌, ◌+◌, ◌^◌, ◌<◌, ◌≤◌, [], ◌++◌, if◌then◌else◌, Ok, Err, length, OnOk, IfOk, IfErr};
 ghost use Rattle.tas_green.specs.Run.{state_after};
-ghost use Rattle.tas_engines.specs.Output.{Ends};
 ghost use Rattle.tas_engines.specs.Lag.{is_lag, lag_lines, lag_lines_between, stretch_or_none, LagFramesIgnoreInput, IsLagAnswer, IsLagRun};
 
 use crate::digest::push_number;
-use crate::{RunFault, ToolFault, movie_of, read_two, write_all};
+use crate::writing::write_answer;
+use crate::{RunFault, ToolFault, movie_of, read_two};
 use std::alloc::{AllocError, Allocator};
 use std::io::{Read, Write};
 use tas_movie::Movie;
@@ -109,20 +109,6 @@ fn lag_answer<A: Allocator + Copy>(
     Ok(lag_text(alloc, &movie)?)
 }
 
-/// Writes the lines of the lag frames of the movie whose cartridge and text these are.
-fn show_lag<A: Allocator + Copy, W: Write>(
-    alloc: A,
-    image: &[u8],
-    bytes: &[u8],
-    output: &mut W,
-) -> Result<(), RunFault>
-    ensures { Ends (IsLagAnswer image.now bytes.now) (W.contents output.old) (W.contents output.new)
-        result }
-{
-    let text = lag_answer(alloc, image, bytes)?;
-    write_all(output, text.as_slice())
-}
-
 /// Reads a cartridge and a movie text, and writes a line `A B` for each longest stretch of lag frames, those from A to
 /// B - 1: frames that come to the same whatever their input. A halted machine reads nothing, so its frames are
 /// among them.
@@ -139,5 +125,6 @@ pub fn lag_run<A: Allocator + Copy, C: Read, R: Read, W: Write>(
         (R.remaining input.new) (W.contents output.old) (W.contents output.new) result }
 {
     let (image, bytes) = read_two(alloc, cart, input)?;
-    Ok(show_lag(alloc, image.as_slice(), bytes.as_slice(), output)?)
+    let answer = lag_answer(alloc, &image, &bytes);
+    Ok(write_answer(output, answer)?)
 }

@@ -1,11 +1,11 @@
 //! `tas migrate`.
 
 ghost use Rattle.std.specs.Prelude.{Ok, IfOk, IfErr};
-ghost use Rattle.tas_engines.specs.Output.{Ends};
 ghost use Rattle.tas_engines.specs.Movies.{IsMovieFault, IsMovieRun};
 ghost use Rattle.tas_engines.specs.Migrating.{IsMigrateAnswer};
 
-use crate::{RunFault, ToolFault, movie_of, read_two, write_all};
+use crate::writing::write_answer;
+use crate::{RunFault, ToolFault, movie_of, read_two};
 use std::alloc::Allocator;
 use std::io::{Read, Write};
 use tas_movie::print_text;
@@ -21,20 +21,6 @@ fn migrated_text<A: Allocator + Copy>(
 {
     let movie = movie_of(alloc, image, bytes)?;
     Ok(print_text(alloc, &movie)?)
-}
-
-/// Writes the text of the movie whose cartridge this is and of which the bytes are a text.
-fn migrate_movie<A: Allocator + Copy, W: Write>(
-    alloc: A,
-    image: &[u8],
-    bytes: &[u8],
-    output: &mut W,
-) -> Result<(), RunFault>
-    ensures { Ends (IsMigrateAnswer image.now bytes.now) (W.contents output.old)
-        (W.contents output.new) result }
-{
-    let text = migrated_text(alloc, image, bytes)?;
-    write_all(output, text.as_slice())
 }
 
 /// Reads a cartridge and a movie text of either kind, and writes the text of runs of the movie that it
@@ -53,5 +39,6 @@ pub fn migrate_run<A: Allocator + Copy, C: Read, R: Read, W: Write>(
         (W.contents output.new) result }
 {
     let (image, bytes) = read_two(alloc, cart, input)?;
-    Ok(migrate_movie(alloc, image.as_slice(), bytes.as_slice(), output)?)
+    let answer = migrated_text(alloc, &image, &bytes);
+    Ok(write_answer(output, answer)?)
 }

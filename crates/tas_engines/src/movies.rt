@@ -1,7 +1,7 @@
 //! The movie of a cartridge and a text.
 
 ghost use Rattle.std.specs.Prelude.{MatchResult};
-ghost use Rattle.tas_engines.specs.Movies.{IsMovieOf, IsMovieFault};
+ghost use Rattle.tas_engines.specs.Movies.{IsMovieOf, IsMovieFault, AreMoviesOf, AreMoviesFault};
 
 use crate::RunFault;
 use std::alloc::Allocator;
@@ -21,4 +21,22 @@ pub fn movie_of<A: Allocator + Copy>(
 {
     let cart = Cart::from_bytes(alloc, image)?;
     Ok(read_text(alloc, bytes, &cart)?)
+}
+
+/// The two movies whose cartridge is the image and of which these are texts.
+///
+/// Faults, in order: `Size`, then `Text` of the first text and of the second one; `Memory` at any point after `Size`.
+pub(crate) fn movies_of<A: Allocator + Copy>(
+    alloc: A,
+    image: &[u8],
+    first: &[u8],
+    second: &[u8],
+) -> Result<(Movie<A>, Movie<A>), RunFault>
+    ensures { MatchResult result
+        (λ movies. AreMoviesOf image.now first.now second.now movies.0 movies.1)
+        (AreMoviesFault image.now first.now second.now) }
+{
+    let movie = movie_of(alloc, image, first)?;
+    let other = movie_of(alloc, image, second)?;
+    Ok((movie, other))
 }

@@ -3,7 +3,7 @@
 ghost use Rattle.std.specs.Prelude.{◌≡◌, ◌≤◌, ◌<◌, length, take, IfOk, IfErr, IfSome, IfNone};
 ghost use Rattle.std.specs.Io.KnownBytes.{Consumes, Keeps, IsAtEnd};
 ghost use Rattle.tas_engines.specs.Input.{IsReadWhole, StopsReading, StopsReadingTwo};
-ghost use Rattle.tas_engines.specs.ThreeInputs.{StopsReadingThree, StopsReadingFour};
+ghost use Rattle.tas_engines.specs.ThreeInputs.{StopsReadingThree};
 
 use crate::ReadFault;
 use std::alloc::Allocator;
@@ -113,50 +113,5 @@ pub fn read_three<A: Allocator + Copy, F: Read, S: Read, T: Read>(
         first,
         second,
         third,
-    })
-}
-
-/// The bytes of four inputs that were read whole.
-#[derive(Drop)]
-pub struct FourInputs<A: Allocator> {
-    /// Those of the input that was read first.
-    pub first: Vec<u8, A>,
-    /// Those of the next one.
-    pub second: Vec<u8, A>,
-    /// Those of the one after it.
-    pub third: Vec<u8, A>,
-    /// Those of the last one.
-    pub fourth: Vec<u8, A>,
-}
-
-/// Reads four inputs, each as [`read_input`] does. Where reading one fails, those after it are
-/// left untouched.
-pub fn read_four<A: Allocator + Copy, F: Read, S: Read, T: Read, L: Read>(
-    alloc: A,
-    first: &mut F,
-    second: &mut S,
-    third: &mut T,
-    fourth: &mut L,
-) -> Result<FourInputs<A>, ReadFault>
-    ensures first { IfOk result
-        (λ read. IsReadWhole (F.remaining first.old) (F.remaining first.new) read.first.items) }
-    ensures second { IfOk result
-        (λ read. IsReadWhole (S.remaining second.old) (S.remaining second.new) read.second.items) }
-    ensures third { IfOk result
-        (λ read. IsReadWhole (T.remaining third.old) (T.remaining third.new) read.third.items) }
-    ensures fourth { IfOk result
-        (λ read. IsReadWhole (L.remaining fourth.old) (L.remaining fourth.new) read.fourth.items) }
-    ensures fault { IfErr result
-        (StopsReadingFour (F.remaining first.old) (F.remaining first.new) (S.remaining second.old)
-        (S.remaining second.new) (T.remaining third.old) (T.remaining third.new)
-        (L.remaining fourth.old) (L.remaining fourth.new)) }
-{
-    let first = read_input(alloc, first)?;
-    let rest = read_three(alloc, second, third, fourth)?;
-    Ok(FourInputs {
-        first,
-        second: rest.first,
-        third: rest.second,
-        fourth: rest.third,
     })
 }

@@ -1,6 +1,7 @@
 //! Changes that depend on a movie's frames: the edits that they are.
 
 ghost use Rattle.std.specs.Prelude.{◌≡◌, ◌+◌, ◌<◌, ◌^◌, ◌||◌, ◌&&◌, not, map, length, IfOk};
+ghost use Rattle.vcs_machine.specs.declared.input.Input.{Input};
 ghost use Rattle.tas_movie.specs.Content.{MovieContent};
 ghost use Rattle.tas_language.specs.declared.retouch.Retouch.TheVariants.{Repeat};
 ghost use Rattle.tas_movie.specs.Edit.{check_answer};
@@ -138,32 +139,19 @@ pub fn taken_frames(retouch: Retouch) -> (usize, usize)
     }
 }
 
-/// The frames with more pressed in each.
-fn all_pressed<A: Allocator>(
+/// The frames, each changed alike.
+fn each_changed<A: Allocator, F: Fn(Input) -> Input>(
     alloc: A,
     frames: &[Input],
-    more: Input,
+    change: F,
 ) -> Result<Inputs<A>, AllocError>
-    ensures { IfOk result (λ inputs. inputs ≡ map (λ frame. pressed_too frame more) frames.now) }
+    requires { F.IsAlwaysCallable change }
+    ensures { (f : Input → Input) → ((frame new : Input) → F.post change frame new → new ≡ f frame)
+        → IfOk result (λ inputs. inputs ≡ map f frames.now) }
 {
     let mut list = Vec::with_capacity(alloc, frames.len())?;
     for frame in frames {
-        list.push(pressed_too(*frame, more))?;
-    }
-    Ok(Inputs::from_vec(list))
-}
-
-/// The frames with less pressed in each.
-fn all_released<A: Allocator>(
-    alloc: A,
-    frames: &[Input],
-    less: Input,
-) -> Result<Inputs<A>, AllocError>
-    ensures { IfOk result (λ inputs. inputs ≡ map (λ frame. released frame less) frames.now) }
-{
-    let mut list = Vec::with_capacity(alloc, frames.len())?;
-    for frame in frames {
-        list.push(released(*frame, less))?;
+        list.push(change(*frame))?;
     }
     Ok(Inputs::from_vec(list))
 }
@@ -190,11 +178,11 @@ pub fn edit_with<A: Allocator>(
 {
     match retouch {
         Retouch::Press { at, input, .. } => {
-            let inputs = all_pressed(alloc, taken, input)?;
+            let inputs = each_changed(alloc, taken, |frame| pressed_too(frame, input))?;
             Ok(Edit::Replace { at, inputs })
         }
         Retouch::Release { at, input, .. } => {
-            let inputs = all_released(alloc, taken, input)?;
+            let inputs = each_changed(alloc, taken, |frame| released(frame, input))?;
             Ok(Edit::Replace { at, inputs })
         }
         Retouch::Repeat { at, count, times } => {

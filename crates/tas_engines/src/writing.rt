@@ -1,11 +1,12 @@
 //! Writing an answer.
 
-ghost use Rattle.std.specs.Prelude.{OnOk, IfErr};
+ghost use Rattle.std.specs.Prelude.{◌≡◌, Ok, Err, OnOk, IfErr, MatchResult};
 ghost use Rattle.std.specs.Io.KnownBytes.{Appends};
-ghost use Rattle.tas_engines.specs.Output.{StopsWriting};
+ghost use Rattle.tas_engines.specs.Output.{Ends, StopsWriting};
 
 use crate::RunFault;
 use byte_text::write_counted;
+use std::alloc::Allocator;
 use std::io::Write;
 
 /// Writes all of an answer. A write that fails or takes no byte ends the call with
@@ -18,4 +19,17 @@ pub fn write_all<W: Write>(writer: &mut W, bytes: &[u8]) -> Result<(), RunFault>
 {
     write_counted(bytes, 0, writer)?;
     Ok(())
+}
+
+/// Writes an answer, where there is one; else ends with its fault, and nothing is written.
+pub(crate) fn write_answer<A: Allocator, W: Write>(
+    output: &mut W,
+    answer: Result<Vec<u8, A>, RunFault>,
+) -> Result<(), RunFault>
+    ensures { Ends (λ said.
+        MatchResult answer (λ text. said ≡ Ok text.items) (λ fault. said ≡ Err fault))
+        (W.contents output.old) (W.contents output.new) result }
+{
+    let text = answer?;
+    write_all(output, text.as_slice())
 }

@@ -1,15 +1,16 @@
-use Rattle.std.proofs.lemmas.Grind.{common_steps}
-use Rattle.std.proofs.Common.{ap, ◌∙◌, Err, arith}
+use Rattle.std.proofs.Common.{ap, refl, Ok, Err, ◌∙◌}
 use Rattle.std.proofs.lemmas.Result.{err_from_is_err_and}
 use Rattle.tas_engines.specs.Cutting.{IsCutAnswer}
-use Rattle.tas_engines.proofs.EngineEnds.{movie_ran}
+use Rattle.tas_engines.proofs.EngineEnds.{movie_ran, ends-answered}
 use Rattle.tas_engines.proofs.cutting.cut_run.Goals as goal
 
-pub returns-in_err-write_cut : goal.returns-in_err-write_cut
-returns-in_err-write_cut g c =
-    let told = err_from_is_err_and c.from_residual-in_err-write_cut.result c.from_residual-in_err-write_cut.ensures.1 in
-    movie_ran (IsCutAnswer c.args.from c.args.to) _ _ _ _ _ _ _ c.as_slice.result.now _ c.as_slice-2.result.now (Err c.in_err-write_cut.field-0.0) _ c.in_ok-image.ensures.first c.as_slice.ensures.value c.in_ok-image.ensures.second
-    c.as_slice-2.ensures.value c.in_err-write_cut.ensures (told.1 ∙ ap Err told.2)
+pub returns-in_err-write_answer : goal.returns-in_err-write_answer
+returns-in_err-write_answer g c =
+    let told = err_from_is_err_and c.from_residual-in_err-write_answer.result c.from_residual-in_err-write_answer.ensures.1 in
+    let ends = ends-answered (IsCutAnswer c.args.from c.args.to c.deref.result.now c.deref-2.result.now) c.cut_text-answer.result (λ text. text.items) (g.W.Write.contents c.args.output.now) (g.W.Write.contents c.write_answer.new.output) (Err c.in_err-write_answer.field-0.0) c.cut_text-answer.ensures.text c.cut_text-answer.ensures.fault c.in_err-write_answer.ensures in
+    movie_ran (IsCutAnswer c.args.from c.args.to) _ _ _ _ _ _ _ _ _ _ (Err c.in_err-write_answer.field-0.0) _ c.in_ok-image.ensures.first c.deref.ensures.value c.in_ok-image.ensures.second c.deref-2.ensures.value ends (told.1 ∙ ap Err told.2)
 
 pub returns : goal.returns
-returns g c = grind (arith, common_steps)
+returns g c =
+    let ends = ends-answered (IsCutAnswer c.args.from c.args.to c.deref.result.now c.deref-2.result.now) c.cut_text-answer.result (λ text. text.items) (g.W.Write.contents c.args.output.now) (g.W.Write.contents c.write_answer.new.output) (Ok tt) c.cut_text-answer.ensures.text c.cut_text-answer.ensures.fault c.in_ok-write_answer.ensures in
+    movie_ran (IsCutAnswer c.args.from c.args.to) _ _ _ _ _ _ _ _ _ _ (Ok tt) _ c.in_ok-image.ensures.first c.deref.ensures.value c.in_ok-image.ensures.second c.deref-2.ensures.value ends refl
