@@ -18,7 +18,7 @@ use Rattle.tas_language.specs.declared.retouch.Retouch.TheVariants.{Press, Relea
 use Rattle.tas_language.specs.declared.edit_line.EditLine.{EditLine}
 use Rattle.tas_language.specs.declared.edit_line.EditLine.TheVariants as edit
 use Rattle.tas_language.specs.declared.request.Request.{Request}
-use Rattle.tas_language.specs.declared.request.Request.TheVariants.{Do, Picture, Pictures, Ram, Digest, Lag, Movie, States, Share, History, Quit}
+use Rattle.tas_language.specs.declared.request.Request.TheVariants.{Do, Picture, Pictures, Ram, Digest, Lag, Movie, States, Share, History, Begin, Commit, Drop, Quit}
 use Rattle.tas_language.specs.declared.request.Request.TheVariants as request
 use Rattle.byte_text.specs.Splitting.{NoByte}
 use Rattle.tas_language.specs.Commands.{IsNumber, Says, IsChangeLine, pair_text, triple_text, frames_text}
@@ -131,6 +131,9 @@ words_of Movie = record { word = codes "movie"; numbers = []; frame = None }
 words_of States = record { word = codes "states"; numbers = []; frame = None }
 words_of Share = record { word = codes "share"; numbers = []; frame = None }
 words_of (History from) = record { word = codes "history"; numbers = from ∷ []; frame = None }
+words_of Begin = record { word = codes "begin"; numbers = []; frame = None }
+words_of Commit = record { word = codes "commit"; numbers = []; frame = None }
+words_of Drop = record { word = codes "drop"; numbers = []; frame = None }
 words_of Quit = record { word = codes "quit"; numbers = []; frame = None }
 
 -- the request of such words
@@ -152,6 +155,9 @@ request_of w =
     else if is_word w.word (codes "states") then States
     else if is_word w.word (codes "share") then Share
     else if is_word w.word (codes "history") then History a
+    else if is_word w.word (codes "begin") then Begin
+    else if is_word w.word (codes "commit") then Commit
+    else if is_word w.word (codes "drop") then Drop
     else Quit
 
 -- a line of a script has another first word
@@ -202,6 +208,9 @@ known line Movie p = inr (record { text = p ∙ sym (append-nil (codes "movie"))
 known line States p = inr (record { text = p ∙ sym (append-nil (codes "states")); numbers = tt; one = refl; makes = refl; other = refl })
 known line Share p = inr (record { text = p ∙ sym (append-nil (codes "share")); numbers = tt; one = refl; makes = refl; other = refl })
 known line (History from) p = inr (record { text = p.0 ∙ one_number (codes "history") from; numbers = (p.1, tt); one = refl; makes = refl; other = refl })
+known line Begin p = inr (record { text = p ∙ sym (append-nil (codes "begin")); numbers = tt; one = refl; makes = refl; other = refl })
+known line Commit p = inr (record { text = p ∙ sym (append-nil (codes "commit")); numbers = tt; one = refl; makes = refl; other = refl })
+known line Drop p = inr (record { text = p ∙ sym (append-nil (codes "drop")); numbers = tt; one = refl; makes = refl; other = refl })
 known line Quit p = inr (record { text = p ∙ sym (append-nil (codes "quit")); numbers = tt; one = refl; makes = refl; other = refl })
 
 -- ---- the first word of a script's line

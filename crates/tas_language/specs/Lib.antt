@@ -5,5 +5,6 @@ pub mod Retouches
 pub mod Requests
 pub mod Held
 pub mod Answers
+pub mod Drafts
 pub mod Edits
 pub mod History

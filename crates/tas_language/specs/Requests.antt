@@ -2,7 +2,7 @@
 use Rattle.std.specs.Prelude.{◌≡◌, ℕ, ◌+◌, ◌<◌, ◌≤◌, List, ◌++◌, length, codes, decimal, Option, Some, None}
 use Rattle.tas_language.specs.Commands.{Says, IsNumber, pair_text}
 use Rattle.tas_language.specs.declared.request.Request.{Request}
-use Rattle.tas_language.specs.declared.request.Request.TheVariants.{Do, Picture, Pictures, Ram, Digest, Lag, Movie, States, Share, History, Quit}
+use Rattle.tas_language.specs.declared.request.Request.TheVariants.{Do, Picture, Pictures, Ram, Digest, Lag, Movie, States, Share, History, Begin, Commit, Drop, Quit}
 use Rattle.tas_language.specs.declared.request.Request.TheVariants as request
 use Rattle.tas_language.specs.Retouches.{IsRetouchLine}
 
@@ -27,6 +27,9 @@ Asks said Movie = said ≡ codes "movie"
 Asks said States = said ≡ codes "states"
 Asks said Share = said ≡ codes "share"
 Asks said (History from) = (said ≡ codes "history " ++ decimal from) × IsNumber from
+Asks said Begin = said ≡ codes "begin"
+Asks said Commit = said ≡ codes "commit"
+Asks said Drop = said ≡ codes "drop"
 Asks said Quit = said ≡ codes "quit"
 
 -- a line of one word. Private functions cite it
@@ -34,6 +37,9 @@ abbrev pub IsOneWord : Request → Type 0
 IsOneWord Movie = Unit {0}
 IsOneWord States = Unit {0}
 IsOneWord Share = Unit {0}
+IsOneWord Begin = Unit {0}
+IsOneWord Commit = Unit {0}
+IsOneWord Drop = Unit {0}
 IsOneWord Quit = Unit {0}
 IsOneWord (Do command) = ⊥
 IsOneWord (request.Retouch retouch) = ⊥

@@ -8,6 +8,7 @@
 mod answers;
 mod change;
 mod command;
+mod draft_reply;
 mod edit_line;
 mod history;
 mod image;
@@ -25,6 +26,7 @@ mod words;
 pub use answers::{movie_answer, picture_answer, share_answer, states_answer};
 pub use change::{Change, change_line, read_change};
 pub use command::Command;
+pub use draft_reply::{DraftReply, draft_reply_line};
 pub use edit_line::{EditLine, read_edit_line};
 pub use history::{history_answer, push_edit_lines, push_entry};
 pub use image::Image;

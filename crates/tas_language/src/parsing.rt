@@ -105,6 +105,15 @@ fn one_word(line: &[u8]) -> Option<Request>
     if line == b"share".as_slice() {
         return Some(Request::Share);
     }
+    if line == b"begin".as_slice() {
+        return Some(Request::Begin);
+    }
+    if line == b"commit".as_slice() {
+        return Some(Request::Commit);
+    }
+    if line == b"drop".as_slice() {
+        return Some(Request::Drop);
+    }
     if line == b"quit".as_slice() {
         return Some(Request::Quit);
     }

@@ -49,6 +49,12 @@ pub enum Request {
         /// The number of the first entry, counted from 0.
         from: usize,
     },
+    /// `begin`: a draft of the movie is opened.
+    Begin,
+    /// `commit`: the draft's change is made.
+    Commit,
+    /// `drop`: the draft is given up.
+    Drop,
     /// `quit`: the conversation's end.
     Quit,
 }

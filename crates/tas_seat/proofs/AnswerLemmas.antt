@@ -138,10 +138,10 @@ undrawn A before now k (ShotHalted at halt) seen shown zone =
 -- ---- the desk's states
 
 -- what memory's refusal leaves
-unshared : {A : Type 0} (before now : SeatContent A) → now.zone ≡ before.zone → GainsUnless true (talk_state_at now.front before.zone) (talk_state_at now.front now.zone)
+pub unshared : {A : Type 0} (before now : SeatContent A) → now.zone ≡ before.zone → GainsUnless true (talk_state_at now.front before.zone) (talk_state_at now.front now.zone)
 unshared before now zone = inl (rests before now now.front now.front zone)
 
-shared_still : {A : Type 0} (before now : SeatContent A) (gained : ℕ) → IsShared before.zone now.zone now.front gained → GainsUnless true (talk_state_at now.front before.zone) (talk_state_at now.front now.zone)
+pub shared_still : {A : Type 0} (before now : SeatContent A) (gained : ℕ) → IsShared before.zone now.zone now.front gained → GainsUnless true (talk_state_at now.front before.zone) (talk_state_at now.front now.zone)
 shared_still before now gained shared = inr (gains_at before now now.front gained shared)
 
 pub movie_answered : (A : Type 0) (before now : SeatContent A) (at gained : ℕ) (movie : MovieContent) → HasSeen before now → at ≡ length now.front → movie ≡ now.zone.movie → IsShared before.zone now.zone now.front gained

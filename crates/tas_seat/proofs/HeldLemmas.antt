@@ -11,6 +11,7 @@ use Rattle.tas_engines.specs.declared.fault.ToolFault.{ToolFault}
 use Rattle.tas_engines.specs.declared.fault.ToolFault.TheVariants.{Read, Run, Seat}
 use Rattle.tas_engines.specs.declared.fault.SeatFault.{SeatFault}
 use Rattle.tas_engines.specs.declared.fault.SeatFault.TheVariants.{NotOpened, Foreign as ForeignSeat}
+use Rattle.tas_seat.specs.Conversations.{TalkingSeat, talking}
 use Rattle.tas_seat.specs.Talk.{AreExchanges, TalkEnds, IsTalk, all_edits}
 use Rattle.tas_seat.specs.Histories.{IsInHistory}
 use Rattle.tas_seat.specs.Lines.{DoorFacts, IsHeld, WasHeld, seat_end}
@@ -34,7 +35,7 @@ silent : {A : Type 0} (start last : SeatContent A) → last ≡ start → IsTalk
 unfolding AreExchanges
 silent {A} start last same = record {
   exchanges = [];
-  seat = start;
+  seat = talking start None;
   rest = [];
   more = [];
   answered = refl;
@@ -48,7 +49,7 @@ held_seen facts door door' start last end (edits, inl (is, refused, same, none))
 held_seen facts door door' start last end (edits, inr (input', output', ended, talk, all, is, left)) = talk_seen start last _ _ _ _ ended talk
 
 -- an end that isn't of other edits isn't reported as one
-not_foreign : {A : Type 0} (seat last : SeatContent A) (rest told : List ℕ) (more : List (Edit A)) (input output output' : Option (List ℕ)) (ended : Result (Unit {0}) ToolFault) → TalkEnds seat last rest told more input output output' ended
+not_foreign : {A : Type 0} (seat : TalkingSeat A) (last : SeatContent A) (rest told : List ℕ) (more : List (Edit A)) (input output output' : Option (List ℕ)) (ended : Result (Unit {0}) ToolFault) → TalkEnds seat last rest told more input output output' ended
     → (ended ≡ Err (Run Foreign) → ⊥) → seat_end ended ≡ Err ForeignSeat → ⊥
 not_foreign seat last rest told more input output output' (Ok u) ends other e = cc e
 not_foreign seat last rest told more input output output' (Err (Read Failed)) ends other e = cc e

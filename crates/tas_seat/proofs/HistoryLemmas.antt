@@ -14,8 +14,10 @@ use Rattle.tas_engines.specs.declared.fault.ToolFault.TheVariants.{Read, Run, Se
 use Rattle.tas_engines.specs.declared.fault.ReadFault.TheVariants.{TooLong, Failed, Memory as NoRoom}
 use Rattle.tas_engines.specs.declared.fault.RunFault.TheVariants.{Write, Size, Text, NoFrame as OffMovie, Range as OffRange, Halted as Stopped, HaltedFrame as StoppedFrame, Script, Place, Long, NoPlace, NoEntry, Foreign, Memory}
 use Rattle.tas_language.specs.declared.request.Request.{Request}
-use Rattle.tas_language.specs.declared.request.Request.TheVariants.{Do, Retouch, Picture, Pictures, Ram, Digest, Lag, Movie, States, Share, History, Quit}
-use Rattle.tas_seat.specs.Seats.{entries_from, IsSeatAfter, IsAnsweredAt, StripAnswer, AreStrip, IsRequestAnswered, IsLineAnswered}
+use Rattle.tas_language.specs.declared.request.Request.TheVariants.{Do, Retouch, Picture, Pictures, Ram, Digest, Lag, Movie, States, Share, History, Begin, Commit, Drop, Quit}
+use Rattle.tas_seat.specs.Seats.{entries_from, IsSeatAfter, IsAnsweredAt, StripAnswer, AreStrip, IsRequestAnswered}
+use Rattle.tas_seat.specs.Conversations.{TalkingSeat, talking, LeavesSeat, IsAnsweredOutside, IsAnsweredInside, IsTalkAnswered, IsLineAnswered}
+use Rattle.tas_seat.specs.Drafts.{DraftContent}
 use Rattle.tas_seat.specs.Inside.Outcomes.{IsMiscounted}
 use Rattle.tas_seat.specs.Talk.{Exchange, IsExchange, AreExchanges, IsLeft, HasLooked, IsCarriedOut, TalkEnds, IsTalk, edits_of, all_edits}
 use Rattle.tas_seat.specs.Histories.{entries_by, IsInHistory}
@@ -175,40 +177,85 @@ request_leaves A before now (Lag a b) answer edits is = answered_leaves A before
 request_leaves A before now Movie answer edits is = answered_leaves A before now Movie answer edits is
 request_leaves A before now States answer edits is = answered_leaves A before now States answer edits is
 request_leaves A before now Share answer edits is = answered_leaves A before now Share answer edits is
+request_leaves A before now Begin answer edits is = answered_leaves A before now Begin answer edits is
+request_leaves A before now Commit answer edits is = answered_leaves A before now Commit answer edits is
+request_leaves A before now Drop answer edits is = answered_leaves A before now Drop answer edits is
 request_leaves A before now Quit answer edits is = answered_leaves A before now Quit answer edits is
 
-pub line_leaves : (A : Type 0) (before now : SeatContent A) (heard : Option Request) (answer : List ℕ) (edits : List (Edit A)) → IsLineAnswered A before now heard answer edits → Leaves before now edits
-line_leaves A before now (Some request) answer edits is = request_leaves A before now request answer edits is
-line_leaves A before now None answer edits (told, none, same) = leaves_none before now edits none (leaves_same before now same)
+-- a line about the draft leaves the seat
+seat_left : {A : Type 0} (before : SeatContent A) (now : TalkingSeat A) (edits : List (Edit A)) → LeavesSeat before now edits → Leaves before now.seat edits
+seat_left before now edits is = leaves_none before now.seat edits is.none (leaves_same before now.seat is.same)
+
+outside_leaves : (A : Type 0) (before : SeatContent A) (now : TalkingSeat A) (request : Request) (answer : List ℕ) (edits : List (Edit A)) → IsAnsweredOutside A before now request answer edits → Leaves before now.seat edits
+outside_leaves A before now Begin answer edits is = leaves_none before now.seat edits is.1 (leaves_after before now.seat now.seat.front [] is.0.seat)
+outside_leaves A before now Commit answer edits is = seat_left before now edits is.2
+outside_leaves A before now Drop answer edits is = seat_left before now edits is.2
+outside_leaves A before now (Do command) answer edits is = request_leaves A before now.seat (Do command) answer edits is.0
+outside_leaves A before now (Retouch retouch) answer edits is = request_leaves A before now.seat (Retouch retouch) answer edits is.0
+outside_leaves A before now (Picture k) answer edits is = request_leaves A before now.seat (Picture k) answer edits is.0
+outside_leaves A before now (Pictures from to) answer edits is = request_leaves A before now.seat (Pictures from to) answer edits is.0
+outside_leaves A before now (Ram k) answer edits is = request_leaves A before now.seat (Ram k) answer edits is.0
+outside_leaves A before now (Digest k) answer edits is = request_leaves A before now.seat (Digest k) answer edits is.0
+outside_leaves A before now (Lag a b) answer edits is = request_leaves A before now.seat (Lag a b) answer edits is.0
+outside_leaves A before now Movie answer edits is = request_leaves A before now.seat Movie answer edits is.0
+outside_leaves A before now States answer edits is = request_leaves A before now.seat States answer edits is.0
+outside_leaves A before now Share answer edits is = request_leaves A before now.seat Share answer edits is.0
+outside_leaves A before now (History from) answer edits is = request_leaves A before now.seat (History from) answer edits is.0
+outside_leaves A before now Quit answer edits is = request_leaves A before now.seat Quit answer edits is.0
+
+inside_leaves : (A : Type 0) (before : SeatContent A) (draft : DraftContent) (now : TalkingSeat A) (request : Request) (answer : List ℕ) (edits : List (Edit A)) → IsAnsweredInside A before draft now request answer edits → Leaves before now.seat edits
+inside_leaves A before draft now Begin answer edits is = seat_left before now edits is.2
+inside_leaves A before draft now Commit answer edits is = leaves_after before now.seat is.at edits is.seat
+inside_leaves A before draft now Drop answer edits is = seat_left before now edits is.2
+inside_leaves A before draft now Share answer edits is = request_leaves A before now.seat Share answer edits is.0
+inside_leaves A before draft now (History from) answer edits is = request_leaves A before now.seat (History from) answer edits is.0
+inside_leaves A before draft now (Do command) answer edits is = seat_left before now edits is.4
+inside_leaves A before draft now (Retouch retouch) answer edits is = seat_left before now edits is.4
+inside_leaves A before draft now (Picture k) answer edits is = seat_left before now edits is.4
+inside_leaves A before draft now (Pictures from to) answer edits is = seat_left before now edits is.4
+inside_leaves A before draft now (Ram k) answer edits is = seat_left before now edits is.4
+inside_leaves A before draft now (Digest k) answer edits is = seat_left before now edits is.4
+inside_leaves A before draft now (Lag a b) answer edits is = seat_left before now edits is.4
+inside_leaves A before draft now Movie answer edits is = seat_left before now edits is.4
+inside_leaves A before draft now States answer edits is = seat_left before now edits is.4
+inside_leaves A before draft now Quit answer edits is = seat_left before now edits is.4
+
+talk_leaves : (A : Type 0) (before : SeatContent A) (draft : Option DraftContent) (now : TalkingSeat A) (request : Request) (answer : List ℕ) (edits : List (Edit A)) → IsTalkAnswered A before draft now request answer edits → Leaves before now.seat edits
+talk_leaves A before None now request answer edits is = outside_leaves A before now request answer edits is
+talk_leaves A before (Some draft) now request answer edits is = inside_leaves A before draft now request answer edits is
+
+pub line_leaves : (A : Type 0) (before now : TalkingSeat A) (heard : Option Request) (answer : List ℕ) (edits : List (Edit A)) → IsLineAnswered A before now heard answer edits → Leaves before.seat now.seat edits
+line_leaves A before now (Some request) answer edits is = talk_leaves A before.seat before.draft now request answer edits is
+line_leaves A before now None answer edits (told, none, same) = leaves_none before.seat now.seat edits none (leaves_same before.seat now.seat (ap (λ (s : TalkingSeat A). s.seat) same))
 
 -- ---- all lines
 
-pub exchange_leaves : {A : Type 0} (seat : SeatContent A) (x : Exchange A) → IsExchange seat x → Leaves seat x.next x.edits
+pub exchange_leaves : {A : Type 0} (seat : TalkingSeat A) (x : Exchange A) → IsExchange seat x → Leaves seat.seat x.next.seat x.edits
 exchange_leaves {A} seat x is = line_leaves A seat x.next x.heard x.answer x.edits is.answered
 
-pub exchanges_leave : {A : Type 0} (start last : SeatContent A) (xs : List (Exchange A)) → AreExchanges start xs last → Leaves start last (edits_of xs)
+pub exchanges_leave : {A : Type 0} (start last : TalkingSeat A) (xs : List (Exchange A)) → AreExchanges start xs last → Leaves start.seat last.seat (edits_of xs)
 unfolding AreExchanges
-exchanges_leave {A} start last [] is = leaves_same start last is
-exchanges_leave {A} start last (x ∷ xs) is = leaves_more start x.next last x.edits (edits_of xs) (exchange_leaves start x is.0) (exchanges_leave x.next last xs is.1)
+exchanges_leave {A} start last [] is = leaves_same start.seat last.seat (ap (λ (s : TalkingSeat A). s.seat) is)
+exchanges_leave {A} start last (x ∷ xs) is = leaves_more start.seat x.next.seat last.seat x.edits (edits_of xs) (exchange_leaves start x is.0) (exchanges_leave x.next last xs is.1)
 
 -- ---- the end
 
 -- what was done of the rest, or the end that never comes
-abbrev pub Rested : {A : Type 0} → (seat last : SeatContent A) → List (Edit A) → Result (Unit {0}) ToolFault → Type 0
-Rested {A} seat last edits result = IsMiscounted seat last ⊎ (Leaves seat last edits × (result ≡ Err (Run Foreign) → ⊥))
+abbrev pub Rested : {A : Type 0} → TalkingSeat A → (last : SeatContent A) → List (Edit A) → Result (Unit {0}) ToolFault → Type 0
+Rested {A} seat last edits result = IsMiscounted seat.seat last ⊎ (Leaves seat.seat last edits × (result ≡ Err (Run Foreign) → ⊥))
 
-left_rest : {A : Type 0} (seat last : SeatContent A) (edits : List (Edit A)) (result : Result (Unit {0}) ToolFault) → (result ≡ Err (Run Foreign) → ⊥) → IsLeft seat last edits → Rested seat last edits result
-left_rest {A} seat last edits result other is = inr (leaves_none seat last edits is.none (leaves_same seat last is.same), other)
+left_rest : {A : Type 0} (seat : TalkingSeat A) (last : SeatContent A) (edits : List (Edit A)) (result : Result (Unit {0}) ToolFault) → (result ≡ Err (Run Foreign) → ⊥) → IsLeft seat last edits → Rested seat last edits result
+left_rest {A} seat last edits result other is = inr (leaves_none seat.seat last edits is.none (leaves_same seat.seat last is.same), other)
 
-looked_rest : {A : Type 0} (seat last : SeatContent A) (edits : List (Edit A)) (result : Result (Unit {0}) ToolFault) → (result ≡ Err (Run Foreign) → ⊥) → HasLooked seat last edits → Rested seat last edits result
-looked_rest {A} seat last edits result other is = inr (leaves_none seat last edits is.none (leaves_seen seat last is.seen), other)
+looked_rest : {A : Type 0} (seat : TalkingSeat A) (last : SeatContent A) (edits : List (Edit A)) (result : Result (Unit {0}) ToolFault) → (result ≡ Err (Run Foreign) → ⊥) → HasLooked seat last edits → Rested seat last edits result
+looked_rest {A} seat last edits result other is = inr (leaves_none seat.seat last edits is.none (leaves_seen seat.seat last is.seen), other)
 
-carried_rest : {A : Type 0} (seat last : SeatContent A) (rest : List ℕ) (edits : List (Edit A)) (answer : List ℕ) (result : Result (Unit {0}) ToolFault) → (result ≡ Err (Run Foreign) → ⊥) → IsCarriedOut seat last rest edits answer
+carried_rest : {A : Type 0} (seat : TalkingSeat A) (last : SeatContent A) (rest : List ℕ) (edits : List (Edit A)) (answer : List ℕ) (result : Result (Unit {0}) ToolFault) → (result ≡ Err (Run Foreign) → ⊥) → IsCarriedOut seat last rest edits answer
     → Rested seat last edits result
 carried_rest {A} seat last rest edits answer result other is =
-    inr (subst (λ (s : SeatContent A). Leaves seat s edits) (sym is.last_is) (subst (λ (l : List (Edit A)). Leaves seat is.exchange.next l) (sym is.edits_are) (exchange_leaves seat is.exchange is.is)), other)
+    inr (subst (λ (s : SeatContent A). Leaves seat.seat s edits) (sym is.last_is) (subst (λ (l : List (Edit A)). Leaves seat.seat is.exchange.next.seat l) (sym is.edits_are) (exchange_leaves seat is.exchange is.is)), other)
 
-pub rested : {A : Type 0} (seat last : SeatContent A) (rest told : List ℕ) (edits : List (Edit A)) (input output output' : Option (List ℕ)) (result : Result (Unit {0}) ToolFault) → TalkEnds seat last rest told edits input output output' result
+pub rested : {A : Type 0} (seat : TalkingSeat A) (last : SeatContent A) (rest told : List ℕ) (edits : List (Edit A)) (input output output' : Option (List ℕ)) (result : Result (Unit {0}) ToolFault) → TalkEnds seat last rest told edits input output output' result
     → Rested seat last edits result
 rested seat last rest told edits input output output' (Ok u) is = left_rest seat last edits (Ok u) (λ e. absurd (cc e)) is.0
 rested seat last rest told edits input output output' (Err (Read Failed)) is = left_rest seat last edits (Err (Read Failed)) (λ e. absurd (cc e)) is.0
@@ -236,8 +283,8 @@ rested seat last rest told edits input output output' (Err (Seat number fault)) 
 pub talk_number : {A : Type 0} (start last : SeatContent A) (input input' output output' : Option (List ℕ)) (result : Result (Unit {0}) ToolFault) → IsTalk start last input input' output output' result → last.number ≡ start.number
 talk_number {A} start last input input' output output' result talk = go (rested talk.seat last talk.rest _ talk.more input' output output' result talk.ends)
   where
-    first : Leaves start talk.seat (edits_of talk.exchanges)
-    first = exchanges_leave start talk.seat talk.exchanges talk.answered
+    first : Leaves start talk.seat.seat (edits_of talk.exchanges)
+    first = exchanges_leave (talking start None) talk.seat talk.exchanges talk.answered
 
     go : Rested talk.seat last talk.more result → last.number ≡ start.number
     go (inl strange) = strange.seen.number ∙ first.number
@@ -249,8 +296,8 @@ pub talk_in_history : {A : Type 0} (start last : SeatContent A) (input input' ou
 talk_in_history {A} start last input input' output output' result talk history seen settled =
     go (rested talk.seat last talk.rest _ talk.more input' output output' result talk.ends)
   where
-    first : Leaves start talk.seat (edits_of talk.exchanges)
-    first = exchanges_leave start talk.seat talk.exchanges talk.answered
+    first : Leaves start talk.seat.seat (edits_of talk.exchanges)
+    first = exchanges_leave (talking start None) talk.seat talk.exchanges talk.answered
 
     fewer : start.made ≤ length (entries_by start.number start.front)
     fewer = subst (λ (k : ℕ). start.made ≤ k) (sym (by_length start.number start.front)) seen
@@ -265,10 +312,10 @@ talk_in_history {A} start last input input' output output' result talk history s
     go (inl strange) =
         let named : last.number ≡ start.number = strange.seen.number ∙ first.number in
         let long : entries_of last.number last.front ≡ length (entries_by start.number last.front) = sym (by_length last.number last.front) ∙ ap (λ (n : ℕ). length (entries_by n last.front)) named in
-        let more = by_rest start.number talk.seat.front last.front strange.seen.begins in
+        let more = by_rest start.number talk.seat.seat.front last.front strange.seen.begins in
         absurd (strange.other (omega (arith, long, more, few named, first.grows, first.made, strange.seen.made, fewer)))
     go (inr (left, other)) =
-        let all : Leaves start last (all_edits talk) = leaves_more start talk.seat last (edits_of talk.exchanges) talk.more first left in
+        let all : Leaves start last (all_edits talk) = leaves_more start talk.seat.seat last (edits_of talk.exchanges) talk.more first left in
         let own = all.own (omega (arith, few all.number, all.made, fewer)) in
         let exact : length (entries_by start.number history) ≡ last.made = ap (λ (n : ℕ). length (entries_by n history)) (sym all.number) ∙ by_length last.number history ∙ settled.exact in
         let whole : entries_by start.number history ≡ entries_by start.number last.front =
@@ -288,19 +335,19 @@ talk_in_history {A} start last input input' output output' result talk history s
 pub answer_begins : {A : Type 0} (before now : SeatContent A) (at : List (Entry A)) (edits : List (Edit A)) → IsSeatAfter before at edits now → IsPrefix at now.front
 answer_begins before now at edits is = (entries_from before.number before.made edits, sym is.front)
 
-reaches : {A : Type 0} (seat last : SeatContent A) (between after : List (Exchange A)) (x : Exchange A) → AreExchanges seat (between ++ x ∷ after) last → IsPrefix seat.front x.next.front
+reaches : {A : Type 0} (seat last : TalkingSeat A) (between after : List (Exchange A)) (x : Exchange A) → AreExchanges seat (between ++ x ∷ after) last → IsPrefix seat.seat.front x.next.seat.front
 unfolding AreExchanges
 reaches {A} seat last [] after x is = (exchange_leaves seat x is.0).seen
-reaches {A} seat last (y ∷ between) after x is = prefix_join seat.front y.next.front x.next.front (exchange_leaves seat y is.0).seen (reaches y.next last between after x is.1)
+reaches {A} seat last (y ∷ between) after x is = prefix_join seat.seat.front y.next.seat.front x.next.seat.front (exchange_leaves seat y is.0).seen (reaches y.next last between after x is.1)
 
 -- the last of some lines' seats has seen all that the seat of one of them has seen
-pub exchange_begins : {A : Type 0} (start last : SeatContent A) (before after : List (Exchange A)) (x : Exchange A) → AreExchanges start (before ++ x ∷ after) last → IsPrefix x.next.front last.front
+pub exchange_begins : {A : Type 0} (start last : TalkingSeat A) (before after : List (Exchange A)) (x : Exchange A) → AreExchanges start (before ++ x ∷ after) last → IsPrefix x.next.seat.front last.seat.front
 unfolding AreExchanges
 exchange_begins {A} start last [] after x is = (exchanges_leave x.next last after is.1).seen
 exchange_begins {A} start last (y ∷ before) after x is = exchange_begins y.next last before after x is.1
 
 -- and so has the seat of each line after it
-pub exchange_grows : {A : Type 0} (start last : SeatContent A) (before between after : List (Exchange A)) (x y : Exchange A) → AreExchanges start (before ++ x ∷ (between ++ y ∷ after)) last → IsPrefix x.next.front y.next.front
+pub exchange_grows : {A : Type 0} (start last : TalkingSeat A) (before between after : List (Exchange A)) (x y : Exchange A) → AreExchanges start (before ++ x ∷ (between ++ y ∷ after)) last → IsPrefix x.next.seat.front y.next.seat.front
 unfolding AreExchanges
 exchange_grows {A} start last [] between after x y is = reaches x.next last between after y is.1
 exchange_grows {A} start last (z ∷ before) between after x y is = exchange_grows z.next last before between after x y is.1
@@ -310,9 +357,9 @@ pub talk_seen : {A : Type 0} (start last : SeatContent A) (input input' output o
     → (last.number ≡ start.number) × IsPrefix start.front last.front
 talk_seen {A} start last input input' output output' result talk = (
   talk_number start last input input' output output' result talk,
-  prefix_join start.front talk.seat.front last.front (exchanges_leave start talk.seat talk.exchanges talk.answered).seen (go (rested talk.seat last talk.rest _ talk.more input' output output' result talk.ends)),
+  prefix_join start.front talk.seat.seat.front last.front (exchanges_leave (talking start None) talk.seat talk.exchanges talk.answered).seen (go (rested talk.seat last talk.rest _ talk.more input' output output' result talk.ends)),
 )
   where
-    go : Rested talk.seat last talk.more result → IsPrefix talk.seat.front last.front
+    go : Rested talk.seat last talk.more result → IsPrefix talk.seat.seat.front last.front
     go (inl strange) = strange.seen.begins
     go (inr (left, other)) = left.seen

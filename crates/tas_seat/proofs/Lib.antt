@@ -9,6 +9,9 @@ pub mod HistoryTextLemmas
 pub mod TalkLemmas
 pub mod HistoryLemmas
 pub mod HeldLemmas
+pub mod ConversationLemmas
+pub mod SubjectLemmas
+pub mod CommitLemmas
 pub mod DraftLemmas
 pub mod DraftEditLemmas
 pub mod DraftStripLemmas

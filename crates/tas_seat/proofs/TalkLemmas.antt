@@ -18,23 +18,23 @@ use Rattle.tas_language.specs.declared.request.Request.{Request}
 use Rattle.tas_language.specs.Requests.{IsHeard}
 use Rattle.tas_language.specs.Held.{HoldsLine}
 use Rattle.tas_language.specs.Answers.{unknown_text}
-use Rattle.tas_seat.specs.Seats.{IsRequestAnswered}
-use Rattle.tas_seat.specs.Inside.Outcomes.{HasNoAnswer}
+use Rattle.tas_seat.specs.Conversations.{TalkingSeat, talking, IsTalkAnswered}
+use Rattle.tas_seat.specs.Inside.Outcomes.{HasNoTalkAnswer}
 use Rattle.tas_seat.specs.Talk.{Exchange, IsExchange, AreExchanges, IsLeft, HasLooked, IsCarriedOut, IsAnswerCutOff, IsTalk, lines_of, answers_of, last_answer, most_counted}
 use Rattle.tas_seat.specs.Inside.Talking.{CutsOff, HasAnswered, Breaks, StopsAfter, IsLineTurn, IsPartTurn}
 
 -- ---- lists of exchanges
 
-pub exchanges_more : {A : Type 0} (a b c : SeatContent A) (xs ys : List (Exchange A)) → AreExchanges a xs b → AreExchanges b ys c → AreExchanges a (xs ++ ys) c
+pub exchanges_more : {A : Type 0} (a b c : TalkingSeat A) (xs ys : List (Exchange A)) → AreExchanges a xs b → AreExchanges b ys c → AreExchanges a (xs ++ ys) c
 unfolding AreExchanges
-exchanges_more {A} a b c [] ys p q = subst (λ (s : SeatContent A). AreExchanges s ys c) p q
+exchanges_more {A} a b c [] ys p q = subst (λ (s : TalkingSeat A). AreExchanges s ys c) p q
 exchanges_more {A} a b c (x ∷ xs) ys p q = (p.0, exchanges_more x.next b c xs ys p.1 q)
 
-pub no_exchanges : {A : Type 0} (seat : SeatContent A) → AreExchanges seat [] seat
+pub no_exchanges : {A : Type 0} (seat : TalkingSeat A) → AreExchanges seat [] seat
 unfolding AreExchanges
 no_exchanges seat = refl
 
-one_exchange : {A : Type 0} (seat next : SeatContent A) (x : Exchange A) → IsExchange seat x → next ≡ x.next → AreExchanges seat (x ∷ []) next
+one_exchange : {A : Type 0} (seat next : TalkingSeat A) (x : Exchange A) → IsExchange seat x → next ≡ x.next → AreExchanges seat (x ∷ []) next
 unfolding AreExchanges
 one_exchange seat next x is same = (is, same)
 
@@ -61,7 +61,7 @@ counted_from_nothing old new bytes n cut =
     let same : n - 0 ≡ n = omega arith in
     subst (λ (k : ℕ). IsCutOff old new bytes k) same cut
 
-one_answered : {A : Type 0} (before now : SeatContent A) (x : Exchange A) (told written : ℕ) (old new : Option (List ℕ)) → IsExchange before x → now ≡ x.next → Appends old new x.answer → written ≡ min (told + length x.answer) most_counted
+one_answered : {A : Type 0} (before now : TalkingSeat A) (x : Exchange A) (told written : ℕ) (old new : Option (List ℕ)) → IsExchange before x → now ≡ x.next → Appends old new x.answer → written ≡ min (told + length x.answer) most_counted
     → HasAnswered before now (x ∷ []) told written old new
 one_answered {A} before now x told written old new is same out count =
     let alone : answers_of (x ∷ []) ≡ x.answer = append-nil x.answer in
@@ -72,30 +72,30 @@ one_answered {A} before now x told written old new is same out count =
     }
 
 -- a line that isn't understood
-unknown_exchange : {A : Type 0} (seat : SeatContent A) (said answer : List ℕ) → Exchange A
+unknown_exchange : {A : Type 0} (seat : TalkingSeat A) (said answer : List ℕ) → Exchange A
 unknown_exchange seat said answer = record { said = said; heard = None; answer = answer; edits = []; next = seat }
 
-is_unknown : {A : Type 0} (seat : SeatContent A) (said answer : List ℕ) → NoByte 10 said → IsHeard said None → answer ≡ unknown_text → IsExchange seat (unknown_exchange seat said answer)
+is_unknown : {A : Type 0} (seat : TalkingSeat A) (said answer : List ℕ) → NoByte 10 said → IsHeard said None → answer ≡ unknown_text → IsExchange seat (unknown_exchange seat said answer)
 unfolding unknown_exchange
 is_unknown seat said answer none heard is = record { whole = none; heard = heard; answered = (is, refl, refl) }
 
-pub unknown_line : {A : Type 0} (seat : SeatContent A) (said answer : List ℕ) (told written : ℕ) (old new : Option (List ℕ)) → NoByte 10 said → IsHeard said None → answer ≡ unknown_text → Appends old new answer
+pub unknown_line : {A : Type 0} (seat : TalkingSeat A) (said answer : List ℕ) (told written : ℕ) (old new : Option (List ℕ)) → NoByte 10 said → IsHeard said None → answer ≡ unknown_text → Appends old new answer
     → written ≡ min (told + length answer) most_counted → IsLineTurn seat seat said told old new (Ok (Some written))
 unfolding unknown_exchange
 unknown_line seat said answer told written old new none heard is out count =
     (unknown_exchange seat said answer, refl, one_answered seat seat (unknown_exchange seat said answer) told written old new (is_unknown seat said answer none heard is) refl out count)
 
 -- a line that was answered
-known_exchange : {A : Type 0} (now : SeatContent A) (said answer : List ℕ) (request : Request) (edits : List (Edit A)) → Exchange A
+known_exchange : {A : Type 0} (now : TalkingSeat A) (said answer : List ℕ) (request : Request) (edits : List (Edit A)) → Exchange A
 known_exchange now said answer request edits = record { said = said; heard = Some request; answer = answer; edits = edits; next = now }
 
-is_known : {A : Type 0} (before now : SeatContent A) (said answer : List ℕ) (request : Request) (edits : List (Edit A)) → IsRequestAnswered A before now request answer edits → NoByte 10 said → IsHeard said (Some request)
+is_known : {A : Type 0} (before now : TalkingSeat A) (said answer : List ℕ) (request : Request) (edits : List (Edit A)) → IsTalkAnswered A before.seat before.draft now request answer edits → NoByte 10 said → IsHeard said (Some request)
     → IsExchange before (known_exchange now said answer request edits)
 unfolding known_exchange
 is_known before now said answer request edits is none heard = record { whole = none; heard = heard; answered = is }
 
-pub known_line : {A : Type 0} (before now : SeatContent A) (said answer sent : List ℕ) (request : Request) (told written : ℕ) (old new : Option (List ℕ)) → NoByte 10 said → IsHeard said (Some request)
-    → (edits : List (Edit A)) × IsRequestAnswered A before now request answer edits → sent ≡ answer → Appends old new sent → written ≡ min (told + length sent) most_counted → IsLineTurn before now said told old new (Ok (Some written))
+pub known_line : {A : Type 0} (before now : TalkingSeat A) (said answer sent : List ℕ) (request : Request) (told written : ℕ) (old new : Option (List ℕ)) → NoByte 10 said → IsHeard said (Some request)
+    → (edits : List (Edit A)) × IsTalkAnswered A before.seat before.draft now request answer edits → sent ≡ answer → Appends old new sent → written ≡ min (told + length sent) most_counted → IsLineTurn before now said told old new (Ok (Some written))
 unfolding known_exchange
 known_line before now said answer sent request told written old new none heard is whole out count = (
   known_exchange now said answer request is.0,
@@ -105,44 +105,44 @@ known_line before now said answer sent request told written old new none heard i
 )
 
 -- a line that was carried out
-carried_out : {A : Type 0} (seat now : SeatContent A) (x : Exchange A) (more : List ℕ) → IsExchange seat x → now ≡ x.next → IsCarriedOut seat now (line x.said ++ more) x.edits x.answer
-carried_out seat now x more is same = record { exchange = x; more = more; is = is; text = refl; answer_is = refl; edits_are = refl; last_is = same }
+carried_out : {A : Type 0} (seat now : TalkingSeat A) (x : Exchange A) (more : List ℕ) → IsExchange seat x → now ≡ x.next → IsCarriedOut seat now.seat (line x.said ++ more) x.edits x.answer
+carried_out {A} seat now x more is same = record { exchange = x; more = more; is = is; text = refl; answer_is = refl; edits_are = refl; last_is = ap (λ (s : TalkingSeat A). s.seat) same }
 
 -- a write of its answer failed
-cut_line : {A : Type 0} (seat now : SeatContent A) (x : Exchange A) (told : ℕ) (old new : Option (List ℕ)) (fault : RunFault) → IsExchange seat x → now ≡ x.next → CutsOff told x.answer old new fault
-    → (more : List ℕ) → (edits : List (Edit A)) × Breaks seat now (line x.said ++ more) edits told old new fault
+cut_line : {A : Type 0} (seat now : TalkingSeat A) (x : Exchange A) (told : ℕ) (old new : Option (List ℕ)) (fault : RunFault) → IsExchange seat x → now ≡ x.next → CutsOff told x.answer old new fault
+    → (more : List ℕ) → (edits : List (Edit A)) × Breaks seat now.seat (line x.said ++ more) edits told old new fault
 cut_line {A} seat now x told old new fault is same cut more =
-    let answer : Breaks seat now (line x.said ++ more) x.edits told old new (Write (min (told + cut.0) most_counted)) =
+    let answer : Breaks seat now.seat (line x.said ++ more) x.edits told old new (Write (min (told + cut.0) most_counted)) =
     (x.answer, carried_out seat now x more is same, (cut.0, cut.1, refl)) in
-    (x.edits, subst (Breaks seat now (line x.said ++ more) x.edits told old new) (sym cut.2) answer)
+    (x.edits, subst (Breaks seat now.seat (line x.said ++ more) x.edits told old new) (sym cut.2) answer)
 
-pub unknown_cut : {A : Type 0} (seat : SeatContent A) (said answer : List ℕ) (told : ℕ) (old new : Option (List ℕ)) (fault : RunFault) → NoByte 10 said → IsHeard said None → answer ≡ unknown_text → CutsOff told answer old new fault
+pub unknown_cut : {A : Type 0} (seat : TalkingSeat A) (said answer : List ℕ) (told : ℕ) (old new : Option (List ℕ)) (fault : RunFault) → NoByte 10 said → IsHeard said None → answer ≡ unknown_text → CutsOff told answer old new fault
     → IsLineTurn seat seat said told old new (Err fault)
 unfolding unknown_exchange
 unknown_cut seat said answer told old new fault none heard is cut =
     cut_line seat seat (unknown_exchange seat said answer) told old new fault (is_unknown seat said answer none heard is) refl cut
 
-pub known_cut : {A : Type 0} (before now : SeatContent A) (said answer sent : List ℕ) (request : Request) (told : ℕ) (old new : Option (List ℕ)) (fault : RunFault) → NoByte 10 said → IsHeard said (Some request)
-    → (edits : List (Edit A)) × IsRequestAnswered A before now request answer edits → sent ≡ answer → CutsOff told sent old new fault → IsLineTurn before now said told old new (Err fault)
+pub known_cut : {A : Type 0} (before now : TalkingSeat A) (said answer sent : List ℕ) (request : Request) (told : ℕ) (old new : Option (List ℕ)) (fault : RunFault) → NoByte 10 said → IsHeard said (Some request)
+    → (edits : List (Edit A)) × IsTalkAnswered A before.seat before.draft now request answer edits → sent ≡ answer → CutsOff told sent old new fault → IsLineTurn before now said told old new (Err fault)
 unfolding known_exchange
 known_cut before now said answer sent request told old new fault none heard is whole cut =
     cut_line before now (known_exchange now said answer request is.0) told old new fault (is_known before now said answer request is.0 is.1 none heard) refl
     (subst (λ (l : List ℕ). CutsOff told l old new fault) whole cut)
 
 -- nothing more was done
-pub left_as : {A : Type 0} (before now : SeatContent A) → now ≡ before → IsLeft before now []
-left_as before now is = record { same = is; none = refl }
+pub left_as : {A : Type 0} (seat : TalkingSeat A) → IsLeft seat seat.seat []
+left_as seat = record { same = refl; none = refl }
 
 -- nothing more was made
-looked : {A : Type 0} (before now : SeatContent A) → HasSeen before now → HasLooked before now []
+looked : {A : Type 0} (before now : TalkingSeat A) → HasSeen before.seat now.seat → HasLooked before now.seat []
 looked before now seen = record { seen = seen; none = refl }
 
-pub not_looked : {A : Type 0} (seat : SeatContent A) → HasLooked seat seat []
-not_looked seat = looked seat seat (record { number = refl; made = refl; begins = ([], append-nil seat.front) })
+pub not_looked : {A : Type 0} (seat : TalkingSeat A) → HasLooked seat seat.seat []
+not_looked seat = looked seat seat (record { number = refl; made = refl; begins = ([], append-nil seat.seat.front) })
 
 -- a line whose answer memory was refused for
-unanswered_line : {A : Type 0} (before now : SeatContent A) (said : List ℕ) (request : Request) (told : ℕ) (old : Option (List ℕ)) (more : List ℕ) → NoByte 10 said → IsHeard said (Some request) → HasNoAnswer before now request Memory
-    → (edits : List (Edit A)) × Breaks before now (line said ++ more) edits told old old Memory
+unanswered_line : {A : Type 0} (before now : TalkingSeat A) (said : List ℕ) (request : Request) (told : ℕ) (old : Option (List ℕ)) (more : List ℕ) → NoByte 10 said → IsHeard said (Some request) → HasNoTalkAnswer before now request Memory
+    → (edits : List (Edit A)) × Breaks before now.seat (line said ++ more) edits told old old Memory
 unfolding known_exchange
 unanswered_line before now said request told old more none heard (inl seen) = ([], (inl (looked before now seen), Appends-nil old))
 unanswered_line before now said request told old more none heard (inr (answer, (edits, is))) =
@@ -150,7 +150,7 @@ unanswered_line before now said request told old more none heard (inr (answer, (
     (edits, (inr (answer, carried_out before now x more (is_known before now said answer request edits is none heard) refl), Appends-nil old))
 
 -- a request wasn't answered
-pub line_fault : {A : Type 0} (before now : SeatContent A) (said : List ℕ) (request : Request) (told : ℕ) (old : Option (List ℕ)) (fault : RunFault) → NoByte 10 said → IsHeard said (Some request) → HasNoAnswer before now request fault
+pub line_fault : {A : Type 0} (before now : TalkingSeat A) (said : List ℕ) (request : Request) (told : ℕ) (old : Option (List ℕ)) (fault : RunFault) → NoByte 10 said → IsHeard said (Some request) → HasNoTalkAnswer before now request fault
     → IsLineTurn before now said told old old (Err fault)
 line_fault before now said request told old NoEntry none heard is = λ more. ([], (looked before now is, omega (arith, length-append (said ++ 10 ∷ []) more, length-append said (10 ∷ [])), Appends-nil old))
 line_fault before now said request told old Memory none heard is = λ more. unanswered_line before now said request told old more none heard is
@@ -169,10 +169,10 @@ line_fault before now said request told old NoPlace none heard is = absurd is
 
 -- ---- lines of a part of the input
 
-pub nothing_answered : {A : Type 0} (seat : SeatContent A) (written : ℕ) (old : Option (List ℕ)) → HasAnswered seat seat [] written written old old
+pub nothing_answered : {A : Type 0} (seat : TalkingSeat A) (written : ℕ) (old : Option (List ℕ)) → HasAnswered seat seat [] written written old old
 nothing_answered {A} seat written old = record { all = no_exchanges seat; out = Appends-nil old; count = omega arith }
 
-pub answered_more : {A : Type 0} (a b c : SeatContent A) (xs ys : List (Exchange A)) (told mid next : ℕ) (old middle new : Option (List ℕ)) → HasAnswered a b xs told mid old middle → HasAnswered b c ys mid next middle new
+pub answered_more : {A : Type 0} (a b c : TalkingSeat A) (xs ys : List (Exchange A)) (told mid next : ℕ) (old middle new : Option (List ℕ)) → HasAnswered a b xs told mid old middle → HasAnswered b c ys mid next middle new
     → HasAnswered a c (xs ++ ys) told next old new
 answered_more {A} a b c xs ys told mid next old middle new p q = record {
   all = exchanges_more a b c xs ys p.all q.all;
@@ -199,7 +199,7 @@ joined_text : {A : Type 0} (xs ys : List (Exchange A)) (rest left : List ℕ) �
 joined_text xs ys rest left is =
     ap (λ (l : List ℕ). lines_of xs ++ l) is ∙ sym (append_assoc (lines_of xs) (lines_of ys) left) ∙ ap (λ (l : List ℕ). l ++ left) (sym (lines_more xs ys))
 
-pub stops_here : {A : Type 0} (a b now : SeatContent A) (xs : List (Exchange A)) (edits : List (Edit A)) (told mid : ℕ) (read rest : List ℕ) (old middle new : Option (List ℕ)) (fault : RunFault) → HasAnswered a b xs told mid old middle
+pub stops_here : {A : Type 0} (a b : TalkingSeat A) (now : SeatContent A) (xs : List (Exchange A)) (edits : List (Edit A)) (told mid : ℕ) (read rest : List ℕ) (old middle new : Option (List ℕ)) (fault : RunFault) → HasAnswered a b xs told mid old middle
     → read ≡ lines_of xs ++ rest → Breaks b now rest edits mid middle new fault → StopsAfter a now read told old new fault
 stops_here a b now xs edits told mid read rest old middle new fault p is breaks = record {
   exchanges = xs;
@@ -215,7 +215,7 @@ stops_here a b now xs edits told mid read rest old middle new fault p is breaks 
   breaks = breaks;
 }
 
-pub stops_later : {A : Type 0} (a b now : SeatContent A) (xs : List (Exchange A)) (told mid : ℕ) (read rest : List ℕ) (old middle new : Option (List ℕ)) (fault : RunFault) → HasAnswered a b xs told mid old middle
+pub stops_later : {A : Type 0} (a b : TalkingSeat A) (now : SeatContent A) (xs : List (Exchange A)) (told mid : ℕ) (read rest : List ℕ) (old middle new : Option (List ℕ)) (fault : RunFault) → HasAnswered a b xs told mid old middle
     → read ≡ lines_of xs ++ rest → StopsAfter b now rest mid middle new fault → StopsAfter a now read told old new fault
 stops_later {A} a b now xs told mid read rest old middle new fault p is s = record {
   exchanges = xs ++ s.exchanges;
@@ -232,29 +232,29 @@ stops_later {A} a b now xs told mid read rest old middle new fault p is s = reco
 }
 
 -- memory was refused for a part of a line
-pub part_memory : {A : Type 0} (before now : SeatContent A) (xs : List (Exchange A)) (told mid : ℕ) (read rest : List ℕ) (held : List ℕ) (long : Bool) (old new : Option (List ℕ)) → HasAnswered before now xs told mid old new
+pub part_memory : {A : Type 0} (before now : TalkingSeat A) (xs : List (Exchange A)) (told mid : ℕ) (read rest : List ℕ) (held : List ℕ) (long : Bool) (old new : Option (List ℕ)) → HasAnswered before now xs told mid old new
     → read ≡ lines_of xs ++ rest → IsPartTurn before now read told held long old new (Err Memory)
-part_memory before now xs told mid read rest held long old new p is = stops_here before now now xs [] told mid read rest old new new Memory p is (inl (not_looked now), Appends-nil new)
+part_memory before now xs told mid read rest held long old new p is = stops_here before now now.seat xs [] told mid read rest old new new Memory p is (inl (not_looked now), Appends-nil new)
 
 -- a line asks for the end
-pub line_quits : {A : Type 0} (before now later : SeatContent A) (xs : List (Exchange A)) (told mid : ℕ) (read part first after : List ℕ) (held : List ℕ) (long : Bool) (old middle new : Option (List ℕ))
+pub line_quits : {A : Type 0} (before now later : TalkingSeat A) (xs : List (Exchange A)) (told mid : ℕ) (read part first after : List ℕ) (held : List ℕ) (long : Bool) (old middle new : Option (List ℕ))
     → HasAnswered before now xs told mid old middle → read ≡ lines_of xs ++ (part ++ (first ++ 10 ∷ after)) → NoByte 10 (part ++ first) → IsLineTurn now later (part ++ first) mid middle new (Ok None)
     → IsPartTurn before later read told held long old new (Ok None)
 line_quits {A} before now later xs told mid read part first after held long old middle new p is none turn = (
   xs,
   line (part ++ first) ++ after,
-  subst (λ (s : SeatContent A). AreExchanges before xs s) (sym turn.1) p.all,
+  subst (λ (s : TalkingSeat A). AreExchanges before xs s) (sym turn.1) p.all,
   text_here read part first after xs is,
   record { said = part ++ first; more = after; is = refl; whole = none; heard = turn.0 },
   subst (Appends old new) (append-nil (answers_of xs)) (Appends-trans old middle new (answers_of xs) [] p.out turn.2),
 )
 
 -- a line isn't answered
-pub line_breaks : {A : Type 0} (before now later : SeatContent A) (xs : List (Exchange A)) (told mid : ℕ) (read part first after : List ℕ) (held : List ℕ) (long : Bool) (old middle new : Option (List ℕ)) (fault : RunFault)
+pub line_breaks : {A : Type 0} (before now later : TalkingSeat A) (xs : List (Exchange A)) (told mid : ℕ) (read part first after : List ℕ) (held : List ℕ) (long : Bool) (old middle new : Option (List ℕ)) (fault : RunFault)
     → HasAnswered before now xs told mid old middle → read ≡ lines_of xs ++ (part ++ (first ++ 10 ∷ after)) → IsLineTurn now later (part ++ first) mid middle new (Err fault)
     → IsPartTurn before later read told held long old new (Err fault)
 line_breaks before now later xs told mid read part first after held long old middle new fault p is turn =
-    stops_here before now later xs (turn after).0 told mid read (line (part ++ first) ++ after) old middle new fault p (text_here read part first after xs is) (turn after).1
+    stops_here before now later.seat xs (turn after).0 told mid read (line (part ++ first) ++ after) old middle new fault p (text_here read part first after xs is) (turn after).1
 
 -- ---- what comes after the last newline
 
@@ -272,13 +272,13 @@ last_cut (b ∷ said) told old new fault some cut = cut
 -- ---- the whole conversation
 
 -- a conversation on its way, from the first seat on: what left the reader is the answered lines and a part of a line, which is held
-pub record IsUnderway {A : Type 0} (first now : SeatContent A) (written : ℕ) (held : List ℕ) (long : Bool) (input input' output output' : Option (List ℕ)) (exchanges : List (Exchange A)) (part : List ℕ) : Type 0 where
+pub record IsUnderway {A : Type 0} (first now : TalkingSeat A) (written : ℕ) (held : List ℕ) (long : Bool) (input input' output output' : Option (List ℕ)) (exchanges : List (Exchange A)) (part : List ℕ) : Type 0 where
   pub left : Consumes input input' (lines_of exchanges ++ part)
   pub none : NoByte 10 part
   pub holds : HoldsLine part held long
   pub answered : HasAnswered first now exchanges 0 written output output'
 
-pub begins : {A : Type 0} (seat : SeatContent A) (held : List ℕ) (long : Bool) (input output : Option (List ℕ)) → HoldsLine [] held long → IsUnderway seat seat 0 held long input input output output [] []
+pub begins : {A : Type 0} (seat : TalkingSeat A) (held : List ℕ) (long : Bool) (input output : Option (List ℕ)) → HoldsLine [] held long → IsUnderway seat seat 0 held long input input output output [] []
 begins {A} seat held long input output holds = record { left = Consumes-nil input; none = tt; holds = holds; answered = nothing_answered seat 0 output }
 
 read_on : {A : Type 0} (input input' input'' : Option (List ℕ)) (xs : List (Exchange A)) (part more : List ℕ) → Consumes input input' (lines_of xs ++ part) → Consumes input' input'' more → Consumes input input'' (lines_of xs ++ (part ++ more))
@@ -289,7 +289,7 @@ left_more : {A : Type 0} (input input' input'' : Option (List ℕ)) (xs ys : Lis
     → Consumes input input'' (lines_of (xs ++ ys) ++ rest)
 left_more input input' input'' xs ys part more rest p q is = subst (Consumes input input'') (joined_text xs ys (part ++ more) rest is) (read_on input input' input'' xs part more p q)
 
-pub goes_on : {A : Type 0} (first now later : SeatContent A) (written next : ℕ) (held held' : List ℕ) (long long' : Bool) (input input' input'' output output' output'' : Option (List ℕ)) (xs : List (Exchange A)) (part more : List ℕ)
+pub goes_on : {A : Type 0} (first now later : TalkingSeat A) (written next : ℕ) (held held' : List ℕ) (long long' : Bool) (input input' input'' output output' output'' : Option (List ℕ)) (xs : List (Exchange A)) (part more : List ℕ)
     → IsUnderway first now written held long input input' output output' xs part → Consumes input' input'' more → IsPartTurn now later (part ++ more) written held' long' output' output'' (Ok (Some next))
     → (ys : List (Exchange A)) × (rest : List ℕ) × IsUnderway first later next held' long' input input'' output output'' ys rest
 goes_on first now later written next held held' long long' input input' input'' output output' output'' xs part more way read turn =
@@ -304,14 +304,14 @@ goes_on first now later written next held held' long long' input input' input'' 
       },
     )
 
-answers_out : {A : Type 0} (first now : SeatContent A) (written : ℕ) (xs ys : List (Exchange A)) (output output' output'' : Option (List ℕ)) → HasAnswered first now xs 0 written output output' → Appends output' output'' (answers_of ys)
+answers_out : {A : Type 0} (first now : TalkingSeat A) (written : ℕ) (xs ys : List (Exchange A)) (output output' output'' : Option (List ℕ)) → HasAnswered first now xs 0 written output output' → Appends output' output'' (answers_of ys)
     → Appends output output'' (answers_of (xs ++ ys))
 answers_out first now written xs ys output output' output'' p out =
     subst (Appends output output'') (sym (answers_more xs ys)) (Appends-trans output output' output'' (answers_of xs) (answers_of ys) p.out out)
 
-pub quits : {A : Type 0} (first now later : SeatContent A) (written : ℕ) (held held' : List ℕ) (long long' : Bool) (input input' input'' output output' output'' : Option (List ℕ)) (xs : List (Exchange A)) (part more : List ℕ)
-    → IsUnderway first now written held long input input' output output' xs part → Consumes input' input'' more → IsPartTurn now later (part ++ more) written held' long' output' output'' (Ok None)
-    → IsTalk first later input input'' output output'' (Ok tt)
+pub quits : {A : Type 0} (first : SeatContent A) (now later : TalkingSeat A) (written : ℕ) (held held' : List ℕ) (long long' : Bool) (input input' input'' output output' output'' : Option (List ℕ)) (xs : List (Exchange A)) (part more : List ℕ)
+    → IsUnderway (talking first None) now written held long input input' output output' xs part → Consumes input' input'' more → IsPartTurn now later (part ++ more) written held' long' output' output'' (Ok None)
+    → IsTalk first later.seat input input'' output output'' (Ok tt)
 quits {A} first now later written held held' long long' input input' input'' output output' output'' xs part more way read turn =
     let (ys, rest, all, is, quit, out) = turn in
     record {
@@ -319,13 +319,13 @@ quits {A} first now later written held held' long long' input input' input'' out
       seat = later;
       rest = rest;
       more = [];
-      answered = exchanges_more first now later xs ys way.answered.all all;
+      answered = exchanges_more (talking first None) now later xs ys way.answered.all all;
       left = left_more input input' input'' xs ys part more rest way.left read is;
-      ends = (left_as later later refl, inl (quit, answers_out first now written xs ys output output' output'' way.answered out));
+      ends = (left_as later, inl (quit, answers_out (talking first None) now written xs ys output output' output'' way.answered out));
     }
 
-pub unread : {A : Type 0} (first now : SeatContent A) (written : ℕ) (held : List ℕ) (long : Bool) (input input' input'' output output' : Option (List ℕ)) (xs : List (Exchange A)) (part : List ℕ)
-    → IsUnderway first now written held long input input' output output' xs part → Keeps input' input'' → IsTalk first now input input'' output output' (Err (Read Failed))
+pub unread : {A : Type 0} (first : SeatContent A) (now : TalkingSeat A) (written : ℕ) (held : List ℕ) (long : Bool) (input input' input'' output output' : Option (List ℕ)) (xs : List (Exchange A)) (part : List ℕ)
+    → IsUnderway (talking first None) now written held long input input' output output' xs part → Keeps input' input'' → IsTalk first now.seat input input'' output output' (Err (Read Failed))
 unread {A} first now written held long input input' input'' output output' xs part way kept = record {
   exchanges = xs;
   seat = now;
@@ -333,7 +333,7 @@ unread {A} first now written held long input input' input'' output output' xs pa
   more = [];
   answered = way.answered.all;
   left = Consumes-kept input input' input'' (lines_of xs ++ part) way.left kept;
-  ends = (left_as now now refl, way.none, way.answered.out);
+  ends = (left_as now, way.none, way.answered.out);
 }
 
 -- the input's end: no more bytes came
@@ -341,9 +341,9 @@ read_out : {A : Type 0} (input input' input'' : Option (List ℕ)) (xs : List (E
 read_out input input' input'' xs part more p q none =
     subst (Consumes input input'') (ap (λ (l : List ℕ). lines_of xs ++ (part ++ l)) none ∙ ap (λ (l : List ℕ). lines_of xs ++ l) (append-nil part)) (read_on input input' input'' xs part more p q)
 
-pub ends_well : {A : Type 0} (first now : SeatContent A) (written : ℕ) (held : List ℕ) (long : Bool) (input input' input'' output output' output'' : Option (List ℕ)) (xs : List (Exchange A)) (part more : List ℕ)
-    → IsUnderway first now written held long input input' output output' xs part → Consumes input' input'' more → more ≡ [] → IsAtEnd input'' → Appends output' output'' (last_answer part)
-    → IsTalk first now input input'' output output'' (Ok tt)
+pub ends_well : {A : Type 0} (first : SeatContent A) (now : TalkingSeat A) (written : ℕ) (held : List ℕ) (long : Bool) (input input' input'' output output' output'' : Option (List ℕ)) (xs : List (Exchange A)) (part more : List ℕ)
+    → IsUnderway (talking first None) now written held long input input' output output' xs part → Consumes input' input'' more → more ≡ [] → IsAtEnd input'' → Appends output' output'' (last_answer part)
+    → IsTalk first now.seat input input'' output output'' (Ok tt)
 ends_well {A} first now written held long input input' input'' output output' output'' xs part more way read none end out = record {
   exchanges = xs;
   seat = now;
@@ -351,7 +351,7 @@ ends_well {A} first now written held long input input' input'' output output' ou
   more = [];
   answered = way.answered.all;
   left = read_out input input' input'' xs part more way.left read none;
-  ends = (left_as now now refl, inr (way.none, end, Appends-trans output output' output'' (answers_of xs) (last_answer part) way.answered.out out));
+  ends = (left_as now, inr (way.none, end, Appends-trans output output' output'' (answers_of xs) (last_answer part) way.answered.out out));
 }
 
 -- a write after some answers that was cut off
@@ -369,13 +369,13 @@ cut_off told answer counted output output' output'' written count out cut =
       count = omega (arith, same, count);
     }
 
-pub ends_cut : {A : Type 0} (first now : SeatContent A) (written : ℕ) (held : List ℕ) (long : Bool) (input input' input'' output output' output'' : Option (List ℕ)) (xs : List (Exchange A)) (part more : List ℕ) (fault : RunFault)
-    → IsUnderway first now written held long input input' output output' xs part → Consumes input' input'' more → more ≡ [] → IsAtEnd input'' → CutsOff written (last_answer part) output' output'' fault
-    → IsTalk first now input input'' output output'' (Err (Run fault))
+pub ends_cut : {A : Type 0} (first : SeatContent A) (now : TalkingSeat A) (written : ℕ) (held : List ℕ) (long : Bool) (input input' input'' output output' output'' : Option (List ℕ)) (xs : List (Exchange A)) (part more : List ℕ) (fault : RunFault)
+    → IsUnderway (talking first None) now written held long input input' output output' xs part → Consumes input' input'' more → more ≡ [] → IsAtEnd input'' → CutsOff written (last_answer part) output' output'' fault
+    → IsTalk first now.seat input input'' output output'' (Err (Run fault))
 ends_cut {A} first now written held long input input' input'' output output' output'' xs part more fault way read none end cut =
     let same : fault ≡ Write (min (written + cut.0) most_counted) = cut.2 in
     let cut' : CutsOff written (last_answer part) output' output'' (Write (min (written + cut.0) most_counted)) = (cut.0, cut.1, refl) in
-    let told : IsTalk first now input input'' output output'' (Err (Run (Write (min (written + cut.0) most_counted)))) =
+    let told : IsTalk first now.seat input input'' output output'' (Err (Run (Write (min (written + cut.0) most_counted)))) =
     record {
       exchanges = xs;
       seat = now;
@@ -385,14 +385,14 @@ ends_cut {A} first now written held long input input' input'' output output' out
       left = read_out input input' input'' xs part more way.left read none;
       ends = (
         last_answer part,
-        inr (left_as now now refl, way.none, end, refl),
+        inr (left_as now, way.none, end, refl),
         cut_off (answers_of xs) (last_answer part) written output output' output'' (min (written + cut.0) most_counted) way.answered.count way.answered.out cut',
       );
     } in
-    subst (λ (f : RunFault). IsTalk first now input input'' output output'' (Err (Run f))) (sym same) told
+    subst (λ (f : RunFault). IsTalk first now.seat input input'' output output'' (Err (Run f))) (sym same) told
 
 -- a part of the input that isn't answered to its end
-stopped : {A : Type 0} (start now : SeatContent A) (read : List ℕ) (input input' output output' : Option (List ℕ)) (fault : RunFault) → Consumes input input' read → StopsAfter start now read 0 output output' fault
+stopped : {A : Type 0} (start now : SeatContent A) (read : List ℕ) (input input' output output' : Option (List ℕ)) (fault : RunFault) → Consumes input input' read → StopsAfter (talking start None) now read 0 output output' fault
     → IsTalk start now input input' output output' (Err (Run fault))
 stopped {A} start now read input input' output output' fault left s = go fault s.breaks
   where
@@ -426,18 +426,18 @@ stopped {A} start now read input input' output output' fault left s = go fault s
     go (Long number) b = absurd b
     go NoPlace b = absurd b
 
-pub breaks_off : {A : Type 0} (first now later : SeatContent A) (written : ℕ) (held held' : List ℕ) (long long' : Bool) (input input' input'' output output' output'' : Option (List ℕ)) (xs : List (Exchange A)) (part more : List ℕ) (fault : RunFault)
-    → IsUnderway first now written held long input input' output output' xs part → Consumes input' input'' more → IsPartTurn now later (part ++ more) written held' long' output' output'' (Err fault)
-    → IsTalk first later input input'' output output'' (Err (Run fault))
+pub breaks_off : {A : Type 0} (first : SeatContent A) (now later : TalkingSeat A) (written : ℕ) (held held' : List ℕ) (long long' : Bool) (input input' input'' output output' output'' : Option (List ℕ)) (xs : List (Exchange A)) (part more : List ℕ) (fault : RunFault)
+    → IsUnderway (talking first None) now written held long input input' output output' xs part → Consumes input' input'' more → IsPartTurn now later (part ++ more) written held' long' output' output'' (Err fault)
+    → IsTalk first later.seat input input'' output output'' (Err (Run fault))
 breaks_off {A} first now later written held held' long long' input input' input'' output output' output'' xs part more fault way read turn =
-    stopped first later (lines_of xs ++ (part ++ more)) input input'' output output'' fault (read_on input input' input'' xs part more way.left read)
-    (stops_later first now later xs 0 written (lines_of xs ++ (part ++ more)) (part ++ more) output output' output'' fault way.answered refl turn)
+    stopped first later.seat (lines_of xs ++ (part ++ more)) input input'' output output'' fault (read_on input input' input'' xs part more way.left read)
+    (stops_later (talking first None) now later.seat xs 0 written (lines_of xs ++ (part ++ more)) (part ++ more) output output' output'' fault way.answered refl turn)
 
 -- ---- before the first line
 
 pub no_memory_yet : {A : Type 0} (seat : SeatContent A) (input output : Option (List ℕ)) → IsTalk seat seat input input output output (Err (Run Memory))
 no_memory_yet {A} seat input output =
-    record { exchanges = []; seat = seat; rest = []; more = []; answered = no_exchanges seat; left = Consumes-nil input; ends = (inl (not_looked seat), Appends-nil output) }
+    record { exchanges = []; seat = talking seat None; rest = []; more = []; answered = no_exchanges (talking seat None); left = Consumes-nil input; ends = (inl (not_looked (talking seat None)), Appends-nil output) }
 
 pub split_length : (rest a b : List ℕ) → rest ≡ a ++ 10 ∷ b → length b + 1 ≤ length rest
 split_length rest a b is = rw is (omega (arith, length-append a (10 ∷ b)))

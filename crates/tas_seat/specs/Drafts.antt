@@ -13,7 +13,7 @@ use Rattle.tas_session.specs.History.{most_edits}
 use Rattle.tas_session.specs.Session.{left_by}
 use Rattle.tas_language.specs.declared.command.Command.TheVariants.{Load}
 use Rattle.tas_language.specs.declared.request.Request.{Request}
-use Rattle.tas_language.specs.declared.request.Request.TheVariants.{Do, Picture, Pictures, Share, History, Quit}
+use Rattle.tas_language.specs.declared.request.Request.TheVariants.{Do, Picture, Pictures, Share, History, Begin, Commit, Drop, Quit}
 use Rattle.tas_seat.specs.Turns.{Standing}
 use Rattle.tas_seat.specs.Edits.{requested_edits, made_between}
 use Rattle.tas_seat.specs.Requests.{TalkState, IsAnswerTo}
@@ -96,6 +96,9 @@ IsDraftAnswered draft request answer draft' = IsAnsweredInDraft draft request an
 abbrev pub IsAboutDesk : Request → Type 0
 IsAboutDesk Share = Unit {0}
 IsAboutDesk (History from) = Unit {0}
+IsAboutDesk Begin = Unit {0}
+IsAboutDesk Commit = Unit {0}
+IsAboutDesk Drop = Unit {0}
 IsAboutDesk Quit = Unit {0}
 IsAboutDesk _ = ⊥
 

@@ -4,6 +4,7 @@ pub mod Edits
 pub mod HistoryText
 pub mod Seats
 pub mod Drafts
+pub mod Conversations
 pub mod Talk
 pub mod Histories
 pub mod Lines

@@ -18,7 +18,7 @@ use Rattle.tas_language.specs.declared.reply.Reply.{Reply}
 use Rattle.tas_language.specs.declared.reply.Reply.TheVariants.{NoFrame, Drawn, Halted, Worked, OutOfMemory}
 use Rattle.tas_language.specs.Replies.{reply_text}
 use Rattle.tas_language.specs.declared.request.Request.{Request}
-use Rattle.tas_language.specs.declared.request.Request.TheVariants.{Do, Retouch, Picture, Pictures, Ram, Digest, Lag, Movie, States, Share, History, Quit}
+use Rattle.tas_language.specs.declared.request.Request.TheVariants.{Do, Retouch, Picture, Pictures, Ram, Digest, Lag, Movie, States, Share, History, Begin, Commit, Drop, Quit}
 use Rattle.tas_language.specs.Answers.{picture_text, ram_text, frame_digest_text, lag_text, movie_text, states_text, share_text}
 use Rattle.tas_seat.specs.Turns.{Standing, halted_reply, IsRetouchTurn, IsTurn}
 
@@ -167,8 +167,8 @@ IsShareAnswer true state answer next = (answer ≡ reply_text OutOfMemory) × Re
 IsShareAnswer false state answer next = (gains : Gains state next) × (answer ≡ share_text state.stands.made gains.gained)
 
 -- the answer to a request at some history and greenzone, and what both come to then. `pictures` and `history` aren't answered so: the pictures
--- of a strip may be answered at several histories, and the entries of a history are more than what it comes to. `quit` is answered nothing: it
--- ends the conversation
+-- of a strip may be answered at several histories, and the entries of a history are more than what it comes to. `begin`, `commit` and `drop` are
+-- about the conversation's draft, and `quit`, which is answered nothing, about its end
 abbrev pub IsAnswerTo : TalkState → Request → List ℕ → TalkState → Type 0
 IsAnswerTo state (Do command) answer next = (reply : Reply) × IsTurn state.stands command reply next.stands × (answer ≡ reply_text reply) × CommandLeaves state next command reply
 IsAnswerTo state (Retouch retouch) answer next = (reply : Reply) × IsRetouchTurn state.stands retouch reply next.stands × (answer ≡ reply_text reply) × Rests state next
@@ -185,4 +185,7 @@ IsAnswerTo state Movie answer next = (no_memory : Bool) × (answer ≡ answer_to
 IsAnswerTo state States answer next = (no_memory : Bool) × (answer ≡ answer_to_states no_memory state.stands next.states) × (next.stands ≡ state.stands) × GainsUnless no_memory state next
 IsAnswerTo state Share answer next = (no_memory : Bool) × IsShareAnswer no_memory state answer next × (next.stands ≡ state.stands)
 IsAnswerTo state (History from) answer next = ⊥
+IsAnswerTo state Begin answer next = ⊥
+IsAnswerTo state Commit answer next = ⊥
+IsAnswerTo state Drop answer next = ⊥
 IsAnswerTo state Quit answer next = ⊥

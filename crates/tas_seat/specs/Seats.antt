@@ -1,5 +1,5 @@
 -- At which histories a seat is answered, and what the seat is afterwards.
-use Rattle.std.specs.Prelude.{◌≡◌, ℕ, ◌+◌, ◌-◌, List, [], ◌∷◌, ◌++◌, length, take, drop, Bool, if◌then◌else◌, Option, Some, None}
+use Rattle.std.specs.Prelude.{◌≡◌, ℕ, ◌+◌, ◌-◌, List, [], ◌∷◌, ◌++◌, length, take, drop, Bool, if◌then◌else◌}
 use Rattle.std.specs.List.{flat_map}
 use mathlib.Core.List.{IsPrefix}
 use Rattle.tas_movie.specs.declared.edit.Edit.{Edit}
@@ -11,7 +11,6 @@ use Rattle.tas_language.specs.declared.command.Command.{Command}
 use Rattle.tas_language.specs.declared.reply.Reply.{Reply}
 use Rattle.tas_language.specs.declared.reply.Reply.TheVariants.{OutOfMemory}
 use Rattle.tas_language.specs.Replies.{reply_text}
-use Rattle.tas_language.specs.Answers.{unknown_text}
 use Rattle.tas_language.specs.declared.request.Request.{Request}
 use Rattle.tas_language.specs.declared.request.Request.TheVariants.{Picture, Pictures, History}
 use Rattle.tas_seat.specs.Edits.{edits_by_command, requested_edits, made_between}
@@ -80,8 +79,3 @@ IsRequestAnswered A before now (Pictures from to) answer edits =
     (edits ≡ []) × (strip : List (StripAnswer A)) × (length strip ≡ to - from) × AreStrip before from strip now × (answer ≡ strip_answers strip)
 IsRequestAnswered A before now (History from) answer edits = (edits ≡ []) × IsHistoryAnswered A before now from answer
 IsRequestAnswered A before now request answer edits = IsAnsweredAt A before now request answer edits
-
--- a line that isn't understood is answered `unknown`, and changes nothing
-abbrev pub IsLineAnswered : (A : Type 0) → SeatContent A → SeatContent A → Option Request → List ℕ → List (Edit A) → Type 0
-IsLineAnswered A before now (Some request) answer edits = IsRequestAnswered A before now request answer edits
-IsLineAnswered A before now None answer edits = (answer ≡ unknown_text) × (edits ≡ []) × (now ≡ before)

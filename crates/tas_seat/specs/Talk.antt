@@ -1,5 +1,5 @@
 -- A seat's conversation: each line is answered at a beginning of the desk's history, and these never get shorter.
-use Rattle.std.specs.Prelude.{◌≡◌, ℕ, ◌<◌, ◌≤◌, min, List, [], ◌∷◌, ◌++◌, length, Option, Some, Result, Ok, Err, ◌⊎◌}
+use Rattle.std.specs.Prelude.{◌≡◌, ℕ, ◌<◌, ◌≤◌, min, List, [], ◌∷◌, ◌++◌, length, Option, Some, None, Result, Ok, Err, ◌⊎◌}
 use Rattle.std.specs.List.{flat_map}
 use Rattle.std.specs.Io.KnownBytes.{Appends, Consumes, IsAtEnd}
 use Rattle.byte_text.specs.CutOff.{IsCutOff}
@@ -15,28 +15,28 @@ use Rattle.tas_language.specs.declared.request.Request.{Request}
 use Rattle.tas_language.specs.declared.request.Request.TheVariants.{Quit}
 use Rattle.tas_language.specs.Requests.{IsHeard}
 use Rattle.tas_language.specs.Answers.{unknown_text}
-use Rattle.tas_seat.specs.Seats.{IsLineAnswered}
+use Rattle.tas_seat.specs.Conversations.{TalkingSeat, talking, IsLineAnswered}
 use Rattle.tas_seat.specs.Inside.Outcomes.{IsMiscounted}
 
 -- ---- lines, one after the other
 
--- a line without its newline, what it is understood as, its answer, the edits that it makes, and the seat then
+-- a line without its newline, what it is understood as, its answer, the edits that it makes, and the seat and its draft then
 pub record Exchange (A : Type 0) : Type 0 where
   pub said : List ℕ
   pub heard : Option Request
   pub answer : List ℕ
   pub edits : List (Edit A)
-  pub next : SeatContent A
+  pub next : TalkingSeat A
 
 -- a line is answered by the definition's answer at a history that begins with what its seat had seen; the seat has then seen this history and,
--- after it, the edits that the line makes
-pub record IsExchange {A : Type 0} (seat : SeatContent A) (exchange : Exchange A) : Type 0 where
+-- after it, the edits that the line makes. In a draft a line is answered at what the draft comes to
+pub record IsExchange {A : Type 0} (seat : TalkingSeat A) (exchange : Exchange A) : Type 0 where
   pub whole : NoByte 10 exchange.said
   pub heard : IsHeard exchange.said exchange.heard
   pub answered : IsLineAnswered A seat exchange.next exchange.heard exchange.answer exchange.edits
 
 -- each line is answered from where the lines before it left the seat; the last seat is what all of them left
-unfoldable pub AreExchanges : {A : Type 0} → SeatContent A → List (Exchange A) → SeatContent A → Type 0
+unfoldable pub AreExchanges : {A : Type 0} → TalkingSeat A → List (Exchange A) → TalkingSeat A → Type 0
 AreExchanges seat [] last = last ≡ seat
 AreExchanges seat (exchange ∷ exchanges) last = IsExchange seat exchange × AreExchanges exchange.next exchanges last
 
@@ -66,23 +66,23 @@ last_answer [] = []
 last_answer (byte ∷ bytes) = unknown_text
 
 -- the first line of the rest was carried out, but its answer isn't out whole
-pub record IsCarriedOut {A : Type 0} (seat last : SeatContent A) (rest : List ℕ) (edits : List (Edit A)) (answer : List ℕ) : Type 0 where
+pub record IsCarriedOut {A : Type 0} (seat : TalkingSeat A) (last : SeatContent A) (rest : List ℕ) (edits : List (Edit A)) (answer : List ℕ) : Type 0 where
   pub exchange : Exchange A
   pub more : List ℕ
   pub is : IsExchange seat exchange
   pub text : rest ≡ line exchange.said ++ more
   pub answer_is : answer ≡ exchange.answer
   pub edits_are : edits ≡ exchange.edits
-  pub last_is : last ≡ exchange.next
+  pub last_is : last ≡ exchange.next.seat
 
 -- nothing more was done
-pub record IsLeft {A : Type 0} (seat last : SeatContent A) (edits : List (Edit A)) : Type 0 where
-  pub same : last ≡ seat
+pub record IsLeft {A : Type 0} (seat : TalkingSeat A) (last : SeatContent A) (edits : List (Edit A)) : Type 0 where
+  pub same : last ≡ seat.seat
   pub none : edits ≡ []
 
 -- nothing more was made, but some pictures of a strip may have been drawn: the seat may have seen more, and its greenzone may be another one
-pub record HasLooked {A : Type 0} (seat last : SeatContent A) (edits : List (Edit A)) : Type 0 where
-  pub seen : HasSeen seat last
+pub record HasLooked {A : Type 0} (seat : TalkingSeat A) (last : SeatContent A) (edits : List (Edit A)) : Type 0 where
+  pub seen : HasSeen seat.seat last
   pub none : edits ≡ []
 
 -- how many bytes a count tells at most
@@ -100,7 +100,7 @@ pub record IsAnswerCutOff (told answer : List ℕ) (old new : Option (List ℕ))
 -- the input, after the answer to what comes after the last newline; where a read failed, with no whole line unanswered; where a write
 -- failed; where memory or a reader's entry was refused; or where the history has another number of the seat's edits than it made, which
 -- never comes where the seat alone makes them
-abbrev pub TalkEnds : {A : Type 0} → (seat last : SeatContent A) → (rest told : List ℕ) → List (Edit A) → (input output output' : Option (List ℕ)) → Result (Unit {0}) ToolFault → Type 0
+abbrev pub TalkEnds : {A : Type 0} → TalkingSeat A → (last : SeatContent A) → (rest told : List ℕ) → List (Edit A) → (input output output' : Option (List ℕ)) → Result (Unit {0}) ToolFault → Type 0
 TalkEnds seat last rest told edits input output output' (Ok _) =
     IsLeft seat last edits × ((IsQuit rest × Appends output output' told) ⊎ (NoByte 10 rest × IsAtEnd input × Appends output output' (told ++ last_answer rest)))
 TalkEnds seat last rest told edits input output output' (Err (Read Failed)) = IsLeft seat last edits × NoByte 10 rest × Appends output output' told
@@ -108,17 +108,18 @@ TalkEnds seat last rest told edits input output output' (Err (Run (Write written
     (answer : List ℕ) × (IsCarriedOut seat last rest edits answer ⊎ (IsLeft seat last edits × NoByte 10 rest × IsAtEnd input × (answer ≡ last_answer rest))) × IsAnswerCutOff told answer output output' written
 TalkEnds seat last rest told edits input output output' (Err (Run Memory)) = (HasLooked seat last edits ⊎ ((answer : List ℕ) × IsCarriedOut seat last rest edits answer)) × Appends output output' told
 TalkEnds seat last rest told edits input output output' (Err (Run NoEntry)) = HasLooked seat last edits × (0 < length rest) × Appends output output' told
-TalkEnds seat last rest told edits input output output' (Err (Run Foreign)) = IsMiscounted seat last
+TalkEnds seat last rest told edits input output output' (Err (Run Foreign)) = IsMiscounted seat.seat last
 TalkEnds seat last rest told edits input output output' (Err _) = ⊥
 
 -- a seat's conversation, from the seat as it was to the seat as it is, and from what the reader has and the writer holds before to what they
--- have and hold afterwards: what left the reader is the lines that were answered, and the rest in front of which it ended
+-- have and hold afterwards: what left the reader is the lines that were answered, and the rest in front of which it ended. It begins with no
+-- draft, and one that is open at the end is lost
 pub record IsTalk {A : Type 0} (start last : SeatContent A) (input input' output output' : Option (List ℕ)) (result : Result (Unit {0}) ToolFault) : Type 0 where
   pub exchanges : List (Exchange A)
-  pub seat : SeatContent A
+  pub seat : TalkingSeat A
   pub rest : List ℕ
   pub more : List (Edit A)
-  pub answered : AreExchanges start exchanges seat
+  pub answered : AreExchanges (talking start None) exchanges seat
   pub left : Consumes input input' (lines_of exchanges ++ rest)
   pub ends : TalkEnds seat last rest (answers_of exchanges) more input' output output' result
 

@@ -159,12 +159,18 @@ impl<A: Allocator + Copy> Draft<A> {
             Request::Lag { from, to } => Ok(Some(self.answer_lag(alloc, from, to)?)),
             Request::Movie => Ok(Some(self.answer_movie(alloc)?)),
             Request::States => Ok(Some(self.answer_states(alloc)?)),
-            Request::Share | Request::History { .. } | Request::Quit => Ok(None),
+            Request::Share
+            | Request::History { .. }
+            | Request::Begin
+            | Request::Commit
+            | Request::Drop
+            | Request::Quit => Ok(None),
         }
     }
 
     /// Answers a request as at a history with the draft's movie, its number of edits and its greenzone. A line that loads a cartridge
-    /// is answered `in draft`. `None`, with nothing changed, where the request isn't about a draft: `share`, `history` and `quit`.
+    /// is answered `in draft`. `None`, with nothing changed, where the request isn't about the movie: `share`, `history`, `begin`,
+    /// `commit`, `drop` and `quit`.
     ///
     /// The one fault is `Memory`, where it is refused for an answer of one short line, once the request is carried out, or for a strip
     /// of pictures, some of which may be drawn.

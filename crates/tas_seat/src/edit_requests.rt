@@ -52,7 +52,7 @@ impl<A: Allocator> Plan<A> for EditRequest {
 }
 
 /// What a refused edit is answered.
-fn refused_as(error: EditError) -> Result<Reply, RunFault>
+pub(crate) fn refused_as(error: EditError) -> Result<Reply, RunFault>
     ensures { result ≡ refused_as error }
 {
     match error {

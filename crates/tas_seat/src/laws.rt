@@ -1,16 +1,19 @@
 //! Laws of a seat's conversation: what the history that its desk leaves shows of it.
 
-ghost use Rattle.std.specs.Prelude.{◌≡◌, ◌≤◌, ◌++◌, ◌∷◌, ℕ, List, Option, Result, Err};
+ghost use Rattle.std.specs.Prelude.{◌≡◌, ◌≤◌, ◌++◌, ◌∷◌, ℕ, List, length, Option, Some, None, Result, Err};
 ghost use mathlib.Core.List.{IsPrefix};
 ghost use Rattle.tas_movie.specs.declared.edit.Edit.{Edit};
 ghost use Rattle.tas_session.specs.declared.entry.Entry.{Entry};
-ghost use Rattle.tas_session.specs.History.{entries_of};
+ghost use Rattle.tas_session.specs.History.{entries_of, movie_of};
 ghost use Rattle.tas_desk.specs.Seats.{SeatContent, IsSettled};
 ghost use Rattle.tas_engines.specs.declared.fault.ToolFault.{ToolFault};
 ghost use Rattle.tas_engines.specs.declared.fault.ToolFault.TheVariants.{Run};
 ghost use Rattle.tas_engines.specs.declared.fault.RunFault.TheVariants.{Foreign};
+ghost use Rattle.tas_language.specs.declared.request.Request.TheVariants.{Commit};
 ghost use Rattle.tas_seat.specs.Seats.{IsSeatAfter};
-ghost use Rattle.tas_seat.specs.Talk.{Exchange, AreExchanges, IsTalk, all_edits};
+ghost use Rattle.tas_seat.specs.Drafts.{DraftContent};
+ghost use Rattle.tas_seat.specs.Conversations.{TalkingSeat, talking};
+ghost use Rattle.tas_seat.specs.Talk.{Exchange, IsExchange, AreExchanges, IsTalk, all_edits};
 ghost use Rattle.tas_seat.specs.Histories.{IsInHistory};
 
 use std::alloc::Allocator;
@@ -35,11 +38,27 @@ pub fn talks_are_in_history<A: Allocator>()
 pub fn answers_are_at_beginnings<A: Allocator>()
     ensures at { (before now : SeatContent A) (history : List (Entry A)) (edits : List (Edit A))
         → IsSeatAfter before history edits now → IsPrefix history now.front }
-    ensures begins { (start last : SeatContent A) (before after : List (Exchange A))
+    ensures begins { (start last : TalkingSeat A) (before after : List (Exchange A))
         (x : Exchange A) (history : List (Entry A))
-        → AreExchanges start (before ++ x ∷ after) last → IsPrefix last.front history
-        → IsPrefix x.next.front history }
-    ensures grows { (start last : SeatContent A) (before between after : List (Exchange A))
+        → AreExchanges start (before ++ x ∷ after) last → IsPrefix last.seat.front history
+        → IsPrefix x.next.seat.front history }
+    ensures grows { (start last : TalkingSeat A) (before between after : List (Exchange A))
         (x y : Exchange A) → AreExchanges start (before ++ x ∷ (between ++ y ∷ after)) last
-        → IsPrefix x.next.front y.next.front }
+        → IsPrefix x.next.seat.front y.next.seat.front }
+{}
+
+/// A draft is one of the movie at which it began, and a `commit` that is made makes just the movie that the draft showed: a history that
+/// begins with what the seat has seen, and has as many edits as when the draft began, has the movie from which it began; and where a
+/// `commit` leaves no draft, the movie of the history that the seat has then seen is the draft's.
+pub fn commits_make_drafts<A: Allocator>()
+    ensures base { (start : SeatContent A) (last : TalkingSeat A) (exchanges : List (Exchange A))
+        (draft : DraftContent) (history : List (Entry A))
+        → AreExchanges (talking start None) exchanges last → last.draft ≡ Some draft
+        → IsPrefix last.seat.front history → length history ≡ draft.at
+        → movie_of history ≡ draft.base }
+    ensures made { (start : SeatContent A) (seat : TalkingSeat A) (exchanges : List (Exchange A))
+        (x : Exchange A) (draft : DraftContent)
+        → AreExchanges (talking start None) exchanges seat → IsExchange seat x
+        → seat.draft ≡ Some draft → x.heard ≡ Some Commit → x.next.draft ≡ None
+        → movie_of x.next.seat.front ≡ draft.movie }
 {}

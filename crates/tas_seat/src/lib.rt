@@ -6,6 +6,7 @@
 
 mod callers;
 mod commands;
+mod conversation;
 mod door;
 mod draft;
 mod draft_answers;
@@ -21,10 +22,11 @@ mod talking;
 
 pub use callers::{Caller, converse_all, seat_end};
 pub use commands::reply_to_command;
+pub use conversation::answer_talk;
 pub use door::Door;
 pub use draft::Draft;
 pub use draft_stroke::stroke_between;
 pub use histories::MAX_ENTRIES;
-pub use laws::{answers_are_at_beginnings, talks_are_in_history};
+pub use laws::{answers_are_at_beginnings, commits_make_drafts, talks_are_in_history};
 pub use requests::answer_request;
 pub use talking::converse;

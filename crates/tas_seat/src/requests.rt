@@ -7,9 +7,9 @@ ghost use Rattle.tas_engines.specs.declared.fault.RunFault.TheVariants.{Memory};
 ghost use Rattle.tas_language.specs.declared.reply.Reply.TheVariants.{OutOfMemory};
 ghost use Rattle.tas_language.specs.Answers.{states_text};
 ghost use Rattle.tas_language.specs.Replies.{reply_text};
-ghost use Rattle.tas_language.specs.declared.request.Request.TheVariants.{Do as ScriptLine, Retouch as RetouchLine, Picture as PictureLine, Pictures as PicturesLine, Movie as MovieLine, States as StatesLine, Share as ShareLine, Quit as QuitLine};
+ghost use Rattle.tas_language.specs.declared.request.Request.TheVariants.{Do as ScriptLine, Retouch as RetouchLine, Picture as PictureLine, Pictures as PicturesLine, Movie as MovieLine, States as StatesLine, Share as ShareLine};
 ghost use Rattle.tas_seat.specs.Requests.{kept_frames};
-ghost use Rattle.tas_seat.specs.Inside.Outcomes.{unshown_as, HasAnswer, HasNoAnswer};
+ghost use Rattle.tas_seat.specs.Inside.Outcomes.{unshown_as, HasAnswer, HasNoAnswer, IsAboutTalk};
 
 use crate::commands::{reply_to_command, unshown_as};
 use crate::edit_requests::{EditRequest, make_edit};
@@ -240,8 +240,8 @@ fn answer_share<N: Name, W: CloseOnDrop, A: Allocator + Copy, R: Wait>(
 }
 
 /// Does what a request asks for, and answers it: at some history that begins with what the seat had seen, and that it has seen
-/// then. The pictures of a strip may be answered at several histories, each of which begins the next. `quit` alone is answered nothing.
-/// Where memory is refused for a picture, a text or a list, the answer is `out of memory`.
+/// then. The pictures of a strip may be answered at several histories, each of which begins the next. `begin`, `commit`, `drop` and
+/// `quit`, which are about a conversation, are answered nothing here. Where memory is refused for a picture, a text or a list, the answer is `out of memory`.
 ///
 /// Faults: those of [`reply_to_command`](crate::reply_to_command), after which the seat may have seen pictures of a strip; and `Memory`,
 /// where it is refused for an answer of one short line, once the request is carried out, or for a strip.
@@ -253,7 +253,7 @@ pub fn answer_request<N: Name, W: CloseOnDrop, A: Allocator + Copy, R: Wait>(
     request: Request,
 ) -> Result<Option<Vec<u8, A>>, RunFault>
     ensures { MatchResult result
-        (λ found. MatchOption found ((request ≡ QuitLine) × (seat.new ≡ seat.old))
+        (λ found. MatchOption found (IsAboutTalk request × (seat.new ≡ seat.old))
         (λ bytes. HasAnswer A seat.old seat.new request bytes.items))
         (HasNoAnswer seat.old seat.new request) }
 {
@@ -269,6 +269,6 @@ pub fn answer_request<N: Name, W: CloseOnDrop, A: Allocator + Copy, R: Wait>(
         Request::States => Ok(Some(answer_states(rt, alloc, desk, seat)?)),
         Request::Share => Ok(Some(answer_share(rt, alloc, desk, seat)?)),
         Request::History { from } => Ok(Some(answer_history(rt, alloc, desk, seat, from)?)),
-        Request::Quit => Ok(None),
+        Request::Begin | Request::Commit | Request::Drop | Request::Quit => Ok(None),
     }
 }

@@ -5,10 +5,12 @@ ghost use Rattle.std.specs.Io.KnownBytes.{Appends};
 ghost use Rattle.byte_text.specs.Splitting.{NoByte};
 ghost use Rattle.tas_language.specs.Answers.{unknown_text};
 ghost use Rattle.tas_language.specs.Held.{HoldsLine};
+ghost use Rattle.tas_seat.specs.Conversations.{talking};
 ghost use Rattle.tas_seat.specs.Talk.{last_answer, most_counted, IsTalk};
 ghost use Rattle.tas_seat.specs.Inside.Talking.{CutsOff, IsLineTurn, IsPartTurn};
 
-use crate::requests::answer_request;
+use crate::Draft;
+use crate::conversation::answer_talk;
 use byte_text::{split_once, write_counted};
 use std::alloc::Allocator;
 use std::io::{Read, Write};
@@ -56,19 +58,20 @@ fn answer_line<N: Name, C: CloseOnDrop, A: Allocator + Copy, R: Wait, W: Write>(
     alloc: A,
     desk: &Desk<N, C, A>,
     seat: &mut Seat<N, A>,
+    draft: &mut Option<Draft<A>>,
     written: usize,
     line: &Line<A>,
     output: &mut W,
 ) -> Result<Option<usize>, RunFault>
     ensures { (said : List ℕ) → HoldsLine said line.now.bytes.items line.now.long
         → NoByte 10 said
-        → IsLineTurn seat.old seat.new said written (W.contents output.old)
-        (W.contents output.new) result }
+        → IsLineTurn (talking seat.old draft.old) (talking seat.new draft.new) said written
+        (W.contents output.old) (W.contents output.new) result }
 {
     let Some(request) = line.request() else {
         return Ok(Some(answer_unknown(output, written)?));
     };
-    let Some(bytes) = answer_request(rt, alloc, desk, seat, request)? else {
+    let Some(bytes) = answer_talk(rt, alloc, desk, seat, draft, request)? else {
         return Ok(None);
     };
     Ok(Some(hand_out(output, bytes.as_slice(), written)?))
@@ -81,6 +84,7 @@ fn answer_part<N: Name, C: CloseOnDrop, A: Allocator + Copy, R: Wait, W: Write>(
     alloc: A,
     desk: &Desk<N, C, A>,
     seat: &mut Seat<N, A>,
+    draft: &mut Option<Draft<A>>,
     before: usize,
     line: &mut Line<A>,
     part: &[u8],
@@ -88,14 +92,15 @@ fn answer_part<N: Name, C: CloseOnDrop, A: Allocator + Copy, R: Wait, W: Write>(
 ) -> Result<Option<usize>, RunFault>
     ensures { (said : List ℕ) → HoldsLine said line.old.bytes.items line.old.long
         → NoByte 10 said
-        → IsPartTurn seat.old seat.new (said ++ part.now) before line.new.bytes.items
-        line.new.long (W.contents output.old) (W.contents output.new) result }
+        → IsPartTurn (talking seat.old draft.old) (talking seat.new draft.new) (said ++ part.now)
+        before line.new.bytes.items line.new.long (W.contents output.old) (W.contents output.new)
+        result }
 {
     let mut rest = part;
     let mut written = before;
     while let Some((front, after)) = split_once(rest, b'\n') {
         line.add(front)?;
-        let Some(next) = answer_line(rt, alloc, desk, seat, written, line, output)? else {
+        let Some(next) = answer_line(rt, alloc, desk, seat, draft, written, line, output)? else {
             return Ok(None);
         };
         written = next;
@@ -124,7 +129,8 @@ fn answer_last<A: Allocator, W: Write>(
     Ok(())
 }
 
-/// Holds a seat's conversation: reads lines and answers each before it reads on, until one asks for the end or no more bytes come.
+/// Holds a seat's conversation: reads lines and answers each before it reads on, until one asks for the end or no more bytes come. A
+/// draft that is open at the end is lost.
 ///
 /// Faults: `Read` where a read failed, with each whole line answered; `Write`, with the first bytes of the answers written, and how
 /// many; `NoEntry`, and `Memory` where it is refused for a line or for its reply, with the lines before answered; `Foreign` where
@@ -143,6 +149,7 @@ pub fn converse<N: Name, C: CloseOnDrop, A: Allocator + Copy, T: Wait, R: Read, 
     let Ok(mut line) = Line::new(alloc) else {
         return Err(ToolFault::Run(RunFault::Memory));
     };
+    let mut draft = None;
     let mut written = 0;
     let mut buffer = [0; CHUNK];
     for _ in rt.forever() {
@@ -153,7 +160,9 @@ pub fn converse<N: Name, C: CloseOnDrop, A: Allocator + Copy, T: Wait, R: Read, 
             return Ok(answer_last(&line, written, output)?);
         }
         let part = &buffer[..count];
-        match answer_part(rt, alloc, desk, seat, written, &mut line, part, output)? {
+        match answer_part(
+            rt, alloc, desk, seat, &mut draft, written, &mut line, part, output,
+        )? {
             Some(next) => written = next,
             None => return Ok(()),
         }

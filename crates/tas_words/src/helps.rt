@@ -184,6 +184,11 @@ next one is read, so that another program can hold the conversation. It has thes
   share                      'share AT N': the states that 'work' kept, of any seat, are kept for shots, N more
   history FROM               a line 'history AT FROM COUNT BYTES', then BYTES bytes: edits from number FROM on,
                              lines 'NUMBER SEAT LINE', LINE as of a script; ask on from FROM + COUNT
+  begin                      'begin AT LEN': a draft is opened; until it is committed or dropped, lines change
+                             the draft alone and are answered by it
+  commit                     'commit AT LEN': what the draft has changed is made in one step of at most two edits;
+                             'moved AT' where others have edited the movie since, and nothing is made
+  drop                       'dropped': the draft is given up
   quit                       ends the conversation, as the end of standard input does
 AT is the number of edits so far. A line that isn't understood, or longer than 16384 bytes, is
 answered 'unknown' and changes nothing. With CART it starts from this cartridge, with MOVIE from this

@@ -18,11 +18,13 @@ use Rattle.tas_engines.specs.declared.fault.RunFault.TheVariants.{NoEntry, Forei
 use Rattle.tas_language.specs.declared.reply.Reply.{Reply}
 use Rattle.tas_language.specs.declared.reply.Reply.TheVariants.{Full, Place, Long, NoFrame, OutOfMemory}
 use Rattle.tas_language.specs.declared.request.Request.{Request}
+use Rattle.tas_language.specs.declared.request.Request.TheVariants.{Begin, Commit, Drop, Quit}
 use Rattle.tas_seat.specs.declared.edit_requests.EditRequest.{EditRequest}
 use Rattle.tas_seat.specs.Edits.{made_between}
 use Rattle.tas_seat.specs.Turns.{Standing, standing_of, refused_reply, edit_reply, standing_unless, halted_reply}
 use Rattle.tas_seat.specs.Requests.{drawn_digest}
 use Rattle.tas_seat.specs.Seats.{IsSeatAfter, IsRequestAnswered}
+use Rattle.tas_seat.specs.Conversations.{TalkingSeat, IsTalkAnswered}
 use Rattle.tas_seat.specs.Inside.EditRequests.{requested_refusal, requested_edit}
 
 -- what a refused edit is answered
@@ -82,3 +84,22 @@ HasNoAnswer before now request NoEntry = HasSeen before now
 HasNoAnswer before now request Foreign = IsMiscounted before now
 HasNoAnswer {A} before now request Memory = HasSeen before now ⊎ ((answer : List ℕ) × HasAnswer A before now request answer)
 HasNoAnswer before now request _ = ⊥
+
+-- requests about the conversation itself, its draft and its end, of which no desk knows
+abbrev pub IsAboutTalk : Request → Type 0
+IsAboutTalk Begin = Unit {0}
+IsAboutTalk Commit = Unit {0}
+IsAboutTalk Drop = Unit {0}
+IsAboutTalk Quit = Unit {0}
+IsAboutTalk _ = ⊥
+
+-- a request of a conversation is answered, and makes some edits
+abbrev pub HasTalkAnswer : (A : Type 0) → TalkingSeat A → TalkingSeat A → Request → List ℕ → Type 0
+HasTalkAnswer A before now request answer = (edits : List (Edit A)) × IsTalkAnswered A before.seat before.draft now request answer edits
+
+-- why it isn't: as a request of a seat alone
+abbrev pub HasNoTalkAnswer : {A : Type 0} → TalkingSeat A → TalkingSeat A → Request → RunFault → Type 0
+HasNoTalkAnswer before now request NoEntry = HasSeen before.seat now.seat
+HasNoTalkAnswer before now request Foreign = IsMiscounted before.seat now.seat
+HasNoTalkAnswer {A} before now request Memory = HasSeen before.seat now.seat ⊎ ((answer : List ℕ) × HasTalkAnswer A before now request answer)
+HasNoTalkAnswer before now request _ = ⊥

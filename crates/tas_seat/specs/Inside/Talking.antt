@@ -11,6 +11,7 @@ use Rattle.byte_text.specs.Splitting.{NoByte}
 use Rattle.tas_language.specs.declared.request.Request.TheVariants.{Quit}
 use Rattle.tas_language.specs.Requests.{IsHeard}
 use Rattle.tas_language.specs.Held.{HoldsLine}
+use Rattle.tas_seat.specs.Conversations.{TalkingSeat}
 use Rattle.tas_seat.specs.Inside.Outcomes.{IsMiscounted}
 use Rattle.tas_seat.specs.Talk.{Exchange, AreExchanges, IsQuit, HasLooked, IsCarriedOut, lines_of, answers_of, most_counted}
 
@@ -19,23 +20,23 @@ abbrev pub CutsOff : ℕ → List ℕ → Option (List ℕ) → Option (List ℕ
 CutsOff before answer old new fault = (sent : ℕ) × IsCutOff old new answer sent × (fault ≡ Write (min (before + sent) most_counted))
 
 -- lines were answered, the answers went out and are counted after this many bytes
-pub record HasAnswered {A : Type 0} (before now : SeatContent A) (exchanges : List (Exchange A)) (told written : ℕ) (old new : Option (List ℕ)) : Type 0 where
+pub record HasAnswered {A : Type 0} (before now : TalkingSeat A) (exchanges : List (Exchange A)) (told written : ℕ) (old new : Option (List ℕ)) : Type 0 where
   pub all : AreExchanges before exchanges now
   pub out : Appends old new (answers_of exchanges)
   pub count : min written most_counted ≡ min (told + length (answers_of exchanges)) most_counted
 
 -- why the rest isn't answered, and what was made of it
-abbrev pub Breaks : {A : Type 0} → (seat now : SeatContent A) → List ℕ → List (Edit A) → ℕ → Option (List ℕ) → Option (List ℕ) → RunFault → Type 0
+abbrev pub Breaks : {A : Type 0} → TalkingSeat A → (now : SeatContent A) → List ℕ → List (Edit A) → ℕ → Option (List ℕ) → Option (List ℕ) → RunFault → Type 0
 Breaks seat now rest edits told old new (Write written) = (answer : List ℕ) × IsCarriedOut seat now rest edits answer × CutsOff told answer old new (Write written)
 Breaks seat now rest edits told old new NoEntry = HasLooked seat now edits × (0 < length rest) × Appends old new []
 Breaks seat now rest edits told old new Memory = (HasLooked seat now edits ⊎ ((answer : List ℕ) × IsCarriedOut seat now rest edits answer)) × Appends old new []
-Breaks seat now rest edits told old new Foreign = IsMiscounted seat now
+Breaks seat now rest edits told old new Foreign = IsMiscounted seat.seat now
 Breaks seat now rest edits told old new _ = ⊥
 
 -- what was read was answered up to a rest that isn't
-pub record StopsAfter {A : Type 0} (start now : SeatContent A) (read : List ℕ) (told : ℕ) (old new : Option (List ℕ)) (fault : RunFault) : Type 0 where
+pub record StopsAfter {A : Type 0} (start : TalkingSeat A) (now : SeatContent A) (read : List ℕ) (told : ℕ) (old new : Option (List ℕ)) (fault : RunFault) : Type 0 where
   pub exchanges : List (Exchange A)
-  pub seat : SeatContent A
+  pub seat : TalkingSeat A
   pub rest : List ℕ
   pub edits : List (Edit A)
   pub middle : Option (List ℕ)
@@ -47,15 +48,15 @@ pub record StopsAfter {A : Type 0} (start now : SeatContent A) (read : List ℕ)
   pub breaks : Breaks seat now rest edits counted middle new fault
 
 -- a line is answered, asks for the end, or isn't answered
-abbrev pub IsLineTurn : {A : Type 0} → SeatContent A → SeatContent A → List ℕ → ℕ → Option (List ℕ) → Option (List ℕ) → Result (Option ℕ) RunFault → Type 0
+abbrev pub IsLineTurn : {A : Type 0} → TalkingSeat A → TalkingSeat A → List ℕ → ℕ → Option (List ℕ) → Option (List ℕ) → Result (Option ℕ) RunFault → Type 0
 IsLineTurn {A} before now said told old new (Ok (Some written)) = (exchange : Exchange A) × (exchange.said ≡ said) × HasAnswered before now (exchange ∷ []) told written old new
 IsLineTurn before now said told old new (Ok None) = IsHeard said (Some Quit) × (now ≡ before) × Appends old new []
-IsLineTurn {A} before now said told old new (Err fault) = (more : List ℕ) → (edits : List (Edit A)) × Breaks before now (line said ++ more) edits told old new fault
+IsLineTurn {A} before now said told old new (Err fault) = (more : List ℕ) → (edits : List (Edit A)) × Breaks before now.seat (line said ++ more) edits told old new fault
 
 -- a part of the input is answered up to a part of a line, which is held; or up to a line that asks for the end; or not
-abbrev pub IsPartTurn : {A : Type 0} → SeatContent A → SeatContent A → List ℕ → ℕ → List ℕ → Bool → Option (List ℕ) → Option (List ℕ) → Result (Option ℕ) RunFault → Type 0
+abbrev pub IsPartTurn : {A : Type 0} → TalkingSeat A → TalkingSeat A → List ℕ → ℕ → List ℕ → Bool → Option (List ℕ) → Option (List ℕ) → Result (Option ℕ) RunFault → Type 0
 IsPartTurn {A} before now read told held long old new (Ok (Some written)) =
     (exchanges : List (Exchange A)) × (part : List ℕ) × (read ≡ lines_of exchanges ++ part) × NoByte 10 part × HoldsLine part held long × HasAnswered before now exchanges told written old new
 IsPartTurn {A} before now read told held long old new (Ok None) =
     (exchanges : List (Exchange A)) × (rest : List ℕ) × AreExchanges before exchanges now × (read ≡ lines_of exchanges ++ rest) × IsQuit rest × Appends old new (answers_of exchanges)
-IsPartTurn before now read told held long old new (Err fault) = StopsAfter before now read told old new fault
+IsPartTurn before now read told held long old new (Err fault) = StopsAfter before now.seat read told old new fault

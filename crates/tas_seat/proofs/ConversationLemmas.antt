@@ -1,0 +1,311 @@
+-- Answers of conversations, in a draft and outside one.
+use Rattle.std.proofs.Common.{◌≡◌, ℕ, ◌+◌, List, [], ◌∷◌, ◌++◌, length, Bool, true, false, Option, Some, None, Result, Ok, Err, inl, inr, refl, sym, ap, subst, ◌∙◌, arith, append-nil}
+use Rattle.std.specs.Prelude.{MatchResult, ◌==◌, nat_lt, is_some, if◌then◌else◌}
+use Rattle.std.proofs.lemmas.Bool.{false≢true, eq-eqb}
+use Rattle.std.proofs.lemmas.Result.{MatchResult-weaker}
+use mathlib.Core.List.{IsPrefix}
+use Rattle.tas_movie.specs.Content.{MovieContent}
+use Rattle.tas_movie.specs.declared.edit.Edit.{Edit}
+use Rattle.tas_movie.specs.declared.edit.EditRefusal.{EditRefusal}
+use Rattle.tas_movie.specs.declared.edit.EditRefusal.TheVariants.{Place as PlaceRefusal, Long as LongRefusal}
+use Rattle.tas_session.specs.declared.entry.Entry.{Entry}
+use Rattle.tas_session.specs.declared.replies.EditError.{EditError}
+use Rattle.tas_session.specs.declared.replies.EditError.TheVariants.{Serial, Full as AllMade, Place as OutOfPlace, Long as OverLong, Memory as NoRoom}
+use Rattle.tas_session.specs.declared.replies.Receipt.{Receipt}
+use Rattle.tas_session.specs.History.{most_edits, movie_of, entries_of}
+use Rattle.tas_session.specs.Session.{error_at}
+use Rattle.tas_desk.specs.Seats.{SeatContent, HasSeen, seat_of}
+use Rattle.tas_desk.specs.Zones.{IsShared}
+use Rattle.tas_engines.specs.declared.fault.RunFault.{RunFault}
+use Rattle.tas_engines.specs.declared.fault.RunFault.TheVariants.{Memory, Foreign}
+use Rattle.tas_language.specs.declared.reply.Reply.{Reply}
+use Rattle.tas_language.specs.declared.reply.Reply.TheVariants.{Full, Place as PlaceReply, Long as LongReply, OutOfMemory}
+use Rattle.tas_language.specs.Replies.{reply_text}
+use Rattle.tas_language.specs.declared.draft_reply.DraftReply.TheVariants.{Began, Committed, Moved as MovedReply}
+use Rattle.tas_language.specs.Drafts.{draft_reply_text}
+use Rattle.tas_language.specs.declared.request.Request.{Request}
+use Rattle.tas_language.specs.declared.request.Request.TheVariants.{Begin, Commit}
+use Rattle.tas_session.specs.Strokes.{entries_by, refusal_in, refused_as as refused_stroke, commit_refusal_at}
+use Rattle.tas_desk.specs.Commits.{IsCommitted as IsDeskCommit}
+use Rattle.tas_session.specs.declared.replies.CommitError.{CommitError}
+use Rattle.tas_session.specs.declared.replies.CommitError.TheVariants.{Moved, Refused}
+use Rattle.tas_seat.specs.Turns.{standing_of, refusal_reply}
+use Rattle.tas_seat.specs.Requests.{GainsUnless}
+use Rattle.tas_seat.specs.Seats.{entries_from, talk_state_at, IsSeatAfter}
+use Rattle.tas_seat.specs.Drafts.{DraftContent, fresh_draft, IsStroke, LeadsTo}
+use Rattle.tas_seat.specs.Conversations.{TalkingSeat, talking, text_of, uncommitted_answer, commit_answer, committed_edits, draft_after_commit}
+use Rattle.tas_seat.specs.Inside.Conversing.{HasNoOutcome}
+use Rattle.tas_seat.specs.Inside.Outcomes.{refused_as, IsMiscounted, HasTalkAnswer, HasNoTalkAnswer}
+use Rattle.tas_seat.proofs.SeatLemmas.{seen_self, looked_at}
+use Rattle.tas_seat.proofs.AnswerLemmas.{unshared, shared_still}
+
+-- ---- answers and faults
+
+said_as : {A : Type 0} (before now : TalkingSeat A) (request : Request) (answer bytes : List ℕ) → bytes ≡ answer → HasTalkAnswer A before now request answer → HasTalkAnswer A before now request bytes
+said_as {A} before now request answer bytes is told = subst (λ (l : List ℕ). HasTalkAnswer A before now request l) (sym is) told
+
+unsaid : {A : Type 0} (before now : TalkingSeat A) (request : Request) (answer : List ℕ) (fault : RunFault) → fault ≡ Memory → HasTalkAnswer A before now request answer → HasNoTalkAnswer before now request fault
+unsaid before now request answer fault is told = subst (HasNoTalkAnswer before now request) (sym is) (inr (answer, told))
+
+-- the answer's bytes, or memory was refused for them
+pub said_text : {X A : Type 0} (before now : TalkingSeat A) (request : Request) (text : List ℕ) (r : Result X RunFault) (bytes_of : X → List ℕ) → MatchResult r (λ bytes. bytes_of bytes ≡ text) (λ fault. fault ≡ Memory) → HasTalkAnswer A before now request text
+    → MatchResult r (λ bytes. HasTalkAnswer A before now request (bytes_of bytes)) (HasNoTalkAnswer before now request)
+said_text before now request text r bytes_of is told =
+    MatchResult-weaker r is (λ bytes e. said_as before now request text (bytes_of bytes) e told) (λ fault e. unsaid before now request text fault e told)
+
+-- the same, where the draft was and is one of these
+pub said_of : {X A : Type 0} (before now : SeatContent A) (draft left old new : Option DraftContent) (request : Request) (text : List ℕ) (r : Result X RunFault) (bytes_of : X → List ℕ) → draft ≡ old → left ≡ new
+    → MatchResult r (λ bytes. bytes_of bytes ≡ text) (λ fault. fault ≡ Memory) → HasTalkAnswer A (talking before old) (talking now new) request text
+    → MatchResult r (λ bytes. HasTalkAnswer A (talking before draft) (talking now left) request (bytes_of bytes)) (HasNoTalkAnswer (talking before draft) (talking now left) request)
+said_of {X} {A} before now draft left old new request text r bytes_of was is said told =
+    said_text (talking before draft) (talking now left) request text r bytes_of said
+    (subst (λ (d : Option DraftContent). HasTalkAnswer A (talking before d) (talking now left) request text) (sym was)
+    (subst (λ (d : Option DraftContent). HasTalkAnswer A (talking before old) (talking now d) request text) (sym is) told))
+
+-- ---- `begin`
+
+-- memory was refused for the desk's states, or for the draft
+pub begin_refused : (A : Type 0) (before now : SeatContent A) (draft : Option DraftContent) → is_some draft ≡ false → HasSeen before now → GainsUnless true (talk_state_at now.front before.zone) (talk_state_at now.front now.zone)
+    → HasTalkAnswer A (talking before draft) (talking now draft) Begin (reply_text OutOfMemory)
+begin_refused A before now (Some draft) is seen gains = absurd (false≢true (sym is))
+begin_refused A before now None is seen gains = (
+  [],
+  (
+    record {
+      answered = record { no_memory = true; answer_is = refl; stands = refl; gains = gains; draft_is = refl };
+      seat = looked_at before now seen;
+    },
+    refl,
+  ),
+)
+
+pub begin_unshared : (A : Type 0) (before now : SeatContent A) (draft : Option DraftContent) → is_some draft ≡ false → HasSeen before now → now.zone ≡ before.zone → HasTalkAnswer A (talking before draft) (talking now draft) Begin (reply_text OutOfMemory)
+begin_unshared A before now draft is seen zone = begin_refused A before now draft is seen (unshared before now zone)
+
+pub begin_unopened : (A : Type 0) (before now : SeatContent A) (draft : Option DraftContent) (gained : ℕ) → is_some draft ≡ false → HasSeen before now → IsShared before.zone now.zone now.front gained
+    → HasTalkAnswer A (talking before draft) (talking now draft) Begin (reply_text OutOfMemory)
+begin_unopened A before now draft gained is seen shared = begin_refused A before now draft is seen (shared_still before now gained shared)
+
+pub begin_opened : (A : Type 0) (before now : SeatContent A) (draft : Option DraftContent) (opened : DraftContent) (at len gained : ℕ) → is_some draft ≡ false → HasSeen before now → at ≡ length now.front → IsShared before.zone now.zone now.front gained
+    → opened ≡ fresh_draft at now.zone.movie now.zone.states → len ≡ length now.zone.movie.inputs → HasTalkAnswer A (talking before draft) (talking now (Some opened)) Begin (draft_reply_text (Began at len))
+begin_opened A before now (Some draft) opened at len gained is seen here shared fresh long = absurd (false≢true (sym is))
+begin_opened A before now None opened at len gained is seen here shared fresh long = (
+  [],
+  (
+    record {
+      answered = record {
+        no_memory = false;
+        answer_is = ap (λ (n : ℕ). draft_reply_text (Began n len)) here ∙ ap (λ (n : ℕ). draft_reply_text (Began (length now.front) n)) (long ∙ ap (λ (m : MovieContent). length m.inputs) shared.made.movie);
+        stands = refl;
+        gains = record { green = record { kept_for = shared.made.movie; lawful = shared.made.lawful }; other = shared.other; others = shared.others; gained = gained; gain = shared.gain };
+        draft_is = ap (λ (d : DraftContent). Some d)
+            (fresh ∙ ap (λ (n : ℕ). fresh_draft n now.zone.movie now.zone.states) here ∙ ap (λ (m : MovieContent). fresh_draft (length now.front) m now.zone.states) shared.made.movie);
+      };
+      seat = looked_at before now seen;
+    },
+    refl,
+  ),
+)
+
+-- ---- `commit`
+
+-- memory was refused
+commit_refused : (A : Type 0) (before now : SeatContent A) (draft : DraftContent) → HasSeen before now → now.zone ≡ before.zone → HasTalkAnswer A (talking before (Some draft)) (talking now (Some draft)) Commit (reply_text OutOfMemory)
+commit_refused A before now draft seen zone =
+    ([], record { at = now.front; answered = inl (record { answer_is = refl; edits_are = refl; draft_is = refl }); zone = zone; seat = looked_at before now seen })
+
+pub commit_unmade : (A : Type 0) (seat : SeatContent A) (draft : DraftContent) → HasTalkAnswer A (talking seat (Some draft)) (talking seat (Some draft)) Commit (reply_text OutOfMemory)
+commit_unmade A seat draft = commit_refused A seat seat draft (seen_self seat) refl
+
+-- what a refusal is answered, where it isn't of the seat's serial
+abbrev refusal_text : CommitError → Option (List ℕ)
+refusal_text (Moved at) = Some (draft_reply_text (MovedReply at))
+refusal_text (Refused (AllMade at)) = Some (reply_text (Full at))
+refusal_text (Refused (OutOfPlace at place len)) = Some (reply_text (PlaceReply at len))
+refusal_text (Refused (OverLong at len)) = Some (reply_text (LongReply at len))
+refusal_text (Refused (Serial at counted)) = None
+refusal_text (Refused NoRoom) = None
+
+abbrev told : Option CommitError → Option (List ℕ)
+told None = None
+told (Some error) = refusal_text error
+
+told_movie : (made : ℕ) (refused : Option EditRefusal) → told (refused_stroke (error_at made refused)) ≡ text_of (refusal_reply made refused)
+told_movie made None = refl
+told_movie made (Some (PlaceRefusal at len)) = refl
+told_movie made (Some (LongRefusal len)) = refl
+
+told_room : (full : Bool) (made : ℕ) (refused : Option EditRefusal)
+    → told (if full then Some (Refused (AllMade made)) else refused_stroke (error_at made refused)) ≡ text_of (if full then Some (Full made) else refusal_reply made refused)
+told_room true made refused = refl
+told_room false made refused = told_movie made refused
+
+told_all : (here full : Bool) (made : ℕ) (refused : Option EditRefusal)
+    → told (if here then (if full then Some (Refused (AllMade made)) else refused_stroke (error_at made refused)) else Some (Moved made))
+    ≡ (if here then text_of (if full then Some (Full made) else refusal_reply made refused) else Some (draft_reply_text (MovedReply made)))
+told_all true full made refused = told_room full made refused
+told_all false full made refused = refl
+
+-- a refusal that isn't of the serial is answered as the definition answers
+told_of : {A : Type 0} (history : List (Entry A)) (seat made at : ℕ) (edits : List (Edit A)) (found : Option CommitError) → commit_refusal_at history seat made at edits ≡ found
+    → (found ≡ Some (Refused (Serial (length history) (entries_of seat history))) → ⊥) → uncommitted_answer (standing_of history) at edits ≡ told found
+told_of {A} history seat made at edits found is other = go (entries_of seat history == made) refl is
+  where
+    go : (b : Bool) → (entries_of seat history == made) ≡ b → (if b then (if length history == at then
+        (if nat_lt most_edits (length history + length edits) then Some (Refused (AllMade (length history))) else refused_stroke (error_at (length history) (refusal_in (movie_of history) edits)))
+        else Some (Moved (length history))) else Some (Refused (Serial (length history) (entries_of seat history)))) ≡ found → uncommitted_answer (standing_of history) at edits ≡ told found
+    go true e is = sym (told_all (length history == at) (nat_lt most_edits (length history + length edits)) (length history) (refusal_in (movie_of history) edits)) ∙ ap told is
+    go false e is = absurd (other (sym is))
+
+entries_same : {A : Type 0} (seat made : ℕ) (edits : List (Edit A)) → entries_by seat made edits ≡ entries_from seat made edits
+entries_same seat made [] = refl
+entries_same {A} seat made (edit ∷ edits) = ap (λ (l : List (Entry A)). record { seat = seat; serial = made; edit = edit } ∷ l) (entries_same seat (made + 1) edits)
+
+-- all edits are made
+pub commit_made : (A : Type 0) (before now : SeatContent A) (draft : DraftContent) (stroke : List (Edit A)) (receipt : Receipt) → IsDeskCommit before now draft.at stroke (Ok receipt) → IsStroke draft.base draft.movie stroke → LeadsTo draft.base stroke draft.movie
+    → HasTalkAnswer A (talking before (Some draft)) (talking now None) Commit (draft_reply_text (Committed receipt.at receipt.len))
+commit_made A before now draft stroke receipt is strokes leads =
+    let free : uncommitted_answer (standing_of is.history) draft.at stroke ≡ None = told_of is.history before.number before.made draft.at stroke None is.refusal (λ e. cc e) in (
+      stroke,
+      record {
+        at = is.history;
+        answered = inr (record {
+          stroke = stroke;
+          stroke_is = strokes;
+          leads = leads;
+          answer_is = ap (λ (r : Receipt). draft_reply_text (Committed r.at r.len)) is.receipt ∙ ap (λ (o : Option (List ℕ)). commit_answer o (standing_of is.history) stroke) (sym free);
+          edits_are = ap (λ (o : Option (List ℕ)). committed_edits o stroke) (sym free);
+          draft_is = ap (λ (o : Option (List ℕ)). draft_after_commit o draft) (sym free);
+        });
+        zone = ap (λ (s : SeatContent A). s.zone) is.seat;
+        seat = record {
+          begins = is.begins;
+          front = ap (λ (s : SeatContent A). s.front) is.seat ∙ ap (λ (l : List (Entry A)). is.history ++ l) (entries_same before.number before.made stroke);
+          number = ap (λ (s : SeatContent A). s.number) is.seat;
+          made = ap (λ (s : SeatContent A). s.made) is.seat;
+        };
+      },
+    )
+
+-- a seat that was answered at a history, and made nothing
+stays_at : {A : Type 0} (before now : SeatContent A) (history : List (Entry A)) → IsPrefix before.front history → now ≡ seat_of before.number before.made history before.zone → IsSeatAfter before history [] now
+stays_at {A} before now history begins is = record {
+  begins = begins;
+  front = ap (λ (s : SeatContent A). s.front) is ∙ sym (append-nil history);
+  number = ap (λ (s : SeatContent A). s.number) is;
+  made = omega (arith, ap (λ (s : SeatContent A). s.made) is);
+}
+
+seen_at : {A : Type 0} (before now : SeatContent A) (history : List (Entry A)) → IsPrefix before.front history → now ≡ seat_of before.number before.made history before.zone → HasSeen before now
+seen_at {A} before now history begins is = record {
+  number = ap (λ (s : SeatContent A). s.number) is;
+  made = ap (λ (s : SeatContent A). s.made) is;
+  begins = subst (λ (l : List (Entry A)). IsPrefix before.front l) (sym (ap (λ (s : SeatContent A). s.front) is)) begins;
+}
+
+-- none are made, and this is why
+stays : (A : Type 0) (before now : SeatContent A) (draft : DraftContent) (stroke : List (Edit A)) (text : List ℕ) (history : List (Entry A)) → IsPrefix before.front history
+    → now ≡ seat_of before.number before.made history before.zone → uncommitted_answer (standing_of history) draft.at stroke ≡ Some text → IsStroke draft.base draft.movie stroke → LeadsTo draft.base stroke draft.movie
+    → HasTalkAnswer A (talking before (Some draft)) (talking now (Some draft)) Commit text
+stays A before now draft stroke text history begins seat why strokes leads = (
+  [],
+  record {
+    at = history;
+    answered = inr (record {
+      stroke = stroke;
+      stroke_is = strokes;
+      leads = leads;
+      answer_is = ap (λ (o : Option (List ℕ)). commit_answer o (standing_of history) stroke) (sym why);
+      edits_are = ap (λ (o : Option (List ℕ)). committed_edits o stroke) (sym why);
+      draft_is = ap (λ (o : Option (List ℕ)). draft_after_commit o draft) (sym why);
+    });
+    zone = ap (λ (s : SeatContent A). s.zone) seat;
+    seat = stays_at before now history begins seat;
+  },
+)
+
+pub commit_moved : (A : Type 0) (before now : SeatContent A) (draft : DraftContent) (stroke : List (Edit A)) (at : ℕ) → IsDeskCommit before now draft.at stroke (Err (Moved at)) → IsStroke draft.base draft.movie stroke → LeadsTo draft.base stroke draft.movie
+    → HasTalkAnswer A (talking before (Some draft)) (talking now (Some draft)) Commit (draft_reply_text (MovedReply at))
+commit_moved A before now draft stroke at is strokes leads =
+    stays A before now draft stroke (draft_reply_text (MovedReply at)) is.history is.begins is.seat
+    (told_of is.history before.number before.made draft.at stroke (Some (Moved at)) is.refusal (λ e. cc e)) strokes leads
+
+-- a commit whose serial is right is refused otherwise
+no_serial : (here full : Bool) (made : ℕ) (refused : Option EditRefusal) (at counted : ℕ)
+    → (if here then (if full then Some (Refused (AllMade made)) else refused_stroke (error_at made refused)) else Some (Moved made)) ≡ Some (Refused (Serial at counted)) → ⊥
+no_serial false full made refused at counted e = cc e
+no_serial true true made refused at counted e = cc e
+no_serial true false made None at counted e = cc e
+no_serial true false made (Some (PlaceRefusal place len)) at counted e = cc e
+no_serial true false made (Some (LongRefusal len)) at counted e = cc e
+
+miscounted : {A : Type 0} (history : List (Entry A)) (seat made here : ℕ) (edits : List (Edit A)) (at counted : ℕ) → commit_refusal_at history seat made here edits ≡ Some (Refused (Serial at counted)) → entries_of seat history ≡ made → ⊥
+miscounted {A} history seat made here edits at counted is same =
+    let rest : Option CommitError =
+    if length history == here then
+    (if nat_lt most_edits (length history + length edits) then Some (Refused (AllMade (length history))) else refused_stroke (error_at (length history) (refusal_in (movie_of history) edits)))
+    else Some (Moved (length history)) in
+    no_serial (length history == here) (nat_lt most_edits (length history + length edits)) (length history) (refusal_in (movie_of history) edits) at counted
+    (sym (ap (λ (b : Bool). if b then rest else Some (Refused (Serial (length history) (entries_of seat history)))) (eq-eqb (entries_of seat history) made same)) ∙ is)
+
+-- what other errors of a commit are answered, or the fault that they are
+abbrev pub CommitSays : (A : Type 0) → SeatContent A → SeatContent A → DraftContent → Result Reply RunFault → Type 0
+CommitSays A before now draft (Ok reply) = HasTalkAnswer A (talking before (Some draft)) (talking now (Some draft)) Commit (reply_text reply)
+CommitSays A before now draft (Err fault) = (fault ≡ Foreign) × IsMiscounted before now
+
+pub commit_says : (A : Type 0) (before now : SeatContent A) (draft : DraftContent) (stroke : List (Edit A)) (error : EditError) → IsDeskCommit before now draft.at stroke (Err (Refused error)) → IsStroke draft.base draft.movie stroke → LeadsTo draft.base stroke draft.movie
+    → CommitSays A before now draft (refused_as error)
+commit_says A before now draft stroke (Serial at counted) is strokes leads = (
+  refl,
+  record {
+    seen = seen_at before now is.history is.begins is.seat;
+    other = λ (e : entries_of now.number now.front ≡ now.made).
+        miscounted is.history before.number before.made draft.at stroke at counted is.refusal
+        (ap (λ (n : ℕ). entries_of n is.history) (sym (ap (λ (s : SeatContent A). s.number) is.seat)) ∙ ap (λ (l : List (Entry A)). entries_of now.number l) (sym (ap (λ (s : SeatContent A). s.front) is.seat)) ∙ e
+        ∙ ap (λ (s : SeatContent A). s.made) is.seat);
+  },
+)
+commit_says A before now draft stroke (AllMade at) is strokes leads =
+    stays A before now draft stroke (reply_text (Full at)) is.history is.begins is.seat
+    (told_of is.history before.number before.made draft.at stroke (Some (Refused (AllMade at))) is.refusal (λ e. cc e)) strokes leads
+commit_says A before now draft stroke (OutOfPlace at place len) is strokes leads =
+    stays A before now draft stroke (reply_text (PlaceReply at len)) is.history is.begins is.seat
+    (told_of is.history before.number before.made draft.at stroke (Some (Refused (OutOfPlace at place len))) is.refusal (λ e. cc e)) strokes leads
+commit_says A before now draft stroke (OverLong at len) is strokes leads =
+    stays A before now draft stroke (reply_text (LongReply at len)) is.history is.begins is.seat
+    (told_of is.history before.number before.made draft.at stroke (Some (Refused (OverLong at len))) is.refusal (λ e. cc e)) strokes leads
+commit_says A before now draft stroke NoRoom is strokes leads =
+    commit_refused A before now draft (seen_at before now is.history is.begins is.seat) (ap (λ (s : SeatContent A). s.zone) is.seat)
+
+-- the same of a draft that says where it began
+committed_at : {A : Type 0} (before now : SeatContent A) (at here : ℕ) (stroke : List (Edit A)) (answer : Result Receipt CommitError) → here ≡ at → IsDeskCommit before now here stroke answer → IsDeskCommit before now at stroke answer
+committed_at before now at here stroke answer is done = subst (λ (n : ℕ). IsDeskCommit before now n stroke answer) is done
+
+pub made_at : (A : Type 0) (before now : SeatContent A) (draft : DraftContent) (here : ℕ) (stroke : List (Edit A)) (receipt : Receipt) → here ≡ draft.at → IsDeskCommit before now here stroke (Ok receipt)
+    → IsStroke draft.base draft.movie stroke → LeadsTo draft.base stroke draft.movie → HasTalkAnswer A (talking before (Some draft)) (talking now None) Commit (draft_reply_text (Committed receipt.at receipt.len))
+made_at A before now draft here stroke receipt is done strokes leads = commit_made A before now draft stroke receipt (committed_at before now draft.at here stroke (Ok receipt) is done) strokes leads
+
+pub moved_at : (A : Type 0) (before now : SeatContent A) (draft : DraftContent) (here : ℕ) (stroke : List (Edit A)) (at : ℕ) → here ≡ draft.at → IsDeskCommit before now here stroke (Err (Moved at))
+    → IsStroke draft.base draft.movie stroke → LeadsTo draft.base stroke draft.movie → HasTalkAnswer A (talking before (Some draft)) (talking now (Some draft)) Commit (draft_reply_text (MovedReply at))
+moved_at A before now draft here stroke at is done strokes leads = commit_moved A before now draft stroke at (committed_at before now draft.at here stroke (Err (Moved at)) is done) strokes leads
+
+refused_at : (A : Type 0) (before now : SeatContent A) (draft : DraftContent) (here : ℕ) (stroke : List (Edit A)) (error : EditError) (r : Result Reply RunFault) → r ≡ refused_as error → here ≡ draft.at
+    → IsDeskCommit before now here stroke (Err (Refused error)) → IsStroke draft.base draft.movie stroke → LeadsTo draft.base stroke draft.movie → CommitSays A before now draft r
+refused_at A before now draft here stroke error r tells is done strokes leads =
+    subst (λ (x : Result Reply RunFault). CommitSays A before now draft x) (sym tells)
+    (commit_says A before now draft stroke error (committed_at before now draft.at here stroke (Err (Refused error)) is done) strokes leads)
+
+pub refusal_said : (A : Type 0) (before now : SeatContent A) (draft : DraftContent) (here : ℕ) (stroke : List (Edit A)) (error : EditError) (r : Result Reply RunFault) (reply : Reply) → r ≡ refused_as error → r ≡ Ok reply → here ≡ draft.at
+    → IsDeskCommit before now here stroke (Err (Refused error)) → IsStroke draft.base draft.movie stroke → LeadsTo draft.base stroke draft.movie
+    → HasTalkAnswer A (talking before (Some draft)) (talking now (Some draft)) Commit (reply_text reply)
+refusal_said A before now draft here stroke error r reply tells was is done strokes leads =
+    subst (λ (x : Result Reply RunFault). CommitSays A before now draft x) was (refused_at A before now draft here stroke error r tells is done strokes leads)
+
+pub refusal_fault : (A : Type 0) (before now : SeatContent A) (draft : DraftContent) (here : ℕ) (stroke : List (Edit A)) (error : EditError) (r : Result Reply RunFault) (fault : RunFault) → r ≡ refused_as error → r ≡ Err fault → here ≡ draft.at
+    → IsDeskCommit before now here stroke (Err (Refused error)) → IsStroke draft.base draft.movie stroke → LeadsTo draft.base stroke draft.movie → HasNoOutcome before now fault
+refusal_fault A before now draft here stroke error r fault tells was is done strokes leads =
+    subst (λ (x : Result Reply RunFault). CommitSays A before now draft x) was (refused_at A before now draft here stroke error r tells is done strokes leads)
+
+-- a commit that isn't carried out
+pub no_outcome : {A : Type 0} (before now : TalkingSeat A) (fault : RunFault) → (fault ≡ Foreign) × IsMiscounted before.seat now.seat → HasNoTalkAnswer before now Commit fault
+no_outcome before now fault is = subst (HasNoTalkAnswer before now Commit) (sym is.0) is.1

@@ -1,0 +1,6 @@
+use Rattle.tas_seat.proofs.SubjectLemmas.{inside_said}
+use Rattle.tas_seat.proofs.conversation.answer_in_draft.Goals as goal
+
+pub returns : goal.returns
+returns g c = λ seat.
+    inside_said g.row.A.Denot seat c.args.opened.now c.answer.new.self c.args.request c.answer.result (λ bytes. bytes.items) c.requires c.answer.ensures.answer c.answer.ensures.kept

@@ -1,0 +1,140 @@
+-- Drafts of conversations: `begin`, `commit` and `drop`, and what the other lines are answered outside a draft and in one.
+use Rattle.std.specs.Prelude.{◌≡◌, ℕ, ◌+◌, ◌==◌, nat_lt, List, [], length, Bool, if◌then◌else◌, Option, Some, None, ◌⊎◌}
+use Rattle.tas_movie.specs.declared.edit.Edit.{Edit}
+use Rattle.tas_session.specs.declared.entry.Entry.{Entry}
+use Rattle.tas_session.specs.History.{most_edits}
+use Rattle.tas_desk.specs.Seats.{SeatContent}
+use Rattle.tas_language.specs.declared.reply.Reply.{Reply}
+use Rattle.tas_language.specs.declared.reply.Reply.TheVariants.{Full, OutOfMemory}
+use Rattle.tas_language.specs.Replies.{reply_text}
+use Rattle.tas_language.specs.declared.draft_reply.DraftReply.TheVariants.{Began, Committed, Moved, Dropped, NoDraft, InDraft}
+use Rattle.tas_language.specs.Drafts.{draft_reply_text}
+use Rattle.tas_language.specs.Answers.{unknown_text}
+use Rattle.tas_language.specs.declared.request.Request.{Request}
+use Rattle.tas_language.specs.declared.request.Request.TheVariants.{Share, History, Begin, Commit, Drop}
+use Rattle.tas_session.specs.Strokes.{edited_by, refusal_in}
+use Rattle.tas_seat.specs.Turns.{Standing, standing_of, refusal_reply}
+use Rattle.tas_seat.specs.Requests.{TalkState, GainsUnless}
+use Rattle.tas_seat.specs.Seats.{talk_state_at, IsSeatAfter, IsRequestAnswered}
+use Rattle.tas_seat.specs.Drafts.{DraftContent, fresh_draft, IsDraft, IsDraftAnswered, IsStroke, LeadsTo}
+
+-- ---- `begin`
+
+-- the answer to `begin`
+abbrev pub begin_answer : Bool → Standing → List ℕ
+begin_answer no_memory stands = if no_memory then reply_text OutOfMemory else draft_reply_text (Began stands.made (length stands.movie.inputs))
+
+-- the draft that it opens: of the movie that was made, with the states that the greenzone then has
+abbrev pub begun_draft : Bool → TalkState → Option DraftContent
+begun_draft no_memory next = if no_memory then None else Some (fresh_draft next.stands.made next.stands.movie next.states)
+
+-- the answer to `begin` at what was made and kept so far, and what is made and kept then: the greenzone is brought up to the movie. It opens
+-- a draft, or memory was refused
+pub record IsBeginAnswer (state : TalkState) (answer : List ℕ) (next : TalkState) (draft : Option DraftContent) : Type 0 where
+  pub no_memory : Bool
+  pub answer_is : answer ≡ begin_answer no_memory state.stands
+  pub stands : next.stands ≡ state.stands
+  pub gains : GainsUnless no_memory state next
+  pub draft_is : draft ≡ begun_draft no_memory next
+
+-- ---- `commit`
+
+abbrev pub text_of : Option Reply → Option (List ℕ)
+text_of None = None
+text_of (Some reply) = Some (reply_text reply)
+
+-- the answer to a `commit` of these edits that isn't made: the history has another number of edits than when the draft began; or it has no room
+-- for them all; or its movie doesn't allow them, which never comes where this is the draft's base
+abbrev pub uncommitted_answer : {A : Type 0} → Standing → ℕ → List (Edit A) → Option (List ℕ)
+uncommitted_answer stands at edits =
+    if stands.made == at then
+    text_of (if nat_lt most_edits (stands.made + length edits) then Some (Full stands.made) else refusal_reply stands.made (refusal_in stands.movie edits))
+    else Some (draft_reply_text (Moved stands.made))
+
+-- the answer to `commit` of these edits, where this refuses it
+abbrev pub commit_answer : {A : Type 0} → Option (List ℕ) → Standing → List (Edit A) → List ℕ
+commit_answer None stands edits = draft_reply_text (Committed (stands.made + length edits) (length (edited_by stands.movie edits).inputs))
+commit_answer (Some text) stands edits = text
+
+-- what it makes: all of them, or none
+abbrev pub committed_edits : {A : Type 0} → Option (List ℕ) → List (Edit A) → List (Edit A)
+committed_edits None edits = edits
+committed_edits (Some text) edits = []
+
+-- the draft then: none where they are made
+abbrev pub draft_after_commit : Option (List ℕ) → DraftContent → Option DraftContent
+draft_after_commit None draft = None
+draft_after_commit (Some text) draft = Some draft
+
+-- memory was refused for a commit: nothing is made, and the draft stays open
+pub record IsNoMemoryCommit {A : Type 0} (draft : DraftContent) (answer : List ℕ) (edits : List (Edit A)) (next : Option DraftContent) : Type 0 where
+  pub answer_is : answer ≡ reply_text OutOfMemory
+  pub edits_are : edits ≡ []
+  pub draft_is : next ≡ Some draft
+
+-- a draft is committed at what was made so far: the edits that make its movie of its base are made, all of them, and no draft is open then; or
+-- none are made, and the draft stays open
+pub record IsStrokeAnswer {A : Type 0} (stands : Standing) (draft : DraftContent) (answer : List ℕ) (edits : List (Edit A)) (next : Option DraftContent) : Type 0 where
+  pub stroke : List (Edit A)
+  pub stroke_is : IsStroke draft.base draft.movie stroke
+  pub leads : LeadsTo draft.base stroke draft.movie
+  pub answer_is : answer ≡ commit_answer (uncommitted_answer stands draft.at stroke) stands stroke
+  pub edits_are : edits ≡ committed_edits (uncommitted_answer stands draft.at stroke) stroke
+  pub draft_is : next ≡ draft_after_commit (uncommitted_answer stands draft.at stroke) draft
+
+-- the answer to `commit` of a draft at what was made so far, the edits that it makes, and the draft then
+abbrev pub IsCommitAnswer : {A : Type 0} → Standing → DraftContent → List ℕ → List (Edit A) → Option DraftContent → Type 0
+IsCommitAnswer stands draft answer edits next = IsNoMemoryCommit draft answer edits next ⊎ IsStrokeAnswer stands draft answer edits next
+
+-- ---- lines
+
+-- a seat in a conversation, and its draft where one is open
+pub record TalkingSeat (A : Type 0) : Type 0 where
+  pub seat : SeatContent A
+  pub draft : Option DraftContent
+
+abbrev pub talking : {A : Type 0} → SeatContent A → Option DraftContent → TalkingSeat A
+talking seat draft = record { seat = seat; draft = draft }
+
+-- `begin` is answered at the history that the seat has seen then
+pub record IsBegun {A : Type 0} (before : SeatContent A) (now : TalkingSeat A) (answer : List ℕ) : Type 0 where
+  pub answered : IsBeginAnswer (talk_state_at now.seat.front before.zone) answer (talk_state_at now.seat.front now.seat.zone) now.draft
+  pub seat : IsSeatAfter before now.seat.front [] now.seat
+
+-- `commit` is answered at some history, after which its edits stand, with no other between them
+pub record IsCommitted {A : Type 0} (before : SeatContent A) (draft : DraftContent) (now : TalkingSeat A) (answer : List ℕ) (edits : List (Edit A)) : Type 0 where
+  pub at : List (Entry A)
+  pub answered : IsCommitAnswer (standing_of at) draft answer edits now.draft
+  pub zone : now.seat.zone ≡ before.zone
+  pub seat : IsSeatAfter before at edits now.seat
+
+-- a line about the draft makes nothing, and leaves the seat
+pub record LeavesSeat {A : Type 0} (before : SeatContent A) (now : TalkingSeat A) (edits : List (Edit A)) : Type 0 where
+  pub same : now.seat ≡ before
+  pub none : edits ≡ []
+
+-- a request is answered where no draft is open
+abbrev pub IsAnsweredOutside : (A : Type 0) → SeatContent A → TalkingSeat A → Request → List ℕ → List (Edit A) → Type 0
+IsAnsweredOutside A before now Begin answer edits = IsBegun before now answer × (edits ≡ [])
+IsAnsweredOutside A before now Commit answer edits = (answer ≡ draft_reply_text NoDraft) × (now.draft ≡ None) × LeavesSeat before now edits
+IsAnsweredOutside A before now Drop answer edits = (answer ≡ draft_reply_text NoDraft) × (now.draft ≡ None) × LeavesSeat before now edits
+IsAnsweredOutside A before now request answer edits = IsRequestAnswered A before now.seat request answer edits × (now.draft ≡ None)
+
+-- a request is answered in a draft. `share` and `history` are about the desk; of the others the seat sees `commit` alone
+abbrev pub IsAnsweredInside : (A : Type 0) → SeatContent A → DraftContent → TalkingSeat A → Request → List ℕ → List (Edit A) → Type 0
+IsAnsweredInside A before draft now Begin answer edits = (answer ≡ draft_reply_text InDraft) × (now.draft ≡ Some draft) × LeavesSeat before now edits
+IsAnsweredInside A before draft now Commit answer edits = IsCommitted before draft now answer edits
+IsAnsweredInside A before draft now Drop answer edits = (answer ≡ draft_reply_text Dropped) × (now.draft ≡ None) × LeavesSeat before now edits
+IsAnsweredInside A before draft now Share answer edits = IsRequestAnswered A before now.seat Share answer edits × (now.draft ≡ Some draft)
+IsAnsweredInside A before draft now (History from) answer edits = IsRequestAnswered A before now.seat (History from) answer edits × (now.draft ≡ Some draft)
+IsAnsweredInside A before draft now request answer edits = (next : DraftContent) × IsDraftAnswered draft request answer next × IsDraft next × (now.draft ≡ Some next) × LeavesSeat before now edits
+
+-- a request of a conversation is answered
+abbrev pub IsTalkAnswered : (A : Type 0) → SeatContent A → Option DraftContent → TalkingSeat A → Request → List ℕ → List (Edit A) → Type 0
+IsTalkAnswered A before None now request answer edits = IsAnsweredOutside A before now request answer edits
+IsTalkAnswered A before (Some draft) now request answer edits = IsAnsweredInside A before draft now request answer edits
+
+-- a line that isn't understood is answered `unknown`, and changes nothing
+abbrev pub IsLineAnswered : (A : Type 0) → TalkingSeat A → TalkingSeat A → Option Request → List ℕ → List (Edit A) → Type 0
+IsLineAnswered A before now (Some request) answer edits = IsTalkAnswered A before.seat before.draft now request answer edits
+IsLineAnswered A before now None answer edits = (answer ≡ unknown_text) × (edits ≡ []) × (now ≡ before)

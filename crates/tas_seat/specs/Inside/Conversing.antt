@@ -1,0 +1,36 @@
+-- Requests of a conversation, by what they are about, and what came of a commit. Private functions cite this file.
+use Rattle.std.specs.Prelude.{◌≡◌, Some, None}
+use Rattle.tas_desk.specs.Seats.{SeatContent}
+use Rattle.tas_engines.specs.declared.fault.RunFault.{RunFault}
+use Rattle.tas_engines.specs.declared.fault.RunFault.TheVariants.{Foreign}
+use Rattle.tas_language.specs.Replies.{reply_text}
+use Rattle.tas_language.specs.Drafts.{draft_reply_text}
+use Rattle.tas_language.specs.declared.request.Request.{Request}
+use Rattle.tas_language.specs.declared.request.Request.TheVariants.{Share, History, Begin, Commit, Drop, Quit}
+use Rattle.tas_seat.specs.Drafts.{DraftContent}
+use Rattle.tas_seat.specs.Conversations.{talking}
+use Rattle.tas_seat.specs.Inside.Outcomes.{IsMiscounted, HasTalkAnswer}
+use Rattle.tas_seat.specs.declared.conversation.Outcome.{Outcome}
+use Rattle.tas_seat.specs.declared.conversation.Outcome.TheVariants.{Made, Moved, Refused}
+use Rattle.tas_seat.specs.declared.conversation.Subject.{Subject}
+use Rattle.tas_seat.specs.declared.conversation.Subject.TheVariants as subject
+
+-- what a request is about
+abbrev pub subject_of : Request → Subject
+subject_of Begin = subject.Begin
+subject_of Commit = subject.Commit
+subject_of Drop = subject.Drop
+subject_of Quit = subject.End
+subject_of Share = subject.Desk
+subject_of (History from) = subject.Desk
+subject_of _ = subject.Movie
+
+-- what came of a commit, and its answer
+abbrev pub HasOutcome : (A : Type 0) → SeatContent A → SeatContent A → DraftContent → Outcome → Type 0
+HasOutcome A before now draft (Made reply) = HasTalkAnswer A (talking before (Some draft)) (talking now None) Commit (draft_reply_text reply)
+HasOutcome A before now draft (Moved reply) = HasTalkAnswer A (talking before (Some draft)) (talking now (Some draft)) Commit (draft_reply_text reply)
+HasOutcome A before now draft (Refused reply) = HasTalkAnswer A (talking before (Some draft)) (talking now (Some draft)) Commit (reply_text reply)
+
+-- why nothing came of it
+abbrev pub HasNoOutcome : {A : Type 0} → SeatContent A → SeatContent A → RunFault → Type 0
+HasNoOutcome before now fault = (fault ≡ Foreign) × IsMiscounted before now

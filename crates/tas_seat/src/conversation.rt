@@ -1,0 +1,239 @@
+//! Answering a request of a conversation, in a draft or outside one.
+
+ghost use Rattle.std.specs.Prelude.{◌≡◌, ◌≤◌, Some, IfOk, MatchOption, MatchResult};
+ghost use Rattle.tas_green.specs.Green.{IsLawful};
+ghost use Rattle.tas_session.specs.History.{most_edits};
+ghost use Rattle.tas_desk.specs.Seats.{SeatContent};
+ghost use Rattle.tas_engines.specs.declared.fault.RunFault.TheVariants.{Memory};
+ghost use Rattle.tas_language.specs.Drafts.{draft_reply_text};
+ghost use Rattle.tas_language.specs.declared.request.Request.TheVariants.{Begin as BeginLine, Commit as CommitLine, Drop as DropLine, Quit as QuitLine};
+ghost use Rattle.tas_seat.specs.Conversations.{talking};
+ghost use Rattle.tas_seat.specs.Drafts.{fresh_draft};
+ghost use Rattle.tas_seat.specs.Inside.Conversing.{subject_of, HasOutcome, HasNoOutcome};
+ghost use Rattle.tas_seat.specs.declared.conversation.Subject.TheVariants.{Movie as AboutMovie};
+ghost use Rattle.tas_seat.specs.Inside.Outcomes.{HasTalkAnswer, HasNoTalkAnswer};
+
+use crate::Draft;
+use crate::edit_requests::refused_as;
+use crate::requests::{answer_of_reply, answer_request};
+use std::alloc::{AllocError, Allocator};
+use std::sync::Wait;
+use tas_desk::{CloseOnDrop, CommitError, Desk, Name, Seat};
+use tas_engines::RunFault;
+use tas_language::{DraftReply, Reply, Request, draft_reply_line};
+
+/// What a request of a conversation is about.
+#[derive(Clone, Copy)]
+enum Subject {
+    /// `begin`: a draft that isn't open yet.
+    Begin,
+    /// `commit`: the draft's change.
+    Commit,
+    /// `drop`: the draft itself.
+    Drop,
+    /// `share` and `history`: the desk.
+    Desk,
+    /// The movie: that of the draft where one is open, else the desk's.
+    Movie,
+    /// `quit`: the conversation's end.
+    End,
+}
+
+/// What a request is about.
+fn about(request: Request) -> Subject
+    ensures { result ≡ subject_of request }
+{
+    match request {
+        Request::Begin => Subject::Begin,
+        Request::Commit => Subject::Commit,
+        Request::Drop => Subject::Drop,
+        Request::Quit => Subject::End,
+        Request::Share => Subject::Desk,
+        Request::History { from: _ } => Subject::Desk,
+        _ => Subject::Movie,
+    }
+}
+
+/// An answer about a draft.
+fn answer_about_draft<A: Allocator>(alloc: A, reply: DraftReply) -> Result<Vec<u8, A>, RunFault>
+    ensures { MatchResult result (λ bytes. bytes.items ≡ draft_reply_text reply)
+        (λ fault. fault ≡ Memory) }
+{
+    Ok(draft_reply_line(alloc, reply)?)
+}
+
+/// A draft of the movie of a seat's greenzone, with a copy of its states.
+fn open_draft<N: Name, A: Allocator + Copy>(
+    alloc: A,
+    seat: &Seat<N, A>,
+    at: u64,
+) -> Result<Draft<A>, AllocError>
+    requires lawful { IsLawful seat.now.zone.movie seat.now.zone.states }
+    requires most { at ≤ most_edits }
+    ensures { IfOk result
+        (λ draft. draft ≡ fresh_draft at seat.now.zone.movie seat.now.zone.states) }
+{
+    let base = seat.zone_movie().copy(alloc)?;
+    let movie = seat.zone_movie().copy(alloc)?;
+    let green = seat.copy_zone(alloc)?;
+    Ok(Draft::new(base, movie, green, at))
+}
+
+/// A `begin` line.
+fn answer_begin<N: Name, W: CloseOnDrop, A: Allocator + Copy, R: Wait>(
+    rt: &R,
+    alloc: A,
+    desk: &Desk<N, W, A>,
+    seat: &mut Seat<N, A>,
+    draft: &mut Option<Draft<A>>,
+) -> Result<Vec<u8, A>, RunFault>
+    ensures { MatchResult result
+        (λ bytes. HasTalkAnswer A (talking seat.old draft.old) (talking seat.new draft.new)
+        BeginLine bytes.items)
+        (HasNoTalkAnswer (talking seat.old draft.old) (talking seat.new draft.new) BeginLine) }
+{
+    if draft.is_some() {
+        return answer_about_draft(alloc, DraftReply::InDraft);
+    }
+    let Ok(brought) = desk.bring(rt, seat) else {
+        return answer_of_reply(alloc, Reply::OutOfMemory);
+    };
+    let Ok(opened) = open_draft(alloc, seat, brought.at) else {
+        return answer_of_reply(alloc, Reply::OutOfMemory);
+    };
+    *draft = Some(opened);
+    let len = seat.zone_movie().len();
+    answer_about_draft(
+        alloc,
+        DraftReply::Began {
+            at: brought.at,
+            len,
+        },
+    )
+}
+
+/// What came of a `commit`, and its answer.
+#[derive(Clone, Copy)]
+enum Outcome {
+    /// The draft's change was made.
+    Made(DraftReply),
+    /// Others have edited the movie.
+    Moved(DraftReply),
+    /// Nothing was made, as of an edit that is refused.
+    Refused(Reply),
+}
+
+/// Makes what an open draft comes to.
+fn make_stroke<N: Name, W: CloseOnDrop, A: Allocator + Copy, R: Wait>(
+    rt: &R,
+    alloc: A,
+    desk: &Desk<N, W, A>,
+    seat: &mut Seat<N, A>,
+    opened: &Draft<A>,
+) -> Result<Outcome, RunFault>
+    ensures { MatchResult result (HasOutcome A seat.old seat.new opened.now)
+        (HasNoOutcome seat.old seat.new) }
+{
+    let Ok(stroke) = opened.stroke(alloc) else {
+        return Ok(Outcome::Refused(Reply::OutOfMemory));
+    };
+    match desk.commit(rt, seat, opened.at(), stroke) {
+        Ok(receipt) => Ok(Outcome::Made(DraftReply::Committed {
+            at: receipt.at,
+            len: receipt.len,
+        })),
+        Err(CommitError::Moved { at }) => Ok(Outcome::Moved(DraftReply::Moved { at })),
+        Err(CommitError::Refused(error)) => Ok(Outcome::Refused(refused_as(error)?)),
+    }
+}
+
+/// A `commit` line.
+fn answer_commit<N: Name, W: CloseOnDrop, A: Allocator + Copy, R: Wait>(
+    rt: &R,
+    alloc: A,
+    desk: &Desk<N, W, A>,
+    seat: &mut Seat<N, A>,
+    draft: &mut Option<Draft<A>>,
+) -> Result<Vec<u8, A>, RunFault>
+    ensures { MatchResult result
+        (λ bytes. HasTalkAnswer A (talking seat.old draft.old) (talking seat.new draft.new)
+        CommitLine bytes.items)
+        (HasNoTalkAnswer (talking seat.old draft.old) (talking seat.new draft.new) CommitLine) }
+{
+    let Some(opened) = draft.take() else {
+        return answer_about_draft(alloc, DraftReply::NoDraft);
+    };
+    match make_stroke(rt, alloc, desk, seat, &opened)? {
+        Outcome::Made(reply) => answer_about_draft(alloc, reply),
+        Outcome::Moved(reply) => {
+            *draft = Some(opened);
+            answer_about_draft(alloc, reply)
+        }
+        Outcome::Refused(reply) => {
+            *draft = Some(opened);
+            answer_of_reply(alloc, reply)
+        }
+    }
+}
+
+/// A `drop` line.
+fn answer_drop<A: Allocator>(alloc: A, draft: &mut Option<Draft<A>>) -> Result<Vec<u8, A>, RunFault>
+    ensures { (seat : SeatContent A) → MatchResult result
+        (λ bytes. HasTalkAnswer A (talking seat draft.old) (talking seat draft.new) DropLine
+        bytes.items)
+        (HasNoTalkAnswer (talking seat draft.old) (talking seat draft.new) DropLine) }
+{
+    if draft.is_none() {
+        return answer_about_draft(alloc, DraftReply::NoDraft);
+    }
+    *draft = None;
+    answer_about_draft(alloc, DraftReply::Dropped)
+}
+
+/// A line about the movie, in a draft.
+fn answer_in_draft<A: Allocator + Copy>(
+    alloc: A,
+    opened: &mut Draft<A>,
+    request: Request,
+) -> Result<Option<Vec<u8, A>>, RunFault>
+    requires { subject_of request ≡ AboutMovie }
+    ensures { (seat : SeatContent A) → MatchResult result
+        (λ found. MatchOption found ⊥
+        (λ bytes. HasTalkAnswer A (talking seat (Some opened.old)) (talking seat (Some opened.new))
+        request bytes.items))
+        (HasNoTalkAnswer (talking seat (Some opened.old)) (talking seat (Some opened.new)) request) }
+{
+    opened.answer(alloc, request)
+}
+
+/// Answers a request of a conversation. Where a draft is open, a line about the movie is answered at the draft; `quit` alone is answered
+/// nothing.
+///
+/// Faults: those of [`answer_request`](crate::answer_request).
+pub fn answer_talk<N: Name, W: CloseOnDrop, A: Allocator + Copy, R: Wait>(
+    rt: &R,
+    alloc: A,
+    desk: &Desk<N, W, A>,
+    seat: &mut Seat<N, A>,
+    draft: &mut Option<Draft<A>>,
+    request: Request,
+) -> Result<Option<Vec<u8, A>>, RunFault>
+    ensures { MatchResult result
+        (λ found. MatchOption found
+        ((request ≡ QuitLine) × (talking seat.new draft.new ≡ talking seat.old draft.old))
+        (λ bytes. HasTalkAnswer A (talking seat.old draft.old) (talking seat.new draft.new) request
+        bytes.items))
+        (HasNoTalkAnswer (talking seat.old draft.old) (talking seat.new draft.new) request) }
+{
+    match about(request) {
+        Subject::End => Ok(None),
+        Subject::Begin => Ok(Some(answer_begin(rt, alloc, desk, seat, draft)?)),
+        Subject::Commit => Ok(Some(answer_commit(rt, alloc, desk, seat, draft)?)),
+        Subject::Drop => Ok(Some(answer_drop(alloc, draft)?)),
+        Subject::Desk => answer_request(rt, alloc, desk, seat, request),
+        Subject::Movie => match draft {
+            Some(opened) => answer_in_draft(alloc, opened, request),
+            None => answer_request(rt, alloc, desk, seat, request),
+        },
+    }
+}

@@ -1,0 +1,159 @@
+//! Lines of two seats in conversations, one after the other, and their drafts.
+
+ghost use Rattle.std.specs.Prelude.{◌≡◌};
+ghost use Rattle.tas_desk.specs.Seats.{name_of};
+
+use crate::checks::{check_that, expect_ok, expect_some};
+use std::alloc::Global;
+use std::marker::Brand;
+use std::process::Abort;
+use std::sync::Wait;
+use tas_desk::{CloseOnDrop, Closed, Desk, Name, Seat, Unopened};
+use tas_language::parse_request;
+use tas_seat::{Draft, answer_talk};
+
+/// A seat, a line of it, and the line's answer.
+type Turn = (usize, &'static str, &'static str);
+
+/// Fails where one of these lines is answered in another way. No draft is open at first, and one that is open at the end is lost.
+fn take_turns<N: Name, W: CloseOnDrop, R: Wait + Abort>(
+    rt: &R,
+    alloc: Global,
+    desk: &Desk<N, W>,
+    seats: &mut [Seat<N>],
+    turns: &[Turn],
+) {
+    let mut drafts: [Option<Draft>; 2] = [None, None];
+    for turn in turns {
+        let request = expect_some(rt, parse_request(turn.1.as_bytes()));
+        check_that(rt, *turn, turn.0 < 2 && turn.0 < seats.len());
+        let (seat, draft) = (&mut seats[turn.0], &mut drafts[turn.0]);
+        let found = expect_ok(rt, answer_talk(rt, alloc, desk, seat, draft, request));
+        let bytes = expect_some(rt, found);
+        check_that(rt, *turn, bytes.as_slice() == turn.2.as_bytes());
+    }
+}
+
+/// Opens a desk of two seats, takes these turns, and closes it.
+fn play_at<N: Name, R: Wait + Abort>(
+    rt: &R,
+    alloc: Global,
+    unopened: Unopened,
+    turns: &[Turn],
+) -> Closed
+    requires name { unopened ≡ name_of N.registry N.name N.parts }
+{
+    let (desk, mut seats) = expect_ok(rt, Desk::<N, &R>::open(rt, alloc, unopened));
+    take_turns(rt, alloc, &desk, seats.as_mut_slice(), turns);
+    check_that(rt, "all seats come back", desk.whole(seats.as_slice()));
+    desk.close(rt, seats)
+}
+
+/// The same under a name.
+fn play<R: Wait + Abort>(rt: &R, alloc: Global, turns: &[Turn]) -> Closed {
+    let unopened = expect_ok(rt, Unopened::new(alloc, 2));
+    play_at::<Brand, R>(rt, alloc, unopened, turns)
+}
+
+static COMMITTED: [Turn; 19] = [
+    (0, "load2 7FC=00F0", "edit 1 len 0\n"),
+    (0, "insert 0 200 ..... ..... .....", "edit 2 len 200\n"),
+    (0, "commit", "no draft\n"),
+    (0, "drop", "no draft\n"),
+    (0, "begin", "begin 2 200\n"),
+    (0, "begin", "in draft\n"),
+    (0, "press 100 1 R.... ..... .....", "edit 3 len 200\n"),
+    (0, "insert 150 2 ....F ..... .....", "edit 4 len 202\n"),
+    (0, "delete 201 2", "place 4 len 202\n"),
+    (0, "input 100", "input 4 R.... ..... .....\n"),
+    (0, "load2 7FC=00F0", "in draft\n"),
+    (0, "len", "len 4 202\n"),
+    (1, "len", "len 2 200\n"),
+    (0, "history 2", "history 2 2 0 0\n"),
+    (0, "share", "share 2 0\n"),
+    (0, "commit", "commit 4 202\n"),
+    (
+        1,
+        "history 2",
+        "history 4 2 2 124\n2 0 delete 100 50\n3 0 insert 100 1 R.... ..... .....\n3 0 insert 101 49 ..... ..... .....\n3 0 insert 150 2 ....F ..... .....\n",
+    ),
+    (0, "commit", "no draft\n"),
+    (0, "input 151", "input 4 ....F ..... .....\n"),
+];
+
+/// The changes of a draft are one step of the history, a deletion and an insertion.
+#[test]
+fn a_commit_makes_the_draft(rt: HostRuntime) {
+    let closed = play(&rt, rt.alloc(), &COMMITTED);
+    check_that(&rt, "edits", closed.journal.len() == 4);
+    check_that(&rt, "frames", closed.movie.len() == 202);
+}
+
+static MOVED: [Turn; 17] = [
+    (0, "insert 0 10 ..... ..... .....", "edit 1 len 10\n"),
+    (1, "begin", "begin 1 10\n"),
+    (0, "begin", "begin 1 10\n"),
+    (1, "press 3 1 R.... ..... .....", "edit 2 len 10\n"),
+    (1, "insert 0 1 ....F ..... .....", "edit 3 len 11\n"),
+    (0, "delete 9 1", "edit 2 len 9\n"),
+    (0, "len", "len 2 9\n"),
+    (0, "commit", "commit 2 9\n"),
+    (0, "len", "len 2 9\n"),
+    (1, "commit", "moved 2\n"),
+    (1, "len", "len 3 11\n"),
+    (1, "history 1", "history 2 1 1 15\n1 0 delete 9 1\n"),
+    (1, "commit", "moved 2\n"),
+    (1, "drop", "dropped\n"),
+    (1, "begin", "begin 2 9\n"),
+    (1, "press 3 1 R.... ..... .....", "edit 3 len 9\n"),
+    (1, "commit", "commit 3 9\n"),
+];
+
+/// Of two drafts of one movie the first that is committed is made. The other stays open, and is made of a later movie or not at all.
+#[test]
+fn a_draft_is_made_of_the_movie_that_it_began_with(rt: HostRuntime) {
+    let closed = play(&rt, rt.alloc(), &MOVED);
+    check_that(&rt, "edits", closed.journal.len() == 3);
+    check_that(&rt, "frames", closed.movie.len() == 9);
+}
+
+static SHARED: [Turn; 12] = [
+    (
+        0,
+        "load 000=A910850DA91E85084C08F0 FFC=00F0",
+        "edit 1 len 0\n",
+    ),
+    (0, "insert 0 200 ..... ..... .....", "edit 2 len 200\n"),
+    (0, "begin", "begin 2 200\n"),
+    (1, "work 200", "work jobs 1 kept 3 stale 0\n"),
+    (0, "states", "states 2 0\n"),
+    (0, "share", "share 2 3\n"),
+    (0, "states", "states 2 0\n"),
+    (1, "replace 100 1 R.... ..... .....", "edit 3 len 200\n"),
+    (0, "share", "share 3 0\n"),
+    (0, "len", "len 2 200\n"),
+    (0, "drop", "dropped\n"),
+    (0, "states", "states 3 1 64\n"),
+];
+
+/// In a draft `share` is about the desk: it names the desk's edits, and the draft gains nothing.
+#[test]
+fn share_in_a_draft_is_about_the_desk(rt: HostRuntime) {
+    play(&rt, rt.alloc(), &SHARED);
+}
+
+static LOST: [Turn; 5] = [
+    (0, "insert 0 10 ..... ..... .....", "edit 1 len 10\n"),
+    (0, "begin", "begin 1 10\n"),
+    (0, "delete 0 9", "edit 2 len 1\n"),
+    (1, "len", "len 1 10\n"),
+    (1, "history 1", "history 1 1 0 0\n"),
+];
+
+/// Nobody sees a draft of another seat, and one that isn't committed is lost.
+#[test]
+fn a_draft_that_is_not_committed_is_lost(rt: HostRuntime) {
+    let closed = play(&rt, rt.alloc(), &LOST);
+    check_that(&rt, "edits", closed.journal.len() == 1);
+    check_that(&rt, "frames", closed.movie.len() == 10);
+}
