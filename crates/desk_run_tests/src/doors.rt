@@ -4,7 +4,7 @@ ghost use Rattle.std.specs.Prelude.{◌≤◌, length};
 ghost use Rattle.tas_desk.specs.Seats.{most_seats};
 
 use crate::checks::{check_that, expect_ok};
-use std::alloc::Global;
+use std::alloc::{Allocator, Global};
 use std::io;
 use std::io::{Error, ErrorKind};
 use std::process::Abort;
@@ -108,11 +108,11 @@ pub fn hold<R: Wait + Threads + Sync + Abort>(
 }
 
 /// Holds a desk at these doors, on the movie of a cartridge and a text.
-pub fn hold_on<R: Wait + Threads + Sync + Abort, W: io::Write>(
+pub fn hold_on<R: Wait + Threads + Sync + Abort, A: Allocator + Copy + Send + Sync, W: io::Write>(
     rt: &R,
-    alloc: Global,
+    alloc: A,
     (image, text): (&[u8], &[u8]),
-    doors: &mut Vec<TestDoor>,
+    doors: &mut Vec<TestDoor, A>,
     output: &mut W,
 ) -> Result<(), ToolFault> {
     let count = doors.len();

@@ -8,6 +8,8 @@ mod doors;
 #[cfg(test)]
 mod end_tests;
 #[cfg(test)]
+mod memory_tests;
+#[cfg(test)]
 mod replay_tests;
 #[cfg(test)]
 mod replays;

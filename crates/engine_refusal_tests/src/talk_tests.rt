@@ -37,6 +37,19 @@ static REFUSED_EDITS: [&[u8]; 3] = [
     b"edit 1 len 0\nedit 2 len 3\nout of memory\nedit 3 len 2\nlen 3 2\n",
 ];
 
+/// A draft that is committed, and what there is then.
+const DRAFT: &[u8] =
+    b"load 000=A9028500A90085004C00F0 FFC=00F0\ninsert 0 3 R.... ..... .....\nbegin\nreplace 1 1 .L... ..... .....\ncommit\nlen\ndrop\n";
+
+/// The answers where one of the first five is refused its memory. A draft that can't be committed stays open.
+static REFUSED_DRAFTS: [&[u8]; 5] = [
+    b"out of memory\nedit 1 len 3\nbegin 1 3\nedit 2 len 3\ncommit 2 3\nlen 2 3\nno draft\n",
+    b"edit 1 len 0\nout of memory\nbegin 1 0\nplace 1 len 0\ncommit 1 0\nlen 1 0\nno draft\n",
+    b"edit 1 len 0\nedit 2 len 3\nout of memory\nedit 3 len 3\nno draft\nlen 3 3\nno draft\n",
+    b"edit 1 len 0\nedit 2 len 3\nbegin 2 3\nout of memory\ncommit 2 3\nlen 2 3\nno draft\n",
+    b"edit 1 len 0\nedit 2 len 3\nbegin 2 3\nedit 3 len 3\nout of memory\nlen 3 3\ndropped\n",
+];
+
 /// What is answered to lines, where memory is there.
 fn answers<T: Wait + Abort>(rt: &T, alloc: Global, lines: &[u8]) -> Vec<u8> {
     let mut input = lines;
@@ -135,16 +148,26 @@ fn looks_without_memory(rt: HostRuntime) {
     check_same(&rt, "all looks", times, begun);
 }
 
+/// Fails where lines of which one growth is refused, each in turn, are answered by anything but these, or one of these never comes.
+fn check_refused<T: Wait + Abort>(rt: &T, alloc: Global, lines: &[u8], wanted: &[&[u8]]) {
+    let told = answers_refused(rt, alloc, lines);
+    let mut times = 0usize;
+    for (place, answers) in wanted.iter().enumerate() {
+        let here = times_told(told.as_slice(), *answers);
+        check_that(rt, ("line", place), here > 0);
+        times = times.saturating_add(here);
+    }
+    check_same(rt, "all lines", times, told.len());
+}
+
 /// An edit that is out of memory says so in its place, byte by byte, and the movie is as it was; nothing else is reported.
 #[test]
 fn edits_without_memory(rt: HostRuntime) {
-    let alloc = rt.alloc();
-    let told = answers_refused(&rt, alloc, EDITS);
-    let mut times = 0usize;
-    for (place, wanted) in REFUSED_EDITS.iter().enumerate() {
-        let here = times_told(told.as_slice(), *wanted);
-        check_that(&rt, ("edit", place), here > 0);
-        times = times.saturating_add(here);
-    }
-    check_same(&rt, "all edits", times, told.len());
+    check_refused(&rt, rt.alloc(), EDITS, REFUSED_EDITS.as_slice());
+}
+
+/// A `begin` that is out of memory opens no draft, and a `commit` makes nothing and leaves the draft open.
+#[test]
+fn drafts_without_memory(rt: HostRuntime) {
+    check_refused(&rt, rt.alloc(), DRAFT, REFUSED_DRAFTS.as_slice());
 }

@@ -1,17 +1,18 @@
 -- A conversation on a desk of one seat: each line is answered at what the lines before it made.
 use Rattle.std.proofs.Common.{◌≡◌, ℕ, ◌+◌, ◌≤◌, List, [], ◌∷◌, ◌++◌, length, take, drop, Bool, true, false, Option, Some, None, Result, Ok, Err, inl, inr, refl, sym, ap, subst, ◌∙◌, arith, append-nil}
-use Rattle.std.specs.Prelude.{map, if◌then◌else◌, ◌==◌}
+use Rattle.std.specs.Prelude.{map, if◌then◌else◌, ◌==◌, nat_lt}
 use Rattle.std.proofs.lemmas.List.{length-map, take-map, drop-map}
 use Rattle.std.specs.Io.KnownBytes.{Consumes}
 use mathlib.Core.List.{IsPrefix}
 use Rattle.tas_movie.specs.Text.{line}
-use Rattle.tas_movie.specs.Content.{MovieContent}
+use Rattle.vcs_machine.specs.declared.input.Input.{Input}
+use Rattle.tas_movie.specs.Content.{MovieContent, blank_movie}
 use Rattle.tas_movie.specs.declared.edit.Edit.{Edit}
 use Rattle.tas_movie.specs.declared.edit.Edit.TheVariants.{Load, Insert, Replace, Delete}
 use Rattle.tas_movie.specs.declared.edit.EditRefusal.{EditRefusal}
-use Rattle.tas_movie.specs.Edit.{refusal, changed, edited, edited_unless}
+use Rattle.tas_movie.specs.Edit.{refusal, first_refusal, changed, edited, edited_unless}
 use Rattle.tas_session.specs.declared.entry.Entry.{Entry}
-use Rattle.tas_session.specs.History.{movie_of, movie_from, entries_of}
+use Rattle.tas_session.specs.History.{most_edits, movie_of, movie_from, entries_of}
 use Rattle.tas_desk.specs.Seats.{SeatContent}
 use Rattle.tas_desk.specs.Zones.{ZoneContent}
 use Rattle.tas_desk.proofs.SeatLemmas.{count_by-cons}
@@ -20,18 +21,25 @@ use Rattle.tas_engines.specs.declared.fault.ToolFault.{ToolFault}
 use Rattle.tas_engines.specs.declared.fault.ToolFault.TheVariants.{Read, Run, Seat}
 use Rattle.tas_engines.specs.declared.fault.ReadFault.TheVariants.{TooLong, Failed, Memory as NoRoom}
 use Rattle.tas_engines.specs.declared.fault.RunFault.TheVariants.{Write, Size, Text, NoFrame as OffMovie, Range as OffRange, Halted as Stopped, HaltedFrame as StoppedFrame, Script, Place, Long, NoPlace, NoEntry, Foreign, Memory}
-use Rattle.tas_language.specs.declared.reply.Reply.TheVariants.{OutOfMemory}
+use Rattle.tas_language.specs.declared.reply.Reply.TheVariants.{Full, OutOfMemory}
+use Rattle.tas_language.specs.declared.draft_reply.DraftReply.TheVariants.{Committed, Moved}
+use Rattle.tas_language.specs.Drafts.{draft_reply_text}
 use Rattle.tas_language.specs.Replies.{reply_text}
 use Rattle.tas_language.specs.History.{entry_text}
 use Rattle.tas_language.specs.Answers.{history_text}
 use Rattle.tas_language.specs.declared.request.Request.{Request}
-use Rattle.tas_language.specs.declared.request.Request.TheVariants.{Do, Retouch, Picture, Pictures, Ram, Digest, Lag, Movie, States, Share, History, Quit}
+use Rattle.tas_language.specs.declared.request.Request.TheVariants.{Do, Retouch, Picture, Pictures, Ram, Digest, Lag, Movie, States, Share, History, Begin, Commit, Drop, Quit}
 use Rattle.tas_seat.specs.HistoryText.{entry_lines, history_reply_text}
 use Rattle.tas_seat.specs.Requests.{TalkState, IsAnswerTo as IsAnswerAt}
-use Rattle.tas_seat.specs.Seats.{most_entries, talk_state_at, IsSeatAfter, IsAnsweredAt, StripAnswer as SeatAnswer, AreStrip as AreSeatStrip, strip_answers as seat_answers, IsHistoryAnswered, IsRequestAnswered, IsLineAnswered}
+use Rattle.tas_seat.specs.Seats.{most_entries, talk_state_at, IsSeatAfter, IsAnsweredAt, StripAnswer as SeatAnswer, AreStrip as AreSeatStrip, strip_answers as seat_answers, entries_from, IsHistoryAnswered, IsRequestAnswered}
+use Rattle.tas_seat.specs.Drafts.{DraftContent, inner_inputs, stroke_of, IsStroke, LeadsTo}
+use Rattle.tas_seat.specs.Conversations.{TalkingSeat, talking, text_of, uncommitted_answer, commit_answer, committed_edits, draft_after_commit, IsBeginAnswer, IsCommitAnswer, IsCommitted, IsAnsweredOutside, IsAnsweredInside, IsTalkAnswered, IsLineAnswered}
+use Rattle.tas_session.specs.Strokes.{edited_by, refusal_in}
+use Rattle.tas_seat.specs.Turns.{Standing, standing_of, refusal_reply}
+use Rattle.tas_seat.proofs.CommitLemmas.{made_after, made_by_entries}
 use Rattle.tas_seat.specs.Talk.{Exchange as SeatExchange, IsExchange as IsSeatExchange, AreExchanges as AreSeatExchanges, TalkEnds as SeatEnds, IsTalk as IsSeatTalk, lines_of as seat_lines, answers_of as seat_texts, edits_of}
 use Rattle.tas_seat.proofs.HistoryLemmas.{Leaves, prefix_length, by_length, by_rest, front_length, leaves_after, strip_leaves, exchange_leaves, exchanges_leave, rested, Rested}
-use Rattle.tas_tool.specs.Talk.{EntryContent, StripAnswer, AreStrip, strip_answers, IsOwnHistory, IsAnswerTo, IsLineAnswer, Exchange, IsExchange, AreExchanges, TalkEnds, IsTalk, lines_of, answers_of}
+use Rattle.tas_tool.specs.Talk.{EntryContent, StripAnswer, AreStrip, strip_answers, IsOwnHistory, IsAnswerTo, DraftedState, drafted, IsOwnCommit, IsOutsideAnswer, IsInsideAnswer, IsDraftedAnswer, IsLineAnswer, Exchange, IsExchange, AreExchanges, TalkEnds, IsTalk, lines_of, answers_of}
 use Rattle.tas_tool.specs.Inside.Alone.{SeesOwn}
 
 -- what the seat has seen comes to, and its greenzone
@@ -208,19 +216,162 @@ own_request A before now (Lag a b) answer edits is seen own = own_answer A befor
 own_request A before now Movie answer edits is seen own = own_answer A before now Movie answer edits is seen own
 own_request A before now States answer edits is seen own = own_answer A before now States answer edits is seen own
 own_request A before now Share answer edits is seen own = own_answer A before now Share answer edits is seen own
+own_request A before now Begin answer edits is seen own = own_answer A before now Begin answer edits is seen own
+own_request A before now Commit answer edits is seen own = own_answer A before now Commit answer edits is seen own
+own_request A before now Drop answer edits is seen own = own_answer A before now Drop answer edits is seen own
 own_request A before now Quit answer edits is seen own = own_answer A before now Quit answer edits is seen own
 
-own_line : (A : Type 0) (before now : SeatContent A) (heard : Option Request) (answer : List ℕ) (edits : List (Edit A)) → IsLineAnswered A before now heard answer edits → before.made ≤ length before.front → SeesOwn now
-    → IsLineAnswer (state_of before) heard answer (state_of now)
-own_line A before now (Some request) answer edits is seen own = own_request A before now request answer edits is seen own
-own_line A before now None answer edits (told, none, same) seen own = (told, ap (λ (s : SeatContent A). state_of s) same)
+-- ---- drafts
+
+abbrev own_place : {A : Type 0} → TalkingSeat A → DraftedState
+own_place now = drafted (state_of now.seat) now.draft
+
+place_is : {A : Type 0} (before : SeatContent A) (now : TalkingSeat A) (draft : Option DraftContent) → now.seat ≡ before → now.draft ≡ draft → own_place now ≡ drafted (state_of before) draft
+place_is {A} before now draft same opened = ap (λ (s : SeatContent A). drafted (state_of s) now.draft) same ∙ ap (λ (d : Option DraftContent). drafted (state_of before) d) opened
+
+abbrev contents : {A : Type 0} → List (Edit A) → List EditContent
+contents {A} edits = map (λ (e : Edit A). edit_content e) edits
+
+same_refusals : {A : Type 0} (movie : MovieContent) (edits : List (Edit A)) → refusal_in movie (contents edits) ≡ refusal_in movie edits
+same_refusals movie [] = refl
+same_refusals {A} movie (edit ∷ edits) =
+    ap (λ (r : Option EditRefusal). first_refusal r (refusal_in (edited movie (edit_content edit)) (contents edits))) (same_refusal movie edit)
+    ∙ ap (λ (m : MovieContent). first_refusal (refusal movie edit) (refusal_in m (contents edits))) (same_edited movie edit)
+    ∙ ap (λ (r : Option EditRefusal). first_refusal (refusal movie edit) r) (same_refusals (edited movie edit) edits)
+
+same_edits : {A : Type 0} (movie : MovieContent) (edits : List (Edit A)) → edited_by movie (contents edits) ≡ edited_by movie edits
+same_edits movie [] = refl
+same_edits {A} movie (edit ∷ edits) = ap (λ (m : MovieContent). edited_by m (contents edits)) (same_edited movie edit) ∙ same_edits (edited movie edit) edits
+
+same_length : {A : Type 0} (edits : List (Edit A)) → length (contents edits) ≡ length edits
+same_length {A} edits = length-map edits (λ (e : Edit A). edit_content e)
+
+same_uncommitted : {A : Type 0} (stands : Standing) (at : ℕ) (edits : List (Edit A)) → uncommitted_answer stands at (contents edits) ≡ uncommitted_answer stands at edits
+same_uncommitted stands at edits =
+    let text : ℕ → Option EditRefusal → Option (List ℕ) = λ n r.
+    if stands.made == at then text_of (if nat_lt most_edits (stands.made + n) then Some (Full stands.made) else refusal_reply stands.made r) else Some (draft_reply_text (Moved stands.made)) in
+    ap (λ (n : ℕ). text n (refusal_in stands.movie (contents edits))) (same_length edits) ∙ ap (λ (r : Option EditRefusal). text (length edits) r) (same_refusals stands.movie edits)
+
+same_committed : {A : Type 0} (outcome : Option (List ℕ)) (stands : Standing) (edits : List (Edit A)) → commit_answer outcome stands (contents edits) ≡ commit_answer outcome stands edits
+same_committed None stands edits =
+    ap (λ (n : ℕ). draft_reply_text (Committed (stands.made + n) (length (edited_by stands.movie (contents edits)).inputs))) (same_length edits)
+    ∙ ap (λ (m : MovieContent). draft_reply_text (Committed (stands.made + length edits) (length m.inputs))) (same_edits stands.movie edits)
+same_committed (Some text) stands edits = refl
+
+contents_made : {A : Type 0} (outcome : Option (List ℕ)) (edits : List (Edit A)) → contents (committed_edits outcome edits) ≡ committed_edits outcome (contents edits)
+contents_made None edits = refl
+contents_made (Some text) edits = refl
+
+same_stroke : (A : Type 0) (at : ℕ) (olds news : List Input) → contents (stroke_of A at olds news) ≡ stroke_of (Unit {0}) at olds news
+same_stroke A at [] [] = refl
+same_stroke A at [] (new ∷ news) = refl
+same_stroke A at (old ∷ olds) [] = refl
+same_stroke A at (old ∷ olds) (new ∷ news) = go (length olds == length news)
+  where
+    go : (b : Bool) → contents {A = A} (if b then Replace at (new ∷ news) ∷ [] else Delete at (length (old ∷ olds)) ∷ Insert at (new ∷ news) ∷ [])
+        ≡ (if b then Replace at (new ∷ news) ∷ [] else Delete at (length (old ∷ olds)) ∷ Insert at (new ∷ news) ∷ [])
+    go true = refl
+    go false = refl
+
+stroke_contents : {A : Type 0} (base new : MovieContent) (stroke : List (Edit A)) → IsStroke base new stroke → IsStroke base new (contents stroke)
+stroke_contents {A} base new stroke is = record {
+  front = is.front;
+  back = is.back;
+  begins = is.begins;
+  ends = is.ends;
+  edits_are = ap (λ (l : List (Edit A)). contents l) is.edits_are ∙ same_stroke A is.front (inner_inputs is.front is.back base.inputs) (inner_inputs is.front is.back new.inputs);
+}
+
+leads_contents : {A : Type 0} (movie last : MovieContent) (edits : List (Edit A)) → LeadsTo movie edits last → LeadsTo movie (contents edits) last
+leads_contents movie last [] is = is
+leads_contents {A} movie last (edit ∷ edits) is =
+    (same_refusal movie edit ∙ is.0, subst (λ (m : MovieContent). LeadsTo m (contents edits) last) (sym (same_edited movie edit)) (leads_contents (edited movie edit) last edits is.1))
+
+commit_contents : {A : Type 0} (stands : Standing) (draft : DraftContent) (answer : List ℕ) (edits : List (Edit A)) (next : Option DraftContent) → IsCommitAnswer stands draft answer edits next → IsCommitAnswer stands draft answer (contents edits) next
+commit_contents {A} stands draft answer edits next (inl none) = inl (record { answer_is = none.answer_is; edits_are = ap (λ (l : List (Edit A)). contents l) none.edits_are; draft_is = none.draft_is })
+commit_contents {A} stands draft answer edits next (inr told) =
+    let same : uncommitted_answer stands draft.at told.stroke ≡ uncommitted_answer stands draft.at (contents told.stroke) = sym (same_uncommitted stands draft.at told.stroke) in
+    inr (record {
+      stroke = contents told.stroke;
+      stroke_is = stroke_contents draft.base draft.movie told.stroke told.stroke_is;
+      leads = leads_contents draft.base draft.movie told.stroke told.leads;
+      answer_is = told.answer_is ∙ sym (same_committed (uncommitted_answer stands draft.at told.stroke) stands told.stroke) ∙ ap (λ (o : Option (List ℕ)). commit_answer o stands (contents told.stroke)) same;
+      edits_are = ap (λ (l : List (Edit A)). contents l) told.edits_are ∙ contents_made (uncommitted_answer stands draft.at told.stroke) told.stroke ∙ ap (λ (o : Option (List ℕ)). committed_edits o (contents told.stroke)) same;
+      draft_is = told.draft_is ∙ ap (λ (o : Option (List ℕ)). draft_after_commit o draft) same;
+    })
+
+own_commit : (A : Type 0) (before : SeatContent A) (draft : DraftContent) (now : TalkingSeat A) (answer : List ℕ) (edits : List (Edit A)) → IsCommitted before draft now answer edits → before.made ≤ length before.front → SeesOwn now.seat
+    → IsOwnCommit (state_of before) draft answer (own_place now)
+own_commit A before draft now answer edits is seen own =
+    let same : is.at ≡ before.front = at_front before now.seat is.at edits is.seat seen own in
+    let movie : movie_of now.seat.front ≡ edited_by (movie_of before.front) (contents edits) =
+    ap (λ (h : List (Entry A)). movie_of h) is.seat.front
+    ∙ made_after blank_movie is.at (entries_from before.number before.made edits)
+    ∙ made_by_entries (movie_of is.at) before.number before.made edits
+    ∙ ap (λ (h : List (Entry A)). edited_by (movie_of h) edits) same
+    ∙ sym (same_edits (movie_of before.front) edits) in
+    let made : length now.seat.front ≡ length before.front + length (contents edits) = omega (arith, front_length before now.seat is.at edits is.seat, ap (λ (h : List (Entry A)). length h) same, same_length edits) in
+    record {
+      edits = contents edits;
+      answered = commit_contents (standing_of before.front) draft answer edits now.draft (subst (λ (h : List (Entry A)). IsCommitAnswer (standing_of h) draft answer edits now.draft) same is.answered);
+      stands = ap (λ (m : MovieContent). let x : Standing = record { movie = m; made = length now.seat.front } in x) movie
+          ∙ ap (λ (n : ℕ). let x : Standing = record { movie = edited_by (movie_of before.front) (contents edits); made = n } in x) made;
+      rests = record { kept_for = ap (λ (z : ZoneContent A). z.movie) is.zone; states = ap (λ (z : ZoneContent A). z.states) is.zone };
+    }
+
+own_outside : (A : Type 0) (before : SeatContent A) (now : TalkingSeat A) (request : Request) (answer : List ℕ) (edits : List (Edit A)) → IsAnsweredOutside A before now request answer edits → before.made ≤ length before.front → SeesOwn now.seat
+    → IsOutsideAnswer (state_of before) request answer (own_place now)
+own_outside A before now Begin answer edits (is, none) seen own =
+    subst (λ (h : List (Entry A)). IsBeginAnswer (talk_state_at h before.zone) answer (state_of now.seat) now.draft) (at_front before now.seat now.seat.front [] is.seat seen own) is.answered
+own_outside A before now Commit answer edits (told, opened, left) seen own = (told, place_is before now None left.same opened)
+own_outside A before now Drop answer edits (told, opened, left) seen own = (told, place_is before now None left.same opened)
+own_outside A before now (Do command) answer edits is seen own = (own_request A before now.seat (Do command) answer edits is.0 seen own, is.1)
+own_outside A before now (Retouch retouch) answer edits is seen own = (own_request A before now.seat (Retouch retouch) answer edits is.0 seen own, is.1)
+own_outside A before now (Picture k) answer edits is seen own = (own_request A before now.seat (Picture k) answer edits is.0 seen own, is.1)
+own_outside A before now (Pictures from to) answer edits is seen own = (own_request A before now.seat (Pictures from to) answer edits is.0 seen own, is.1)
+own_outside A before now (Ram k) answer edits is seen own = (own_request A before now.seat (Ram k) answer edits is.0 seen own, is.1)
+own_outside A before now (Digest k) answer edits is seen own = (own_request A before now.seat (Digest k) answer edits is.0 seen own, is.1)
+own_outside A before now (Lag a b) answer edits is seen own = (own_request A before now.seat (Lag a b) answer edits is.0 seen own, is.1)
+own_outside A before now Movie answer edits is seen own = (own_request A before now.seat Movie answer edits is.0 seen own, is.1)
+own_outside A before now States answer edits is seen own = (own_request A before now.seat States answer edits is.0 seen own, is.1)
+own_outside A before now Share answer edits is seen own = (own_request A before now.seat Share answer edits is.0 seen own, is.1)
+own_outside A before now (History from) answer edits is seen own = (own_request A before now.seat (History from) answer edits is.0 seen own, is.1)
+own_outside A before now Quit answer edits is seen own = (own_request A before now.seat Quit answer edits is.0 seen own, is.1)
+
+own_inside : (A : Type 0) (before : SeatContent A) (draft : DraftContent) (now : TalkingSeat A) (request : Request) (answer : List ℕ) (edits : List (Edit A)) → IsAnsweredInside A before draft now request answer edits → before.made ≤ length before.front
+    → SeesOwn now.seat → IsInsideAnswer (state_of before) draft request answer (own_place now)
+own_inside A before draft now Begin answer edits (told, opened, left) seen own = (told, place_is before now (Some draft) left.same opened)
+own_inside A before draft now Commit answer edits is seen own = own_commit A before draft now answer edits is seen own
+own_inside A before draft now Drop answer edits (told, opened, left) seen own = (told, place_is before now None left.same opened)
+own_inside A before draft now Share answer edits is seen own = (own_request A before now.seat Share answer edits is.0 seen own, is.1)
+own_inside A before draft now (History from) answer edits is seen own = (own_request A before now.seat (History from) answer edits is.0 seen own, is.1)
+own_inside A before draft now (Do command) answer edits (next, told, sound, opened, left) seen own = (next, told, sound, place_is before now (Some next) left.same opened)
+own_inside A before draft now (Retouch retouch) answer edits (next, told, sound, opened, left) seen own = (next, told, sound, place_is before now (Some next) left.same opened)
+own_inside A before draft now (Picture k) answer edits (next, told, sound, opened, left) seen own = (next, told, sound, place_is before now (Some next) left.same opened)
+own_inside A before draft now (Pictures from to) answer edits (next, told, sound, opened, left) seen own = (next, told, sound, place_is before now (Some next) left.same opened)
+own_inside A before draft now (Ram k) answer edits (next, told, sound, opened, left) seen own = (next, told, sound, place_is before now (Some next) left.same opened)
+own_inside A before draft now (Digest k) answer edits (next, told, sound, opened, left) seen own = (next, told, sound, place_is before now (Some next) left.same opened)
+own_inside A before draft now (Lag a b) answer edits (next, told, sound, opened, left) seen own = (next, told, sound, place_is before now (Some next) left.same opened)
+own_inside A before draft now Movie answer edits (next, told, sound, opened, left) seen own = (next, told, sound, place_is before now (Some next) left.same opened)
+own_inside A before draft now States answer edits (next, told, sound, opened, left) seen own = (next, told, sound, place_is before now (Some next) left.same opened)
+own_inside A before draft now Quit answer edits (next, told, sound, opened, left) seen own = (next, told, sound, place_is before now (Some next) left.same opened)
+
+own_talk_line : (A : Type 0) (before : SeatContent A) (draft : Option DraftContent) (now : TalkingSeat A) (request : Request) (answer : List ℕ) (edits : List (Edit A)) → IsTalkAnswered A before draft now request answer edits → before.made ≤ length before.front
+    → SeesOwn now.seat → IsDraftedAnswer (state_of before) draft request answer (own_place now)
+own_talk_line A before None now request answer edits is seen own = own_outside A before now request answer edits is seen own
+own_talk_line A before (Some draft) now request answer edits is seen own = own_inside A before draft now request answer edits is seen own
+
+own_line : (A : Type 0) (before now : TalkingSeat A) (heard : Option Request) (answer : List ℕ) (edits : List (Edit A)) → IsLineAnswered A before now heard answer edits → before.seat.made ≤ length before.seat.front → SeesOwn now.seat
+    → IsLineAnswer (own_place before) heard answer (own_place now)
+own_line A before now (Some request) answer edits is seen own = own_talk_line A before.seat before.draft now request answer edits is seen own
+own_line A before now None answer edits (told, none, same) seen own = (told, ap (λ (s : TalkingSeat A). own_place s) same)
 
 -- ---- all lines
 
 abbrev own_exchange : {A : Type 0} → SeatExchange A → Exchange
-own_exchange x = record { said = x.said; heard = x.heard; answer = x.answer; next = state_of x.next }
+own_exchange x = record { said = x.said; heard = x.heard; answer = x.answer; next = own_place x.next }
 
-own_is : {A : Type 0} (seat : SeatContent A) (x : SeatExchange A) → IsSeatExchange seat x → seat.made ≤ length seat.front → SeesOwn x.next → IsExchange (state_of seat) (own_exchange x)
+own_is : {A : Type 0} (seat : TalkingSeat A) (x : SeatExchange A) → IsSeatExchange seat x → seat.seat.made ≤ length seat.seat.front → SeesOwn x.next.seat → IsExchange (own_place seat) (own_exchange x)
 own_is {A} seat x is seen own = record { whole = is.whole; heard = is.heard; answered = own_line A seat x.next x.heard x.answer x.edits is.answered seen own }
 
 own_all : {A : Type 0} → List (SeatExchange A) → List Exchange
@@ -237,21 +388,21 @@ unfolding own_all
 all_answers [] = refl
 all_answers (x ∷ xs) = ap (λ (l : List ℕ). x.answer ++ l) (all_answers xs)
 
-own_exchanges : {A : Type 0} (start last : SeatContent A) (xs : List (SeatExchange A)) → AreSeatExchanges start xs last → start.made ≤ length start.front → SeesOwn last → AreExchanges (state_of start) (own_all xs) (state_of last)
+own_exchanges : {A : Type 0} (start last : TalkingSeat A) (xs : List (SeatExchange A)) → AreSeatExchanges start xs last → start.seat.made ≤ length start.seat.front → SeesOwn last.seat → AreExchanges (own_place start) (own_all xs) (own_place last)
 unfolding AreSeatExchanges AreExchanges own_all
-own_exchanges {A} start last [] is seen own = ap (λ (s : SeatContent A). state_of s) is
+own_exchanges {A} start last [] is seen own = ap (λ (s : TalkingSeat A). own_place s) is
 own_exchanges {A} start last (x ∷ xs) is seen own =
-    let next : SeesOwn x.next = sees_before x.next last (edits_of xs) (exchanges_leave x.next last xs is.1) own in
-    (own_is start x is.0 seen next, own_exchanges x.next last xs is.1 (seen_after start x.next x.edits (exchange_leaves start x is.0) seen) own)
+    let next : SeesOwn x.next.seat = sees_before x.next.seat last.seat (edits_of xs) (exchanges_leave x.next last xs is.1) own in
+    (own_is start x is.0 seen next, own_exchanges x.next last xs is.1 (seen_after start.seat x.next.seat x.edits (exchange_leaves start x is.0) seen) own)
 
 -- ---- the end
 
-own_ends : {A : Type 0} (seat last : SeatContent A) (rest told : List ℕ) (edits : List (Edit A)) (input output output' : Option (List ℕ)) (result : Result (Unit {0}) ToolFault) → SeatEnds seat last rest told edits input output output' result
-    → (result ≡ Err (Run Foreign) → ⊥) → seat.made ≤ length seat.front → SeesOwn last → TalkEnds (state_of seat) rest told input output output' result
+own_ends : {A : Type 0} (seat : TalkingSeat A) (last : SeatContent A) (rest told : List ℕ) (edits : List (Edit A)) (input output output' : Option (List ℕ)) (result : Result (Unit {0}) ToolFault) → SeatEnds seat last rest told edits input output output' result
+    → (result ≡ Err (Run Foreign) → ⊥) → seat.seat.made ≤ length seat.seat.front → SeesOwn last → TalkEnds (own_place seat) rest told input output output' result
 own_ends seat last rest told edits input output output' (Ok u) is other seen own = is.1
 own_ends seat last rest told edits input output output' (Err (Read Failed)) is other seen own = (is.1, is.2)
 own_ends {A} seat last rest told edits input output output' (Err (Run (Write written))) (answer, inl is, cut) other seen own =
-    let next : SeesOwn is.exchange.next = subst (λ (s : SeatContent A). SeesOwn s) is.last_is own in
+    let next : SeesOwn is.exchange.next.seat = subst (λ (s : SeatContent A). SeesOwn s) is.last_is own in
     (answer, inl (own_exchange is.exchange, is.more, own_is seat is.exchange is.is seen next, is.text, is.answer_is), cut)
 own_ends seat last rest told edits input output output' (Err (Run (Write written))) (answer, inr is, cut) other seen own = (answer, inr (is.1, is.2, is.3), cut)
 own_ends seat last rest told edits input output output' (Err (Run Memory)) is other seen own = is.1
@@ -276,28 +427,28 @@ pub own_talk : {A : Type 0} (start last : SeatContent A) (input input' output ou
     → SeesOwn last → IsTalk (state_of start) input input' output output' result × SeesOwn start
 own_talk {A} start last input input' output output' result talk seen own = go (rested talk.seat last talk.rest _ talk.more input' output output' result talk.ends)
   where
-    first : Leaves start talk.seat (edits_of talk.exchanges)
-    first = exchanges_leave start talk.seat talk.exchanges talk.answered
+    first : Leaves start talk.seat.seat (edits_of talk.exchanges)
+    first = exchanges_leave (talking start None) talk.seat talk.exchanges talk.answered
 
-    seen_all : talk.seat.made ≤ length talk.seat.front
-    seen_all = seen_after start talk.seat (edits_of talk.exchanges) first seen
+    seen_all : talk.seat.seat.made ≤ length talk.seat.seat.front
+    seen_all = seen_after start talk.seat.seat (edits_of talk.exchanges) first seen
 
     go : Rested talk.seat last talk.more result → IsTalk (state_of start) input input' output output' result × SeesOwn start
     go (inl strange) =
-        let more = prefix_length talk.seat.front last.front strange.seen.begins in
+        let more = prefix_length talk.seat.seat.front last.front strange.seen.begins in
         let counted : entries_of last.number last.front ≡ length last.front = ap (λ (n : ℕ). entries_of n last.front) own.number ∙ own.alone in
         absurd (strange.other (omega (arith, more, counted, own.few, seen_all, strange.seen.made)))
     go (inr (left, other)) =
-        let middle : SeesOwn talk.seat = sees_before talk.seat last talk.more left own in
-        let ends : TalkEnds (state_of talk.seat) talk.rest (seat_texts talk.exchanges) input' output output' result =
+        let middle : SeesOwn talk.seat.seat = sees_before talk.seat.seat last talk.more left own in
+        let ends : TalkEnds (own_place talk.seat) talk.rest (seat_texts talk.exchanges) input' output output' result =
         own_ends talk.seat last talk.rest (seat_texts talk.exchanges) talk.more input' output output' result talk.ends other seen_all own in (
           record {
             exchanges = own_all talk.exchanges;
-            state = state_of talk.seat;
+            state = own_place talk.seat;
             rest = talk.rest;
-            answered = own_exchanges start talk.seat talk.exchanges talk.answered seen middle;
+            answered = own_exchanges (talking start None) talk.seat talk.exchanges talk.answered seen middle;
             left = subst (λ (l : List ℕ). Consumes input input' (l ++ talk.rest)) (sym (all_lines talk.exchanges)) talk.left;
-            ends = subst (λ (l : List ℕ). TalkEnds (state_of talk.seat) talk.rest l input' output output' result) (sym (all_answers talk.exchanges)) ends;
+            ends = subst (λ (l : List ℕ). TalkEnds (own_place talk.seat) talk.rest l input' output output' result) (sym (all_answers talk.exchanges)) ends;
           },
-          sees_before start talk.seat (edits_of talk.exchanges) first middle,
+          sees_before start talk.seat.seat (edits_of talk.exchanges) first middle,
         )

@@ -1,6 +1,6 @@
 -- A desk's seats from its opening to its end.
 use Rattle.std.proofs.Common.{◌≡◌, ℕ, zero, suc, ◌+◌, ◌<◌, ◌≤◌, ◌==◌, Bool, true, false, cond, List, [], ◌∷◌, ◌++◌, length, take, map, set, get_or, Option, Some, Result, Ok, Err, ◌⊎◌, inl, inr, refl, sym, ap, subst, ◌∙◌, arith}
-use Rattle.std.specs.Prelude.{All, count_by, slice_get, OnOk, IfErr, MatchResult}
+use Rattle.std.specs.Prelude.{All, count_by, slice_get, OnOk, IfErr, MatchResult, Vec}
 use Rattle.std.specs.Io.KnownBytes.{Appends}
 use Rattle.std.proofs.lemmas.Bool.{cases_lt}
 use Rattle.std.proofs.lemmas.Bool.Decides.{nat_tests}
@@ -23,7 +23,7 @@ use Rattle.tas_engines.specs.declared.fault.SeatFault.{SeatFault}
 use Rattle.tas_seat.specs.Lines.{DoorFacts, WasHeld}
 use Rattle.tas_tool.specs.Desks.{edits_before, IsSeatOf, IsDeskHistory, IsUnwritten}
 use Rattle.tas_tool.specs.Inside.TwoEdits.{HoldsMovie, IsMakingFault}
-use Rattle.tas_tool.specs.Inside.Holding.{AreNumbered, HaveMadeNone, AreFresh, HaveMovie, IsUnmade, IsHeldIn, HoldsAll}
+use Rattle.tas_tool.specs.Inside.Holding.{AreNumbered, HaveMadeNone, AreFresh, HaveMovie, IsUnmade, IsHeldIn, HoldsAll, HasRoom}
 use Rattle.tas_seat.proofs.HeldLemmas.{held_seen, held_in_history}
 
 -- ---- lists
@@ -66,6 +66,36 @@ there [] (z ∷ ys) k y same is = absurd (omega (arith, same))
 there (x ∷ xs) [] k y same is = absurd (omega (arith, same))
 there (x ∷ xs) (z ∷ ys) zero y same is = (x, refl)
 there (x ∷ xs) (z ∷ ys) (suc k) y same is = there xs ys k y (omega (arith, same)) is
+
+-- ---- lists that are moved item by item
+
+-- nothing is left to be moved
+pub none_left : {X : Type 0} (got rest all : List X) → length rest ≡ 0 → got ++ rest ≡ all → got ≡ all
+none_left got [] all none is = sym (append-nil got) ∙ is
+none_left got (x ∷ rest) all none is = absurd (omega (arith, none))
+
+-- nothing was moved yet
+pub none_moved : {X Y : Type 0} (f : X → Y) (xs : List X) (rest all : List Y) → length xs ≡ 0 → rest ≡ all → map f xs ++ rest ≡ all
+none_moved f [] rest all none is = is
+none_moved f (x ∷ xs) rest all none is = absurd (omega (arith, none))
+
+-- one more was moved
+pub one_moved : {X Y : Type 0} (f : X → Y) (xs xs' : List X) (x : X) (rest rest' all : List Y) → xs' ≡ xs ++ x ∷ [] → rest ≡ f x ∷ rest' → map f xs ++ rest ≡ all → map f xs' ++ rest' ≡ all
+one_moved {X} {Y} f xs xs' x rest rest' all more step is =
+    ap (λ (l : List X). map f l ++ rest') more ∙ go xs ∙ ap (λ (l : List Y). map f xs ++ l) (sym step) ∙ is
+  where
+    go : (ys : List X) → map f (ys ++ x ∷ []) ++ rest' ≡ map f ys ++ f x ∷ rest'
+    go [] = refl
+    go (y ∷ ys) = ap (λ (l : List Y). f y ∷ l) (go ys)
+
+-- there is room for one more of those that are left
+pub room_for_one : {X : Type 0} (got rest all rest' : List X) (x : X) (len cap : ℕ) → got ++ rest ≡ all → rest ≡ x ∷ rest' → len ≡ length got → length all ≤ cap → len < cap
+room_for_one {X} got rest all rest' x len cap is step same room =
+    omega (arith, length-append got rest, ap (λ (l : List X). length l) is, ap (λ (l : List X). length l) step, same, room)
+
+-- all were moved
+pub all_moved : {X Y : Type 0} (f : X → Y) (got rest all : List X) (into : List Y) → into ≡ map f got → length rest ≡ 0 → got ++ rest ≡ all → into ≡ map f all
+all_moved {X} f got rest all into is none whole = is ∙ ap (λ (l : List X). map f l) (none_left got rest all none whole)
 
 -- ---- numbers
 
@@ -375,6 +405,11 @@ whole_made {A} {D} {X} n facts door seat end old lent new backs is same long hel
     let are' : AreNumbered (map seat lent) = subst (λ (l : List X). AreNumbered (map seat l)) (sym is) are in
     let count : length (map seat new) ≡ n = length-map new seat ∙ same ∙ ap (λ (l : List X). length l) is ∙ long in
     subst (λ (l : List (SeatContent A)). IsWhole n l) (sym back) (whole_seats n (map seat new) (still_numbered facts door seat end lent new same held are') count)
+
+-- there is room for what comes back of callers that were lent
+pub room_lent : {X Y A : Type 0} (n : ℕ) (old lent new back : List X) (items : Vec Y A) → lent ≡ old → length new ≡ length lent → length old ≡ n → back ≡ new → HasRoom n items → HasRoom (length back) items
+room_lent {X} n old lent new back items is same long returned room =
+    subst (λ (k : ℕ). HasRoom k items) (sym (ap (λ (l : List X). length l) returned ∙ same ∙ ap (λ (l : List X). length l) is ∙ long)) room
 
 -- and the closed desk shows all conversations
 pub holds_made : {A D X : Type 0} (n : ℕ) (facts : DoorFacts D) (door : X → D) (seat : X → SeatContent A) (end : X → Result (Unit {0}) SeatFault) (old lent new : List X) (doors' : List D) (backs : List (SeatContent A)) (ends : List (Result (Unit {0}) SeatFault))

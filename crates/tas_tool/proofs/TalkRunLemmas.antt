@@ -1,5 +1,5 @@
 -- Conversations over a cartridge or a movie.
-use Rattle.std.proofs.Common.{◌≡◌, ℕ, List, [], length, true, Option, Some, Result, Ok, Err, inl, inr, refl, sym, ap, subst, ◌∙◌, arith}
+use Rattle.std.proofs.Common.{◌≡◌, ℕ, List, [], length, true, Option, Some, None, Result, Ok, Err, inl, inr, refl, sym, ap, subst, ◌∙◌, arith}
 use Rattle.std.proofs.KnownBytes.{Appends-nil, Consumes-nil, Keeps-refl}
 use Rattle.vcs_machine.specs.Cart.{is_cart_size}
 use Rattle.tas_movie.specs.Content.{MovieContent, blank_movie}
@@ -16,7 +16,7 @@ use Rattle.tas_engines.specs.declared.fault.ToolFault.TheVariants.{Read, Run}
 use Rattle.tas_engines.specs.Input.{IsReadWhole, StopsReading, StopsReadingTwo}
 use Rattle.tas_engines.specs.Movies.{IsMovieOf, IsMovieFault}
 use Rattle.tas_engines.specs.Tracing.{IsImageFault}
-use Rattle.tas_tool.specs.Talk.{IsUntouched, IsCartTalk, IsMovieTalk, AreExchanges, IsTalk, fresh_talk_state, talk_state_from}
+use Rattle.tas_tool.specs.Talk.{IsUntouched, IsCartTalk, IsMovieTalk, DraftedState, drafted, AreExchanges, IsTalk, fresh_talk_state, talk_state_from}
 use Rattle.tas_tool.specs.Inside.Alone.{SeesOwn, StartsTalk}
 use Rattle.tas_seat.specs.Turns.{Standing, standing_of}
 use Rattle.tas_seat.specs.Requests.{TalkState}
@@ -28,15 +28,15 @@ use Rattle.tas_tool.proofs.MovieScriptLemmas.{holds_standing}
 
 -- ---- before the first line
 
-no_exchanges : (state : TalkState) → AreExchanges state [] state
+no_exchanges : (state : DraftedState) → AreExchanges state [] state
 unfolding AreExchanges
 no_exchanges state = refl
 
 pub no_memory_yet : (start : TalkState) (input output : Option (List ℕ)) → IsTalk start input input output output (Err (Run Memory))
-no_memory_yet start input output = record { exchanges = []; state = start; rest = []; answered = no_exchanges start; left = Consumes-nil input; ends = Appends-nil output }
+no_memory_yet start input output = record { exchanges = []; state = drafted start None; rest = []; answered = no_exchanges (drafted start None); left = Consumes-nil input; ends = Appends-nil output }
 
 pub no_place_yet : (start : TalkState) (input output : Option (List ℕ)) → IsTalk start input input output output (Err (Run NoPlace))
-no_place_yet start input output = record { exchanges = []; state = start; rest = []; answered = no_exchanges start; left = Consumes-nil input; ends = (refl, refl, Appends-nil output) }
+no_place_yet start input output = record { exchanges = []; state = drafted start None; rest = []; answered = no_exchanges (drafted start None); left = Consumes-nil input; ends = (refl, refl, Appends-nil output) }
 
 -- the movie wasn't made
 pub unmade_talk : {A : Type 0} (start : TalkState) (seat : SeatContent A) (fault : RunFault) (input output : Option (List ℕ)) → IsMakingFault seat fault → SeesOwn seat → IsTalk start input input output output (Err (Run fault))

@@ -20,11 +20,17 @@ use Rattle.tas_engines.specs.Tracing.{IsImageFault}
 use Rattle.tas_language.specs.declared.reply.Reply.TheVariants.{OutOfMemory}
 use Rattle.tas_language.specs.Replies.{reply_text}
 use Rattle.tas_language.specs.declared.request.Request.{Request}
-use Rattle.tas_language.specs.declared.request.Request.TheVariants.{Pictures, History}
+use Rattle.tas_language.specs.declared.request.Request.TheVariants.{Pictures, Share, History, Begin, Commit, Drop}
 use Rattle.tas_language.specs.Requests.{IsHeard}
 use Rattle.tas_language.specs.Answers.{unknown_text}
+use Rattle.tas_language.specs.declared.draft_reply.DraftReply.TheVariants.{Dropped, NoDraft, InDraft}
+use Rattle.tas_language.specs.Drafts.{draft_reply_text}
 use Rattle.tas_seat.specs.Turns.{Standing}
-use Rattle.tas_seat.specs.Requests.{TalkState, IsPictureAnswer, IsAnswerTo as IsAnswerAt}
+use Rattle.tas_seat.specs.Requests.{TalkState, Rests, IsPictureAnswer, IsAnswerTo as IsAnswerAt}
+use Rattle.tas_seat.specs.Drafts.{DraftContent, IsDraft, IsDraftAnswered}
+use Rattle.tas_seat.specs.Conversations.{IsBeginAnswer, IsCommitAnswer}
+use Rattle.tas_session.specs.Strokes.{edited_by}
+use Rattle.tas_engines.specs.Changes.{EditContent}
 use Rattle.tas_seat.specs.Seats.{most_entries}
 use Rattle.tas_seat.specs.HistoryText.{history_reply_text}
 use Rattle.tas_seat.specs.Talk.{IsQuit, IsAnswerCutOff, last_answer}
@@ -68,28 +74,69 @@ IsAnswerTo state (Pictures from to) answer next = (strip : List StripAnswer) × 
 IsAnswerTo state (History from) answer next = IsOwnHistory state from answer next
 IsAnswerTo state request answer next = IsAnswerAt state request answer next
 
+-- ---- drafts
+
+-- what is made and kept, and the draft where one is open
+pub record DraftedState : Type 0 where
+  pub state : TalkState
+  pub draft : Option DraftContent
+
+abbrev pub drafted : TalkState → Option DraftContent → DraftedState
+drafted state draft = record { state = state; draft = draft }
+
+-- what is made once these edits are, too
+abbrev pub standing_with : Standing → List EditContent → Standing
+standing_with stands edits = record { movie = edited_by stands.movie edits; made = stands.made + length edits }
+
+-- `commit` is answered at what was made so far. The greenzone is left, as by an edit
+pub record IsOwnCommit (state : TalkState) (draft : DraftContent) (answer : List ℕ) (next : DraftedState) : Type 0 where
+  pub edits : List EditContent
+  pub answered : IsCommitAnswer state.stands draft answer edits next.draft
+  pub stands : next.state.stands ≡ standing_with state.stands edits
+  pub rests : Rests state next.state
+
+-- a request is answered where no draft is open
+abbrev pub IsOutsideAnswer : TalkState → Request → List ℕ → DraftedState → Type 0
+IsOutsideAnswer state Begin answer next = IsBeginAnswer state answer next.state next.draft
+IsOutsideAnswer state Commit answer next = (answer ≡ draft_reply_text NoDraft) × (next ≡ drafted state None)
+IsOutsideAnswer state Drop answer next = (answer ≡ draft_reply_text NoDraft) × (next ≡ drafted state None)
+IsOutsideAnswer state request answer next = IsAnswerTo state request answer next.state × (next.draft ≡ None)
+
+-- a request is answered in a draft. `share` and `history` are about what was made so far
+abbrev pub IsInsideAnswer : TalkState → DraftContent → Request → List ℕ → DraftedState → Type 0
+IsInsideAnswer state draft Begin answer next = (answer ≡ draft_reply_text InDraft) × (next ≡ drafted state (Some draft))
+IsInsideAnswer state draft Commit answer next = IsOwnCommit state draft answer next
+IsInsideAnswer state draft Drop answer next = (answer ≡ draft_reply_text Dropped) × (next ≡ drafted state None)
+IsInsideAnswer state draft Share answer next = IsAnswerTo state Share answer next.state × (next.draft ≡ Some draft)
+IsInsideAnswer state draft (History from) answer next = IsAnswerTo state (History from) answer next.state × (next.draft ≡ Some draft)
+IsInsideAnswer state draft request answer next = (after : DraftContent) × IsDraftAnswered draft request answer after × IsDraft after × (next ≡ drafted state (Some after))
+
+abbrev pub IsDraftedAnswer : TalkState → Option DraftContent → Request → List ℕ → DraftedState → Type 0
+IsDraftedAnswer state None request answer next = IsOutsideAnswer state request answer next
+IsDraftedAnswer state (Some draft) request answer next = IsInsideAnswer state draft request answer next
+
 -- a line that isn't understood is answered `unknown`, and changes nothing
-abbrev pub IsLineAnswer : TalkState → Option Request → List ℕ → TalkState → Type 0
-IsLineAnswer state (Some request) answer next = IsAnswerTo state request answer next
+abbrev pub IsLineAnswer : DraftedState → Option Request → List ℕ → DraftedState → Type 0
+IsLineAnswer state (Some request) answer next = IsDraftedAnswer state.state state.draft request answer next
 IsLineAnswer state None answer next = (answer ≡ unknown_text) × (next ≡ state)
 
 -- ---- lines, one after the other
 
--- a line without its newline, what it is understood as, its answer, and what is made and kept then
+-- a line without its newline, what it is understood as, its answer, and what is made and kept then, with the draft
 pub record Exchange : Type 0 where
   pub said : List ℕ
   pub heard : Option Request
   pub answer : List ℕ
-  pub next : TalkState
+  pub next : DraftedState
 
 -- a line is answered at what was made and kept so far
-pub record IsExchange (state : TalkState) (exchange : Exchange) : Type 0 where
+pub record IsExchange (state : DraftedState) (exchange : Exchange) : Type 0 where
   pub whole : NoByte 10 exchange.said
   pub heard : IsHeard exchange.said exchange.heard
   pub answered : IsLineAnswer state exchange.heard exchange.answer exchange.next
 
 -- each line is answered at what the lines before it made and left; the last state is what all of them did
-unfoldable pub AreExchanges : TalkState → List Exchange → TalkState → Type 0
+unfoldable pub AreExchanges : DraftedState → List Exchange → DraftedState → Type 0
 AreExchanges state [] last = last ≡ state
 AreExchanges state (exchange ∷ exchanges) last = IsExchange state exchange × AreExchanges exchange.next exchanges last
 
@@ -103,17 +150,17 @@ answers_of exchanges = flat_map (λ exchange. exchange.answer) exchanges
 -- ---- the end
 
 -- the answer to the first line of the rest
-abbrev pub IsFirstAnswer : TalkState → List ℕ → List ℕ → Type 0
+abbrev pub IsFirstAnswer : DraftedState → List ℕ → List ℕ → Type 0
 IsFirstAnswer state rest answer = (exchange : Exchange) × (more : List ℕ) × IsExchange state exchange × (rest ≡ line exchange.said ++ more) × (answer ≡ exchange.answer)
 
 -- the answer that comes next: to the first line of the rest, or, where no more bytes come, to what comes after the last newline
-abbrev pub IsNextAnswer : TalkState → List ℕ → Option (List ℕ) → List ℕ → Type 0
+abbrev pub IsNextAnswer : DraftedState → List ℕ → Option (List ℕ) → List ℕ → Type 0
 IsNextAnswer state rest input answer = IsFirstAnswer state rest answer ⊎ (NoByte 10 rest × IsAtEnd input × (answer ≡ last_answer rest))
 
 -- how a conversation ends in front of this rest, with these answers out before: by `quit`; at the end of the input, after the answer to what
 -- comes after the last newline; where a read failed, with no whole line unanswered; where a write failed; where memory or
 -- a reader's entry was refused; or before the first line, where the desk had no place
-abbrev pub TalkEnds : TalkState → (rest told : List ℕ) → (input output output' : Option (List ℕ)) → Result (Unit {0}) ToolFault → Type 0
+abbrev pub TalkEnds : DraftedState → (rest told : List ℕ) → (input output output' : Option (List ℕ)) → Result (Unit {0}) ToolFault → Type 0
 TalkEnds state rest told input output output' (Ok _) = (IsQuit rest × Appends output output' told) ⊎ (NoByte 10 rest × IsAtEnd input × Appends output output' (told ++ last_answer rest))
 TalkEnds state rest told input output output' (Err (Read Failed)) = NoByte 10 rest × Appends output output' told
 TalkEnds state rest told input output output' (Err (Run (Write written))) = (answer : List ℕ) × IsNextAnswer state rest input answer × IsAnswerCutOff told answer output output' written
@@ -123,12 +170,12 @@ TalkEnds state rest told input output output' (Err (Run NoPlace)) = (rest ≡ []
 TalkEnds state rest told input output output' (Err _) = ⊥
 
 -- a conversation from such a state on, from what the reader has and the writer holds before to what they have and hold afterwards:
--- what left the reader is the lines that were answered, and the rest in front of which it ended
+-- what left the reader is the lines that were answered, and the rest in front of which it ended. It begins with no draft
 pub record IsTalk (start : TalkState) (input input' output output' : Option (List ℕ)) (result : Result (Unit {0}) ToolFault) : Type 0 where
   pub exchanges : List Exchange
-  pub state : TalkState
+  pub state : DraftedState
   pub rest : List ℕ
-  pub answered : AreExchanges start exchanges state
+  pub answered : AreExchanges (drafted start None) exchanges state
   pub left : Consumes input input' (lines_of exchanges ++ rest)
   pub ends : TalkEnds state rest (answers_of exchanges) input' output output' result
 

@@ -1,7 +1,6 @@
 //! `tas desk`.
 
 ghost use Rattle.std.specs.Prelude.{◌≡◌, ◌≤◌, ◌⊎◌, length, IfOk, IfErr, OnErr, MatchResult};
-ghost use Rattle.std.specs.Global.{Global as GlobalType};
 ghost use Rattle.std.specs.Io.KnownBytes.{Appends};
 ghost use Rattle.tas_movie.specs.Text.{text2};
 ghost use Rattle.tas_session.specs.History.{movie_of};
@@ -11,7 +10,7 @@ ghost use Rattle.tas_tool.specs.Desks.{first_fault, IsDeskHistory, IsDeskOn, IsD
 ghost use Rattle.tas_tool.specs.Inside.Holding.{AreFresh, ReadsMovie};
 
 use crate::holding::{Held, Room, hold_made, put_for_all};
-use std::alloc::Global;
+use std::alloc::Allocator;
 use std::io::{Read, Write};
 use std::marker::Brand;
 use std::sync::Wait;
@@ -22,14 +21,19 @@ use tas_movie::{Movie, print_text};
 use tas_seat::Door;
 
 /// Gives an open desk its movie, holds a conversation at each door, and closes the desk.
-fn hold_opened<N: Name + Send + Sync, T: Wait + Threads + Sync, D: Door + Drop + Send>(
+fn hold_opened<
+    N: Name + Send + Sync,
+    A: Allocator + Copy + Send + Sync,
+    T: Wait + Threads + Sync,
+    D: Door + Drop + Send,
+>(
     rt: &T,
-    alloc: Global,
-    desk: Desk<N, &T>,
-    mut seats: Vec<Seat<N>>,
-    movie: Movie,
-    doors: &mut Vec<D>,
-) -> Result<Held, RunFault>
+    alloc: A,
+    desk: Desk<N, &T, A>,
+    mut seats: Vec<Seat<N, A>, A>,
+    movie: Movie<A>,
+    doors: &mut Vec<D, A>,
+) -> Result<Held<A>, RunFault>
     requires some { 1 ≤ length doors.old.items }
     requires count { (length doors.old.items ≡ N.parts) × (length seats.items ≡ N.parts) }
     requires fresh { AreFresh seats.items }
@@ -52,13 +56,18 @@ fn hold_opened<N: Name + Send + Sync, T: Wait + Threads + Sync, D: Door + Drop +
 }
 
 /// Opens a desk with a seat for each door, gives it the movie, holds a conversation at each door, and closes the desk.
-fn hold_desk<N: Name + Send + Sync, T: Wait + Threads + Sync, D: Door + Drop + Send>(
+fn hold_desk<
+    N: Name + Send + Sync,
+    A: Allocator + Copy + Send + Sync,
+    T: Wait + Threads + Sync,
+    D: Door + Drop + Send,
+>(
     rt: &T,
-    alloc: Global,
-    unopened: Unopened,
-    movie: Movie,
-    doors: &mut Vec<D>,
-) -> Result<Held, RunFault>
+    alloc: A,
+    unopened: Unopened<A>,
+    movie: Movie<A>,
+    doors: &mut Vec<D, A>,
+) -> Result<Held<A>, RunFault>
     requires name { unopened ≡ name_of N.registry N.name N.parts }
     requires some { 1 ≤ length doors.old.items }
     requires many { unopened.seats ≡ length doors.old.items }
@@ -69,7 +78,7 @@ fn hold_desk<N: Name + Send + Sync, T: Wait + Threads + Sync, D: Door + Drop + S
     ensures fault { IfErr result (λ fault. (fault ≡ Memory) ⊎ (fault ≡ NoPlace)) }
     ensures unopened { OnErr result (doors.new.items ≡ doors.old.items) }
 {
-    match Desk::<N, &T>::open(rt, alloc, unopened) {
+    match Desk::<N, &T, A>::open(rt, alloc, unopened) {
         Ok((desk, seats)) => hold_opened(rt, alloc, desk, seats, movie, doors),
         Err(OpenError::Memory) => Err(RunFault::Memory),
         Err(OpenError::NoPlace) => Err(RunFault::NoPlace),
@@ -77,7 +86,11 @@ fn hold_desk<N: Name + Send + Sync, T: Wait + Threads + Sync, D: Door + Drop + S
 }
 
 /// Writes the text of a movie.
-fn write_movie<W: Write>(alloc: Global, movie: &Movie, output: &mut W) -> Result<(), RunFault>
+fn write_movie<A: Allocator + Copy, W: Write>(
+    alloc: A,
+    movie: &Movie<A>,
+    output: &mut W,
+) -> Result<(), RunFault>
     ensures { MatchResult result
         (λ _. Appends (W.contents output.old) (W.contents output.new) (text2 movie.now))
         (IsUnwritten movie.now (W.contents output.old) (W.contents output.new)) }
@@ -103,22 +116,21 @@ fn first_fault(ends: &[Result<(), SeatFault>]) -> Result<(), ToolFault>
 }
 
 /// Holds a desk on a movie, and writes the movie that it leaves.
-fn desk_on<T: Wait + Threads + Sync, D: Door + Drop + Send, W: Write>(
-    rt: &T,
-    alloc: Global,
-    movie: Movie,
-    doors: &mut Vec<D>,
-    output: &mut W,
-) -> Result<(), ToolFault>
+fn desk_on<
+    A: Allocator + Copy + Send + Sync,
+    T: Wait + Threads + Sync,
+    D: Door + Drop + Send,
+    W: Write,
+>(rt: &T, alloc: A, movie: Movie<A>, doors: &mut Vec<D, A>, output: &mut W) -> Result<(), ToolFault>
     requires some { 1 ≤ length doors.old.items }
     requires few { length doors.old.items ≤ most_seats }
-    ensures { IsDeskOn GlobalType D.facts doors.old.items doors.new.items movie
+    ensures { IsDeskOn A D.facts doors.old.items doors.new.items movie
         (W.contents output.old) (W.contents output.new) result }
 {
     let Ok(unopened) = Unopened::new(alloc, doors.len() as u32) else {
         return Err(ToolFault::Run(RunFault::Memory));
     };
-    let held = hold_desk::<Brand, T, D>(rt, alloc, unopened, movie, doors)?;
+    let held = hold_desk::<Brand, A, T, D>(rt, alloc, unopened, movie, doors)?;
     write_movie(alloc, &held.closed.movie, output)?;
     first_fault(held.ends.as_slice())
 }
@@ -127,11 +139,11 @@ fn desk_on<T: Wait + Threads + Sync, D: Door + Drop + Send, W: Write>(
 /// long.
 ///
 /// Faults, in order: those of [`read_two`], then those of [`movie_of`].
-fn read_movie<C: Read, M: Read>(
-    alloc: Global,
+fn read_movie<A: Allocator + Copy, C: Read, M: Read>(
+    alloc: A,
     cart: &mut C,
     movie: &mut M,
-) -> Result<Movie, ToolFault>
+) -> Result<Movie<A>, ToolFault>
     ensures { ReadsMovie (C.remaining cart.old) (C.remaining cart.new) (M.remaining movie.old)
         (M.remaining movie.new) result }
 {
@@ -147,17 +159,24 @@ fn read_movie<C: Read, M: Read>(
 /// Faults, in order: those of [`read_two`], then those of [`movie_of`]; `Memory` and `NoPlace` for the desk; each of these before a door
 /// is opened. Then, with nothing undone, `Memory` for the text and `Write` for its write; and, with the movie written, `Seat`: the fault
 /// of the least seat whose conversation ended with one. `Foreign` never comes.
-pub fn desk_run<T: Wait + Threads + Sync, C: Read, M: Read, D: Door + Drop + Send, W: Write>(
+pub fn desk_run<
+    A: Allocator + Copy + Send + Sync,
+    T: Wait + Threads + Sync,
+    C: Read,
+    M: Read,
+    D: Door + Drop + Send,
+    W: Write,
+>(
     rt: &T,
-    alloc: Global,
+    alloc: A,
     cart: &mut C,
     movie: &mut M,
-    doors: &mut Vec<D>,
+    doors: &mut Vec<D, A>,
     output: &mut W,
 ) -> Result<(), ToolFault>
     requires some { 1 ≤ length doors.old.items }
     requires few { length doors.old.items ≤ most_seats }
-    ensures { IsDeskRun GlobalType D.facts doors.old.items doors.new.items (C.remaining cart.old)
+    ensures { IsDeskRun A D.facts doors.old.items doors.new.items (C.remaining cart.old)
         (C.remaining cart.new) (M.remaining movie.old) (M.remaining movie.new)
         (W.contents output.old) (W.contents output.new) result }
 {

@@ -7,7 +7,7 @@ ghost use Rattle.tas_desk.specs.Seats.{KeepsZone};
 ghost use Rattle.tas_tool.specs.Inside.Holding.{AreFresh, AreNumbered, HaveMadeNone, HaveMovie, IsUnmade, HasRoom, HoldsAll};
 
 use crate::making::put_movie;
-use std::alloc::{AllocError, Global};
+use std::alloc::{AllocError, Allocator, Global};
 use std::mem;
 use std::sync::Wait;
 use std::thread::Threads;
@@ -17,11 +17,11 @@ use tas_movie::Movie;
 use tas_seat::{Caller, Door, converse_all};
 
 /// Lets each other seat see what the first one has seen.
-fn meet_all<N: Name, C: CloseOnDrop, T: Wait>(
+fn meet_all<N: Name, C: CloseOnDrop, A: Allocator, T: Wait>(
     rt: &T,
-    desk: &Desk<N, C>,
-    first: &mut Seat<N>,
-    others: &mut [Seat<N>],
+    desk: &Desk<N, C, A>,
+    first: &mut Seat<N, A>,
+    others: &mut [Seat<N, A>],
 )
     ensures first { KeepsZone first.old first.new }
     ensures others { (k : ℕ) (d : _) → k < length others.old
@@ -37,12 +37,12 @@ fn meet_all<N: Name, C: CloseOnDrop, T: Wait>(
 /// Gives the first seat of a desk without edits its movie, and lets the others see it.
 ///
 /// Faults: those of [`put_movie`].
-pub fn put_for_all<N: Name, C: CloseOnDrop, T: Wait>(
+pub fn put_for_all<N: Name, C: CloseOnDrop, A: Allocator + Copy, T: Wait>(
     rt: &T,
-    alloc: Global,
-    desk: &Desk<N, C>,
-    seats: &mut [Seat<N>],
-    movie: &Movie,
+    alloc: A,
+    desk: &Desk<N, C, A>,
+    seats: &mut [Seat<N, A>],
+    movie: &Movie<A>,
 ) -> Result<(), RunFault>
     requires some { 0 < length seats.old }
     requires fresh { AreFresh seats.old }
@@ -62,22 +62,22 @@ pub fn put_for_all<N: Name, C: CloseOnDrop, T: Wait>(
 
 /// Room for seats that come back, and for how their conversations ended.
 #[derive(Drop)]
-struct Back<N: Name> {
-    seats: Vec<Seat<N>>,
-    ends: Vec<Result<(), SeatFault>>,
+struct Back<N: Name, A: Allocator = Global> {
+    seats: Vec<Seat<N, A>, A>,
+    ends: Vec<Result<(), SeatFault>, A>,
 }
 
 /// Room for the conversations of a desk. It is made before they begin, since none of them may be lost for lack of memory.
 #[derive(Drop)]
-pub struct Room<N: Name, D> {
-    callers: Vec<Caller<N, D>>,
-    doors: Vec<D>,
-    back: Back<N>,
+pub struct Room<N: Name, D, A: Allocator = Global> {
+    callers: Vec<Caller<N, D, A>, A>,
+    doors: Vec<D, A>,
+    back: Back<N, A>,
 }
 
-impl<N: Name, D: Drop> Room<N, D> {
+impl<N: Name, D: Drop, A: Allocator + Copy> Room<N, D, A> {
     /// Room for this many conversations.
-    pub fn new(alloc: Global, count: usize) -> Result<Room<N, D>, AllocError>
+    pub fn new(alloc: A, count: usize) -> Result<Room<N, D, A>, AllocError>
         ensures callers { IfOk result (λ room. HasRoom count room.callers) }
         ensures doors { IfOk result (λ room. HasRoom count room.doors) }
         ensures seats { IfOk result (λ room. HasRoom count room.back.seats) }
@@ -97,10 +97,10 @@ impl<N: Name, D: Drop> Room<N, D> {
 }
 
 /// Puts the seats with their doors into an empty list that has room for them.
-fn gather<N: Name, D: Door + Drop>(
-    seats: Vec<Seat<N>>,
-    doors: Vec<D>,
-    callers: &mut Vec<Caller<N, D>>,
+fn gather<N: Name, A: Allocator, D: Door + Drop>(
+    seats: Vec<Seat<N, A>, A>,
+    doors: Vec<D, A>,
+    callers: &mut Vec<Caller<N, D, A>, A>,
 )
     requires same { length seats.items ≡ length doors.items }
     requires room { HasRoom (length seats.items) callers.old }
@@ -117,7 +117,11 @@ fn gather<N: Name, D: Door + Drop>(
 }
 
 /// Puts the doors, the seats, and how their conversations ended, into empty lists that have room for them.
-fn part<N: Name, D: Door + Drop>(callers: Vec<Caller<N, D>>, doors: &mut Vec<D>, back: &mut Back<N>)
+fn part<N: Name, A: Allocator, D: Door + Drop>(
+    callers: Vec<Caller<N, D, A>, A>,
+    doors: &mut Vec<D, A>,
+    back: &mut Back<N, A>,
+)
     requires doors { HasRoom (length callers.items) doors.old }
     requires seats { HasRoom (length callers.items) back.old.seats }
     requires ends { HasRoom (length callers.items) back.old.ends }
@@ -135,22 +139,27 @@ fn part<N: Name, D: Door + Drop>(callers: Vec<Caller<N, D>>, doors: &mut Vec<D>,
 
 /// How a desk's conversations ended, and what it left.
 #[derive(Drop)]
-pub struct Held {
+pub struct Held<A: Allocator = Global> {
     /// How each conversation ended.
-    pub ends: Vec<Result<(), SeatFault>>,
+    pub ends: Vec<Result<(), SeatFault>, A>,
     /// The movie and the history that made it.
-    pub closed: Closed,
+    pub closed: Closed<A>,
 }
 
 /// Holds the conversations of some callers, closes the desk, and puts the doors into an empty list.
-fn hold_callers<N: Name + Send + Sync, T: Wait + Threads + Sync, D: Door + Drop + Send>(
+fn hold_callers<
+    N: Name + Send + Sync,
+    A: Allocator + Copy + Send + Sync,
+    T: Wait + Threads + Sync,
+    D: Door + Drop + Send,
+>(
     rt: &T,
-    alloc: Global,
-    desk: Desk<N, &T>,
-    mut callers: Vec<Caller<N, D>>,
-    doors: &mut Vec<D>,
-    mut back: Back<N>,
-) -> Held
+    alloc: A,
+    desk: Desk<N, &T, A>,
+    mut callers: Vec<Caller<N, D, A>, A>,
+    doors: &mut Vec<D, A>,
+    mut back: Back<N, A>,
+) -> Held<A>
     requires all { length callers.items ≡ N.parts }
     requires numbers { AreNumbered (map (λ c. c.seat) callers.items) }
     requires doors { HasRoom N.parts doors.old }
@@ -168,14 +177,19 @@ fn hold_callers<N: Name + Send + Sync, T: Wait + Threads + Sync, D: Door + Drop 
 }
 
 /// Holds a conversation at each door, by the desk's seats in their order, and closes the desk. The doors come back.
-pub fn hold_made<N: Name + Send + Sync, T: Wait + Threads + Sync, D: Door + Drop + Send>(
+pub fn hold_made<
+    N: Name + Send + Sync,
+    A: Allocator + Copy + Send + Sync,
+    T: Wait + Threads + Sync,
+    D: Door + Drop + Send,
+>(
     rt: &T,
-    alloc: Global,
-    desk: Desk<N, &T>,
-    seats: Vec<Seat<N>>,
-    doors: &mut Vec<D>,
-    room: Room<N, D>,
-) -> Held
+    alloc: A,
+    desk: Desk<N, &T, A>,
+    seats: Vec<Seat<N, A>, A>,
+    doors: &mut Vec<D, A>,
+    room: Room<N, D, A>,
+) -> Held<A>
     requires all { (length seats.items ≡ N.parts) × (length doors.old.items ≡ N.parts) }
     requires numbers { AreNumbered seats.items }
     requires callers { HasRoom N.parts room.callers }

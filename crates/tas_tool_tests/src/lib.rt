@@ -47,6 +47,8 @@ mod spoilt_script_tests;
 #[cfg(test)]
 mod tails;
 #[cfg(test)]
+mod talk_draft_tests;
+#[cfg(test)]
 mod talk_file_tests;
 #[cfg(test)]
 mod talk_hand_tests;
@@ -58,5 +60,7 @@ mod talk_look_tests;
 mod talk_strip_tests;
 #[cfg(test)]
 mod talk_tests;
+#[cfg(test)]
+mod tasks;
 #[cfg(test)]
 mod word_tests;

@@ -17,6 +17,11 @@ returns-in-Err-clause-fault g c =
     let back = whole_back c.put_for_all.new.seats _ _ _ (sym (c.put_for_all.ensures.count ∙ c.as_mut_slice.ensures.len)) refl in
     unmade_closed c.put_for_all.new.seats _ c.close.result.journal.items _ back c.in-Err.ensures.fault c.in-Err.ensures.others c.close.ensures.seats c.close.ensures.count
 
+pub hold_made-requires-clause-all : goal.hold_made-requires-clause-all
+hold_made-requires-clause-all g c κs within =
+    let back = whole_back c.put_for_all.new.seats _ _ _ (sym (c.put_for_all.ensures.count ∙ c.as_mut_slice.ensures.len)) refl in
+    (ap (λ l. length l) back ∙ c.put_for_all.ensures.count ∙ ap (λ l. length l) c.as_mut_slice.ensures.value ∙ c.requires.count.1, c.requires.count.0)
+
 pub hold_made-requires-clause-numbers : goal.hold_made-requires-clause-numbers
 hold_made-requires-clause-numbers g c κs within =
     let back = whole_back c.put_for_all.new.seats _ _ _ (sym (c.put_for_all.ensures.count ∙ c.as_mut_slice.ensures.len)) refl in

@@ -1,6 +1,6 @@
 use Rattle.std.proofs.Common.{List, map, refl, sym, ap, ◌∙◌}
 use Rattle.tas_seat.specs.declared.callers.Caller.{Caller}
-use Rattle.tas_tool.proofs.HoldingLemmas.{whole_back, whole_made, holds_made}
+use Rattle.tas_tool.proofs.HoldingLemmas.{whole_back, room_lent, whole_made, holds_made}
 use Rattle.tas_tool.proofs.holding.hold_callers.Goals as goal
 
 pub close-closed-requires : goal.close-closed-requires
@@ -22,3 +22,21 @@ returns-clause-history g c =
     c.part.new.back.ends.items c.close-closed.result.journal.items c.as_mut_slice.ensures.value c.converse_all.auto.callers c.requires.all c.converse_all.ensures c.requires.numbers
     (parts.doors ∙ ap (λ (l : List (Caller _ _ _)). map (λ (x : Caller _ _ _). x.door) l) back) (parts.seats ∙ ap (λ (l : List (Caller _ _ _)). map (λ (x : Caller _ _ _). x.seat) l) back)
     (parts.ends ∙ ap (λ (l : List (Caller _ _ _)). map (λ (x : Caller _ _ _). x.end) l) back) end.legal end.seats end.count
+
+pub part-requires-clause-doors : goal.part-requires-clause-doors
+part-requires-clause-doors g c κs within =
+    let new = c.converse_all.new.callers in
+    let back = whole_back new _ _ _ (sym (c.converse_all.auto.callers ∙ c.as_mut_slice.ensures.len)) refl in
+    room_lent g.N.Ledger.parts c.args.callers.items c.as_mut_slice.result.now new _ c.args.doors.now c.as_mut_slice.ensures.value c.converse_all.auto.callers c.requires.all back c.requires.doors
+
+pub part-requires-clause-seats : goal.part-requires-clause-seats
+part-requires-clause-seats g c κs within =
+    let new = c.converse_all.new.callers in
+    let back = whole_back new _ _ _ (sym (c.converse_all.auto.callers ∙ c.as_mut_slice.ensures.len)) refl in
+    room_lent g.N.Ledger.parts c.args.callers.items c.as_mut_slice.result.now new _ c.args.back.seats c.as_mut_slice.ensures.value c.converse_all.auto.callers c.requires.all back c.requires.seats
+
+pub part-requires-clause-ends : goal.part-requires-clause-ends
+part-requires-clause-ends g c κs within =
+    let new = c.converse_all.new.callers in
+    let back = whole_back new _ _ _ (sym (c.converse_all.auto.callers ∙ c.as_mut_slice.ensures.len)) refl in
+    room_lent g.N.Ledger.parts c.args.callers.items c.as_mut_slice.result.now new _ c.args.back.ends c.as_mut_slice.ensures.value c.converse_all.auto.callers c.requires.all back c.requires.ends
