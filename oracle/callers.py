@@ -49,7 +49,9 @@ KINDS = {
     "insert": 17, "replace": 12, "delete": 9, "press": 6, "release": 4, "repeat": 3, "copy": 4, "load": 0.1,
     "len": 9, "input": 11, "shot": 3, "picture": 1.2, "pictures": 0.15, "ram": 5, "digest": 2, "lag": 2,
     "work": 1.5, "share": 2, "states": 1, "movie": 0.4, "history": 4, "spoilt": 1.5,
+    "begin": 2, "commit": 0.3, "drop": 0.3,
 }
+LONGEST_DRAFT = 12
 LEAST, USUAL = 40, 160  # how long the movie is, about
 LONGEST_LINE = 16384
 MOST = 262144
@@ -71,11 +73,12 @@ def hex_parts(data, offset=0):
 
 
 class Lines:
-    """Random lines for a movie of about `length` frames at about `at` edits."""
+    """Random lines for a movie of about `length` frames at about `at` edits. A draft is open, and so many lines follow in the one that was begun."""
 
     def __init__(self, rng, images):
         self.rng, self.images = rng, images
-        self.length = self.at = 0
+        self.length = self.at = self.drafting = 0
+        self.open, self.has_drafts = False, True
         self.kinds, total = list(KINDS), 0
         self.weights = []
         for kind in self.kinds:
@@ -83,6 +86,12 @@ class Lines:
             self.weights.append(total)
 
     def line(self):
+        if self.drafting > 0:
+            self.drafting -= 1
+            if self.drafting == 0:
+                return self.end_of_draft()
+        elif self.open and self.rng.random() < 0.3:
+            return self.end_of_draft()
         kind = self.rng.choices(self.kinds, cum_weights=self.weights)[0]
         if kind == "insert" and self.length > USUAL:
             kind = "delete"
@@ -138,6 +147,16 @@ class Lines:
         image = rng.choice(self.images)
         return "%s %s" % ("load" if len(image) == 4096 else "load2", hex_parts(image))
 
+    def begin(self):
+        if self.drafting == 0 and self.has_drafts:
+            self.drafting = self.rng.randint(1, LONGEST_DRAFT)
+        return "begin" if self.has_drafts else "len"
+
+    def end_of_draft(self):
+        return self.rng.choice(("commit", "commit", "commit", "drop")) if self.has_drafts else "len"
+
+    commit = drop = end_of_draft
+
     def look(self, kind):
         return kind if kind in ("len", "share", "states", "movie") else "%s %d" % (kind, self.place())
 
@@ -161,7 +180,7 @@ class Lines:
         place = rng.randrange(len(line))
         return rng.choice((
             line[:place] + line[place + 1:], line[:place] + rng.choice(" 0x.R\xff") + line[place:], line + " ", " " + line, line + "\r",
-            line.replace(" ", "  ", 1), line.upper(), "", "quit ", re.sub(r"\d+", "10000000", line, count=1), "copy other 0 1 0",
+            line.replace(" ", "  ", 1), line.upper(), "", "quit ", "begin ", "commit 0", "drops", re.sub(r"\d+", "10000000", line, count=1), "copy other 0 1 0",
             re.sub(r"(\d+)", r"0\1", line, count=1), re.sub(r"\d+", "-1", line, count=1), line.split(" ")[0], "pictures 9 9", "pictures 0 1025",
             "len" + " " * (LONGEST_LINE - 3 + rng.randrange(2)), "load 000=" + "00" * rng.choice((4097, 8187, 8188)), "load2 7FF=0000"))
 
@@ -236,23 +255,26 @@ class Client:
 
     def note(self, words):
         """What the next lines are made for."""
-        if words[0] in ("edit", "len", "place", "long"):
+        if words[0] in ("edit", "len", "place", "long", "begin", "commit"):
             self.lines.at, self.lines.length = int(words[1]), int(words[-1])
+        if words[0] in ("begin", "commit", "dropped"):
+            self.lines.open = words[0] == "begin"
 
     def converse(self, count):
         """Sends so many lines, some of them several at once, and hears the answer to each."""
         done = 0
         while done < count:
             batch = [self.lines.line()]
-            if self.rng.random() < 0.15:
-                while len(batch) < min(20, count - done) and sum(map(len, batch)) < 20000:
-                    batch.append(self.lines.line())
+            at_once = self.rng.random()
+            while len(batch) < min(20, count - done) and sum(map(len, batch)) < 20000 and (at_once < 0.15 or at_once < 0.6 and self.lines.drafting > 0):
+                batch.append(self.lines.line())
             self.send(batch)
             self.answers(batch)
             done += len(batch)
 
     def leave(self):
-        """Goes away without hearing the answers to some last lines; one of them comes when nobody can hear it."""
+        """Goes away without hearing the answers to some last lines, none of which is about a draft; one of them comes when nobody can hear it."""
+        self.lines.has_drafts = False
         self.unanswered = [self.lines.line() for _ in range(self.rng.randrange(12))]
         self.send(self.unanswered)
         time.sleep(self.rng.choice((0, 0, 0.001, 0.02)))

@@ -1,151 +1,30 @@
-"""One sequential history that several clients' answers are compared with: a movie by a plain model of lists, and what its beginnings show.
+"""One sequential history that several clients' answers are compared with.
 
-Written from docs/FORMATS.md, "Script" and "Conversation". The model of edits is that of `hands`.
+Written from docs/FORMATS.md, "Conversation", "History" and "Several conversations".
 """
 
-import importlib.machinery
-import importlib.util
-import pathlib
-import re
-from collections import Counter, namedtuple
-from hashlib import sha256
+from collections import Counter
 
-HERE = pathlib.Path(__file__).resolve().parent
+import drafts
+from answers import EDITS, Answers, Movie, at_of, hands, made, understood
 
 
-def load_hands():
-    loader = importlib.machinery.SourceFileLoader("hands", str(HERE / "hands"))
-    module = importlib.util.module_from_spec(importlib.util.spec_from_loader("hands", loader))
-    loader.exec_module(module)
-    return module
-
-
-hands = load_hands()
-TOLD_AT_ONCE = 256
-LONGEST_LINE = 16384
-PART = re.compile(r"([0-9A-F]{3})=((?:[0-9A-F]{2})+)")
-EDITS = ("insert", "replace", "delete", "press", "release", "repeat", "copy")
-SIZES = {"load": 4096, "load2": 2048}
-NUMBERS = {"input": 1, "shot": 1, "work": 1, "picture": 1, "ram": 1, "digest": 1, "history": 1, "lag": 2, "pictures": 2,
-           "len": 0, "movie": 0, "states": 0, "share": 0}
-WITHOUT_AT = ("work", "unknown", "out")
-
-Movie = namedtuple("Movie", "cart frames")
-Said = namedtuple("Said", "kind numbers frame")
-BLANK = Movie(bytes(4096), [])
-
-
-# ---- lines
-
-def understood(line):
-    """What a line says; nothing where it isn't understood."""
-    if len(line) > LONGEST_LINE:
-        return None
-    kind, _, rest = line.partition(" ")
-    if kind in EDITS:
-        said = hands.understood(line, False)
-        return Said(*said) if said else None
-    if kind in SIZES:
-        return image_of(kind, line.split(" ")[1:])
-    if kind not in NUMBERS:
-        return None
-    found = hands.numbers(line.split(" ")[1:], NUMBERS[kind])
-    if found is None or kind == "pictures" and not 1 <= found[1] - found[0] <= 1024:
-        return None
-    return Said(kind, found, None)
-
-
-def image_of(kind, parts):
-    image = bytearray(SIZES[kind])
-    for part in parts:
-        match = PART.fullmatch(part)
-        if not match:
-            return None
-        place, data = int(match.group(1), 16), bytes.fromhex(match.group(2))
-        if place + len(data) > len(image):
-            return None
-        image[place:place + len(data)] = data
-    return Said("load", [], bytes(image)) if parts else None
-
-
-def made(movie, said):
-    """The movie that an edit makes of this one. Raises its refusal."""
-    if said.kind == "load":
-        return Movie(said.frame, movie.frames)
-    return Movie(movie.cart, hands.made(movie.frames, [], *said))
-
-
-def stride(length):
-    step = 64
-    while length // step > 512:
-        step *= 2
-    return step
-
-
-def at_of(words):
-    """The number of edits that an answer names; nothing where it names none."""
-    if words[0] in WITHOUT_AT:
-        return None
-    return int(words[2] if words[0] == "no" else words[1])
-
-
-# ---- what a movie's beginning shows
-
-Look = namedtuple("Look", "cart frames facts")  # a beginning of a movie, and each fact with who was shown it by which line
-
-
-class Facts:
-    """What clients were shown of beginnings of movies, in the order in which they were shown: equal beginnings must show the same."""
-
-    def __init__(self):
-        self.looks, self.places = [], {}
-
-    def add(self, movie, count, name, value, shown_to):
-        """After `count` frames of the movie, `name` is the value. Returns what it was at such a beginning before, or nothing."""
-        frames = tuple(movie.frames[:count])
-        key = (hash(movie.cart), count, hash(frames))
-        if key not in self.places:
-            self.places[key] = len(self.looks)
-            self.looks.append(Look(movie.cart, frames, {}))
-        facts = self.looks[self.places[key]].facts
-        if name in facts:
-            return facts[name][0]
-        facts[name] = (value, shown_to)
-        return None
-
-
-# The line that shows a fact again, of a beginning of so many frames.
-LOOK_AGAIN = {
-    "ram": lambda count, _: "ram %d" % count, "picture": lambda count, _: "picture %d" % (count - 1), "lit": lambda count, _: "shot %d" % (count - 1),
-    "halt": lambda count, _: "shot %d" % (count - 1), "lag": lambda count, name: "lag %s %d" % (name.split(" ")[2], count),
-}
-
-
-def value_of(name, head, body):
-    """What an answer to such a line says of the fact."""
-    words = head.split(" ")
-    if name == "halt":
-        return " ".join(words[2:]) if words[0] == "halted" else ""
-    if name == "ram":
-        return sha256(bytes.fromhex(words[3])).hexdigest() if words[0] == "ram" and len(words) == 4 else head
-    return words[-1] if name == "lit" else head if body is None else body
-
-
-# ---- the comparison
-
-class History:
+class History(Answers):
     """Compares clients' logs, each a list of (line, answer), with the history that their accepted edits make."""
 
     def __init__(self, clients, movie, facts, report):
         """The movie is there by two edits of the first seat, which no client has sent."""
+        # `replay`: the edits' lines, and between them a line for each fact, with its name and its value.
+        super().__init__(facts, Counter(), [], report)
         self.clients = {client["number"]: client for client in clients}
-        self.logs = {client["number"]: self.each_answer(client["log"]) for client in clients}
+        self.logs, self.left_open = {}, {}
+        for client in clients:
+            number, log = client["number"], self.each_answer(client["log"])
+            self.logs[number], self.left_open[number] = drafts.apart(number, log, (facts, self.counts, self.replay, report))
         self.first = [Movie(movie.cart, []), movie]
-        self.start, self.facts, self.report = len(self.first), facts, report
-        self.edits, self.told = {}, {}
-        self.counts, self.lost = Counter(), {number: 0 for number in self.clients}
-        self.now, self.text, self.maker = BLANK, None, 0
-        self.replay = []  # the edits' lines, and between them a line for each fact, with its name and its value
+        self.start = len(self.first)
+        self.edits, self.strokes, self.told = {}, {}, {}
+        self.lost, self.maker = {number: 0 for number in self.clients}, 0
 
     def each_answer(self, log):
         """Lines with one answer each: a strip is as many `picture` lines, and each of them may name other numbers of edits."""
@@ -164,11 +43,12 @@ class History:
         """Puts each accepted edit at its number, and each history's entries at theirs; a seat's numbers never fall."""
         for number, log in self.logs.items():
             last = self.start
-            for line, (head, body) in log:
-                last = self.read_answer(number, line, head, body, last)
+            for turn in log:
+                last = self.read_answer(number, turn, last)
         self.last = max([self.start] + list(self.edits) + [entry + 1 for entry in self.told])
 
-    def read_answer(self, number, line, head, body, last):
+    def read_answer(self, number, turn, last):
+        line, head, body = turn[:3]
         words = head.split(" ")
         try:
             at = at_of(words)
@@ -180,12 +60,29 @@ class History:
         if at < last + (words[0] == "edit"):
             self.differ(number, line, head, "a number of edits not less than %d" % (last + (words[0] == "edit")))
         if words[0] == "edit":
-            if at in self.edits:
-                self.differ(number, line, head, "a number of its own: seat %d's %r has it, too" % self.edits[at][:2])
-            self.edits[at] = (number, line, head)
+            self.claim(at, number, line, head)
+        if words[0] == "commit" and turn.draft:
+            self.read_commit(number, turn, last, at)
+        if words[0] == "moved" and turn.draft and at <= turn.draft.at:
+            self.differ(number, line, head, "a number of edits greater than %d, at which the draft began" % turn.draft.at)
         if words[0] == "history":
             self.read_entries(number, line, head, body)
         return max(at, last)
+
+    def claim(self, at, number, line, head):
+        if at in self.edits:
+            self.differ(number, line, head, "a number of its own: seat %d's %r has it, too" % self.edits[at][:2])
+        self.edits[at] = (number, line, head)
+
+    def read_commit(self, number, turn, last, at):
+        """The draft's edits follow the one with which it began, with none between that its seat knew of."""
+        first = turn.draft.at
+        if last > first or not first <= at <= first + 2:
+            self.differ(number, turn.line, turn.head, "at most two edits after %d, and none before that" % first)
+            return
+        for place in range(at - first):
+            self.claim(first + place + 1, number, turn.line, turn.head)
+            self.strokes[first + place + 1] = (turn.draft, place)
 
     def read_entries(self, number, line, head, body):
         entries = {}
@@ -214,37 +111,56 @@ class History:
         places = {number: 0 for number in self.clients}
         for at in range(self.last + 1):
             if at > 0:
-                self.make(at)
+                self.make_edit(at)
             if at >= self.start:
                 for number, log in self.logs.items():
                     places[number] = self.compare_looks(number, log, places[number], at)
         for number, log in self.logs.items():
-            for line, (head, _) in log[places[number]:]:
-                self.differ(number, line, head, "a number of edits up to %d" % self.last)
+            for turn in log[places[number]:]:
+                self.differ(number, turn.line, turn.head, "a number of edits up to %d" % self.last)
         return self.now
 
-    def make(self, at):
+    def make_edit(self, at):
         """The edit of this number."""
         before, told = self.now, self.told.get(at - 1)
         by_told = self.made_by_told(at, before, told)
         if at <= self.start:
-            number, self.now = 0, self.first[at - 1]
+            number = 0
+            self.make(self.first[at - 1])
+        elif at in self.strokes:
+            number = self.edits[at][0]
+            self.make(self.made_by_stroke(number, at, told))
         elif at in self.edits:
             number, line, head = self.edits[at]
-            self.now = self.made_by_line(number, line, head, at)
+            self.make(self.made_by_line(number, line, head, at))
             self.counts[line.split(" ")[0]] += 1
             self.replay.append((line, None, None))
         elif by_told is None:
             self.differ(None, "", "", "an edit of the number %d, of which nobody told" % at)
             return
         else:
-            number, self.now = told[0], by_told
+            number = told[0]
+            self.make(by_told)
             self.replay += [(line, None, None) for line in told[1]]
             self.find_lost(number, before, at)
         if told is not None and (told[0] != number or by_told is not None and by_told != self.now):
             self.differ(number, "", "entry %d: %r" % (at - 1, told), "seat %d's edit %r" % (number, self.edits.get(at)))
         self.counts["changes of seat"] += number != self.maker
-        self.maker, self.text = number, None
+        self.maker = number
+
+    def made_by_stroke(self, number, at, told):
+        """An edit of a draft that was committed, which must be told by its very lines."""
+        draft, place = self.strokes[at]
+        if draft.edits is None or place >= len(draft.edits):
+            self.differ(number, "commit", "an edit of the number %d" % at, "the draft's edits: %r" % draft.edits)
+            return self.now
+        lines, movie = draft.edits[place], self.now
+        for line in lines:
+            movie = made(movie, understood(line))
+            self.replay.append((line, None, None))
+        if told is not None and told[1] != lines:
+            self.differ(number, "commit", "entry %d: %r" % (at - 1, told), "the draft's edit: %r" % lines)
+        return movie
 
     def made_by_told(self, at, movie, told):
         """What the lines of an entry make, one after the other."""
@@ -274,7 +190,7 @@ class History:
 
     def find_lost(self, number, before, at):
         """An edit whose answer nobody heard: one of the lines that its client sent last, in their order."""
-        lines = self.clients[number]["unanswered"] if number in self.clients else []
+        lines = self.clients[number]["unanswered"] if number in self.clients and self.left_open[number] is None else []
         while self.lost.get(number, 0) < len(lines):
             said = understood(lines[self.lost[number]])
             self.lost[number] += 1
@@ -291,7 +207,8 @@ class History:
     def compare_looks(self, number, log, place, at):
         """Compares a client's answers up to the first one at a later number."""
         while place < len(log):
-            line, (head, body) = log[place]
+            turn = log[place]
+            line, head, body = turn[:3]
             words = head.split(" ")
             try:
                 named = at_of(words)
@@ -303,147 +220,37 @@ class History:
             self.counts["answers"] += 1
             if words[0] == "edit" or named is not None and named < at:
                 continue
-            self.look(number, line, head, body, at)
+            if line in drafts.LINES:
+                self.look_at_draft(number, turn, at)
+            else:
+                self.look(number, line, head, body, at)
         return place
 
-    def look(self, number, line, head, body, at):
-        said = understood(line)
-        if said is None:
-            self.counts["not understood"] += 1
-            self.expect(number, line, head, "unknown")
-            return
-        kind = said.kind
-        self.counts[kind] += 1
-        if head in ("unknown", "out of memory"):
-            self.differ(number, line, head, "an answer, since it is understood")
-            return
-        if kind in EDITS or kind == "load":
-            self.expect(number, line, head, self.refused(said, at))
-            return
-        getattr(self, "of_" + kind)(number, line, head, body, at, *said.numbers)
+    def look_at_draft(self, number, turn, at):
+        """A line that is about a draft. One that opens it is followed by the lines in the draft, whatever others do meanwhile."""
+        self.counts[turn.line] += 1
+        if turn.head in ("no draft", "in draft", "dropped") or turn.head.startswith("moved"):
+            self.counts["moved" if turn.head.startswith("moved") else turn.head] += 1
+        wanted = {"begin": self.of_begin, "commit": self.of_commit, "drop": self.of_drop}[turn.line](turn, at)
+        self.expect(number, turn.line, turn.head, wanted)
+        if turn.opened is not None:
+            turn.opened.compare(self.now)
 
-    def refused(self, said, at):
-        length = len(self.now.frames)
-        try:
-            made(self.now, said)
-        except hands.Fault as fault:
-            self.counts[str(fault)] += 1
-            return "%s %d len %d" % (fault, at, length)
-        return "edit .. len .."
+    def of_begin(self, turn, at):
+        return "begin %d %d" % (at, len(self.now.frames)) if turn.draft is None else "in draft"
 
-    def is_there(self, number, line, head, at, frame):
-        """Whether the movie has the frame; else the answer must say so."""
-        if frame < len(self.now.frames):
-            return True
-        self.expect(number, line, head, "no frame %d len %d" % (at, len(self.now.frames)))
-        self.counts["no frame"] += 1
-        return False
+    def of_commit(self, turn, at):
+        draft = turn.draft
+        if draft is None:
+            return "no draft"
+        if not turn.head.startswith("commit "):
+            return "moved %d" % at
+        if draft.edits is None:
+            return "a draft that began at the number of edits that `begin` named"
+        self.counts["commits of %d edits" % len(draft.edits)] += 1
+        if self.now != draft.now:
+            self.differ(draft.number, turn.line, "the movie at %d edits" % at, "the draft's movie")
+        return "commit %d %d" % (draft.at + len(draft.edits), len(draft.now.frames))
 
-    def of_len(self, number, line, head, _body, at):
-        self.expect(number, line, head, "len %d %d" % (at, len(self.now.frames)))
-
-    def of_input(self, number, line, head, _body, at, frame):
-        if self.is_there(number, line, head, at, frame):
-            self.expect(number, line, head, "input %d %s" % (at, self.now.frames[frame]))
-
-    def movie_text(self):
-        if self.text is None:
-            self.text = hands.movie_text(self.now.cart, self.now.frames).decode()
-        return self.text
-
-    def of_movie(self, number, line, head, body, at):
-        text = self.movie_text()
-        self.expect(number, line, head, "movie %d %d" % (at, len(text)))
-        if body != text:
-            self.differ(number, line, head + "\n" + str(body), "the movie at %d edits:\n%s" % (at, text))
-
-    def of_history(self, number, line, head, body, at, first):
-        count = min(TOLD_AT_ONCE, max(0, at - first))
-        self.expect(number, line, head, "history %d %d %d %d" % (at, first, count, len(body)))
-
-    def of_states(self, number, line, head, _body, at):
-        words = head.split(" ")
-        frames, step = [int(word) for word in words[3:]], stride(len(self.now.frames))
-        fits = frames == sorted(set(frames)) and all(f % step == 0 and 0 < f <= len(self.now.frames) for f in frames)
-        if not fits or words[:3] != ["states", str(at), str(len(frames))]:
-            self.differ(number, line, head, "frames of the grid of %d, up to %d" % (step, len(self.now.frames)))
-
-    def of_share(self, number, line, head, _body, at):
-        most = len(self.now.frames) // stride(len(self.now.frames))
-        match = re.fullmatch(r"share (\d+) (\d+)", head)
-        if not match or int(match.group(2)) > most:
-            self.differ(number, line, head, "share %d and at most %d" % (at, most))
-
-    def of_work(self, number, line, head, _body, _at, _frame):
-        match = re.fullmatch(r"work jobs 1 kept (\d+) stale ([01])", head)
-        if not match or int(match.group(1)) > 512:
-            self.differ(number, line, head, "one job, at most 512 states")
-
-    def of_shot(self, number, line, head, _body, at, frame):
-        if not self.is_there(number, line, head, at, frame) or self.is_halted(number, line, head, at, frame):
-            return
-        match = re.fullmatch(r"shot %d %d ran (\d+) lit (\d+)" % (at, frame), head)
-        ran = int(match.group(1)) if match else 0
-        if not 1 <= ran <= frame + 1 or (frame + 1 - ran) % stride(len(self.now.frames)):
-            self.differ(number, line, head, "shot %d %d, played from a state of the grid" % (at, frame))
-        else:
-            self.fact(number, line, head, frame + 1, "lit", match.group(2))
-
-    def of_picture(self, number, line, head, body, at, frame):
-        if not self.is_there(number, line, head, at, frame) or self.is_halted(number, line, head, at, frame):
-            return
-        if self.expect(number, line, head, "picture %d %d 100815" % (at, frame)):
-            self.fact(number, line, head, frame + 1, "picture", body)
-
-    def of_digest(self, number, line, head, _body, at, frame):
-        if not self.is_there(number, line, head, at, frame) or self.is_halted(number, line, head, at, frame):
-            return
-        match = re.fullmatch(r"digest %d %d ram ([0-9a-f]{64}) picture ([0-9a-f]{64})" % (at, frame), head)
-        if not match:
-            self.differ(number, line, head, "digest %d %d" % (at, frame))
-            return
-        self.fact(number, line, head, frame + 1, "ram", match.group(1))
-        self.fact(number, line, head, frame + 1, "picture", match.group(2))
-
-    def of_ram(self, number, line, head, _body, at, count):
-        if count > len(self.now.frames):
-            self.is_there(number, line, head, at, count)
-            return
-        match = re.fullmatch(r"ram %d %d ([0-9A-F]{256})" % (at, count), head)
-        if not match:
-            self.differ(number, line, head, "ram %d %d and 256 digits" % (at, count))
-            return
-        self.fact(number, line, head, count, "ram", sha256(bytes.fromhex(match.group(1))).hexdigest())
-
-    def of_lag(self, number, line, head, body, at, first, last):
-        if first > last or last > len(self.now.frames):
-            self.expect(number, line, head, "no frame %d len %d" % (at, len(self.now.frames)))
-            self.counts["no frame"] += 1
-            return
-        if self.expect(number, line, head, "lag %d %d %d %d" % (at, first, last, len(body or ""))):
-            self.fact(number, line, head, last, "lag from %d" % first, body)
-
-    def is_halted(self, number, line, head, at, frame):
-        """Whether the answer says that the machine has halted by then. A halted frame shows no picture: both are one fact."""
-        match = re.fullmatch(r"halted %d ([0-9A-F]{4} [0-9A-F]{2})" % at, head)
-        self.fact(number, line, head, frame + 1, "halt", match.group(1) if match else "")
-        self.counts["halted"] += bool(match)
-        return bool(match)
-
-    def fact(self, number, line, head, count, name, value):
-        known = self.facts.add(self.now, count, name, value, (number, line))
-        if known is None:
-            self.replay.append((LOOK_AGAIN[name.split(" ")[0]](count, name), name, value))
-        elif known != value:
-            self.differ(number, line, head, "the same as where these %d frames were looked at before, %s %s" % (count, name, known))
-
-    # -- differences
-
-    def expect(self, number, line, head, wanted):
-        if head != wanted:
-            self.differ(number, line, head, wanted)
-        return head == wanted
-
-    def differ(self, number, line, head, wanted):
-        self.report(number, line, head, wanted)
-
+    def of_drop(self, turn, _at):
+        return "no draft" if turn.draft is None else "dropped"
