@@ -1,5 +1,5 @@
-"""What beginnings of movies show, by the machine of quick.py. The state after each frame is kept, so that a look plays only the frames behind the longest
-beginning that was played before."""
+"""What beginnings of movies show, by the machine of quick.py. The state after each frame is kept, so that a look plays only the frames after the longest
+beginning that was played before. Nor is a frame played that was played from an equal state with an equal input: it comes to an equal state."""
 
 from functools import lru_cache
 from hashlib import sha256
@@ -9,7 +9,8 @@ import quick
 import tia
 from tia import WIDTH
 
-MOST_KEPT = 50000  # states; then all are forgotten
+MOST_KEPT = 2000000  # beginnings; then all are forgotten
+MOST_PLAYED = 400000  # frames, with the state after each; then all are forgotten
 UNLIT = [colour for colour in range(256) if machine.palette_colour(colour) == bytes(3)]
 
 
@@ -42,35 +43,44 @@ class Beginning:
 
     __slots__ = ("state", "is_lag", "longer")
 
-    def __init__(self, model):
-        self.state, self.is_lag, self.longer = state_of(model), model.is_lag, {}
+    def __init__(self, state, is_lag):
+        self.state, self.is_lag, self.longer = state, is_lag, {}
 
 
 class Beginnings:
     def __init__(self):
         self.empty, self.kept, self.played = {}, 0, 0
+        self.after = {}  # cartridge, state and input: the state after the frame, and whether it was a lag frame
 
     def empty_one(self, cartridge):
         if self.kept > MOST_KEPT:
             self.empty, self.kept = {}, 0
         if cartridge not in self.empty:
-            self.empty[cartridge] = Beginning(quick.QuickMachine(cartridge))
+            model = quick.QuickMachine(cartridge)
+            self.empty[cartridge] = Beginning(state_of(model), model.is_lag)
         return self.empty[cartridge]
+
+    def play(self, cartridge, state, frame):
+        """The state after a frame, and whether it was a lag frame."""
+        move = (cartridge, state, frame)
+        if move not in self.after:
+            if len(self.after) >= MOST_PLAYED:
+                self.after.clear()
+            model = machine_in(cartridge, state)
+            model.draws = False
+            model.play_frame(frame)
+            self.after[move] = (state_of(model), model.is_lag)
+            self.played += 1
+        return self.after[move]
 
     def path(self, cartridge, frames):
         """The beginnings of a movie, from the empty one to the one with all frames."""
-        path, model = [self.empty_one(cartridge)], None
+        path = [self.empty_one(cartridge)]
         for frame in frames:
             last = path[-1]
-            if frame in last.longer:
-                model = None
-            else:
-                if model is None:
-                    model = machine_in(cartridge, last.state)
-                    model.draws = False
-                model.play_frame(frame)
-                last.longer[frame] = Beginning(model)
-                self.kept, self.played = self.kept + 1, self.played + 1
+            if frame not in last.longer:
+                last.longer[frame] = Beginning(*self.play(cartridge, last.state, frame))
+                self.kept += 1
             path.append(last.longer[frame])
         return path
 
