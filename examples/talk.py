@@ -17,10 +17,15 @@ class Editor:
 
     def ask(self, line):
         """The words of the answer to a line, and the bytes that follow it."""
-        self.child.stdin.write(line.encode() + b"\n")
-        self.child.stdin.flush()
+        try:
+            self.child.stdin.write(line.encode() + b"\n")
+            self.child.stdin.flush()
+        except BrokenPipeError:
+            pass
         words = self.child.stdout.readline().decode().split()
-        count = int(words[-1]) if words[:1] in (["picture"], ["lag"], ["movie"]) else 0
+        if not words:
+            sys.exit(self.child.wait())  # the child has ended, and its fault line says why
+        count = int(words[-1]) if words[:1] in (["picture"], ["lag"], ["movie"], ["history"]) else 0
         return words, self.child.stdout.read(count)
 
 

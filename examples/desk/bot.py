@@ -1,9 +1,9 @@
 #!/usr/bin/env python3
 """Searches inputs that bring the face of examples/joystick to a place, by `ram` and `picture`:
     examples/desk/bot.py FOLDER SEAT FROM COLUMN ROW
-From frame FROM on it holds the stick for stretches of eight frames. Of the nine directions it keeps the one after which the face is nearest to
-COLUMN (of 160, by the picture) and ROW (1 to 174, by the byte at address 80), until none brings it nearer. Others may edit meanwhile: an answer
-that counts other edits than the bot's own last one may be of another movie, so the bot tries again."""
+From frame FROM on it holds the stick for stretches of eight frames. It tries the nine directions in a draft, which nobody else sees, and commits
+the one after which the face is nearest to COLUMN (of 160, by the picture) and ROW (1 to 174, by the byte at address 80), until none brings it
+nearer. Where others have edited the movie meanwhile the commit is refused as `moved`, and the bot tries again. In the history a stretch is one entry."""
 import sys
 
 sys.dont_write_bytecode = True
@@ -23,35 +23,48 @@ def face(picture):
     return min((place % 160 for place, pixel in enumerate(pixels) if pixel == WHITE), default=0)
 
 
-def distance(place, edits):
-    """How far the face is from its goal after a stretch; nothing where others have edited since so many edits."""
+def hold(place, way):
+    """Puts a direction into a stretch of the draft, where the movie has its frames."""
+    words, _ = seat.ask(f"replace {place} {STRETCH} {way} ..... .....")
+    return words[0] == "edit"
+
+
+def distance(place):
+    """How far the face is from its goal after a stretch."""
     ram, _ = seat.ask(f"ram {place + STRETCH}")
-    shown, picture = seat.ask(f"picture {place + STRETCH - 1}")
-    if not ram[1] == shown[1] == str(edits):
-        return None
+    _, picture = seat.ask(f"picture {place + STRETCH - 1}")
     return abs(int(ram[3][:2], 16) - row) + abs(face(picture) - column)
 
 
-def attempt(place, way):
-    """Puts a direction into a stretch and measures; again where somebody else has edited in between."""
+def say(*words):
+    print("bot:", *words, flush=True)
+
+
+def improve(place, best):
+    """Commits the best direction for a stretch, and returns it with its distance; None, and says why, where it commits nothing."""
     while True:
-        words, _ = seat.ask(f"replace {place} {STRETCH} {way} ..... .....")
-        if words[0] != "edit":
-            return None
-        found = distance(place, int(words[1]))
-        if found is not None:
+        words, _ = seat.ask("begin")
+        if words[0] != "begin":
+            return say("refused:", *words)
+        found = min(((distance(place), way) for way in WAYS if hold(place, way)), default=None)
+        if found is None or best is not None and found[0] >= best:
+            seat.ask("drop")
+            return say("no direction brings it nearer")
+        hold(place, found[1])
+        words, _ = seat.ask("commit")
+        if words[0] == "commit":
             return found
-        print("bot: somebody else has edited; I look again", flush=True)
+        seat.ask("drop")
+        if words[0] != "moved":
+            return say("refused:", *words)
+        say("somebody else has edited; I look again")
 
 
 place, best = first, None
-while best != 0:
-    found = [(far, way) for way in WAYS if (far := attempt(place, way)) is not None]
-    if not found or best is not None and min(found)[0] >= best:
-        break
-    best, way = min(found)
-    attempt(place, way)
-    print(f"bot: frames {place} to {place + STRETCH - 1}: {way}, {best} from the goal", flush=True)
+while best != 0 and (found := improve(place, best)):
+    best, way = found
+    say(f"frames {place} to {place + STRETCH - 1}: {way}, {best} from the goal")
     place += STRETCH
-print(f"bot: {best} from the goal at frame {place - 1}", flush=True)
+if best is not None:
+    say("the goal is reached" if best == 0 else f"{best} from the goal", f"at frame {place - 1}")
 seat.quit()
