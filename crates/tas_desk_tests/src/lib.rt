@@ -47,6 +47,8 @@ mod session_tests;
 #[cfg(test)]
 mod sessions;
 #[cfg(test)]
+mod step_look_tests;
+#[cfg(test)]
 mod step_order;
 #[cfg(test)]
 mod steps;

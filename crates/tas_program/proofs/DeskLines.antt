@@ -32,6 +32,7 @@ seat_line facts history number door door' line line' end is seat = record {
   number_is = seat.number_is;
   made = seat.made;
   begins = seat.begins;
+  zone = seat.zone;
   held = subst (λ (l : LineEnds). IsHeld line_facts l line' seat.start seat.last seat.edits end) is (held_line facts door door' line' seat.start seat.last seat.edits end seat.held);
   shows = seat.shows;
   not_foreign = seat.not_foreign;

@@ -31,7 +31,7 @@ use Rattle.tas_seat.specs.Turns.{standing_of, halted_reply}
 use Rattle.tas_seat.specs.Requests.{PictureLeaves, Gains, GainsUnless, answer_to_picture, kept_frames}
 use Rattle.tas_seat.specs.HistoryText.{history_reply_text}
 use Rattle.tas_seat.specs.Seats.{talk_state_at, most_entries, IsAnswered}
-use Rattle.tas_seat.specs.Inside.Outcomes.{unshown_as, IsEditAnswered, IsMiscounted, IsUnanswered, HasAnswer, HasNoAnswer}
+use Rattle.tas_seat.specs.Outcomes.{unshown_as, IsEditAnswered, IsMiscounted, IsUnanswered, HasAnswer, HasNoAnswer}
 use Rattle.tas_seat.proofs.SeatLemmas.{seen_same, looked_at, rests, green_at, views_at, gains_at, answered_here}
 
 -- ---- answers and faults

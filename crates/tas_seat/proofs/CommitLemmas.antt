@@ -21,7 +21,8 @@ use Rattle.tas_seat.specs.Seats.{entries_from, talk_state_at}
 use Rattle.tas_seat.specs.Drafts.{DraftContent, IsDraftAnswered, IsAnsweredInDraft, DraftPicture, AreDraftPictures, LeadsTo}
 use Rattle.tas_seat.specs.Conversations.{TalkingSeat, talking, begun_draft, IsCommitted, IsCommitAnswer, IsAnsweredOutside, IsAnsweredInside, IsTalkAnswered, IsLineAnswered, text_of, uncommitted_answer, committed_edits, draft_after_commit}
 use Rattle.tas_seat.specs.Talk.{Exchange, IsExchange, AreExchanges}
-use Rattle.tas_seat.proofs.HistoryLemmas.{prefix_join, prefix_length, line_leaves}
+use Rattle.tas_session.proofs.PrefixLemmas.{prefix_trans, prefix_whole}
+use Rattle.tas_seat.proofs.HistoryLemmas.{line_leaves}
 
 -- ---- what a draft keeps
 
@@ -47,15 +48,15 @@ began_as draft next (Do (EditLine change)) answer is = began_as_in draft next (D
 began_as draft next (Do Length) answer is = began_as_in draft next (Do Length) answer is
 began_as draft next (Do (InputAt k)) answer is = began_as_in draft next (Do (InputAt k)) answer is
 began_as draft next (Do (Shot k)) answer is = began_as_in draft next (Do (Shot k)) answer is
-began_as draft next (Do (Work k)) answer is = began_as_in draft next (Do (Work k)) answer is
+began_as draft next (Do (Work k)) answer is = began_as_in draft next (Do (Work k)) answer is.0
 began_as draft next (Retouch retouch) answer is = began_as_in draft next (Retouch retouch) answer is
 began_as draft next (Picture k) answer is = began_as_in draft next (Picture k) answer is
 began_as draft next (Pictures from to) answer (strip, long, are, told) = began_as_pictures draft next from strip are
 began_as draft next (Ram k) answer is = began_as_in draft next (Ram k) answer is
 began_as draft next (Digest k) answer is = began_as_in draft next (Digest k) answer is
 began_as draft next (Lag a b) answer is = began_as_in draft next (Lag a b) answer is
-began_as draft next Movie answer is = began_as_in draft next Movie answer is
-began_as draft next States answer is = began_as_in draft next States answer is
+began_as draft next Movie answer is = began_as_in draft next Movie answer is.0
+began_as draft next States answer is = began_as_in draft next States answer is.0
 began_as draft next Share answer is = absurd is
 began_as draft next (History from) answer is = began_as_in draft next (History from) answer is
 began_as draft next Begin answer is = began_as_in draft next Begin answer is
@@ -81,7 +82,7 @@ tied_as {A} seat draft next is tied = subst (λ (d : Option DraftContent). IsTie
 tied_later : {A : Type 0} (seat now : SeatContent A) (draft next : DraftContent) → IsPrefix seat.front now.front → BeganAs draft next → Begins seat draft → Begins now next
 tied_later seat now draft next more same tied = record {
   began = tied.began;
-  begins = prefix_join tied.began seat.front now.front tied.begins more;
+  begins = prefix_trans tied.began seat.front now.front tied.begins more;
   long = tied.long ∙ sym same.at;
   base = tied.base ∙ sym same.base;
 }
@@ -153,20 +154,10 @@ tied_exchanges {A} start last (x ∷ xs) is tied = tied_exchanges x.next last xs
 
 -- ---- the history at which it began
 
-none_left : {X : Type 0} (xs : List X) → length xs ≡ 0 → xs ≡ []
-none_left [] is = refl
-none_left (x ∷ xs) is = absurd (omega (arith, is))
-
--- a history that begins with another and is no longer is that one
-same_history : {X : Type 0} (a b : List X) → IsPrefix a b → length b ≡ length a → b ≡ a
-same_history {X} a b p long =
-    let none : p.0 ≡ [] = none_left p.0 (omega (arith, long, prefix_length a b p)) in
-    sym p.1 ∙ ap (λ (l : List X). a ++ l) none ∙ append-nil a
-
 -- a history with as many edits as when the draft began has its base
 pub based : {A : Type 0} (seat : SeatContent A) (draft : DraftContent) (history : List (Entry A)) → Begins seat draft → IsPrefix seat.front history → length history ≡ draft.at → movie_of history ≡ draft.base
 based {A} seat draft history tied more long =
-    ap (λ (h : List (Entry A)). movie_of h) (same_history tied.began history (prefix_join tied.began seat.front history tied.begins more) (long ∙ sym tied.long)) ∙ tied.base
+    ap (λ (h : List (Entry A)). movie_of h) (sym (prefix_whole tied.began history (prefix_trans tied.began seat.front history tied.begins more) (omega (arith, long, tied.long)))) ∙ tied.base
 
 -- ---- a commit
 

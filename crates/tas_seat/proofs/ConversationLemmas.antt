@@ -1,7 +1,8 @@
 -- Answers of conversations, in a draft and outside one.
-use Rattle.std.proofs.Common.{◌≡◌, ℕ, ◌+◌, List, [], ◌∷◌, ◌++◌, length, Bool, true, false, Option, Some, None, Result, Ok, Err, inl, inr, refl, sym, ap, subst, ◌∙◌, arith, append-nil}
-use Rattle.std.specs.Prelude.{MatchResult, ◌==◌, nat_lt, is_some, if◌then◌else◌}
-use Rattle.std.proofs.lemmas.Bool.{false≢true, eq-eqb}
+use Rattle.std.proofs.Common.{◌≡◌, ℕ, ◌+◌, List, [], ◌∷◌, ◌++◌, length, Bool, true, false, Option, Some, None, Result, Ok, Err, inl, inr, refl, sym, ap, subst, ◌∙◌, arith, append-nil, ◌<◌, ◌≤◌}
+use Rattle.std.specs.Prelude.{MatchResult, ◌≢◌, ◌==◌, nat_lt, is_some, if◌then◌else◌}
+use Rattle.std.proofs.lemmas.Bool.{false≢true, eq-eqb, ne_eqb, eqb-true}
+use Rattle.std.proofs.lemmas.Bool.Decides.{nat_tests}
 use Rattle.std.proofs.lemmas.Result.{MatchResult-weaker}
 use mathlib.Core.List.{IsPrefix}
 use Rattle.tas_movie.specs.Content.{MovieContent}
@@ -14,7 +15,7 @@ use Rattle.tas_session.specs.declared.replies.EditError.TheVariants.{Serial, Ful
 use Rattle.tas_session.specs.declared.replies.Receipt.{Receipt}
 use Rattle.tas_session.specs.History.{most_edits, movie_of, entries_of}
 use Rattle.tas_session.specs.Session.{error_at}
-use Rattle.tas_desk.specs.Seats.{SeatContent, HasSeen, seat_of}
+use Rattle.tas_desk.specs.Seats.{SeatContent, HasSeen, KeepsZone, seat_of}
 use Rattle.tas_desk.specs.Zones.{IsShared}
 use Rattle.tas_engines.specs.declared.fault.RunFault.{RunFault}
 use Rattle.tas_engines.specs.declared.fault.RunFault.TheVariants.{Memory, Foreign}
@@ -32,11 +33,12 @@ use Rattle.tas_session.specs.declared.replies.CommitError.TheVariants.{Moved, Re
 use Rattle.tas_seat.specs.Turns.{standing_of, refusal_reply}
 use Rattle.tas_seat.specs.Requests.{GainsUnless}
 use Rattle.tas_seat.specs.Seats.{entries_from, talk_state_at, IsSeatAfter}
-use Rattle.tas_seat.specs.Drafts.{DraftContent, fresh_draft, IsStroke, LeadsTo}
+use Rattle.tas_seat.specs.Drafts.{DraftContent, fresh_draft, IsStroke, LeadsTo, HasStroke}
 use Rattle.tas_seat.specs.Conversations.{TalkingSeat, talking, text_of, uncommitted_answer, commit_answer, committed_edits, draft_after_commit}
-use Rattle.tas_seat.specs.Inside.Conversing.{HasNoOutcome}
-use Rattle.tas_seat.specs.Inside.Outcomes.{refused_as, IsMiscounted, HasTalkAnswer, HasNoTalkAnswer}
-use Rattle.tas_seat.proofs.SeatLemmas.{seen_self, looked_at}
+use Rattle.tas_seat.specs.Inside.Conversing.{HasMoved, HasNoOutcome}
+use Rattle.tas_seat.specs.Outcomes.{refused_as, IsMiscounted, HasTalkAnswer, HasNoTalkAnswer}
+use Rattle.tas_session.proofs.PrefixLemmas.{prefix_trans}
+use Rattle.tas_seat.proofs.SeatLemmas.{looked_at, stood, strange_later}
 use Rattle.tas_seat.proofs.AnswerLemmas.{unshared, shared_still}
 
 -- ---- answers and faults
@@ -110,12 +112,17 @@ begin_opened A before now None opened at len gained is seen here shared fresh lo
 -- ---- `commit`
 
 -- memory was refused
-commit_refused : (A : Type 0) (before now : SeatContent A) (draft : DraftContent) → HasSeen before now → now.zone ≡ before.zone → HasTalkAnswer A (talking before (Some draft)) (talking now (Some draft)) Commit (reply_text OutOfMemory)
-commit_refused A before now draft seen zone =
-    ([], record { at = now.front; answered = inl (record { answer_is = refl; edits_are = refl; draft_is = refl }); zone = zone; seat = looked_at before now seen })
-
-pub commit_unmade : (A : Type 0) (seat : SeatContent A) (draft : DraftContent) → HasTalkAnswer A (talking seat (Some draft)) (talking seat (Some draft)) Commit (reply_text OutOfMemory)
-commit_unmade A seat draft = commit_refused A seat seat draft (seen_self seat) refl
+commit_refused : (A : Type 0) (before now : SeatContent A) (draft : DraftContent) (count : ℕ) → HasStroke A draft.base draft.movie count → KeepsZone before now → length now.front ≡ draft.at → length now.front + count ≤ most_edits
+    → HasTalkAnswer A (talking before (Some draft)) (talking now (Some draft)) Commit (reply_text OutOfMemory)
+commit_refused A before now draft count stroke looked there room = (
+  [],
+  record {
+    at = now.front;
+    answered = inl (record { count = count; comes_to = stroke; there = there; room = room; answer_is = refl; edits_are = refl; draft_is = refl });
+    zone = looked.zone;
+    seat = looked_at before now looked.seen;
+  },
+)
 
 -- what a refusal is answered, where it isn't of the seat's serial
 abbrev refusal_text : CommitError → Option (List ℕ)
@@ -187,15 +194,7 @@ commit_made A before now draft stroke receipt is strokes leads =
       },
     )
 
--- a seat that was answered at a history, and made nothing
-stays_at : {A : Type 0} (before now : SeatContent A) (history : List (Entry A)) → IsPrefix before.front history → now ≡ seat_of before.number before.made history before.zone → IsSeatAfter before history [] now
-stays_at {A} before now history begins is = record {
-  begins = begins;
-  front = ap (λ (s : SeatContent A). s.front) is ∙ sym (append-nil history);
-  number = ap (λ (s : SeatContent A). s.number) is;
-  made = omega (arith, ap (λ (s : SeatContent A). s.made) is);
-}
-
+-- a seat that was answered at a history, and made nothing, has seen it
 seen_at : {A : Type 0} (before now : SeatContent A) (history : List (Entry A)) → IsPrefix before.front history → now ≡ seat_of before.number before.made history before.zone → HasSeen before now
 seen_at {A} before now history begins is = record {
   number = ap (λ (s : SeatContent A). s.number) is;
@@ -204,10 +203,10 @@ seen_at {A} before now history begins is = record {
 }
 
 -- none are made, and this is why
-stays : (A : Type 0) (before now : SeatContent A) (draft : DraftContent) (stroke : List (Edit A)) (text : List ℕ) (history : List (Entry A)) → IsPrefix before.front history
-    → now ≡ seat_of before.number before.made history before.zone → uncommitted_answer (standing_of history) draft.at stroke ≡ Some text → IsStroke draft.base draft.movie stroke → LeadsTo draft.base stroke draft.movie
+said_where : (A : Type 0) (before now : SeatContent A) (draft : DraftContent) (stroke : List (Edit A)) (text : List ℕ) (history : List (Entry A)) → now.zone ≡ before.zone → IsSeatAfter before history [] now
+    → uncommitted_answer (standing_of history) draft.at stroke ≡ Some text → IsStroke draft.base draft.movie stroke → LeadsTo draft.base stroke draft.movie
     → HasTalkAnswer A (talking before (Some draft)) (talking now (Some draft)) Commit text
-stays A before now draft stroke text history begins seat why strokes leads = (
+said_where A before now draft stroke text history zone seat why strokes leads = (
   [],
   record {
     at = history;
@@ -219,10 +218,16 @@ stays A before now draft stroke text history begins seat why strokes leads = (
       edits_are = ap (λ (o : Option (List ℕ)). committed_edits o stroke) (sym why);
       draft_is = ap (λ (o : Option (List ℕ)). draft_after_commit o draft) (sym why);
     });
-    zone = ap (λ (s : SeatContent A). s.zone) seat;
-    seat = stays_at before now history begins seat;
+    zone = zone;
+    seat = seat;
   },
 )
+
+stays : (A : Type 0) (before now : SeatContent A) (draft : DraftContent) (stroke : List (Edit A)) (text : List ℕ) (history : List (Entry A)) → IsPrefix before.front history
+    → now ≡ seat_of before.number before.made history before.zone → uncommitted_answer (standing_of history) draft.at stroke ≡ Some text → IsStroke draft.base draft.movie stroke → LeadsTo draft.base stroke draft.movie
+    → HasTalkAnswer A (talking before (Some draft)) (talking now (Some draft)) Commit text
+stays A before now draft stroke text history begins seat why strokes leads =
+    said_where A before now draft stroke text history (ap (λ (s : SeatContent A). s.zone) seat) (stood before now history begins seat) why strokes leads
 
 pub commit_moved : (A : Type 0) (before now : SeatContent A) (draft : DraftContent) (stroke : List (Edit A)) (at : ℕ) → IsDeskCommit before now draft.at stroke (Err (Moved at)) → IsStroke draft.base draft.movie stroke → LeadsTo draft.base stroke draft.movie
     → HasTalkAnswer A (talking before (Some draft)) (talking now (Some draft)) Commit (draft_reply_text (MovedReply at))
@@ -248,6 +253,148 @@ miscounted {A} history seat made here edits at counted is same =
     no_serial (length history == here) (nat_lt most_edits (length history + length edits)) (length history) (refusal_in (movie_of history) edits) at counted
     (sym (ap (λ (b : Bool). if b then rest else Some (Refused (Serial (length history) (entries_of seat history)))) (eq-eqb (entries_of seat history) made same)) ∙ is)
 
+-- a commit that is refused for its serial is one of a seat whose edits were miscounted
+strange_at : {A : Type 0} (before now : SeatContent A) (here : ℕ) (stroke : List (Edit A)) (at counted : ℕ) → IsDeskCommit before now here stroke (Err (Refused (Serial at counted))) → IsMiscounted before now
+strange_at {A} before now here stroke at counted is = record {
+  seen = seen_at before now is.history is.begins is.seat;
+  other = λ (e : entries_of now.number now.front ≡ now.made).
+      miscounted is.history before.number before.made here stroke at counted is.refusal
+      (ap (λ (n : ℕ). entries_of n is.history) (sym (ap (λ (s : SeatContent A). s.number) is.seat)) ∙ ap (λ (l : List (Entry A)). entries_of now.number l) (sym (ap (λ (s : SeatContent A). s.front) is.seat)) ∙ e
+      ∙ ap (λ (s : SeatContent A). s.made) is.seat);
+}
+
+-- ---- the history is looked at before memory is asked for
+
+looked_by : {A : Type 0} (before now : SeatContent A) (history : List (Entry A)) → IsPrefix before.front history → now ≡ seat_of before.number before.made history before.zone → KeepsZone before now
+looked_by {A} before now history begins is = record { seen = seen_at before now history begins is; zone = ap (λ (s : SeatContent A). s.zone) is }
+
+-- refusals of a history with as many edits as the caller says
+abbrev IsThere : Option CommitError → Type 0
+IsThere (Some (Moved at)) = ⊥
+IsThere (Some (Refused (Serial at counted))) = ⊥
+IsThere _ = Unit {0}
+
+there_of : {A : Type 0} (history : List (Entry A)) (seat made at : ℕ) (edits : List (Edit A)) (found : Option CommitError) → commit_refusal_at history seat made at edits ≡ found → IsThere found → length history ≡ at
+there_of {A} history seat made at edits found is there = go (entries_of seat history == made) (length history == at) refl (subst IsThere (sym is) there)
+  where
+    go : (own here : Bool) → (length history == at) ≡ here → IsThere (if own then
+        (if here then (if nat_lt most_edits (length history + length edits) then Some (Refused (AllMade (length history))) else refused_stroke (error_at (length history) (refusal_in (movie_of history) edits))) else Some (Moved (length history)))
+        else Some (Refused (Serial (length history) (entries_of seat history)))) → length history ≡ at
+    go true true e is' = eqb-true (length history) at e
+    go true false e is' = absurd is'
+    go false here e is' = absurd is'
+
+-- where nothing refuses them there is room
+room_of : {A : Type 0} (history : List (Entry A)) (seat made at : ℕ) (edits : List (Edit A)) → commit_refusal_at history seat made at edits ≡ None → length history + length edits ≤ most_edits
+room_of {A} history seat made at edits is = go (entries_of seat history == made) (length history == at) (nat_lt most_edits (length history + length edits)) refl is
+  where
+    go : (own here full : Bool) → nat_lt most_edits (length history + length edits) ≡ full → (if own then
+        (if here then (if full then Some (Refused (AllMade (length history))) else refused_stroke (error_at (length history) (refusal_in (movie_of history) edits))) else Some (Moved (length history)))
+        else Some (Refused (Serial (length history) (entries_of seat history)))) ≡ None → length history + length edits ≤ most_edits
+    go true true false e is' = grind (arith, nat_tests, e)
+    go true true true e is' = absurd (cc is')
+    go true false full e is' = absurd (cc is')
+    go false here full e is' = absurd (cc is')
+
+-- no edit is made, and the history has as many as the caller says
+pub still_there : (A : Type 0) (before now : SeatContent A) (at : ℕ) (receipt : Receipt) → IsDeskCommit {A = A} before now at [] (Ok receipt) → KeepsZone before now × (length now.front ≡ at)
+still_there A before now at receipt is =
+    let seat : now ≡ seat_of before.number before.made is.history before.zone =
+    is.seat ∙ ap (λ (l : List (Entry A)). seat_of before.number (before.made + 0) l before.zone) (append-nil is.history) ∙ ap (λ (n : ℕ). seat_of before.number n is.history before.zone) (omega arith) in
+    (looked_by before now is.history is.begins seat, ap (λ (s : SeatContent A). length s.front) seat ∙ is.tells)
+
+pub has_moved : (A : Type 0) (before now : SeatContent A) (at told : ℕ) → IsDeskCommit {A = A} before now at [] (Err (Moved told)) → KeepsZone before now × HasMoved at (length now.front) (Some told)
+has_moved A before now at told is =
+    let front : is.history ≡ now.front = sym (ap (λ (s : SeatContent A). s.front) is.seat) in (
+      looked_by before now is.history is.begins is.seat,
+      ((λ e. is.tells.1 (ap (λ (l : List (Entry A)). length l) front ∙ e)), is.tells.0 ∙ ap (λ (l : List (Entry A)). length l) front),
+    )
+
+-- another refusal is that of the serial, which is a fault, or says that the history has as many
+abbrev LookSays : {A : Type 0} → SeatContent A → SeatContent A → ℕ → Result Reply RunFault → Type 0
+LookSays before now at (Ok reply) = KeepsZone before now × (length now.front ≡ at)
+LookSays before now at (Err fault) = HasNoOutcome before now fault
+
+looked_there : (A : Type 0) (before now : SeatContent A) (at : ℕ) (history : List (Entry A)) (found : Option CommitError) → IsPrefix before.front history → now ≡ seat_of before.number before.made history before.zone
+    → commit_refusal_at {A = A} history before.number before.made at [] ≡ found → IsThere found → KeepsZone before now × (length now.front ≡ at)
+looked_there A before now at history found begins seat is there = (
+  looked_by before now history begins seat,
+  ap (λ (s : SeatContent A). length s.front) seat ∙ there_of {A = A} history before.number before.made at [] found is there,
+)
+
+look_says : (A : Type 0) (before now : SeatContent A) (at : ℕ) (error : EditError) → IsDeskCommit {A = A} before now at [] (Err (Refused error)) → LookSays before now at (refused_as error)
+look_says A before now at (Serial here counted) is = (refl, strange_at before now at [] here counted is)
+look_says A before now at (AllMade here) is = looked_there A before now at is.history (Some (Refused (AllMade here))) is.begins is.seat is.refusal tt
+look_says A before now at (OutOfPlace here place len) is = looked_there A before now at is.history (Some (Refused (OutOfPlace here place len))) is.begins is.seat is.refusal tt
+look_says A before now at (OverLong here len) is = looked_there A before now at is.history (Some (Refused (OverLong here len))) is.begins is.seat is.refusal tt
+look_says A before now at NoRoom is = looked_there A before now at is.history None is.begins is.seat is.refusal tt
+
+look_told : (A : Type 0) (before now : SeatContent A) (at : ℕ) (error : EditError) (r told : Result Reply RunFault) → r ≡ refused_as error → r ≡ told → IsDeskCommit {A = A} before now at [] (Err (Refused error)) → LookSays before now at told
+look_told A before now at error r told tells was is = subst (LookSays before now at) was (subst (LookSays before now at) (sym tells) (look_says A before now at error is))
+
+pub look_stands : (A : Type 0) (before now : SeatContent A) (at : ℕ) (error : EditError) (r : Result Reply RunFault) (reply : Reply) → r ≡ refused_as error → r ≡ Ok reply → IsDeskCommit {A = A} before now at [] (Err (Refused error))
+    → KeepsZone before now × (length now.front ≡ at)
+look_stands A before now at error r reply tells was is = look_told A before now at error r (Ok reply) tells was is
+
+pub look_fails : (A : Type 0) (before now : SeatContent A) (at : ℕ) (error : EditError) (r : Result Reply RunFault) (fault : RunFault) → r ≡ refused_as error → r ≡ Err fault → IsDeskCommit {A = A} before now at [] (Err (Refused error))
+    → HasNoOutcome before now fault
+look_fails A before now at error r fault tells was is = look_told A before now at error r (Err fault) tells was is
+
+-- what is answered where the history was looked at
+unmade : (A : Type 0) (before now : SeatContent A) (draft : DraftContent) (count : ℕ) (text : List ℕ) → KeepsZone before now → (stroke : HasStroke A draft.base draft.movie count) → uncommitted_answer (standing_of now.front) draft.at stroke.edits ≡ Some text
+    → HasTalkAnswer A (talking before (Some draft)) (talking now (Some draft)) Commit text
+unmade A before now draft count text looked stroke why =
+    said_where A before now draft stroke.edits text now.front looked.zone (looked_at before now looked.seen) why stroke.stroke_is stroke.leads
+
+-- the history was looked at, and has moved or not
+abbrev Looked : {A : Type 0} → SeatContent A → SeatContent A → ℕ → Option ℕ → Type 0
+Looked before now here found = KeepsZone before now × HasMoved here (length now.front) found
+
+pub still_at : (A : Type 0) (before now : SeatContent A) (here : ℕ) (found : Option ℕ) → Looked before now here found → found ≡ None → KeepsZone before now × (length now.front ≡ here)
+still_at A before now here found looked is = subst (Looked before now here) is looked
+
+pub moved_first : (A : Type 0) (before now : SeatContent A) (draft : DraftContent) (count here at : ℕ) (found : Option ℕ) → Looked before now here found → found ≡ Some at → HasStroke A draft.base draft.movie count → here ≡ draft.at
+    → HasTalkAnswer A (talking before (Some draft)) (talking now (Some draft)) Commit (draft_reply_text (MovedReply at))
+moved_first A before now draft count here at found looked is stroke begun =
+    let moved : Looked before now here (Some at) = subst (Looked before now here) is looked in
+    unmade A before now draft count (draft_reply_text (MovedReply at)) moved.0 stroke
+    (rw (ne_eqb (length now.front) draft.at (λ e. moved.1.0 (e ∙ sym begun))) (ap (λ (n : ℕ). Some (draft_reply_text (MovedReply n))) (sym moved.1.1)))
+
+pub full_first : (A : Type 0) (before now : SeatContent A) (draft : DraftContent) (count here : ℕ) (found : Option ℕ) → Looked before now here found → found ≡ None → HasStroke A draft.base draft.movie count → here ≡ draft.at → most_edits < here + count
+    → HasTalkAnswer A (talking before (Some draft)) (talking now (Some draft)) Commit (reply_text (Full here))
+full_first A before now draft count here found looked is stroke begun full =
+    let there = still_at A before now here found looked is in
+    let long : length now.front ≡ here = there.1 in
+    let many : length stroke.edits ≡ count = stroke.long in
+    let no_room : nat_lt most_edits (length now.front + length stroke.edits) ≡ true = grind (arith, nat_tests) in
+    unmade A before now draft count (reply_text (Full here)) there.0 stroke
+    (rw (eq-eqb (length now.front) draft.at (long ∙ begun), no_room) (ap (λ (n : ℕ). Some (reply_text (Full n))) long))
+
+pub refused_first : (A : Type 0) (before now : SeatContent A) (draft : DraftContent) (count here : ℕ) (found : Option ℕ) → Looked before now here found → found ≡ None → HasStroke A draft.base draft.movie count → here ≡ draft.at → here + count ≤ most_edits
+    → HasTalkAnswer A (talking before (Some draft)) (talking now (Some draft)) Commit (reply_text OutOfMemory)
+refused_first A before now draft count here found looked is stroke begun room =
+    let there = still_at A before now here found looked is in
+    let long : length now.front ≡ here = there.1 in
+    commit_refused A before now draft count stroke there.0 (long ∙ begun) (omega (arith, long, room))
+
+-- what came of a commit once the history was looked at
+outcome_after : (A : Type 0) (before mid now : SeatContent A) (draft : DraftContent) (next : Option DraftContent) (text : List ℕ) → KeepsZone before mid → HasTalkAnswer A (talking mid (Some draft)) (talking now next) Commit text
+    → HasTalkAnswer A (talking before (Some draft)) (talking now next) Commit text
+outcome_after A before mid now draft next text looked (edits, is) = (
+  edits,
+  record {
+    at = is.at;
+    answered = is.answered;
+    zone = is.zone ∙ looked.zone;
+    seat = record {
+      begins = prefix_trans before.front mid.front is.at looked.seen.begins is.seat.begins;
+      front = is.seat.front ∙ ap (λ (n : ℕ). is.at ++ entries_from n mid.made edits) looked.seen.number ∙ ap (λ (n : ℕ). is.at ++ entries_from before.number n edits) looked.seen.made;
+      number = is.seat.number ∙ looked.seen.number;
+      made = is.seat.made ∙ ap (λ (n : ℕ). n + length edits) looked.seen.made;
+    };
+  },
+)
+
 -- what other errors of a commit are answered, or the fault that they are
 abbrev pub CommitSays : (A : Type 0) → SeatContent A → SeatContent A → DraftContent → Result Reply RunFault → Type 0
 CommitSays A before now draft (Ok reply) = HasTalkAnswer A (talking before (Some draft)) (talking now (Some draft)) Commit (reply_text reply)
@@ -255,16 +402,7 @@ CommitSays A before now draft (Err fault) = (fault ≡ Foreign) × IsMiscounted 
 
 pub commit_says : (A : Type 0) (before now : SeatContent A) (draft : DraftContent) (stroke : List (Edit A)) (error : EditError) → IsDeskCommit before now draft.at stroke (Err (Refused error)) → IsStroke draft.base draft.movie stroke → LeadsTo draft.base stroke draft.movie
     → CommitSays A before now draft (refused_as error)
-commit_says A before now draft stroke (Serial at counted) is strokes leads = (
-  refl,
-  record {
-    seen = seen_at before now is.history is.begins is.seat;
-    other = λ (e : entries_of now.number now.front ≡ now.made).
-        miscounted is.history before.number before.made draft.at stroke at counted is.refusal
-        (ap (λ (n : ℕ). entries_of n is.history) (sym (ap (λ (s : SeatContent A). s.number) is.seat)) ∙ ap (λ (l : List (Entry A)). entries_of now.number l) (sym (ap (λ (s : SeatContent A). s.front) is.seat)) ∙ e
-        ∙ ap (λ (s : SeatContent A). s.made) is.seat);
-  },
-)
+commit_says A before now draft stroke (Serial at counted) is strokes leads = (refl, strange_at before now draft.at stroke at counted is)
 commit_says A before now draft stroke (AllMade at) is strokes leads =
     stays A before now draft stroke (reply_text (Full at)) is.history is.begins is.seat
     (told_of is.history before.number before.made draft.at stroke (Some (Refused (AllMade at))) is.refusal (λ e. cc e)) strokes leads
@@ -275,36 +413,43 @@ commit_says A before now draft stroke (OverLong at len) is strokes leads =
     stays A before now draft stroke (reply_text (LongReply at len)) is.history is.begins is.seat
     (told_of is.history before.number before.made draft.at stroke (Some (Refused (OverLong at len))) is.refusal (λ e. cc e)) strokes leads
 commit_says A before now draft stroke NoRoom is strokes leads =
-    commit_refused A before now draft (seen_at before now is.history is.begins is.seat) (ap (λ (s : SeatContent A). s.zone) is.seat)
+    let front : is.history ≡ now.front = sym (ap (λ (s : SeatContent A). s.front) is.seat) in
+    let free : commit_refusal_at now.front before.number before.made draft.at stroke ≡ None = subst (λ (h : List (Entry A)). commit_refusal_at h before.number before.made draft.at stroke ≡ None) front is.refusal in
+    let there : length now.front ≡ draft.at = there_of now.front before.number before.made draft.at stroke None free tt in
+    commit_refused A before now draft (length stroke) (record { edits = stroke; stroke_is = strokes; leads = leads; long = refl }) (looked_by before now is.history is.begins is.seat) there
+    (room_of now.front before.number before.made draft.at stroke free)
 
--- the same of a draft that says where it began
+-- the same of a draft that says where it began, once the history was looked at
 committed_at : {A : Type 0} (before now : SeatContent A) (at here : ℕ) (stroke : List (Edit A)) (answer : Result Receipt CommitError) → here ≡ at → IsDeskCommit before now here stroke answer → IsDeskCommit before now at stroke answer
 committed_at before now at here stroke answer is done = subst (λ (n : ℕ). IsDeskCommit before now n stroke answer) is done
 
-pub made_at : (A : Type 0) (before now : SeatContent A) (draft : DraftContent) (here : ℕ) (stroke : List (Edit A)) (receipt : Receipt) → here ≡ draft.at → IsDeskCommit before now here stroke (Ok receipt)
+pub made_at : (A : Type 0) (before mid now : SeatContent A) (draft : DraftContent) (here : ℕ) (stroke : List (Edit A)) (receipt : Receipt) → KeepsZone before mid → here ≡ draft.at → IsDeskCommit mid now here stroke (Ok receipt)
     → IsStroke draft.base draft.movie stroke → LeadsTo draft.base stroke draft.movie → HasTalkAnswer A (talking before (Some draft)) (talking now None) Commit (draft_reply_text (Committed receipt.at receipt.len))
-made_at A before now draft here stroke receipt is done strokes leads = commit_made A before now draft stroke receipt (committed_at before now draft.at here stroke (Ok receipt) is done) strokes leads
+made_at A before mid now draft here stroke receipt looked is done strokes leads =
+    outcome_after A before mid now draft None (draft_reply_text (Committed receipt.at receipt.len)) looked (commit_made A mid now draft stroke receipt (committed_at mid now draft.at here stroke (Ok receipt) is done) strokes leads)
 
-pub moved_at : (A : Type 0) (before now : SeatContent A) (draft : DraftContent) (here : ℕ) (stroke : List (Edit A)) (at : ℕ) → here ≡ draft.at → IsDeskCommit before now here stroke (Err (Moved at))
+pub moved_at : (A : Type 0) (before mid now : SeatContent A) (draft : DraftContent) (here : ℕ) (stroke : List (Edit A)) (at : ℕ) → KeepsZone before mid → here ≡ draft.at → IsDeskCommit mid now here stroke (Err (Moved at))
     → IsStroke draft.base draft.movie stroke → LeadsTo draft.base stroke draft.movie → HasTalkAnswer A (talking before (Some draft)) (talking now (Some draft)) Commit (draft_reply_text (MovedReply at))
-moved_at A before now draft here stroke at is done strokes leads = commit_moved A before now draft stroke at (committed_at before now draft.at here stroke (Err (Moved at)) is done) strokes leads
+moved_at A before mid now draft here stroke at looked is done strokes leads =
+    outcome_after A before mid now draft (Some draft) (draft_reply_text (MovedReply at)) looked (commit_moved A mid now draft stroke at (committed_at mid now draft.at here stroke (Err (Moved at)) is done) strokes leads)
 
-refused_at : (A : Type 0) (before now : SeatContent A) (draft : DraftContent) (here : ℕ) (stroke : List (Edit A)) (error : EditError) (r : Result Reply RunFault) → r ≡ refused_as error → here ≡ draft.at
-    → IsDeskCommit before now here stroke (Err (Refused error)) → IsStroke draft.base draft.movie stroke → LeadsTo draft.base stroke draft.movie → CommitSays A before now draft r
-refused_at A before now draft here stroke error r tells is done strokes leads =
-    subst (λ (x : Result Reply RunFault). CommitSays A before now draft x) (sym tells)
-    (commit_says A before now draft stroke error (committed_at before now draft.at here stroke (Err (Refused error)) is done) strokes leads)
+refused_at : (A : Type 0) (before now : SeatContent A) (draft : DraftContent) (here : ℕ) (stroke : List (Edit A)) (error : EditError) (r told : Result Reply RunFault) → r ≡ refused_as error → r ≡ told → here ≡ draft.at
+    → IsDeskCommit before now here stroke (Err (Refused error)) → IsStroke draft.base draft.movie stroke → LeadsTo draft.base stroke draft.movie → CommitSays A before now draft told
+refused_at A before now draft here stroke error r told tells was is done strokes leads =
+    subst (CommitSays A before now draft) was
+    (subst (CommitSays A before now draft) (sym tells) (commit_says A before now draft stroke error (committed_at before now draft.at here stroke (Err (Refused error)) is done) strokes leads))
 
-pub refusal_said : (A : Type 0) (before now : SeatContent A) (draft : DraftContent) (here : ℕ) (stroke : List (Edit A)) (error : EditError) (r : Result Reply RunFault) (reply : Reply) → r ≡ refused_as error → r ≡ Ok reply → here ≡ draft.at
-    → IsDeskCommit before now here stroke (Err (Refused error)) → IsStroke draft.base draft.movie stroke → LeadsTo draft.base stroke draft.movie
+pub refusal_said : (A : Type 0) (before mid now : SeatContent A) (draft : DraftContent) (here : ℕ) (stroke : List (Edit A)) (error : EditError) (r : Result Reply RunFault) (reply : Reply) → KeepsZone before mid → r ≡ refused_as error → r ≡ Ok reply
+    → here ≡ draft.at → IsDeskCommit mid now here stroke (Err (Refused error)) → IsStroke draft.base draft.movie stroke → LeadsTo draft.base stroke draft.movie
     → HasTalkAnswer A (talking before (Some draft)) (talking now (Some draft)) Commit (reply_text reply)
-refusal_said A before now draft here stroke error r reply tells was is done strokes leads =
-    subst (λ (x : Result Reply RunFault). CommitSays A before now draft x) was (refused_at A before now draft here stroke error r tells is done strokes leads)
+refusal_said A before mid now draft here stroke error r reply looked tells was is done strokes leads =
+    outcome_after A before mid now draft (Some draft) (reply_text reply) looked (refused_at A mid now draft here stroke error r (Ok reply) tells was is done strokes leads)
 
-pub refusal_fault : (A : Type 0) (before now : SeatContent A) (draft : DraftContent) (here : ℕ) (stroke : List (Edit A)) (error : EditError) (r : Result Reply RunFault) (fault : RunFault) → r ≡ refused_as error → r ≡ Err fault → here ≡ draft.at
-    → IsDeskCommit before now here stroke (Err (Refused error)) → IsStroke draft.base draft.movie stroke → LeadsTo draft.base stroke draft.movie → HasNoOutcome before now fault
-refusal_fault A before now draft here stroke error r fault tells was is done strokes leads =
-    subst (λ (x : Result Reply RunFault). CommitSays A before now draft x) was (refused_at A before now draft here stroke error r tells is done strokes leads)
+pub refusal_fault : (A : Type 0) (before mid now : SeatContent A) (draft : DraftContent) (here : ℕ) (stroke : List (Edit A)) (error : EditError) (r : Result Reply RunFault) (fault : RunFault) → KeepsZone before mid → r ≡ refused_as error → r ≡ Err fault
+    → here ≡ draft.at → IsDeskCommit mid now here stroke (Err (Refused error)) → IsStroke draft.base draft.movie stroke → LeadsTo draft.base stroke draft.movie → HasNoOutcome before now fault
+refusal_fault A before mid now draft here stroke error r fault looked tells was is done strokes leads =
+    let strange = refused_at A mid now draft here stroke error r (Err fault) tells was is done strokes leads in
+    (strange.0, strange_later before mid now looked.seen strange.1)
 
 -- a commit that isn't carried out
 pub no_outcome : {A : Type 0} (before now : TalkingSeat A) (fault : RunFault) → (fault ≡ Foreign) × IsMiscounted before.seat now.seat → HasNoTalkAnswer before now Commit fault

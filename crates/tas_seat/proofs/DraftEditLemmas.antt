@@ -1,5 +1,5 @@
 -- Changes of drafts, and lines of a script at drafts.
-use Rattle.std.proofs.Common.{◌≡◌, ℕ, ◌+◌, ◌≤◌, List, [], ◌∷◌, length, filter, Bool, true, false, Option, Some, None, refl, sym, ap, subst, ◌∙◌, arith}
+use Rattle.std.proofs.Common.{◌≡◌, ℕ, ◌+◌, ◌≤◌, List, [], ◌∷◌, length, filter, Bool, true, false, Option, Some, None, inl, inr, refl, sym, ap, subst, ◌∙◌, arith}
 use Rattle.std.specs.Prelude.{◌==◌, if◌then◌else◌, slice_get}
 use Rattle.std.proofs.lemmas.Bool.{eq-eqb, eqb-true}
 use Rattle.std.proofs.lemmas.Option.{slice_get_past}
@@ -28,7 +28,7 @@ use Rattle.tas_seat.specs.Turns.{Standing, refused_reply, refusal_reply, input_r
 use Rattle.tas_seat.specs.Requests.{Gains}
 use Rattle.tas_seat.specs.Drafts.{DraftContent, draft_standing, draft_state, left_by_edits}
 use Rattle.tas_seat.specs.Inside.EditRequests.{requested_refusal, requested_edit}
-use Rattle.tas_seat.specs.Inside.Outcomes.{IsTurnOf}
+use Rattle.tas_seat.specs.Outcomes.{IsTurnOf}
 use Rattle.tas_seat.specs.Inside.Drafting.{with_states, draft_after, KeepsCart, IsDraftChanged, IsDraftReply}
 use Rattle.tas_seat.proofs.SeatLemmas.{made_none, made_all}
 use Rattle.tas_seat.proofs.EditLemmas.{unforeseen, turn_refused, turn_without_memory, turn_made, asked_edited}
@@ -182,13 +182,19 @@ no_input_answered draft k at len here long past =
     )
 
 pub work_refused : (before now : DraftContent) (k : ℕ) → now ≡ before → IsDraftReply before now (Do (Work k)) OutOfMemory
-work_refused before now k same = looked before now (Do (Work k)) (reply_text OutOfMemory) (same_states before now same) (OutOfMemory, (unforeseen true, refl, refl), refl, rests before now same)
+work_refused before now k same = (
+  looked before now (Do (Work k)) (reply_text OutOfMemory) (same_states before now same) (OutOfMemory, (unforeseen true, refl, refl), refl, rests before now same),
+  inl (refl, ap (λ (d : DraftContent). d.states) same),
+)
 
 -- the draft with its states as they were
 pub work_kept : (before d : DraftContent) (states : List Savestate) (k : ℕ) → d ≡ before → states ≡ d.states → IsDraftReply before (with_states d states) (Do (Work k)) OutOfMemory
 work_kept before d states k is same = work_refused before (with_states d states) k (ap (with_states d) same ∙ is)
 
-pub work_answered : (before d : DraftContent) (states : List Savestate) (k kept : ℕ) → d ≡ before → Gains (draft_state d) (state_with d states) → IsDraftReply before (with_states d states) (Do (Work k)) (Worked 1 kept 0)
-work_answered before d states k kept is gains =
-    subst (λ (x : DraftContent). IsDraftReply x (with_states d states) (Do (Work k)) (Worked 1 kept 0)) is
-    (looked d (with_states d states) (Do (Work k)) (reply_text (Worked 1 kept 0)) refl (Worked 1 kept 0, (record { refused = false; ran = 0; kept = kept; stale = 0 }, refl, refl), refl, gains))
+pub work_answered : (before d : DraftContent) (states : List Savestate) (k kept : ℕ) → d ≡ before → length states ≡ length d.states + kept → Gains (draft_state d) (state_with d states)
+    → IsDraftReply before (with_states d states) (Do (Work k)) (Worked 1 kept 0)
+work_answered before d states k kept is count gains =
+    subst (λ (x : DraftContent). IsDraftReply x (with_states d states) (Do (Work k)) (Worked 1 kept 0)) is (
+      looked d (with_states d states) (Do (Work k)) (reply_text (Worked 1 kept 0)) refl (Worked 1 kept 0, (record { refused = false; ran = 0; kept = kept; stale = 0 }, refl, refl), refl, gains),
+      inr (kept, refl, count),
+    )

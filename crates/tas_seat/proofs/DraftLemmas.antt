@@ -38,7 +38,7 @@ use Rattle.tas_seat.specs.Edits.{requested_edits}
 use Rattle.tas_seat.specs.Requests.{TalkState, Rests, Plays, Reaches, Gains, IsAnswerTo, PictureLeaves, LookLeaves, answer_to_picture, answer_ram, answer_to_ram, answer_to_digest, drawn_digest, answer_lag, answer_to_lag, kept_frames}
 use Rattle.tas_seat.specs.Drafts.{DraftContent, draft_standing, draft_state, left_by_edits, IsAnsweredInDraft, IsDraftAnswered, IsDraftLookedAt}
 use Rattle.tas_seat.specs.Inside.Drafting.{with_states, IsDraftPlayed, IsDraftShot, IsDraftReached, IsDraftStateFor, HasNoDraftAnswer}
-use Rattle.tas_seat.specs.Inside.Outcomes.{unshown_as, IsDigest}
+use Rattle.tas_seat.specs.Outcomes.{unshown_as, IsDigest}
 use Rattle.tas_seat.proofs.SeatLemmas.{made_none}
 use Rattle.tas_seat.proofs.EditLemmas.{unforeseen}
 use Rattle.tas_seat.proofs.AnswerLemmas.{shown_frame}
@@ -331,19 +331,19 @@ lost_lag before now a b order within reached = lag_told before now a b true _ _ 
 
 pub movie_answered : (draft : DraftContent) (at : ℕ) → IsLawful draft.movie draft.states → at ≡ draft.at + draft.made → IsDraftAnswered draft Movie (movie_text at (text2 draft.movie)) draft
 movie_answered draft at lawful here =
-    looked draft draft Movie (movie_text at (text2 draft.movie)) refl (false, ap (λ (n : ℕ). movie_text n (text2 draft.movie)) here, refl, gains_none draft lawful)
+    (looked draft draft Movie (movie_text at (text2 draft.movie)) refl (false, ap (λ (n : ℕ). movie_text n (text2 draft.movie)) here, refl, gains_none draft lawful), refl)
 
 pub lost_movie : (draft : DraftContent) → IsDraftAnswered draft Movie (reply_text OutOfMemory) draft
-lost_movie draft = looked draft draft Movie (reply_text OutOfMemory) refl (true, refl, refl, inl (rests draft draft refl))
+lost_movie draft = (looked draft draft Movie (reply_text OutOfMemory) refl (true, refl, refl, inl (rests draft draft refl)), refl)
 
 pub states_answered : (draft : DraftContent) (at : ℕ) → IsLawful draft.movie draft.states → at ≡ draft.at + draft.made
     → IsDraftAnswered draft States (states_text at (kept_frames (length draft.movie.inputs) draft.states)) draft
 states_answered draft at lawful here =
     let frames = kept_frames (length draft.movie.inputs) draft.states in
-    looked draft draft States (states_text at (kept_frames (length draft.movie.inputs) draft.states)) refl (false, ap (λ (n : ℕ). states_text n frames) here, refl, gains_none draft lawful)
+    (looked draft draft States (states_text at (kept_frames (length draft.movie.inputs) draft.states)) refl (false, ap (λ (n : ℕ). states_text n frames) here, refl, gains_none draft lawful), refl)
 
 pub lost_states : (draft : DraftContent) → IsDraftAnswered draft States (reply_text OutOfMemory) draft
-lost_states draft = looked draft draft States (reply_text OutOfMemory) refl (true, refl, refl, inl (rests draft draft refl))
+lost_states draft = (looked draft draft States (reply_text OutOfMemory) refl (true, refl, refl, inl (rests draft draft refl)), refl)
 
 -- ---- of what was computed
 

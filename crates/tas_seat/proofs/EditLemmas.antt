@@ -37,7 +37,7 @@ use Rattle.tas_seat.specs.declared.edit_requests.EditRequest.TheVariants.{Load, 
 use Rattle.tas_seat.specs.Turns.{Unforeseen, Standing, standing_of, refused_reply, refusal_reply, edit_reply, standing_unless}
 use Rattle.tas_seat.specs.Seats.{IsSeatAfter, IsAnswered}
 use Rattle.tas_seat.specs.Inside.EditRequests.{requested_refusal, requested_edit}
-use Rattle.tas_seat.specs.Inside.Outcomes.{refused_as, IsTurnOf, IsEditAnswered, IsMiscounted, IsUnanswered}
+use Rattle.tas_seat.specs.Outcomes.{refused_as, IsTurnOf, IsEditAnswered, IsMiscounted, IsUnanswered}
 use Rattle.tas_seat.proofs.SeatLemmas.{stood, rests, made_none, made_all}
 
 -- ---- the same edit on any allocator

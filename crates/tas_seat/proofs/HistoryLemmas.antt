@@ -7,6 +7,7 @@ use Rattle.std.proofs.lemmas.List.Sums.{length-filter}
 use mathlib.Core.List.{IsPrefix}
 use Rattle.tas_movie.specs.declared.edit.Edit.{Edit}
 use Rattle.tas_session.specs.declared.entry.Entry.{Entry}
+use Rattle.tas_session.proofs.PrefixLemmas.{prefix_trans}
 use Rattle.tas_session.specs.History.{entries_of}
 use Rattle.tas_desk.specs.Seats.{SeatContent, entry_of, HasSeen, IsSettled}
 use Rattle.tas_engines.specs.declared.fault.ToolFault.{ToolFault}
@@ -18,12 +19,9 @@ use Rattle.tas_language.specs.declared.request.Request.TheVariants.{Do, Retouch,
 use Rattle.tas_seat.specs.Seats.{entries_from, IsSeatAfter, IsAnsweredAt, StripAnswer, AreStrip, IsRequestAnswered}
 use Rattle.tas_seat.specs.Conversations.{TalkingSeat, talking, LeavesSeat, IsAnsweredOutside, IsAnsweredInside, IsTalkAnswered, IsLineAnswered}
 use Rattle.tas_seat.specs.Drafts.{DraftContent}
-use Rattle.tas_seat.specs.Inside.Outcomes.{IsMiscounted}
+use Rattle.tas_seat.specs.Outcomes.{IsMiscounted}
 use Rattle.tas_seat.specs.Talk.{Exchange, IsExchange, AreExchanges, IsLeft, HasLooked, IsCarriedOut, TalkEnds, IsTalk, edits_of, all_edits}
 use Rattle.tas_seat.specs.Histories.{entries_by, IsInHistory}
-
-pub prefix_join : {X : Type 0} (a b c : List X) → IsPrefix a b → IsPrefix b c → IsPrefix a c
-prefix_join {X} a b c p q = (p.0 ++ q.0, sym (append_assoc a p.0 q.0) ∙ ap (λ (l : List X). l ++ q.0) p.1 ∙ q.1)
 
 pub prefix_length : {X : Type 0} (a b : List X) (p : IsPrefix a b) → length b ≡ length a + length p.0
 prefix_length {X} a b p = ap (λ (l : List X). length l) (sym p.1) ∙ length-append a p.0
@@ -120,7 +118,7 @@ leaves_after {A} seat next at edits is =
     record {
       number = is.number;
       made = is.made;
-      seen = prefix_join seat.front at next.front is.begins (entries_from seat.number seat.made edits, sym is.front);
+      seen = prefix_trans seat.front at next.front is.begins (entries_from seat.number seat.made edits, sym is.front);
       longer = omega (arith, front_length seat next at edits is, prefix_length seat.front at is.begins);
       grows = omega (arith, long, more);
       own = λ few. after_by seat next at edits is
@@ -137,7 +135,7 @@ leaves_more {A} start mid last edits others first rest =
     record {
       number = rest.number ∙ first.number;
       made = omega (arith, rest.made, first.made, long);
-      seen = prefix_join start.front mid.front last.front first.seen rest.seen;
+      seen = prefix_trans start.front mid.front last.front first.seen rest.seen;
       longer = omega (arith, first.longer, rest.longer, long);
       grows = omega (arith, first.grows, rest.grows, mid_long, last_long, long);
       own = λ (few : length (entries_by n last.front) ≤ length (entries_by n start.front) + length (edits ++ others)).
@@ -338,7 +336,7 @@ answer_begins before now at edits is = (entries_from before.number before.made e
 reaches : {A : Type 0} (seat last : TalkingSeat A) (between after : List (Exchange A)) (x : Exchange A) → AreExchanges seat (between ++ x ∷ after) last → IsPrefix seat.seat.front x.next.seat.front
 unfolding AreExchanges
 reaches {A} seat last [] after x is = (exchange_leaves seat x is.0).seen
-reaches {A} seat last (y ∷ between) after x is = prefix_join seat.seat.front y.next.seat.front x.next.seat.front (exchange_leaves seat y is.0).seen (reaches y.next last between after x is.1)
+reaches {A} seat last (y ∷ between) after x is = prefix_trans seat.seat.front y.next.seat.front x.next.seat.front (exchange_leaves seat y is.0).seen (reaches y.next last between after x is.1)
 
 -- the last of some lines' seats has seen all that the seat of one of them has seen
 pub exchange_begins : {A : Type 0} (start last : TalkingSeat A) (before after : List (Exchange A)) (x : Exchange A) → AreExchanges start (before ++ x ∷ after) last → IsPrefix x.next.seat.front last.seat.front
@@ -357,7 +355,7 @@ pub talk_seen : {A : Type 0} (start last : SeatContent A) (input input' output o
     → (last.number ≡ start.number) × IsPrefix start.front last.front
 talk_seen {A} start last input input' output output' result talk = (
   talk_number start last input input' output output' result talk,
-  prefix_join start.front talk.seat.seat.front last.front (exchanges_leave (talking start None) talk.seat talk.exchanges talk.answered).seen (go (rested talk.seat last talk.rest _ talk.more input' output output' result talk.ends)),
+  prefix_trans start.front talk.seat.seat.front last.front (exchanges_leave (talking start None) talk.seat talk.exchanges talk.answered).seen (go (rested talk.seat last talk.rest _ talk.more input' output output' result talk.ends)),
 )
   where
     go : Rested talk.seat last talk.more result → IsPrefix talk.seat.seat.front last.front

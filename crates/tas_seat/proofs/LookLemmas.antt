@@ -22,7 +22,7 @@ use Rattle.tas_language.specs.declared.reply.Reply.{Reply}
 use Rattle.tas_language.specs.declared.reply.Reply.TheVariants.{Measured, Pressed, NoFrame, Drawn, Worked, OutOfMemory}
 use Rattle.tas_seat.specs.Turns.{Unforeseen, standing_of, input_reply, halted_reply, shot_reply}
 use Rattle.tas_seat.specs.Seats.{IsAnswered}
-use Rattle.tas_seat.specs.Inside.Outcomes.{unshown_as, IsUnanswered}
+use Rattle.tas_seat.specs.Outcomes.{unshown_as, IsUnanswered}
 use Rattle.tas_seat.proofs.SeatLemmas.{seen_more, looked_nothing, rests, plays_at, gains_at}
 use Rattle.tas_seat.proofs.EditLemmas.{unforeseen}
 

@@ -38,7 +38,7 @@ use Rattle.tas_language.specs.Answers.{ram_text, lag_text}
 use Rattle.tas_seat.specs.Turns.{standing_of}
 use Rattle.tas_seat.specs.Requests.{LookLeaves, answer_ram, answer_to_ram, answer_to_digest, drawn_digest, has_frames, answer_lag, answer_to_lag}
 use Rattle.tas_seat.specs.Seats.{talk_state_at}
-use Rattle.tas_seat.specs.Inside.Outcomes.{unshown_as, IsDigest, HasAnswer, HasNoAnswer}
+use Rattle.tas_seat.specs.Outcomes.{unshown_as, IsDigest, HasAnswer, HasNoAnswer}
 use Rattle.tas_seat.proofs.SeatLemmas.{rests, reaches_at, answered_here}
 use Rattle.tas_seat.proofs.AnswerLemmas.{shown_frame}
 

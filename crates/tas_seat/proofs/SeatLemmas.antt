@@ -1,10 +1,11 @@
 -- Seats, and the histories at which they are answered.
-use Rattle.std.proofs.Common.{◌≡◌, ℕ, ◌+◌, List, [], ◌++◌, Bool, true, false, refl, sym, ap, subst, ◌∙◌, arith, append_assoc, append-nil}
+use Rattle.std.proofs.Common.{◌≡◌, ℕ, ◌+◌, List, [], ◌++◌, Bool, true, false, refl, sym, ap, subst, ◌∙◌, arith, append-nil}
 use Rattle.std.specs.Prelude.{◌==◌, if◌then◌else◌}
 use Rattle.std.proofs.lemmas.Bool.{eq-eqb, eqb-true}
 use mathlib.Core.List.{IsPrefix}
 use Rattle.tas_movie.specs.declared.edit.Edit.{Edit}
 use Rattle.tas_session.specs.declared.entry.Entry.{Entry}
+use Rattle.tas_session.proofs.PrefixLemmas.{prefix_trans, prefix_self}
 use Rattle.tas_desk.specs.Seats.{SeatContent, seat_of, HasSeen}
 use Rattle.tas_desk.specs.States.{IsReached}
 use Rattle.tas_desk.specs.Zones.{ZoneContent, IsMadeFor, IsPlayed, IsShared, IsViewed}
@@ -13,18 +14,12 @@ use Rattle.tas_seat.specs.Edits.{made_between}
 use Rattle.tas_seat.specs.Turns.{Standing, standing_of}
 use Rattle.tas_seat.specs.Requests.{Rests, IsGreen, Plays, Reaches, Gains, IsAnswerTo}
 use Rattle.tas_seat.specs.Seats.{talk_state_at, IsSeatAfter, IsAnsweredAt}
-use Rattle.tas_seat.specs.Inside.Outcomes.{IsMiscounted}
+use Rattle.tas_seat.specs.Outcomes.{IsMiscounted}
 
 -- ---- what a seat has seen
 
-pub prefix_trans : {X : Type 0} (a b c : List X) → IsPrefix a b → IsPrefix b c → IsPrefix a c
-prefix_trans {X} a b c p q = (p.0 ++ q.0, sym (append_assoc a p.0 q.0) ∙ ap (λ (l : List X). l ++ q.0) p.1 ∙ q.1)
-
-pub prefix_refl : {X : Type 0} (a : List X) → IsPrefix a a
-prefix_refl a = ([], append-nil a)
-
 pub seen_self : {A : Type 0} (seat : SeatContent A) → HasSeen seat seat
-seen_self seat = record { number = refl; made = refl; begins = prefix_refl seat.front }
+seen_self seat = record { number = refl; made = refl; begins = prefix_self seat.front }
 
 pub seen_more : {A : Type 0} (a b c : SeatContent A) → HasSeen a b → HasSeen b c → HasSeen a c
 seen_more a b c p q = record { number = q.number ∙ p.number; made = q.made ∙ p.made; begins = prefix_trans a.front b.front c.front p.begins q.begins }

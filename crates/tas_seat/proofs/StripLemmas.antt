@@ -8,7 +8,7 @@ use Rattle.tas_engines.specs.declared.fault.RunFault.TheVariants.{NoEntry, Memor
 use Rattle.tas_language.specs.declared.request.Request.TheVariants.{Picture, Pictures}
 use Rattle.tas_seat.specs.Turns.{standing_of}
 use Rattle.tas_seat.specs.Seats.{IsAnsweredAt, StripAnswer, AreStrip, strip_answers}
-use Rattle.tas_seat.specs.Inside.Outcomes.{HasAnswer, HasNoAnswer}
+use Rattle.tas_seat.specs.Outcomes.{HasAnswer, HasNoAnswer}
 use Rattle.tas_seat.proofs.SeatLemmas.{seen_self, seen_more, seen_after, strange_later, made_nothing}
 
 -- ---- one frame

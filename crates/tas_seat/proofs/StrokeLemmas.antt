@@ -15,6 +15,7 @@ use Rattle.tas_movie.specs.declared.edit.EditRefusal.TheVariants.{Place, Long}
 use Rattle.tas_movie.specs.Edit.{IsAllowed, edited, edited_unless, changed, spliced, place_refusal, length_refusal, insert_refusal, first_refusal}
 use Rattle.tas_session.specs.Strokes.{refusal_in, edited_by}
 use Rattle.tas_seat.specs.Drafts.{inner_inputs, stroke_of, IsStroke, LeadsTo}
+use Rattle.tas_seat.specs.Inside.Drafting.{Differ}
 
 -- ---- the common end
 
@@ -210,30 +211,33 @@ rest_end a b front back ends =
 inner_part : (xs : List Input) (front back : ℕ) → slice_part front (length xs - back) xs ≡ inner_inputs front back xs
 inner_part xs front back = let same : length xs - back - front ≡ length xs - front - back = omega arith in ap (λ (n : ℕ). take n (drop front xs)) same
 
-stroke_as : (A : Type 0) (a b : List Input) (front back : ℕ) (edits : List (Edit A)) → edits ≡ stroke_of A front (slice_part front (length a - back) a) (slice_part front (length b - back) b)
-    → edits ≡ stroke_of A front (inner_inputs front back a) (inner_inputs front back b)
-stroke_as A a b front back edits is =
-    is
-    ∙ ap (λ (l : List Input). stroke_of A front l (slice_part front (length b - back) b)) (inner_part a front back)
-    ∙ ap (stroke_of A front (inner_inputs front back a)) (inner_part b front back)
-
-pub told_stroke : (A : Type 0) (base new : MovieContent) (a b : List Input) (front back : ℕ) (edits : List (Edit A)) → a ≡ base.inputs → b ≡ new.inputs → IsCommonFront a b front → HasEnd a b front back
-    → edits ≡ stroke_of A front (slice_part front (length a - back) a) (slice_part front (length b - back) b) → IsStroke base new edits
-told_stroke A base new a b front back edits old now begins ends is = record {
-  front = front;
+-- where two movies differ, of what was computed
+pub differ : (base new : MovieContent) (a b : List Input) (front back : ℕ) → a ≡ base.inputs → b ≡ new.inputs → IsCommonFront a b front → HasEnd a b front back
+    → Differ base new front (slice_part front (length a - back) a) (slice_part front (length b - back) b)
+differ base new a b front back old now begins ends = record {
   back = back;
   begins = rw (← old, ← now) begins;
   ends = rw (← old, ← now) (rest_end a b front back ends);
-  edits_are = rw (← old, ← now) (stroke_as A a b front back edits is);
+  olds_are = rw (← old) (inner_part a front back);
+  news_are = rw (← now) (inner_part b front back);
 }
 
-pub told_leads : (A : Type 0) (base new : MovieContent) (a b : List Input) (front back : ℕ) (edits : List (Edit A)) → new.cart ≡ base.cart → length new.inputs ≤ most_inputs → a ≡ base.inputs → b ≡ new.inputs → IsCommonFront a b front
-    → HasEnd a b front back → edits ≡ stroke_of A front (slice_part front (length a - back) a) (slice_part front (length b - back) b) → LeadsTo base edits new
-told_leads A base new a b front back edits cart few old now begins ends is =
-    let begins' : IsCommonFront base.inputs new.inputs front = rw (← old, ← now) begins in
-    let ends' : IsCommonFront (reverse (drop front base.inputs)) (reverse (drop front new.inputs)) back = rw (← old, ← now) (rest_end a b front back ends) in
-    let is' : edits ≡ stroke_of A front (inner_inputs front back base.inputs) (inner_inputs front back new.inputs) = rw (← old, ← now) (stroke_as A a b front back edits is) in
-    subst (λ (l : List (Edit A)). LeadsTo base l new) (sym is') (leads A base new front back cart few begins' ends')
+-- the edits that they come to
+pub differ_stroke : (A : Type 0) (base new : MovieContent) (front : ℕ) (olds news : List Input) (edits : List (Edit A)) → Differ base new front olds news → edits ≡ stroke_of A front olds news → IsStroke base new edits
+differ_stroke A base new front olds news edits d is = record {
+  front = front;
+  back = d.back;
+  begins = d.begins;
+  ends = d.ends;
+  edits_are = is ∙ ap (λ (l : List Input). stroke_of A front l news) d.olds_are ∙ ap (stroke_of A front (inner_inputs front d.back base.inputs)) d.news_are;
+}
+
+pub differ_leads : (A : Type 0) (base new : MovieContent) (front : ℕ) (olds news : List Input) (edits : List (Edit A)) → new.cart ≡ base.cart → length new.inputs ≤ most_inputs → Differ base new front olds news → edits ≡ stroke_of A front olds news
+    → LeadsTo base edits new
+differ_leads A base new front olds news edits cart few d is =
+    let made : edits ≡ stroke_of A front (inner_inputs front d.back base.inputs) (inner_inputs front d.back new.inputs) =
+    is ∙ ap (λ (l : List Input). stroke_of A front l news) d.olds_are ∙ ap (stroke_of A front (inner_inputs front d.back base.inputs)) d.news_are in
+    subst (λ (l : List (Edit A)). LeadsTo base l new) (sym made) (leads A base new front d.back cart few d.begins d.ends)
 
 -- edits that lead to a movie are refused nowhere, and make it
 pub leads_in : {A : Type 0} (movie last : MovieContent) (edits : List (Edit A)) → LeadsTo movie edits last → (refusal_in movie edits ≡ None) × (edited_by movie edits ≡ last)

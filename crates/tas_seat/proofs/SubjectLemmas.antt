@@ -10,7 +10,7 @@ use Rattle.tas_seat.specs.declared.conversation.Subject.TheVariants as subject
 use Rattle.tas_seat.specs.Drafts.{DraftContent, IsDraft, IsDraftAnswered, IsDraftUnanswered, IsAboutDesk}
 use Rattle.tas_seat.specs.Conversations.{TalkingSeat, talking}
 use Rattle.tas_seat.specs.Inside.Conversing.{subject_of}
-use Rattle.tas_seat.specs.Inside.Outcomes.{HasAnswer, HasNoAnswer, IsAboutTalk, HasTalkAnswer, HasNoTalkAnswer}
+use Rattle.tas_seat.specs.Outcomes.{HasAnswer, HasNoAnswer, IsAboutTalk, HasTalkAnswer, HasNoTalkAnswer}
 use Rattle.tas_seat.proofs.SeatLemmas.{seen_self}
 
 -- ---- the other lines

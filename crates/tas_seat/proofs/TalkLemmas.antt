@@ -19,7 +19,7 @@ use Rattle.tas_language.specs.Requests.{IsHeard}
 use Rattle.tas_language.specs.Held.{HoldsLine}
 use Rattle.tas_language.specs.Answers.{unknown_text}
 use Rattle.tas_seat.specs.Conversations.{TalkingSeat, talking, IsTalkAnswered}
-use Rattle.tas_seat.specs.Inside.Outcomes.{HasNoTalkAnswer}
+use Rattle.tas_seat.specs.Outcomes.{HasNoTalkAnswer}
 use Rattle.tas_seat.specs.Talk.{Exchange, IsExchange, AreExchanges, IsLeft, HasLooked, IsCarriedOut, IsAnswerCutOff, IsTalk, lines_of, answers_of, last_answer, most_counted}
 use Rattle.tas_seat.specs.Inside.Talking.{CutsOff, HasAnswered, Breaks, StopsAfter, IsLineTurn, IsPartTurn}
 

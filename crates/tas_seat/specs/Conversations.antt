@@ -1,5 +1,5 @@
 -- Drafts of conversations: `begin`, `commit` and `drop`, and what the other lines are answered outside a draft and in one.
-use Rattle.std.specs.Prelude.{◌≡◌, ℕ, ◌+◌, ◌==◌, nat_lt, List, [], length, Bool, if◌then◌else◌, Option, Some, None, ◌⊎◌}
+use Rattle.std.specs.Prelude.{◌≡◌, ℕ, ◌+◌, ◌≤◌, ◌==◌, nat_lt, List, [], length, Bool, if◌then◌else◌, Option, Some, None, ◌⊎◌}
 use Rattle.tas_movie.specs.declared.edit.Edit.{Edit}
 use Rattle.tas_session.specs.declared.entry.Entry.{Entry}
 use Rattle.tas_session.specs.History.{most_edits}
@@ -16,7 +16,7 @@ use Rattle.tas_session.specs.Strokes.{edited_by, refusal_in}
 use Rattle.tas_seat.specs.Turns.{Standing, standing_of, refusal_reply}
 use Rattle.tas_seat.specs.Requests.{TalkState, GainsUnless}
 use Rattle.tas_seat.specs.Seats.{talk_state_at, IsSeatAfter, IsRequestAnswered}
-use Rattle.tas_seat.specs.Drafts.{DraftContent, fresh_draft, IsDraft, IsDraftAnswered, IsStroke, LeadsTo}
+use Rattle.tas_seat.specs.Drafts.{DraftContent, fresh_draft, IsDraft, IsDraftAnswered, IsStroke, LeadsTo, HasStroke}
 
 -- ---- `begin`
 
@@ -66,8 +66,13 @@ abbrev pub draft_after_commit : Option (List ℕ) → DraftContent → Option Dr
 draft_after_commit None draft = None
 draft_after_commit (Some text) draft = Some draft
 
--- memory was refused for a commit: nothing is made, and the draft stays open
-pub record IsNoMemoryCommit {A : Type 0} (draft : DraftContent) (answer : List ℕ) (edits : List (Edit A)) (next : Option DraftContent) : Type 0 where
+-- memory was refused for a commit that the history doesn't refuse: it has as many edits as when the draft began, and room for the draft's. Nothing is
+-- made, and the draft stays open
+pub record IsNoMemoryCommit {A : Type 0} (stands : Standing) (draft : DraftContent) (answer : List ℕ) (edits : List (Edit A)) (next : Option DraftContent) : Type 0 where
+  pub count : ℕ
+  pub comes_to : HasStroke A draft.base draft.movie count
+  pub there : stands.made ≡ draft.at
+  pub room : stands.made + count ≤ most_edits
   pub answer_is : answer ≡ reply_text OutOfMemory
   pub edits_are : edits ≡ []
   pub draft_is : next ≡ Some draft
@@ -84,7 +89,7 @@ pub record IsStrokeAnswer {A : Type 0} (stands : Standing) (draft : DraftContent
 
 -- the answer to `commit` of a draft at what was made so far, the edits that it makes, and the draft then
 abbrev pub IsCommitAnswer : {A : Type 0} → Standing → DraftContent → List ℕ → List (Edit A) → Option DraftContent → Type 0
-IsCommitAnswer stands draft answer edits next = IsNoMemoryCommit draft answer edits next ⊎ IsStrokeAnswer stands draft answer edits next
+IsCommitAnswer stands draft answer edits next = IsNoMemoryCommit stands draft answer edits next ⊎ IsStrokeAnswer stands draft answer edits next
 
 -- ---- lines
 

@@ -11,9 +11,11 @@ use Rattle.tas_green.specs.declared.savestate.Savestate.{Savestate}
 use Rattle.tas_green.specs.Green.{IsLawful}
 use Rattle.tas_session.specs.History.{most_edits}
 use Rattle.tas_session.specs.Session.{left_by}
-use Rattle.tas_language.specs.declared.command.Command.TheVariants.{Load}
+use Rattle.tas_language.specs.declared.command.Command.TheVariants.{Load, Work}
+use Rattle.tas_language.specs.declared.reply.Reply.TheVariants.{Worked, OutOfMemory}
+use Rattle.tas_language.specs.Replies.{reply_text}
 use Rattle.tas_language.specs.declared.request.Request.{Request}
-use Rattle.tas_language.specs.declared.request.Request.TheVariants.{Do, Picture, Pictures, Share, History, Begin, Commit, Drop, Quit}
+use Rattle.tas_language.specs.declared.request.Request.TheVariants.{Do, Picture, Pictures, Movie, States, Share, History, Begin, Commit, Drop, Quit}
 use Rattle.tas_seat.specs.Turns.{Standing}
 use Rattle.tas_seat.specs.Edits.{requested_edits, made_between}
 use Rattle.tas_seat.specs.Requests.{TalkState, IsAnswerTo}
@@ -83,12 +85,21 @@ AreDraftPictures draft from (shown ∷ strip) last = IsAnsweredInDraft draft (Pi
 abbrev pub draft_pictures : List DraftPicture → List ℕ
 draft_pictures strip = flat_map (λ shown. shown.answer) strip
 
+-- nobody else keeps states for a draft. So `work` is one job with no stale state, and reports how many states more are kept then; where memory is
+-- refused for it the same are kept
+abbrev pub IsDraftWork : DraftContent → List ℕ → DraftContent → Type 0
+IsDraftWork draft answer draft' =
+    ((answer ≡ reply_text OutOfMemory) × (draft'.states ≡ draft.states)) ⊎ ((kept : ℕ) × (answer ≡ reply_text (Worked 1 kept 0)) × (length draft'.states ≡ length draft.states + kept))
+
 -- a request is answered at a draft. A draft has the cartridge of the movie that it began with, so a line that loads one has no place in
--- it. `history`, `share` and `quit` aren't about a draft
+-- it. `movie` and `states` leave its greenzone. `history`, `share` and `quit` aren't about a draft
 abbrev pub IsDraftAnswered : DraftContent → Request → List ℕ → DraftContent → Type 0
 IsDraftAnswered draft (Do (Load image)) answer draft' = (answer ≡ in_draft_text) × (draft' ≡ draft)
 IsDraftAnswered draft (Pictures from to) answer draft' =
     (strip : List DraftPicture) × (length strip ≡ to - from) × AreDraftPictures draft from strip draft' × (answer ≡ draft_pictures strip)
+IsDraftAnswered draft (Do (Work k)) answer draft' = IsAnsweredInDraft draft (Do (Work k)) answer draft' × IsDraftWork draft answer draft'
+IsDraftAnswered draft Movie answer draft' = IsAnsweredInDraft draft Movie answer draft' × (draft'.states ≡ draft.states)
+IsDraftAnswered draft States answer draft' = IsAnsweredInDraft draft States answer draft' × (draft'.states ≡ draft.states)
 IsDraftAnswered draft Share answer draft' = ⊥
 IsDraftAnswered draft request answer draft' = IsAnsweredInDraft draft request answer draft'
 
@@ -139,3 +150,10 @@ pub record IsStroke {A : Type 0} (base new : MovieContent) (edits : List (Edit A
 abbrev pub LeadsTo : {A : Type 0} → MovieContent → List (Edit A) → MovieContent → Type 0
 LeadsTo movie [] last = last ≡ movie
 LeadsTo movie (edit ∷ edits) last = IsAllowed movie edit × LeadsTo (edited movie edit) edits last
+
+-- this many edits make one movie of another
+pub record HasStroke (A : Type 0) (base new : MovieContent) (count : ℕ) : Type 0 where
+  pub edits : List (Edit A)
+  pub stroke_is : IsStroke base new edits
+  pub leads : LeadsTo base edits new
+  pub long : length edits ≡ count

@@ -5,6 +5,7 @@ pub mod HistoryText
 pub mod Seats
 pub mod Drafts
 pub mod Conversations
+pub mod Outcomes
 pub mod Talk
 pub mod Histories
 pub mod Lines

@@ -16,7 +16,7 @@ use Rattle.tas_language.specs.declared.request.Request.TheVariants.{Quit}
 use Rattle.tas_language.specs.Requests.{IsHeard}
 use Rattle.tas_language.specs.Answers.{unknown_text}
 use Rattle.tas_seat.specs.Conversations.{TalkingSeat, talking, IsLineAnswered}
-use Rattle.tas_seat.specs.Inside.Outcomes.{IsMiscounted}
+use Rattle.tas_seat.specs.Outcomes.{IsMiscounted}
 
 -- ---- lines, one after the other
 

@@ -4,7 +4,7 @@ ghost use Rattle.std.specs.Prelude.{◌≡◌, MatchResult};
 ghost use Rattle.tas_language.specs.declared.command.Command.TheVariants.{Length as LengthLine, InputAt as InputLine, Shot as ShotLine, Work as WorkLine};
 ghost use Rattle.tas_seat.specs.Turns.{halted_reply};
 ghost use Rattle.tas_seat.specs.Seats.{IsAnswered};
-ghost use Rattle.tas_seat.specs.Inside.Outcomes.{unshown_as, IsUnanswered};
+ghost use Rattle.tas_seat.specs.Outcomes.{unshown_as, IsUnanswered};
 
 use crate::edit_requests::{EditRequest, make_edit};
 use std::alloc::Allocator;

@@ -1,24 +1,24 @@
 //! Answering a request of a conversation, in a draft or outside one.
 
-ghost use Rattle.std.specs.Prelude.{◌≡◌, ◌≤◌, Some, IfOk, MatchOption, MatchResult};
+ghost use Rattle.std.specs.Prelude.{◌≡◌, ◌≤◌, length, Some, IfOk, MatchOption, MatchResult};
 ghost use Rattle.tas_green.specs.Green.{IsLawful};
 ghost use Rattle.tas_session.specs.History.{most_edits};
-ghost use Rattle.tas_desk.specs.Seats.{SeatContent};
+ghost use Rattle.tas_desk.specs.Seats.{SeatContent, KeepsZone};
 ghost use Rattle.tas_engines.specs.declared.fault.RunFault.TheVariants.{Memory};
 ghost use Rattle.tas_language.specs.Drafts.{draft_reply_text};
 ghost use Rattle.tas_language.specs.declared.request.Request.TheVariants.{Begin as BeginLine, Commit as CommitLine, Drop as DropLine, Quit as QuitLine};
 ghost use Rattle.tas_seat.specs.Conversations.{talking};
 ghost use Rattle.tas_seat.specs.Drafts.{fresh_draft};
-ghost use Rattle.tas_seat.specs.Inside.Conversing.{subject_of, HasOutcome, HasNoOutcome};
+ghost use Rattle.tas_seat.specs.Inside.Conversing.{subject_of, HasMoved, HasOutcome, HasNoOutcome};
 ghost use Rattle.tas_seat.specs.declared.conversation.Subject.TheVariants.{Movie as AboutMovie};
-ghost use Rattle.tas_seat.specs.Inside.Outcomes.{HasTalkAnswer, HasNoTalkAnswer};
+ghost use Rattle.tas_seat.specs.Outcomes.{HasTalkAnswer, HasNoTalkAnswer};
 
 use crate::Draft;
 use crate::edit_requests::refused_as;
 use crate::requests::{answer_of_reply, answer_request};
 use std::alloc::{AllocError, Allocator};
 use std::sync::Wait;
-use tas_desk::{CloseOnDrop, CommitError, Desk, Name, Seat};
+use tas_desk::{CloseOnDrop, CommitError, Desk, MAX_EDITS, Name, Seat, Stroke};
 use tas_engines::RunFault;
 use tas_language::{DraftReply, Reply, Request, draft_reply_line};
 
@@ -123,7 +123,30 @@ enum Outcome {
     Refused(Reply),
 }
 
-/// Makes what an open draft comes to.
+/// Whether the history has another number of edits than `at`: how many, where it has. It is looked at by making no edit, which nothing
+/// else refuses.
+fn moved_from<N: Name, W: CloseOnDrop, A: Allocator + Copy, R: Wait>(
+    rt: &R,
+    desk: &Desk<N, W, A>,
+    seat: &mut Seat<N, A>,
+    at: u64,
+) -> Result<Option<u64>, RunFault>
+    ensures { MatchResult result
+        (λ moved. KeepsZone seat.old seat.new × HasMoved at (length seat.new.front) moved)
+        (HasNoOutcome seat.old seat.new) }
+{
+    match desk.commit(rt, seat, at, Stroke::Nothing) {
+        Ok(_) => Ok(None),
+        Err(CommitError::Moved { at }) => Ok(Some(at)),
+        Err(CommitError::Refused(error)) => {
+            refused_as(error)?;
+            Ok(None)
+        }
+    }
+}
+
+/// Makes what an open draft comes to. The history is looked at before memory is asked for: where it has other edits than when the draft
+/// began, or no room, that is the answer.
 fn make_stroke<N: Name, W: CloseOnDrop, A: Allocator + Copy, R: Wait>(
     rt: &R,
     alloc: A,
@@ -134,10 +157,18 @@ fn make_stroke<N: Name, W: CloseOnDrop, A: Allocator + Copy, R: Wait>(
     ensures { MatchResult result (HasOutcome A seat.old seat.new opened.now)
         (HasNoOutcome seat.old seat.new) }
 {
+    let at = opened.at();
+    let count = opened.stroke_len();
+    if let Some(at) = moved_from(rt, desk, seat, at)? {
+        return Ok(Outcome::Moved(DraftReply::Moved { at }));
+    }
+    if at + count > MAX_EDITS {
+        return Ok(Outcome::Refused(Reply::Full { at }));
+    }
     let Ok(stroke) = opened.stroke(alloc) else {
         return Ok(Outcome::Refused(Reply::OutOfMemory));
     };
-    match desk.commit(rt, seat, opened.at(), stroke) {
+    match desk.commit(rt, seat, at, stroke) {
         Ok(receipt) => Ok(Outcome::Made(DraftReply::Committed {
             at: receipt.at,
             len: receipt.len,

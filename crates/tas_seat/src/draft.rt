@@ -5,13 +5,13 @@ ghost use Rattle.tas_movie.specs.Edit.{IsAllowed, edited};
 ghost use Rattle.tas_seat.specs.Turns.{refusal_reply};
 ghost use Rattle.tas_green.specs.Green.{IsLawful};
 ghost use Rattle.tas_session.specs.History.{most_edits};
-ghost use Rattle.tas_seat.specs.Drafts.{IsDraft, fresh_draft, draft_standing, IsStroke, LeadsTo};
+ghost use Rattle.tas_seat.specs.Drafts.{IsDraft, fresh_draft, draft_standing, IsStroke, LeadsTo, HasStroke};
 ghost use Rattle.tas_session.specs.Strokes.{edits_of};
 ghost use Rattle.tas_seat.specs.Inside.EditRequests.{requested_refusal};
 ghost use Rattle.tas_seat.specs.Inside.Drafting.{draft_after, KeepsCart, IsDraftChanged};
 
+use crate::draft_stroke::{stroke_between, stroke_len};
 use crate::edit_requests::EditRequest;
-use crate::stroke_between;
 use std::alloc::{AllocError, Allocator, Global};
 use std::marker::Model;
 use tas_desk::{MAX_EDITS, Plan, Stroke};
@@ -64,7 +64,7 @@ fn refusal_reply(at: u64, refused: EditRefusal) -> Reply
 
 impl<A: Allocator> Draft<A> {
     /// A draft that begins at `at` edits of a history. `base` and `movie` are two copies of this history's movie, and `green` is
-    /// a greenzone for it.
+    /// a greenzone for it, as `Movie::copy` and `Seat::copy_zone` make them.
     pub fn new(base: Movie<A>, movie: Movie<A>, green: Green<A>, at: u64) -> Draft<A>
         requires same { movie ≡ base }
         requires lawful { IsLawful base green }
@@ -82,7 +82,8 @@ impl<A: Allocator> Draft<A> {
 
     /// How many edits the history had when the draft began.
     pub fn at(&self) -> u64
-        ensures { result ≡ self.now.at }
+        ensures at { result ≡ self.now.at }
+        ensures most { result ≤ most_edits }
     {
         self.at
     }
@@ -150,6 +151,14 @@ impl<A: Allocator + Copy> Draft<A> {
             (λ stroke. LeadsTo self.now.base (edits_of stroke) self.now.movie) }
     {
         stroke_between(alloc, self.base(), self.movie())
+    }
+
+    /// How many edits [`Draft::stroke`] gives: 0 to 2. It takes no memory.
+    pub(crate) fn stroke_len(&self) -> u64
+        ensures few { result ≤ 2 }
+        ensures stroke { HasStroke A self.now.base self.now.movie result }
+    {
+        stroke_len(self.base(), self.movie())
     }
 
     /// Makes a change that nothing but memory refuses.

@@ -1,9 +1,11 @@
 //! What a draft comes to: the edits that make one movie of another.
 
-ghost use Rattle.std.specs.Prelude.{◌≡◌, IfOk, reverse};
+ghost use Rattle.std.specs.Prelude.{◌≡◌, ◌≤◌, ℕ, IfOk, length, reverse};
+ghost use Rattle.tas_movie.specs.Content.{most_inputs};
 ghost use Rattle.tas_movie.specs.Front.{IsCommonFront};
 ghost use Rattle.tas_session.specs.Strokes.{edits_of};
-ghost use Rattle.tas_seat.specs.Drafts.{stroke_of, IsStroke, LeadsTo};
+ghost use Rattle.tas_seat.specs.Drafts.{stroke_of, IsStroke, LeadsTo, HasStroke};
+ghost use Rattle.tas_seat.specs.Inside.Drafting.{Differ};
 
 use std::alloc::{AllocError, Allocator};
 use tas_desk::Stroke;
@@ -19,6 +21,20 @@ fn common_back(a: &[Input], b: &[Input]) -> usize
         back += 1;
     }
     back
+}
+
+/// How many edits put inputs in the place of others.
+fn len_at<A: Allocator>(olds: &[Input], news: &[Input]) -> u64
+    ensures few { result ≤ 2 }
+    ensures stroke { (at : ℕ) → result ≡ length (stroke_of A at olds.now news.now) }
+{
+    if olds.is_empty() && news.is_empty() {
+        return 0;
+    }
+    if olds.is_empty() || news.is_empty() || olds.len() == news.len() {
+        return 1;
+    }
+    2
 }
 
 /// The edits that put inputs in the place of others at `at`.
@@ -49,6 +65,33 @@ fn stroke_at<A: Allocator>(
     Ok(Stroke::Two(first, Edit::Insert { at, inputs }))
 }
 
+/// Where two movies differ: how many inputs they begin with in common, and what each of them has between these and the common end of the
+/// rest.
+fn differing<'a, A: Allocator>(
+    base: &'a Movie<A>,
+    movie: &'a Movie<A>,
+) -> (usize, &'a [Input], &'a [Input])
+    ensures differ { Differ base.now movie.now result.0 result.1.now result.2.now }
+    ensures most { length movie.now.inputs ≤ most_inputs }
+{
+    let (old, new) = (base.inputs(), movie.inputs());
+    let front = common_front(old, new);
+    let back = common_back(&old[front..], &new[front..]);
+    let olds = &old[front..old.len() - back];
+    let news = &new[front..new.len() - back];
+    (front, olds, news)
+}
+
+/// How many edits [`stroke_between`] gives: 0 to 2. It takes no memory.
+pub(crate) fn stroke_len<A: Allocator>(base: &Movie<A>, movie: &Movie<A>) -> u64
+    requires { movie.now.cart ≡ base.now.cart }
+    ensures few { result ≤ 2 }
+    ensures stroke { HasStroke A base.now movie.now result }
+{
+    let (_, olds, news) = differing(base, movie);
+    len_at::<A>(olds, news)
+}
+
 /// The edits that make one movie of another with the same cartridge: the inputs with which both begin, and of the rest those with which
 /// both end, are left alone. `AllocError` where memory is refused.
 pub fn stroke_between<A: Allocator, B: Allocator>(
@@ -60,10 +103,6 @@ pub fn stroke_between<A: Allocator, B: Allocator>(
     ensures stroke { IfOk result (λ stroke. IsStroke base.now movie.now (edits_of stroke)) }
     ensures leads { IfOk result (λ stroke. LeadsTo base.now (edits_of stroke) movie.now) }
 {
-    let (old, new) = (base.inputs(), movie.inputs());
-    let front = common_front(old, new);
-    let back = common_back(&old[front..], &new[front..]);
-    let olds = &old[front..old.len() - back];
-    let news = &new[front..new.len() - back];
+    let (front, olds, news) = differing(base, movie);
     stroke_at(alloc, front, olds, news)
 }

@@ -2,7 +2,7 @@
 
 ghost use Rattle.std.specs.Prelude.{◌≡◌, MatchResult};
 ghost use Rattle.tas_engines.specs.declared.fault.RunFault.TheVariants.{Foreign};
-ghost use Rattle.tas_seat.specs.Inside.Outcomes.{refused_as, IsEditAnswered, IsMiscounted};
+ghost use Rattle.tas_seat.specs.Outcomes.{refused_as, IsEditAnswered, IsMiscounted};
 
 use std::alloc::{AllocError, Allocator};
 use std::sync::Wait;

@@ -3,7 +3,7 @@
 ghost use Rattle.std.specs.Prelude.{◌≡◌, ◌+◌, ◌<◌, ◌≤◌, ◌^◌, length, max, IfOk, MatchResult};
 ghost use Rattle.tas_language.specs.declared.request.Request.TheVariants.{History as HistoryLine};
 ghost use Rattle.tas_seat.specs.HistoryText.{entry_lines, history_reply_text};
-ghost use Rattle.tas_seat.specs.Inside.Outcomes.{HasAnswer, HasNoAnswer};
+ghost use Rattle.tas_seat.specs.Outcomes.{HasAnswer, HasNoAnswer};
 
 use crate::requests::{answer_of_reply, answer_or_refusal};
 use std::alloc::{AllocError, Allocator};

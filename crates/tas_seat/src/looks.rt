@@ -5,7 +5,7 @@ ghost use Rattle.tas_green.specs.Run.{state_after};
 ghost use Rattle.tas_engines.specs.Lag.{lag_lines_between};
 ghost use Rattle.tas_language.specs.Answers.{lag_text};
 ghost use Rattle.tas_language.specs.declared.request.Request.TheVariants.{Ram as RamLine, Digest as DigestLine, Lag as LagLine};
-ghost use Rattle.tas_seat.specs.Inside.Outcomes.{IsDigest, HasAnswer, HasNoAnswer};
+ghost use Rattle.tas_seat.specs.Outcomes.{IsDigest, HasAnswer, HasNoAnswer};
 
 use crate::commands::halted_reply;
 use crate::requests::{answer_or_refusal, unshown_answer};

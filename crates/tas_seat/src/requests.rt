@@ -9,7 +9,7 @@ ghost use Rattle.tas_language.specs.Answers.{states_text};
 ghost use Rattle.tas_language.specs.Replies.{reply_text};
 ghost use Rattle.tas_language.specs.declared.request.Request.TheVariants.{Do as ScriptLine, Retouch as RetouchLine, Picture as PictureLine, Pictures as PicturesLine, Movie as MovieLine, States as StatesLine, Share as ShareLine};
 ghost use Rattle.tas_seat.specs.Requests.{kept_frames};
-ghost use Rattle.tas_seat.specs.Inside.Outcomes.{unshown_as, HasAnswer, HasNoAnswer, IsAboutTalk};
+ghost use Rattle.tas_seat.specs.Outcomes.{unshown_as, HasAnswer, HasNoAnswer, IsAboutTalk};
 
 use crate::commands::{reply_to_command, unshown_as};
 use crate::edit_requests::{EditRequest, make_edit};

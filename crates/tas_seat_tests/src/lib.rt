@@ -9,3 +9,5 @@ mod draft_tests;
 mod talk_turn_tests;
 #[cfg(test)]
 mod turn_tests;
+#[cfg(test)]
+mod turns;

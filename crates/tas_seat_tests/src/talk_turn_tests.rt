@@ -1,59 +1,19 @@
-//! Lines of two seats in conversations, one after the other, and their drafts.
+//! Drafts of two seats in conversations.
 
-ghost use Rattle.std.specs.Prelude.{◌≡◌};
+ghost use Rattle.std.specs.Prelude.{◌≡◌, ◌≤◌};
 ghost use Rattle.tas_desk.specs.Seats.{name_of};
 
 use crate::checks::{check_that, expect_ok, expect_some};
+use crate::turns::{Turn, play, take_turns};
+use refusals::Refusing;
 use std::alloc::Global;
 use std::marker::Brand;
 use std::process::Abort;
 use std::sync::Wait;
-use tas_desk::{CloseOnDrop, Closed, Desk, Name, Seat, Unopened};
-use tas_language::parse_request;
+use tas_desk::{Desk, Name, Unopened};
+use tas_engines::RunFault;
+use tas_language::Request;
 use tas_seat::{Draft, answer_talk};
-
-/// A seat, a line of it, and the line's answer.
-type Turn = (usize, &'static str, &'static str);
-
-/// Fails where one of these lines is answered in another way. No draft is open at first, and one that is open at the end is lost.
-fn take_turns<N: Name, W: CloseOnDrop, R: Wait + Abort>(
-    rt: &R,
-    alloc: Global,
-    desk: &Desk<N, W>,
-    seats: &mut [Seat<N>],
-    turns: &[Turn],
-) {
-    let mut drafts: [Option<Draft>; 2] = [None, None];
-    for turn in turns {
-        let request = expect_some(rt, parse_request(turn.1.as_bytes()));
-        check_that(rt, *turn, turn.0 < 2 && turn.0 < seats.len());
-        let (seat, draft) = (&mut seats[turn.0], &mut drafts[turn.0]);
-        let found = expect_ok(rt, answer_talk(rt, alloc, desk, seat, draft, request));
-        let bytes = expect_some(rt, found);
-        check_that(rt, *turn, bytes.as_slice() == turn.2.as_bytes());
-    }
-}
-
-/// Opens a desk of two seats, takes these turns, and closes it.
-fn play_at<N: Name, R: Wait + Abort>(
-    rt: &R,
-    alloc: Global,
-    unopened: Unopened,
-    turns: &[Turn],
-) -> Closed
-    requires name { unopened ≡ name_of N.registry N.name N.parts }
-{
-    let (desk, mut seats) = expect_ok(rt, Desk::<N, &R>::open(rt, alloc, unopened));
-    take_turns(rt, alloc, &desk, seats.as_mut_slice(), turns);
-    check_that(rt, "all seats come back", desk.whole(seats.as_slice()));
-    desk.close(rt, seats)
-}
-
-/// The same under a name.
-fn play<R: Wait + Abort>(rt: &R, alloc: Global, turns: &[Turn]) -> Closed {
-    let unopened = expect_ok(rt, Unopened::new(alloc, 2));
-    play_at::<Brand, R>(rt, alloc, unopened, turns)
-}
 
 static COMMITTED: [Turn; 19] = [
     (0, "load2 7FC=00F0", "edit 1 len 0\n"),
@@ -115,6 +75,73 @@ fn a_draft_is_made_of_the_movie_that_it_began_with(rt: HostRuntime) {
     let closed = play(&rt, rt.alloc(), &MOVED);
     check_that(&rt, "edits", closed.journal.len() == 3);
     check_that(&rt, "frames", closed.movie.len() == 9);
+}
+
+/// Seat 1 has a draft, and seat 0 edits the movie.
+static EDITED: [Turn; 4] = [
+    (0, "insert 0 10 ..... ..... .....", "edit 1 len 10\n"),
+    (1, "begin", "begin 1 10\n"),
+    (1, "press 3 1 R.... ..... .....", "edit 2 len 10\n"),
+    (0, "delete 9 1", "edit 2 len 9\n"),
+];
+
+/// Commits the draft with this growth refused, counted from the `commit`: it is answered `moved`, or not at all. Whether there was such a growth.
+fn moves_without<'a, N: Name, R: Wait + Abort>(
+    rt: &R,
+    heap: &'a Refusing<Global>,
+    unopened: Unopened<&'a Refusing<Global>>,
+    number: u64,
+) -> bool
+    requires name { unopened ≡ name_of N.registry N.name N.parts }
+    requires number { 1 ≤ number }
+{
+    let (desk, mut seats) = expect_ok(
+        rt,
+        Desk::<N, &R, &Refusing<Global>>::open(rt, heap, unopened),
+    );
+    let mut drafts: [Option<Draft<&Refusing<Global>>>; 2] = [None, None];
+    take_turns(rt, heap, &desk, seats.as_mut_slice(), &mut drafts, &EDITED);
+    check_that(rt, "two seats", seats.len() == 2);
+    heap.refuse(number);
+    let answer = answer_talk(
+        rt,
+        heap,
+        &desk,
+        &mut seats[1],
+        &mut drafts[1],
+        Request::Commit,
+    );
+    match answer {
+        Ok(Some(bytes)) => check_that(
+            rt,
+            ("moved", number),
+            bytes.as_slice() == b"moved 2\n".as_slice(),
+        ),
+        Ok(None) => check_that(rt, ("an answer", number), false),
+        Err(fault) => check_that(rt, ("memory", number), fault == RunFault::Memory),
+    }
+    heap.has_refused()
+}
+
+/// The same under a name.
+fn moves_under_a_name<R: Wait + Abort>(rt: &R, alloc: Global, number: u64) -> bool
+    requires { 1 ≤ number }
+{
+    let heap = Refusing::new(alloc, u64::MAX);
+    let unopened = expect_ok(rt, Unopened::new(&heap, 2));
+    moves_without::<Brand, R>(rt, &heap, unopened, number)
+}
+
+/// A commit that others' edits refuse says so, whichever growth is refused: no memory is asked for but its answer's.
+#[test]
+fn a_commit_has_moved_before_it_is_out_of_memory(rt: HostRuntime) {
+    let mut refused = 0u64;
+    for number in 1..10 {
+        if moves_under_a_name(&rt, rt.alloc(), number) {
+            refused = refused.saturating_add(1);
+        }
+    }
+    check_that(&rt, "growths", 0 < refused && refused < 9);
 }
 
 static SHARED: [Turn; 12] = [

@@ -4,16 +4,14 @@ ghost use Rattle.std.specs.Prelude.{◌≡◌};
 ghost use Rattle.tas_desk.specs.Seats.{name_of};
 
 use crate::checks::{check_that, expect_ok, expect_some};
+use crate::turns::{Turn, play};
 use std::alloc::Global;
 use std::marker::Brand;
 use std::process::Abort;
 use std::sync::Wait;
-use tas_desk::{CloseOnDrop, Closed, Desk, Name, Seat, Unopened};
-use tas_language::{Request, parse_request};
+use tas_desk::{CloseOnDrop, Desk, Name, Seat, Unopened};
+use tas_language::Request;
 use tas_seat::answer_request;
-
-/// A seat, a line of it, and the line's answer.
-type Turn = (usize, &'static str, &'static str);
 
 /// Fails where a seat answers a request in another way.
 fn check_answer<N: Name, W: CloseOnDrop, R: Wait + Abort>(
@@ -27,42 +25,6 @@ fn check_answer<N: Name, W: CloseOnDrop, R: Wait + Abort>(
     let found = expect_ok(rt, answer_request(rt, alloc, desk, seat, request));
     let bytes = expect_some(rt, found);
     check_that(rt, turn, bytes.as_slice() == turn.2.as_bytes());
-}
-
-/// Fails where one of these lines is answered in another way.
-fn take_turns<N: Name, W: CloseOnDrop, R: Wait + Abort>(
-    rt: &R,
-    alloc: Global,
-    desk: &Desk<N, W>,
-    seats: &mut [Seat<N>],
-    turns: &[Turn],
-) {
-    for turn in turns {
-        let request = expect_some(rt, parse_request(turn.1.as_bytes()));
-        check_that(rt, *turn, turn.0 < seats.len());
-        check_answer(rt, alloc, desk, &mut seats[turn.0], request, *turn);
-    }
-}
-
-/// Opens a desk of two seats, takes these turns, and closes it.
-fn play_at<N: Name, R: Wait + Abort>(
-    rt: &R,
-    alloc: Global,
-    unopened: Unopened,
-    turns: &[Turn],
-) -> Closed
-    requires name { unopened ≡ name_of N.registry N.name N.parts }
-{
-    let (desk, mut seats) = expect_ok(rt, Desk::<N, &R>::open(rt, alloc, unopened));
-    take_turns(rt, alloc, &desk, seats.as_mut_slice(), turns);
-    check_that(rt, "all seats come back", desk.whole(seats.as_slice()));
-    desk.close(rt, seats)
-}
-
-/// The same under a name.
-fn play<R: Wait + Abort>(rt: &R, alloc: Global, turns: &[Turn]) -> Closed {
-    let unopened = expect_ok(rt, Unopened::new(alloc, 2));
-    play_at::<Brand, R>(rt, alloc, unopened, turns)
 }
 
 /// Both seats make the playfield's movie, and one presses a button in a frame that the other has put in. Each edit cuts the other's

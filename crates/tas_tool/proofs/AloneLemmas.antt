@@ -32,7 +32,7 @@ use Rattle.tas_language.specs.declared.request.Request.TheVariants.{Do, Retouch,
 use Rattle.tas_seat.specs.HistoryText.{entry_lines, history_reply_text}
 use Rattle.tas_seat.specs.Requests.{TalkState, IsAnswerTo as IsAnswerAt}
 use Rattle.tas_seat.specs.Seats.{most_entries, talk_state_at, IsSeatAfter, IsAnsweredAt, StripAnswer as SeatAnswer, AreStrip as AreSeatStrip, strip_answers as seat_answers, entries_from, IsHistoryAnswered, IsRequestAnswered}
-use Rattle.tas_seat.specs.Drafts.{DraftContent, inner_inputs, stroke_of, IsStroke, LeadsTo}
+use Rattle.tas_seat.specs.Drafts.{DraftContent, inner_inputs, stroke_of, IsStroke, LeadsTo, HasStroke}
 use Rattle.tas_seat.specs.Conversations.{TalkingSeat, talking, text_of, uncommitted_answer, commit_answer, committed_edits, draft_after_commit, IsBeginAnswer, IsCommitAnswer, IsCommitted, IsAnsweredOutside, IsAnsweredInside, IsTalkAnswered, IsLineAnswered}
 use Rattle.tas_session.specs.Strokes.{edited_by, refusal_in}
 use Rattle.tas_seat.specs.Turns.{Standing, standing_of, refusal_reply}
@@ -288,7 +288,14 @@ leads_contents {A} movie last (edit ∷ edits) is =
     (same_refusal movie edit ∙ is.0, subst (λ (m : MovieContent). LeadsTo m (contents edits) last) (sym (same_edited movie edit)) (leads_contents (edited movie edit) last edits is.1))
 
 commit_contents : {A : Type 0} (stands : Standing) (draft : DraftContent) (answer : List ℕ) (edits : List (Edit A)) (next : Option DraftContent) → IsCommitAnswer stands draft answer edits next → IsCommitAnswer stands draft answer (contents edits) next
-commit_contents {A} stands draft answer edits next (inl none) = inl (record { answer_is = none.answer_is; edits_are = ap (λ (l : List (Edit A)). contents l) none.edits_are; draft_is = none.draft_is })
+commit_contents {A} stands draft answer edits next (inl none) =
+    let comes_to : HasStroke (Unit {0}) draft.base draft.movie none.count = record {
+      edits = contents none.comes_to.edits;
+      stroke_is = stroke_contents draft.base draft.movie none.comes_to.edits none.comes_to.stroke_is;
+      leads = leads_contents draft.base draft.movie none.comes_to.edits none.comes_to.leads;
+      long = same_length none.comes_to.edits ∙ none.comes_to.long;
+    } in
+    inl (record { count = none.count; comes_to = comes_to; there = none.there; room = none.room; answer_is = none.answer_is; edits_are = ap (λ (l : List (Edit A)). contents l) none.edits_are; draft_is = none.draft_is })
 commit_contents {A} stands draft answer edits next (inr told) =
     let same : uncommitted_answer stands draft.at told.stroke ≡ uncommitted_answer stands draft.at (contents told.stroke) = sym (same_uncommitted stands draft.at told.stroke) in
     inr (record {

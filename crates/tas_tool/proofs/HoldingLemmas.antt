@@ -7,13 +7,14 @@ use Rattle.std.proofs.lemmas.Bool.Decides.{nat_tests}
 use Rattle.std.proofs.lemmas.List.{append-nil, get_or-set_same, get_or-set_other, take-append-le, length-append, length-map}
 use Rattle.std.proofs.lemmas.Option.{same_Some, slice_get-get_or, slice_get_within, get_or_from_slice_get}
 use mathlib.Core.List.{IsPrefix}
+use Rattle.logbook.specs.Pages.{Book}
 use Rattle.tas_movie.specs.Content.{MovieContent}
 use Rattle.tas_movie.specs.Text.{text2}
 use Rattle.tas_session.specs.declared.entry.Entry.{Entry}
 use Rattle.tas_session.specs.History.{movie_of, entries_of, IsLegal}
 use Rattle.tas_session.proofs.PrefixLemmas.{prefix_trans}
 use Rattle.tas_desk.specs.Seats.{SeatContent, seat_of, HasSeen, KeepsZone, IsWhole, IsSettled}
-use Rattle.tas_desk.specs.Zones.{ZoneContent}
+use Rattle.tas_desk.specs.Zones.{ZoneContent, blank_zone}
 use Rattle.tas_desk.specs.Closing.{made_by}
 use Rattle.tas_desk.proofs.SeatLemmas.{count_by-cons, entries_of-prefix, had_by, had_by-le, looked_twice, none_above}
 use Rattle.tas_engines.specs.Output.{StopsWriting}
@@ -21,9 +22,9 @@ use Rattle.tas_engines.specs.declared.fault.RunFault.{RunFault}
 use Rattle.tas_engines.specs.declared.fault.RunFault.TheVariants.{Write, Size, Text, NoFrame, Range, Halted, HaltedFrame, Script, Place, Long, NoPlace, NoEntry, Foreign, Memory}
 use Rattle.tas_engines.specs.declared.fault.SeatFault.{SeatFault}
 use Rattle.tas_seat.specs.Lines.{DoorFacts, WasHeld}
-use Rattle.tas_tool.specs.Desks.{edits_before, IsSeatOf, IsDeskHistory, IsUnwritten}
+use Rattle.tas_tool.specs.Desks.{edits_before, IsBlankZone, IsSeatOf, IsDeskHistory, IsUnwritten}
 use Rattle.tas_tool.specs.Inside.TwoEdits.{HoldsMovie, IsMakingFault}
-use Rattle.tas_tool.specs.Inside.Holding.{AreNumbered, HaveMadeNone, AreFresh, HaveMovie, IsUnmade, IsHeldIn, HoldsAll, HasRoom}
+use Rattle.tas_tool.specs.Inside.Holding.{AreNumbered, HaveMadeNone, HaveBlankZones, AreFresh, HaveMovie, IsUnmade, IsHeldIn, HoldsAll, HasRoom}
 use Rattle.tas_seat.proofs.HeldLemmas.{held_seen, held_in_history}
 
 -- ---- lists
@@ -66,6 +67,15 @@ there [] (z ∷ ys) k y same is = absurd (omega (arith, same))
 there (x ∷ xs) [] k y same is = absurd (omega (arith, same))
 there (x ∷ xs) (z ∷ ys) zero y same is = (x, refl)
 there (x ∷ xs) (z ∷ ys) (suc k) y same is = there xs ys k y (omega (arith, same)) is
+
+-- what was done to the item at a place
+done_at : {X : Type 0} (R : X → X → Type 0) (xs ys : List X) → length ys ≡ length xs → ((k : ℕ) (d : X) → k < length xs → R (get_or xs k d) (get_or ys k d))
+    → (k : ℕ) (y : X) → slice_get ys k ≡ Some y → (x : X) × (slice_get xs k ≡ Some x) × R x y
+done_at {X} R xs ys same done k y is =
+    let before = there xs ys k y (sym same) is in
+    let was : get_or xs k y ≡ before.0 = get_or_from_slice_get xs k before.0 y before.1 in
+    let now : get_or ys k y ≡ y = get_or_from_slice_get ys k y y is in
+    (before.0, before.1, subst (λ (v : X). R before.0 v) now (subst (λ (v : X). R v (get_or ys k y)) was (done k y (slice_get_within xs k before.0 before.1))))
 
 -- ---- lists that are moved item by item
 
@@ -247,8 +257,8 @@ begun movie seats (suc k) start has are none is = let e = none k start is in (e,
 
 -- a desk that was held on a movie
 pub desk_history : {A D : Type 0} (facts : DoorFacts D) (movie : MovieContent) (doors doors' : List D) (seats : List (SeatContent A)) (ends : List (Result (Unit {0}) SeatFault)) (log : List (Entry A)) → length seats ≡ length doors
-    → HaveMovie movie seats → AreNumbered seats → HaveMadeNone seats → HoldsAll facts doors doors' seats ends log → IsDeskHistory facts movie doors doors' ends log
-desk_history {A} {D} facts movie doors doors' seats ends log long has are none all =
+    → HaveMovie movie seats → AreNumbered seats → HaveMadeNone seats → HaveBlankZones seats → HoldsAll facts doors doors' seats ends log → IsDeskHistory facts movie doors doors' ends log
+desk_history {A} {D} facts movie doors doors' seats ends log long has are none blank all =
     record {
       legal = all.legal;
       long = omega (arith, prefix_longer has.first.front log begins, has.holds.seen);
@@ -291,6 +301,7 @@ desk_history {A} {D} facts movie doors doors' seats ends log long has are none a
           number_is = are k start.0 start.1;
           made = made.0;
           begins = subst (λ (t : List (Entry A)). IsPrefix t start.0.front) (sym same) (has.met k start.0 start.1);
+          zone = blank k start.0 start.1;
           held = held.held;
           shows = shown.0;
           not_foreign = shown.1;
@@ -338,10 +349,8 @@ fresh_numbered {A} first first' others others' fresh nought same seen = (numbers
   where
     at : (k : ℕ) (s : SeatContent A) → slice_get others' k ≡ Some s → (s.number ≡ suc k) × (s.made ≡ 0)
     at k s is =
-        let before = there others others' k s (sym same) is in
-        let got = get_or_from_slice_get others k before.0 s before.1 in
-        let got' = get_or_from_slice_get others' k s s is in
-        let one : HasSeen before.0 s = subst (λ (x : SeatContent A). HasSeen before.0 x) got' (subst (λ (x : SeatContent A). HasSeen x (get_or others' k s)) got (seen k s (slice_get_within others k before.0 before.1))) in
+        let before = done_at (λ (b : SeatContent A) (n : SeatContent A). HasSeen b n) others others' same seen k s is in
+        let one : HasSeen before.0 s = before.2 in
         let was = fresh (suc k) before.0 before.1 in
         (one.number ∙ was.0, one.made ∙ was.1)
 
@@ -351,6 +360,21 @@ fresh_numbered {A} first first' others others' fresh nought same seen = (numbers
 
     made : HaveMadeNone (first' ∷ others')
     made k s is = (at k s is).1
+
+-- seats whose greenzones are still those with which they were opened
+pub zones_blank : {A : Type 0} (first first' : SeatContent A) (others others' : List (SeatContent A)) → AreFresh (first ∷ others) → first'.zone ≡ first.zone → length others' ≡ length others
+    → ((k : ℕ) (d : SeatContent A) → k < length others → KeepsZone (get_or others k d) (get_or others' k d)) → HaveBlankZones (first' ∷ others')
+zones_blank {A} first first' others others' fresh same long kept = at
+  where
+    still : (was now : SeatContent A) → now.zone ≡ was.zone → IsBlankZone was.zone → IsBlankZone now.zone
+    still was now zone blank = subst (λ (z : ZoneContent A). IsBlankZone z) (sym zone) blank
+
+    at : HaveBlankZones (first' ∷ others')
+    at zero s is = still first s (ap (λ (t : SeatContent A). t.zone) (sym (same_Some first' s is)) ∙ same) (fresh 0 first refl).3
+    at (suc k) s is =
+        let before = done_at (λ (b : SeatContent A) (n : SeatContent A). KeepsZone b n) others others' long kept k s is in
+        let one : KeepsZone before.0 s = before.2 in
+        still before.0 s one.zone (fresh (suc k) before.0 before.1).3
 
 pub all_met : {A : Type 0} (movie : MovieContent) (first first' : SeatContent A) (others others' : List (SeatContent A)) → HoldsMovie first movie → HasSeen first first' → length others' ≡ length others
     → ((k : ℕ) (d : SeatContent A) → k < length others → IsPrefix first.front (get_or others' k d).front) → HaveMovie movie (first' ∷ others')
@@ -431,11 +455,19 @@ held_as {A} {D} facts doors was doors' seats starts ends log same same' all =
 
 -- ---- the desk that was opened
 
-pub opened_fresh : {A : Type 0} (n : ℕ) (seats : List (SeatContent A)) (zone : ZoneContent A) → length seats ≡ n → ((k : ℕ) → k < n → slice_get seats k ≡ Some (seat_of k 0 [] zone)) → AreFresh seats
-opened_fresh {A} n seats zone long fresh k seat is =
+-- the greenzone of a seat that made no call yet
+blank_is : {A : Type 0} (book : Book) (zone : ZoneContent A) → zone ≡ blank_zone book → IsBlankZone zone
+blank_is {A} book zone is = record {
+  movie = ap (λ (z : ZoneContent A). z.movie) is;
+  states = ap (λ (z : ZoneContent A). z.states) is;
+  window = ap (λ (z : ZoneContent A). z.window) is;
+}
+
+pub opened_fresh : {A : Type 0} (n : ℕ) (seats : List (SeatContent A)) (book : Book) → length seats ≡ n → ((k : ℕ) → k < n → slice_get seats k ≡ Some (seat_of k 0 [] (blank_zone book))) → AreFresh seats
+opened_fresh {A} n seats book long fresh k seat is =
     let low : k < n = omega (arith, slice_get_within seats k seat is, long) in
-    let same : seat ≡ seat_of k 0 [] zone = same_Some seat (seat_of k 0 [] zone) (sym is ∙ fresh k low) in
-    (ap (λ (s : SeatContent A). s.number) same, ap (λ (s : SeatContent A). s.made) same, ap (λ (s : SeatContent A). s.front) same)
+    let same : seat ≡ seat_of k 0 [] (blank_zone book) = same_Some seat (seat_of k 0 [] (blank_zone book)) (sym is ∙ fresh k low) in
+    (ap (λ (s : SeatContent A). s.number) same, ap (λ (s : SeatContent A). s.made) same, ap (λ (s : SeatContent A). s.front) same, blank_is book seat.zone (ap (λ (s : SeatContent A). s.zone) same))
 
 -- seats that were lent and came back
 pub whole_lent : {A : Type 0} (n : ℕ) (old lent new back : List (SeatContent A)) → lent ≡ old → length old ≡ n → length new ≡ length lent → AreNumbered new → back ≡ new → IsWhole n back

@@ -21,7 +21,7 @@ use Rattle.tas_session.specs.History.{entries_of}
 use Rattle.tas_desk.specs.Seats.{SeatContent}
 use Rattle.tas_seat.specs.Turns.{Standing, standing_of, reply_to, standing_after, IsTurn}
 use Rattle.tas_seat.specs.Seats.{IsAnswered}
-use Rattle.tas_seat.specs.Inside.Outcomes.{IsUnanswered}
+use Rattle.tas_seat.specs.Outcomes.{IsUnanswered}
 use Rattle.tas_seat.proofs.HistoryLemmas.{Leaves, leaves_after, leaves_same, leaves_seen}
 use Rattle.tas_tool.specs.Scripts.{Turn, turn_line, AreSaid, standing_after_all, replies_to_all, IsUnclear, IsStop, Reads, Answers, standing_at_start, EndsWithReplies, RunsScript, IsScriptRun}
 use Rattle.byte_text.proofs.SplitLemmas.{no_parts, same_front}

@@ -2,12 +2,13 @@
 use Rattle.std.specs.Prelude.{◌≡◌, ℕ, zero, suc, ◌+◌, ◌<◌, ◌≤◌, List, [], ◌∷◌, length, take, All, slice_get, Option, Some, Result, Ok, Err, ◌⊎◌}
 use Rattle.std.specs.Io.KnownBytes.{Appends, Keeps}
 use mathlib.Core.List.{IsPrefix}
-use Rattle.tas_movie.specs.Content.{MovieContent}
+use Rattle.tas_movie.specs.Content.{MovieContent, blank_movie}
 use Rattle.tas_movie.specs.Text.{text2}
 use Rattle.tas_movie.specs.declared.edit.Edit.{Edit}
 use Rattle.tas_session.specs.declared.entry.Entry.{Entry}
 use Rattle.tas_session.specs.History.{movie_of, entries_of, IsLegal}
 use Rattle.tas_desk.specs.Seats.{SeatContent}
+use Rattle.tas_desk.specs.Zones.{ZoneContent}
 use Rattle.tas_engines.specs.declared.fault.ReadFault.{ReadFault}
 use Rattle.tas_engines.specs.declared.fault.RunFault.{RunFault}
 use Rattle.tas_engines.specs.declared.fault.RunFault.TheVariants.{NoPlace, Memory}
@@ -28,8 +29,15 @@ abbrev pub edits_before : ℕ → ℕ
 edits_before zero = 2
 edits_before (suc number) = 0
 
--- a seat's conversation, as the history shows it. It begins once the seat has seen the movie's two edits; the history begins with all that
--- the seat has seen in the end, and has of the seat just what it had made before and then, in order, the edits of its conversation
+-- an empty greenzone: no state is kept in it or in its window, and it was made for the blank movie
+pub record IsBlankZone {A : Type 0} (zone : ZoneContent A) : Type 0 where
+  pub movie : zone.movie ≡ blank_movie
+  pub states : zone.states ≡ []
+  pub window : zone.window ≡ []
+
+-- a seat's conversation, as the history shows it. It begins once the seat has seen the movie's two edits, with an empty greenzone; the history
+-- begins with all that the seat has seen in the end, and has of the seat just what it had made before and then, in order, the edits of its
+-- conversation
 pub record IsSeatOf {A D : Type 0} (facts : DoorFacts D) (history : List (Entry A)) (number : ℕ) (door door' : D) (end : Result (Unit {0}) SeatFault) : Type 0 where
   pub start : SeatContent A
   pub last : SeatContent A
@@ -37,6 +45,7 @@ pub record IsSeatOf {A D : Type 0} (facts : DoorFacts D) (history : List (Entry 
   pub number_is : start.number ≡ number
   pub made : start.made ≡ edits_before number
   pub begins : IsPrefix (take 2 history) start.front
+  pub zone : IsBlankZone start.zone
   pub held : IsHeld facts door door' start last edits end
   pub shows : IsInHistory history start last edits
   pub not_foreign : end ≡ Err Foreign → ⊥

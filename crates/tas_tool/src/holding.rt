@@ -4,7 +4,7 @@ ghost use Rattle.std.specs.Prelude.{◌≡◌, ◌≤◌, ◌<◌, ℕ, [], leng
 ghost use mathlib.Core.List.{IsPrefix};
 ghost use Rattle.tas_session.specs.History.{movie_of};
 ghost use Rattle.tas_desk.specs.Seats.{KeepsZone};
-ghost use Rattle.tas_tool.specs.Inside.Holding.{AreFresh, AreNumbered, HaveMadeNone, HaveMovie, IsUnmade, HasRoom, HoldsAll};
+ghost use Rattle.tas_tool.specs.Inside.Holding.{AreFresh, AreNumbered, HaveBlankZones, HaveMadeNone, HaveMovie, IsUnmade, HasRoom, HoldsAll};
 
 use crate::making::put_movie;
 use std::alloc::{AllocError, Allocator, Global};
@@ -50,6 +50,7 @@ pub fn put_for_all<N: Name, C: CloseOnDrop, A: Allocator + Copy, T: Wait>(
     ensures numbers { AreNumbered seats.new }
     ensures others { HaveMadeNone seats.new }
     ensures movie { OnOk result (HaveMovie movie.now seats.new) }
+    ensures zones { OnOk result (HaveBlankZones seats.new) }
     ensures fault { IfErr result (IsUnmade seats.new) }
 {
     let Some((first, others)) = seats.split_first_mut() else {

@@ -12,7 +12,8 @@ use std::alloc::{AllocError, Global};
 static VERSION: &str = "0.2.0, machine profile 2";
 
 const TAS_HELP: &str = "\
-Each command but 'talk' reads standard input whole before it writes anything to standard output.
+Standard input is read whole before anything is written to standard output; 'talk' reads it line by line,
+and 'desk' leaves it alone.
 Status: 0 done, 1 a fault (one line on standard error), 2 a wrong command line.";
 
 /// A required word that names a file.

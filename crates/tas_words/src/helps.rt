@@ -72,9 +72,9 @@ frames from power-on, addresses 80 to FF, as 256 upper case hexadecimal digits. 
 frames: 0 is power-on, and TO is at most the movie's length and one. Frame K - 1 is the last one that
 is played before line K.
 
-Example, address 81 after each of the first ten frames:
+Example, address 80 after each of the first ten frames:
   examples/cart joystick > joystick.bin
-  ./tas ram joystick.bin 1 11 < examples/joystick.movie | awk '{ print $1, substr($2, 3, 2) }'";
+  ./tas ram joystick.bin 1 11 < examples/joystick.movie | awk '{ print $1, substr($2, 1, 2) }'";
 
 pub(crate) const DIGEST_HELP: &str = "\
 Standard input is the movie text, as for 'tas check'.
@@ -192,8 +192,8 @@ next one is read, so that another program can hold the conversation. It has thes
   quit                       ends the conversation, as the end of standard input does
 AT is the number of edits so far. A line that isn't understood, or longer than 16384 bytes, is
 answered 'unknown' and changes nothing. With CART it starts from this cartridge, with MOVIE from this
-movie. That counts as two edits. A step from a picture to the next one plays one frame. Fill a long movie
-by 'work' in steps, as 'work 4096', 'work 8192': each answer is the progress.
+movie. That counts as two edits. Outside a draft a step from a picture to the next one plays one frame.
+Fill a long movie by 'work' in steps, as 'work 4096', 'work 8192': each answer is the progress.
 A frame is 'RLDUF RLDUF rsbAB': right, left, down, up and fire of the left stick; the same of the right
 stick; reset, select, black and white, left difficulty A, right difficulty A. A dot in a letter's place
 means that it isn't pressed or set.

@@ -1,5 +1,5 @@
 -- Requests of a conversation, by what they are about, and what came of a commit. Private functions cite this file.
-use Rattle.std.specs.Prelude.{◌≡◌, Some, None}
+use Rattle.std.specs.Prelude.{◌≡◌, ◌≢◌, ℕ, Option, Some, None}
 use Rattle.tas_desk.specs.Seats.{SeatContent}
 use Rattle.tas_engines.specs.declared.fault.RunFault.{RunFault}
 use Rattle.tas_engines.specs.declared.fault.RunFault.TheVariants.{Foreign}
@@ -9,7 +9,7 @@ use Rattle.tas_language.specs.declared.request.Request.{Request}
 use Rattle.tas_language.specs.declared.request.Request.TheVariants.{Share, History, Begin, Commit, Drop, Quit}
 use Rattle.tas_seat.specs.Drafts.{DraftContent}
 use Rattle.tas_seat.specs.Conversations.{talking}
-use Rattle.tas_seat.specs.Inside.Outcomes.{IsMiscounted, HasTalkAnswer}
+use Rattle.tas_seat.specs.Outcomes.{IsMiscounted, HasTalkAnswer}
 use Rattle.tas_seat.specs.declared.conversation.Outcome.{Outcome}
 use Rattle.tas_seat.specs.declared.conversation.Outcome.TheVariants.{Made, Moved, Refused}
 use Rattle.tas_seat.specs.declared.conversation.Subject.{Subject}
@@ -24,6 +24,11 @@ subject_of Quit = subject.End
 subject_of Share = subject.Desk
 subject_of (History from) = subject.Desk
 subject_of _ = subject.Movie
+
+-- a history of this many edits has as many as it had, or another number: which, where it has
+abbrev pub HasMoved : ℕ → ℕ → Option ℕ → Type 0
+HasMoved at long None = long ≡ at
+HasMoved at long (Some now) = (long ≢ at) × (now ≡ long)
 
 -- what came of a commit, and its answer
 abbrev pub HasOutcome : (A : Type 0) → SeatContent A → SeatContent A → DraftContent → Outcome → Type 0

@@ -1,7 +1,9 @@
 -- Parts of an answer at a draft. Private functions cite this file.
-use Rattle.std.specs.Prelude.{◌≡◌, ℕ, ◌+◌, ◌<◌, ◌≤◌, List, [], ◌∷◌, length, Some, None, Result, Ok, Err}
+use Rattle.std.specs.Prelude.{◌≡◌, ℕ, ◌+◌, ◌<◌, ◌≤◌, List, [], ◌∷◌, length, drop, reverse, Some, None, Result, Ok, Err}
+use Rattle.vcs_machine.specs.declared.input.Input.{Input}
 use Rattle.tas_movie.specs.declared.edit.Edit.{Edit}
-use Rattle.tas_movie.specs.Content.{most_inputs}
+use Rattle.tas_movie.specs.Content.{MovieContent, most_inputs}
+use Rattle.tas_movie.specs.Front.{IsCommonFront}
 use Rattle.tas_movie.specs.Edit.{edited}
 use Rattle.tas_green.specs.declared.savestate.Savestate.{Savestate}
 use Rattle.tas_green.specs.Green.{IsLawful, IsShotFrom, IsReachedFrom}
@@ -22,9 +24,9 @@ use Rattle.tas_language.specs.declared.request.Request.{Request}
 use Rattle.tas_seat.specs.declared.edit_requests.EditRequest.{EditRequest}
 use Rattle.tas_seat.specs.declared.edit_requests.EditRequest.TheVariants.{Load, Change, Retouch}
 use Rattle.tas_seat.specs.Edits.{made_between}
-use Rattle.tas_seat.specs.Drafts.{DraftContent, draft_standing, left_by_edits, IsDraftAnswered, IsDraftUnanswered}
+use Rattle.tas_seat.specs.Drafts.{DraftContent, draft_standing, left_by_edits, inner_inputs, IsDraftAnswered, IsDraftUnanswered}
 use Rattle.tas_seat.specs.Inside.EditRequests.{requested_refusal, requested_edit}
-use Rattle.tas_seat.specs.Inside.Outcomes.{IsTurnOf}
+use Rattle.tas_seat.specs.Outcomes.{IsTurnOf}
 
 -- the draft with other states
 abbrev pub with_states : DraftContent → List Savestate → DraftContent
@@ -83,3 +85,12 @@ IsDraftReply before now request reply = IsDraftAnswered before request (reply_te
 -- why a request isn't answered at a draft: memory was refused
 abbrev pub HasNoDraftAnswer : (before now : DraftContent) → Request → RunFault → Type 0
 HasNoDraftAnswer before now request fault = (fault ≡ Memory) × IsDraftUnanswered before request now
+
+-- where two movies differ: after this many inputs that they begin with, and before those with which the rests end, the one has these, the
+-- other those
+pub record Differ (base new : MovieContent) (front : ℕ) (olds news : List Input) : Type 0 where
+  pub back : ℕ
+  pub begins : IsCommonFront base.inputs new.inputs front
+  pub ends : IsCommonFront (reverse (drop front base.inputs)) (reverse (drop front new.inputs)) back
+  pub olds_are : olds ≡ inner_inputs front back base.inputs
+  pub news_are : news ≡ inner_inputs front back new.inputs

@@ -12,7 +12,7 @@ use Rattle.tas_language.specs.declared.request.Request.TheVariants.{Quit}
 use Rattle.tas_language.specs.Requests.{IsHeard}
 use Rattle.tas_language.specs.Held.{HoldsLine}
 use Rattle.tas_seat.specs.Conversations.{TalkingSeat}
-use Rattle.tas_seat.specs.Inside.Outcomes.{IsMiscounted}
+use Rattle.tas_seat.specs.Outcomes.{IsMiscounted}
 use Rattle.tas_seat.specs.Talk.{Exchange, AreExchanges, IsQuit, HasLooked, IsCarriedOut, lines_of, answers_of, most_counted}
 
 -- a write of an answer failed, after this many bytes: its first bytes went out

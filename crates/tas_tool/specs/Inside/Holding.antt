@@ -14,6 +14,7 @@ use Rattle.tas_engines.specs.declared.fault.ToolFault.TheVariants.{Read, Run}
 use Rattle.tas_engines.specs.Input.{IsReadWhole, StopsReadingTwo}
 use Rattle.tas_engines.specs.Movies.{IsMovieOf, IsMovieFault}
 use Rattle.tas_seat.specs.Lines.{DoorFacts, IsHeld}
+use Rattle.tas_tool.specs.Desks.{IsBlankZone}
 use Rattle.tas_tool.specs.Inside.TwoEdits.{HoldsMovie, IsMakingFault}
 
 -- seats have the numbers from 0 on
@@ -24,9 +25,13 @@ AreNumbered {A} seats = (k : ℕ) (seat : SeatContent A) → slice_get seats k �
 abbrev pub HaveMadeNone : {A : Type 0} → List (SeatContent A) → Type 0
 HaveMadeNone {A} seats = (k : ℕ) (seat : SeatContent A) → slice_get seats (suc k) ≡ Some seat → seat.made ≡ 0
 
+-- their greenzones are empty
+abbrev pub HaveBlankZones : {A : Type 0} → List (SeatContent A) → Type 0
+HaveBlankZones {A} seats = (k : ℕ) (seat : SeatContent A) → slice_get seats k ≡ Some seat → IsBlankZone seat.zone
+
 -- the seats of a desk that was just opened
 abbrev pub AreFresh : {A : Type 0} → List (SeatContent A) → Type 0
-AreFresh {A} seats = (k : ℕ) (seat : SeatContent A) → slice_get seats k ≡ Some seat → (seat.number ≡ k) × (seat.made ≡ 0) × (seat.front ≡ [])
+AreFresh {A} seats = (k : ℕ) (seat : SeatContent A) → slice_get seats k ≡ Some seat → (seat.number ≡ k) × (seat.made ≡ 0) × (seat.front ≡ []) × IsBlankZone seat.zone
 
 -- the first seat made a movie by two edits, and all have seen them
 pub record HaveMovie {A : Type 0} (movie : MovieContent) (seats : List (SeatContent A)) : Type 0 where

@@ -3,7 +3,7 @@ use Rattle.std.proofs.lemmas.Result.{IfOk-weaker}
 use Rattle.tas_language.specs.declared.reply.Reply.TheVariants.{OutOfMemory}
 use Rattle.tas_language.specs.Replies.{reply_text}
 use Rattle.tas_language.specs.declared.request.Request.TheVariants.{History}
-use Rattle.tas_seat.specs.Inside.Outcomes.{HasAnswer}
+use Rattle.tas_seat.specs.Outcomes.{HasAnswer}
 use Rattle.tas_seat.proofs.AnswerLemmas.{told_text, answered_or, history_answered, lost_history}
 use Rattle.tas_seat.proofs.HistoryTextLemmas.{told_within}
 use Rattle.tas_seat.proofs.histories.answer_history.Goals as goal

@@ -1,7 +1,7 @@
 use Rattle.std.proofs.Common.{◌∙◌, refl}
 use Rattle.std.proofs.lemmas.Result.{IfOk-weaker}
 use Rattle.tas_language.specs.declared.request.Request.TheVariants.{Digest}
-use Rattle.tas_seat.specs.Inside.Outcomes.{unshown_as}
+use Rattle.tas_seat.specs.Outcomes.{unshown_as}
 use Rattle.tas_seat.proofs.AnswerLemmas.{answered_or, shown_answered}
 use Rattle.tas_seat.proofs.ReachLemmas.{shown_as, unreached_digest, frame_within, digest_answered, lost_digest}
 use Rattle.tas_seat.proofs.looks.answer_digest.Goals as goal

@@ -2,7 +2,7 @@ use Rattle.std.proofs.Common.{◌∙◌, ap, length, subst, sym, arith}
 use Rattle.std.proofs.lemmas.Result.{IfOk-weaker}
 use Rattle.tas_movie.specs.Content.{MovieContent}
 use Rattle.tas_language.specs.declared.request.Request.TheVariants.{Lag}
-use Rattle.tas_seat.specs.Inside.Outcomes.{unshown_as, HasAnswer}
+use Rattle.tas_seat.specs.Outcomes.{unshown_as, HasAnswer}
 use Rattle.tas_seat.proofs.AnswerLemmas.{answered_or, shown_answered}
 use Rattle.tas_seat.proofs.ReachLemmas.{shown_as, unreached_lag, lag_answered, lost_lag}
 use Rattle.tas_seat.proofs.looks.answer_lag.Goals as goal

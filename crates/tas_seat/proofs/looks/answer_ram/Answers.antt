@@ -1,7 +1,7 @@
 use Rattle.std.proofs.Common.{subst, sym}
 use Rattle.std.proofs.lemmas.Result.{IfOk-weaker}
 use Rattle.tas_language.specs.declared.request.Request.TheVariants.{Ram}
-use Rattle.tas_seat.specs.Inside.Outcomes.{unshown_as, HasAnswer}
+use Rattle.tas_seat.specs.Outcomes.{unshown_as, HasAnswer}
 use Rattle.tas_seat.proofs.AnswerLemmas.{answered_or, shown_answered}
 use Rattle.tas_seat.proofs.ReachLemmas.{shown_as, unreached_ram, ram_answered, lost_ram}
 use Rattle.tas_seat.proofs.looks.answer_ram.Goals as goal

@@ -1,7 +1,7 @@
 use Rattle.std.proofs.Common.{subst, sym}
 use Rattle.std.proofs.lemmas.Result.{IfOk-weaker}
 use Rattle.tas_language.specs.declared.request.Request.TheVariants.{Picture}
-use Rattle.tas_seat.specs.Inside.Outcomes.{unshown_as, HasAnswer}
+use Rattle.tas_seat.specs.Outcomes.{unshown_as, HasAnswer}
 use Rattle.tas_seat.proofs.AnswerLemmas.{answered_or, shown_answered, picture_answered, lost_picture, undrawn}
 use Rattle.tas_seat.proofs.requests.answer_picture.Goals as goal
 

@@ -6,7 +6,7 @@ use Rattle.tas_language.specs.Answers.{states_text}
 use Rattle.tas_language.specs.Replies.{reply_text}
 use Rattle.tas_language.specs.declared.request.Request.TheVariants.{States}
 use Rattle.tas_seat.specs.Requests.{kept_frames}
-use Rattle.tas_seat.specs.Inside.Outcomes.{HasAnswer}
+use Rattle.tas_seat.specs.Outcomes.{HasAnswer}
 use Rattle.tas_seat.proofs.AnswerLemmas.{told_text, answered_or, states_answered, unshared_states, unwritten_states}
 use Rattle.tas_seat.proofs.requests.answer_states.Goals as goal
 

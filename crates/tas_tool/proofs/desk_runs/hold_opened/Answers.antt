@@ -31,5 +31,5 @@ pub returns-clause-history : goal.returns-clause-history
 returns-clause-history g c =
     let back = whole_back c.put_for_all.new.seats _ _ _ (sym (c.put_for_all.ensures.count ∙ c.as_mut_slice.ensures.len)) refl in
     desk_history g.D.Door.facts c.args.movie c.args.doors.now.items c.hold_made.new.doors.items c.put_for_all.new.seats _ _
-    (c.put_for_all.ensures.count ∙ ap (λ l. length l) c.as_mut_slice.ensures.value ∙ c.requires.count.1 ∙ sym c.requires.count.0) c.in_default.ensures.movie c.put_for_all.ensures.numbers c.put_for_all.ensures.others
+    (c.put_for_all.ensures.count ∙ ap (λ l. length l) c.as_mut_slice.ensures.value ∙ c.requires.count.1 ∙ sym c.requires.count.0) c.in_default.ensures.movie c.put_for_all.ensures.numbers c.put_for_all.ensures.others c.in_default.ensures.zones
     (held_as g.D.Door.facts c.args.doors.now.items _ c.hold_made.new.doors.items c.put_for_all.new.seats _ _ _ refl back c.hold_made.ensures.history)

@@ -1,13 +1,14 @@
 use Rattle.std.proofs.Common.{List, refl, subst, ◌∙◌}
 use Rattle.tas_desk.specs.Seats.{SeatContent}
 use Rattle.tas_tool.specs.Inside.Holding.{AreFresh}
-use Rattle.tas_tool.proofs.HoldingLemmas.{fresh_numbered, all_met, not_met}
+use Rattle.tas_tool.proofs.HoldingLemmas.{fresh_numbered, all_met, not_met, zones_blank}
 use Rattle.tas_tool.proofs.holding.put_for_all.Goals as goal
 
 pub put_movie-requires : goal.put_movie-requires
 put_movie-requires g c =
     let fresh = subst (λ (l : List (SeatContent _)). AreFresh l) c.in-Some.ensures.cases.0 c.requires.fresh in
-    record { first = fresh 0 c.in-Some.first.now refl }
+    let seat = fresh 0 c.in-Some.first.now refl in
+    record { first = (seat.0, seat.1, seat.2) }
 
 pub returns-in_err-put_movie-clause-numbers : goal.returns-in_err-put_movie-clause-numbers
 returns-in_err-put_movie-clause-numbers g c =
@@ -32,3 +33,8 @@ returns-clause-others g c =
 pub returns-clause-movie : goal.returns-clause-movie
 returns-clause-movie g c =
     all_met c.args.movie.now c.put_movie.new.seat c.meet_all.new.first c.in-Some.others.now c.meet_all.new.others c.in_ok-put_movie.ensures.holds c.meet_all.ensures.first.seen c.meet_all.auto.others c.meet_all.ensures.met
+
+pub returns-clause-zones : goal.returns-clause-zones
+returns-clause-zones g c =
+    let fresh = subst (λ (l : List (SeatContent _)). AreFresh l) c.in-Some.ensures.cases.0 c.requires.fresh in
+    zones_blank c.in-Some.first.now c.meet_all.new.first c.in-Some.others.now c.meet_all.new.others fresh (c.meet_all.ensures.first.zone ∙ c.put_movie.ensures.zone) c.meet_all.auto.others c.meet_all.ensures.others

@@ -2,7 +2,7 @@ use Rattle.std.proofs.Common.{refl, subst, sym, length, ◌∙◌, ◌<◌}
 use Rattle.std.proofs.lemmas.Result.{IfOk-weaker}
 use Rattle.tas_movie.specs.Content.{MovieContent}
 use Rattle.tas_language.specs.declared.request.Request.TheVariants.{Digest}
-use Rattle.tas_seat.specs.Inside.Outcomes.{unshown_as, IsDigest}
+use Rattle.tas_seat.specs.Outcomes.{unshown_as, IsDigest}
 use Rattle.tas_seat.proofs.DraftLemmas.{answered_or, shown_answered, unshown_error, unreached_digest, digest_answered, lost_digest, frame_within, movie_kept}
 use Rattle.tas_seat.proofs.draft.Draft.answer_digest.Goals as goal
 

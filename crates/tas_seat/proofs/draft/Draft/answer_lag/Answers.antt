@@ -5,7 +5,7 @@ use Rattle.tas_engines.specs.Lag.{lag_lines_between}
 use Rattle.tas_language.specs.declared.request.Request.TheVariants.{Lag}
 use Rattle.tas_language.specs.Answers.{lag_text}
 use Rattle.tas_seat.specs.Drafts.{IsDraftAnswered}
-use Rattle.tas_seat.specs.Inside.Outcomes.{unshown_as}
+use Rattle.tas_seat.specs.Outcomes.{unshown_as}
 use Rattle.tas_seat.proofs.DraftLemmas.{answered_or, shown_answered, unshown_error, unreached_lag, lag_answered, lost_lag, movie_kept}
 use Rattle.tas_seat.proofs.draft.Draft.answer_lag.Goals as goal
 

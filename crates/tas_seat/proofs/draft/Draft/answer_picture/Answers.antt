@@ -2,7 +2,7 @@ use Rattle.std.proofs.Common.{subst, sym, List, ℕ}
 use Rattle.std.proofs.lemmas.Result.{IfOk-weaker}
 use Rattle.tas_language.specs.declared.request.Request.TheVariants.{Picture}
 use Rattle.tas_seat.specs.Drafts.{IsDraftAnswered}
-use Rattle.tas_seat.specs.Inside.Outcomes.{unshown_as}
+use Rattle.tas_seat.specs.Outcomes.{unshown_as}
 use Rattle.tas_seat.proofs.DraftLemmas.{answered_or, shown_answered, picture_answered, lost_picture, undrawn}
 use Rattle.tas_seat.proofs.draft.Draft.answer_picture.Goals as goal
 

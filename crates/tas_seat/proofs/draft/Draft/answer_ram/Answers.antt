@@ -2,7 +2,7 @@ use Rattle.std.proofs.Common.{subst, sym, List, ℕ}
 use Rattle.std.proofs.lemmas.Result.{IfOk-weaker}
 use Rattle.tas_language.specs.declared.request.Request.TheVariants.{Ram}
 use Rattle.tas_seat.specs.Drafts.{IsDraftAnswered}
-use Rattle.tas_seat.specs.Inside.Outcomes.{unshown_as}
+use Rattle.tas_seat.specs.Outcomes.{unshown_as}
 use Rattle.tas_seat.proofs.DraftLemmas.{answered_or, shown_answered, unshown_error, unreached_ram, ram_answered, lost_ram}
 use Rattle.tas_seat.proofs.draft.Draft.answer_ram.Goals as goal
 

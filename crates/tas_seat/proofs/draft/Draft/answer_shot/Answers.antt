@@ -2,7 +2,7 @@ use Rattle.tas_language.specs.declared.command.Command.TheVariants.{Shot}
 use Rattle.tas_language.specs.declared.reply.Reply.TheVariants.{Drawn}
 use Rattle.tas_language.specs.Replies.{reply_text}
 use Rattle.tas_language.specs.declared.request.Request.TheVariants.{Do}
-use Rattle.tas_seat.specs.Inside.Outcomes.{unshown_as}
+use Rattle.tas_seat.specs.Outcomes.{unshown_as}
 use Rattle.tas_seat.proofs.DraftLemmas.{told_text, shown_answered, shot_answered, unshot}
 use Rattle.tas_seat.proofs.draft.Draft.answer_shot.Goals as goal
 

@@ -18,5 +18,5 @@ pub returns : goal.returns
 returns g c =
     let d : DraftContent = record { at = c.self.inside.at; base = c.self.inside.base; movie = c.self.inside.movie; made = c.self.inside.made; states = c.self.inside.green } in
     let e = c.in-Ok-merge.ensures in
-    work_answered c.args.self.now d c.merge.new.self c.args.frame c.in-Ok-merge.merged.kept c.self.view_is
+    work_answered c.args.self.now d c.merge.new.self c.args.frame c.in-Ok-merge.merged.kept c.self.view_is e.kept
     (gains d c.merge.new.self (λ (f : ℕ). where_true (is_on_grid (stride (length d.movie.inputs)) c.in-Ok-merge.merged.front f) (state_at f c.run-batch.result.states)) c.in-Ok-merge.merged.kept c.self.invariant.lawful e.lawful e.states e.kept)

@@ -1,4 +1,4 @@
-use Rattle.tas_seat_tests.proofs.turn_tests.play.Given as goal
+use Rattle.tas_seat_tests.proofs.turns.play.Given as goal
 
 abbrev pub ghosts-play_at-N-Ledger : goal.ghosts-play_at-N-Ledger
 ghosts-play_at-N-Ledger g a = record { name = a.unopened.ledger; parts = a.unopened.seats }

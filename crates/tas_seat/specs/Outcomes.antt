@@ -1,4 +1,4 @@
--- Parts of an answer to a request, and why there is none. Private functions cite this file.
+-- What came of a request: an answer, or a fault. What else is here gives names to parts of an answer, for private functions.
 use Rattle.std.specs.Prelude.{◌≡◌, ℕ, List, [], ◌∷◌, length, Bool, Option, Some, Result, Ok, Err, ◌⊎◌}
 use Rattle.vcs_cpu.specs.declared.halt.Halt.{Halt}
 use Rattle.tas_movie.specs.Content.{MovieContent}
