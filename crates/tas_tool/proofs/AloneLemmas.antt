@@ -1,7 +1,8 @@
 -- A conversation on a desk of one seat: each line is answered at what the lines before it made.
 use Rattle.std.proofs.Common.{◌≡◌, ℕ, ◌+◌, ◌≤◌, List, [], ◌∷◌, ◌++◌, length, take, drop, Bool, true, false, Option, Some, None, Result, Ok, Err, inl, inr, refl, sym, ap, subst, ◌∙◌, arith, append-nil}
 use Rattle.std.specs.Prelude.{map, if◌then◌else◌, ◌==◌, nat_lt}
-use Rattle.std.proofs.lemmas.List.{length-map, take-map, drop-map}
+use Rattle.std.proofs.lemmas.Bool.{eqb-true}
+use Rattle.std.proofs.lemmas.List.{length-map, map-append, take-map, drop-map}
 use Rattle.std.specs.Io.KnownBytes.{Consumes}
 use mathlib.Core.List.{IsPrefix}
 use Rattle.tas_movie.specs.Text.{line}
@@ -11,12 +12,19 @@ use Rattle.tas_movie.specs.declared.edit.Edit.{Edit}
 use Rattle.tas_movie.specs.declared.edit.Edit.TheVariants.{Load, Insert, Replace, Delete}
 use Rattle.tas_movie.specs.declared.edit.EditRefusal.{EditRefusal}
 use Rattle.tas_movie.specs.Edit.{refusal, first_refusal, changed, edited, edited_unless}
+use Rattle.tas_language.specs.declared.change.Change.{Change}
+use Rattle.tas_language.specs.declared.change.Change.TheVariants as change
+use Rattle.tas_language.specs.declared.command.Command.{Command}
+use Rattle.tas_language.specs.declared.command.Command.TheVariants as command
+use Rattle.tas_language.specs.declared.retouch.Retouch.{Retouch}
+use Rattle.tas_language.specs.declared.retouch.Retouch.TheVariants as retouch
 use Rattle.tas_session.specs.declared.entry.Entry.{Entry}
-use Rattle.tas_session.specs.History.{most_edits, movie_of, movie_from, entries_of}
-use Rattle.tas_desk.specs.Seats.{SeatContent}
+use Rattle.tas_session.specs.History.{most_edits, movie_of, entries_of}
+use Rattle.tas_desk.specs.Seats.{SeatContent, entry_of}
 use Rattle.tas_desk.specs.Zones.{ZoneContent}
 use Rattle.tas_desk.proofs.SeatLemmas.{count_by-cons}
-use Rattle.tas_engines.specs.Changes.{EditContent}
+use Rattle.tas_engines.specs.Changes.{EditContent, edit_on}
+use Rattle.tas_engines.specs.Retouching.{retouch_on}
 use Rattle.tas_engines.specs.declared.fault.ToolFault.{ToolFault}
 use Rattle.tas_engines.specs.declared.fault.ToolFault.TheVariants.{Read, Run, Seat}
 use Rattle.tas_engines.specs.declared.fault.ReadFault.TheVariants.{TooLong, Failed, Memory as NoRoom}
@@ -30,6 +38,7 @@ use Rattle.tas_language.specs.Answers.{history_text}
 use Rattle.tas_language.specs.declared.request.Request.{Request}
 use Rattle.tas_language.specs.declared.request.Request.TheVariants.{Do, Retouch, Picture, Pictures, Ram, Digest, Lag, Movie, States, Share, History, Begin, Commit, Drop, Quit}
 use Rattle.tas_seat.specs.HistoryText.{entry_lines, history_reply_text}
+use Rattle.tas_seat.specs.Edits.{edits_by_command, requested_edits, made_between}
 use Rattle.tas_seat.specs.Requests.{TalkState, IsAnswerTo as IsAnswerAt}
 use Rattle.tas_seat.specs.Seats.{most_entries, talk_state_at, IsSeatAfter, IsAnsweredAt, StripAnswer as SeatAnswer, AreStrip as AreSeatStrip, strip_answers as seat_answers, entries_from, IsHistoryAnswered, IsRequestAnswered}
 use Rattle.tas_seat.specs.Drafts.{DraftContent, inner_inputs, stroke_of, IsStroke, LeadsTo, HasStroke}
@@ -39,7 +48,7 @@ use Rattle.tas_seat.specs.Turns.{Standing, standing_of, refusal_reply}
 use Rattle.tas_seat.proofs.CommitLemmas.{made_after, made_by_entries}
 use Rattle.tas_seat.specs.Talk.{Exchange as SeatExchange, IsExchange as IsSeatExchange, AreExchanges as AreSeatExchanges, TalkEnds as SeatEnds, IsTalk as IsSeatTalk, lines_of as seat_lines, answers_of as seat_texts, edits_of}
 use Rattle.tas_seat.proofs.HistoryLemmas.{Leaves, prefix_length, by_length, by_rest, front_length, leaves_after, strip_leaves, exchange_leaves, exchanges_leave, rested, Rested}
-use Rattle.tas_tool.specs.Talk.{EntryContent, StripAnswer, AreStrip, strip_answers, IsOwnHistory, IsAnswerTo, DraftedState, drafted, IsOwnCommit, IsOutsideAnswer, IsInsideAnswer, IsDraftedAnswer, IsLineAnswer, Exchange, IsExchange, AreExchanges, TalkEnds, IsTalk, lines_of, answers_of}
+use Rattle.tas_tool.specs.Talk.{StripAnswer, AreStrip, strip_answers, own_entries, IsOwnHistory, IsAnswerTo, edits_between, DraftedState, drafted, IsOwnCommit, IsOutsideAnswer, IsInsideAnswer, IsDraftedAnswer, IsLineAnswer, Exchange, IsExchange, AreExchanges, TalkEnds, IsTalk, lines_of, answers_of}
 use Rattle.tas_tool.specs.Inside.Alone.{SeesOwn}
 
 -- what the seat has seen comes to, and its greenzone
@@ -48,20 +57,35 @@ state_of seat = talk_state_at seat.front seat.zone
 
 -- ---- nobody else's edits stand between a seat's own
 
+one_few : (b : Bool) → (if b then 1 else 0) ≤ 1
+one_few true = omega arith
+one_few false = omega arith
+
+entries_few : {A : Type 0} (n : ℕ) (zs : List (Entry A)) → entries_of n zs ≤ length zs
+entries_few n [] = omega arith
+entries_few {A} n (z ∷ zs) = omega (arith, count_by-cons (λ (e : Entry A). e.seat == n) z zs, one_few (z.seat == n), entries_few n zs)
+
 -- a beginning of a history that has a seat's entries alone has these alone
 pub alone_before : {A : Type 0} (n : ℕ) (xs ys : List (Entry A)) → IsPrefix xs ys → entries_of n ys ≡ length ys → entries_of n xs ≡ length xs
 alone_before {A} n xs ys p alone =
     let few = entries_few n xs in
     let rest = entries_few n p.0 in
     omega (arith, few, rest, alone, prefix_length xs ys p, by_rest n xs ys p, by_length n xs, by_length n ys, by_length n p.0)
-  where
-    one_few : (b : Bool) → (if b then 1 else 0) ≤ 1
-    one_few true = omega arith
-    one_few false = omega arith
 
-    entries_few : (n : ℕ) (zs : List (Entry A)) → entries_of n zs ≤ length zs
-    entries_few n [] = omega arith
-    entries_few n (z ∷ zs) = omega (arith, count_by-cons (λ (e : Entry A). e.seat == n) z zs, one_few (z.seat == n), entries_few n zs)
+-- where all entries are a seat's, the first one is, and so are those after it
+first_alone : {A : Type 0} (n : ℕ) (entry : Entry A) (entries : List (Entry A)) → entries_of n (entry ∷ entries) ≡ length (entry ∷ entries) → (entry.seat ≡ n) × (entries_of n entries ≡ length entries)
+first_alone {A} n entry entries alone = go (entry.seat == n) refl
+  where
+    one : entries_of n (entry ∷ entries) ≡ (if entry.seat == n then 1 else 0) + entries_of n entries
+    one = count_by-cons (λ (e : Entry A). e.seat == n) entry entries
+
+    go : (b : Bool) → entry.seat == n ≡ b → (entry.seat ≡ n) × (entries_of n entries ≡ length entries)
+    go true e =
+        let counted : ◌≡◌ {A = ℕ} (if entry.seat == n then 1 else 0) 1 = rw e refl in
+        (eqb-true entry.seat n e, omega (arith, one, counted, alone))
+    go false e =
+        let counted : ◌≡◌ {A = ℕ} (if entry.seat == n then 1 else 0) 0 = rw e refl in
+        absurd (omega (arith, one, counted, alone, entries_few n entries))
 
 -- a seat that leaves one which sees its own edits alone sees them alone, too
 pub sees_before : {A : Type 0} (seat last : SeatContent A) (edits : List (Edit A)) → Leaves seat last edits → SeesOwn last → SeesOwn seat
@@ -85,7 +109,7 @@ at_front {A} seat next at edits is seen own =
     let none : is.begins.0 ≡ [] = none_left is.begins.0 (omega (arith, seen, own.few, is.made, front_length seat next at edits is, prefix_length seat.front at is.begins)) in
     sym is.begins.1 ∙ ap (λ (l : List (Entry A)). seat.front ++ l) none ∙ append-nil seat.front
 
--- ---- entries, whatever allocator their edits are on
+-- ---- edits, whatever allocator they are on
 
 abbrev edit_content : {A : Type 0} → Edit A → EditContent
 edit_content (Load cart) = Load cart
@@ -93,8 +117,12 @@ edit_content (Insert at inputs) = Insert at inputs
 edit_content (Replace at inputs) = Replace at inputs
 edit_content (Delete at count) = Delete at count
 
-abbrev entry_content : {A : Type 0} → Entry A → EntryContent
-entry_content entry = record { seat = entry.seat; serial = entry.serial; edit = edit_content entry.edit }
+abbrev pub contents : {A : Type 0} → List (Edit A) → List EditContent
+contents {A} edits = map (λ (e : Edit A). edit_content e) edits
+
+-- the edits of a history
+abbrev pub edits_seen : {A : Type 0} → List (Entry A) → List EditContent
+edits_seen {A} entries = map (λ (e : Entry A). edit_content e.edit) entries
 
 same_refusal : {A : Type 0} (movie : MovieContent) (edit : Edit A) → refusal movie (edit_content edit) ≡ refusal movie edit
 same_refusal movie (Load cart) = refl
@@ -121,35 +149,121 @@ same_text number seat (Insert at inputs) = refl
 same_text number seat (Replace at inputs) = refl
 same_text number seat (Delete at count) = refl
 
-same_movie : {A : Type 0} (movie : MovieContent) (entries : List (Entry A)) → movie_from movie (map (λ (e : Entry A). entry_content e) entries) ≡ movie_from movie entries
-unfolding movie_from
-same_movie movie [] = refl
-same_movie {A} movie (entry ∷ entries) =
-    ap (λ (m : MovieContent). movie_from m (map (λ (e : Entry A). entry_content e) entries)) (same_edited movie entry.edit) ∙ same_movie (edited movie entry.edit) entries
+-- what the lines of a history report of an entry
+pub record Reported : Type 0 where
+  pub seat : ℕ
+  pub edit : EditContent
 
-same_lines : {A : Type 0} (number : ℕ) (entries : List (Entry A)) → entry_lines number (map (λ (e : Entry A). entry_content e) entries) ≡ entry_lines number entries
-unfolding entry_lines
+abbrev reported : {A : Type 0} → Entry A → Reported
+reported entry = record { seat = entry.seat; edit = edit_content entry.edit }
+
+abbrev all_reported : {A : Type 0} → List (Entry A) → List Reported
+all_reported {A} entries = map (λ (e : Entry A). reported e) entries
+
+reported_lines : ℕ → List Reported → List ℕ
+reported_lines number [] = []
+reported_lines number (entry ∷ entries) = entry_text number entry.seat entry.edit ++ reported_lines (number + 1) entries
+
+same_lines : {A : Type 0} (number : ℕ) (entries : List (Entry A)) → entry_lines number entries ≡ reported_lines number (all_reported entries)
+unfolding entry_lines reported_lines
 same_lines number [] = refl
 same_lines {A} number (entry ∷ entries) =
-    ap (λ (l : List ℕ). l ++ entry_lines (number + 1) (map (λ (e : Entry A). entry_content e) entries)) (same_text number entry.seat entry.edit)
-    ∙ ap (λ (l : List ℕ). entry_text number entry.seat entry.edit ++ l) (same_lines (number + 1) entries)
+    ap (λ (l : List ℕ). l ++ entry_lines (number + 1) entries) (sym (same_text number entry.seat entry.edit))
+    ∙ ap (λ (l : List ℕ). entry_text number entry.seat (edit_content entry.edit) ++ l) (same_lines (number + 1) entries)
 
-same_count : {A : Type 0} (n : ℕ) (entries : List (Entry A)) → entries_of n (map (λ (e : Entry A). entry_content e) entries) ≡ entries_of n entries
-same_count n [] = refl
-same_count {A} n (entry ∷ entries) =
-    let one = count_by-cons (λ (e : EntryContent). e.seat == n) (entry_content entry) (map (λ (e : Entry A). entry_content e) entries) in
-    let other = count_by-cons (λ (e : Entry A). e.seat == n) entry entries in
-    omega (arith, one, other, same_count n entries)
+same_reply : {A : Type 0} (made from : ℕ) (entries : List (Entry A)) → history_reply_text made from entries ≡ history_text made from (length (all_reported entries)) (reported_lines from (all_reported entries))
+same_reply {A} made from entries =
+    ap (λ (n : ℕ). history_text made from n (entry_lines from entries)) (sym (length-map entries (λ (e : Entry A). reported e)))
+    ∙ ap (λ (l : List ℕ). history_text made from (length (all_reported entries)) l) (same_lines from entries)
 
-same_told : {A : Type 0} (made from most : ℕ) (entries : List (Entry A)) → history_reply_text made from (take most (drop from (map (λ (e : Entry A). entry_content e) entries))) ≡ history_reply_text made from (take most (drop from entries))
-same_told {A} made from most entries =
-    let content : Entry A → EntryContent = λ (e : Entry A). entry_content e in
-    let part : List (Entry A) = take most (drop from entries) in
-    let moved : take most (drop from (map content entries)) ≡ map content part =
-    ap (λ (l : List EntryContent). take most l) (drop-map content from entries) ∙ take-map content most (drop from entries) in
-    ap (λ (l : List EntryContent). history_reply_text made from l) moved
-    ∙ ap (λ (n : ℕ). history_text made from n (entry_lines from (map content part))) (length-map part content)
-    ∙ ap (λ (l : List ℕ). history_text made from (length part) l) (same_lines from part)
+part_reported : {A : Type 0} (from most : ℕ) (entries : List (Entry A)) → all_reported (take most (drop from entries)) ≡ take most (drop from (all_reported entries))
+part_reported {A} from most entries =
+    let each : Entry A → Reported = λ (e : Entry A). reported e in
+    sym (ap (λ (l : List Reported). take most l) (drop-map each from entries) ∙ take-map each most (drop from entries))
+
+-- histories of which the same is reported are answered alike
+same_history : {A B : Type 0} (made from most : ℕ) (xs : List (Entry A)) (ys : List (Entry B)) → all_reported xs ≡ all_reported ys
+    → history_reply_text made from (take most (drop from xs)) ≡ history_reply_text made from (take most (drop from ys))
+same_history {A} {B} made from most xs ys same =
+    let parts : all_reported (take most (drop from xs)) ≡ all_reported (take most (drop from ys)) =
+    part_reported from most xs ∙ ap (λ (l : List Reported). take most (drop from l)) same ∙ sym (part_reported from most ys) in
+    same_reply made from (take most (drop from xs))
+    ∙ ap (λ (l : List Reported). history_text made from (length l) (reported_lines from l)) parts
+    ∙ sym (same_reply made from (take most (drop from ys)))
+
+-- of a history that is a seat's alone the same is reported as of its edits
+own_reported : {A : Type 0} (serial : ℕ) (front : List (Entry A)) → entries_of 0 front ≡ length front → all_reported front ≡ all_reported (entries_from 0 serial (edits_seen front))
+own_reported serial [] alone = refl
+own_reported {A} serial (entry ∷ front) alone =
+    let first = first_alone 0 entry front alone in
+    let rest : List Reported = all_reported (entries_from 0 (serial + 1) (edits_seen front)) in
+    ap (λ (l : List Reported). reported entry ∷ l) (own_reported (serial + 1) front first.1)
+    ∙ ap (λ (n : ℕ). let x : Reported = record { seat = n; edit = edit_content entry.edit } in x ∷ rest) first.0
+
+-- ---- the edits that a line makes
+
+same_changes : {A : Type 0} (change : Change) → edit_content (edit_on A change) ≡ edit_on (Unit {0}) change
+same_changes (change.Insert at count input) = refl
+same_changes (change.Replace at count input) = refl
+same_changes (change.Delete at count) = refl
+
+same_retouch : {A : Type 0} (inputs : List Input) (retouch : Retouch) → edit_content (retouch_on A inputs retouch) ≡ retouch_on (Unit {0}) inputs retouch
+same_retouch inputs (retouch.Press at count input) = refl
+same_retouch inputs (retouch.Release at count input) = refl
+same_retouch inputs (retouch.Repeat at count times) = refl
+same_retouch inputs (retouch.Copy from count at) = refl
+
+same_command : (A : Type 0) (command : Command) → contents (edits_by_command A command) ≡ edits_by_command (Unit {0}) command
+same_command A (command.Load image) = refl
+same_command A (command.Edit change) = ap (λ (e : EditContent). e ∷ []) (same_changes {A = A} change)
+same_command A command.Length = refl
+same_command A (command.InputAt k) = refl
+same_command A (command.Shot k) = refl
+same_command A (command.Work k) = refl
+
+same_requested : (A : Type 0) (movie : MovieContent) (request : Request) → contents (requested_edits A movie request) ≡ requested_edits (Unit {0}) movie request
+same_requested A movie (Do command) = same_command A command
+same_requested A movie (Retouch retouch) = ap (λ (e : EditContent). e ∷ []) (same_retouch {A = A} movie.inputs retouch)
+same_requested A movie (Picture k) = refl
+same_requested A movie (Pictures from to) = refl
+same_requested A movie (Ram k) = refl
+same_requested A movie (Digest k) = refl
+same_requested A movie (Lag a b) = refl
+same_requested A movie Movie = refl
+same_requested A movie States = refl
+same_requested A movie Share = refl
+same_requested A movie (History from) = refl
+same_requested A movie Begin = refl
+same_requested A movie Commit = refl
+same_requested A movie Drop = refl
+same_requested A movie Quit = refl
+
+same_between : {A : Type 0} (old new : Standing) (edits : List (Edit A)) → contents (made_between old new edits) ≡ made_between old new (contents edits)
+same_between {A} old new edits = go (new.made == old.made)
+  where
+    go : (b : Bool) → contents {A = A} (if b then [] else edits) ≡ (if b then [] else contents edits)
+    go true = refl
+    go false = refl
+
+none_between : (old new : Standing) → made_between {A = Unit {0}} old new [] ≡ []
+none_between old new = go (new.made == old.made)
+  where
+    go : (b : Bool) → ◌≡◌ {A = List EditContent} (if b then [] else []) []
+    go true = refl
+    go false = refl
+
+edits_from : {A : Type 0} (number serial : ℕ) (edits : List (Edit A)) → edits_seen (entries_from number serial edits) ≡ contents edits
+edits_from number serial [] = refl
+edits_from {A} number serial (edit ∷ edits) = ap (λ (l : List EditContent). edit_content edit ∷ l) (edits_from number (serial + 1) edits)
+
+-- what a seat has seen after it made these edits, where it has seen its own alone
+grown : {A : Type 0} (before now : SeatContent A) (at : List (Entry A)) (edits : List (Edit A)) → IsSeatAfter before at edits now → before.made ≤ length before.front → SeesOwn now → edits_seen now.front ≡ edits_seen before.front ++ contents edits
+grown {A} before now at edits is seen own =
+    let content : Entry A → EditContent = λ (e : Entry A). edit_content e.edit in
+    ap (λ (l : List (Entry A)). map content l) is.front
+    ∙ map-append content at (entries_from before.number before.made edits)
+    ∙ ap (λ (l : List EditContent). map content at ++ l) (edits_from before.number before.made edits)
+    ∙ ap (λ (l : List (Entry A)). map content l ++ contents edits) (at_front before now at edits is seen own)
 
 -- ---- one line
 
@@ -181,29 +295,35 @@ own_strip A seat last from (shown ∷ strip) is seen own =
       own_strip A shown.next last (from + 1) strip is.1 (seen_after seat shown.next [] (leaves_after seat shown.next is.0.at [] is.0.seat) seen) own,
     )
 
+strip_front : {A : Type 0} (seat last : SeatContent A) (from : ℕ) (strip : List (SeatAnswer A)) → AreSeatStrip seat from strip last → seat.made ≤ length seat.front → SeesOwn last → last.front ≡ seat.front
+strip_front {A} seat last from strip are seen own =
+    let left : Leaves seat last [] = strip_leaves seat last from strip are in
+    let none : left.seen.0 ≡ [] = none_left left.seen.0 (omega (arith, left.made, seen, own.few, prefix_length seat.front last.front left.seen)) in
+    sym left.seen.1 ∙ ap (λ (l : List (Entry A)). seat.front ++ l) none ∙ append-nil seat.front
+
 state_stays : {A : Type 0} (before now : SeatContent A) → now.front ≡ before.front → now.zone ≡ before.zone → state_of now ≡ state_of before
 state_stays {A} before now front zone =
     ap (λ (h : List (Entry A)). talk_state_at h now.zone) front ∙ ap (λ (z : ZoneContent A). talk_state_at before.front z) zone
 
-own_history : (A : Type 0) (before now : SeatContent A) (from : ℕ) (answer : List ℕ) → IsHistoryAnswered A before now from answer → before.made ≤ length before.front → SeesOwn now → IsOwnHistory (state_of before) from answer (state_of now)
+own_history : (A : Type 0) (before now : SeatContent A) (from : ℕ) (answer : List ℕ) → IsHistoryAnswered A before now from answer → before.made ≤ length before.front → SeesOwn now
+    → IsOwnHistory (state_of before) (edits_seen before.front) from answer (state_of now)
 own_history A before now from answer is seen own =
     let same : now.front ≡ before.front = at_front before now now.front [] is.seat seen own in
-    let content : Entry A → EntryContent = λ (e : Entry A). entry_content e in
-    let long : length (map content now.front) ≡ length now.front = length-map now.front content in
-    let told : history_reply_text (length now.front) from (take most_entries (drop from now.front)) ≡ history_reply_text (length before.front) from (take most_entries (drop from (map content now.front))) =
-    ap (λ (h : List (Entry A)). history_reply_text (length h) from (take most_entries (drop from now.front))) same ∙ sym (same_told (length before.front) from most_entries now.front) in
+    let long : length now.front ≡ length (edits_seen before.front) = ap (λ (l : List (Entry A)). length l) same ∙ sym (length-map before.front (λ (e : Entry A). edit_content e.edit)) in
+    let all : all_reported now.front ≡ all_reported (own_entries (edits_seen before.front)) =
+    own_reported 0 now.front own.alone ∙ ap (λ (l : List (Entry A)). all_reported (own_entries (edits_seen l))) same in
+    let text : history_reply_text (length now.front) from (take most_entries (drop from now.front))
+    ≡ history_reply_text (length (edits_seen before.front)) from (take most_entries (drop from (own_entries (edits_seen before.front)))) =
+    same_history (length now.front) from most_entries now.front (own_entries (edits_seen before.front)) all
+    ∙ ap (λ (n : ℕ). history_reply_text n from (take most_entries (drop from (own_entries (edits_seen before.front))))) long in
     record {
-      entries = map content now.front;
-      movie = same_movie _ now.front ∙ ap (λ (h : List (Entry A)). movie_of h) same;
-      made = long ∙ ap (λ (h : List (Entry A)). length h) same;
-      alone = same_count 0 now.front ∙ own.alone ∙ sym long;
       no_memory = is.no_memory;
-      answer_is = is.answer_is ∙ ap (λ (l : List ℕ). if is.no_memory then reply_text OutOfMemory else l) told;
+      answer_is = is.answer_is ∙ ap (λ (l : List ℕ). if is.no_memory then reply_text OutOfMemory else l) text;
       rests = state_stays before now same is.zone;
     }
 
 own_request : (A : Type 0) (before now : SeatContent A) (request : Request) (answer : List ℕ) (edits : List (Edit A)) → IsRequestAnswered A before now request answer edits → before.made ≤ length before.front → SeesOwn now
-    → IsAnswerTo (state_of before) request answer (state_of now)
+    → IsAnswerTo (state_of before) (edits_seen before.front) request answer (state_of now)
 own_request A before now (Pictures from to) answer edits (none, strip, long, are, told) seen own =
     (own_shown strip, shown_length strip ∙ long, own_strip A before now from strip are seen own, told ∙ sym (shown_answers strip))
 own_request A before now (History from) answer edits (none, is) seen own = own_history A before now from answer is seen own
@@ -221,16 +341,62 @@ own_request A before now Commit answer edits is seen own = own_answer A before n
 own_request A before now Drop answer edits is seen own = own_answer A before now Drop answer edits is seen own
 own_request A before now Quit answer edits is seen own = own_answer A before now Quit answer edits is seen own
 
+-- the edits that the seat has seen then
+grown_at : (A : Type 0) (before now : SeatContent A) (request : Request) (answer : List ℕ) (edits : List (Edit A)) → IsAnsweredAt A before now request answer edits → before.made ≤ length before.front → SeesOwn now
+    → edits_seen now.front ≡ edits_seen before.front ++ edits_between (state_of before) (state_of now) request
+grown_at A before now request answer edits is seen own =
+    let new : Standing = standing_of now.front in
+    grown before now is.at edits is.seat seen own
+    ∙ ap (λ (l : List EditContent). edits_seen before.front ++ l)
+    (ap (λ (l : List (Edit A)). contents l) is.made
+    ∙ same_between (standing_of is.at) new (requested_edits A (movie_of is.at) request)
+    ∙ ap (λ (l : List EditContent). made_between (standing_of is.at) new l) (same_requested A (movie_of is.at) request)
+    ∙ ap (λ (h : List (Entry A)). made_between (standing_of h) new (requested_edits (Unit {0}) (movie_of h) request)) (at_front before now is.at edits is.seat seen own))
+
+-- a line that makes none leaves them
+none_grown : {A : Type 0} (before now : SeatContent A) → now.front ≡ before.front → edits_seen now.front ≡ edits_seen before.front ++ made_between {A = Unit {0}} (standing_of before.front) (standing_of now.front) []
+none_grown {A} before now same =
+    ap (λ (h : List (Entry A)). edits_seen h) same
+    ∙ sym (append-nil (edits_seen before.front))
+    ∙ ap (λ (l : List EditContent). edits_seen before.front ++ l) (sym (none_between (standing_of before.front) (standing_of now.front)))
+
+own_edits : (A : Type 0) (before now : SeatContent A) (request : Request) (answer : List ℕ) (edits : List (Edit A)) → IsRequestAnswered A before now request answer edits → before.made ≤ length before.front → SeesOwn now
+    → edits_seen now.front ≡ edits_seen before.front ++ edits_between (state_of before) (state_of now) request
+own_edits A before now (Pictures from to) answer edits (none, strip, long, are, told) seen own = none_grown before now (strip_front before now from strip are seen own)
+own_edits A before now (History from) answer edits (none, is) seen own = none_grown before now (at_front before now now.front [] is.seat seen own)
+own_edits A before now (Do command) answer edits is seen own = grown_at A before now (Do command) answer edits is seen own
+own_edits A before now (Retouch retouch) answer edits is seen own = grown_at A before now (Retouch retouch) answer edits is seen own
+own_edits A before now (Picture k) answer edits is seen own = grown_at A before now (Picture k) answer edits is seen own
+own_edits A before now (Ram k) answer edits is seen own = grown_at A before now (Ram k) answer edits is seen own
+own_edits A before now (Digest k) answer edits is seen own = grown_at A before now (Digest k) answer edits is seen own
+own_edits A before now (Lag a b) answer edits is seen own = grown_at A before now (Lag a b) answer edits is seen own
+own_edits A before now Movie answer edits is seen own = grown_at A before now Movie answer edits is seen own
+own_edits A before now States answer edits is seen own = grown_at A before now States answer edits is seen own
+own_edits A before now Share answer edits is seen own = grown_at A before now Share answer edits is seen own
+own_edits A before now Begin answer edits is seen own = grown_at A before now Begin answer edits is seen own
+own_edits A before now Commit answer edits is seen own = grown_at A before now Commit answer edits is seen own
+own_edits A before now Drop answer edits is seen own = grown_at A before now Drop answer edits is seen own
+own_edits A before now Quit answer edits is seen own = grown_at A before now Quit answer edits is seen own
+
+-- a line that asks for no edit leaves them
+own_kept : (A : Type 0) (before now : SeatContent A) (request : Request) (answer : List ℕ) (edits : List (Edit A)) → IsRequestAnswered A before now request answer edits → requested_edits (Unit {0}) (movie_of before.front) request ≡ []
+    → before.made ≤ length before.front → SeesOwn now → edits_seen now.front ≡ edits_seen before.front
+own_kept A before now request answer edits is none seen own =
+    let old : Standing = standing_of before.front in
+    let new : Standing = standing_of now.front in
+    own_edits A before now request answer edits is seen own
+    ∙ ap (λ (l : List EditContent). edits_seen before.front ++ made_between old new l) none
+    ∙ ap (λ (l : List EditContent). edits_seen before.front ++ l) (none_between old new)
+    ∙ append-nil (edits_seen before.front)
+
 -- ---- drafts
 
 abbrev own_place : {A : Type 0} → TalkingSeat A → DraftedState
-own_place now = drafted (state_of now.seat) now.draft
+own_place now = drafted (state_of now.seat) (edits_seen now.seat.front) now.draft
 
-place_is : {A : Type 0} (before : SeatContent A) (now : TalkingSeat A) (draft : Option DraftContent) → now.seat ≡ before → now.draft ≡ draft → own_place now ≡ drafted (state_of before) draft
-place_is {A} before now draft same opened = ap (λ (s : SeatContent A). drafted (state_of s) now.draft) same ∙ ap (λ (d : Option DraftContent). drafted (state_of before) d) opened
-
-abbrev contents : {A : Type 0} → List (Edit A) → List EditContent
-contents {A} edits = map (λ (e : Edit A). edit_content e) edits
+place_is : {A : Type 0} (before : SeatContent A) (now : TalkingSeat A) (draft : Option DraftContent) → now.seat ≡ before → now.draft ≡ draft → own_place now ≡ drafted (state_of before) (edits_seen before.front) draft
+place_is {A} before now draft same opened =
+    ap (λ (s : SeatContent A). drafted (state_of s) (edits_seen s.front) now.draft) same ∙ ap (λ (d : Option DraftContent). drafted (state_of before) (edits_seen before.front) d) opened
 
 same_refusals : {A : Type 0} (movie : MovieContent) (edits : List (Edit A)) → refusal_in movie (contents edits) ≡ refusal_in movie edits
 same_refusals movie [] = refl
@@ -308,7 +474,7 @@ commit_contents {A} stands draft answer edits next (inr told) =
     })
 
 own_commit : (A : Type 0) (before : SeatContent A) (draft : DraftContent) (now : TalkingSeat A) (answer : List ℕ) (edits : List (Edit A)) → IsCommitted before draft now answer edits → before.made ≤ length before.front → SeesOwn now.seat
-    → IsOwnCommit (state_of before) draft answer (own_place now)
+    → IsOwnCommit (state_of before) (edits_seen before.front) draft answer (own_place now)
 own_commit A before draft now answer edits is seen own =
     let same : is.at ≡ before.front = at_front before now.seat is.at edits is.seat seen own in
     let movie : movie_of now.seat.front ≡ edited_by (movie_of before.front) (contents edits) =
@@ -319,39 +485,42 @@ own_commit A before draft now answer edits is seen own =
     ∙ sym (same_edits (movie_of before.front) edits) in
     let made : length now.seat.front ≡ length before.front + length (contents edits) = omega (arith, front_length before now.seat is.at edits is.seat, ap (λ (h : List (Entry A)). length h) same, same_length edits) in
     record {
-      edits = contents edits;
+      stroke = contents edits;
       answered = commit_contents (standing_of before.front) draft answer edits now.draft (subst (λ (h : List (Entry A)). IsCommitAnswer (standing_of h) draft answer edits now.draft) same is.answered);
       stands = ap (λ (m : MovieContent). let x : Standing = record { movie = m; made = length now.seat.front } in x) movie
           ∙ ap (λ (n : ℕ). let x : Standing = record { movie = edited_by (movie_of before.front) (contents edits); made = n } in x) made;
+      edits_are = grown before now.seat is.at edits is.seat seen own;
       rests = record { kept_for = ap (λ (z : ZoneContent A). z.movie) is.zone; states = ap (λ (z : ZoneContent A). z.states) is.zone };
     }
 
 own_outside : (A : Type 0) (before : SeatContent A) (now : TalkingSeat A) (request : Request) (answer : List ℕ) (edits : List (Edit A)) → IsAnsweredOutside A before now request answer edits → before.made ≤ length before.front → SeesOwn now.seat
-    → IsOutsideAnswer (state_of before) request answer (own_place now)
+    → IsOutsideAnswer (state_of before) (edits_seen before.front) request answer (own_place now)
 own_outside A before now Begin answer edits (is, none) seen own =
-    subst (λ (h : List (Entry A)). IsBeginAnswer (talk_state_at h before.zone) answer (state_of now.seat) now.draft) (at_front before now.seat now.seat.front [] is.seat seen own) is.answered
+    let same : now.seat.front ≡ before.front = at_front before now.seat now.seat.front [] is.seat seen own in
+    (subst (λ (h : List (Entry A)). IsBeginAnswer (talk_state_at h before.zone) answer (state_of now.seat) now.draft) same is.answered, ap (λ (h : List (Entry A)). edits_seen h) same)
 own_outside A before now Commit answer edits (told, opened, left) seen own = (told, place_is before now None left.same opened)
 own_outside A before now Drop answer edits (told, opened, left) seen own = (told, place_is before now None left.same opened)
-own_outside A before now (Do command) answer edits is seen own = (own_request A before now.seat (Do command) answer edits is.0 seen own, is.1)
-own_outside A before now (Retouch retouch) answer edits is seen own = (own_request A before now.seat (Retouch retouch) answer edits is.0 seen own, is.1)
-own_outside A before now (Picture k) answer edits is seen own = (own_request A before now.seat (Picture k) answer edits is.0 seen own, is.1)
-own_outside A before now (Pictures from to) answer edits is seen own = (own_request A before now.seat (Pictures from to) answer edits is.0 seen own, is.1)
-own_outside A before now (Ram k) answer edits is seen own = (own_request A before now.seat (Ram k) answer edits is.0 seen own, is.1)
-own_outside A before now (Digest k) answer edits is seen own = (own_request A before now.seat (Digest k) answer edits is.0 seen own, is.1)
-own_outside A before now (Lag a b) answer edits is seen own = (own_request A before now.seat (Lag a b) answer edits is.0 seen own, is.1)
-own_outside A before now Movie answer edits is seen own = (own_request A before now.seat Movie answer edits is.0 seen own, is.1)
-own_outside A before now States answer edits is seen own = (own_request A before now.seat States answer edits is.0 seen own, is.1)
-own_outside A before now Share answer edits is seen own = (own_request A before now.seat Share answer edits is.0 seen own, is.1)
-own_outside A before now (History from) answer edits is seen own = (own_request A before now.seat (History from) answer edits is.0 seen own, is.1)
-own_outside A before now Quit answer edits is seen own = (own_request A before now.seat Quit answer edits is.0 seen own, is.1)
+own_outside A before now (Do command) answer edits is seen own = (own_request A before now.seat (Do command) answer edits is.0 seen own, own_edits A before now.seat (Do command) answer edits is.0 seen own, is.1)
+own_outside A before now (Retouch retouch) answer edits is seen own = (own_request A before now.seat (Retouch retouch) answer edits is.0 seen own, own_edits A before now.seat (Retouch retouch) answer edits is.0 seen own, is.1)
+own_outside A before now (Picture k) answer edits is seen own = (own_request A before now.seat (Picture k) answer edits is.0 seen own, own_edits A before now.seat (Picture k) answer edits is.0 seen own, is.1)
+own_outside A before now (Pictures from to) answer edits is seen own = (own_request A before now.seat (Pictures from to) answer edits is.0 seen own, own_edits A before now.seat (Pictures from to) answer edits is.0 seen own, is.1)
+own_outside A before now (Ram k) answer edits is seen own = (own_request A before now.seat (Ram k) answer edits is.0 seen own, own_edits A before now.seat (Ram k) answer edits is.0 seen own, is.1)
+own_outside A before now (Digest k) answer edits is seen own = (own_request A before now.seat (Digest k) answer edits is.0 seen own, own_edits A before now.seat (Digest k) answer edits is.0 seen own, is.1)
+own_outside A before now (Lag a b) answer edits is seen own = (own_request A before now.seat (Lag a b) answer edits is.0 seen own, own_edits A before now.seat (Lag a b) answer edits is.0 seen own, is.1)
+own_outside A before now Movie answer edits is seen own = (own_request A before now.seat Movie answer edits is.0 seen own, own_edits A before now.seat Movie answer edits is.0 seen own, is.1)
+own_outside A before now States answer edits is seen own = (own_request A before now.seat States answer edits is.0 seen own, own_edits A before now.seat States answer edits is.0 seen own, is.1)
+own_outside A before now Share answer edits is seen own = (own_request A before now.seat Share answer edits is.0 seen own, own_edits A before now.seat Share answer edits is.0 seen own, is.1)
+own_outside A before now (History from) answer edits is seen own = (own_request A before now.seat (History from) answer edits is.0 seen own, own_edits A before now.seat (History from) answer edits is.0 seen own, is.1)
+own_outside A before now Quit answer edits is seen own = (own_request A before now.seat Quit answer edits is.0 seen own, own_edits A before now.seat Quit answer edits is.0 seen own, is.1)
 
 own_inside : (A : Type 0) (before : SeatContent A) (draft : DraftContent) (now : TalkingSeat A) (request : Request) (answer : List ℕ) (edits : List (Edit A)) → IsAnsweredInside A before draft now request answer edits → before.made ≤ length before.front
-    → SeesOwn now.seat → IsInsideAnswer (state_of before) draft request answer (own_place now)
+    → SeesOwn now.seat → IsInsideAnswer (state_of before) (edits_seen before.front) draft request answer (own_place now)
 own_inside A before draft now Begin answer edits (told, opened, left) seen own = (told, place_is before now (Some draft) left.same opened)
 own_inside A before draft now Commit answer edits is seen own = own_commit A before draft now answer edits is seen own
 own_inside A before draft now Drop answer edits (told, opened, left) seen own = (told, place_is before now None left.same opened)
-own_inside A before draft now Share answer edits is seen own = (own_request A before now.seat Share answer edits is.0 seen own, is.1)
-own_inside A before draft now (History from) answer edits is seen own = (own_request A before now.seat (History from) answer edits is.0 seen own, is.1)
+own_inside A before draft now Share answer edits is seen own = (own_request A before now.seat Share answer edits is.0 seen own, own_kept A before now.seat Share answer edits is.0 refl seen own, is.1)
+own_inside A before draft now (History from) answer edits is seen own =
+    (own_request A before now.seat (History from) answer edits is.0 seen own, own_kept A before now.seat (History from) answer edits is.0 refl seen own, is.1)
 own_inside A before draft now (Do command) answer edits (next, told, sound, opened, left) seen own = (next, told, sound, place_is before now (Some next) left.same opened)
 own_inside A before draft now (Retouch retouch) answer edits (next, told, sound, opened, left) seen own = (next, told, sound, place_is before now (Some next) left.same opened)
 own_inside A before draft now (Picture k) answer edits (next, told, sound, opened, left) seen own = (next, told, sound, place_is before now (Some next) left.same opened)
@@ -364,7 +533,7 @@ own_inside A before draft now States answer edits (next, told, sound, opened, le
 own_inside A before draft now Quit answer edits (next, told, sound, opened, left) seen own = (next, told, sound, place_is before now (Some next) left.same opened)
 
 own_talk_line : (A : Type 0) (before : SeatContent A) (draft : Option DraftContent) (now : TalkingSeat A) (request : Request) (answer : List ℕ) (edits : List (Edit A)) → IsTalkAnswered A before draft now request answer edits → before.made ≤ length before.front
-    → SeesOwn now.seat → IsDraftedAnswer (state_of before) draft request answer (own_place now)
+    → SeesOwn now.seat → IsDraftedAnswer (state_of before) (edits_seen before.front) draft request answer (own_place now)
 own_talk_line A before None now request answer edits is seen own = own_outside A before now request answer edits is seen own
 own_talk_line A before (Some draft) now request answer edits is seen own = own_inside A before draft now request answer edits is seen own
 
@@ -429,9 +598,13 @@ own_ends seat last rest told edits input output output' (Err (Run (Long number))
 own_ends seat last rest told edits input output output' (Err (Run NoPlace)) is other seen own = absurd is
 own_ends seat last rest told edits input output output' (Err (Seat number fault)) is other seen own = absurd is
 
+-- where a seat's conversation begins: with no draft
+abbrev pub place_of : {A : Type 0} → SeatContent A → DraftedState
+place_of seat = own_place (talking seat None)
+
 -- a seat's conversation on a desk where nobody else makes edits is one of a single seat
 pub own_talk : {A : Type 0} (start last : SeatContent A) (input input' output output' : Option (List ℕ)) (result : Result (Unit {0}) ToolFault) → IsSeatTalk start last input input' output output' result → start.made ≤ length start.front
-    → SeesOwn last → IsTalk (state_of start) input input' output output' result × SeesOwn start
+    → SeesOwn last → IsTalk (place_of start) input input' output output' result × SeesOwn start
 own_talk {A} start last input input' output output' result talk seen own = go (rested talk.seat last talk.rest _ talk.more input' output output' result talk.ends)
   where
     first : Leaves start talk.seat.seat (edits_of talk.exchanges)
@@ -440,7 +613,7 @@ own_talk {A} start last input input' output output' result talk seen own = go (r
     seen_all : talk.seat.seat.made ≤ length talk.seat.seat.front
     seen_all = seen_after start talk.seat.seat (edits_of talk.exchanges) first seen
 
-    go : Rested talk.seat last talk.more result → IsTalk (state_of start) input input' output output' result × SeesOwn start
+    go : Rested talk.seat last talk.more result → IsTalk (place_of start) input input' output output' result × SeesOwn start
     go (inl strange) =
         let more = prefix_length talk.seat.seat.front last.front strange.seen.begins in
         let counted : entries_of last.number last.front ≡ length last.front = ap (λ (n : ℕ). entries_of n last.front) own.number ∙ own.alone in

@@ -14,6 +14,7 @@ use Rattle.tas_film.specs.declared.runs.Plan.{Plan}
 use Rattle.tas_desk.specs.declared.export.ExportError.{ExportError}
 use Rattle.tas_desk.specs.declared.export.ExportError.TheVariants.{Range as OffRange, Memory as OutOfRoom, Halted as HaltedAt, Write as WriteFailed}
 use Rattle.tas_session.specs.History.{movie_of, entries_of}
+use Rattle.tas_session.specs.Strokes.{edits_in}
 use Rattle.tas_desk.specs.Seats.{SeatContent, HasSeen}
 use Rattle.tas_desk.specs.Zones.{ZoneContent}
 use Rattle.tas_desk.specs.Exports.{IsInRange, IsExport}
@@ -36,6 +37,7 @@ still_holds {A} before now movie seen holds =
       made = seen.made ∙ holds.made;
       seen = omega (arith, more, two);
       own = ap (λ (k : ℕ). entries_of k (take 2 now.front)) seen.number ∙ ap (λ (l : List (Entry A)). entries_of before.number l) first ∙ holds.own;
+      edits = ap (λ (l : List (Entry A)). edits_in l) first ∙ holds.edits;
       movie_is = ap (λ (l : List (Entry A)). movie_of l) first ∙ holds.movie_is;
     }
 

@@ -12,6 +12,7 @@ use Rattle.tas_movie.specs.Content.{MovieContent}
 use Rattle.tas_movie.specs.Text.{text2}
 use Rattle.tas_session.specs.declared.entry.Entry.{Entry}
 use Rattle.tas_session.specs.History.{movie_of, entries_of, IsLegal}
+use Rattle.tas_session.specs.Strokes.{edits_in}
 use Rattle.tas_session.proofs.PrefixLemmas.{prefix_trans}
 use Rattle.tas_desk.specs.Seats.{SeatContent, seat_of, HasSeen, KeepsZone, IsWhole, IsSettled}
 use Rattle.tas_desk.specs.Zones.{ZoneContent, blank_zone}
@@ -263,6 +264,7 @@ desk_history {A} {D} facts movie doors doors' seats ends log long has are none b
       legal = all.legal;
       long = omega (arith, prefix_longer has.first.front log begins, has.holds.seen);
       first = subst (λ (l : List (Entry A)). entries_of 0 l ≡ 2) (sym same) (first_made has.first movie has.holds (are 0 has.first has.first_is));
+      edits = ap (λ (l : List (Entry A)). edits_in l) same ∙ has.holds.edits;
       movie_is = ap movie_of same ∙ has.holds.movie_is;
       back = all.back;
       many = all.many;
@@ -385,6 +387,7 @@ all_met {A} movie first first' others others' holds seen same met = record {
     made = seen.made ∙ holds.made;
     seen = omega (arith, holds.seen, prefix_longer first.front first'.front seen.begins);
     own = subst (λ (l : List (Entry A)). entries_of first'.number l ≡ 2) (sym two) (subst (λ (n : ℕ). entries_of n (take 2 first.front) ≡ 2) (sym seen.number) holds.own);
+    edits = ap (λ (l : List (Entry A)). edits_in l) two ∙ holds.edits;
     movie_is = ap movie_of two ∙ holds.movie_is;
   };
   met = at;

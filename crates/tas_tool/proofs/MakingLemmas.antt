@@ -2,7 +2,7 @@
 use Rattle.std.proofs.Common.{◌≡◌, ℕ, ◌+◌, ◌<◌, ◌≤◌, List, [], ◌∷◌, ◌++◌, length, take, Option, Some, None, Result, Ok, Err, inl, inr, refl, sym, ap, subst, ◌∙◌, arith, length-append, append-nil}
 use Rattle.std.specs.Prelude.{OnOk, IfErr}
 use Rattle.std.proofs.lemmas.Bool.{le-ltb, cases_lt}
-use Rattle.std.proofs.lemmas.List.{take_all}
+use Rattle.std.proofs.lemmas.List.{take_all, map-append}
 use mathlib.Core.List.{IsPrefix}
 use Rattle.vcs_machine.specs.declared.input.Input.{Input}
 use Rattle.tas_movie.specs.Content.{MovieContent, most_inputs}
@@ -16,6 +16,7 @@ use Rattle.tas_session.specs.declared.replies.EditError.{EditError}
 use Rattle.tas_session.specs.declared.replies.EditError.TheVariants.{Serial, Full, Place, Long, Memory as NoRoom}
 use Rattle.tas_session.specs.History.{movie_of, entries_of}
 use Rattle.tas_session.specs.Session.{refusal_at, IsEditError}
+use Rattle.tas_session.specs.Strokes.{edits_in}
 use Rattle.tas_desk.specs.Seats.{SeatContent, seat_of, entry_of, IsEdited}
 use Rattle.tas_desk.specs.Zones.{ZoneContent}
 use Rattle.tas_session.proofs.HistoryLemmas.{movie_of-push, movie_of-none}
@@ -41,6 +42,7 @@ pub record HasLoaded {A : Type 0} (seat : SeatContent A) (cart : List ℕ) : Typ
   pub made : seat.made ≡ 1
   pub seen : 1 ≤ length seat.front
   pub own : length seat.front ≡ 1 → movie_of seat.front ≡ record { cart = cart; inputs = [] }
+  pub edits : length seat.front ≡ 1 → edits_in seat.front ≡ Load cart ∷ []
   pub counted : length seat.front ≡ 1 → entries_of 0 seat.front ≡ 1
 
 empty_of : {X : Type 0} (xs : List X) → length xs ≡ 0 → xs ≡ []
@@ -57,6 +59,9 @@ loaded_movie {A} at entry cart is none =
     ∙ ap (λ (l : List (Entry A)). edited (movie_of l) (load_of A cart)) none
     ∙ ap (λ (m : MovieContent). edited m (load_of A cart)) (movie_of-none A)
 
+loaded_edits : {A : Type 0} (at : List (Entry A)) (entry : Entry A) (cart : List ℕ) → entry.edit ≡ Load cart → at ≡ [] → edits_in (at ++ entry ∷ []) ≡ Load cart ∷ []
+loaded_edits {A} at entry cart is none = ap (λ (l : List (Entry A)). edits_in (l ++ entry ∷ [])) none ∙ ap (λ (e : Edit A). let x : List (Edit A) = e ∷ [] in x) is
+
 loaded_count : {A : Type 0} (at : List (Entry A)) (entry : Entry A) → entry.seat ≡ 0 → at ≡ [] → entries_of 0 (at ++ entry ∷ []) ≡ 1
 loaded_count {A} at entry is none = entries_push at entry 0 is ∙ ap (λ (l : List (Entry A)). entries_of 0 l + 1) none
 
@@ -70,6 +75,7 @@ loaded_at {A} zone at number made cart nought none =
       made = omega (arith, none);
       seen = omega (arith, long);
       own = λ one. loaded_movie at entry cart refl (empty_of at (omega (arith, long, one)));
+      edits = λ one. loaded_edits at entry cart refl (empty_of at (omega (arith, long, one)));
       counted = λ one. loaded_count at entry nought (empty_of at (omega (arith, long, one)));
     }
 
@@ -98,18 +104,20 @@ longer_front : {X : Type 0} (xs ys : List X) → IsPrefix xs ys → length xs �
 longer_front {X} xs ys begins = omega (arith, length-append xs begins.0, ap (λ (l : List X). length l) begins.1)
 
 -- what the seat has seen where it made its second edit
-at_loaded : {A : Type 0} (seat : SeatContent A) (cart : List ℕ) (at : List (Entry A)) → HasLoaded seat cart → IsPrefix seat.front at → length at ≡ 1 → (movie_of at ≡ movie_with cart []) × (entries_of 0 at ≡ 1)
+at_loaded : {A : Type 0} (seat : SeatContent A) (cart : List ℕ) (at : List (Entry A)) → HasLoaded seat cart → IsPrefix seat.front at → length at ≡ 1
+    → (movie_of at ≡ movie_with cart []) × (entries_of 0 at ≡ 1) × (edits_in at ≡ Load cart ∷ [])
 at_loaded {A} seat cart at first begins one =
     let seen = first.seen in
     let same : at ≡ seat.front = same_front seat.front at begins (omega (arith, seen, one)) in
     let long : length seat.front ≡ 1 = sym (ap (λ (l : List (Entry A)). length l) same) ∙ one in
-    (ap (λ (l : List (Entry A)). movie_of l) same ∙ first.own long, ap (λ (l : List (Entry A)). entries_of 0 l) same ∙ first.counted long)
+    (ap (λ (l : List (Entry A)). movie_of l) same ∙ first.own long, ap (λ (l : List (Entry A)). entries_of 0 l) same ∙ first.counted long, ap (λ (l : List (Entry A)). edits_in l) same ∙ first.edits long)
 
 -- the seat put inputs in after it loaded a cartridge, and has made no other edit
 pub record HasInserted {A : Type 0} (seat : SeatContent A) (cart : List ℕ) (inputs : List Input) : Type 0 where
   pub made : seat.made ≡ 2
   pub seen : 2 ≤ length seat.front
   pub own : length seat.front ≡ 2 → movie_of seat.front ≡ record { cart = cart; inputs = inputs }
+  pub edits : length seat.front ≡ 2 → edits_in seat.front ≡ Load cart ∷ Insert 0 inputs ∷ []
   pub counted : length seat.front ≡ 2 → entries_of seat.number seat.front ≡ 2
 
 inserted_at : {A : Type 0} (seat : SeatContent A) (at : List (Entry A)) (cart : List ℕ) (inputs : List Input) → length inputs ≤ most_inputs → HasLoaded seat cart → IsPrefix seat.front at
@@ -127,6 +135,9 @@ inserted_at {A} seat at cart inputs few first begins =
           movie_of-push at entry
           ∙ ap (λ (m : MovieContent). edited m (insert_of A inputs)) (at_loaded seat cart at first begins (omega (arith, long, two))).0
           ∙ inserted_movie A cart inputs few;
+      edits = λ two.
+          map-append (λ (e : Entry A). e.edit) at (entry ∷ [])
+          ∙ ap (λ (l : List (Edit A)). l ++ insert_of A inputs ∷ []) (at_loaded seat cart at first begins (omega (arith, long, two))).2;
       counted = λ two.
           entries_push at entry seat.number refl
           ∙ ap (λ (n : ℕ). n + 1) (ap (λ (k : ℕ). entries_of k at) first.number ∙ (at_loaded seat cart at first begins (omega (arith, long, two))).1);
@@ -140,6 +151,7 @@ holds {A} seat cart inputs second two =
       made = second.made;
       seen = second.seen;
       own = ap (λ (l : List (Entry A)). entries_of seat.number l) whole ∙ second.counted two;
+      edits = ap (λ (l : List (Entry A)). edits_in l) whole ∙ second.edits two;
       movie_is = ap (λ (l : List (Entry A)). movie_of l) whole ∙ second.own two;
     }
 

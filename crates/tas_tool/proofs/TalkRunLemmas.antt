@@ -1,13 +1,17 @@
 -- Conversations over a cartridge or a movie.
-use Rattle.std.proofs.Common.{◌≡◌, ℕ, List, [], length, true, Option, Some, None, Result, Ok, Err, inl, inr, refl, sym, ap, subst, ◌∙◌, arith}
+use Rattle.std.proofs.Common.{◌≡◌, ℕ, ◌≤◌, List, [], ◌∷◌, ◌++◌, length, take, true, Option, Some, None, Result, Ok, Err, inl, inr, refl, sym, ap, subst, ◌∙◌, arith}
 use Rattle.std.proofs.KnownBytes.{Appends-nil, Consumes-nil, Keeps-refl}
+use Rattle.std.proofs.lemmas.List.{take_all}
 use Rattle.vcs_machine.specs.Cart.{is_cart_size}
 use Rattle.tas_movie.specs.Content.{MovieContent, blank_movie}
+use Rattle.tas_movie.specs.declared.edit.Edit.{Edit}
 use Rattle.tas_green.specs.declared.savestate.Savestate.{Savestate}
 use Rattle.tas_session.specs.declared.entry.Entry.{Entry}
+use Rattle.tas_session.specs.Strokes.{edits_in}
 use Rattle.tas_session.proofs.HistoryLemmas.{movie_of-none}
 use Rattle.tas_desk.specs.Seats.{SeatContent}
 use Rattle.tas_desk.specs.Zones.{ZoneContent}
+use Rattle.tas_engines.specs.Changes.{EditContent}
 use Rattle.tas_engines.specs.declared.fault.ReadFault.{ReadFault}
 use Rattle.tas_engines.specs.declared.fault.RunFault.{RunFault}
 use Rattle.tas_engines.specs.declared.fault.RunFault.TheVariants.{Write, Size, Text, NoFrame as OffMovie, Range as OffRange, Halted as Stopped, HaltedFrame as StoppedFrame, Script, Place, Long, NoPlace, NoEntry, Foreign, Memory}
@@ -21,9 +25,9 @@ use Rattle.tas_tool.specs.Inside.Alone.{SeesOwn, StartsTalk}
 use Rattle.tas_seat.specs.Turns.{Standing, standing_of}
 use Rattle.tas_seat.specs.Requests.{TalkState}
 use Rattle.tas_tool.specs.Scripts.{standing_at_start}
-use Rattle.tas_tool.specs.MovieScripts.{standing_of_movie}
+use Rattle.tas_tool.specs.MovieScripts.{edits_of_movie, standing_of_movie}
 use Rattle.tas_tool.specs.Inside.TwoEdits.{HoldsMovie, IsMakingFault}
-use Rattle.tas_tool.proofs.AloneLemmas.{state_of}
+use Rattle.tas_tool.proofs.AloneLemmas.{contents, edits_seen, place_of}
 use Rattle.tas_tool.proofs.MovieScriptLemmas.{holds_standing}
 
 -- ---- before the first line
@@ -32,14 +36,14 @@ no_exchanges : (state : DraftedState) → AreExchanges state [] state
 unfolding AreExchanges
 no_exchanges state = refl
 
-pub no_memory_yet : (start : TalkState) (input output : Option (List ℕ)) → IsTalk start input input output output (Err (Run Memory))
-no_memory_yet start input output = record { exchanges = []; state = drafted start None; rest = []; answered = no_exchanges (drafted start None); left = Consumes-nil input; ends = Appends-nil output }
+pub no_memory_yet : (start : DraftedState) (input output : Option (List ℕ)) → IsTalk start input input output output (Err (Run Memory))
+no_memory_yet start input output = record { exchanges = []; state = start; rest = []; answered = no_exchanges start; left = Consumes-nil input; ends = Appends-nil output }
 
-pub no_place_yet : (start : TalkState) (input output : Option (List ℕ)) → IsTalk start input input output output (Err (Run NoPlace))
-no_place_yet start input output = record { exchanges = []; state = drafted start None; rest = []; answered = no_exchanges (drafted start None); left = Consumes-nil input; ends = (refl, refl, Appends-nil output) }
+pub no_place_yet : (start : DraftedState) (input output : Option (List ℕ)) → IsTalk start input input output output (Err (Run NoPlace))
+no_place_yet start input output = record { exchanges = []; state = start; rest = []; answered = no_exchanges start; left = Consumes-nil input; ends = (refl, refl, Appends-nil output) }
 
 -- the movie wasn't made
-pub unmade_talk : {A : Type 0} (start : TalkState) (seat : SeatContent A) (fault : RunFault) (input output : Option (List ℕ)) → IsMakingFault seat fault → SeesOwn seat → IsTalk start input input output output (Err (Run fault))
+pub unmade_talk : {A : Type 0} (start : DraftedState) (seat : SeatContent A) (fault : RunFault) (input output : Option (List ℕ)) → IsMakingFault seat fault → SeesOwn seat → IsTalk start input input output output (Err (Run fault))
 unmade_talk {A} start seat Memory input output is own = no_memory_yet start input output
 unmade_talk start seat Foreign input output is own = absurd (omega (arith, is, own.few))
 unmade_talk start seat NoEntry input output is own = absurd is
@@ -57,26 +61,44 @@ unmade_talk start seat (Long number) input output is own = absurd is
 
 -- ---- from what a conversation starts
 
--- a state in which nothing is kept
-fresh_at : {A : Type 0} (seat : SeatContent A) (stands : Standing) → standing_of seat.front ≡ stands → seat.zone.movie ≡ blank_movie → seat.zone.states ≡ [] → state_of seat ≡ fresh_talk_state stands
-fresh_at seat stands at movie none =
-    ap (λ (f : Standing). let x : TalkState = record { stands = f; kept_for = seat.zone.movie; states = seat.zone.states } in x) at
-    ∙ ap (λ (m : MovieContent). let x : TalkState = record { stands = stands; kept_for = m; states = seat.zone.states } in x) movie
-    ∙ ap (λ (l : List Savestate). let x : TalkState = record { stands = stands; kept_for = blank_movie; states = l } in x) none
+-- nothing is kept
+abbrev blank_state : Standing → TalkState
+blank_state stands = record { stands = stands; kept_for = blank_movie; states = [] }
 
-pub first_state : {A : Type 0} (seat : SeatContent A) → seat.front ≡ [] → seat.zone.movie ≡ blank_movie → seat.zone.states ≡ [] → state_of seat ≡ fresh_talk_state standing_at_start
+fresh_at : {A : Type 0} (seat : SeatContent A) (stands : Standing) (edits : List EditContent) → standing_of seat.front ≡ stands → edits_seen seat.front ≡ edits → seat.zone.movie ≡ blank_movie → seat.zone.states ≡ []
+    → place_of seat ≡ fresh_talk_state stands edits
+fresh_at seat stands edits at made movie none =
+    ap (λ (f : Standing). drafted (let x : TalkState = record { stands = f; kept_for = seat.zone.movie; states = seat.zone.states } in x) (edits_seen seat.front) None) at
+    ∙ ap (λ (m : MovieContent). drafted (let x : TalkState = record { stands = stands; kept_for = m; states = seat.zone.states } in x) (edits_seen seat.front) None) movie
+    ∙ ap (λ (l : List Savestate). drafted (let x : TalkState = record { stands = stands; kept_for = blank_movie; states = l } in x) (edits_seen seat.front) None) none
+    ∙ ap (λ (l : List EditContent). drafted (blank_state stands) l None) made
+
+pub first_state : {A : Type 0} (seat : SeatContent A) → seat.front ≡ [] → seat.zone.movie ≡ blank_movie → seat.zone.states ≡ [] → place_of seat ≡ fresh_talk_state standing_at_start []
 first_state {A} seat front movie none =
-    fresh_at seat standing_at_start (ap (λ (l : List (Entry A)). standing_of l) front ∙ ap (λ (m : MovieContent). let x : Standing = record { movie = m; made = 0 } in x) (movie_of-none A)) movie none
+    let stands : standing_of seat.front ≡ standing_at_start =
+    ap (λ (l : List (Entry A)). standing_of l) front ∙ ap (λ (m : MovieContent). let x : Standing = record { movie = m; made = 0 } in x) (movie_of-none A) in
+    fresh_at seat standing_at_start [] stands (ap (λ (l : List (Entry A)). edits_seen l) front) movie none
+
+seen_edits : {A : Type 0} (entries : List (Entry A)) → edits_seen entries ≡ contents (edits_in entries)
+seen_edits [] = refl
+seen_edits {A} (entry ∷ entries) = ap (λ (l : List EditContent). edits_seen (entry ∷ []) ++ l) (seen_edits entries)
+
+-- where the seat that made a movie has seen its own edits alone, these are the two
+made_edits : {A : Type 0} (seat : SeatContent A) (movie : MovieContent) → HoldsMovie seat movie → SeesOwn seat → edits_seen seat.front ≡ edits_of_movie (Unit {0}) movie
+made_edits {A} seat movie holds own =
+    let whole : take 2 seat.front ≡ seat.front = take_all 2 seat.front (omega (arith, holds.made, own.few)) in
+    ap (λ (l : List (Entry A)). edits_seen l) (sym whole) ∙ seen_edits (take 2 seat.front) ∙ ap (λ (l : List (Edit A)). contents l) holds.edits
 
 pub made_state : {A : Type 0} (before now : SeatContent A) (movie : MovieContent) → HoldsMovie now movie → SeesOwn now → now.zone ≡ before.zone → before.zone.movie ≡ blank_movie → before.zone.states ≡ []
-    → state_of now ≡ fresh_talk_state (standing_of_movie movie)
+    → place_of now ≡ fresh_talk_state (standing_of_movie movie) (edits_of_movie (Unit {0}) movie)
 made_state {A} before now movie holds own zone blank none =
-    fresh_at now (standing_of_movie movie) (holds_standing now movie holds own) (ap (λ (z : ZoneContent A). z.movie) zone ∙ blank) (ap (λ (z : ZoneContent A). z.states) zone ∙ none)
+    fresh_at now (standing_of_movie movie) (edits_of_movie (Unit {0}) movie) (holds_standing now movie holds own) (made_edits now movie holds own)
+    (ap (λ (z : ZoneContent A). z.movie) zone ∙ blank) (ap (λ (z : ZoneContent A). z.states) zone ∙ none)
 
 -- the same conversation, its start named otherwise
-pub talk_as : (start other : TalkState) (input input' output output' : Option (List ℕ)) (result : Result (Unit {0}) ToolFault) → start ≡ other → IsTalk start input input' output output' result
+pub talk_as : (start other : DraftedState) (input input' output output' : Option (List ℕ)) (result : Result (Unit {0}) ToolFault) → start ≡ other → IsTalk start input input' output output' result
     → IsTalk other input input' output output' result
-talk_as start other input input' output output' result same talk = subst (λ (f : TalkState). IsTalk f input input' output output' result) same talk
+talk_as start other input input' output output' result same talk = subst (λ (f : DraftedState). IsTalk f input input' output output' result) same talk
 
 untouched : (input output : Option (List ℕ)) → IsUntouched input input output output
 untouched input output = record { unread = refl; unwritten = Keeps-refl output }

@@ -7,6 +7,7 @@ use Rattle.tas_movie.specs.Text.{text2}
 use Rattle.tas_movie.specs.declared.edit.Edit.{Edit}
 use Rattle.tas_session.specs.declared.entry.Entry.{Entry}
 use Rattle.tas_session.specs.History.{movie_of, entries_of, IsLegal}
+use Rattle.tas_session.specs.Strokes.{edits_in}
 use Rattle.tas_desk.specs.Seats.{SeatContent}
 use Rattle.tas_desk.specs.Zones.{ZoneContent}
 use Rattle.tas_engines.specs.declared.fault.ReadFault.{ReadFault}
@@ -21,6 +22,7 @@ use Rattle.tas_engines.specs.Movies.{IsMovieOf, IsMovieFault}
 use Rattle.tas_engines.specs.Output.{StopsWriting}
 use Rattle.tas_seat.specs.Lines.{DoorFacts, IsHeld}
 use Rattle.tas_seat.specs.Histories.{IsInHistory}
+use Rattle.tas_tool.specs.MovieScripts.{edits_of_movie}
 
 -- ---- one history
 
@@ -50,12 +52,13 @@ pub record IsSeatOf {A D : Type 0} (facts : DoorFacts D) (history : List (Entry 
   pub shows : IsInHistory history start last edits
   pub not_foreign : end ≡ Err Foreign → ⊥
 
--- a legal history of a desk: its first two entries are the first seat's and make the movie; each seat's door and end are those of a
+-- a legal history of a desk: its first two entries are the first seat's, load the movie's cartridge and put its inputs in, and so make it; each seat's door and end are those of a
 -- conversation that it shows; and nobody else has entries
 pub record IsDeskHistory {A D : Type 0} (facts : DoorFacts D) (movie : MovieContent) (doors doors' : List D) (ends : List (Result (Unit {0}) SeatFault)) (history : List (Entry A)) : Type 0 where
   pub legal : IsLegal history
   pub long : 2 ≤ length history
   pub first : entries_of 0 (take 2 history) ≡ 2
+  pub edits : edits_in (take 2 history) ≡ edits_of_movie A movie
   pub movie_is : movie_of (take 2 history) ≡ movie
   pub back : length doors' ≡ length doors
   pub many : length ends ≡ length doors

@@ -1,7 +1,9 @@
 -- Scripts that start from a movie.
-use Rattle.std.specs.Prelude.{◌≡◌, ℕ, List, [], Option, Result, Ok, Err, ◌⊎◌}
+use Rattle.std.specs.Prelude.{◌≡◌, ℕ, List, [], ◌∷◌, Option, Result, Ok, Err, ◌⊎◌}
 use Rattle.std.specs.Io.KnownBytes.{Keeps}
 use Rattle.tas_movie.specs.Content.{MovieContent}
+use Rattle.tas_movie.specs.declared.edit.Edit.{Edit}
+use Rattle.tas_movie.specs.declared.edit.Edit.TheVariants.{Load, Insert}
 use Rattle.tas_engines.specs.declared.fault.RunFault.{RunFault}
 use Rattle.tas_engines.specs.declared.fault.RunFault.TheVariants.{NoPlace, Memory}
 use Rattle.tas_engines.specs.declared.fault.ToolFault.{ToolFault}
@@ -11,6 +13,10 @@ use Rattle.tas_seat.specs.Turns.{Standing}
 use Rattle.tas_tool.specs.Scripts.{Answers, EndsWithReplies}
 
 -- a movie is made by two edits: its cartridge is loaded, then its inputs are put in
+abbrev pub edits_of_movie : (A : Type 0) → MovieContent → List (Edit A)
+edits_of_movie A movie = Load movie.cart ∷ Insert 0 movie.inputs ∷ []
+
+-- what is made then
 abbrev pub standing_of_movie : MovieContent → Standing
 standing_of_movie movie = record { movie = movie; made = 2 }
 

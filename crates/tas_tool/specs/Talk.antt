@@ -7,7 +7,6 @@ use Rattle.vcs_machine.specs.Cart.{is_cart_size}
 use Rattle.tas_movie.specs.Content.{MovieContent, blank_movie}
 use Rattle.tas_movie.specs.Text.{line}
 use Rattle.tas_session.specs.declared.entry.Entry.{Entry}
-use Rattle.tas_session.specs.History.{movie_of, entries_of}
 use Rattle.tas_engines.specs.declared.fault.ReadFault.{ReadFault}
 use Rattle.tas_engines.specs.declared.fault.ReadFault.TheVariants.{Failed}
 use Rattle.tas_engines.specs.declared.fault.RunFault.{RunFault}
@@ -31,11 +30,12 @@ use Rattle.tas_seat.specs.Drafts.{DraftContent, IsDraft, IsDraftAnswered}
 use Rattle.tas_seat.specs.Conversations.{IsBeginAnswer, IsCommitAnswer}
 use Rattle.tas_session.specs.Strokes.{edited_by}
 use Rattle.tas_engines.specs.Changes.{EditContent}
-use Rattle.tas_seat.specs.Seats.{most_entries}
+use Rattle.tas_seat.specs.Edits.{requested_edits, made_between}
+use Rattle.tas_seat.specs.Seats.{entries_from, most_entries}
 use Rattle.tas_seat.specs.HistoryText.{history_reply_text}
 use Rattle.tas_seat.specs.Talk.{IsQuit, IsAnswerCutOff, last_answer}
 use Rattle.tas_tool.specs.Scripts.{standing_at_start}
-use Rattle.tas_tool.specs.MovieScripts.{standing_of_movie}
+use Rattle.tas_tool.specs.MovieScripts.{edits_of_movie, standing_of_movie}
 
 -- ---- the answer to one line
 
@@ -53,71 +53,73 @@ AreStrip state from (shown ∷ strip) last = IsPictureAnswer state from shown.an
 abbrev pub strip_answers : List StripAnswer → List ℕ
 strip_answers strip = flat_map (λ shown. shown.answer) strip
 
--- an entry's content, on whatever allocator its edit is
-abbrev pub EntryContent : Type 0
-EntryContent = Entry (Unit {0})
+-- the edits that were made, as entries of a history: each is the only seat's, whose number is 0
+abbrev pub own_entries : List EditContent → List (Entry (Unit {0}))
+own_entries edits = entries_from 0 0 edits
 
--- the answer to `history FROM`: some of this many entries, all of the one seat, which make the movie; or memory was refused
-pub record IsOwnHistory (state : TalkState) (from : ℕ) (answer : List ℕ) (next : TalkState) : Type 0 where
-  pub entries : List EntryContent
-  pub movie : movie_of entries ≡ state.stands.movie
-  pub made : length entries ≡ state.stands.made
-  pub alone : entries_of 0 entries ≡ length entries
+-- the answer to `history FROM`, where these edits were made: the entries from there on, at most as many as one answer reports; or memory was refused
+pub record IsOwnHistory (state : TalkState) (edits : List EditContent) (from : ℕ) (answer : List ℕ) (next : TalkState) : Type 0 where
   pub no_memory : Bool
-  pub answer_is : answer ≡ (if no_memory then reply_text OutOfMemory else history_reply_text state.stands.made from (take most_entries (drop from entries)))
+  pub answer_is : answer ≡ (if no_memory then reply_text OutOfMemory else history_reply_text (length edits) from (take most_entries (drop from (own_entries edits))))
   pub rests : next ≡ state
 
 -- the answer to a request at what was made and kept so far, and what is made and kept then. `quit` is answered nothing: it ends the
 -- conversation
-abbrev pub IsAnswerTo : TalkState → Request → List ℕ → TalkState → Type 0
-IsAnswerTo state (Pictures from to) answer next = (strip : List StripAnswer) × (length strip ≡ to - from) × AreStrip state from strip next × (answer ≡ strip_answers strip)
-IsAnswerTo state (History from) answer next = IsOwnHistory state from answer next
-IsAnswerTo state request answer next = IsAnswerAt state request answer next
+abbrev pub IsAnswerTo : TalkState → List EditContent → Request → List ℕ → TalkState → Type 0
+IsAnswerTo state edits (Pictures from to) answer next = (strip : List StripAnswer) × (length strip ≡ to - from) × AreStrip state from strip next × (answer ≡ strip_answers strip)
+IsAnswerTo state edits (History from) answer next = IsOwnHistory state edits from answer next
+IsAnswerTo state edits request answer next = IsAnswerAt state request answer next
+
+-- the edits that a request made, from what there was before to what there is then: one, or none
+abbrev pub edits_between : TalkState → TalkState → Request → List EditContent
+edits_between old new request = made_between old.stands new.stands (requested_edits (Unit {0}) old.stands.movie request)
 
 -- ---- drafts
 
--- what is made and kept, and the draft where one is open
+-- what is made and kept, the edits that were made, one after the other, and the draft where one is open
 pub record DraftedState : Type 0 where
   pub state : TalkState
+  pub edits : List EditContent
   pub draft : Option DraftContent
 
-abbrev pub drafted : TalkState → Option DraftContent → DraftedState
-drafted state draft = record { state = state; draft = draft }
+abbrev pub drafted : TalkState → List EditContent → Option DraftContent → DraftedState
+drafted state edits draft = record { state = state; edits = edits; draft = draft }
 
 -- what is made once these edits are, too
 abbrev pub standing_with : Standing → List EditContent → Standing
 standing_with stands edits = record { movie = edited_by stands.movie edits; made = stands.made + length edits }
 
 -- `commit` is answered at what was made so far. The greenzone is left, as by an edit
-pub record IsOwnCommit (state : TalkState) (draft : DraftContent) (answer : List ℕ) (next : DraftedState) : Type 0 where
-  pub edits : List EditContent
-  pub answered : IsCommitAnswer state.stands draft answer edits next.draft
-  pub stands : next.state.stands ≡ standing_with state.stands edits
+pub record IsOwnCommit (state : TalkState) (edits : List EditContent) (draft : DraftContent) (answer : List ℕ) (next : DraftedState) : Type 0 where
+  pub stroke : List EditContent
+  pub answered : IsCommitAnswer state.stands draft answer stroke next.draft
+  pub stands : next.state.stands ≡ standing_with state.stands stroke
+  pub edits_are : next.edits ≡ edits ++ stroke
   pub rests : Rests state next.state
 
 -- a request is answered where no draft is open
-abbrev pub IsOutsideAnswer : TalkState → Request → List ℕ → DraftedState → Type 0
-IsOutsideAnswer state Begin answer next = IsBeginAnswer state answer next.state next.draft
-IsOutsideAnswer state Commit answer next = (answer ≡ draft_reply_text NoDraft) × (next ≡ drafted state None)
-IsOutsideAnswer state Drop answer next = (answer ≡ draft_reply_text NoDraft) × (next ≡ drafted state None)
-IsOutsideAnswer state request answer next = IsAnswerTo state request answer next.state × (next.draft ≡ None)
+abbrev pub IsOutsideAnswer : TalkState → List EditContent → Request → List ℕ → DraftedState → Type 0
+IsOutsideAnswer state edits Begin answer next = IsBeginAnswer state answer next.state next.draft × (next.edits ≡ edits)
+IsOutsideAnswer state edits Commit answer next = (answer ≡ draft_reply_text NoDraft) × (next ≡ drafted state edits None)
+IsOutsideAnswer state edits Drop answer next = (answer ≡ draft_reply_text NoDraft) × (next ≡ drafted state edits None)
+IsOutsideAnswer state edits request answer next = IsAnswerTo state edits request answer next.state × (next.edits ≡ edits ++ edits_between state next.state request) × (next.draft ≡ None)
 
 -- a request is answered in a draft. `share` and `history` are about what was made so far
-abbrev pub IsInsideAnswer : TalkState → DraftContent → Request → List ℕ → DraftedState → Type 0
-IsInsideAnswer state draft Begin answer next = (answer ≡ draft_reply_text InDraft) × (next ≡ drafted state (Some draft))
-IsInsideAnswer state draft Commit answer next = IsOwnCommit state draft answer next
-IsInsideAnswer state draft Drop answer next = (answer ≡ draft_reply_text Dropped) × (next ≡ drafted state None)
-IsInsideAnswer state draft Share answer next = IsAnswerTo state Share answer next.state × (next.draft ≡ Some draft)
-IsInsideAnswer state draft (History from) answer next = IsAnswerTo state (History from) answer next.state × (next.draft ≡ Some draft)
-IsInsideAnswer state draft request answer next = (after : DraftContent) × IsDraftAnswered draft request answer after × IsDraft after × (next ≡ drafted state (Some after))
+abbrev pub IsInsideAnswer : TalkState → List EditContent → DraftContent → Request → List ℕ → DraftedState → Type 0
+IsInsideAnswer state edits draft Begin answer next = (answer ≡ draft_reply_text InDraft) × (next ≡ drafted state edits (Some draft))
+IsInsideAnswer state edits draft Commit answer next = IsOwnCommit state edits draft answer next
+IsInsideAnswer state edits draft Drop answer next = (answer ≡ draft_reply_text Dropped) × (next ≡ drafted state edits None)
+IsInsideAnswer state edits draft Share answer next = IsAnswerTo state edits Share answer next.state × (next.edits ≡ edits) × (next.draft ≡ Some draft)
+IsInsideAnswer state edits draft (History from) answer next = IsAnswerTo state edits (History from) answer next.state × (next.edits ≡ edits) × (next.draft ≡ Some draft)
+IsInsideAnswer state edits draft request answer next = (after : DraftContent) × IsDraftAnswered draft request answer after × IsDraft after × (next ≡ drafted state edits (Some after))
 
-abbrev pub IsDraftedAnswer : TalkState → Option DraftContent → Request → List ℕ → DraftedState → Type 0
-IsDraftedAnswer state None request answer next = IsOutsideAnswer state request answer next
-IsDraftedAnswer state (Some draft) request answer next = IsInsideAnswer state draft request answer next
+abbrev pub IsDraftedAnswer : TalkState → List EditContent → Option DraftContent → Request → List ℕ → DraftedState → Type 0
+IsDraftedAnswer state edits None request answer next = IsOutsideAnswer state edits request answer next
+IsDraftedAnswer state edits (Some draft) request answer next = IsInsideAnswer state edits draft request answer next
 
 -- a line that isn't understood is answered `unknown`, and changes nothing
 abbrev pub IsLineAnswer : DraftedState → Option Request → List ℕ → DraftedState → Type 0
-IsLineAnswer state (Some request) answer next = IsDraftedAnswer state.state state.draft request answer next
+IsLineAnswer state (Some request) answer next = IsDraftedAnswer state.state state.edits state.draft request answer next
 IsLineAnswer state None answer next = (answer ≡ unknown_text) × (next ≡ state)
 
 -- ---- lines, one after the other
@@ -170,25 +172,25 @@ TalkEnds state rest told input output output' (Err (Run NoPlace)) = (rest ≡ []
 TalkEnds state rest told input output output' (Err _) = ⊥
 
 -- a conversation from such a state on, from what the reader has and the writer holds before to what they have and hold afterwards:
--- what left the reader is the lines that were answered, and the rest in front of which it ended. It begins with no draft
-pub record IsTalk (start : TalkState) (input input' output output' : Option (List ℕ)) (result : Result (Unit {0}) ToolFault) : Type 0 where
+-- what left the reader is the lines that were answered, and the rest in front of which it ended
+pub record IsTalk (start : DraftedState) (input input' output output' : Option (List ℕ)) (result : Result (Unit {0}) ToolFault) : Type 0 where
   pub exchanges : List Exchange
   pub state : DraftedState
   pub rest : List ℕ
-  pub answered : AreExchanges (drafted start None) exchanges state
+  pub answered : AreExchanges start exchanges state
   pub left : Consumes input input' (lines_of exchanges ++ rest)
   pub ends : TalkEnds state rest (answers_of exchanges) input' output output' result
 
 -- ---- conversations over a cartridge or a movie
 
--- nothing is kept yet
-abbrev pub fresh_talk_state : Standing → TalkState
-fresh_talk_state stands = record { stands = stands; kept_for = blank_movie; states = [] }
+-- these edits are made, nothing is kept yet, and no draft is open
+abbrev pub fresh_talk_state : Standing → List EditContent → DraftedState
+fresh_talk_state stands edits = drafted (record { stands = stands; kept_for = blank_movie; states = [] }) edits None
 
 -- what a conversation starts from: a movie that two edits make, or nothing made yet
-abbrev pub talk_state_from : Option MovieContent → TalkState
-talk_state_from None = fresh_talk_state standing_at_start
-talk_state_from (Some movie) = fresh_talk_state (standing_of_movie movie)
+abbrev pub talk_state_from : Option MovieContent → DraftedState
+talk_state_from None = fresh_talk_state standing_at_start []
+talk_state_from (Some movie) = fresh_talk_state (standing_of_movie movie) (edits_of_movie (Unit {0}) movie)
 
 -- nothing was read of the input, and nothing written
 pub record IsUntouched (input input' output output' : Option (List ℕ)) : Type 0 where
@@ -196,8 +198,8 @@ pub record IsUntouched (input input' output output' : Option (List ℕ)) : Type 
   pub unwritten : Keeps output output'
 
 -- the cartridge is loaded, and no inputs are put in
-abbrev pub cart_talk_state : List ℕ → TalkState
-cart_talk_state image = fresh_talk_state (standing_of_movie (record { cart = image; inputs = [] }))
+abbrev pub cart_talk_state : List ℕ → DraftedState
+cart_talk_state image = talk_state_from (Some (record { cart = image; inputs = [] }))
 
 -- `tas talk CART`: reading the cartridge stopped, or its size is wrong, and the conversation didn't begin; or it goes on from
 -- the cartridge
@@ -215,4 +217,4 @@ IsMovieTalk cart cart' movie movie' input input' output output' result =
     ((fault : ReadFault) × (result ≡ Err (Read fault)) × StopsReadingTwo cart cart' movie movie' fault × IsUntouched input input' output output')
     ⊎ ((image : List ℕ) × (said : List ℕ) × IsReadWhole cart cart' image × IsReadWhole movie movie' said
     × (((fault : RunFault) × (result ≡ Err (Run fault)) × IsMovieFault image said fault × IsUntouched input input' output output')
-    ⊎ ((content : MovieContent) × IsMovieOf image said content × IsTalk (fresh_talk_state (standing_of_movie content)) input input' output output' result)))
+    ⊎ ((content : MovieContent) × IsMovieOf image said content × IsTalk (talk_state_from (Some content)) input input' output output' result)))

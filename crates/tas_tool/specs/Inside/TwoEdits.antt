@@ -8,18 +8,21 @@ use Rattle.tas_desk.specs.declared.export.ExportError.{ExportError}
 use Rattle.tas_desk.specs.declared.export.ExportError.TheVariants.{Range as OffRange, Memory as OutOfRoom, Halted as HaltedAt, Write as WriteFailed}
 use Rattle.tas_session.specs.Session.{refusal_at}
 use Rattle.tas_session.specs.History.{movie_of, entries_of}
+use Rattle.tas_session.specs.Strokes.{edits_in}
 use Rattle.tas_desk.specs.Seats.{SeatContent}
 use Rattle.tas_session.specs.declared.replies.EditError.{EditError}
 use Rattle.tas_session.specs.declared.replies.EditError.TheVariants.{Memory as NoRoom}
 use Rattle.tas_engines.specs.declared.fault.RunFault.{RunFault}
 use Rattle.tas_engines.specs.declared.fault.RunFault.TheVariants.{Range, Halted, Write, Foreign, Memory}
 use Rattle.tas_engines.specs.Shooting.{halt_fault}
+use Rattle.tas_tool.specs.MovieScripts.{edits_of_movie}
 
--- the seat made two edits, which are the first ones of what it has seen, and make this movie
+-- the seat made two edits, which are the first ones of what it has seen: they load this movie's cartridge and put its inputs in, and so make it
 pub record HoldsMovie {A : Type 0} (seat : SeatContent A) (movie : MovieContent) : Type 0 where
   pub made : seat.made ≡ 2
   pub seen : 2 ≤ length seat.front
   pub own : entries_of seat.number (take 2 seat.front) ≡ 2
+  pub edits : edits_in (take 2 seat.front) ≡ edits_of_movie A movie
   pub movie_is : movie_of (take 2 seat.front) ≡ movie
 
 -- the seat has seen more edits than it made
