@@ -196,7 +196,7 @@ impl<N: Name, W: CloseOnDrop + Wait, A: Allocator + Copy> Desk<N, W, A> {
 }
 
 impl<N: Name, W: CloseOnDrop, A: Allocator + Copy> Desk<N, W, A> {
-    /// Makes an edit, as the seat. The receipt tells how many edits there are then, this one included, and how many inputs.
+    /// Makes an edit, as the seat. The receipt has the number of edits then, this one included, and the movie's length in frames.
     ///
     /// It is refused, in this order, for `Serial` (the history that the seat now sees has another number of its edits than it
     /// made), `Full` (1,000,000 edits), `Place`, `Long` and `Memory`. After a refusal the history has nothing of this call.
@@ -228,7 +228,7 @@ impl<N: Name, W: CloseOnDrop, A: Allocator + Copy> Desk<N, W, A> {
     }
 
     /// Makes the edits of a stroke as one step, as the seat, where the history has `at` edits: nobody's edit comes before or between
-    /// them, and nobody sees one without the other. The receipt tells how many edits there are then, and how many inputs.
+    /// them, and nobody sees one without the other. The receipt has the number of edits then, and the movie's length in frames.
     ///
     /// It is refused, in this order, for `Serial` as [`Desk::edit`] is, for `Moved` (the history has another number of edits), `Full`
     /// (no room for all of the edits below 1,000,000), `Place` and `Long` (the first edit that is refused) and `Memory`. After a refusal
@@ -304,7 +304,7 @@ impl<N: Name, W: CloseOnDrop, A: Allocator + Copy> Desk<N, W, A> {
     /// The machine in which frame `from` begins, where the movie has all frames from `from` to the one before `to`: `from` is at most
     /// `to`, and `to` at most the movie's length. It is played as by [`Desk::state`] of `from`, without the lock.
     ///
-    /// `NoFrame` comes exactly where the movie hasn't these frames. `NoEntry` leaves the seat as it was, `NoFrame` and `Memory` its
+    /// `NoFrame` comes exactly where the movie doesn't have these frames. `NoEntry` leaves the seat as it was, `NoFrame` and `Memory` its
     /// zone.
     pub fn state_for(
         &self,

@@ -34,7 +34,7 @@ pub struct Exported {
 /// Why frames weren't written, or not all.
 #[derive(Drop)]
 pub enum ExportError {
-    /// The movie hasn't these frames, or there are too many for one export. Nothing was written.
+    /// The movie doesn't have these frames, or there are too many for one export. Nothing was written.
     Range {
         /// How many edits the history has.
         at: u64,
@@ -43,7 +43,7 @@ pub enum ExportError {
     },
     /// Memory was refused. Nothing was written.
     Memory,
-    /// A frame is halted; this is the least one. Nothing was written.
+    /// A frame is halted; this is the first one. Nothing was written.
     Halted {
         /// How many edits the history has.
         at: u64,
@@ -77,9 +77,9 @@ impl<N: Name, W: CloseOnDrop, A: Allocator + Copy> Desk<N, W, A> {
     /// bytes a frame and so 103 MB for 1,024, is asked for before the first frame is played, all of it from `alloc`. The seat's
     /// zone isn't changed, nor is the history.
     ///
-    /// `workers` is 1 to [`MAX_WORKERS`](crate::MAX_WORKERS); the caller shows it. `Range` comes first, where the movie hasn't these frames or they are more
-    /// than [`MAX_EXPORT`]; then `Memory`, or `Halted` with the least halted frame. Nothing was written then. `Write` tells
-    /// how many bytes had gone out.
+    /// `workers` is 1 to [`MAX_WORKERS`](crate::MAX_WORKERS); the caller shows it. `Range` comes first, where the movie doesn't have
+    /// these frames or they are more than [`MAX_EXPORT`]; then `Memory`, or `Halted` with the first halted frame. Nothing was written
+    /// then. `Write` has the number of bytes that had gone out.
     pub fn export<
         B: Allocator + Copy + Send + Sync,
         G: Gate + Sync,

@@ -1,7 +1,5 @@
 //! The editor: one movie, the history of its edits, and its greenzone; for one caller as a session, for several as a desk with
 //! seats, which read without waiting.
-//!
-//! "(own)" marks a rule that is this project's own; where a rule comes from a manual, its section is named.
 #![tactic(auto)]
 
 mod desk;

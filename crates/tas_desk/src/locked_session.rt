@@ -44,7 +44,7 @@ impl<R: Wait + Drop> CloseOnDrop for R {
 }
 
 /// The session, with the book of what the seats made. Contracts see its history and its kept states; the movie is the
-/// history's. It keeps its part for waiting, since a session can't be dropped: it is closed then.
+/// history's. It keeps a handle for waiting: a session can't be dropped, so it is closed where this is dropped.
 pub struct LockedSession<N: Name, W: CloseOnDrop, A: Allocator = Global> {
     session: Session<A>,
     book: Book<N>,

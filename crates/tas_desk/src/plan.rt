@@ -12,7 +12,7 @@ use crate::{EditError, Session};
 use std::alloc::{AllocError, Allocator};
 use tas_movie::{Edit, EditRefusal, Movie};
 
-/// An edit that depends on the movie in which it is made, as 'the frames 10 to 19 with a button more' does.
+/// An edit that depends on the movie in which it is made: one button more in frames 10 to 19, say.
 /// [`Desk::edit_by`](crate::Desk::edit_by) makes it under the lock, of the movie there.
 pub trait Plan<A: Allocator> {
     /// Why a movie refuses the edit, where it does.

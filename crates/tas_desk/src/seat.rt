@@ -177,7 +177,7 @@ impl<N: Name, A: Allocator + Copy> Seat<N, A> {
         self.state_for(k, k)
     }
 
-    /// The machine after `from` frames, from the seat's own zone, where the movie has `to` frames or more, and `from` of them.
+    /// The machine after `from` frames, from the seat's own zone, where `from` is at most `to`, and `to` at most the movie's length.
     pub(crate) fn state_for(&mut self, from: usize, to: usize) -> Result<Reached, StateError>
         ensures seat { HasSeen self.old self.new }
         ensures reply { IsStateFor self.new.front from to result }

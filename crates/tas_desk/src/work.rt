@@ -11,7 +11,7 @@ use std::alloc::{AllocError, Allocator};
 use std::sync::Wait;
 use thiserror::Error;
 
-/// What was worked.
+/// What was done for some targets.
 #[derive(Clone, Copy, Debug, PartialEq, Eq)]
 pub struct Worked {
     /// How many targets there were jobs for.
@@ -23,7 +23,7 @@ pub struct Worked {
 }
 
 impl Worked {
-    /// What was worked with one job more, which gained this many states, or was of another cartridge than the movie's.
+    /// What was done with one job more, which gained this many states, or was of another cartridge than the movie's.
     fn and(self, gained: Option<usize>) -> Worked
         requires tally { IsTally self }
         requires room { self.jobs + 1 < 2 ^ 64 }
@@ -48,7 +48,7 @@ impl Worked {
     }
 }
 
-/// Why not all targets were worked.
+/// Why the work ended before its last target.
 #[derive(Clone, Copy, Debug, PartialEq, Eq, Error)]
 pub enum WorkError {
     /// Memory was refused at the next target.
@@ -63,7 +63,7 @@ impl<N: Name, W: CloseOnDrop, A: Allocator + Copy> Desk<N, W, A> {
     /// For each target, in order: takes a job for that many frames, passes the gate with the target's index, runs the job and
     /// offers what it made. The jobs run on this thread, outside the lock. A batch of another cartridge counts as stale.
     ///
-    /// `Memory` tells what was done for the targets before; their states stay.
+    /// `Memory` has what was done for the targets before; their states stay.
     pub fn work<G: Gate, B: Allocator + Copy, R: Wait>(
         &self,
         rt: &R,
@@ -91,7 +91,7 @@ impl<N: Name, W: CloseOnDrop, A: Allocator + Copy> Desk<N, W, A> {
         Ok(done)
     }
 
-    /// Works the target of this number, for this many frames. Answers how many states were gained, or nothing where the job was
+    /// Does the job of the target of this number, for this many frames. Returns how many states were gained, or `None` where the job was
     /// of another cartridge than the movie's.
     fn work_one<G: Gate, B: Allocator + Copy, R: Wait>(
         &self,

@@ -11,7 +11,7 @@ use tas_movie::{FrameRun, MAX_FRAMES};
 /// How many runs in a row are the same where both lists go on alike.
 const ALIKE_RUNS: usize = 4;
 
-/// Such a place is looked for where fewer runs than these come before it.
+/// Such a place is looked for only where fewer than this many runs of both lists together come before it.
 const REACH: usize = 512;
 
 /// What the movie has where the runs begin.
@@ -104,7 +104,7 @@ fn nearest(old: &[FrameRun], new: &[FrameRun], room: Room) -> Option<Anchor>
     None
 }
 
-/// A place from which both lists go on alike, where they don't before it: `far` where they do there and at no nearer one.
+/// A place from which both lists go on alike, while the parts before it nowhere do: `far`, if that is so of it, else the nearest one.
 pub(crate) fn next_alike(
     old: &[FrameRun],
     new: &[FrameRun],

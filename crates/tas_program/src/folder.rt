@@ -13,7 +13,7 @@ pub trait Folder {
     /// A file that was opened for writing.
     type Sink: Write + Drop + Send + Sync;
 
-    // The bytes of the file of a name, and those that it holds when it is opened for writing, where they are known.
+    // The bytes of the file with a name, where they are known; and those that it holds when it is opened for writing.
     ghost bytes_of: { Self → List ℕ → Option (List ℕ) } = { λ _ _. None };
 
     ghost held_by: { Self → List ℕ → Option (List ℕ) } = { λ _ _. None };

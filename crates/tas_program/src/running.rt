@@ -200,8 +200,8 @@ fn run_engine<
     }
 }
 
-/// Does a task by its engine: the files that it names are opened first, a failure being `Read`, then
-/// the engine reads them and the input, and writes its answer to the output.
+/// Does a task by its engine. The files that it names are opened first, a failure being `Read`, but for the pairs of a desk, which its
+/// conversations open. Then the engine reads the files and the input, and writes its answer to the output.
 pub fn run_task<
     T: Wait + Threads + Sync,
     A: Allocator + Copy + Send + Sync,
@@ -251,7 +251,7 @@ fn tell<A: Allocator, E: Write>(alloc: A, errors: &mut E, end: Result<(), ToolFa
     match end {
         Ok(()) => Status::Done,
         Err(fault) => {
-            // The status tells of the fault, also where its line can't be written.
+            // The status reports the fault even where its line can't be written.
             let _ = write_line(alloc, errors, fault);
             Status::Fault
         }

@@ -59,7 +59,7 @@ pub fn halted_reply(at: u64, halt: Halt) -> Reply
     }
 }
 
-/// What a shot without a picture is answered.
+/// The reply to a shot that has no picture.
 pub fn unshown_as(error: ShotError) -> Result<Reply, RunFault>
     ensures { result ≡ unshown_as error }
 {

@@ -123,8 +123,8 @@ enum Outcome {
     Refused(Reply),
 }
 
-/// Whether the history has another number of edits than `at`: how many, where it has. It is looked at by making no edit, which nothing
-/// else refuses.
+/// Whether the history has another number of edits than `at`: how many, where it has. A commit of no edits finds out; beside that only
+/// `Serial` refuses it, which is the fault `Foreign`.
 fn moved_from<N: Name, W: CloseOnDrop, A: Allocator + Copy, R: Wait>(
     rt: &R,
     desk: &Desk<N, W, A>,
@@ -237,8 +237,8 @@ fn answer_in_draft<A: Allocator + Copy>(
     opened.answer(alloc, request)
 }
 
-/// Answers a request of a conversation. Where a draft is open, a line about the movie is answered at the draft; `quit` alone is answered
-/// nothing.
+/// Answers a request of a conversation. Where a draft is open, a line about the movie is answered at the draft; `quit` alone gets no
+/// answer.
 ///
 /// Faults: those of [`answer_request`](crate::answer_request).
 pub fn answer_talk<N: Name, W: CloseOnDrop, A: Allocator + Copy, R: Wait>(

@@ -52,7 +52,7 @@ impl<A: Allocator> Model for Draft<A> {
     }) };
 }
 
-/// What an edit that a movie refuses is answered at this many edits.
+/// The reply to an edit that a movie refuses, at this many edits.
 fn refusal_reply(at: u64, refused: EditRefusal) -> Reply
     ensures { refusal_reply at (Some refused) ≡ Some result }
 {
@@ -142,7 +142,7 @@ impl<A: Allocator> Draft<A> {
 }
 
 impl<A: Allocator + Copy> Draft<A> {
-    /// The edits that make the movie as it would be of the movie as it was when the draft began: the inputs with which both begin, and
+    /// The edits that turn the movie as it was when the draft began into the movie as it would be: the inputs with which both begin, and
     /// of the rest those with which both end, are left alone. `AllocError` where memory is refused.
     pub fn stroke(&self, alloc: A) -> Result<Stroke<A>, AllocError>
         ensures stroke { IfOk result

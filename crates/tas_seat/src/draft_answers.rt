@@ -138,7 +138,7 @@ impl<A: Allocator + Copy> Draft<A> {
         Ok(bytes)
     }
 
-    /// The answer to a request, where it is about a draft.
+    /// The answer to a request that is about the movie; `None` where it isn't.
     fn answer_about_draft(
         &mut self,
         alloc: A,

@@ -36,7 +36,7 @@ impl<A: Allocator + Copy> Draft<A> {
         shown(at, k, meter.count(), picture, end)
     }
 
-    /// The machine after `from` frames, from the draft's greenzone, where the movie has `to` frames or more, and `from` of them.
+    /// The machine after `from` frames, from the draft's greenzone, where `from` is at most `to`, and `to` at most the movie's length.
     fn state_for(&mut self, from: usize, to: usize) -> Result<Reached, StateError>
         ensures { IsDraftStateFor self.old self.new from to result }
     {
@@ -90,7 +90,7 @@ impl<A: Allocator + Copy> Draft<A> {
             (λ bytes. IsDraftAnswered self.old (DigestLine frame) bytes.items self.new)
             (HasNoDraftAnswer self.old self.new (DigestLine frame)) }
     {
-        // The place after the greatest number wraps to 0, which no movie has after it.
+        // After the greatest number comes 0: then the first frame is past the last one, and no movie has such frames.
         let reached = match self.state_for(frame, frame.wrapping_add(1)) {
             Ok(reached) => reached,
             Err(error) => return unshown_answer(alloc, error.into()),

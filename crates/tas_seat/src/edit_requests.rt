@@ -51,7 +51,7 @@ impl<A: Allocator> Plan<A> for EditRequest {
     }
 }
 
-/// What a refused edit is answered.
+/// The reply to a refused edit.
 pub(crate) fn refused_as(error: EditError) -> Result<Reply, RunFault>
     ensures { result ≡ refused_as error }
 {

@@ -47,7 +47,7 @@ pub fn answers_are_at_beginnings<A: Allocator>()
         → IsPrefix x.next.seat.front y.next.seat.front }
 {}
 
-/// A draft is one of the movie at which it began, and a `commit` that is made makes just the movie that the draft showed: a history that
+/// A draft begins from the movie of its history, and a `commit` that is made makes just the movie that the draft showed: a history that
 /// begins with what the seat has seen, and has as many edits as when the draft began, has the movie from which it began; and where a
 /// `commit` leaves no draft, the movie of the history that the seat has then seen is the draft's.
 pub fn commits_make_drafts<A: Allocator>()

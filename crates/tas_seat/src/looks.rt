@@ -1,4 +1,4 @@
-//! The lines `ram`, `digest` and `lag` of a conversation: looks at the machine after a frame, or in some.
+//! The lines `ram`, `digest` and `lag` of a conversation: looks at the machine after some frames, or in them.
 
 ghost use Rattle.std.specs.Prelude.{◌≡◌, ◌<◌, ◌≤◌, length, IfOk, MatchResult};
 ghost use Rattle.tas_green.specs.Run.{state_after};
@@ -74,7 +74,7 @@ pub fn answer_digest<N: Name, W: CloseOnDrop, A: Allocator + Copy>(
         (λ bytes. HasAnswer A seat.old seat.new (DigestLine frame) bytes.items)
         (HasNoAnswer seat.old seat.new (DigestLine frame)) }
 {
-    // The place after the greatest number wraps to 0, which no movie has after it.
+    // After the greatest number comes 0: then the first frame is past the last one, and no movie has such frames.
     let reached = match desk.state_for(seat, frame, frame.wrapping_add(1)) {
         Ok(reached) => reached,
         Err(error) => return unshown_answer(alloc, error.into()),

@@ -241,7 +241,8 @@ fn answer_share<N: Name, W: CloseOnDrop, A: Allocator + Copy, R: Wait>(
 
 /// Does what a request asks for, and answers it: at some history that begins with what the seat had seen, and that it has seen
 /// then. The pictures of a strip may be answered at several histories, each of which begins the next. `begin`, `commit`, `drop` and
-/// `quit`, which are about a conversation, are answered nothing here. Where memory is refused for a picture, a text or a list, the answer is `out of memory`.
+/// `quit` are about a conversation, and get no answer here. Where memory is refused for a picture, a text or a list, the answer is
+/// `out of memory`.
 ///
 /// Faults: those of [`reply_to_command`](crate::reply_to_command), after which the seat may have seen pictures of a strip; and `Memory`,
 /// where it is refused for an answer of one short line, once the request is carried out, or for a strip.

@@ -51,7 +51,7 @@ fn answer_unknown<W: Write>(output: &mut W, before: usize) -> Result<usize, RunF
     hand_out(output, b"unknown\n", before)
 }
 
-/// Answers the line that is held, and returns how many bytes of answers have gone out then; nothing comes back where it asks for the
+/// Answers the line that is held, and returns how many bytes of answers have gone out then; `None` where it asks for the
 /// end.
 fn answer_line<N: Name, C: CloseOnDrop, A: Allocator + Copy, R: Wait, W: Write>(
     rt: &R,
@@ -77,8 +77,8 @@ fn answer_line<N: Name, C: CloseOnDrop, A: Allocator + Copy, R: Wait, W: Write>(
     Ok(Some(hand_out(output, bytes.as_slice(), written)?))
 }
 
-/// Answers each line that ends in a part of the input, the first of which may have begun before it, and holds what stands
-/// after the last newline; nothing comes back where a line asks for the end.
+/// Answers each line that ends in a part of the input, the first of which may have begun before it, and holds what comes
+/// after the last newline; `None` where a line asks for the end.
 fn answer_part<N: Name, C: CloseOnDrop, A: Allocator + Copy, R: Wait, W: Write>(
     rt: &R,
     alloc: A,

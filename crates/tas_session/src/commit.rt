@@ -12,8 +12,8 @@ use std::sync::Wait;
 
 impl<A: Allocator + Copy> Session<A> {
     /// Makes the edits of a stroke as one step, as `seat`, which says that it has made `made` edits before, and that the history has
-    /// `at` edits. No reader sees the history between two of them. The receipt tells how many edits there are then, and how many
-    /// inputs.
+    /// `at` edits. No reader sees the history between two of them. The receipt has the number of edits then, and the movie's length in
+    /// frames.
     ///
     /// It is refused, in this order, for `Serial`, `Moved` (the history has another number of edits than `at`), `Full` (no room for
     /// all of the edits), `Place`, `Long` and `Memory`; each refusal leaves history, movie and greenzone as they were. Afterwards the
@@ -54,7 +54,7 @@ impl<A: Allocator + Copy> Session<A> {
         })
     }
 
-    /// Whether the edits of a stroke would be refused as one step for another cause than memory.
+    /// Why the edits of a stroke would be refused as one step, memory apart; `Ok` where they wouldn't be.
     fn check_commit(
         &self,
         seat: u32,

@@ -1,7 +1,5 @@
 //! The editor for one caller: one movie, the history of its edits, its greenzone, and the published movie, which readers see
 //! without waiting.
-//!
-//! "(own)" marks a rule that is this project's own; where a rule comes from a manual, its section is named.
 #![tactic(auto)]
 
 mod commit;

@@ -94,7 +94,7 @@ impl<A: Allocator + Copy> MovieReader<A> {
         requires { KnowsRegistry self.old known.now.registry }
         ensures { FoundCopy self.old self.new known.now k result }
     {
-        // No movie is as long as the greatest number.
+        // The greatest number stays as it is: no movie has that many frames.
         match self.copy_of(alloc, known, k.saturating_add(1)) {
             Ok(found) => Ok(found),
             Err(error) => Err(ShotError::from(error)),

@@ -202,7 +202,7 @@ impl<A: Allocator> Outcome<PublishedMovie<A>, ReaderView<A>> for PublishNothing 
     ghost then = { PublishesNothing };
 }
 
-/// The writer tells a reader all that it has seen, and keeps it. The reader keeps what it had seen where that is more.
+/// The writer hands a reader all that it has seen, and keeps it. The reader keeps what it had seen where that is more.
 pub struct TellAll;
 
 impl<A: Allocator> Split<ReaderView<A>> for TellAll {

@@ -104,7 +104,7 @@ fn new_writer<A: Allocator + Copy>(
     )
 }
 
-/// Makes the next version, of this history. Only the session numbers histories, so the first try is the one that does it.
+/// Makes the next version, of this history. Only the session numbers histories, so the first try succeeds.
 fn renew<A: Allocator, R: Wait>(rt: &R, latest: &mut LatestVersion<A>, journal: &Vec<Entry<A>, A>)
     ensures { latest.new ≡ version_of latest.old.registry journal.now.items }
 {
@@ -131,8 +131,8 @@ fn publish_step<A: Allocator, R: Wait>(writer: MovieWriter<A>, rt: &R) -> MovieW
     writer
 }
 
-/// Publishes nothing, by value: what is published stays. A new writer doesn't know the registry of its histories, which a reader has
-/// to learn from it; such a publish tells it.
+/// Publishes nothing, by value: what is published stays. A new writer hasn't seen the registry of its histories, which a new reader gets
+/// from it; after such a publish it has.
 fn publish_nothing<A: Allocator, R: Wait>(writer: MovieWriter<A>, rt: &R) -> MovieWriter<A>
     requires none { drop writer.behind writer.log.items ≡ [] }
     requires known { HasSeenAll writer.desk.shown.value (view writer.desk.place) }
@@ -169,7 +169,7 @@ fn publish_edit<A: Allocator, R: Wait>(
     (publish_step(writer, rt), Ok(()))
 }
 
-/// Tells a reader of this writer all that the writer has seen. The reader has seen no less than before.
+/// Hands a reader of this writer all that the writer has seen. The reader has seen no less than before.
 fn tell_all<A: Allocator>(writer: &mut MovieWriter<A>, reader: &mut RuledReader<A>)
     requires own { reader.old.place.table_id ≡ writer.old.desk.place.table_id }
     requires begins { IsPrefix (view reader.old.place).seen (view writer.old.desk.place).seen }

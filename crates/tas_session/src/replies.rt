@@ -1,4 +1,4 @@
-//! What a session or a desk answers. In every reply `at` is the number of edits in the history at which the reply stands.
+//! What a session or a desk answers. In every reply `at` is the number of edits of the history that the reply is about.
 
 ghost use Rattle.std.specs.Prelude.{◌≡◌, Some, Ok, Err, OnOk, IfErr};
 ghost use Rattle.tas_session.specs.declared.replies.ShotError.TheVariants.{Halted};
@@ -19,7 +19,7 @@ pub enum OpenError {
     /// Memory was refused.
     #[error("out of memory")]
     Memory,
-    /// A seat's reader got no place to read from. A session never answers it.
+    /// A seat's reader got no place to read from. A session never returns it.
     #[error("no place")]
     NoPlace,
 }
@@ -139,7 +139,7 @@ pub struct Shot<A: Allocator = Global> {
 #[derive(Clone, Copy, Debug, PartialEq, Eq, Error)]
 pub enum ShotError {
     /// The seat's reader found its writer gone, as in [`NoEntry`](crate::NoEntry); the seat is as it was. A session never
-    /// answers it.
+    /// returns it.
     #[error("no entry")]
     NoEntry,
     /// The movie has no such frame.

@@ -178,7 +178,7 @@ impl<A: Allocator + Copy> Session<A> {
         })
     }
 
-    /// Whether the edit would be refused for another cause than memory.
+    /// Why the edit would be refused, memory apart; `Ok` where it wouldn't be.
     fn check_edit(&self, seat: u32, made: u64, edit: &Edit<A>) -> Result<(), EditError>
         ensures refusal { MatchResult result (λ _. edit_refusal self.now seat made edit.now ≡ None)
             (λ error. edit_refusal self.now seat made edit.now ≡ Some error) }
@@ -231,7 +231,7 @@ impl<A: Allocator + Copy> Session<A> {
         Ok(())
     }
 
-    /// Draws frame `k`, counted from 0, played from the nearest kept state, and keeps the states on the way that stand on the
+    /// Draws frame `k`, counted from 0, played from the nearest kept state, and keeps the states on the way that are on the
     /// grid, halted ones too.
     ///
     /// `NoFrame` and `Memory` leave session and meter as they were. After `Halted`, as after an answer, the meter has risen by

@@ -136,8 +136,8 @@ impl<A: Allocator> Version<A> {
         true
     }
 
-    /// Becomes the version of this history, under the next number, and says whether it did: not where another one has that
-    /// number already, which is taken in then, nor where numbers run out.
+    /// Becomes the version of this history, under the next number, and returns whether it did. It doesn't where another history has that
+    /// number already, whose version it becomes then, nor where numbers run out.
     fn try_renew(
         &mut self,
         counter: &Word<LinkedList<Entry<A>, A>, u64, VersionRule>,
@@ -186,7 +186,7 @@ impl<A: Allocator> LatestVersion<A> {
         &self.version
     }
 
-    /// Becomes the version of this history, under the next number, and says whether it did. It does, as long as there are
+    /// Becomes the version of this history, under the next number, and returns whether it did. It does, as long as there are
     /// numbers below 2^62, since nobody else has the counter; no clause says so.
     pub fn try_renew(&mut self, journal: &Vec<Entry<A>, A>) -> bool
         ensures registry { self.new.registry ≡ self.old.registry }

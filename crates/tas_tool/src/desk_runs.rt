@@ -99,7 +99,7 @@ fn write_movie<A: Allocator + Copy, W: Write>(
     write_all(output, text.as_slice())
 }
 
-/// The fault of the least seat whose conversation ended with one.
+/// The fault of the first seat whose conversation ended with one.
 fn first_fault(ends: &[Result<(), SeatFault>]) -> Result<(), ToolFault>
     requires { length ends.now ≤ most_seats }
     ensures { result ≡ first_fault 0 ends.now }
@@ -158,7 +158,7 @@ fn read_movie<A: Allocator + Copy, C: Read, M: Read>(
 ///
 /// Faults, in order: those of [`read_two`], then those of [`movie_of`]; `Memory` and `NoPlace` for the desk; each of these before a door
 /// is opened. Then, with nothing undone, `Memory` for the text and `Write` for its write; and, with the movie written, `Seat`: the fault
-/// of the least seat whose conversation ended with one. `Foreign` never comes.
+/// of the first seat whose conversation ended with one. `Foreign` never comes.
 pub fn desk_run<
     A: Allocator + Copy + Send + Sync,
     T: Wait + Threads + Sync,

@@ -37,7 +37,8 @@ impl Gate for OpenGate {
     fn pass(&self, _piece: usize) {}
 }
 
-/// What a desk's answer is reported as: one that tells of the movie's frames is compared with the two edits that made it.
+/// How a desk's answer is reported. One about the movie's frames has to name just the two edits that made the movie; else it is
+/// `Foreign`.
 fn export_end(from: usize, to: usize, answer: Result<Exported, ExportError>) -> Result<(), RunFault>
     ensures { result ≡ export_end from to answer }
 {
@@ -59,7 +60,7 @@ fn export_end(from: usize, to: usize, answer: Result<Exported, ExportError>) -> 
 }
 
 /// Writes the pictures of some frames of the movie that the seat made by two edits. `Memory` never comes where the movie
-/// hasn't these frames.
+/// doesn't have these frames.
 fn write_frames<
     N: Name,
     C: CloseOnDrop,
@@ -166,10 +167,10 @@ fn export_movie<A: Allocator + Copy + Send + Sync, R: Wait + Threads + Sync, W: 
 /// `workers` workers, each on a thread of its own: by one where the number is 0, and by [`MAX_WORKERS`] where it is
 /// more. What is written doesn't depend on it.
 ///
-/// Faults, in order: those of [`read_two`], those of [`movie_of`], then `Range` where the movie hasn't
-/// these frames or they are more than 1,024, then `Halted` with the least halted frame's halt, each with
+/// Faults, in order: those of [`read_two`], those of [`movie_of`], then `Range` where the movie doesn't have
+/// these frames or they are more than 1,024, then `Halted` with the first halted frame's halt, each with
 /// nothing written; `Memory` and `NoPlace` with nothing written; `Write` with the first bytes written, and
-/// how many. `Foreign` would tell of an edit that isn't the engine's own, and never comes.
+/// how many. `Foreign` would report an edit that isn't the engine's own, and never comes.
 pub fn export_run<
     T: Wait + Threads + Sync,
     A: Allocator + Copy + Send + Sync,

@@ -10,7 +10,7 @@ use tas_engines::{RunFault, ToolFault, movie_of, read_two};
 use tas_movie::Movie;
 use vcs_cpu::Halt;
 
-/// The fault that tells why a film ended before its last frame.
+/// The fault that reports why a film ended before its last frame.
 fn stop_fault(stop: FilmStop) -> RunFault
     ensures { result ≡ stop_fault stop }
 {
@@ -67,8 +67,8 @@ fn film_movie<A: Allocator + Copy, W: Write>(
 /// and `to` the movie's length where they aren't given. The movie is played once. Beside its inputs the call holds the movie and
 /// one picture.
 ///
-/// Faults, in order: those of [`read_two`], those of [`movie_of`], then `Range` where the movie hasn't these frames, each with
-/// nothing written; then `HaltedFrame` with the least halted frame, and the pictures of the frames before it are written.
+/// Faults, in order: those of [`read_two`], those of [`movie_of`], then `Range` where the movie doesn't have these frames, each with
+/// nothing written; then `HaltedFrame` with the first halted frame, and the pictures of the frames before it are written.
 /// `Memory` with nothing written; `Write` with the first bytes written, and how many.
 pub fn film_run<A: Allocator + Copy, C: Read, R: Read, W: Write>(
     alloc: A,

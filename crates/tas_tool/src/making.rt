@@ -15,7 +15,7 @@ use vcs_machine::Cart;
 /// How many edits [`put_movie`] makes.
 pub const MOVIE_EDITS: u64 = 2;
 
-/// An answer, or another end, where it stands at just the seat's own edits.
+/// An answer, or another end, if the desk has `made` edits then, all of them the seat's own; else `Foreign`.
 pub fn checked<T: Copy>(made: u64, at: u64, end: Result<T, RunFault>) -> Result<T, RunFault>
     ensures { result ≡ checked_end made at end }
 {
@@ -26,7 +26,7 @@ pub fn checked<T: Copy>(made: u64, at: u64, end: Result<T, RunFault>) -> Result<
     }
 }
 
-/// What a refused edit is reported as: only being out of memory can refuse one, where the desk has no other edits.
+/// How a refused edit is reported. On a desk without other edits memory alone can refuse one; any other refusal is `Foreign`.
 fn edit_fault(error: EditError) -> RunFault
     ensures { result ≡ edit_fault error }
 {

@@ -82,7 +82,7 @@ fn run_over<A: Allocator + Copy, R: Wait, W: Write>(
 
 /// Reads a cartridge, a movie text and a script, and writes a reply for each line of the script, as
 /// [`script_run`](crate::script_run) does, but from this movie on: its cartridge is loaded and its inputs are put in before the
-/// first line, by two edits, which no reply tells.
+/// first line, by two edits that no reply reports.
 ///
 /// Faults, in order: those of reading the three, then `Size` and `Text`, each with nothing written; `NoPlace`, and `Memory` before
 /// the first line, with nothing written; then those of `script_run`.

@@ -96,7 +96,7 @@ fn run_script<A: Allocator + Copy, R: Wait, W: Write>(
 ///
 /// Faults: those of [`read_input`] with nothing written; `NoPlace` with nothing written; `Script` with the line's number,
 /// `NoEntry` and `Memory`, with the replies to the lines before written; `Write` with the first bytes of the replies written,
-/// and how many. `Foreign` would tell of an edit that isn't the script's own, and never comes.
+/// and how many. `Foreign` would report an edit that isn't the script's own, and never comes.
 pub fn script_run<A: Allocator + Copy, T: Wait, R: Read, W: Write>(
     rt: &T,
     alloc: A,

@@ -128,14 +128,14 @@ fn read_movie<A: Allocator + Copy, C: Read, M: Read>(
 }
 
 /// Reads lines and answers each of them, from a blank cartridge with no inputs on: an answer is handed out whole before more
-/// is read. The lines are those of a [`Request`](tas_language::Request): a script's, edits that depend on the movie's frames, looks, and
-/// `quit`; another line, or one of more than
-/// [`MAX_LINE`](tas_language::MAX_LINE) bytes, is answered `unknown` and changes nothing, and so is what stands after the last
-/// newline. It runs on a desk of one seat, and ends with `quit` or with the input.
+/// is read. The lines are those of a [`Request`](tas_language::Request): a script's, edits that depend on the movie's frames, looks,
+/// `share`, `history`, those about drafts, and `quit`. Another line, or one of more than [`MAX_LINE`](tas_language::MAX_LINE) bytes, is
+/// answered `unknown` and changes nothing, and so is what comes after the last newline. It runs on a desk of one seat, and ends with
+/// `quit` or with the input.
 ///
 /// Faults: `Read` where a read failed, with each whole line answered; `Write`, with the first bytes of the answers written, and how
 /// many; `NoEntry`, and `Memory` where it is refused for a line or for its reply, with the lines before answered; `NoPlace` and
-/// `Memory` before the first line. `Foreign` would tell of an edit that isn't the conversation's own, and never comes.
+/// `Memory` before the first line. `Foreign` would report an edit that isn't the conversation's own, and never comes.
 pub fn talk_run<A: Allocator + Copy, T: Wait, R: Read, W: Write>(
     rt: &T,
     alloc: A,
@@ -149,7 +149,7 @@ pub fn talk_run<A: Allocator + Copy, T: Wait, R: Read, W: Write>(
 }
 
 /// Reads a cartridge, and then talks as [`talk_run`] does, but from this cartridge with no inputs on: it is loaded, and no
-/// inputs are put in, by two edits that no answer tells.
+/// inputs are put in, by two edits that no answer reports.
 ///
 /// Faults, in order: those of [`read_input`], and `Size`, each before anything is read of the input or written; `Memory`; then those
 /// of `talk_run`.
@@ -168,7 +168,7 @@ pub fn cart_talk_run<A: Allocator + Copy, T: Wait, C: Read, R: Read, W: Write>(
 }
 
 /// Reads a cartridge and a movie text, and then talks as [`talk_run`] does, but from this movie on: its cartridge is loaded and
-/// its inputs are put in by two edits that no answer tells.
+/// its inputs are put in by two edits that no answer reports.
 ///
 /// Faults, in order: those of [`read_two`], then those of [`movie_of`], each before anything is read of the input or written; then those
 /// of `talk_run`.
