@@ -139,7 +139,7 @@ impl<A: Allocator + Copy> Draft<A> {
     }
 
     /// The answer to a request that is about the movie; `None` where it isn't.
-    fn answer_about_draft(
+    fn answer_about_movie(
         &mut self,
         alloc: A,
         request: Request,
@@ -181,7 +181,7 @@ impl<A: Allocator + Copy> Draft<A> {
             (λ fault. (fault ≡ Memory) × IsDraftUnanswered self.old request self.new) }
         ensures kept { IsDraft self.new }
     {
-        let answer = self.answer_about_draft(alloc, request);
+        let answer = self.answer_about_movie(alloc, request);
         // Called for its clause `kept`.
         let _changes = self.changes();
         answer
