@@ -13,7 +13,7 @@ use Rattle.tas_session.specs.declared.replies.Offered.{Offered}
 use Rattle.tas_desk.specs.declared.work.Worked.{Worked}
 use Rattle.tas_desk.specs.declared.work.WorkError.{WorkError}
 use Rattle.tas_desk.specs.declared.work.WorkError.TheVariants.{Memory}
-use Rattle.tas_session.specs.History.{movie_of}
+use Rattle.tas_session.specs.History.{most_counted, movie_of}
 
 -- a job for the first `near` frames of a movie: it has the cartridge, these inputs and the movie's stride, and starts from the
 -- nearest of these states among them
@@ -47,7 +47,7 @@ pub record IsTaken (movie : MovieContent) (batch : BatchContent) (offered : Offe
 -- what was worked, once there was one job more: it gained this many states, which are counted up to what a `usize` holds, or it
 -- was stale
 abbrev pub with_job : Worked → Option ℕ → Worked
-with_job worked (Some gained) = record { jobs = worked.jobs + 1; kept = min (worked.kept + gained) (2 ^ 64 - 1); stale = worked.stale }
+with_job worked (Some gained) = record { jobs = worked.jobs + 1; kept = min (worked.kept + gained) most_counted; stale = worked.stale }
 with_job worked None = record { jobs = worked.jobs + 1; kept = worked.kept; stale = worked.stale + 1 }
 
 -- no more jobs are stale than were run, and each of the others gained at most as many states as a zone has

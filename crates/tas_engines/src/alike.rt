@@ -2,7 +2,7 @@
 
 ghost use Rattle.std.specs.Prelude.{◌≡◌, ◌<◌, ◌≤◌, ◌↔◌, IsTrue, length};
 ghost use Rattle.tas_movie.specs.Content.{most_inputs};
-ghost use Rattle.tas_engines.specs.Differences.{frames, GoOnAlike};
+ghost use Rattle.tas_engines.specs.Differences.{frames, reach, GoOnAlike};
 ghost use Rattle.tas_engines.specs.Hunks.{IsLongestFront, HasRoom, IsAt, IsNearest, IsNext};
 
 use crate::anchors::Anchor;
@@ -71,7 +71,7 @@ fn go_on_alike(old: &[FrameRun], new: &[FrameRun], at: Anchor, room: Room) -> bo
 
 /// A place from which both lists go on alike, with this many runs of the two before it.
 fn alike_at(old: &[FrameRun], new: &[FrameRun], distance: usize, room: Room) -> Option<Anchor>
-    requires near { distance < 512 }
+    requires near { distance < reach }
     requires room { HasRoom old.now new.now room }
     ensures { IsAt old.now new.now room distance result }
 {

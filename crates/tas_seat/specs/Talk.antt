@@ -5,6 +5,7 @@ use Rattle.std.specs.Io.KnownBytes.{Appends, Consumes, IsAtEnd}
 use Rattle.byte_text.specs.CutOff.{IsCutOff}
 use Rattle.tas_movie.specs.Text.{line}
 use Rattle.tas_movie.specs.declared.edit.Edit.{Edit}
+pub use Rattle.tas_session.specs.History.{most_counted}
 use Rattle.tas_desk.specs.Seats.{SeatContent, HasSeen}
 use Rattle.tas_engines.specs.declared.fault.ToolFault.{ToolFault}
 use Rattle.tas_engines.specs.declared.fault.ToolFault.TheVariants.{Read, Run}
@@ -84,10 +85,6 @@ pub record IsLeft {A : Type 0} (seat : TalkingSeat A) (last : SeatContent A) (ed
 pub record HasLooked {A : Type 0} (seat : TalkingSeat A) (last : SeatContent A) (edits : List (Edit A)) : Type 0 where
   pub seen : HasSeen seat.seat last
   pub none : edits ≡ []
-
--- how many bytes a count tells at most
-abbrev pub most_counted : ℕ
-most_counted = 18446744073709551615
 
 -- a write of an answer failed: it was cut off with the answers before it, but these went out whole; the fault tells how many bytes went out
 pub record IsAnswerCutOff (told answer : List ℕ) (old new : Option (List ℕ)) (written : ℕ) : Type 0 where

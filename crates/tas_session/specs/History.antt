@@ -8,6 +8,10 @@ use Rattle.tas_session.specs.declared.entry.Entry.{Entry}
 abbrev pub most_edits : ℕ
 most_edits = 1000000
 
+-- the greatest number of a count, which more would leave as it is
+abbrev pub most_counted : ℕ
+most_counted = 18446744073709551615
+
 -- a movie after the edits of some entries, one after the other
 unfoldable pub movie_from : {A : Type 0} → MovieContent → List (Entry A) → MovieContent
 movie_from movie [] = movie

@@ -9,7 +9,7 @@ use Rattle.tas_movie.specs.declared.edit.Edit.{Edit}
 use Rattle.tas_session.specs.declared.entry.Entry.{Entry}
 use Rattle.tas_session.specs.declared.reader_view.ReaderView.{ReaderView}
 use Rattle.tas_session.specs.Version.{VersionContent}
-use Rattle.tas_session.specs.History.{most_edits, movie_of, IsLegal}
+use Rattle.tas_session.specs.History.{most_edits, most_counted, movie_of, IsLegal}
 use Rattle.tas_session.specs.declared.journal.Step.{Step}
 use Rattle.tas_session.specs.Inside.Steps.{entries_in}
 use Rattle.tas_session.specs.Strokes.{edits_in, edited_by}
@@ -46,7 +46,7 @@ abbrev pub change_of : {A : Type 0} → List (Edit A) → VersionContent A → C
 change_of edits v = record { edits = edits; version = v }
 
 abbrev pub after : {A : Type 0} → PublishedContent A → ChangeContent A → PublishedContent A
-after x c = published_of (edited_by x.movie c.edits) (min (x.at + length c.edits) 18446744073709551615) c.version
+after x c = published_of (edited_by x.movie c.edits) (min (x.at + length c.edits) most_counted) c.version
 
 -- what the one who knows this history of this registry has seen
 abbrev pub view_of : {A : Type 0} → VersionContent A → ReaderView A
