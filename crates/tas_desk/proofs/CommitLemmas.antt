@@ -1,8 +1,8 @@
 -- Edits that are made as one step, under the lock and at a seat.
-use Rattle.std.proofs.Common.{◌≡◌, ◌≢◌, ℕ, ◌+◌, ◌≤◌, ◌==◌, Bool, true, false, true≢false, List, [], ◌∷◌, ◌++◌, length, refl, ap, sym, ◌∙◌, subst, append_assoc, arith}
+use Rattle.std.proofs.Common.{◌≡◌, ◌≢◌, ℕ, ◌+◌, ◌<◌, ◌≤◌, ◌==◌, Bool, true, false, true≢false, List, [], ◌∷◌, ◌++◌, length, refl, ap, sym, ◌∙◌, subst, append_assoc, arith}
 use Rattle.std.proofs.lemmas.List.{append-nil}
 use Rattle.std.proofs.lemmas.Bool.Decides.{nat_tests}
-use Rattle.std.specs.Prelude.{Option, Some, None, Result, Ok, Err, IfOk, OnOk, OnErr, MatchResult, nat_lt, if◌then◌else◌}
+use Rattle.std.specs.Prelude.{Option, Some, None, Result, Ok, Err, IfOk, IfErr, OnOk, OnErr, MatchResult, nat_lt, if◌then◌else◌}
 use mathlib.Core.List.{IsPrefix}
 use Rattle.tas_movie.specs.Content.{MovieContent}
 use Rattle.tas_movie.specs.declared.edit.Edit.{Edit}
@@ -12,7 +12,7 @@ use Rattle.tas_movie.specs.declared.edit.EditRefusal.TheVariants.{Place as Place
 use Rattle.tas_session.specs.declared.entry.Entry.{Entry}
 use Rattle.tas_session.specs.declared.replies.Receipt.{Receipt}
 use Rattle.tas_session.specs.declared.replies.EditError.{EditError}
-use Rattle.tas_session.specs.declared.replies.EditError.TheVariants.{Serial, Full}
+use Rattle.tas_session.specs.declared.replies.EditError.TheVariants.{Serial, Full, Memory}
 use Rattle.tas_session.specs.declared.replies.CommitError.{CommitError}
 use Rattle.tas_session.specs.declared.replies.CommitError.TheVariants.{Moved, Refused}
 use Rattle.tas_session.specs.History.{most_edits, movie_of, entries_of}
@@ -108,10 +108,10 @@ locked_journal {A} locked (entry ∷ entries) = locked_journal (locked_after loc
 pub committed_at : {A : Type 0} (old new : LockedContent A) (before now : SeatContent A) (at : ℕ) (edits : List (Edit A)) (r : Result Receipt CommitError) → IsPrefix before.front old.journal
     → IfOk r (λ receipt. receipt ≡ record { at = length old.journal + length edits; len = length (edited_by (movie_of old.journal) edits).inputs })
     → MatchResult r (λ _. commit_refusal_at old.journal before.number before.made at edits ≡ None) (IsCommitError (commit_refusal_at old.journal before.number before.made at edits))
-    → OnOk r (new ≡ locked_after_all old (entries_by before.number before.made edits)) → OnErr r (new ≡ old)
+    → IfErr r (λ error. error ≡ Refused Memory → 0 < length edits) → OnOk r (new ≡ locked_after_all old (entries_by before.number before.made edits)) → OnErr r (new ≡ old)
     → MatchResult r (λ _. now ≡ seat_of before.number (before.made + length edits) new.journal before.zone) (λ _. now ≡ seat_of before.number before.made new.journal before.zone)
     → IsCommitted before now at edits r
-committed_at {A} old new before now at edits (Ok receipt) begins is none done refused seat =
+committed_at {A} old new before now at edits (Ok receipt) begins is none memory done refused seat =
     let may = may_commit old.journal (movie_of old.journal) before.number before.made at edits none in
     let list = ap (λ (l : LockedContent A). l.journal) done ∙ locked_journal old (entries_by before.number before.made edits) in
     record {
@@ -120,15 +120,17 @@ committed_at {A} old new before now at edits (Ok receipt) begins is none done re
       tells = may.stands;
       receipt = is;
       refusal = none;
+      memory = tt;
       allowed = may.allowed;
       seat = seat ∙ ap (λ (l : List (Entry A)). seat_of before.number (before.made + length edits) l before.zone) list;
     }
-committed_at {A} old new before now at edits (Err error) begins is refusal done same seat = record {
+committed_at {A} old new before now at edits (Err error) begins is refusal memory done same seat = record {
   history = old.journal;
   begins = begins;
   tells = tells_length old.journal before.number before.made at edits error refusal;
   receipt = tt;
   refusal = refusal;
+  memory = memory;
   allowed = tt;
   seat = seat ∙ ap (λ (l : LockedContent A). seat_of before.number before.made l.journal before.zone) same;
 }

@@ -1,11 +1,13 @@
 //! What lies under the lock of a desk.
 
-ghost use Rattle.std.specs.Prelude.{◌≡◌, ◌≢◌, ◌↔◌, ◌⊎◌, ◌+◌, ◌≤◌, [], length, take, drop, None, IfOk, IfErr, OnOk, OnErr, Err, MatchResult, All};
+ghost use Rattle.std.specs.Prelude.{◌≡◌, ◌≢◌, ◌↔◌, ◌⊎◌, ◌+◌, ◌<◌, ◌≤◌, [], length, take, drop, None, IfOk, IfErr, OnOk, OnErr, Err, MatchResult, All};
 ghost use mathlib.Core.List.{IsPrefix};
 ghost use Rattle.tas_movie.specs.Edit.{edited, IsAllowed};
 ghost use Rattle.tas_green.specs.Grid.{most_states};
 ghost use Rattle.tas_green.specs.Green.{IsLawful};
 ghost use Rattle.tas_session.specs.declared.replies.OfferError.TheVariants.{Cartridge, Memory};
+ghost use Rattle.tas_session.specs.declared.replies.CommitError.TheVariants.{Refused};
+ghost use Rattle.tas_session.specs.declared.replies.EditError.TheVariants.{Memory as NoRoom};
 ghost use Rattle.tas_session.specs.History.{most_edits, movie_of, entries_of, IsLegal};
 ghost use Rattle.tas_session.specs.Session.{refusal_at, refusal_by, IsEditError};
 ghost use Rattle.tas_session.specs.Strokes.{edits_of, entries_by, edited_by, commit_refusal_at, IsCommitError};
@@ -241,6 +243,8 @@ impl<N: Name, W: CloseOnDrop, A: Allocator + Copy> LockedSession<N, W, A> {
             (edits_of stroke) ≡ None)
             (IsCommitError (commit_refusal_at self.old.journal seat.old.number seat.old.made at
             (edits_of stroke))) }
+        ensures memory { IfErr result
+            (λ error. error ≡ Refused NoRoom → 0 < length (edits_of stroke)) }
         ensures done { OnOk result (self.new ≡ locked_after_all self.old
             (entries_by seat.old.number seat.old.made (edits_of stroke))) }
         ensures refused { OnErr result (self.new ≡ self.old) }

@@ -111,14 +111,22 @@ begin_opened A before now None opened at len gained is seen here shared fresh lo
 
 -- ---- `commit`
 
+-- a movie that isn't the one it was made of takes an edit at least
+stroke_some : (A : Type 0) (base new : MovieContent) (count : ℕ) → HasStroke A base new count → new ≢ base → 0 < count
+stroke_some A base new count stroke apart = go stroke.edits stroke.leads stroke.long
+  where
+    go : (edits : List (Edit A)) → LeadsTo base edits new → length edits ≡ count → 0 < count
+    go [] is long = absurd (apart is)
+    go (edit ∷ edits) is long = omega (arith, long)
+
 -- memory was refused
-commit_refused : (A : Type 0) (before now : SeatContent A) (draft : DraftContent) (count : ℕ) → HasStroke A draft.base draft.movie count → KeepsZone before now → length now.front ≡ draft.at → length now.front + count ≤ most_edits
+commit_refused : (A : Type 0) (before now : SeatContent A) (draft : DraftContent) (count : ℕ) → HasStroke A draft.base draft.movie count → 0 < count → KeepsZone before now → length now.front ≡ draft.at → length now.front + count ≤ most_edits
     → HasTalkAnswer A (talking before (Some draft)) (talking now (Some draft)) Commit (reply_text OutOfMemory)
-commit_refused A before now draft count stroke looked there room = (
+commit_refused A before now draft count stroke some looked there room = (
   [],
   record {
     at = now.front;
-    answered = inl (record { count = count; comes_to = stroke; there = there; room = room; answer_is = refl; edits_are = refl; draft_is = refl });
+    answered = inl (record { count = count; comes_to = stroke; some = some; there = there; room = room; answer_is = refl; edits_are = refl; draft_is = refl });
     zone = looked.zone;
     seat = looked_at before now looked.seen;
   },
@@ -370,12 +378,12 @@ full_first A before now draft count here found looked is stroke begun full =
     unmade A before now draft count (reply_text (Full here)) there.0 stroke
     (rw (eq-eqb (length now.front) draft.at (long ∙ begun), no_room) (ap (λ (n : ℕ). Some (reply_text (Full n))) long))
 
-pub refused_first : (A : Type 0) (before now : SeatContent A) (draft : DraftContent) (count here : ℕ) (found : Option ℕ) → Looked before now here found → found ≡ None → HasStroke A draft.base draft.movie count → here ≡ draft.at → here + count ≤ most_edits
+pub refused_first : (A : Type 0) (before now : SeatContent A) (draft : DraftContent) (count here : ℕ) (found : Option ℕ) → Looked before now here found → found ≡ None → HasStroke A draft.base draft.movie count → draft.movie ≢ draft.base → here ≡ draft.at → here + count ≤ most_edits
     → HasTalkAnswer A (talking before (Some draft)) (talking now (Some draft)) Commit (reply_text OutOfMemory)
-refused_first A before now draft count here found looked is stroke begun room =
+refused_first A before now draft count here found looked is stroke apart begun room =
     let there = still_at A before now here found looked is in
     let long : length now.front ≡ here = there.1 in
-    commit_refused A before now draft count stroke there.0 (long ∙ begun) (omega (arith, long, room))
+    commit_refused A before now draft count stroke (stroke_some A draft.base draft.movie count stroke apart) there.0 (long ∙ begun) (omega (arith, long, room))
 
 -- what came of a commit once the history was looked at
 outcome_after : (A : Type 0) (before mid now : SeatContent A) (draft : DraftContent) (next : Option DraftContent) (text : List ℕ) → KeepsZone before mid → HasTalkAnswer A (talking mid (Some draft)) (talking now next) Commit text
@@ -416,7 +424,7 @@ commit_says A before now draft stroke NoRoom is strokes leads =
     let front : is.history ≡ now.front = sym (ap (λ (s : SeatContent A). s.front) is.seat) in
     let free : commit_refusal_at now.front before.number before.made draft.at stroke ≡ None = subst (λ (h : List (Entry A)). commit_refusal_at h before.number before.made draft.at stroke ≡ None) front is.refusal in
     let there : length now.front ≡ draft.at = there_of now.front before.number before.made draft.at stroke None free tt in
-    commit_refused A before now draft (length stroke) (record { edits = stroke; stroke_is = strokes; leads = leads; long = refl }) (looked_by before now is.history is.begins is.seat) there
+    commit_refused A before now draft (length stroke) (record { edits = stroke; stroke_is = strokes; leads = leads; long = refl }) (is.memory refl) (looked_by before now is.history is.begins is.seat) there
     (room_of now.front before.number before.made draft.at stroke free)
 
 -- the same of a draft that says where it began, once the history was looked at

@@ -1,7 +1,7 @@
 -- Edits that make one movie of another.
-use Rattle.std.proofs.Common.{◌≡◌, ◌↔◌, ℕ, suc, ◌+◌, ◌-◌, ◌<◌, ◌≤◌, Bool, cond, true, false, List, [], ◌∷◌, ◌++◌, length, get_or, take, drop, reverse, Option, Some, None, refl, sym, ap, subst, ◌∙◌, arith, append_assoc}
-use Rattle.std.specs.Prelude.{IsTrue, ◌==◌, nat_lt, if◌then◌else◌}
-use Rattle.std.proofs.lemmas.Bool.{both_ways, eqb-true}
+use Rattle.std.proofs.Common.{◌≡◌, ◌↔◌, ℕ, suc, ◌+◌, ◌-◌, ◌<◌, ◌≤◌, Bool, cond, true, false, List, [], ◌∷◌, ◌++◌, length, get_or, take, drop, reverse, Option, Some, None, inl, inr, refl, sym, ap, subst, ◌∙◌, arith, append_assoc}
+use Rattle.std.specs.Prelude.{IsTrue, ◌≢◌, ◌==◌, nat_lt, slice_get, if◌then◌else◌}
+use Rattle.std.proofs.lemmas.Bool.{both_ways, eqb-true, cases_lt}
 use Rattle.std.proofs.lemmas.Bool.Decides.{nat_tests}
 use Rattle.std.proofs.lemmas.List.{take_more, take_at, drop_at, take-append-drop, take_rest, length-append, length-take-le, length-drop, length-reverse, reverse-append, reverse-reverse, get_or-reverse}
 use Rattle.std.proofs.lemmas.Option.{get_or_from_slice_get, slice_get-get_or}
@@ -221,6 +221,20 @@ differ base new a b front back old now begins ends = record {
   olds_are = rw (← old) (inner_part a front back);
   news_are = rw (← now) (inner_part b front back);
 }
+
+-- where the one has inputs in the other's place the two aren't the same
+pub differ_apart : (base new : MovieContent) (front : ℕ) (olds news : List Input) → Differ base new front olds news → 0 < length news → new ≢ base
+differ_apart base new front olds news d some = λ same.
+    let inputs : new.inputs ≡ base.inputs = ap (λ (m : MovieContent). m.inputs) same in
+    let long : length new.inputs ≡ length base.inputs = ap (λ (l : List Input). length l) inputs in
+    let past : length new.inputs ≤ front = elim (cases_lt front (length new.inputs)) [
+      | inl h ↦ absurd (d.begins.longest (omega (arith, h, long)) h (ap (λ (l : List Input). slice_get l front) (sym inputs)))
+      | inr h ↦ h
+    ] in
+    let none : length new.inputs - front - d.back ≡ 0 = omega (arith, past) in
+    let news_none : length news ≡ 0 =
+    ap (λ (l : List Input). length l) d.news_are ∙ ap (λ (n : ℕ). length (take n (drop front new.inputs))) none in
+    absurd (omega (arith, some, news_none))
 
 -- the edits that they come to
 pub differ_stroke : (A : Type 0) (base new : MovieContent) (front : ℕ) (olds news : List Input) (edits : List (Edit A)) → Differ base new front olds news → edits ≡ stroke_of A front olds news → IsStroke base new edits

@@ -1,5 +1,5 @@
 -- Drafts of conversations: `begin`, `commit` and `drop`, and what the other lines are answered outside a draft and in one.
-use Rattle.std.specs.Prelude.{◌≡◌, ℕ, ◌+◌, ◌≤◌, ◌==◌, nat_lt, List, [], length, Bool, if◌then◌else◌, Option, Some, None, ◌⊎◌}
+use Rattle.std.specs.Prelude.{◌≡◌, ℕ, ◌+◌, ◌<◌, ◌≤◌, ◌==◌, nat_lt, List, [], length, Bool, if◌then◌else◌, Option, Some, None, ◌⊎◌}
 use Rattle.tas_movie.specs.declared.edit.Edit.{Edit}
 use Rattle.tas_session.specs.declared.entry.Entry.{Entry}
 use Rattle.tas_session.specs.History.{most_edits}
@@ -66,11 +66,12 @@ abbrev pub draft_after_commit : Option (List ℕ) → DraftContent → Option Dr
 draft_after_commit None draft = None
 draft_after_commit (Some text) draft = Some draft
 
--- memory was refused for a commit that the history doesn't refuse: it has as many edits as when the draft began, and room for the draft's. Nothing is
--- made, and the draft stays open
+-- memory was refused for a commit that the history doesn't refuse: it has as many edits as when the draft began, and room for the draft's, of which
+-- there is one at least. Nothing is made, and the draft stays open
 pub record IsNoMemoryCommit {A : Type 0} (stands : Standing) (draft : DraftContent) (answer : List ℕ) (edits : List (Edit A)) (next : Option DraftContent) : Type 0 where
   pub count : ℕ
   pub comes_to : HasStroke A draft.base draft.movie count
+  pub some : 0 < count
   pub there : stands.made ≡ draft.at
   pub room : stands.made + count ≤ most_edits
   pub answer_is : answer ≡ reply_text OutOfMemory

@@ -1,6 +1,6 @@
 //! A draft: changes of a movie that a conversation gathers before it makes them as one step.
 
-ghost use Rattle.std.specs.Prelude.{◌≡◌, ◌≤◌, ◌<◌, ◌+◌, Some, None, IfOk};
+ghost use Rattle.std.specs.Prelude.{◌≡◌, ◌≢◌, ◌≤◌, ◌<◌, ◌+◌, Some, None, IfOk, OnErr};
 ghost use Rattle.tas_movie.specs.Edit.{IsAllowed, edited};
 ghost use Rattle.tas_seat.specs.Turns.{refusal_reply};
 ghost use Rattle.tas_green.specs.Green.{IsLawful};
@@ -149,6 +149,7 @@ impl<A: Allocator + Copy> Draft<A> {
             (λ stroke. IsStroke self.now.base self.now.movie (edits_of stroke)) }
         ensures leads { IfOk result
             (λ stroke. LeadsTo self.now.base (edits_of stroke) self.now.movie) }
+        ensures memory { OnErr result (self.now.movie ≢ self.now.base) }
     {
         stroke_between(alloc, self.base(), self.movie())
     }

@@ -1,6 +1,6 @@
 //! What a draft comes to: the edits that make one movie of another.
 
-ghost use Rattle.std.specs.Prelude.{◌≡◌, ◌≤◌, ℕ, IfOk, length, reverse};
+ghost use Rattle.std.specs.Prelude.{◌≡◌, ◌≢◌, ◌<◌, ◌≤◌, ℕ, IfOk, OnErr, length, reverse};
 ghost use Rattle.tas_movie.specs.Content.{most_inputs};
 ghost use Rattle.tas_movie.specs.Front.{IsCommonFront};
 ghost use Rattle.tas_session.specs.Strokes.{edits_of};
@@ -44,7 +44,8 @@ fn stroke_at<A: Allocator>(
     olds: &[Input],
     news: &[Input],
 ) -> Result<Stroke<A>, AllocError>
-    ensures { IfOk result (λ stroke. edits_of stroke ≡ stroke_of A at olds.now news.now) }
+    ensures stroke { IfOk result (λ stroke. edits_of stroke ≡ stroke_of A at olds.now news.now) }
+    ensures memory { OnErr result (0 < length news.now) }
 {
     if news.is_empty() {
         if olds.is_empty() {
@@ -93,7 +94,7 @@ pub(crate) fn stroke_len<A: Allocator>(base: &Movie<A>, movie: &Movie<A>) -> u64
 }
 
 /// The edits that make one movie of another with the same cartridge: the inputs with which both begin, and of the rest those with which
-/// both end, are left alone. `AllocError` where memory is refused.
+/// both end, are left alone. `AllocError` where memory is refused, which two equal movies don't ask for.
 pub fn stroke_between<A: Allocator, B: Allocator>(
     alloc: A,
     base: &Movie<B>,
@@ -102,6 +103,7 @@ pub fn stroke_between<A: Allocator, B: Allocator>(
     requires { movie.now.cart ≡ base.now.cart }
     ensures stroke { IfOk result (λ stroke. IsStroke base.now movie.now (edits_of stroke)) }
     ensures leads { IfOk result (λ stroke. LeadsTo base.now (edits_of stroke) movie.now) }
+    ensures memory { OnErr result (movie.now ≢ base.now) }
 {
     let (front, olds, news) = differing(base, movie);
     stroke_at(alloc, front, olds, news)

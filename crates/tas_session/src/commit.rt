@@ -1,6 +1,8 @@
 //! Edits that are made as one step.
 
-ghost use Rattle.std.specs.Prelude.{◌≡◌, ◌+◌, [], ◌∷◌, length, None, Some, IfOk, OnOk, OnErr, MatchResult};
+ghost use Rattle.std.specs.Prelude.{◌≡◌, ◌+◌, ◌<◌, [], ◌∷◌, length, None, Some, IfOk, IfErr, OnOk, OnErr, MatchResult};
+ghost use Rattle.tas_session.specs.declared.replies.CommitError.TheVariants.{Refused};
+ghost use Rattle.tas_session.specs.declared.replies.EditError.TheVariants.{Memory};
 ghost use Rattle.tas_session.specs.Strokes.{edits_of, entries_by, edited_by, AreNext, after_entries, commit_refusal, IsCommitError};
 
 use crate::journal::Step;
@@ -17,7 +19,7 @@ impl<A: Allocator + Copy> Session<A> {
     ///
     /// It is refused, in this order, for `Serial`, `Moved` (the history has another number of edits than `at`), `Full` (no room for
     /// all of the edits), `Place`, `Long` and `Memory`; each refusal leaves history, movie and greenzone as they were. Afterwards the
-    /// kept states are those that the edits leave, made one after the other.
+    /// kept states are those that the edits leave, made one after the other. No edits take no memory.
     pub fn commit<R: Wait>(
         &mut self,
         rt: &R,
@@ -43,15 +45,17 @@ impl<A: Allocator + Copy> Session<A> {
         ensures next { OnOk result
             (AreNext self.old.journal (entries_by seat made (edits_of stroke))) }
         ensures refused { OnErr result (self.new ≡ self.old) }
+        ensures memory { IfErr result
+            (λ error. error ≡ Refused Memory → 0 < length (edits_of stroke)) }
     {
         self.check_commit(seat, made, at, &stroke)?;
-        if self.accept_stroke(rt, seat, made, stroke).is_err() {
-            return Err(CommitError::Refused(EditError::Memory));
+        match self.accept_stroke(rt, seat, made, stroke) {
+            Ok(()) => Ok(Receipt {
+                at: self.at(),
+                len: self.movie().len(),
+            }),
+            Err(_) => Err(CommitError::Refused(EditError::Memory)),
         }
-        Ok(Receipt {
-            at: self.at(),
-            len: self.movie().len(),
-        })
     }
 
     /// Why the edits of a stroke would be refused as one step, memory apart; `Ok` where they wouldn't be.
@@ -100,6 +104,7 @@ impl<A: Allocator + Copy> Session<A> {
         ensures done { OnOk result
             (self.new ≡ after_entries self.old (entries_by seat made (edits_of stroke))) }
         ensures refused { OnErr result (self.new ≡ self.old) }
+        ensures some { OnErr result (0 < length (edits_of stroke)) }
     {
         match stroke {
             Stroke::Nothing => Ok(()),

@@ -461,7 +461,7 @@ commit_contents {A} stands draft answer edits next (inl none) =
       leads = leads_contents draft.base draft.movie none.comes_to.edits none.comes_to.leads;
       long = same_length none.comes_to.edits ∙ none.comes_to.long;
     } in
-    inl (record { count = none.count; comes_to = comes_to; there = none.there; room = none.room; answer_is = none.answer_is; edits_are = ap (λ (l : List (Edit A)). contents l) none.edits_are; draft_is = none.draft_is })
+    inl (record { count = none.count; comes_to = comes_to; some = none.some; there = none.there; room = none.room; answer_is = none.answer_is; edits_are = ap (λ (l : List (Edit A)). contents l) none.edits_are; draft_is = none.draft_is })
 commit_contents {A} stands draft answer edits next (inr told) =
     let same : uncommitted_answer stands draft.at told.stroke ≡ uncommitted_answer stands draft.at (contents told.stroke) = sym (same_uncommitted stands draft.at told.stroke) in
     inr (record {

@@ -13,8 +13,8 @@ returns-then-at-count-gt-MAX_EDITS g c =
 
 pub returns-in_default-stroke : goal.returns-in_default-stroke
 returns-in_default-stroke g c =
-    refused_first g.row.A.Denot c.args.seat.now c.moved_from.new.seat c.args.opened.now c.stroke_len-count.result c.at-at.result c.in_ok-at.field-0 c.in_ok-at.ensures c.in_default.is c.stroke_len-count.ensures.stroke c.at-at.ensures.at
-    c.if-at-count-gt-MAX_EDITS.false
+    refused_first g.row.A.Denot c.args.seat.now c.moved_from.new.seat c.args.opened.now c.stroke_len-count.result c.at-at.result c.in_ok-at.field-0 c.in_ok-at.ensures c.in_default.is c.stroke_len-count.ensures.stroke c.in_default-stroke.ensures.memory
+    c.at-at.ensures.at c.if-at-count-gt-MAX_EDITS.false
 
 pub returns-in-Ok-commit : goal.returns-in-Ok-commit
 returns-in-Ok-commit g c =

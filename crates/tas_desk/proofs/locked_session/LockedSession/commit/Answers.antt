@@ -14,6 +14,11 @@ returns-in_err-receipt-clause-refusal g c =
     (commit_refused c.self.inside.session.journal _ c.self.inside.session.movie _ _ _ _ c.args.at (edits_of c.args.stroke) c.in_err-receipt.field-0.0 c.in_err-receipt.ensures.refusal c.show_to.ensures.history (ap (λ (l : LockedContent _). l.journal) c.self.view_is)
     (ap (λ (s : SeatContent _). s.number) c.seat.view_is) (ap (λ (s : SeatContent _). s.made) c.seat.view_is))
 
+pub returns-in_err-receipt-clause-memory : goal.returns-in_err-receipt-clause-memory
+returns-in_err-receipt-clause-memory g c =
+    let p = err_from_is_err_and c.from_residual.result c.from_residual.ensures.1 in
+    rw (p.1, p.2) c.in_err-receipt.ensures.memory
+
 pub returns-clause-refusal : goal.returns-clause-refusal
 returns-clause-refusal g c =
     none_refused c.self.inside.session.journal _ c.self.inside.session.movie _ _ _ _ c.args.at (edits_of c.args.stroke) c.in_ok-receipt.ensures.refusal c.show_to.ensures.history (ap (λ (l : LockedContent _). l.journal) c.self.view_is)

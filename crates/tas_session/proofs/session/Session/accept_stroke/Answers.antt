@@ -1,0 +1,14 @@
+use Rattle.std.proofs.Common.{◌<◌, length, arith}
+use Rattle.tas_session.specs.Strokes.{edits_of}
+use Rattle.tas_session.proofs.StepLemmas.{on_any_error}
+use Rattle.tas_session.proofs.session.Session.accept_stroke.Goals as goal
+
+pub returns-in-One-clause-some : goal.returns-in-One-clause-some
+returns-in-One-clause-some g c =
+    let some : 0 < length (edits_of c.args.stroke) = rw c.in-One.is (omega arith) in
+    on_any_error (0 < length (edits_of c.args.stroke)) _ some
+
+pub returns-in-Two-clause-some : goal.returns-in-Two-clause-some
+returns-in-Two-clause-some g c =
+    let some : 0 < length (edits_of c.args.stroke) = rw c.in-Two.is (omega arith) in
+    on_any_error (0 < length (edits_of c.args.stroke)) _ some

@@ -1,0 +1,10 @@
+use Rattle.std.proofs.lemmas.Result.{err_from_is_err_and}
+use Rattle.tas_session.specs.Strokes.{edits_of}
+use Rattle.tas_session.proofs.StepLemmas.{never_memory}
+use Rattle.tas_session.proofs.session.Session.commit.Goals as goal
+
+pub returns-in_err-check_commit-clause-memory : goal.returns-in_err-check_commit-clause-memory
+returns-in_err-check_commit-clause-memory g c =
+    let p = err_from_is_err_and c.from_residual.result c.from_residual.ensures.1 in
+    rw (p.1, p.2)
+    (λ e. absurd (never_memory c.args.self.now.journal c.args.self.now.movie c.args.seat c.args.made c.args.at (edits_of c.args.stroke) c.in_err-check_commit.field-0.0 c.in_err-check_commit.ensures.refusal e))
