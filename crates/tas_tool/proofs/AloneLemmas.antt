@@ -16,7 +16,7 @@ use Rattle.tas_language.specs.declared.change.Change.{Change}
 use Rattle.tas_language.specs.declared.change.Change.TheVariants as change
 use Rattle.tas_language.specs.declared.command.Command.{Command}
 use Rattle.tas_language.specs.declared.command.Command.TheVariants as command
-use Rattle.tas_language.specs.declared.retouch.Retouch.{Retouch}
+use Rattle.tas_language.specs.declared.retouch.Retouch.{Retouch as Retouching}
 use Rattle.tas_language.specs.declared.retouch.Retouch.TheVariants as retouch
 use Rattle.tas_session.specs.declared.entry.Entry.{Entry}
 use Rattle.tas_session.specs.History.{most_edits, movie_of, entries_of}
@@ -117,6 +117,12 @@ edit_content (Insert at inputs) = Insert at inputs
 edit_content (Replace at inputs) = Replace at inputs
 edit_content (Delete at count) = Delete at count
 
+same_content : {A : Type 0} (edit : Edit A) → edit_content (edit_content edit) ≡ edit_content edit
+same_content (Load cart) = refl
+same_content (Insert at inputs) = refl
+same_content (Replace at inputs) = refl
+same_content (Delete at count) = refl
+
 abbrev pub contents : {A : Type 0} → List (Edit A) → List EditContent
 contents {A} edits = map (λ (e : Edit A). edit_content e) edits
 
@@ -199,6 +205,7 @@ own_reported {A} serial (entry ∷ front) alone =
     let rest : List Reported = all_reported (entries_from 0 (serial + 1) (edits_seen front)) in
     ap (λ (l : List Reported). reported entry ∷ l) (own_reported (serial + 1) front first.1)
     ∙ ap (λ (n : ℕ). let x : Reported = record { seat = n; edit = edit_content entry.edit } in x ∷ rest) first.0
+    ∙ ap (λ (e : EditContent). let x : Reported = record { seat = 0; edit = e } in x ∷ rest) (sym (same_content entry.edit))
 
 -- ---- the edits that a line makes
 
@@ -207,7 +214,7 @@ same_changes (change.Insert at count input) = refl
 same_changes (change.Replace at count input) = refl
 same_changes (change.Delete at count) = refl
 
-same_retouch : {A : Type 0} (inputs : List Input) (retouch : Retouch) → edit_content (retouch_on A inputs retouch) ≡ retouch_on (Unit {0}) inputs retouch
+same_retouch : {A : Type 0} (inputs : List Input) (retouch : Retouching) → edit_content (retouch_on A inputs retouch) ≡ retouch_on (Unit {0}) inputs retouch
 same_retouch inputs (retouch.Press at count input) = refl
 same_retouch inputs (retouch.Release at count input) = refl
 same_retouch inputs (retouch.Repeat at count times) = refl
