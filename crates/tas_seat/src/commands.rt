@@ -2,6 +2,7 @@
 
 ghost use Rattle.std.specs.Prelude.{◌≡◌, MatchResult};
 ghost use Rattle.tas_language.specs.declared.command.Command.TheVariants.{Length as LengthLine, InputAt as InputLine, Shot as ShotLine, Work as WorkLine};
+ghost use Rattle.tas_language.specs.declared.reply.Reply.TheVariants.{Worked as WorkedReply};
 ghost use Rattle.tas_seat.specs.Turns.{halted_reply};
 ghost use Rattle.tas_seat.specs.Seats.{IsAnswered};
 ghost use Rattle.tas_seat.specs.Outcomes.{unshown_as, IsUnanswered};
@@ -9,7 +10,7 @@ ghost use Rattle.tas_seat.specs.Outcomes.{unshown_as, IsUnanswered};
 use crate::edit_requests::{EditRequest, make_edit};
 use std::alloc::Allocator;
 use std::sync::Wait;
-use tas_desk::{CloseOnDrop, Desk, Gate, InputError, Name, Seat, ShotError};
+use tas_desk::{CloseOnDrop, Desk, Gate, InputError, Name, Seat, ShotError, Worked};
 use tas_engines::RunFault;
 use tas_language::{Command, Reply};
 use vcs_cpu::Halt;
@@ -101,6 +102,17 @@ impl Gate for OpenGate {
     fn pass(&self, _piece: usize) {}
 }
 
+/// The reply to a `work` line: what was worked.
+fn worked_reply(worked: Worked) -> Reply
+    ensures { result ≡ WorkedReply worked.jobs worked.kept worked.stale }
+{
+    Reply::Worked {
+        jobs: worked.jobs,
+        kept: worked.kept,
+        stale: worked.stale,
+    }
+}
+
 /// A `work` line: the states up to a frame are filled, and the seat's zone gains them.
 fn work<N: Name, W: CloseOnDrop, A: Allocator + Copy, R: Wait>(
     rt: &R,
@@ -117,11 +129,7 @@ fn work<N: Name, W: CloseOnDrop, A: Allocator + Copy, R: Wait>(
     let Ok(_) = desk.share(rt, seat) else {
         return Reply::OutOfMemory;
     };
-    Reply::Worked {
-        jobs: worked.jobs,
-        kept: worked.kept,
-        stale: worked.stale,
-    }
+    worked_reply(worked)
 }
 
 /// Does what a command asks for, and answers it: at some history that begins with what the seat had seen. The seat has then

@@ -169,6 +169,24 @@ fn share_in_a_draft_is_about_the_desk(rt: HostRuntime) {
     play(&rt, rt.alloc(), &SHARED);
 }
 
+static FILLED: [Turn; 5] = [
+    (
+        0,
+        "load 000=A910850DA91E85084C08F0 FFC=00F0",
+        "edit 1 len 0\n",
+    ),
+    (0, "insert 0 200 ..... ..... .....", "edit 2 len 200\n"),
+    (1, "work 200", "work jobs 1 kept 3 stale 0\n"),
+    (0, "begin", "begin 2 200\n"),
+    (0, "states", "states 2 3 64 128 192\n"),
+];
+
+/// A draft begins with the states that another seat's work has filled.
+#[test]
+fn a_draft_begins_with_the_desks_states(rt: HostRuntime) {
+    play(&rt, rt.alloc(), &FILLED);
+}
+
 static LOST: [Turn; 5] = [
     (0, "insert 0 10 ..... ..... .....", "edit 1 len 10\n"),
     (0, "begin", "begin 1 10\n"),

@@ -76,6 +76,28 @@ static SHARED: [Turn; 12] = [
     (0, "states", "states 3 3 64 128 192\n"),
 ];
 
+static LOOKED_AT: [Turn; 5] = [
+    (
+        0,
+        "load 000=A910850DA91E85084C08F0 FFC=00F0",
+        "edit 1 len 0\n",
+    ),
+    (0, "insert 0 200 ..... ..... .....", "edit 2 len 200\n"),
+    (0, "work 200", "work jobs 1 kept 3 stale 0\n"),
+    (
+        1,
+        "movie",
+        "movie 2 104\na26movie 2\ncart 820c64e9933496de683a000c5e11f0510fb7b1699b2ce86471295236b284906d\n..... ..... ..... x200\n",
+    ),
+    (1, "shot 191", "shot 2 191 ran 64 lit 1680\n"),
+];
+
+/// A look at the movie's text gains the states of the desk, as sharing does.
+#[test]
+fn a_movies_text_is_answered_with_the_desks_states(rt: HostRuntime) {
+    play(&rt, rt.alloc(), &LOOKED_AT);
+}
+
 /// A seat's work is the other's, once it shares. An edit leaves the states up to its place.
 #[test]
 fn states_are_shared(rt: HostRuntime) {
