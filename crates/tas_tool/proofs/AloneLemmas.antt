@@ -209,20 +209,20 @@ own_reported {A} serial (entry ∷ front) alone =
 
 -- ---- the edits that a line makes
 
-same_changes : {A : Type 0} (change : Change) → edit_content (edit_on A change) ≡ edit_on (Unit {0}) change
-same_changes (change.Insert at count input) = refl
-same_changes (change.Replace at count input) = refl
-same_changes (change.Delete at count) = refl
+same_changes : (A : Type 0) (change : Change) → edit_content (edit_on A change) ≡ edit_on (Unit {0}) change
+same_changes A (change.Insert at count input) = refl
+same_changes A (change.Replace at count input) = refl
+same_changes A (change.Delete at count) = refl
 
-same_retouch : {A : Type 0} (inputs : List Input) (retouch : Retouching) → edit_content (retouch_on A inputs retouch) ≡ retouch_on (Unit {0}) inputs retouch
-same_retouch inputs (retouch.Press at count input) = refl
-same_retouch inputs (retouch.Release at count input) = refl
-same_retouch inputs (retouch.Repeat at count times) = refl
-same_retouch inputs (retouch.Copy from count at) = refl
+same_retouch : (A : Type 0) (inputs : List Input) (retouch : Retouching) → edit_content (retouch_on A inputs retouch) ≡ retouch_on (Unit {0}) inputs retouch
+same_retouch A inputs (retouch.Press at count input) = refl
+same_retouch A inputs (retouch.Release at count input) = refl
+same_retouch A inputs (retouch.Repeat at count times) = refl
+same_retouch A inputs (retouch.Copy from count at) = refl
 
 same_command : (A : Type 0) (command : Command) → contents (edits_by_command A command) ≡ edits_by_command (Unit {0}) command
 same_command A (command.Load image) = refl
-same_command A (command.Edit change) = ap (λ (e : EditContent). e ∷ []) (same_changes {A = A} change)
+same_command A (command.Edit change) = ap (λ (e : EditContent). e ∷ []) (same_changes A change)
 same_command A command.Length = refl
 same_command A (command.InputAt k) = refl
 same_command A (command.Shot k) = refl
@@ -230,7 +230,7 @@ same_command A (command.Work k) = refl
 
 same_requested : (A : Type 0) (movie : MovieContent) (request : Request) → contents (requested_edits A movie request) ≡ requested_edits (Unit {0}) movie request
 same_requested A movie (Do command) = same_command A command
-same_requested A movie (Retouch retouch) = ap (λ (e : EditContent). e ∷ []) (same_retouch {A = A} movie.inputs retouch)
+same_requested A movie (Retouch retouch) = ap (λ (e : EditContent). e ∷ []) (same_retouch A movie.inputs retouch)
 same_requested A movie (Picture k) = refl
 same_requested A movie (Pictures from to) = refl
 same_requested A movie (Ram k) = refl
