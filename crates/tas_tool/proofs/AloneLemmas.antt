@@ -20,7 +20,7 @@ use Rattle.tas_language.specs.declared.retouch.Retouch.{Retouch as Retouching}
 use Rattle.tas_language.specs.declared.retouch.Retouch.TheVariants as retouch
 use Rattle.tas_session.specs.declared.entry.Entry.{Entry}
 use Rattle.tas_session.specs.History.{most_edits, movie_of, entries_of}
-use Rattle.tas_desk.specs.Seats.{SeatContent, entry_of}
+use Rattle.tas_desk.specs.Seats.{SeatContent}
 use Rattle.tas_desk.specs.Zones.{ZoneContent}
 use Rattle.tas_desk.proofs.SeatLemmas.{count_by-cons}
 use Rattle.tas_engines.specs.Changes.{EditContent, edit_on}
