@@ -53,6 +53,7 @@ history_lines facts movie doors doors' ends history has = record {
   legal = has.legal;
   long = has.long;
   first = has.first;
+  edits = has.edits;
   movie_is = has.movie_is;
   back = refl;
   many = has.many ∙ sym (length-map doors (line_of facts));
