@@ -5,7 +5,7 @@ ghost use Rattle.tas_green.specs.Green.{IsLawful};
 
 use crate::checks::{check_same, check_that, expect_ok};
 use crate::fixtures::{BRIEF, GRID, PLAYFIELD, has_lacked, movie_of, replaced};
-use crate::runs::{Heap, MOST, NEVER, NOT_AS_BEFORE, NOT_TOLD, Run, refuse, refusing};
+use crate::runs::{Heap, NEVER, NOT_AS_BEFORE, NOT_TOLD, Run, count_growths, refuse, refusing};
 use std::alloc::{AllocError, Allocator, Global};
 use std::process::Abort;
 use tas_green::{Batch, Green, Job, MergeError, Merged, Viewed, Window};
@@ -272,14 +272,7 @@ fn growths_of<R: Abort>(rt: &R, alloc: Global, given: &Given, seeking: Seeking, 
     requires long { 384 ≤ length given.now.movie.inputs }
     requires other { 384 ≤ length given.now.other.inputs }
 {
-    for number in 1..MOST {
-        let run = run_seeking(rt, alloc, given, seeking, number);
-        if run == Run::Done {
-            return number - 1;
-        }
-        check_same(rt, ("growth", name, number), run, Run::Refused);
-    }
-    MOST
+    count_growths(rt, name, |number| run_seeking(rt, alloc, given, seeking, number))
 }
 
 /// Compares how many growths each call has.

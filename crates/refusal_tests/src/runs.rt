@@ -2,8 +2,10 @@
 
 ghost use Rattle.std.specs.Prelude.{◌≤◌};
 
+use crate::checks::check_same;
 use refusals::Refusing;
 use std::alloc::Global;
+use std::process::Abort;
 
 /// The allocator that a call, a session or a desk gets.
 pub type Heap = Refusing<Global>;
@@ -52,3 +54,17 @@ pub const NOT_TOLD: Run = Run::Wrong("the refusal isn't told");
 
 /// Something isn't as it was before the call that met the refusal.
 pub const NOT_AS_BEFORE: Run = Run::Wrong("not as before the refusal");
+
+/// How many growths a call of this name has: it is run with each of them refused in turn.
+pub fn count_growths<R: Abort, F: Fn(u64) -> Run>(rt: &R, name: &str, run: F) -> u64
+    requires { F.IsAlwaysCallable run }
+{
+    for number in 1..MOST {
+        let ended = run(number);
+        if ended == Run::Done {
+            return number - 1;
+        }
+        check_same(rt, ("growth", name, number), ended, Run::Refused);
+    }
+    MOST
+}

@@ -3,7 +3,7 @@
 use crate::checks::{check_same, check_that, expect_ok, expect_some};
 use crate::edits::{BRIEF_OF_400, Change, edit_of, history, movie_text};
 use crate::fixtures::{GRID, has_lacked};
-use crate::runs::{Heap, MOST, NEVER, NOT_AS_BEFORE, NOT_TOLD, Run, refuse, refusing};
+use crate::runs::{Heap, NEVER, NOT_AS_BEFORE, NOT_TOLD, Run, count_growths, refuse, refusing};
 use std::alloc::{AllocError, Allocator, Global};
 use std::process::Abort;
 use std::sync::Wait;
@@ -286,14 +286,7 @@ fn run_call<R: Wait + Abort>(rt: &R, alloc: Global, turn: Option<Turn>, number: 
 
 /// How many growths the turn of this name, or a new session, has, each of which is refused in turn.
 fn growths_of<R: Wait + Abort>(rt: &R, alloc: Global, turn: Option<Turn>, name: &str) -> u64 {
-    for number in 1..MOST {
-        let run = run_call(rt, alloc, turn, number);
-        if run == Run::Done {
-            return number - 1;
-        }
-        check_same(rt, ("growth", name, number), run, Run::Refused);
-    }
-    MOST
+    count_growths(rt, name, |number| run_call(rt, alloc, turn, number))
 }
 
 /// Each turn, its name, and how many growths it has. The first edit has those of its seat's count, of the second copy of its inputs, of

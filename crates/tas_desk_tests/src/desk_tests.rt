@@ -8,9 +8,20 @@ use tas_desk::{EditError, InputError, ShotError, Worked};
 use vcs_machine::Input;
 
 /// Cartridge and inputs of most tests: two edits of seat 0.
-const LOADED: Call = Call::Made(0, Change::Load(PLAYFIELD), 1, 0);
+pub const LOADED: Call = Call::Made(0, Change::Load(PLAYFIELD), 1, 0);
 
-const FILLED: Call = Call::Made(0, Change::Insert(0, 200), 2, 200);
+pub const FILLED: Call = Call::Made(0, Change::Insert(0, 200), 2, 200);
+
+/// Seat 0 works the first three states of this movie.
+pub const WORKED: Call = Call::Work(
+    0,
+    &[192],
+    Worked {
+        jobs: 1,
+        kept: 3,
+        stale: 0,
+    },
+);
 
 static FRESH: [Call; 8] = [
     Call::Input(1, 0, Err(InputError::NoFrame { at: 0, len: 0 })),
@@ -115,15 +126,7 @@ fn refusals_of_a_desk_come_in_order(rt: HostRuntime) {
 static SHARED: [Call; 17] = [
     LOADED,
     FILLED,
-    Call::Work(
-        0,
-        &[192],
-        Worked {
-            jobs: 1,
-            kept: 3,
-            stale: 0,
-        },
-    ),
+    WORKED,
     Call::Work(
         0,
         &[192],

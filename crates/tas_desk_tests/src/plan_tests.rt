@@ -2,11 +2,12 @@
 
 use crate::calls::{Call, play_calls};
 use crate::changes::{COUNTING, Change, PLAYFIELD, fire, right};
+use crate::desk_tests::{FILLED, LOADED, WORKED};
 use crate::sessions::history;
 use std::alloc::Global;
 use std::process::Abort;
 use std::sync::Wait;
-use tas_desk::{CloseOnDrop, Desk, EditError, Name, Receipt, Seat, StateError, Worked};
+use tas_desk::{CloseOnDrop, Desk, EditError, Name, Receipt, Seat, StateError};
 use vcs_machine::Input;
 
 /// Whether some entries of the history are these, in words, and it has this many edits.
@@ -164,17 +165,9 @@ fn states_of_a_range_of_frames(rt: HostRuntime) {
 
 static BROUGHT: [Call; 8] = [
     Call::Brought(1, 0, 0),
-    Call::Made(0, Change::Load(PLAYFIELD), 1, 0),
-    Call::Made(0, Change::Insert(0, 200), 2, 200),
-    Call::Work(
-        0,
-        &[192],
-        Worked {
-            jobs: 1,
-            kept: 3,
-            stale: 0,
-        },
-    ),
+    LOADED,
+    FILLED,
+    WORKED,
     Call::Brought(1, 2, 3),
     Call::Made(0, Change::ReplaceRight(100), 3, 200),
     Call::Brought(1, 3, 0),

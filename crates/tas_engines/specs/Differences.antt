@@ -101,17 +101,25 @@ ChangeTheirEnds movie (change ∷ changes) = ChangesItsEnds movie change × Chan
 abbrev pub frames : List FrameRun → ℕ
 frames runs = length (flat_map run_inputs runs)
 
+-- how many runs in a row both lists have where a hunk ends
+abbrev pub alike_runs : ℕ
+alike_runs = 4
+
+-- they are looked for where fewer runs of the two than this come before
+abbrev pub reach : ℕ
+reach = 512
+
 -- from run i of the old ones and run j of the new ones on, four runs are the same. There is room to go on from there: a movie that has `made` frames before
 -- these runs, and `left` old frames from them on, isn't too long when it has the new runs before that place and the old ones from it on
 pub record GoOnAlike (old new : List FrameRun) (made left i j : ℕ) : Type 0 where
-  pub old_within : i + 4 ≤ length old
-  pub new_within : j + 4 ≤ length new
-  pub same : take 4 (drop i old) ≡ take 4 (drop j new)
+  pub old_within : i + alike_runs ≤ length old
+  pub new_within : j + alike_runs ≤ length new
+  pub same : take alike_runs (drop i old) ≡ take alike_runs (drop j new)
   pub room : made + frames (take j new) + (left - frames (take i old)) ≤ most_inputs
 
--- they don't, where fewer than 512 runs of the two come before
+-- they don't, where fewer runs of the two than `reach` come before
 abbrev pub AreApart : List FrameRun → List FrameRun → ℕ → ℕ → Type 0
-AreApart old new made left = (i j : ℕ) → i + j < 512 → GoOnAlike old new made left i j → ⊥
+AreApart old new made left = (i j : ℕ) → i + j < reach → GoOnAlike old new made left i j → ⊥
 
 -- old runs go and new ones come, by some changes, and then some runs stay
 pub record Hunk : Type 0 where
@@ -133,7 +141,7 @@ unfoldable pub AreHunks : ℕ → ℕ → List Hunk → Type 0
 AreHunks made left [] = Unit {0}
 AreHunks made left (hunk ∷ []) = IsHunk made left hunk
 AreHunks made left (hunk ∷ next ∷ hunks) =
-    IsHunk made left hunk × (4 ≤ length hunk.stays) × AreHunks (made + frames (hunk.into ++ hunk.stays)) (left - frames (hunk.out ++ hunk.stays)) (next ∷ hunks)
+    IsHunk made left hunk × (alike_runs ≤ length hunk.stays) × AreHunks (made + frames (hunk.into ++ hunk.stays)) (left - frames (hunk.out ++ hunk.stays)) (next ∷ hunks)
 
 -- the old runs, the new ones and the changes are those of hunks
 pub record FallIntoHunks (made left : ℕ) (old new : List FrameRun) (changes : List Change) : Type 0 where

@@ -12,7 +12,7 @@ use Rattle.tas_engines.specs.declared.alike.Room.{Room}
 use Rattle.tas_engines.specs.declared.stages.Stage.{Stage}
 use Rattle.tas_engines.specs.declared.stages.Step.{Step}
 use Rattle.tas_engines.specs.Changes.{changed_by, AreAllowed, HaveNumbers}
-use Rattle.tas_engines.specs.Differences.{taken_out, put_in, AreWithin, AreInOrder, DeletionsDiffer, ChangeTheirEnds, frames, GoOnAlike, AreApart}
+use Rattle.tas_engines.specs.Differences.{taken_out, put_in, AreWithin, AreInOrder, DeletionsDiffer, ChangeTheirEnds, frames, alike_runs, GoOnAlike, AreApart}
 
 -- the movie that has the first b of the new inputs, and after them the old ones from a on
 abbrev pub halfway : List ℕ → List Input → List Input → ℕ → ℕ → MovieContent
@@ -126,7 +126,7 @@ pub record IsStep (old new : List FrameRun) (len : ℕ) (stage : Stage) (step : 
   pub new_rest : List FrameRun
   pub old_is : old ≡ out ++ stays ++ old_rest
   pub new_is : new ≡ into ++ stays ++ new_rest
-  pub many : 4 ≤ length stays
+  pub many : alike_runs ≤ length stays
   pub apart : AreApart out into stage.gap.new (len - stage.gap.old)
   pub room : stage.gap.new + frames into + (len - stage.gap.old - frames out) ≤ most_inputs
   pub hunk : step.hunk ≡ record { old = stage.gap.old; old_end = stage.gap.old + frames out; new = stage.gap.new; new_end = stage.gap.new + frames into }

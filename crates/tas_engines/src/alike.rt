@@ -2,7 +2,7 @@
 
 ghost use Rattle.std.specs.Prelude.{◌≡◌, ◌<◌, ◌≤◌, ◌↔◌, IsTrue, length};
 ghost use Rattle.tas_movie.specs.Content.{most_inputs};
-ghost use Rattle.tas_engines.specs.Differences.{frames, GoOnAlike};
+ghost use Rattle.tas_engines.specs.Differences.{frames, reach, GoOnAlike};
 ghost use Rattle.tas_engines.specs.Hunks.{IsLongestFront, HasRoom, IsAt, IsNearest, IsNext};
 
 use crate::anchors::Anchor;
@@ -11,7 +11,7 @@ use tas_movie::{FrameRun, MAX_FRAMES};
 /// How many runs in a row are the same where both lists go on alike.
 const ALIKE_RUNS: usize = 4;
 
-/// Such a place is looked for where fewer runs than these come before it.
+/// Such a place is looked for only where fewer than this many runs of both lists together come before it.
 const REACH: usize = 512;
 
 /// What the movie has where the runs begin.
@@ -71,7 +71,7 @@ fn go_on_alike(old: &[FrameRun], new: &[FrameRun], at: Anchor, room: Room) -> bo
 
 /// A place from which both lists go on alike, with this many runs of the two before it.
 fn alike_at(old: &[FrameRun], new: &[FrameRun], distance: usize, room: Room) -> Option<Anchor>
-    requires near { distance < 512 }
+    requires near { distance < reach }
     requires room { HasRoom old.now new.now room }
     ensures { IsAt old.now new.now room distance result }
 {
@@ -104,7 +104,7 @@ fn nearest(old: &[FrameRun], new: &[FrameRun], room: Room) -> Option<Anchor>
     None
 }
 
-/// A place from which both lists go on alike, where they don't before it: `far` where they do there and at no nearer one.
+/// A place from which both lists go on alike, while the parts before it nowhere do: `far`, if that is so of it, else the nearest one.
 pub(crate) fn next_alike(
     old: &[FrameRun],
     new: &[FrameRun],

@@ -136,7 +136,7 @@ fn double(marks: &mut [Mark], runs: usize) {
     }
 }
 
-/// The place of a sum's slot in a table of this many.
+/// The place of a sum's slot in a table of this many slots.
 fn slot_place(sum: usize, size: usize) -> usize
     requires { 1 ≤ size }
     ensures { result + 1 ≤ size }

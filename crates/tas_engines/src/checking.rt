@@ -9,7 +9,7 @@ use crate::{RunFault, ToolFault, movie_of, read_two, write_all};
 use std::alloc::{AllocError, Allocator};
 use std::io::{Read, Write};
 
-/// The line that tells a movie's length in frames.
+/// The line with a movie's length in frames.
 fn length_line<A: Allocator>(alloc: A, frames: usize) -> Result<String<A>, AllocError>
     ensures { IfOk result (λ line. string_bytes line ≡ length_line frames) }
 {

@@ -81,7 +81,7 @@ struct Differences {
     picture: Option<usize>,
 }
 
-/// The first place, where it is known or this is it.
+/// The first frame at which something differs: the one that was found before, or else frame `k`, if it isn't the same there.
 fn first_of(found: Option<usize>, is_same: bool, k: usize) -> Option<usize>
     ensures { result ≡ first_of found is_same k }
 {
@@ -125,8 +125,8 @@ fn compare_frame<A: Allocator, B: Allocator>(
     })
 }
 
-/// Plays two movies from the end of their common front, up to the end of the shorter one or until all is found. Up to
-/// there they are played as one.
+/// Plays two movies as one up to the end of their common front, and then each for itself, up to the end of the shorter one or until all
+/// is found.
 fn compare_frames<A: Allocator, B: Allocator + Copy>(
     alloc: B,
     old: &Movie<A>,

@@ -165,7 +165,7 @@ fn push_gap<A: Allocator>(
 }
 
 /// How many inputs are the same from an anchor on, up to the end of a gap: none where the anchor isn't in it, or where
-/// the movie would be too long for a while.
+/// the movie would be too long after the changes before it.
 fn common_from(old: &[Input], new: &[Input], gap: Gap, anchor: Anchor) -> usize
     requires { IsGapOf old.now new.now gap }
     ensures { 0 < result → IsCommonFrom old.now new.now gap anchor result }
@@ -214,7 +214,7 @@ fn push_up_to<A: Allocator>(
     })
 }
 
-/// Adds the changes of a hunk. Within it they are between stretches that both lists have there.
+/// Adds the changes of a hunk: those between the stretches that both lists have in it.
 fn push_hunk<A: Allocator + Copy>(
     alloc: A,
     changes: &mut Vec<Change, A>,
@@ -247,7 +247,7 @@ fn push_hunk<A: Allocator + Copy>(
     push_gap(changes, old, new, gap)
 }
 
-/// The changes that make `new` of `old`, in order: in hunks, with nothing before the common beginning or after the common
+/// The changes that make `new` of `old`, in order: in hunks, with nothing within the common beginning or the common
 /// end. Between two hunks at least four runs stay, and four runs in a row that both lists have end a hunk, where they are
 /// near its beginning. Where as many inputs come as go they are replaced, from one that differs to one that differs; else
 /// those that go are deleted, if any do, and those that come are inserted. There are none where the lists are equal.

@@ -9,7 +9,7 @@ use std::alloc::Allocator;
 use std::io::{Read, Write};
 use tas_movie::{Edit, Movie, apply, print_text};
 
-/// Leaves the frames from one to the one before another alone; `Range` where the movie hasn't got them, and it is as before.
+/// Keeps the frames `from` to `to` - 1 and drops all others; `Range` where the movie doesn't have them, and it is as before.
 fn keep_frames<A: Allocator>(movie: &mut Movie<A>, from: usize, to: usize) -> Result<(), RunFault>
     ensures range { IfOk result
         (λ done. IsCutRange movie.old from to × (movie.new ≡ cut_out movie.old from to)) }

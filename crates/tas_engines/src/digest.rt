@@ -53,7 +53,7 @@ fn digest_of(bytes: &[u8]) -> [u8; DIGITS]
     digits_of(Sha256::digest(bytes))
 }
 
-/// Adds a state's RAM to a message, or answers its halt.
+/// Adds a state's RAM to a message, or returns its halt.
 fn hash_ram(state: &State, hasher: &mut Sha256) -> Result<(), Halt>
     ensures answer { result ≡ answer_of state.now.halt }
     ensures ram { OnOk result

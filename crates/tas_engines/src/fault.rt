@@ -36,7 +36,7 @@ pub enum RunFault {
         /// How many bytes of the whole run had gone out: the first ones of the answer.
         written: usize,
     },
-    /// The cartridge hasn't 2,048 or 4,096 bytes, but this many. Nothing was written.
+    /// The cartridge has neither 2,048 nor 4,096 bytes, but this many. Nothing was written.
     #[error("cartridge has {0} bytes")]
     Size(usize),
     /// The bytes aren't a text of a movie with the cartridge. Nothing was written.
@@ -50,7 +50,7 @@ pub enum RunFault {
         /// The movie's length in frames.
         len: usize,
     },
-    /// The movie hasn't the frames that were asked for, or they are too many for one export. Nothing was
+    /// The movie doesn't have the frames that were asked for, or they are too many for one export. Nothing was
     /// written.
     #[error(fmt = range_line)]
     Range {
@@ -61,7 +61,7 @@ pub enum RunFault {
         /// The movie's length in frames.
         len: usize,
     },
-    /// The machine is halted in the frame that was asked for, or in one of them; this is the least one's
+    /// The machine is halted in the frame that was asked for, or in one of them; this is the first one's
     /// halt. Nothing was written.
     #[error(fmt = halted_line)]
     Halted {
@@ -70,7 +70,7 @@ pub enum RunFault {
         /// The byte.
         opcode: u8,
     },
-    /// A frame of a film is halted; this is the least one. The pictures of the frames before it are written.
+    /// A frame of a film is halted; this is the first one. The pictures of the frames before it are written.
     #[error(fmt = halted_frame_line)]
     HaltedFrame {
         /// The frame, counted from 0.
@@ -106,11 +106,10 @@ pub enum RunFault {
     /// lines before.
     #[error("no entry")]
     NoEntry,
-    /// A reply of the desk doesn't belong to just the engine's own edits. It is proved that no engine ends so.
+    /// The desk replied at a history with an edit that isn't the engine's own. It is proved that no engine ends so.
     #[error("foreign edit")]
     Foreign,
-    /// Memory was refused. Nothing was written, but by a script or a conversation the replies to the lines before, and by
-    /// a film the pictures before.
+    /// Memory was refused. Nothing was written, but by a script or a conversation the replies to the lines before.
     #[error("out of memory")]
     Memory,
 }
@@ -142,7 +141,7 @@ pub enum SeatFault {
     Foreign,
 }
 
-/// Why an engine ended without its answer: it didn't read its inputs, or it had; or, with its answer, how a seat's conversation
+/// Why an engine ended without its answer, before its inputs were read or after; or, with the answer written, how a seat's conversation
 /// ended. Its text is the line, without the newline, that the program writes to standard error; the program's status is then 1.
 #[derive(Clone, Copy, Debug, PartialEq, Eq, Error)]
 pub enum ToolFault {

@@ -3,7 +3,7 @@
 use crate::SeatFault;
 use std::fmt::{Formatter, Result, Write};
 
-/// That of `RunFault::NoFrame`.
+/// The text of `RunFault::NoFrame`.
 pub fn no_frame_line<W: Write>(frame: &usize, len: &usize, f: &mut Formatter<W>) -> Result {
     write!(f, "no frame {frame} of {len}")
 }

@@ -12,7 +12,7 @@ use std::io::{Read, Write};
 use tas_movie::Movie;
 use vcs_machine::{Meter, State, play_for_lag};
 
-/// Plays a movie's frame `k` unseen, and answers whether it is a lag frame.
+/// Plays a movie's frame `k` unseen, and returns whether it is a lag frame.
 fn pass_for_lag<A: Allocator>(movie: &Movie<A>, k: usize, state: &mut State) -> bool
     requires within { k < length movie.now.inputs }
     requires start { state.old ≡ state_after movie.now k }
@@ -41,8 +41,8 @@ fn push_stretch<A: Allocator>(
     Ok(())
 }
 
-/// Where the stretch begins that goes on after frame `k`, before which one began at `from`. Where frame `k` isn't a lag
-/// frame the line of that one is added.
+/// Where the stretch begins that may go on after frame `k`: at `from`, if frame `k` is a lag frame. Else at `k` + 1, and the line of the
+/// frames from `from` to `k` - 1 is added, if there are any.
 fn next_start<A: Allocator>(
     out: &mut Vec<u8, A>,
     is_lag: bool,

@@ -1,5 +1,5 @@
-//! The engines of the program `tas` that need no desk: a module for each command, with its engine over any
-//! readers and any writer, and what the engines share: reading, writing, faults, movies, and scripts of changes.
+//! The engines of the program `tas` that need no desk, but for `film`, which is in `tas_tool`: a module for each command, with its engine
+//! over any readers and any writer, and what the engines share: reading, writing, faults, movies, and scripts of changes.
 //!
 //! An engine reads its inputs whole before it writes anything, and then runs on the bytes that it
 //! read. Its contract says what it left in its readers, and that it either wrote just the bytes that

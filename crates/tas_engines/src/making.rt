@@ -22,7 +22,7 @@ pub enum ChangeError {
     Memory,
 }
 
-/// Whether a change is allowed on a movie of `len` frames, as `tas_movie::check` answers it of the edit.
+/// Whether a change is allowed on a movie of `len` frames, as `tas_movie::check` decides it for its edit.
 pub fn check_change(len: usize, change: Change) -> Result<(), EditRefusal>
     ensures { (movie : MovieContent) → length movie.inputs ≡ len
         → result ≡ check_answer (refusal movie (edit_of change)) }

@@ -34,7 +34,7 @@ pub(crate) fn pass_frames<A: Allocator>(movie: &Movie<A>, n: usize) -> State
     state
 }
 
-/// Plays a movie's frame `k` and draws it, or answers its halt; nothing is said of the picture then.
+/// Plays a movie's frame `k` and draws it, or returns its halt; nothing is said of the picture then.
 pub(crate) fn draw_frame<A: Allocator, B: Allocator>(
     movie: &Movie<A>,
     k: usize,

@@ -128,9 +128,9 @@ fn show_ram<A: Allocator + Copy, W: Write>(
     write_ram_lines(&movie, from, to, output)
 }
 
-/// Reads a cartridge and a movie text, and writes RAM after K frames of the movie for each K from `from` to `to` - 1
-///: lines `K DIGITS`, 256 upper case hexadecimal digits, each written before the next frame is played. K is a
-/// number of frames, so 0 is power-on and `to` is at most the movie's length and one. A halted machine has its RAM.
+/// Reads a cartridge and a movie text, and writes RAM after K frames of the movie for each K from `from` to `to` - 1: a line
+/// `K DIGITS` with 256 upper case hexadecimal digits, written before the next frame is played. K is a number of frames, so 0
+/// is power-on, and `to` is at most one more than the movie's length. A halted machine keeps its RAM.
 ///
 /// Faults, in order: those of [`read_two`], those of [`movie_of`], then `Range`, each with nothing written; `Write` with
 /// the first bytes of the lines written, and how many.

@@ -30,7 +30,7 @@ fn read_some<R: Read>(reader: &mut R, buffer: &mut [u8]) -> Option<usize>
 
 /// Reads an input to its end, and returns its bytes: at most [`INPUT_LIMIT`].
 ///
-/// Reading ends at the first read that fails (`Read`) or gives no bytes, or with the byte past the
+/// Reading ends at the first read that fails (`Failed`) or gives no bytes, or with the byte past the
 /// limit (`TooLong`); at most the limit and one byte leave the reader. No read is tried again (no
 /// clause says so; a test does). `Memory` where a growth was refused.
 pub fn read_input<A: Allocator, R: Read>(alloc: A, reader: &mut R) -> Result<Vec<u8, A>, ReadFault>

@@ -83,8 +83,8 @@ pub fn released(input: Input, less: Input) -> Input
     }
 }
 
-/// Whether a copy of `count` frames may be put in at the place `at` of a movie of `len` frames, from the frame `from` of a movie
-/// of `have` frames on: `Place` where these don't reach so far; else as any insertion is refused.
+/// Whether the `count` frames from the frame `from` on, of a movie of `have` frames, may be put in at the place `at` of a movie of `len`
+/// frames: `Place` where the first movie doesn't have them all; else as any insertion is refused.
 pub(crate) fn check_copy(
     have: usize,
     from: usize,
@@ -98,7 +98,7 @@ pub(crate) fn check_copy(
     check_insertion(len, at, count)
 }
 
-/// Whether some frames may be put in again after themselves: `Place` where a movie of `len` frames hasn't got them, and then
+/// Whether some frames may be put in again after themselves: `Place` where a movie of `len` frames doesn't have them, and then
 /// `Long` where it would have more than `MAX_FRAMES`.
 fn check_repeat(len: usize, at: usize, count: usize, times: usize) -> Result<(), EditRefusal>
     ensures { (movie : MovieContent) → length movie.inputs ≡ len

@@ -11,7 +11,7 @@ use std::alloc::{AllocError, Allocator};
 use tas_language::{Change, EditLine, change_line, one_edit_line_per_line, read_edit_line};
 use tas_movie::{EditRefusal, Movie};
 
-/// Why a script wasn't made to its end. Lines are counted from 1.
+/// Why a script wasn't carried out to its end. Lines are counted from 1.
 #[derive(Clone, Copy, Debug, PartialEq, Eq)]
 pub enum ScriptFault {
     /// The line isn't understood, or no newline ends it.

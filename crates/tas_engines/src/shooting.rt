@@ -16,7 +16,7 @@ use vcs_cpu::Halt;
 use vcs_machine::Meter;
 use vcs_tia::{Picture, ppm};
 
-/// The fault that tells a halt.
+/// The fault that reports a halt.
 pub fn halt_fault(halt: Halt) -> RunFault
     ensures { result ≡ halt_fault halt }
 {
@@ -25,8 +25,8 @@ pub fn halt_fault(halt: Halt) -> RunFault
     }
 }
 
-/// The picture of frame `k` of a movie, or why there is none. The new meter rises by the frames that were played: after
-/// `Memory`, which never comes in place of `NoFrame`, by none, so it never comes in place of `Halted` either.
+/// The picture of frame `k` of a movie, or why there is none: `NoFrame` comes first, then `Memory`, both before a frame is played,
+/// then `Halted`. The new meter rises by the frames that were played.
 fn draw_frame<A: Allocator + Copy>(
     alloc: A,
     movie: &Movie<A>,

@@ -44,8 +44,8 @@ pub(crate) fn runs_in<A: Allocator>(
     Ok(runs)
 }
 
-/// The next hunk, where `old` and `new` are the runs that are left and the old movie has `len` frames. None where the
-/// runs that are left go on alike nowhere near. `far` is a place of which it seems that they do there.
+/// The next hunk, where `old` and `new` are the runs that are left and the old movie has `len` frames. `None` where there is no place
+/// within reach from which both go on alike. `far` is a place from which they may.
 pub(crate) fn next_step(
     old: &[FrameRun],
     new: &[FrameRun],

@@ -10,7 +10,7 @@ use std::alloc::Allocator;
 use std::io::Write;
 
 /// Writes all of an answer. A write that fails or takes no byte ends the call with
-/// [`RunFault::Write`], which tells how many bytes had gone out; no write is tried again (no clause
+/// [`RunFault::Write`], which has the number of bytes that had gone out; no write is tried again (no clause
 /// says so; a test does).
 pub fn write_all<W: Write>(writer: &mut W, bytes: &[u8]) -> Result<(), RunFault>
     ensures ok { OnOk result (Appends (W.contents writer.old) (W.contents writer.new) bytes.now) }

@@ -1,4 +1,4 @@
-//! The answers for which a script has no reply. Each is one line, and what it says that follows it.
+//! The answers that only a conversation has. Each is a line, and the bytes that the line announces, if it does.
 
 ghost use Rattle.std.specs.Prelude.{◌≡◌, ◌++◌, length, IfOk, OnOk};
 ghost use Rattle.std.specs.List.{flat_map};
@@ -27,8 +27,8 @@ pub fn push_pixmap<A: Allocator, B: Allocator>(
     }
 }
 
-/// The answer to `picture K`: `picture AT K BYTES`, a newline, and the picture as a binary portable pixmap of this many bytes
-///. `AllocError` where memory is refused.
+/// The answer to `picture K`: `picture AT K BYTES`, a newline, and the picture as a binary portable pixmap of this many bytes.
+/// `AllocError` where memory is refused.
 pub fn picture_answer<A: Allocator + Copy, B: Allocator>(
     alloc: A,
     at: u64,

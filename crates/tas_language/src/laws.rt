@@ -31,7 +31,7 @@ pub fn one_edit_line_per_line()
     ensures { (line : List ℕ) (a b : EditLine) → IsEditLine line a → IsEditLine line b → a ≡ b }
 {}
 
-/// The lines of an edit that a movie allows: a conversation hears each of them as a command, each command's edit is allowed on
+/// The lines of an edit that a movie allows: a conversation understands each of them as a command, each command's edit is allowed on
 /// the movie that those before it made, and together they make what the edit makes.
 pub fn edit_lines_make_the_edit<A: Allocator>()
     ensures heard { (movie : MovieContent) (edit : Edit A) → length movie.inputs ≤ most_inputs

@@ -45,7 +45,7 @@ fn offset_of(first: u8, second: u8, third: u8) -> Option<usize>
     Some(usize::from(high) * 256 + usize::from(middle) * 16 + usize::from(low))
 }
 
-/// Writes the bytes of these digits; nothing comes back where one of them isn't a digit.
+/// Writes the bytes of these digits; `None` where one of them isn't a digit.
 fn write_bytes(digits: &[u8], room: &mut [u8]) -> Option<()>
     requires { length digits.now ≡ 2 * length room.old }
     ensures len { length room.new ≡ length room.old }
@@ -60,7 +60,7 @@ fn write_bytes(digits: &[u8], room: &mut [u8]) -> Option<()>
     Some(())
 }
 
-/// Writes the bytes of a word OFF=HEX into the image; nothing comes back where it is no such word.
+/// Writes the bytes of a word OFF=HEX into the image; `None` where it is no such word.
 fn write_part(word: &[u8], image: &mut [u8]) -> Option<()>
     requires { length image.old ≤ CART_SIZE }
     ensures written { IfSome result
@@ -119,7 +119,7 @@ fn read_part<'a>(text: &'a [u8], image: &mut [u8]) -> Option<&'a [u8]>
     Some(rest)
 }
 
-/// Writes the bytes of a text's parts into the image, later ones over earlier ones; nothing comes back where the text names no
+/// Writes the bytes of a text's parts into the image, later ones over earlier ones; `None` where the text names no
 /// parts.
 fn write_parts(text: &[u8], image: &mut [u8]) -> Option<()>
     requires { length image.old ≤ CART_SIZE }

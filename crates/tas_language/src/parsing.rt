@@ -51,7 +51,7 @@ pub fn parse_line(line: &[u8]) -> Option<Command>
     Some(Command::Work { frame })
 }
 
-/// The number at the end of a line that begins so.
+/// The number at the end of a line that begins with `front`.
 fn numbered(line: &[u8], front: &[u8]) -> Option<usize>
     ensures some { IfSome result (λ n. (line.now ≡ front.now ++ decimal n) × IsNumber n) }
     ensures none { IfNone result ((n : ℕ) → IsNumber n → line.now ≢ front.now ++ decimal n) }

@@ -27,7 +27,7 @@ pub enum Reply {
         /// The movie's length in frames.
         len: usize,
     },
-    /// `full AT`: as many edits as a session takes were made.
+    /// `full AT`: the history has as many edits as it may have.
     Full {
         /// How many edits were made before.
         at: u64,

@@ -1,5 +1,6 @@
 //! Exports of whole movies.
 
+use crate::answers::{Answer, DIGEST, SIZE, check_filled, check_pictures};
 use crate::checks::{check_same, check_that};
 use crate::commands::{Files, export, shots};
 use crate::movies::{FOLDING, HALTING, IDLE, PICTURE, PLAYFIELD, RIGHT, image_of, text_of};
@@ -9,7 +10,6 @@ use std::fmt::Debug;
 use std::process::Abort;
 use std::sync::Wait;
 use std::thread::Threads;
-use tas_movie::{TextError, TextErrorKind};
 use tas_tool::{INPUT_LIMIT, ReadFault, RunFault, ToolFault};
 use test_streams::{Failure, Filler, Giver, Room, Taker};
 
@@ -20,15 +20,13 @@ fn check_export<R: Wait + Threads + Sync + Abort, C: Copy + Debug>(
     case: C,
     (image, text): Files<'_>,
     range: (usize, usize, usize),
-    (pictures, end): (&[u8], Result<(), ToolFault>),
+    wanted: Answer<'_>,
 ) {
     let mut output = Vec::new(alloc);
     let mut cart = image;
     let mut input = text;
     let ended = export(rt, alloc, range, &mut cart, &mut input, &mut output);
-    check_same(rt, case, ended, end);
-    check_same(rt, case, output.len(), pictures.len());
-    check_that(rt, case, output.as_slice() == pictures);
+    check_pictures(rt, case, (output.as_slice(), ended), wanted);
 }
 
 /// Fails where an export's pictures aren't the shots.
@@ -155,12 +153,7 @@ fn check_full<R: Wait + Threads + Sync + Abort>(
     let mut cart = image;
     let mut input = text;
     let end = export(rt, alloc, (1, 3, 2), &mut cart, &mut input, &mut output);
-    let fault = ToolFault::Run(RunFault::Write { written: room });
-    check_same(rt, ("room", room), end, Err(fault));
-    let found = (output.taken.len(), output.failed);
-    check_same(rt, ("room", room), found, (room, 1));
-    let is_first = pictures.starts_with(output.taken.as_slice());
-    check_that(rt, ("room", room), is_first);
+    check_filled(rt, &output, end, pictures, room);
 }
 
 /// A failed write is the last one.
@@ -225,24 +218,15 @@ fn an_input_past_the_limit_is_too_long(rt: HostRuntime) {
     check_same(&rt, "output", output.len(), 0);
 }
 
-/// The text of a movie of one frame with another cartridge.
-static OTHER: &[u8] =
-    b"a26movie 2\ncart c914dfbc057cd1e5dd9cefcba07cec773cc85a8be3a04676377b60ded704d22d\n..... ..... .....\n";
-
-const SIZE: ToolFault = ToolFault::Run(RunFault::Size(7));
-
-const DIGEST: ToolFault = ToolFault::Run(RunFault::Text(TextError {
-    line: 2,
-    kind: TextErrorKind::Digest,
-}));
-
 /// The cartridge's size comes before the text's fault, and this before the range.
 #[test]
 fn faults_of_an_export_come_in_order(rt: HostRuntime) {
     let alloc = rt.alloc();
     let image = image_of(&rt, alloc, PLAYFIELD.bytes);
+    let other = text_of(&rt, alloc, HALTING, 1, IDLE);
     for (image, fault) in [(b"1234567".as_slice(), SIZE), (image.as_slice(), DIGEST)] {
+        let files = (image, other.as_bytes());
         let wanted = (b"".as_slice(), Err(fault));
-        check_export(&rt, alloc, fault, (image, OTHER), (0, 2, 1), wanted);
+        check_export(&rt, alloc, fault, files, (0, 2, 1), wanted);
     }
 }

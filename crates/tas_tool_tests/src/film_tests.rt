@@ -1,6 +1,7 @@
 //! Films: against a shot of each frame.
 
-use crate::checks::{check_same, check_that};
+use crate::answers::{Answer, DIGEST, SIZE, check_filled, check_pictures};
+use crate::checks::check_same;
 use crate::commands::{Files, film, shots};
 use crate::movies::{FOLDING, HALTING, IDLE, PICTURE, PLAYFIELD, RIGHT, image_of, text_of};
 use std::alloc::Global;
@@ -8,7 +9,6 @@ use std::fmt::Debug;
 use std::io;
 use std::io::Write;
 use std::process::Abort;
-use tas_movie::{TextError, TextErrorKind};
 use tas_tool::{ReadFault, RunFault, ToolFault};
 use test_streams::{Failure, Giver, Room, Taker};
 
@@ -22,15 +22,13 @@ fn check_film<R: Abort, C: Copy + Debug>(
     case: C,
     (image, text): Files<'_>,
     range: Range,
-    (pictures, end): (&[u8], Result<(), ToolFault>),
+    wanted: Answer<'_>,
 ) {
     let mut output = Vec::new(alloc);
     let mut cart = image;
     let mut input = text;
     let ended = film(alloc, range, &mut cart, &mut input, &mut output);
-    check_same(rt, case, ended, end);
-    check_same(rt, case, output.len(), pictures.len());
-    check_that(rt, case, output.as_slice() == pictures);
+    check_pictures(rt, case, (output.as_slice(), ended), wanted);
 }
 
 /// Ranges of a movie of seven frames, and the frames that are written.
@@ -152,12 +150,7 @@ fn check_full<R: Abort>(
     let mut cart = image;
     let mut input = text;
     let end = film(alloc, (Some(1), None), &mut cart, &mut input, &mut output);
-    let fault = ToolFault::Run(RunFault::Write { written: room });
-    check_same(rt, ("room", room), end, Err(fault));
-    let found = (output.taken.len(), output.failed);
-    check_same(rt, ("room", room), found, (room, 1));
-    let is_first = pictures.starts_with(output.taken.as_slice());
-    check_that(rt, ("room", room), is_first);
+    check_filled(rt, &output, end, pictures, room);
 }
 
 /// A failed write is the last one. It fails at each byte around the seams of two pictures, and at every 9,973rd between.
@@ -219,35 +212,19 @@ fn a_film_of_1025_frames_is_1025_writes(rt: HostRuntime) {
     check_same(&rt, "writes", output.writes, 1025);
 }
 
-/// The text of a movie of one frame with another cartridge.
-static OTHER: &[u8] =
-    b"a26movie 2\ncart c914dfbc057cd1e5dd9cefcba07cec773cc85a8be3a04676377b60ded704d22d\n..... ..... .....\n";
-
-const SIZE: ToolFault = ToolFault::Run(RunFault::Size(7));
-
-const DIGEST: ToolFault = ToolFault::Run(RunFault::Text(TextError {
-    line: 2,
-    kind: TextErrorKind::Digest,
-}));
-
 /// The cartridge's size comes before the text's fault, and this before the range.
 #[test]
 fn faults_of_a_film_come_in_order(rt: HostRuntime) {
     let alloc = rt.alloc();
     let image = image_of(&rt, alloc, PLAYFIELD.bytes);
+    let other = text_of(&rt, alloc, HALTING, 1, IDLE);
     for (image, fault) in [(b"1234567".as_slice(), SIZE), (image.as_slice(), DIGEST)] {
+        let files = (image, other.as_bytes());
         let wanted = (b"".as_slice(), Err(fault));
-        check_film(
-            &rt,
-            alloc,
-            fault,
-            (image, OTHER),
-            (Some(2), Some(1)),
-            wanted,
-        );
+        check_film(&rt, alloc, fault, files, (Some(2), Some(1)), wanted);
     }
     let mut cart = Giver::new(image.as_slice(), usize::MAX, 0);
-    let mut input = Giver::new(OTHER, usize::MAX, 2);
+    let mut input = Giver::new(other.as_bytes(), usize::MAX, 2);
     let mut output = Vec::new(alloc);
     let end = film(alloc, (None, None), &mut cart, &mut input, &mut output);
     check_same(&rt, "read", end, Err(ToolFault::Read(ReadFault::Failed)));

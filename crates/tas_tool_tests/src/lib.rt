@@ -61,6 +61,8 @@ mod talk_strip_tests;
 #[cfg(test)]
 mod talk_tests;
 #[cfg(test)]
+mod talks;
+#[cfg(test)]
 mod tasks;
 #[cfg(test)]
 mod word_tests;

@@ -1,30 +1,12 @@
 //! The lines `begin`, `commit` and `drop` of a conversation, and what other lines are answered between them.
 
-use crate::answers::check_answer;
-use crate::commands::talk;
-use crate::movies::{IDLE, PLAYFIELD, joined, playfield_picture, text_of};
-use std::alloc::Global;
-use std::process::Abort;
-use std::sync::Wait;
-
-/// Fails where a conversation of these lines doesn't end well, or isn't answered by these answers.
-fn check_said<R: Wait + Abort>(rt: &R, alloc: Global, lines: &[&[u8]], answers: &[&[u8]]) {
-    let lines = joined(rt, alloc, lines);
-    let answers = joined(rt, alloc, answers);
-    let mut output = Vec::new(alloc);
-    let end = talk(rt, alloc, &mut lines.as_slice(), &mut output);
-    check_answer(
-        rt,
-        "said",
-        (output.as_slice(), end),
-        (answers.as_slice(), Ok(())),
-    );
-}
+use crate::movies::{IDLE, PLAYFIELD, playfield_picture, text_of};
+use crate::talks::check_pieces;
 
 /// Outside a draft there is nothing to commit or to drop; in one, nothing is begun and no cartridge is loaded.
 #[test]
 fn lines_that_have_no_place_are_refused(rt: HostRuntime) {
-    check_said(
+    check_pieces(
         &rt,
         rt.alloc(),
         &[
@@ -47,7 +29,7 @@ const TEN: &[u8] = b"load 000=A910850DA91E85084C08F0 FFC=00F0\ninsert 0 10 .....
 /// history has none of them.
 #[test]
 fn drafts_are_committed_in_at_most_two_edits(rt: HostRuntime) {
-    check_said(
+    check_pieces(
         &rt,
         rt.alloc(),
         &[
@@ -73,7 +55,7 @@ const MANY: &[u8] = b"load 000=A910850DA91E85084C08F0 FFC=00F0\ninsert 0 200 ...
 /// A draft begins with the states that are kept, and cuts its own at each change; those of the movie are cut once it is committed.
 #[test]
 fn drafts_keep_states_of_their_own(rt: HostRuntime) {
-    check_said(
+    check_pieces(
         &rt,
         rt.alloc(),
         &[
@@ -96,7 +78,7 @@ fn looks_in_a_draft_are_at_what_the_movie_would_be(rt: HostRuntime) {
     let picture = playfield_picture(&rt, alloc);
     let text = text_of(&rt, alloc, PLAYFIELD, 200, IDLE);
     let longer = text_of(&rt, alloc, PLAYFIELD, 201, IDLE);
-    check_said(
+    check_pieces(
         &rt,
         alloc,
         &[
@@ -132,6 +114,6 @@ static ENDS: [(&[u8], &[u8]); 3] = [
 #[test]
 fn a_draft_ends_with_its_conversation(rt: HostRuntime) {
     for (lines, answers) in &ENDS {
-        check_said(&rt, rt.alloc(), &[lines], &[answers]);
+        check_pieces(&rt, rt.alloc(), &[lines], &[answers]);
     }
 }

@@ -1,30 +1,11 @@
 //! The lines `press`, `release`, `repeat`, `copy` and `lag` of a conversation. The frames and the lag frames were found by hand.
 
-use crate::answers::check_answer;
-use crate::commands::talk;
-use crate::movies::joined;
-use std::alloc::Global;
-use std::process::Abort;
-use std::sync::Wait;
-
-/// Fails where a conversation of these lines doesn't end well, or isn't answered by these answers.
-fn check_said<R: Wait + Abort>(rt: &R, alloc: Global, lines: &[&[u8]], answers: &[&[u8]]) {
-    let lines = joined(rt, alloc, lines);
-    let answers = joined(rt, alloc, answers);
-    let mut output = Vec::new(alloc);
-    let end = talk(rt, alloc, &mut lines.as_slice(), &mut output);
-    check_answer(
-        rt,
-        "said",
-        (output.as_slice(), end),
-        (answers.as_slice(), Ok(())),
-    );
-}
+use crate::talks::check_pieces;
 
 /// Other switches stay as they are, whatever the stick does; a press of what is pressed, and a release of what isn't, change nothing.
 #[test]
 fn switches_are_pressed_and_released(rt: HostRuntime) {
-    check_said(
+    check_pieces(
         &rt,
         rt.alloc(),
         &[
@@ -45,7 +26,7 @@ fn switches_are_pressed_and_released(rt: HostRuntime) {
 /// R, L, D: then L D three times more, and copies from the front and the back; what is copied is what was there before.
 #[test]
 fn frames_are_repeated_and_copied(rt: HostRuntime) {
-    check_said(
+    check_pieces(
         &rt,
         rt.alloc(),
         &[
@@ -66,7 +47,7 @@ fn frames_are_repeated_and_copied(rt: HostRuntime) {
 /// A minute of autofire.
 #[test]
 fn a_minute_of_autofire_is_one_line(rt: HostRuntime) {
-    check_said(
+    check_pieces(
         &rt,
         rt.alloc(),
         &[
@@ -83,7 +64,7 @@ fn a_minute_of_autofire_is_one_line(rt: HostRuntime) {
 /// The place is refused before the length; what is refused changes nothing, and an edit of no frames counts.
 #[test]
 fn retouches_are_refused(rt: HostRuntime) {
-    check_said(
+    check_pieces(
         &rt,
         rt.alloc(),
         &[
@@ -104,7 +85,7 @@ fn retouches_are_refused(rt: HostRuntime) {
 /// 200 frames whose states are kept: a press that a release undoes costs none of them, and one that stays those after it.
 #[test]
 fn states_are_kept_as_over_other_edits(rt: HostRuntime) {
-    check_said(
+    check_pieces(
         &rt,
         rt.alloc(),
         &[
@@ -127,7 +108,7 @@ const FOURTH: &[u8] = b"load 000=E680A5802903D003AD8002A9028500A90085004C00F0 FF
 /// after it aren't.
 #[test]
 fn lag_frames_are_told(rt: HostRuntime) {
-    check_said(
+    check_pieces(
         &rt,
         rt.alloc(),
         &[
@@ -149,7 +130,7 @@ fn lag_frames_are_told(rt: HostRuntime) {
 /// A halted machine reads nothing; the frame that halts read nothing before it.
 #[test]
 fn halted_frames_are_lag_frames(rt: HostRuntime) {
-    check_said(
+    check_pieces(
         &rt,
         rt.alloc(),
         &[
@@ -166,7 +147,7 @@ fn halted_frames_are_lag_frames(rt: HostRuntime) {
 /// Lines that are nearly these.
 #[test]
 fn other_lines_are_unknown(rt: HostRuntime) {
-    check_said(
+    check_pieces(
         &rt,
         rt.alloc(),
         &[

@@ -2,8 +2,9 @@
 
 use crate::answers::check_answer;
 use crate::checks::expect_ok;
-use crate::commands::{talk, talk_from_movie};
+use crate::commands::talk_from_movie;
 use crate::movies::{PLAYFIELD, image_of};
+use crate::talks::check_said;
 
 /// A cartridge, frames, and edits of each other kind, one of which is refused; and the history from several numbers on. The frames that
 /// `press` makes are three runs, which are one edit.
@@ -43,14 +44,7 @@ fn a_history_has_the_edits_of_its_conversation(rt: HostRuntime) {
         expect_ok(&rt, lines.extend_from_slice(turn.0));
         expect_ok(&rt, answers.extend_from_slice(turn.1));
     }
-    let mut output = Vec::new(alloc);
-    let end = talk(&rt, alloc, &mut lines.as_slice(), &mut output);
-    check_answer(
-        &rt,
-        "said",
-        (output.as_slice(), end),
-        (answers.as_slice(), Ok(())),
-    );
+    check_said(&rt, alloc, lines.as_slice(), answers.as_slice());
 }
 
 /// A movie of two runs.

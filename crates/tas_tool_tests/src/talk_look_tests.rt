@@ -1,32 +1,15 @@
 //! The lines `ram` and `digest` of a conversation. The numbers come from the second machine in oracle/, and the digests from Python's hashlib.
 
-use crate::answers::check_answer;
 use crate::checks::expect_ok;
-use crate::commands::talk;
-use crate::movies::joined;
+use crate::talks::check_pieces;
 use std::alloc::Global;
 use std::process::Abort;
-use std::sync::Wait;
 
 /// `000=A9AB85FFE680A9028500A90085004C00F0 FFC=00F0`: each frame adds 1 to the byte at 80 and puts AB at FF; and 200 frames of it.
 const COUNTING: &[u8] =
     b"load 000=A9AB85FFE680A9028500A90085004C00F0 FFC=00F0\ninsert 0 200 ..... ..... .....\n";
 
 static COUNTED: &[u8] = b"edit 1 len 0\nedit 2 len 200\n";
-
-/// Fails where a conversation of these lines doesn't end well, or isn't answered by these answers.
-fn check_said<R: Wait + Abort>(rt: &R, alloc: Global, lines: &[&[u8]], answers: &[&[u8]]) {
-    let lines = joined(rt, alloc, lines);
-    let answers = joined(rt, alloc, answers);
-    let mut output = Vec::new(alloc);
-    let end = talk(rt, alloc, &mut lines.as_slice(), &mut output);
-    check_answer(
-        rt,
-        "said",
-        (output.as_slice(), end),
-        (answers.as_slice(), Ok(())),
-    );
-}
 
 /// The answer to `ram K` where the bytes between the first and the last one are 0.
 fn ram<R: Abort>(rt: &R, alloc: Global, head: &str, first: &str, last: &str) -> Vec<u8> {
@@ -47,7 +30,7 @@ fn ram_is_told_after_so_many_frames(rt: HostRuntime) {
         ram(&rt, alloc, "ram 2 130", "82", "AB"),
         ram(&rt, alloc, "ram 2 200", "C8", "AB"),
     );
-    check_said(
+    check_pieces(
         &rt,
         alloc,
         &[
@@ -72,7 +55,7 @@ fn ram_is_the_edited_movies(rt: HostRuntime) {
     let alloc = rt.alloc();
     let last = ram(&rt, alloc, "ram 2 200", "C8", "AB");
     let less = ram(&rt, alloc, "ram 3 100", "64", "AB");
-    check_said(
+    check_pieces(
         &rt,
         alloc,
         &[
@@ -97,7 +80,7 @@ fn ram_of_a_halted_machine_is_told(rt: HostRuntime) {
         ram(&rt, alloc, "ram 0 0", "00", "00"),
         ram(&rt, alloc, "ram 2 9", "00", "00"),
     );
-    check_said(
+    check_pieces(
         &rt,
         alloc,
         &[
@@ -118,7 +101,7 @@ fn ram_of_a_halted_machine_is_told(rt: HostRuntime) {
 #[test]
 fn digests_are_those_of_ram_and_picture(rt: HostRuntime) {
     let alloc = rt.alloc();
-    check_said(
+    check_pieces(
         &rt,
         alloc,
         &[
@@ -134,7 +117,7 @@ fn digests_are_those_of_ram_and_picture(rt: HostRuntime) {
             b"no frame 2 len 200\n",
         ],
     );
-    check_said(
+    check_pieces(
         &rt,
         alloc,
         &[
@@ -153,7 +136,7 @@ fn digests_are_those_of_ram_and_picture(rt: HostRuntime) {
 /// Lines that are nearly these.
 #[test]
 fn other_lines_are_unknown(rt: HostRuntime) {
-    check_said(
+    check_pieces(
         &rt,
         rt.alloc(),
         &[

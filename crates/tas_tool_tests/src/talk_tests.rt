@@ -1,45 +1,19 @@
 //! Whole conversations.
 
-use crate::answers::{Answer, check_answer};
 use crate::checks::{check_same, check_that, expect_ok};
 use crate::commands::talk;
 use crate::movies::{
     IDLE, PLAYFIELD, RIGHT, SMALL_PLAYFIELD, joined, playfield_picture, repeated, text_of,
 };
+use crate::talks::{check_pieces, check_said, check_talk};
 use std::alloc::Global;
 use std::cell::Cell;
-use std::fmt::Debug;
 use std::io;
 use std::io::{Error, ErrorKind, Read, Write};
 use std::process::Abort;
 use std::sync::Wait;
 use tas_tool::{ReadFault, RunFault, ToolFault};
 use test_streams::{Failure, Filler, Giver, Room, Taker};
-
-/// Fails where a conversation is answered by other answers, or ends in another way.
-fn check_talk<R: Wait + Abort, C: Copy + Debug, I: Read>(
-    rt: &R,
-    alloc: Global,
-    case: C,
-    input: &mut I,
-    wanted: Answer<'_>,
-) {
-    let mut output = Vec::new(alloc);
-    let end = talk(rt, alloc, input, &mut output);
-    check_answer(rt, case, (output.as_slice(), end), wanted);
-}
-
-/// Fails where a conversation of these lines doesn't end well, or isn't answered by these answers.
-fn check_said<R: Wait + Abort>(rt: &R, alloc: Global, lines: &[u8], answers: &[u8]) {
-    check_talk(rt, alloc, "said", &mut { lines }, (answers, Ok(())));
-}
-
-/// The same for lines and answers in several pieces, one after the other.
-fn check_pieces<R: Wait + Abort>(rt: &R, alloc: Global, lines: &[&[u8]], answers: &[&[u8]]) {
-    let lines = joined(rt, alloc, lines);
-    let answers = joined(rt, alloc, answers);
-    check_said(rt, alloc, lines.as_slice(), answers.as_slice());
-}
 
 /// Fails where lines that come this many bytes at a time are answered in another way.
 fn check_at_once<R: Wait + Abort>(

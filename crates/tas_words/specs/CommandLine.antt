@@ -15,7 +15,7 @@ use Rattle.tas_words.specs.declared.subcommands.Word.{Word}
 use Rattle.tas_words.specs.declared.subcommands.WordKind.{WordKind}
 use Rattle.tas_words.specs.declared.subcommands.WordKind.TheVariants.{File, OptionalFile, PairedFile, Flag, Number, OptionalNumber}
 use Rattle.tas_words.specs.declared.task.Task.{Task}
-use Rattle.tas_words.specs.Task.{HasWords, most_every}
+use Rattle.tas_words.specs.Task.{HasWords, most_traced, most_every}
 
 -- ---- the commands. Public contracts cite `IsAsked`, at the end, and so `command_line` and `named_command`; private functions cite the rest
 
@@ -131,7 +131,7 @@ pair_rules =
 -- the program's first commands
 abbrev pub first_shapes : List Shape
 first_shapes =
-    shape_with (codes "trace") (number_rule (codes "N") 0 1000000 ∷ [])
+    shape_with (codes "trace") (number_rule (codes "N") 0 most_traced ∷ [])
     ∷ shape_with (codes "check") (cart_rule ∷ [])
     ∷ shape_with (codes "migrate") (cart_rule ∷ [])
     ∷ shape_with (codes "shot") (cart_rule ∷ frame_rule (codes "K") ∷ [])

@@ -44,6 +44,10 @@ IsFrameWord rows name k = IsNumberWord rows name 0 most_number k
 abbrev pub IsOptionalFrameWord : List Row → Text → Option ℕ → Type 0
 IsOptionalFrameWord rows name said = IsOptionalNumberWord rows name 0 most_number said
 
+-- the most instructions of a trace
+abbrev pub most_traced : ℕ
+most_traced = 1000000
+
 -- the most frames of a stretch of a digest, and how many it has where the words don't say it
 abbrev pub most_every : ℕ
 most_every = 262144
@@ -89,7 +93,7 @@ pairs_in pairs =
 
 -- a task is that of the command of this name, and its files and numbers are the command's words, the numbers in their ranges
 abbrev pub HasWords : Text → List Row → Task → Type 0
-HasWords name rows (Trace instructions) = (name ≡ codes "trace") × IsNumberWord rows (codes "N") 0 1000000 instructions
+HasWords name rows (Trace instructions) = (name ≡ codes "trace") × IsNumberWord rows (codes "N") 0 most_traced instructions
 HasWords name rows (Check cart) = (name ≡ codes "check") × IsWord rows (codes "CART") cart.now
 HasWords name rows (Migrate cart) = (name ≡ codes "migrate") × IsWord rows (codes "CART") cart.now
 HasWords name rows (Shot cart k) = (name ≡ codes "shot") × IsWord rows (codes "CART") cart.now × IsFrameWord rows (codes "K") k

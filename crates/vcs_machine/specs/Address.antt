@@ -4,6 +4,10 @@ use Rattle.vcs_riot.specs.Address.{is_high}
 use Rattle.vcs_machine.specs.declared.address.Region.{Region}
 use Rattle.vcs_machine.specs.declared.address.Region.TheVariants.{Cartridge, Ram, PortsAndTimer, Tia}
 
+-- how many addresses the bus tells apart
+abbrev pub bus_addresses : ℕ
+bus_addresses = 8192
+
 -- what an address selects: with A12 high the cartridge, else with A7 low the TIA, else with A9 low RAM and with A9 high ports and timer
 abbrev pub selected : ℕ → Region
 selected addr = if is_high 12 addr then Cartridge else (if is_high 7 addr then (if is_high 9 addr then PortsAndTimer else Ram) else Tia)

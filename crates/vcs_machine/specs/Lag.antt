@@ -14,7 +14,7 @@ use Rattle.vcs_machine.specs.declared.address.Region.TheVariants as region
 use Rattle.vcs_machine.specs.Address.{selected}
 use Rattle.vcs_machine.specs.Bus.{Board, Observed, board_byte_at, nothing_seen}
 use Rattle.vcs_machine.specs.Step.{console_step}
-use Rattle.vcs_machine.specs.Frame.{is_frame_over}
+use Rattle.vcs_machine.specs.Frame.{most_instructions, is_frame_over}
 use Rattle.vcs_machine.specs.Machine.{Machine, frame_start, unless_halted, frame, frame_picture}
 
 -- whether a read shows a pin of a port or a fire button: of the RIOT or of the TIA, the cartridge shows neither
@@ -44,7 +44,7 @@ module _ {Seen : Type 0} (observe : List Tia → Seen → Seen) where
 
 -- a frame whose steps all ignore the input; a halted machine has none
 unfoldable pub is_lag_frame : List ℕ → Machine → Input → Bool
-is_lag_frame rom m input = unless_halted m.halt (is_ignored_within nothing_seen 12160 m.regs (frame_start rom m input tt)) true
+is_lag_frame rom m input = unless_halted m.halt (is_ignored_within nothing_seen most_instructions m.regs (frame_start rom m input tt)) true
 
 -- two inputs make the same of a frame: the next machine and the picture
 pub record IsSameFrame (rom : List ℕ) (m : Machine) (input other : Input) : Type 0 where

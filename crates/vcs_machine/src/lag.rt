@@ -5,13 +5,14 @@ ghost use Rattle.std.specs.Prelude.{◌≡◌, ◌+◌, ◌%◌, ◌^◌, ◌<�
 ghost use Rattle.vcs_machine.specs.Bus.{observed_of, nothing_seen};
 ghost use Rattle.vcs_machine.specs.Cart.{is_cart_size};
 ghost use Rattle.vcs_machine.specs.Inside.Console.{chips_of, content_of, fixed_of, now_of};
-ghost use Rattle.vcs_machine.specs.Inside.Times.{first_time, end_time, most_instructions};
-ghost use Rattle.vcs_machine.specs.Frame.{end_within};
+ghost use Rattle.vcs_machine.specs.Inside.Times.{line_cycles, first_time, end_time};
+ghost use Rattle.vcs_machine.specs.Frame.{most_instructions, end_within};
 ghost use Rattle.vcs_machine.specs.Lag.{ignores_input, is_ignored_within, is_lag_frame, IsSameFrame};
 ghost use Rattle.vcs_machine.specs.Machine.{frame};
 ghost use Rattle.vcs_machine.specs.Inside.Noting.{LeadsTo};
 ghost use Rattle.vcs_machine.specs.declared.input.Input.{Input};
 ghost use Rattle.vcs_tia.specs.Tia.{clocks_passed, shows_button};
+ghost use Rattle.vcs_tia.specs.Units.{line_clocks};
 
 use crate::address::{Region, selected};
 use crate::bus::ConsoleBus;
@@ -97,7 +98,7 @@ fn step_noting<O: Observer>(regs: &mut Regs, bus: &mut ConsoleBus<'_, O>) -> Not
 /// Steps until the frame ends, and answers the halt that ended it if one did, and whether all steps ignored the
 /// input. Then the chips don't lag behind any more.
 fn run_noting<O: Observer>(regs: &mut Regs, bus: &mut ConsoleBus<'_, O>) -> (Option<Halt>, bool)
-    requires low { now_of bus.old < first_time + 76 }
+    requires low { now_of bus.old < first_time + line_cycles }
     ensures ended { end_within O.observe most_instructions regs.old (content_of bus.old)
         ≡ Some (record {
           regs = regs.new;
@@ -131,7 +132,7 @@ fn run_chips_noting(
     tia: &mut Tia,
 ) -> (Option<Halt>, bool)
     requires rom_size { is_cart_size (length rom.now) ≡ true }
-    requires beam { clocks_passed tia.old < 228 }
+    requires beam { clocks_passed tia.old < line_clocks }
     requires thirds { clocks_passed tia.old % 3 ≡ 0 }
     ensures ended { end_within nothing_seen most_instructions regs.old
         (observed_of rom.now pins riot.old tia.old tt)

@@ -2,7 +2,7 @@
 #![tactic(auto)]
 
 ghost use Rattle.std.specs.Prelude.{◌≡◌, ℕ, ◌+◌, ◌<◌, List, [], ◌++◌, true, false};
-ghost use Rattle.vcs_machine.specs.Inside.Times.{most_beam_clocks};
+ghost use Rattle.vcs_tia.specs.Beam.{most_beam_clocks};
 ghost use Rattle.vcs_tia.specs.Tia.{clocks_passed, read_at};
 ghost use Rattle.vcs_tia.specs.Trace.{after_clocks, trace, drawn};
 ghost use Rattle.vcs_tia.specs.Later.{drawing_of};

@@ -2,7 +2,7 @@
 #![tactic(auto)]
 
 ghost use Rattle.std.specs.Prelude.{◌≡◌, ℕ, ◌+◌, ◌*◌, ◌%◌, ◌<◌, ◌≤◌, true};
-ghost use Rattle.vcs_machine.specs.Address.{is_intim};
+ghost use Rattle.vcs_machine.specs.Address.{bus_addresses, is_intim};
 
 use crate::address::{Region, selected};
 use vcs_riot::is_high;
@@ -21,8 +21,8 @@ pub(crate) fn is_intim(address: u16) -> bool
 /// Whether the five bytes from an address on are the cartridge's.
 #[inline(always)]
 pub(crate) fn is_in_cartridge(pc: u16) -> bool
-    ensures first { result ≡ true → 4096 ≤ pc % 8192 }
-    ensures last { result ≡ true → pc % 8192 ≤ 8187 }
+    ensures first { result ≡ true → 4096 ≤ pc % bus_addresses }
+    ensures last { result ≡ true → pc % bus_addresses ≤ 8187 }
     ensures fits { pc < 65536 }
 {
     let place = pc % 8192;

@@ -2,8 +2,9 @@
 #![tactic(auto)]
 
 ghost use Rattle.std.specs.Prelude.{◌≡◌, ◌+◌, ◌-◌, ◌*◌, ◌%◌, ◌<◌, ◌≤◌, true, false};
-ghost use Rattle.vcs_machine.specs.Inside.Times.{first_time, most_time, most_offset};
+ghost use Rattle.vcs_machine.specs.Inside.Times.{line_cycles, first_time, most_time, most_offset};
 ghost use Rattle.vcs_tia.specs.Tia.{clock_of, clocks_passed};
+ghost use Rattle.vcs_tia.specs.Units.{line_clocks};
 
 use vcs_tia::Tia;
 
@@ -24,11 +25,11 @@ pub(crate) const LATE: u32 = 1 << 30;
 
 /// The time that a TIA has come to on line 0.
 pub(crate) fn time_of(tia: &Tia) -> u32
-    requires beam { clocks_passed tia.now < 228 }
+    requires beam { clocks_passed tia.now < line_clocks }
     requires thirds { clocks_passed tia.now % 3 ≡ 0 }
     ensures time { clocks_passed tia.now + 3 * first_time ≡ 3 * result }
-    ensures low { result < first_time + 76 }
-    ensures clock { clock_of tia.now < 228 }
+    ensures low { result < first_time + line_cycles }
+    ensures clock { clock_of tia.now < line_clocks }
 {
     let (_line, clock) = tia.beam();
     FIRST + (clock / 3) as u32
@@ -40,9 +41,9 @@ pub(crate) fn after_wait(now: u32, owed: bool) -> u32
     requires first { first_time ≤ now }
     requires low { now < most_time }
     ensures unowed { owed ≡ false → result ≡ now }
-    ensures start { owed ≡ true → (result - first_time) % 76 ≡ 0 }
+    ensures start { owed ≡ true → (result - first_time) % line_cycles ≡ 0 }
     ensures next { now ≤ result }
-    ensures near { result < now + 76 }
+    ensures near { result < now + line_cycles }
 {
     let cycle = (now - FIRST) % LINE_CYCLES;
     if owed && cycle != 0 {

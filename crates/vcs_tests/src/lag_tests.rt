@@ -2,6 +2,7 @@
 
 use crate::carts::{START, cart_with};
 use crate::checks::{check_same, check_that, expect_ok};
+use crate::switches::each_switch;
 use std::alloc::Global;
 use std::process::Abort;
 use vcs_machine::{Cart, Input, Meter, State, play, play_for_lag};
@@ -102,31 +103,6 @@ static ROWS: &[Row] = &[
     ),
 ];
 
-/// Each switch alone, and all of them.
-fn inputs() -> [Input; 16] {
-    let mut inputs = [Input::none(); 16];
-    inputs[0].left.right = true;
-    inputs[1].left.left = true;
-    inputs[2].left.down = true;
-    inputs[3].left.up = true;
-    inputs[4].left.fire = true;
-    inputs[5].right.right = true;
-    inputs[6].right.left = true;
-    inputs[7].right.down = true;
-    inputs[8].right.up = true;
-    inputs[9].right.fire = true;
-    inputs[10].reset = true;
-    inputs[11].select = true;
-    inputs[12].mono = true;
-    inputs[13].left_a = true;
-    inputs[14].right_a = true;
-    inputs[15].left.fire = true;
-    inputs[15].right.fire = true;
-    inputs[15].left.up = true;
-    inputs[15].reset = true;
-    inputs
-}
-
 /// Whether pixels in each part of two pictures are equal.
 fn are_same_pictures(a: &Picture, b: &Picture) -> bool {
     (0..21).all(|row| (0..20).all(|x| a.pixel(10 * row, 8 * x) == b.pixel(10 * row, 8 * x)))
@@ -144,7 +120,7 @@ fn check_input_is_ignored<R: Abort>(
     let mut still = *before;
     check_that(rt, name, meter.room() >= 1);
     let halt = play(cart, &mut still, Input::none(), &mut pictures.0, &mut meter);
-    for (number, input) in inputs().iter().enumerate() {
+    for (number, input) in each_switch().iter().enumerate() {
         let mut state = *before;
         check_that(rt, name, meter.room() >= 1);
         let same = play(cart, &mut state, *input, &mut pictures.1, &mut meter);

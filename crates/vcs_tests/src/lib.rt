@@ -29,6 +29,8 @@ mod riot_tests;
 #[cfg(test)]
 mod state_tests;
 #[cfg(test)]
+mod switches;
+#[cfg(test)]
 mod tia_tests;
 #[cfg(test)]
 mod trace_tests;

@@ -3,7 +3,7 @@ use Rattle.std.specs.Prelude.{◌≡◌, ℕ, suc, Bool, true, false, ◌&&◌, 
 use Rattle.vcs_cpu.specs.declared.regs.Regs.{Regs}
 use Rattle.vcs_tia.specs.declared.chip.Tia.{Tia}
 use Rattle.vcs_machine.specs.Bus.{Observed}
-use Rattle.vcs_machine.specs.Frame.{end_within}
+use Rattle.vcs_machine.specs.Frame.{most_instructions, end_within}
 use Rattle.vcs_machine.specs.Lag.{is_ignored_within}
 use Rattle.vcs_machine.specs.declared.lag.Noted.{Noted}
 
@@ -16,5 +16,5 @@ pub record LeadsTo {Seen : Type 0} (observe : List Tia → Seen → Seen) (regs 
 
 -- where steps have come so far with n left: what is to come is what was to come at the first one, and so is what they say of the input
 pub record HasComeNoting {Seen : Type 0} (observe : List Tia → Seen → Seen) (first : Regs) (start : Observed Seen) (n : ℕ) (regs : Regs) (o : Observed Seen) (ignored : Bool) : Type 0 where
-  pub come : end_within observe n regs o ≡ end_within observe 12160 first start
-  pub noted : (ignored && is_ignored_within observe n regs o) ≡ is_ignored_within observe 12160 first start
+  pub come : end_within observe n regs o ≡ end_within observe most_instructions first start
+  pub noted : (ignored && is_ignored_within observe n regs o) ≡ is_ignored_within observe most_instructions first start
