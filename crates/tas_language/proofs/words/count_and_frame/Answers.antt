@@ -1,4 +1,4 @@
-use Rattle.std.proofs.Common.{List, ℕ, ◌++◌, ◌∷◌, refl, ap, sym, ◌∙◌, arith, subst}
+use Rattle.std.proofs.Common.{List, ℕ, ◌++◌, ◌∷◌, refl, ap, ◌∙◌, subst}
 use Rattle.std.specs.Prelude.{decimal}
 use Rattle.tas_movie.specs.Text.{frame_text}
 use Rattle.byte_text.specs.Splitting.{NoByte}
