@@ -18,18 +18,14 @@ plain_front old new i j n f =
 
 pub alike_front : (old new : List FrameRun) (made left i j n : ℕ) → GoOnAlike old new made left i j → IsLongestFront (drop i old) (drop j new) n → 4 ≤ n
 alike_front old new made left i j n g f =
-    let old_within = g.old_within in
-    let new_within = g.new_within in
-    f.longest 4 (omega (arith, old_within, length-drop i old)) (omega (arith, new_within, length-drop j new)) g.same
+    f.longest 4 (omega (arith, g.old_within, length-drop i old)) (omega (arith, g.new_within, length-drop j new)) g.same
 
 pub front_alike : (old new : List FrameRun) (made left i j n : ℕ) → i ≤ length old → j ≤ length new → IsLongestFront (drop i old) (drop j new) n → 4 ≤ n
     → made + frames (take j new) + (left - frames (take i old)) ≤ most_inputs → GoOnAlike old new made left i j
 front_alike old new made left i j n le le' f many room =
-    let within_old = f.within_old in
-    let within_new = f.within_new in
     record {
-      old_within = omega (arith, le, within_old, many, length-drop i old);
-      new_within = omega (arith, le', within_new, many, length-drop j new);
+      old_within = omega (arith, le, f.within_old, many, length-drop i old);
+      new_within = omega (arith, le', f.within_new, many, length-drop j new);
       same = sym (take-take 4 n (drop i old) many) ∙ ap (take 4) f.same ∙ take-take 4 n (drop j new) many;
       room = room;
     }
@@ -43,15 +39,13 @@ four_of runs n i fits =
 
 alike_longer : (old new : List FrameRun) (made left n m i j : ℕ) → GoOnAlike (take n old) (take m new) made left i j → GoOnAlike old new made left i j
 alike_longer old new made left n m i j g =
-    let old_within = g.old_within in
-    let new_within = g.new_within in
-    let fits_old : i + 4 ≤ n = omega (arith, old_within, length-take n old) in
-    let fits_new : j + 4 ≤ m = omega (arith, new_within, length-take m new) in
+    let fits_old : i + 4 ≤ n = omega (arith, g.old_within, length-take n old) in
+    let fits_new : j + 4 ≤ m = omega (arith, g.new_within, length-take m new) in
     let in_old : i ≤ n = omega (arith, fits_old) in
     let in_new : j ≤ m = omega (arith, fits_new) in
     record {
-      old_within = omega (arith, old_within, length-take n old);
-      new_within = omega (arith, new_within, length-take m new);
+      old_within = omega (arith, g.old_within, length-take n old);
+      new_within = omega (arith, g.new_within, length-take m new);
       same = sym (four_of old n i fits_old) ∙ g.same ∙ four_of new m j fits_new;
       room = subst (λ (l : List FrameRun). made + frames (take j new) + (left - frames l) ≤ most_inputs) (take-take i n old in_old)
           (subst (λ (l : List FrameRun). made + frames l + (left - frames (take i (take n old))) ≤ most_inputs) (take-take j m new in_new) g.room);
@@ -70,10 +64,8 @@ nearest_next old new room (Some at) h = (
 pub nearer_next : (old new : List FrameRun) (room : Room) (n m : ℕ) (at : Anchor) → IsNearest (take n old) (take m new) room (Some at) → IsNext old new room (Some at)
 nearer_next old new room n m at h =
     let next = nearest_next (take n old) (take m new) room (Some at) h in
-    let old_within = h.0.old_within in
-    let new_within = h.0.new_within in
-    let in_old : at.old ≤ n = omega (arith, old_within, length-take n old) in
-    let in_new : at.new ≤ m = omega (arith, new_within, length-take m new) in (
+    let in_old : at.old ≤ n = omega (arith, h.0.old_within, length-take n old) in
+    let in_new : at.new ≤ m = omega (arith, h.0.new_within, length-take m new) in (
       alike_longer old new room.made room.left n m at.old at.new h.0,
       subst (λ (l : List FrameRun). AreApart l (take at.new new) room.made room.left) (take-take at.old n old in_old)
           (subst (λ (l : List FrameRun). AreApart (take at.old (take n old)) l room.made room.left) (take-take at.new m new in_new) next.1),
@@ -81,9 +73,7 @@ nearer_next old new room n m at h =
 
 pub room_within : (old new : List FrameRun) (room : Room) (n m : ℕ) → HasRoom old new room → HasRoom (take n old) (take m new) room
 room_within old new room n m h =
-    let old_left = h.old_left in
-    let made_bound = h.made_bound in
-    record { old_left = omega (arith, old_left, frames_within n old); left_bound = h.left_bound; made_bound = omega (arith, made_bound, frames_within m new) }
+    record { old_left = omega (arith, h.old_left, frames_within n old); left_bound = h.left_bound; made_bound = omega (arith, h.made_bound, frames_within m new) }
 
 -- ---- a step to a place from which both lists go on alike
 
@@ -99,10 +89,7 @@ pub stepped : (old new : List FrameRun) (len : ℕ) (stage : Stage) (i j n f f' 
     })
 stepped old new len stage i j n f f' s g apart front is is' stay =
     let many = alike_front old new stage.gap.new (len - stage.gap.old) i j n g front in
-    let old_within = g.old_within in
-    let new_within = g.new_within in
-    let within_old = front.within_old in
-    let lengths : length (take n (drop i old)) ≡ n = omega (arith, within_old, length-take n (drop i old)) in
+    let lengths : length (take n (drop i old)) ≡ n = omega (arith, front.within_old, length-take n (drop i old)) in
     record {
       out = take i old;
       into = take j new;
@@ -116,8 +103,8 @@ stepped old new len stage i j n f f' s g apart front is is' stay =
       room = g.room;
       hunk = ap (λ (k : ℕ). let gap : Gap = record { old = stage.gap.old; old_end = stage.gap.old + k; new = stage.gap.new; new_end = stage.gap.new + f' } in gap) is
           ∙ ap (λ (k : ℕ). let gap : Gap = record { old = stage.gap.old; old_end = stage.gap.old + frames (take i old); new = stage.gap.new; new_end = stage.gap.new + k } in gap) is';
-      after_old = omega (arith, old_within, length-take i old, lengths);
-      after_new = omega (arith, new_within, length-take j new, lengths);
+      after_old = omega (arith, g.old_within, length-take i old, lengths);
+      after_new = omega (arith, g.new_within, length-take j new, lengths);
       after_gap = ap (λ (k : ℕ). let gap : Gap = record { old = stage.gap.old + k + s; old_end = stage.gap.old_end; new = stage.gap.new + f' + s; new_end = stage.gap.new_end } in gap) is
           ∙ ap (λ (k : ℕ). let gap : Gap = record { old = stage.gap.old + frames (take i old) + s; old_end = stage.gap.old_end; new = stage.gap.new + k + s; new_end = stage.gap.new_end } in gap) is'
           ∙ ap (λ (k : ℕ). let gap : Gap = record { old = stage.gap.old + frames (take i old) + k; old_end = stage.gap.old_end; new = stage.gap.new + frames (take j new) + k; new_end = stage.gap.new_end } in gap) stay;

@@ -37,19 +37,15 @@ first_gap old new front end = record { old = front; old_end = length old - end; 
 pub reached_first : (old new : List Input) (front end : ℕ) → IsCommonFront old new front → IsCommonEnd (drop front old) (drop front new) end → length old ≤ most_inputs → length new ≤ most_inputs
     → Reached old new front end (first_gap old new front end) []
 reached_first old new front end common ends short short_new =
-    let fits_old = ends.within_a in
-    let fits_new = ends.within_b in
-    let in_old = common.within_a in
-    let in_new = common.within_b in
     record {
       gap_of = record {
-        old_forward = omega (arith, fits_old, in_old, length-drop front old);
+        old_forward = omega (arith, ends.within_a, common.within_a, length-drop front old);
         old_within = omega arith;
-        new_forward = omega (arith, fits_new, in_new, length-drop front new);
+        new_forward = omega (arith, ends.within_b, common.within_b, length-drop front new);
         new_within = omega arith;
         short = short;
         short_new = short_new;
-        room = omega (arith, fits_old, fits_new, in_old, in_new, length-drop front old, length-drop front new, short_new);
+        room = omega (arith, ends.within_a, ends.within_b, common.within_a, common.within_b, length-drop front old, length-drop front new, short_new);
       };
       old_end = refl;
       new_end = refl;
@@ -91,12 +87,8 @@ nothing_changed (Delete at n ∷ cs) h out into = let some = first_some (Delete 
 -- the ends of two lists that are the same after their common beginning
 same_ends : (old new : List Input) (front end : ℕ) → IsCommonFront old new front → IsCommonEnd (drop front old) (drop front new) end → drop (length old - end) old ≡ drop (length new - end) new
 same_ends old new front end common ends =
-    let fits_old = ends.within_a in
-    let fits_new = ends.within_b in
-    let in_old = common.within_a in
-    let in_new = common.within_b in
-    let to_old : front + (length (drop front old) - end) ≡ length old - end = omega (arith, fits_old, in_old, length-drop front old) in
-    let to_new : front + (length (drop front new) - end) ≡ length new - end = omega (arith, fits_new, in_new, length-drop front new) in
+    let to_old : front + (length (drop front old) - end) ≡ length old - end = omega (arith, ends.within_a, common.within_a, length-drop front old) in
+    let to_new : front + (length (drop front new) - end) ≡ length new - end = omega (arith, ends.within_b, common.within_b, length-drop front new) in
     ap (λ (n : ℕ). drop n old) (sym to_old) ∙ sym (drop-drop (length (drop front old) - end) front old) ∙ ends.same ∙ drop-drop (length (drop front new) - end) front new ∙ ap (λ (n : ℕ). drop n new) to_new
 
 pub difference : (old new : List Input) (front end : ℕ) (changes : List Change) → IsCommonFront old new front → IsCommonEnd (drop front old) (drop front new) end
@@ -150,8 +142,7 @@ pub reached_last : (old new : List Input) (front end : ℕ) (gap : Gap) (before 
     → Reached old new front end gap before → AddsHunk old new gap before after
     → FallIntoHunks front (length old - front) (runs_of (middle old front end)) (runs_of (middle new front end)) after → IsDifference old new after
 reached_last old new front end gap before after common ends r h hunks =
-    let forward = r.gap_of.new_forward in
-    let led = led_further old new front front gap.old gap.new gap.old_end gap.new_end gap.new (gap.new_end + 1) before h.0 r.leads h.2 (omega arith) (omega (arith, forward)) in
+    let led = led_further old new front front gap.old gap.new gap.old_end gap.new_end gap.new (gap.new_end + 1) before h.0 r.leads h.2 (omega arith) (omega (arith, r.gap_of.new_forward)) in
     let there = subst (λ (k : ℕ). Leads old new front front k gap.new_end (gap.new_end + 1) (before ++ h.0)) r.old_end led in
     difference old new front end after common ends
     (subst (Leads old new front front (length old - end) (length new - end) (length new - end + 1)) (sym h.1)

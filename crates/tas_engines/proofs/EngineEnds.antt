@@ -6,7 +6,7 @@ use Rattle.tas_engines.specs.declared.fault.ToolFault.{ToolFault}
 use Rattle.tas_engines.specs.Faults.{told}
 use Rattle.tas_engines.specs.Input.{IsReadWhole}
 use Rattle.tas_engines.specs.Movies.{IsMovieRun}
-use Rattle.tas_engines.specs.Output.{Ends, StopsWriting}
+use Rattle.tas_engines.specs.Output.{Ends, EndsTold, StopsWriting}
 use Rattle.tas_engines.specs.ThreeInputs.{EndsAfterThree, EndsAfterFour}
 
 -- a write of a whole answer ends an engine
@@ -50,12 +50,29 @@ pub movie_ran : (answers : List ℕ → List ℕ → Result (List ℕ) RunFault 
 movie_ran answers cart cart' input input' output output' read image read' bytes end result whole same whole' same' ends is =
     inr (end, is, (image, subst (IsReadWhole cart cart') (sym same) whole, (bytes, subst (IsReadWhole input input') (sym same') whole', ends)))
 
+-- an engine wrote its answer to the cartridge and the text that it had read
+pub movie_answered : {T : Type 0} (answers : List ℕ → List ℕ → Result (List ℕ) RunFault → Type 0) (cart cart' input input' output output' : Option (List ℕ)) (read image read' bytes : List ℕ)
+    (answer : Result T RunFault) (items : T → List ℕ) (result : Result (Unit {0}) ToolFault) → IsReadWhole cart cart' read → image ≡ read → IsReadWhole input input' read' → bytes ≡ read'
+    → IfOk answer (λ t. answers image bytes (Ok (items t))) → IfErr answer (λ e. answers image bytes (Err e)) → EndsTold (λ said. MatchResult answer (λ t. said ≡ Ok (items t)) (λ e. said ≡ Err e)) output output' result
+    → IsMovieRun answers cart cart' input input' output output' result
+movie_answered answers cart cart' input input' output output' read image read' bytes answer items result whole same whole' same' holds fails (end, tells, ends) =
+    movie_ran answers cart cart' input input' output output' read image read' bytes end result whole same whole' same' (ends-answered (answers image bytes) answer items output output' end holds fails ends) tells
+
 -- an engine ran on the three inputs that it had read
 pub three_ran : (runs : List ℕ → List ℕ → List ℕ → Result (Unit {0}) RunFault → Type 0) (a a' b b' c c' output output' : Option (List ℕ)) (read first read' second read'' third : List ℕ)
     (end : Result (Unit {0}) RunFault) (result : Result (Unit {0}) ToolFault) → IsReadWhole a a' read → first ≡ read → IsReadWhole b b' read' → second ≡ read' → IsReadWhole c c' read'' → third ≡ read''
     → runs first second third end → result ≡ told end → EndsAfterThree runs a a' b b' c c' output output' result
 three_ran runs a a' b b' c c' output output' read first read' second read'' third end result one is one' is' one'' is'' ends tells =
     inr (end, tells, (first, subst (IsReadWhole a a') (sym is) one, (second, subst (IsReadWhole b b') (sym is') one', (third, subst (IsReadWhole c c') (sym is'') one'', ends))))
+
+-- an engine wrote its answer to the three inputs that it had read
+pub three_answered : {T : Type 0} (answers : List ℕ → List ℕ → List ℕ → Result (List ℕ) RunFault → Type 0) (a a' b b' c c' output output' : Option (List ℕ)) (read first read' second read'' third : List ℕ)
+    (answer : Result T RunFault) (items : T → List ℕ) (result : Result (Unit {0}) ToolFault) → IsReadWhole a a' read → first ≡ read → IsReadWhole b b' read' → second ≡ read' → IsReadWhole c c' read'' → third ≡ read''
+    → IfOk answer (λ t. answers first second third (Ok (items t))) → IfErr answer (λ e. answers first second third (Err e)) → EndsTold (λ said. MatchResult answer (λ t. said ≡ Ok (items t)) (λ e. said ≡ Err e)) output output' result
+    → EndsAfterThree (λ image more bytes end. Ends (answers image more bytes) output output' end) a a' b b' c c' output output' result
+three_answered answers a a' b b' c c' output output' read first read' second read'' third answer items result one is one' is' one'' is'' holds fails (end, tells, ends) =
+    three_ran (λ image more bytes last. Ends (answers image more bytes) output output' last) a a' b b' c c' output output' read first read' second read'' third end result one is one' is' one'' is''
+    (ends-answered (answers first second third) answer items output output' end holds fails ends) tells
 
 -- the same of four
 pub four_ran : (runs : List ℕ → List ℕ → List ℕ → List ℕ → Result (Unit {0}) RunFault → Type 0) (a a' b b' c c' d d' output output' : Option (List ℕ))

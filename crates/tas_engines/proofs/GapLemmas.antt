@@ -37,9 +37,7 @@ part_end xs from end n le within fits =
 
 pub end_fits : (old new : List Input) (gap : Gap) (end : ℕ) → IsGapOf old new gap → IsEndOf old new gap end → (end ≤ gap.old_end - gap.old) × (end ≤ gap.new_end - gap.new)
 end_fits old new gap end g e =
-    let within_a = e.within_a in
-    let within_b = e.within_b in
-    (omega (arith, within_a, length-part old gap.old gap.old_end g.old_forward g.old_within), omega (arith, within_b, length-part new gap.new gap.new_end g.new_forward g.new_within))
+    (omega (arith, e.within_a, length-part old gap.old gap.old_end g.old_forward g.old_within), omega (arith, e.within_b, length-part new gap.new gap.new_end g.new_forward g.new_within))
 
 same_end : (old new : List Input) (gap : Gap) (end : ℕ) → IsGapOf old new gap → IsEndOf old new gap end → take end (drop (gap.old_end - end) old) ≡ take end (drop (gap.new_end - end) new)
 same_end old new gap end g e =
@@ -49,21 +47,14 @@ same_end old new gap end g e =
 pub shorter_gap : (old new : List Input) (gap : Gap) (end : ℕ) → IsGapOf old new gap → IsEndOf old new gap end → IsGapOf old new (shorter gap end)
 shorter_gap old new gap end g e =
     let fits = end_fits old new gap end g e in
-    let fits_old = fits.0 in
-    let fits_new = fits.1 in
-    let old_forward = g.old_forward in
-    let old_within = g.old_within in
-    let new_forward = g.new_forward in
-    let new_within = g.new_within in
-    let room = g.room in
     record {
-      old_forward = omega (arith, fits_old, old_forward);
-      old_within = omega (arith, old_within);
-      new_forward = omega (arith, fits_new, new_forward);
-      new_within = omega (arith, new_within);
+      old_forward = omega (arith, fits.0, g.old_forward);
+      old_within = omega (arith, g.old_within);
+      new_forward = omega (arith, fits.1, g.new_forward);
+      new_within = omega (arith, g.new_within);
       short = g.short;
       short_new = g.short_new;
-      room = omega (arith, fits_old, fits_new, old_forward, new_forward, old_within, new_within, room);
+      room = omega (arith, fits.0, fits.1, g.old_forward, g.new_forward, g.old_within, g.new_within, g.room);
     }
 
 -- what leads to the inputs with which both lists end leads over them
@@ -71,10 +62,8 @@ pub whole_hunk : (old new : List Input) (gap : Gap) (end : ℕ) (before after : 
     → AddsHunk old new (shorter gap end) before after → AddsHunk old new gap before after
 whole_hunk old new gap end before after g e h =
     let fits = end_fits old new gap end g e in
-    let fits_old = fits.0 in
-    let fits_new = fits.1 in
-    let to_old : gap.old_end - end + end ≡ gap.old_end = omega (arith, fits_old) in
-    let to_new : gap.new_end - end + end ≡ gap.new_end = omega (arith, fits_new) in
+    let to_old : gap.old_end - end + end ≡ gap.old_end = omega (arith, fits.0) in
+    let to_new : gap.new_end - end + end ≡ gap.new_end = omega (arith, fits.1) in
     let led = led_within old new gap.old gap.new (gap.old_end - end + end) (gap.new_end - end + end) (gap.new_end - end + 1) (gap.new_end + 1) h.0
     (led_same old new gap.old gap.new (gap.old_end - end) (gap.new_end - end) end (gap.new_end - end + 1) h.0 h.2 (same_end old new gap end g e)) (omega arith) in (
       h.0,
@@ -87,26 +76,21 @@ whole_hunk old new gap end before after g e h =
 pub hunk_led : (old new : List Input) (gap : Gap) (before between' after : List Change) → IsGapOf old new gap → (gap.old_end - gap.old ≡ gap.new_end - gap.new → ⊥)
     → between' ≡ before ++ deletion gap.new (gap.old_end - gap.old) → after ≡ between' ++ insertions gap.new (runs_of (between new gap.new gap.new_end)) → AddsHunk old new gap before after
 hunk_led old new gap before between' after g ne is is' =
-    let old_forward = g.old_forward in
-    let old_within = g.old_within in
-    let room = g.room in
     let gone = gap.old_end - gap.old in
     let come = insertions gap.new (runs_of (between new gap.new gap.new_end)) in
-    let to : gap.old + (gap.old_end - gap.old) ≡ gap.old_end = omega (arith, old_forward) in (
+    let to : gap.old + (gap.old_end - gap.old) ≡ gap.old_end = omega (arith, g.old_forward) in (
       deletion gap.new gone ++ come,
       is' ∙ ap (λ (l : List Change). l ++ come) is ∙ append_assoc before (deletion gap.new gone) come,
       subst (λ (k : ℕ). Leads old new gap.old gap.new k gap.new_end (gap.new_end + 1) (deletion gap.new gone ++ come)) to
-          (led_by_hunk old new gap.old gap.new gone gap.new_end g.new_forward (omega (arith, old_forward, old_within)) g.new_within g.short g.short_new (omega (arith, to, room)) (λ e. ne (sym e))),
+          (led_by_hunk old new gap.old gap.new gone gap.new_end g.new_forward (omega (arith, g.old_forward, g.old_within)) g.new_within g.short g.short_new (omega (arith, to, g.room)) (λ e. ne (sym e))),
     )
 
 -- the replacements of all inputs of a gap
 pub hunk_replaced : (old new : List Input) (gap : Gap) (done : ℕ) (before after : List Change) → IsGapOf old new gap → gap.old_end - gap.old ≡ gap.new_end - gap.new → done ≡ gap.new_end - gap.new
     → Replacing old new gap.old gap.new gap.new_end done before after → AddsHunk old new gap before after
 hunk_replaced old new gap done before after g as_many all r =
-    let old_forward = g.old_forward in
-    let new_forward = g.new_forward in
-    let to_old : gap.old + done ≡ gap.old_end = omega (arith, old_forward, as_many, all) in
-    let to_new : gap.new + done ≡ gap.new_end = omega (arith, new_forward, all) in (
+    let to_old : gap.old + done ≡ gap.old_end = omega (arith, g.old_forward, as_many, all) in
+    let to_new : gap.new + done ≡ gap.new_end = omega (arith, g.new_forward, all) in (
       r.changes,
       r.is,
       subst (λ (k : ℕ). Leads old new gap.old gap.new k gap.new_end (gap.new_end + 1) r.changes) to_old
@@ -116,13 +100,10 @@ hunk_replaced old new gap done before after g as_many all r =
 pub left_to_replace : (old new : List Input) (gap : Gap) (done : ℕ) → IsGapOf old new gap → gap.old_end - gap.old ≡ gap.new_end - gap.new → done < gap.new_end - gap.new
     → LeftToReplace old new gap.old gap.new gap.new_end done (gap.new_end - (gap.new + done))
 left_to_replace old new gap done g as_many lt =
-    let old_forward = g.old_forward in
-    let old_within = g.old_within in
-    let new_forward = g.new_forward in
     record {
-      some = omega (arith, lt, new_forward);
-      old_within = omega (arith, old_forward, old_within, new_forward, as_many, lt);
-      new_within = omega (arith, new_forward, lt);
+      some = omega (arith, lt, g.new_forward);
+      old_within = omega (arith, g.old_forward, g.old_within, g.new_forward, as_many, lt);
+      new_within = omega (arith, g.new_forward, lt);
       new_end = g.new_within;
       short = g.short;
       short_new = g.short_new;
@@ -138,15 +119,11 @@ gap_after gap anchor same = record { old = anchor.old + same; old_end = gap.old_
 
 pub is_gap_before : (old new : List Input) (gap : Gap) (anchor : Anchor) (same : ℕ) → IsGapOf old new gap → IsCommonFrom old new gap anchor same → IsGapOf old new (gap_before gap anchor)
 is_gap_before old new gap anchor same g c =
-    let old_within = g.old_within in
-    let new_within = g.new_within in
-    let old_ends = c.old_ends in
-    let new_ends = c.new_ends in
     record {
       old_forward = c.old_begins;
-      old_within = omega (arith, old_within, old_ends);
+      old_within = omega (arith, g.old_within, c.old_ends);
       new_forward = c.new_begins;
-      new_within = omega (arith, new_within, new_ends);
+      new_within = omega (arith, g.new_within, c.new_ends);
       short = g.short;
       short_new = g.short_new;
       room = c.room;
@@ -185,12 +162,8 @@ later gap front = record { old = gap.old + front; old_end = gap.old_end; new = g
 pub goes_first : (old new : List Input) (hunk : Gap) (front : ℕ) (before : List Change) → IsGapOf old new hunk
     → IsCommonFront (take (hunk.old_end - hunk.old) (drop hunk.old old)) (take (hunk.new_end - hunk.new) (drop hunk.new new)) front → GoesOn old new hunk (later hunk front) before before
 goes_first old new hunk front before g common =
-    let within_a = common.within_a in
-    let within_b = common.within_b in
-    let old_forward = g.old_forward in
-    let new_forward = g.new_forward in
-    let fits_old : front ≤ hunk.old_end - hunk.old = omega (arith, within_a, length-part old hunk.old hunk.old_end g.old_forward g.old_within) in
-    let fits_new : front ≤ hunk.new_end - hunk.new = omega (arith, within_b, length-part new hunk.new hunk.new_end g.new_forward g.new_within) in
+    let fits_old : front ≤ hunk.old_end - hunk.old = omega (arith, common.within_a, length-part old hunk.old hunk.old_end g.old_forward g.old_within) in
+    let fits_new : front ≤ hunk.new_end - hunk.new = omega (arith, common.within_b, length-part new hunk.new hunk.new_end g.new_forward g.new_within) in
     let same : take front (drop hunk.old old) ≡ take front (drop hunk.new new) =
     sym (take-take front (hunk.old_end - hunk.old) (drop hunk.old old) fits_old) ∙ common.same ∙ take-take front (hunk.new_end - hunk.new) (drop hunk.new new) fits_new in
     record {
@@ -199,16 +172,12 @@ goes_first old new hunk front before g common =
       leads = led_same old new hunk.old hunk.new hunk.old hunk.new front (hunk.new + front) [] (led_nowhere old new hunk.old hunk.new (hunk.new + front)) same;
       old_end = refl;
       new_end = refl;
-      old_forward = omega (arith, fits_old, old_forward);
-      new_forward = omega (arith, fits_new, new_forward);
+      old_forward = omega (arith, fits_old, g.old_forward);
+      new_forward = omega (arith, fits_new, g.new_forward);
     }
 
 pub goes_further : (old new : List Input) (hunk gap next : Gap) (before now after : List Change) → GoesOn old new hunk gap before now → GoesOn old new gap next now after → GoesOn old new hunk next before after
 goes_further old new hunk gap next before now after g n =
-    let old_end = g.old_end in
-    let new_end = g.new_end in
-    let old_forward = n.old_forward in
-    let new_forward = n.new_forward in
     let on = n.leads.new_forward in
     record {
       changes = g.changes ++ n.changes;
@@ -216,33 +185,25 @@ goes_further old new hunk gap next before now after g n =
       leads = led_further old new hunk.old hunk.new gap.old gap.new next.old next.new gap.new next.new g.changes n.changes g.leads n.leads (omega arith) on;
       old_end = n.old_end ∙ g.old_end;
       new_end = n.new_end ∙ g.new_end;
-      old_forward = omega (arith, old_end, old_forward);
-      new_forward = omega (arith, new_end, new_forward);
+      old_forward = omega (arith, g.old_end, n.old_forward);
+      new_forward = omega (arith, g.new_end, n.new_forward);
     }
 
 pub gap_further : (old new : List Input) (gap next : Gap) (before after : List Change) → IsGapOf old new gap → GoesOn old new gap next before after → IsGapOf old new next
 gap_further old new gap next before after g n =
-    let old_end = n.old_end in
-    let new_end = n.new_end in
-    let old_forward = n.old_forward in
-    let new_forward = n.new_forward in
-    let old_within = g.old_within in
-    let new_within = g.new_within in
-    let room = g.room in
     record {
-      old_forward = omega (arith, old_end, old_forward);
-      old_within = omega (arith, old_end, old_within);
-      new_forward = omega (arith, new_end, new_forward);
-      new_within = omega (arith, new_end, new_within);
+      old_forward = omega (arith, n.old_end, n.old_forward);
+      old_within = omega (arith, n.old_end, g.old_within);
+      new_forward = omega (arith, n.new_end, n.new_forward);
+      new_within = omega (arith, n.new_end, g.new_within);
       short = g.short;
       short_new = g.short_new;
-      room = omega (arith, old_end, new_end, room);
+      room = omega (arith, n.old_end, n.new_end, g.room);
     }
 
 pub hunk_ends : (old new : List Input) (hunk gap : Gap) (before now after : List Change) → IsGapOf old new gap → GoesOn old new hunk gap before now → AddsHunk old new gap now after → AddsHunk old new hunk before after
 hunk_ends old new hunk gap before now after is_gap g h =
-    let forward = is_gap.new_forward in
-    let led = led_further old new hunk.old hunk.new gap.old gap.new gap.old_end gap.new_end gap.new (gap.new_end + 1) g.changes h.0 g.leads h.2 (omega arith) (omega (arith, forward)) in
+    let led = led_further old new hunk.old hunk.new gap.old gap.new gap.old_end gap.new_end gap.new (gap.new_end + 1) g.changes h.0 g.leads h.2 (omega arith) (omega (arith, is_gap.new_forward)) in
     let there = subst (λ (k : ℕ). Leads old new hunk.old hunk.new k gap.new_end (gap.new_end + 1) (g.changes ++ h.0)) g.old_end led in (
       g.changes ++ h.0,
       h.1 ∙ ap (λ (l : List Change). l ++ h.0) g.is ∙ append_assoc before g.changes h.0,

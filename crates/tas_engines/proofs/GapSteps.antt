@@ -230,13 +230,9 @@ pub record LeftToReplace (old new : List Input) (a b end done left : ℕ) : Type
 replacing_same : (old new : List Input) (a b end done left : ℕ) (before now : List Change) → LeftToReplace old new a b end done left → Replacing old new a b end done before now
     → get_or old (a + done) no_input ≡ get_or new (b + done) no_input → Replacing old new a b end (done + 1) before now
 replacing_same old new a b end done left before now g r same =
-    let some = g.some in
-    let old_within = g.old_within in
-    let new_within = g.new_within in
-    let new_end = g.new_end in
     let old_next : a + done + 1 ≡ a + (done + 1) = omega arith in
     let new_next : b + done + 1 ≡ b + (done + 1) = omega arith in
-    let one = one_more old new (a + done) (b + done) (omega (arith, some, old_within)) (omega (arith, some, new_within, new_end)) same in
+    let one = one_more old new (a + done) (b + done) (omega (arith, g.some, g.old_within)) (omega (arith, g.some, g.new_within, g.new_end)) same in
     let led = led_within old new a b (a + done + 1) (b + done + 1) (b + done + 1) (b + (done + 1) + 1) r.changes (led_same old new a b (a + done) (b + done) 1 (b + done + 1) r.changes r.leads one) (omega arith) in
     record {
       changes = r.changes;
@@ -255,15 +251,12 @@ replacing_other : (old new : List Input) (a b end done left n : ℕ) (input : In
     → (n < left → get_or new (b + done + n) no_input ≡ input → get_or old (a + done + n) no_input ≡ input)
     → Replacing old new a b end (done + n) before (now ++ Replace (b + done) n input ∷ [])
 replacing_other old new a b end done left n input before now g r some fits run begins first last longest =
-    let old_within = g.old_within in
-    let new_within = g.new_within in
-    let new_end = g.new_end in
     let short = g.short in
     let short_new = g.short_new in
     let c = Replace (b + done) n input in
     let old_next : a + done + n ≡ a + (done + n) = omega arith in
     let new_next : b + done + n ≡ b + (done + n) = omega arith in
-    let one = led_by_replacement old new (a + done) (b + done) n (b + (done + n) + 1) input some (omega (arith, fits, old_within)) (omega (arith, fits, new_within, new_end)) (omega arith) short short_new run first last in
+    let one = led_by_replacement old new (a + done) (b + done) n (b + (done + n) + 1) input some (omega (arith, fits, g.old_within)) (omega (arith, fits, g.new_within, g.new_end)) (omega arith) short short_new run first last in
     let led = led_on old new a b (a + done) (b + done) (a + done + n) (b + done + n) (b + done + 1) (b + (done + n) + 1) r.changes (c ∷ []) r.leads one (omega arith)
     (order_more r.changes c r.leads.order (last_map (OpenEnd old new (a + done) (b + done) end) (λ (x : Change). Follows x c) r.changes follows r.last) some)
     (deletions_more r.changes (b + done) n input r.leads.deletions) in
@@ -303,13 +296,11 @@ replacing_next old new a b end done left n before now after g r (inl same) =
 replacing_next old new a b end done left n before now after g r (inr other) =
     let some = g.some in
     let old_within = g.old_within in
-    let new_within = g.new_within in
-    let new_end = g.new_end in
     let part_old : List Input = take left (drop (a + done) old) in
     let part_new : List Input = take left (drop (b + done) new) in
     let input : Input = get_or part_new 0 no_input in
     let run = other.2 in
-    let len : length (take left (drop (b + done) new)) ≡ left = length-take-le left (drop (b + done) new) (omega (arith, new_within, new_end, length-drop (b + done) new)) in
+    let len : length (take left (drop (b + done) new)) ≡ left = length-take-le left (drop (b + done) new) (omega (arith, g.new_within, g.new_end, length-drop (b + done) new)) in
     let fits : n ≤ left = let within = run.within in omega (arith, within, len) in
     let first : get_or old (a + done) no_input ≡ input → ⊥ = λ e. other.1 (part_first old (a + done) left some ∙ e) in
     let many : 1 ≤ n = at_least n run.longest (omega (arith, len, some)) other.1 in

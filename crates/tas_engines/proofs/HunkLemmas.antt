@@ -62,9 +62,7 @@ pub within_wider : (from from' to to' : ℕ) (xs : List Change) → from' ≤ fr
 unfolding AreWithin
 within_wider from from' to to' [] low high h = tt
 within_wider from from' to to' (c ∷ xs) low high h =
-    let place = h.0 in
-    let end = h.1 in
-    (omega (arith, low, place), omega (arith, high, end), within_wider from from' to to' xs low high h.2)
+    (omega (arith, low, h.0), omega (arith, high, h.1), within_wider from from' to to' xs low high h.2)
 
 -- ---- in order, where the others begin further on
 
@@ -73,17 +71,14 @@ unfolding AreWithin AreInOrder
 order_join from to from' to' [] ys le w v l r = r
 order_join from to from' to' (x ∷ []) [] le w v l r = l
 order_join from to from' to' (x ∷ []) (y ∷ ys) le w v l r =
-    let end = w.1 in
-    let place = v.0 in
-    (l, record { later = omega (arith, end, place, le); touching = λ e. absurd (omega (arith, end, place, le, e)) }, r)
+    (l, record { later = omega (arith, w.1, v.0, le); touching = λ e. absurd (omega (arith, w.1, v.0, le, e)) }, r)
 order_join from to from' to' (x ∷ z ∷ xs) ys le w v l r = (l.0, l.1, order_join from to from' to' (z ∷ xs) ys le w.2 v l.2 r)
 
 none_from : (place from to : ℕ) (ys : List Change) → place < from → AreWithin from to ys → put_in_from place ys ≡ 0
 unfolding AreWithin put_in_from
 none_from place from to [] lt w = refl
 none_from place from to (Insert at n input ∷ ys) lt w =
-    let begins = w.0 in
-    ap (λ (b : Bool). cond b (n + put_in_from (at + n) ys) 0) (ne_eqb place at (λ e. omega (arith, e, begins, lt)))
+    ap (λ (b : Bool). cond b (n + put_in_from (at + n) ys) 0) (ne_eqb place at (λ e. omega (arith, e, w.0, lt)))
 none_from place from to (Replace at n input ∷ ys) lt w = refl
 none_from place from to (Delete at n ∷ ys) lt w = refl
 
@@ -157,21 +152,14 @@ led_alone old new a b a' b' to change l = record {
 pub led_on : (old new : List Input) (a b a1 b1 a2 b2 to to' : ℕ) (xs ys : List Change) → Leads old new a b a1 b1 to xs → Leads old new a1 b1 a2 b2 to' ys → to ≤ to'
     → AreInOrder (xs ++ ys) → DeletionsDiffer (xs ++ ys) → Leads old new a b a2 b2 to' (xs ++ ys)
 led_on old new a b a1 b1 a2 b2 to to' xs ys l r le order deletions =
-    let fa = l.old_forward in
     let fb = l.new_forward in
-    let ga = r.old_forward in
-    let gb = r.new_forward in
-    let out_l = l.out in
-    let out_r = r.out in
-    let in_l = l.into in
-    let in_r = r.into in
     record {
-      old_forward = omega (arith, fa, ga);
-      new_forward = omega (arith, fb, gb);
+      old_forward = omega (arith, l.old_forward, r.old_forward);
+      new_forward = omega (arith, fb, r.new_forward);
       allowed = λ cart. allowed_join (halfway cart old new a b) xs ys (l.allowed cart) (subst (λ (m : MovieContent). AreAllowed m ys) (sym (l.made cart)) (r.allowed cart));
       made = λ cart. changed_join (halfway cart old new a b) xs ys ∙ ap (λ (m : MovieContent). changed_by m ys) (l.made cart) ∙ r.made cart;
-      out = omega (arith, out_join xs ys, out_l, out_r);
-      into = omega (arith, in_join xs ys, in_l, in_r);
+      out = omega (arith, out_join xs ys, l.out, r.out);
+      into = omega (arith, in_join xs ys, l.into, r.into);
       within = within_join b to' xs ys (within_wider b b to to' xs (omega arith) le l.within) (within_wider b1 b to' to' ys fb (omega arith) r.within);
       order = order;
       deletions = deletions;
@@ -197,17 +185,13 @@ halfway_further old new a b n same =
 pub led_same : (old new : List Input) (a b a1 b1 n to : ℕ) (xs : List Change) → Leads old new a b a1 b1 to xs → take n (drop a1 old) ≡ take n (drop b1 new)
     → Leads old new a b (a1 + n) (b1 + n) to xs
 led_same old new a b a1 b1 n to xs l same =
-    let fa = l.old_forward in
-    let fb = l.new_forward in
-    let out = l.out in
-    let into = l.into in
     record {
-      old_forward = omega (arith, fa);
-      new_forward = omega (arith, fb);
+      old_forward = omega (arith, l.old_forward);
+      new_forward = omega (arith, l.new_forward);
       allowed = l.allowed;
       made = λ cart. l.made cart ∙ ap (movie_of cart) (halfway_further old new a1 b1 n same);
-      out = omega (arith, out);
-      into = omega (arith, into);
+      out = omega (arith, l.out);
+      into = omega (arith, l.into);
       within = l.within;
       order = l.order;
       deletions = l.deletions;

@@ -1,7 +1,6 @@
 -- Retouches, and copies from a second movie, that are allowed.
-use Rattle.std.proofs.Common.{◌≡◌, ℕ, ◌+◌, ◌*◌, ◌≤◌, Bool, cond, List, map, length, drop, Option, Some, None, Result, Ok, Err, IfOk, MatchResult, inl, inr, refl, sym, subst, ap, ◌∙◌, arith}
+use Rattle.std.proofs.Common.{◌≡◌, ℕ, ◌+◌, ◌*◌, ◌≤◌, List, map, length, drop, Option, Some, None, Result, Ok, Err, IfOk, MatchResult, refl, sym, subst, ap, ◌∙◌, arith}
 use Rattle.std.specs.Prelude.{replicate}
-use Rattle.std.proofs.lemmas.Bool.{cases_lt, lt-ltb}
 use Rattle.std.proofs.lemmas.List.{length-map, length-take-le, length-drop}
 use Rattle.std.proofs.lemmas.List.Concat.{length-flat_map}
 use Rattle.std.proofs.lemmas.List.Folds.{sum_by-replicate}
@@ -19,7 +18,7 @@ use Rattle.tas_language.specs.declared.edit_line.EditLine.{EditLine}
 use Rattle.tas_language.specs.declared.edit_line.EditLine.TheVariants as asks
 use Rattle.tas_engines.specs.Retouching.{pressed_too, released, taken_from, taken_count, frames_from, times_over, retouch_on, retouch_refusal, copy_refusal}
 use Rattle.tas_engines.specs.Scripts.{inputs_of, line_on, line_of, line_refusal}
-use Rattle.tas_language.proofs.MadeLemmas.{allowed_length}
+use Rattle.tas_language.proofs.MadeLemmas.{allowed_length, length_within}
 use Rattle.tas_engines.proofs.ChangeLemmas.{same_refusal}
 
 -- ---- lengths
@@ -29,16 +28,6 @@ frames_length inputs from count le = length-take-le count (drop from inputs) (om
 
 times_length : (times : ℕ) (frames : List Input) → length (times_over times frames) ≡ times * length frames
 times_length times frames = length-flat_map (λ (one : List Input). one) (replicate times frames) ∙ sum_by-replicate (λ (one : List Input). length one) times frames
-
-refused : (r : EditRefusal) → ◌≡◌ {A = Option EditRefusal} (Some r) None → ⊥
-refused r e = cc
-
-length_within : (len longer : ℕ) → length_refusal len longer ≡ None → longer ≤ most_inputs
-length_within len longer none =
-    elim (cases_lt most_inputs longer) [
-      | inl past ↦ absurd (refused (Long len) (sym (ap (λ (b : Bool). cond b (Some (Long len)) None) (lt-ltb most_inputs longer past)) ∙ none))
-      | inr within ↦ within
-    ]
 
 -- ---- what is allowed
 

@@ -113,17 +113,13 @@ pub left_of : (old new : List Input) (front end : ℕ) (old_runs new_runs : List
     → Walked old new front end old_runs new_runs stage changes → Left stage old_runs new_runs
 left_of old new front end old_runs new_runs stage changes runs w =
     let is_gap = w.reached.gap_of in
-    let old_at = w.old_at in
-    let new_at = w.new_at in
-    let old_forward = is_gap.old_forward in
-    let new_forward = is_gap.new_forward in
-    let old_all = frames-middle old front end stage.gap.old_end old_runs runs.old_are w.reached.old_end (omega (arith, old_at, old_forward)) in
-    let new_all = frames-middle new front end stage.gap.new_end new_runs runs.new_are w.reached.new_end (omega (arith, new_at, new_forward)) in
+    let old_all = frames-middle old front end stage.gap.old_end old_runs runs.old_are w.reached.old_end (omega (arith, w.old_at, is_gap.old_forward)) in
+    let new_all = frames-middle new front end stage.gap.new_end new_runs runs.new_are w.reached.new_end (omega (arith, w.new_at, is_gap.new_forward)) in
     let old_sum = ap frames w.old_is ∙ frames_join (flat_map outs w.hunks) (drop stage.runs.old old_runs) in
     let new_sum = ap frames w.new_is ∙ frames_join (flat_map intos w.hunks) (drop stage.runs.new new_runs) in
     record {
-      old_left = omega (arith, old_at, old_forward, old_all, old_sum);
-      new_left = omega (arith, new_at, new_forward, new_all, new_sum);
+      old_left = omega (arith, w.old_at, is_gap.old_forward, old_all, old_sum);
+      new_left = omega (arith, w.new_at, is_gap.new_forward, new_all, new_sum);
     }
 
 -- ---- a step
@@ -140,21 +136,16 @@ pub step_gap : (old new : List Input) (front end : ℕ) (old_runs new_runs : Lis
 step_gap old new front end old_runs new_runs stage step changes runs w s =
     let g = w.reached.gap_of in
     let left = left_of old new front end old_runs new_runs stage changes runs w in
-    let old_left = left.old_left in
-    let new_left = left.new_left in
-    let old_within = g.old_within in
-    let new_within = g.new_within in
-    let room = s.room in
     let old_parts = ap frames s.old_is ∙ three_frames s.out s.stays s.old_rest in
     let new_parts = ap frames s.new_is ∙ three_frames s.into s.stays s.new_rest in
     subst (IsGapOf old new) (sym s.hunk) (record {
       old_forward = omega arith;
-      old_within = omega (arith, old_left, old_parts, old_within);
+      old_within = omega (arith, left.old_left, old_parts, g.old_within);
       new_forward = omega arith;
-      new_within = omega (arith, new_left, new_parts, new_within);
+      new_within = omega (arith, left.new_left, new_parts, g.new_within);
       short = g.short;
       short_new = g.short_new;
-      room = omega (arith, room);
+      room = omega (arith, s.room);
     })
 
 -- the runs that are done with those of one hunk more, and the rest
@@ -200,8 +191,6 @@ step_goes : (old new : List Input) (front end : ℕ) (old_runs new_runs : List F
     → AddsHunk old new (hunk_gap stage s.out s.into) before after → GoesOn old new stage.gap step.after.gap before after
 step_goes old new front end old_runs new_runs stage step before after runs w s h =
     let left = left_of old new front end old_runs new_runs stage before runs w in
-    let old_left = left.old_left in
-    let new_left = left.new_left in
     let old_parts = ap frames s.old_is ∙ three_frames s.out s.stays s.old_rest in
     let new_parts = ap frames s.new_is ∙ three_frames s.into s.stays s.new_rest in
     let some = some_stay old front end old_runs (flat_map outs w.hunks) s.out s.stays s.old_rest stage.runs.old runs.old_are w.old_is s.old_is s.many in
@@ -216,24 +205,21 @@ step_goes old new front end old_runs new_runs stage step before after runs w s h
           (led_same old new stage.gap.old stage.gap.new a b (frames s.stays) (b + 1) h.0 h.2 same) (omega (arith, some));
       old_end = refl;
       new_end = refl;
-      old_forward = omega (arith, old_left, old_parts);
-      new_forward = omega (arith, new_left, new_parts);
+      old_forward = omega (arith, left.old_left, old_parts);
+      new_forward = omega (arith, left.new_left, new_parts);
     })
 
 -- the changes of a gap are a hunk
 is_hunk : (old new : List Input) (stage : Stage) (out into stays : List FrameRun) (before after : List Change) (h : AddsHunk old new (hunk_gap stage out into) before after)
     → AreApart out into stage.gap.new (length old - stage.gap.old) → IsHunk stage.gap.new (length old - stage.gap.old) (record { out = out; into = into; changes = h.0; stays = stays })
 is_hunk old new stage out into stays before after h apart =
-    let gone = h.2.out in
-    let come = h.2.into in
-    record { places = h.2.within; out = omega (arith, gone); into = omega (arith, come); apart = apart }
+    record { places = h.2.within; out = omega (arith, h.2.out); into = omega (arith, h.2.into); apart = apart }
 
 -- a hunk at the stage at which a difference has come
 hunk_at : (old new : List Input) (front end : ℕ) (old_runs new_runs : List FrameRun) (stage : Stage) (before : List Change) (w : Walked old new front end old_runs new_runs stage before) (hunk : Hunk)
     → IsHunk stage.gap.new (length old - stage.gap.old) hunk → IsHunk (front + frames (flat_map intos w.hunks)) (length old - front - frames (flat_map outs w.hunks)) hunk
 hunk_at old new front end old_runs new_runs stage before w hunk is =
-    let old_at = w.old_at in
-    moved stage.gap.new (front + frames (flat_map intos w.hunks)) (length old - stage.gap.old) (length old - front - frames (flat_map outs w.hunks)) hunk w.new_at (omega (arith, old_at)) is
+    moved stage.gap.new (front + frames (flat_map intos w.hunks)) (length old - stage.gap.old) (length old - front - frames (flat_map outs w.hunks)) hunk w.new_at (omega (arith, w.old_at)) is
 
 pub walked_on : (old new : List Input) (front end : ℕ) (old_runs new_runs : List FrameRun) (stage : Stage) (step : Step) (before after : List Change) → AreRuns old new front end old_runs new_runs
     → Walked old new front end old_runs new_runs stage before → IsStep (drop stage.runs.old old_runs) (drop stage.runs.new new_runs) (length old) stage step
@@ -244,12 +230,6 @@ walked_on old new front end old_runs new_runs stage step before after runs w s a
     let old_more : flat_map outs w.hunks ++ outs hunk ≡ flat_map outs (w.hunks ++ hunk ∷ []) = flat_map_more outs [] w.hunks hunk in
     let new_more : flat_map intos w.hunks ++ intos hunk ≡ flat_map intos (w.hunks ++ hunk ∷ []) = flat_map_more intos [] w.hunks hunk in
     let all_more : flat_map changes_of w.hunks ++ changes_of hunk ≡ flat_map changes_of (w.hunks ++ hunk ∷ []) = flat_map_more changes_of [] w.hunks hunk in
-    let old_at = w.old_at in
-    let new_at = w.new_at in
-    let old_count = w.old_count in
-    let new_count = w.new_count in
-    let after_old = s.after_old in
-    let after_new = s.after_new in
     let old_frames = sym (ap frames old_more) ∙ frames_join (flat_map outs w.hunks) (outs hunk) in
     let new_frames = sym (ap frames new_more) ∙ frames_join (flat_map intos w.hunks) (intos hunk) in
     record {
@@ -259,11 +239,11 @@ walked_on old new front end old_runs new_runs stage step before after runs w s a
           (rest_more old_runs (flat_map outs w.hunks) s.out s.stays s.old_rest stage.runs.old step.after.runs.old w.old_is s.old_is w.old_count s.after_old);
       new_is = subst (λ (l : List FrameRun). new_runs ≡ l ++ drop step.after.runs.new new_runs) new_more
           (rest_more new_runs (flat_map intos w.hunks) s.into s.stays s.new_rest stage.runs.new step.after.runs.new w.new_is s.new_is w.new_count s.after_new);
-      old_count = sym (ap length old_more) ∙ length-append (flat_map outs w.hunks) (outs hunk) ∙ omega (arith, old_count, after_old, length-append s.out s.stays);
-      new_count = sym (ap length new_more) ∙ length-append (flat_map intos w.hunks) (intos hunk) ∙ omega (arith, new_count, after_new, length-append s.into s.stays);
+      old_count = sym (ap length old_more) ∙ length-append (flat_map outs w.hunks) (outs hunk) ∙ omega (arith, w.old_count, s.after_old, length-append s.out s.stays);
+      new_count = sym (ap length new_more) ∙ length-append (flat_map intos w.hunks) (intos hunk) ∙ omega (arith, w.new_count, s.after_new, length-append s.into s.stays);
       all = h.1 ∙ ap (λ (l : List Change). l ++ h.0) w.all ∙ all_more;
-      old_at = ap (λ (gap : Gap). gap.old) s.after_gap ∙ omega (arith, old_at, old_frames, frames_join s.out s.stays);
-      new_at = ap (λ (gap : Gap). gap.new) s.after_gap ∙ omega (arith, new_at, new_frames, frames_join s.into s.stays);
+      old_at = ap (λ (gap : Gap). gap.old) s.after_gap ∙ omega (arith, w.old_at, old_frames, frames_join s.out s.stays);
+      new_at = ap (λ (gap : Gap). gap.new) s.after_gap ∙ omega (arith, w.new_at, new_frames, frames_join s.into s.stays);
       reached = reached_next old new front end stage.gap step.after.gap before after w.reached (step_goes old new front end old_runs new_runs stage step before after runs w s h);
     }
 
@@ -295,30 +275,20 @@ pub may_step : (old new : List Input) (front end : ℕ) (old_runs new_runs : Lis
     → Walked old new front end old_runs new_runs stage changes → MayStep old new old_runs new_runs stage
 may_step old new front end old_runs new_runs stage changes runs w =
     let g = w.reached.gap_of in
-    let old_at = w.old_at in
-    let new_at = w.new_at in
-    let old_forward = g.old_forward in
-    let new_forward = g.new_forward in
-    let old_within = g.old_within in
-    let new_within = g.new_within in
-    let short = g.short in
-    let short_new = g.short_new in
     let left = left_of old new front end old_runs new_runs stage changes runs w in
-    let old_left = left.old_left in
-    let new_left = left.new_left in
-    let old_few = few_runs old front end stage.gap.old_end old_runs runs.old_are w.reached.old_end (omega (arith, old_at, old_forward)) in
-    let new_few = few_runs new front end stage.gap.new_end new_runs runs.new_are w.reached.new_end (omega (arith, new_at, new_forward)) in
+    let old_few = few_runs old front end stage.gap.old_end old_runs runs.old_are w.reached.old_end (omega (arith, w.old_at, g.old_forward)) in
+    let new_few = few_runs new front end stage.gap.new_end new_runs runs.new_are w.reached.new_end (omega (arith, w.new_at, g.new_forward)) in
     record {
       old_begun = begun old_runs (flat_map outs w.hunks) stage.runs.old w.old_is w.old_count;
       new_begun = begun new_runs (flat_map intos w.hunks) stage.runs.new w.new_is w.new_count;
-      old_few = omega (arith, old_few, old_within, short);
-      new_few = omega (arith, new_few, new_within, short_new);
-      gap_old = omega (arith, old_forward, old_within);
+      old_few = omega (arith, old_few, g.old_within, g.short);
+      new_few = omega (arith, new_few, g.new_within, g.short_new);
+      gap_old = omega (arith, g.old_forward, g.old_within);
       room = subst (λ (l : List FrameRun). HasRoom l (take (length new_runs - stage.runs.new) (drop stage.runs.new new_runs)) (room_at (length old) stage)) (sym (take_rest old_runs stage.runs.old))
           (subst (λ (l : List FrameRun). HasRoom (drop stage.runs.old old_runs) l (room_at (length old) stage)) (sym (take_rest new_runs stage.runs.new)) (record {
-            old_left = omega (arith, old_left, old_within);
-            left_bound = omega (arith, short);
-            made_bound = omega (arith, new_left, new_within, short_new);
+            old_left = omega (arith, left.old_left, g.old_within);
+            left_bound = omega (arith, g.short);
+            made_bound = omega (arith, left.new_left, g.new_within, g.short_new);
           }));
     }
 

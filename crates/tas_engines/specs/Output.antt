@@ -26,6 +26,10 @@ abbrev pub Ends : (Result (List ℕ) RunFault → Type 0) → Option (List ℕ) 
 Ends answers old new (Ok _) = (bytes : List ℕ) × answers (Ok bytes) × Appends old new bytes
 Ends answers old new (Err fault) = (answers (Err fault) × Keeps old new) ⊎ BreaksOff answers old new fault
 
+-- the same of an engine that tells how it ended
+abbrev pub EndsTold : (Result (List ℕ) RunFault → Type 0) → Option (List ℕ) → Option (List ℕ) → Result (Unit {0}) ToolFault → Type 0
+EndsTold answers old new result = (end : Result (Unit {0}) RunFault) × (result ≡ told end) × Ends answers old new end
+
 -- how an engine ends: reading stopped, and nothing is written; or it ran on what it had read, and tells how that ended
 abbrev pub EndsAfter : (ReadFault → Type 0) → (Result (Unit {0}) RunFault → Type 0) → Option (List ℕ) → Option (List ℕ) → Result (Unit {0}) ToolFault → Type 0
 EndsAfter stops runs old new result =

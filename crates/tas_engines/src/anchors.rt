@@ -207,18 +207,7 @@ fn pair<A: Allocator + Copy>(alloc: A, old: &[Mark], new: &mut [Mark]) -> Result
 fn chains_before(links: &[Link], ends: &[usize], old: usize) -> usize
     ensures { result ≤ length ends.now }
 {
-    let mut low = 0;
-    let mut high = ends.len();
-    while low < high {
-        let middle = low + (high - low) / 2;
-        let end = ends[middle];
-        if end < links.len() && links[end].anchor.old < old {
-            low = middle + 1;
-        } else {
-            high = middle;
-        }
-    }
-    low
+    ends.partition_point(|&end| end < links.len() && links[end].anchor.old < old)
 }
 
 /// Appends an anchor to the longest chain that it can continue.
@@ -324,22 +313,12 @@ pub(crate) fn find_run_anchors<A: Allocator + Copy>(
 /// The first anchor at `from` or after it, as places from there on: beyond all of them where there is none. `anchors` go
 /// from the last to the first.
 pub(crate) fn first_after(anchors: &[Anchor], from: Anchor) -> Anchor {
-    let mut low = 0;
-    let mut high = anchors.len();
-    while low < high {
-        let middle = low + (high - low) / 2;
-        if anchors[middle].follows(from) {
-            low = middle + 1;
-        } else {
-            high = middle;
-        }
-    }
-    if low > 0 && low <= anchors.len() {
-        anchors[low - 1].from(from)
-    } else {
-        Anchor {
+    let later = anchors.partition_point(|anchor| anchor.follows(from));
+    if later == 0 {
+        return Anchor {
             old: usize::MAX,
             new: usize::MAX,
-        }
+        };
     }
+    anchors[later - 1].from(from)
 }

@@ -243,5 +243,5 @@ pub fn compare_run<A: Allocator + Copy, C: Read, S: Read, R: Read, W: Write>(
 {
     let read = read_three(alloc, cart, before, input)?;
     let answer = compare_answer(alloc, &read.first, &read.second, &read.third);
-    Ok(write_answer(output, answer)?)
+    write_answer(output, answer)
 }

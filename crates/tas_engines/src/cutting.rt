@@ -64,5 +64,5 @@ pub fn cut_run<A: Allocator + Copy, C: Read, R: Read, W: Write>(
 {
     let (image, bytes) = read_two(alloc, cart, input)?;
     let answer = cut_text(alloc, from, to, &image, &bytes);
-    Ok(write_answer(output, answer)?)
+    write_answer(output, answer)
 }

@@ -63,5 +63,5 @@ pub fn diff_run<A: Allocator + Copy, C: Read, S: Read, R: Read, W: Write>(
 {
     let read = read_three(alloc, cart, before, input)?;
     let answer = difference_text(alloc, &read.first, &read.second, &read.third);
-    Ok(write_answer(output, answer)?)
+    write_answer(output, answer)
 }

@@ -99,7 +99,7 @@ pub fn edit_run<A: Allocator + Copy, C: Read, S: Read, R: Read, W: Write>(
 {
     let read = read_three(alloc, cart, script, input)?;
     let answer = edited_text(alloc, &read.first, &read.second, &read.third);
-    Ok(write_answer(output, answer)?)
+    write_answer(output, answer)
 }
 
 /// Reads a cartridge, a script and the texts of two movies with it, the second movie's before the first one's, and writes the
@@ -124,5 +124,5 @@ pub fn edit_with_run<A: Allocator + Copy, C: Read, S: Read, O: Read, R: Read, W:
     let image = read_input(alloc, cart)?;
     let read = read_three(alloc, script, other, input)?;
     let answer = edited_text_with(alloc, &image, &read.first, &read.second, &read.third);
-    Ok(write_answer(output, answer)?)
+    write_answer(output, answer)
 }

@@ -40,5 +40,5 @@ pub fn migrate_run<A: Allocator + Copy, C: Read, R: Read, W: Write>(
 {
     let (image, bytes) = read_two(alloc, cart, input)?;
     let answer = migrated_text(alloc, &image, &bytes);
-    Ok(write_answer(output, answer)?)
+    write_answer(output, answer)
 }

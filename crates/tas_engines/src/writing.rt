@@ -2,9 +2,9 @@
 
 ghost use Rattle.std.specs.Prelude.{◌≡◌, Ok, Err, OnOk, IfErr, MatchResult};
 ghost use Rattle.std.specs.Io.KnownBytes.{Appends};
-ghost use Rattle.tas_engines.specs.Output.{Ends, StopsWriting};
+ghost use Rattle.tas_engines.specs.Output.{EndsTold, StopsWriting};
 
-use crate::RunFault;
+use crate::{RunFault, ToolFault};
 use byte_text::write_counted;
 use std::alloc::Allocator;
 use std::io::Write;
@@ -21,15 +21,15 @@ pub fn write_all<W: Write>(writer: &mut W, bytes: &[u8]) -> Result<(), RunFault>
     Ok(())
 }
 
-/// Writes an answer, where there is one; else ends with its fault, and nothing is written.
+/// Ends an engine: writes its answer, where there is one; else reports its fault, and nothing is written.
 pub(crate) fn write_answer<A: Allocator, W: Write>(
     output: &mut W,
     answer: Result<Vec<u8, A>, RunFault>,
-) -> Result<(), RunFault>
-    ensures { Ends (λ said.
+) -> Result<(), ToolFault>
+    ensures { EndsTold (λ said.
         MatchResult answer (λ text. said ≡ Ok text.items) (λ fault. said ≡ Err fault))
         (W.contents output.old) (W.contents output.new) result }
 {
     let text = answer?;
-    write_all(output, text.as_slice())
+    Ok(write_all(output, text.as_slice())?)
 }

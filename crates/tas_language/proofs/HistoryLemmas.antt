@@ -1,8 +1,8 @@
 -- The lines of a history: how they are put together, and that they make what its edits make.
-use Rattle.std.proofs.Common.{◌≡◌, ℕ, ◌+◌, ◌*◌, ◌<◌, ◌≤◌, Bool, cond, true, false, inl, inr, List, [], ◌∷◌, ◌++◌, length, take, drop, get_or, Some, None, refl, sym, ap, subst, ◌∙◌, arith, append_assoc}
-use Rattle.std.specs.Prelude.{◌==◌, ◌||◌, replicate, slice_get, codes, decimal, Option}
+use Rattle.std.proofs.Common.{◌≡◌, ℕ, ◌+◌, ◌*◌, ◌<◌, ◌≤◌, Bool, cond, true, false, List, [], ◌∷◌, ◌++◌, length, take, drop, get_or, Some, None, refl, sym, ap, subst, ◌∙◌, arith, append_assoc}
+use Rattle.std.specs.Prelude.{◌==◌, ◌||◌, replicate, slice_get, codes, decimal}
 use Rattle.std.specs.List.{flat_map}
-use Rattle.std.proofs.lemmas.Bool.{cases_lt, lt-ltb, eqb-true, eq-eqb, ne_eqb}
+use Rattle.std.proofs.lemmas.Bool.{eqb-true, eq-eqb, ne_eqb}
 use Rattle.std.proofs.lemmas.Fmt.{length-decimal-le}
 use Rattle.std.proofs.lemmas.List.{append-nil, take-append-drop, length-append, length-replicate, length-drop, length-take-le, get_or-drop, drop-drop, drop_all}
 use Rattle.byte_text.specs.Digits.{hex_byte}
@@ -13,8 +13,6 @@ use Rattle.tas_movie.specs.Runs.{run_inputs, runs_of}
 use Rattle.tas_movie.specs.Text.{line, frame_text}
 use Rattle.tas_movie.specs.declared.edit.Edit.{Edit}
 use Rattle.tas_movie.specs.declared.edit.Edit.TheVariants as edit
-use Rattle.tas_movie.specs.declared.edit.EditRefusal.{EditRefusal}
-use Rattle.tas_movie.specs.declared.edit.EditRefusal.TheVariants.{Long}
 use Rattle.tas_movie.specs.declared.run.FrameRun.{FrameRun}
 use Rattle.tas_movie.proofs.EditLemmas.{place_within, insert_within, unrefused}
 use Rattle.tas_movie.proofs.RunLemmas.{runs_made, runs_split, length-runs}
@@ -29,7 +27,7 @@ use Rattle.tas_language.specs.Edits.{EditContent, edit_of, edits_of, edited_by, 
 use Rattle.tas_language.specs.History.{image_of, some_runs_of, commands_of_runs, edit_commands, load_text, command_text, edit_lines, run_lines, IsCartridge, LoadsCartridge, AreHeard}
 use Rattle.tas_language.specs.Parts.{Part, AreParts, IsBytes, IsImageOf, hex_text, part_text, overwritten_by_all}
 use Rattle.tas_language.specs.Requests.{IsHeard}
-use Rattle.tas_language.proofs.MadeLemmas.{movie_of, cut, insert_allowed, replace_allowed, made_insert, made_replace}
+use Rattle.tas_language.proofs.MadeLemmas.{movie_of, cut, insert_allowed, replace_allowed, made_insert, made_replace, length_within}
 use Rattle.tas_language.proofs.PartLemmas.{length-word_text}
 
 abbrev pub whole : List ℕ → Part
@@ -89,6 +87,11 @@ pub all_told : (out prefix word : List ℕ) (inputs : List Input) (place done : 
 unfolding runs_of
 all_told out prefix word inputs place done whole end is =
     sym (append-nil out) ∙ ap (λ (l : List Input). out ++ run_lines prefix word place (runs_of l)) (sym (drop_all done inputs end)) ∙ is
+
+-- where there are inputs, their lines are those of their runs
+pub runs_some : (inputs : List Input) → (length inputs ≡ 0 → ⊥) → runs_of inputs ≡ some_runs_of inputs
+runs_some [] some = absurd (some refl)
+runs_some (input ∷ inputs) some = refl
 
 -- a prefix and a line of a run are put together
 pub run_put : (t0 t1 t2 t3 t4 t5 t6 t7 t8 prefix word frame : List ℕ) (at count : ℕ) (input : Input)
@@ -178,18 +181,8 @@ some_runs : (inputs : List Input) → flat_map run_inputs (some_runs_of inputs) 
 some_runs [] = refl
 some_runs (input ∷ inputs) = runs_made (input ∷ inputs)
 
-too_long : (r : EditRefusal) → ◌≡◌ {A = Option EditRefusal} (Some r) None → ⊥
-too_long r e = cc
-
-short_enough : (len longer : ℕ) → length_refusal len longer ≡ None → longer ≤ most_inputs
-short_enough len longer none =
-    elim (cases_lt most_inputs longer) [
-      | inl past ↦ absurd (too_long (Long len) (sym (ap (λ (b : Bool). cond b (Some (Long len)) None) (lt-ltb most_inputs longer past)) ∙ none))
-      | inr within ↦ within
-    ]
-
 insert_short : (len at count : ℕ) → insert_refusal len at count ≡ None → len + count ≤ most_inputs
-insert_short len at count none = short_enough len (len + count) (unrefused (place_refusal len at at) (length_refusal len (len + count)) none).1
+insert_short len at count none = length_within len (len + count) (unrefused (place_refusal len at at) (length_refusal len (len + count)) none).1
 
 insertion_made : (A : Type 0) (movie : MovieContent) (at : ℕ) (inputs : List Input) → insert_refusal (length movie.inputs) at (length inputs) ≡ None
     → Makes movie (insertions at (some_runs_of inputs)) (edited {A = A} movie (edit.Insert at inputs))

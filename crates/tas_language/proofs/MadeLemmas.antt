@@ -1,14 +1,14 @@
 -- What one change makes of a list that is cut at its place.
-use Rattle.std.proofs.Common.{◌≡◌, ℕ, ◌+◌, ◌≤◌, List, [], ◌++◌, length, drop, None, refl, ap, ◌∙◌, arith}
+use Rattle.std.proofs.Common.{◌≡◌, ℕ, ◌+◌, ◌≤◌, Bool, cond, inl, inr, List, [], ◌++◌, length, drop, None, refl, sym, ap, ◌∙◌, arith}
 use Rattle.std.specs.Prelude.{replicate, nat_lt, if◌then◌else◌, Option, Some}
-use Rattle.std.proofs.lemmas.Bool.{le-ltb}
+use Rattle.std.proofs.lemmas.Bool.{cases_lt, le-ltb, lt-ltb}
 use Rattle.std.proofs.lemmas.List.{length-replicate}
 use lib.Seq.{take-append_seam, drop-append-add}
 use Rattle.vcs_machine.specs.declared.input.Input.{Input}
 use Rattle.tas_movie.specs.Content.{MovieContent, most_inputs}
 use Rattle.tas_movie.specs.Edit.{edited, IsAllowed, length_refusal, first_refusal, spliced}
 use Rattle.tas_movie.specs.declared.edit.EditRefusal.{EditRefusal}
-use Rattle.tas_movie.specs.declared.edit.EditRefusal.TheVariants.{Place}
+use Rattle.tas_movie.specs.declared.edit.EditRefusal.TheVariants.{Place, Long}
 use Rattle.tas_language.specs.declared.change.Change.TheVariants.{Insert, Replace, Delete}
 use Rattle.tas_language.specs.Edits.{edit_of}
 
@@ -20,6 +20,16 @@ cut k p new q = rw (take-append_seam p q, drop-append-add p q k) refl
 
 pub allowed_length : (most all : ℕ) (refused : Option EditRefusal) → all ≤ most → (if nat_lt most all then refused else None) ≡ None
 allowed_length most all refused le = rw (le-ltb most all le) refl
+
+refused : (r : EditRefusal) → ◌≡◌ {A = Option EditRefusal} (Some r) None → ⊥
+refused r e = cc
+
+pub length_within : (len longer : ℕ) → length_refusal len longer ≡ None → longer ≤ most_inputs
+length_within len longer none =
+    elim (cases_lt most_inputs longer) [
+      | inl past ↦ absurd (refused (Long len) (sym (ap (λ (b : Bool). cond b (Some (Long len)) None) (lt-ltb most_inputs longer past)) ∙ none))
+      | inr within ↦ within
+    ]
 
 pub insert_allowed : (cart : List ℕ) (inputs : List Input) (at count : ℕ) (input : Input) → at ≤ length inputs → length inputs + count ≤ most_inputs → IsAllowed (movie_of cart inputs) (edit_of (Insert at count input))
 insert_allowed cart inputs at count input place long =

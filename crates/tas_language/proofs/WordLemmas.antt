@@ -1,10 +1,11 @@
 -- Words and numbers.
-use Rattle.std.proofs.Common.{◌≡◌, ℕ, ◌+◌, ◌<◌, ◌≤◌, List, Option, Some, None, sym, ◌∙◌, arith}
+use Rattle.std.proofs.Common.{◌≡◌, ℕ, ◌+◌, ◌<◌, ◌≤◌, List, ◌∷◌, ◌++◌, Option, Some, None, sym, ◌∙◌, arith}
 use Rattle.std.proofs.Common.{◌%◌, ◌^◌}
 use Rattle.std.specs.Prelude.{decimal, MatchOption, IfSome, IfNone}
 use Rattle.std.proofs.lemmas.Fmt.{decimal_by_steps, decimal_injective}
 use Rattle.byte_text.specs.Splitting.{NoByte}
-use Rattle.byte_text.proofs.SplitLemmas.{push_no_byte}
+use Rattle.byte_text.proofs.SplitLemmas.{push_no_byte, same_front}
+use Rattle.tas_language.specs.Commands.{IsNumber}
 
 -- ---- what is said of both cases is said of each
 
@@ -26,6 +27,10 @@ pub decimal_no_space : (n : ℕ) → n < 2 ^ 64 → NoByte 32 (decimal n)
 decimal_no_space n lt = decimal_by_steps (λ m ds. NoByte 32 ds)
     (λ m small. ((λ (e : 48 + m ≡ 32). omega arith), tt))
     (λ m ds big h. push_no_byte 32 ds (48 + m % 10) h (λ (e : 48 + m % 10 ≡ 32). omega arith)) n lt
+
+-- a text that is cut at its first space and begins with a number and a space is cut after that number
+pub number_first : (text first rest tail : List ℕ) (n : ℕ) → text ≡ first ++ 32 ∷ rest → NoByte 32 first → IsNumber n → text ≡ decimal n ++ 32 ∷ tail → (first ≡ decimal n) × (rest ≡ tail)
+number_first text first rest tail n cut none small is = same_front 32 first (decimal n) rest tail none (decimal_no_space n (omega (arith, small))) (sym cut ∙ is)
 
 -- a number past the greatest one isn't another one's text
 pub past_most : (n m : ℕ) (word : List ℕ) → word ≡ decimal m → m < 2 ^ 64 → 9999999 < m → n ≤ 9999999 → word ≡ decimal n → ⊥

@@ -1,7 +1,6 @@
 //! The lines of a history: each edit as the lines of a script that make it.
 
 ghost use Rattle.std.specs.Prelude.{◌≡◌, ◌++◌, IfOk, OnOk, decimal};
-ghost use Rattle.tas_movie.specs.Runs.{runs_of};
 ghost use Rattle.tas_movie.specs.Text.{line};
 ghost use Rattle.tas_language.specs.Answers.{history_head, history_text};
 ghost use Rattle.tas_language.specs.Commands.{change_text, frames_text};
@@ -47,30 +46,7 @@ fn push_run<A: Allocator>(
     Ok(())
 }
 
-/// Appends a line for each run of equal inputs, as long as it can be.
-fn push_runs<A: Allocator>(
-    text: &mut Vec<u8, A>,
-    prefix: &[u8],
-    word: &[u8],
-    at: usize,
-    inputs: &[Input],
-) -> Result<(), AllocError>
-    ensures { OnOk result
-        (text.new.items
-        ≡ text.old.items ++ run_lines prefix.now word.now at (runs_of inputs.now)) }
-{
-    let mut done = 0;
-    while done < inputs.len() {
-        let input = inputs[done];
-        let count = run_length(&inputs[done..], input);
-        let place = at as u128 + done as u128;
-        push_run(text, prefix, word, place, FrameRun { input, count })?;
-        done += count;
-    }
-    Ok(())
-}
-
-/// Appends a line for each run of equal inputs, and one line with the count 0 where there are no inputs.
+/// Appends a line for each run of equal inputs, as long as it can be, and one line with the count 0 where there are no inputs.
 fn push_inputs<A: Allocator>(
     text: &mut Vec<u8, A>,
     prefix: &[u8],
@@ -89,7 +65,15 @@ fn push_inputs<A: Allocator>(
         };
         return push_run(text, prefix, word, at as u128, run);
     }
-    push_runs(text, prefix, word, at, inputs)
+    let mut done = 0;
+    while done < inputs.len() {
+        let input = inputs[done];
+        let count = run_length(&inputs[done..], input);
+        let place = at as u128 + done as u128;
+        push_run(text, prefix, word, place, FrameRun { input, count })?;
+        done += count;
+    }
+    Ok(())
 }
 
 /// Appends a prefix and the line that loads a cartridge's image, all of it in one part.

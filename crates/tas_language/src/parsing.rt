@@ -38,16 +38,13 @@ pub fn parse_line(line: &[u8]) -> Option<Command>
         let (at, count) = pair(rest)?;
         return Some(Command::Edit(Change::Delete { at, count }));
     }
-    if let Some(rest) = strip(line, b"input ") {
-        let frame = number(rest)?;
+    if let Some(frame) = numbered(line, b"input ") {
         return Some(Command::InputAt { frame });
     }
-    if let Some(rest) = strip(line, b"shot ") {
-        let frame = number(rest)?;
+    if let Some(frame) = numbered(line, b"shot ") {
         return Some(Command::Shot { frame });
     }
-    let rest = strip(line, b"work ")?;
-    let frame = number(rest)?;
+    let frame = numbered(line, b"work ")?;
     Some(Command::Work { frame })
 }
 

@@ -1,7 +1,7 @@
 //! Printing a reply.
 
-ghost use Rattle.std.specs.Prelude.{◌≡◌, IfOk};
-ghost use Rattle.tas_language.specs.declared.reply.Reply.TheVariants.{Edited, Place, Long, Full, Measured, Pressed, NoFrame, Drawn, Halted, Worked, OutOfMemory};
+ghost use Rattle.std.specs.Prelude.{◌≡◌, ◌++◌, codes, decimal, IfOk};
+ghost use Rattle.tas_language.specs.declared.reply.Reply.TheVariants.{Full, Measured, Pressed, Drawn, Halted, Worked, OutOfMemory};
 ghost use Rattle.tas_language.specs.Replies.{reply_text};
 ghost use Rattle.byte_text.specs.Digits.{hex_word};
 
@@ -20,22 +20,17 @@ fn address_digits(address: u16) -> [u8; 4]
     [a, b, c, d]
 }
 
-fn edited_line<A: Allocator>(alloc: A, at: u64, len: usize) -> Result<Vec<u8, A>, AllocError>
-    ensures { IfOk result (λ bytes. bytes.items ≡ reply_text (Edited at len)) }
+/// The line of a reply with a word, a number of edits and the movie's length.
+fn len_line<A: Allocator>(
+    alloc: A,
+    word: &str,
+    at: u64,
+    len: usize,
+) -> Result<Vec<u8, A>, AllocError>
+    ensures { IfOk result (λ bytes. bytes.items
+        ≡ word.now ++ codes " " ++ decimal at ++ codes " len " ++ decimal len ++ codes "\n") }
 {
-    Ok(format!(in alloc; "edit {at} len {len}\n")?.into_bytes())
-}
-
-fn place_line<A: Allocator>(alloc: A, at: u64, len: usize) -> Result<Vec<u8, A>, AllocError>
-    ensures { IfOk result (λ bytes. bytes.items ≡ reply_text (Place at len)) }
-{
-    Ok(format!(in alloc; "place {at} len {len}\n")?.into_bytes())
-}
-
-fn long_line<A: Allocator>(alloc: A, at: u64, len: usize) -> Result<Vec<u8, A>, AllocError>
-    ensures { IfOk result (λ bytes. bytes.items ≡ reply_text (Long at len)) }
-{
-    Ok(format!(in alloc; "long {at} len {len}\n")?.into_bytes())
+    Ok(format!(in alloc; "{word} {at} len {len}\n")?.into_bytes())
 }
 
 fn full_line<A: Allocator>(alloc: A, at: u64) -> Result<Vec<u8, A>, AllocError>
@@ -57,12 +52,6 @@ fn pressed_line<A: Allocator>(alloc: A, at: u64, input: Input) -> Result<Vec<u8,
     bytes.extend_from_slice(&print_frame(input))?;
     bytes.push(b'\n')?;
     Ok(bytes)
-}
-
-fn no_frame_line<A: Allocator>(alloc: A, at: u64, len: usize) -> Result<Vec<u8, A>, AllocError>
-    ensures { IfOk result (λ bytes. bytes.items ≡ reply_text (NoFrame at len)) }
-{
-    Ok(format!(in alloc; "no frame {at} len {len}\n")?.into_bytes())
 }
 
 fn drawn_line<A: Allocator>(
@@ -115,13 +104,13 @@ pub fn reply_line<A: Allocator>(alloc: A, reply: Reply) -> Result<Vec<u8, A>, Al
     ensures { IfOk result (λ bytes. bytes.items ≡ reply_text reply) }
 {
     match reply {
-        Reply::Edited { at, len } => edited_line(alloc, at, len),
-        Reply::Place { at, len } => place_line(alloc, at, len),
-        Reply::Long { at, len } => long_line(alloc, at, len),
+        Reply::Edited { at, len } => len_line(alloc, "edit", at, len),
+        Reply::Place { at, len } => len_line(alloc, "place", at, len),
+        Reply::Long { at, len } => len_line(alloc, "long", at, len),
         Reply::Full { at } => full_line(alloc, at),
         Reply::Measured { at, len } => measured_line(alloc, at, len),
         Reply::Pressed { at, input } => pressed_line(alloc, at, input),
-        Reply::NoFrame { at, len } => no_frame_line(alloc, at, len),
+        Reply::NoFrame { at, len } => len_line(alloc, "no frame", at, len),
         Reply::Drawn {
             at,
             frame,

@@ -1,16 +1,8 @@
-use Rattle.std.proofs.Common.{ap, refl, Ok, Err, ◌∙◌}
-use Rattle.std.proofs.lemmas.Result.{err_from_is_err_and}
 use Rattle.tas_engines.specs.Lag.{IsLagAnswer}
-use Rattle.tas_engines.proofs.EngineEnds.{movie_ran, ends-answered}
+use Rattle.tas_engines.proofs.EngineEnds.{movie_answered}
 use Rattle.tas_engines.proofs.lag.lag_run.Goals as goal
-
-pub returns-in_err-write_answer : goal.returns-in_err-write_answer
-returns-in_err-write_answer g c =
-    let told = err_from_is_err_and c.from_residual-in_err-write_answer.result c.from_residual-in_err-write_answer.ensures.1 in
-    let ends = ends-answered (IsLagAnswer c.deref.result.now c.deref-2.result.now) c.lag_answer-answer.result (λ text. text.items) (g.W.Write.contents c.args.output.now) (g.W.Write.contents c.write_answer.new.output) (Err c.in_err-write_answer.field-0.0) c.lag_answer-answer.ensures.text c.lag_answer-answer.ensures.fault c.in_err-write_answer.ensures in
-    movie_ran IsLagAnswer _ _ _ _ _ _ _ _ _ _ (Err c.in_err-write_answer.field-0.0) _ c.in_ok-image.ensures.first c.deref.ensures.value c.in_ok-image.ensures.second c.deref-2.ensures.value ends (told.1 ∙ ap Err told.2)
 
 pub returns : goal.returns
 returns g c =
-    let ends = ends-answered (IsLagAnswer c.deref.result.now c.deref-2.result.now) c.lag_answer-answer.result (λ text. text.items) (g.W.Write.contents c.args.output.now) (g.W.Write.contents c.write_answer.new.output) (Ok tt) c.lag_answer-answer.ensures.text c.lag_answer-answer.ensures.fault c.in_ok-write_answer.ensures in
-    movie_ran IsLagAnswer _ _ _ _ _ _ _ _ _ _ (Ok tt) _ c.in_ok-image.ensures.first c.deref.ensures.value c.in_ok-image.ensures.second c.deref-2.ensures.value ends refl
+    movie_answered IsLagAnswer _ _ _ _ _ _ _ c.deref.result.now _ c.deref-2.result.now c.lag_answer-answer.result (λ text. text.items) _ c.in_ok-image.ensures.first c.deref.ensures.value c.in_ok-image.ensures.second
+    c.deref-2.ensures.value c.lag_answer-answer.ensures.text c.lag_answer-answer.ensures.fault c.write_answer.ensures

@@ -13,9 +13,6 @@ returns-in_err-load_image-2-clause-none c =
     rw c.from_residual-in_err-load_image-2.ensures
     (only_load c.args.line.now c.in-Some-strip.rest.now c.in-Some-strip.ensures.some c.in_default.ensures.none c.in_err-load_image-2.ensures.none)
 
-pub returns-in_err-rest-clause-some : goal.returns-in_err-rest-clause-some
-returns-in_err-rest-clause-some c = grind (arith, common_steps)
-
 pub returns-in_err-at-2-clause-some : goal.returns-in_err-at-2-clause-some
 returns-in_err-at-2-clause-some c = grind (arith, common_steps)
 
@@ -37,35 +34,14 @@ returns-in_err-at-3-clause-some c = grind (arith, common_steps)
 pub returns-in_err-at-3-clause-none : goal.returns-in_err-at-3-clause-none
 returns-in_err-at-3-clause-none c = grind (arith, common_steps)
 
-pub returns-in_err-frame-3-clause-none : goal.returns-in_err-frame-3-clause-none
-returns-in_err-frame-3-clause-none c = grind (arith, common_steps)
-
 pub returns-in_err-frame-clause-some : goal.returns-in_err-frame-clause-some
 returns-in_err-frame-clause-some c = grind (arith, common_steps)
 
 pub returns-in_err-load_image-clause-some : goal.returns-in_err-load_image-clause-some
 returns-in_err-load_image-clause-some c = grind (arith, common_steps)
 
-pub returns-in_err-frame-2-clause-none : goal.returns-in_err-frame-2-clause-none
-returns-in_err-frame-2-clause-none c = grind (arith, common_steps)
-
 pub returns-in_err-at-2-clause-none : goal.returns-in_err-at-2-clause-none
 returns-in_err-at-2-clause-none c = grind (arith, common_steps)
 
-pub returns-in_err-frame-2-clause-some : goal.returns-in_err-frame-2-clause-some
-returns-in_err-frame-2-clause-some c = grind (arith, common_steps)
-
-pub returns-in_err-rest-clause-none : goal.returns-in_err-rest-clause-none
-returns-in_err-rest-clause-none c = grind (arith, common_steps)
-
 pub returns-in_err-at-clause-none : goal.returns-in_err-at-clause-none
 returns-in_err-at-clause-none c = grind (arith, common_steps)
-
-pub returns-in_err-frame-3-clause-some : goal.returns-in_err-frame-3-clause-some
-returns-in_err-frame-3-clause-some c = grind (arith, common_steps)
-
-pub returns-in-Some-strip-5-clause-some : goal.returns-in-Some-strip-5-clause-some
-returns-in-Some-strip-5-clause-some c = grind (arith, common_steps)
-
-pub returns-in-Some-strip-6-clause-some : goal.returns-in-Some-strip-6-clause-some
-returns-in-Some-strip-6-clause-some c = grind (arith, common_steps)

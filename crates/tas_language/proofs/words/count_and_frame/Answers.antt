@@ -1,9 +1,9 @@
-use Rattle.std.proofs.Common.{List, ℕ, ◌++◌, ◌∷◌, refl, ap, sym, ◌∙◌, arith, subst}
+use Rattle.std.proofs.Common.{List, ℕ, ◌++◌, ◌∷◌, refl, ap, ◌∙◌, subst}
 use Rattle.std.specs.Prelude.{decimal}
 use Rattle.tas_movie.specs.Text.{frame_text}
 use Rattle.byte_text.specs.Splitting.{NoByte}
-use Rattle.tas_language.proofs.WordLemmas.{decimal_no_space, none_some}
-use Rattle.byte_text.proofs.SplitLemmas.{no_parts, same_front}
+use Rattle.tas_language.proofs.WordLemmas.{none_some, number_first}
+use Rattle.byte_text.proofs.SplitLemmas.{no_parts}
 use Rattle.tas_language.proofs.words.count_and_frame.Goals as goal
 
 pub returns-in_err-first-clause-none : goal.returns-in_err-first-clause-none
@@ -14,16 +14,12 @@ returns-in_err-first-clause-none c =
 pub returns-in_err-count-clause-none : goal.returns-in_err-count-clause-none
 returns-in_err-count-clause-none c =
     rw c.from_residual-in_err-count.ensures
-    (λ count input le is.
-    let split = same_front 32 c.in_ok-first.first.now (decimal count) c.in_ok-first.second.now (frame_text input) c.in_ok-first.ensures.some.1 (decimal_no_space count (omega arith)) (sym c.in_ok-first.ensures.some.0 ∙ is) in
-    c.in_err-count.ensures.none count le split.0)
+    (λ count input le is. c.in_err-count.ensures.none count le (number_first _ _ _ (frame_text input) count c.in_ok-first.ensures.some.0 c.in_ok-first.ensures.some.1 le is).0)
 
 pub returns-in_err-input-clause-none : goal.returns-in_err-input-clause-none
 returns-in_err-input-clause-none c =
     rw c.from_residual-in_err-input.ensures
-    (λ count input le is.
-    let split = same_front 32 c.in_ok-first.first.now (decimal count) c.in_ok-first.second.now (frame_text input) c.in_ok-first.ensures.some.1 (decimal_no_space count (omega arith)) (sym c.in_ok-first.ensures.some.0 ∙ is) in
-    none_some _ input refl (c.in_err-input.ensures.all input split.1))
+    (λ count input le is. none_some _ input refl (c.in_err-input.ensures.all input (number_first _ _ _ (frame_text input) count c.in_ok-first.ensures.some.0 c.in_ok-first.ensures.some.1 le is).1))
 
 pub returns-clause-some : goal.returns-clause-some
 returns-clause-some c = (

@@ -1,9 +1,9 @@
-use Rattle.std.proofs.Common.{sym, ◌∙◌, arith, subst}
+use Rattle.std.proofs.Common.{subst}
 use Rattle.std.specs.Prelude.{decimal}
 use Rattle.byte_text.specs.Splitting.{NoByte}
 use Rattle.tas_language.specs.Commands.{pair_text}
-use Rattle.byte_text.proofs.SplitLemmas.{no_parts, same_front}
-use Rattle.tas_language.proofs.WordLemmas.{decimal_no_space}
+use Rattle.byte_text.proofs.SplitLemmas.{no_parts}
+use Rattle.tas_language.proofs.WordLemmas.{number_first}
 use Rattle.tas_language.proofs.words.triple.Goals as goal
 
 pub returns-in_err-first-clause-none : goal.returns-in_err-first-clause-none
@@ -14,13 +14,9 @@ returns-in_err-first-clause-none c =
 pub returns-in_err-a-clause-none : goal.returns-in_err-a-clause-none
 returns-in_err-a-clause-none c =
     rw c.from_residual-in_err-a.ensures
-    (λ m n k lm ln lk is.
-    let split = same_front 32 c.in_ok-first.first.now (decimal m) c.in_ok-first.rest.now (pair_text n k) c.in_ok-first.ensures.some.1 (decimal_no_space m (omega arith)) (sym c.in_ok-first.ensures.some.0 ∙ is) in
-    c.in_err-a.ensures.none m lm split.0)
+    (λ m n k lm ln lk is. c.in_err-a.ensures.none m lm (number_first _ _ _ (pair_text n k) m c.in_ok-first.ensures.some.0 c.in_ok-first.ensures.some.1 lm is).0)
 
 pub returns-in_err-b-clause-none : goal.returns-in_err-b-clause-none
 returns-in_err-b-clause-none c =
     rw c.from_residual-in_err-b.ensures
-    (λ m n k lm ln lk is.
-    let split = same_front 32 c.in_ok-first.first.now (decimal m) c.in_ok-first.rest.now (pair_text n k) c.in_ok-first.ensures.some.1 (decimal_no_space m (omega arith)) (sym c.in_ok-first.ensures.some.0 ∙ is) in
-    c.in_err-b.ensures.none n k ln lk split.1)
+    (λ m n k lm ln lk is. c.in_err-b.ensures.none n k ln lk (number_first _ _ _ (pair_text n k) m c.in_ok-first.ensures.some.0 c.in_ok-first.ensures.some.1 lm is).1)

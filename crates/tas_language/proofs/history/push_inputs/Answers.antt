@@ -1,7 +1,10 @@
-use Rattle.std.proofs.Common.{length, arith, ap, length-drop}
+use Rattle.std.proofs.Common.{◌++◌, List, length, arith, ap, sym, ◌∙◌, length-drop}
+use Rattle.std.proofs.lemmas.Bool.{eqb-false}
 use Rattle.std.proofs.lemmas.List.{take_rest}
-use Rattle.tas_language.proofs.HistoryLemmas.{run_begins, run_told, all_told}
-use Rattle.tas_language.proofs.history.push_runs.Goals as goal
+use Rattle.tas_movie.specs.declared.run.FrameRun.{FrameRun}
+use Rattle.tas_language.specs.History.{run_lines}
+use Rattle.tas_language.proofs.HistoryLemmas.{run_begins, run_told, all_told, runs_some}
+use Rattle.tas_language.proofs.history.push_inputs.Goals as goal
 
 pub loop-done-preserved : goal.loop-done-preserved
 loop-done-preserved g c =
@@ -18,4 +21,6 @@ loop-done-preserved g c =
     }
 
 pub returns : goal.returns
-returns g c = all_told c.loop-done.text.items c.args.prefix.now c.args.word.now c.args.inputs.now _ c.loop-done.done _ (omega (arith, c.loop-done-test.false)) c.loop-done.invariant.told
+returns g c =
+    all_told c.loop-done.text.items c.args.prefix.now c.args.word.now c.args.inputs.now _ c.loop-done.done _ (omega (arith, c.loop-done-test.false)) c.loop-done.invariant.told
+    ∙ ap (λ (runs : List FrameRun). c.args.text.now.items ++ run_lines c.args.prefix.now c.args.word.now c.args.at runs) (runs_some c.args.inputs.now (eqb-false _ _ (sym c.is_empty.ensures ∙ c.if-is_empty.false)))

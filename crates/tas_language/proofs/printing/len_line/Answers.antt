@@ -1,6 +1,6 @@
 use Rattle.std.proofs.Common.{arith}
 use Rattle.std.proofs.lemmas.Grind.{common_steps}
-use Rattle.tas_language.proofs.printing.no_frame_line.Goals as goal
+use Rattle.tas_language.proofs.printing.len_line.Goals as goal
 
 pub returns : goal.returns
 returns g c = grind (arith, common_steps)

@@ -1,7 +1,7 @@
 use Rattle.std.proofs.Common.{◌≡◌, ◌≤◌, ◌+◌, ◌-◌, ◌++◌, length, drop}
 use Rattle.tas_movie.specs.Runs.{runs_of}
 use Rattle.tas_language.specs.History.{run_lines}
-use Rattle.tas_language.proofs.history.push_runs.Given as goal
+use Rattle.tas_language.proofs.history.push_inputs.Given as goal
 
 abbrev pub invariant-loop-done : goal.invariant-loop-done
 invariant-loop-done g l = record {
