@@ -11,7 +11,6 @@ use Rattle.tas_movie.specs.declared.edit.EditRefusal.{EditRefusal}
 use Rattle.tas_movie.specs.declared.edit.EditRefusal.TheVariants.{Place as PlaceRefusal, Long as LongRefusal}
 use Rattle.tas_session.specs.declared.entry.Entry.{Entry}
 use Rattle.tas_session.specs.declared.replies.Receipt.{Receipt}
-use Rattle.tas_session.specs.declared.replies.EditError.{EditError}
 use Rattle.tas_session.specs.declared.replies.EditError.TheVariants.{Serial, Full, Memory}
 use Rattle.tas_session.specs.declared.replies.CommitError.{CommitError}
 use Rattle.tas_session.specs.declared.replies.CommitError.TheVariants.{Moved, Refused}
@@ -19,6 +18,7 @@ use Rattle.tas_session.specs.History.{most_edits, movie_of, entries_of}
 use Rattle.tas_session.specs.Session.{SessionContent, left_by, after_entry, error_at}
 use Rattle.tas_session.specs.Strokes.{entries_by, edited_by, refusal_in, refused_as, after_entries, commit_refusal, commit_refusal_at, IsCommitError}
 use Rattle.tas_session.proofs.HistoryLemmas.{movie_of-push}
+use Rattle.tas_desk.specs.Inside.Counting.{IsCounted}
 use Rattle.tas_desk.specs.Locked.{LockedContent, locked_of, locked_after, locked_after_all}
 use Rattle.tas_desk.specs.Seats.{SeatContent, seat_of}
 use Rattle.tas_desk.specs.Commits.{TellsLength, IsCommitted}
@@ -109,7 +109,7 @@ pub committed_at : {A : Type 0} (old new : LockedContent A) (before now : SeatCo
     → IfOk r (λ receipt. receipt ≡ record { at = length old.journal + length edits; len = length (edited_by (movie_of old.journal) edits).inputs })
     → MatchResult r (λ _. commit_refusal_at old.journal before.number before.made at edits ≡ None) (IsCommitError (commit_refusal_at old.journal before.number before.made at edits))
     → IfErr r (λ error. error ≡ Refused Memory → 0 < length edits) → OnOk r (new ≡ locked_after_all old (entries_by before.number before.made edits)) → OnErr r (new ≡ old)
-    → MatchResult r (λ _. now ≡ seat_of before.number (before.made + length edits) new.journal before.zone) (λ _. now ≡ seat_of before.number before.made new.journal before.zone)
+    → IsCounted before now new.journal (length edits) r
     → IsCommitted before now at edits r
 committed_at {A} old new before now at edits (Ok receipt) begins is none memory done refused seat =
     let may = may_commit old.journal (movie_of old.journal) before.number before.made at edits none in

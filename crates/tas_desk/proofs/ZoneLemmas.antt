@@ -30,7 +30,7 @@ seated_on {A} v w b cut sum number made z y s on same = record {
   fewer = (let more = entries_of-prefix number v.seen w.seen on.begins in let few = s.fewer in omega (arith, more, few));
 }
 
-pub marked : {A : Type 0} (known old new : VersionContent A) (copied : Option (MovieCopy A)) (list : List (Entry A)) → known ≡ old → version_after known copied ≡ version_of known.registry list → new ≡ version_after old copied → new ≡ version_of old.registry list
+marked : {A : Type 0} (known old new : VersionContent A) (copied : Option (MovieCopy A)) (list : List (Entry A)) → known ≡ old → version_after known copied ≡ version_of known.registry list → new ≡ version_after old copied → new ≡ version_of old.registry list
 marked {A} known old new copied list same found is =
     is ∙ ap (λ (m : VersionContent A). version_after m copied) (sym same) ∙ found ∙ ap (λ (m : VersionContent A). version_of m.registry list) same
 
@@ -47,9 +47,18 @@ pub shared_in_place : {E : Type 0} (old new : MovieContent) (zone other now : Li
 shared_in_place old new zone other now (Ok gained) lawful same states count = (zone, subst (λ (m : MovieContent). IsMoved old m zone zone) (sym same) (moved_same old zone lawful), states, count)
 shared_in_place old new zone other now (Err e) lawful same states count = tt
 
-pub made_for : {A : Type 0} (z y : ZoneContent A) (list : List (Entry A)) → y.made_for ≡ version_of z.made_for.registry list → y.movie ≡ movie_of y.made_for.history → IsLawful y.movie y.states → AreMovieStates y.movie y.window → IsMadeFor y list
-made_for {A} z y list marked movie lawful near =
-    let same = ap (λ (m : VersionContent A). m.history) marked in record { list = same; movie = movie ∙ ap (λ (h : List (Entry A)). movie_of h) same; lawful = lawful; near = near }
+-- a call brought a zone to the version that the seat's reader found: the zone is made for the history there
+pub brought_to : {A : Type 0} (known : VersionContent A) (z y : ZoneContent A) (copied : Option (MovieCopy A)) (list : List (Entry A)) → known ≡ z.made_for → version_after known copied ≡ version_of known.registry list
+    → y.made_for ≡ version_after z.made_for copied → y.movie ≡ movie_of y.made_for.history → IsLawful y.movie y.states → AreMovieStates y.movie y.window → IsMadeFor y list
+brought_to {A} known z y copied list same found is movie lawful near =
+    let here = ap (λ (m : VersionContent A). m.history) (marked known z.made_for y.made_for copied list same found is) in
+    record { list = here; movie = movie ∙ ap (λ (h : List (Entry A)). movie_of h) here; lawful = lawful; near = near }
+
+-- and the seat stands with it as before
+pub seated_at : {A : Type 0} (v w : ReaderView A) (b : Book) (cut sum number made : ℕ) (known : VersionContent A) (z y : ZoneContent A) (copied : Option (MovieCopy A)) (list : List (Entry A)) → IsSeated v b cut sum number made z → HasSeenMore v w
+    → known ≡ z.made_for → version_after known copied ≡ version_of known.registry list → y.made_for ≡ version_after z.made_for copied → IsSeated w b cut sum number made y
+seated_at {A} v w b cut sum number made known z y copied list seated more same found is =
+    seated_on v w b cut sum number made z y seated more (ap (λ (m : VersionContent A). m.registry) (marked known z.made_for y.made_for copied list same found is))
 
 -- a seat whose reader has seen more, and which made no edit
 pub seen_more : {A : Type 0} (v w : ReaderView A) (number made : ℕ) (before : SeatContent A) (z y : ZoneContent A) → seat_of number made v.seen z ≡ before → HasSeenMore v w → HasSeen before (seat_of number made w.seen y)

@@ -123,18 +123,19 @@ IsInput before now k (Ok found) = (found.0 ≡ length now.front) × (answer_inpu
 IsInput before now k (Err (NoFrame at len)) = (at ≡ length now.front) × (len ≡ length (movie_of now.front).inputs) × (len ≤ k)
 IsInput before now k (Err NoEntry) = now ≡ before
 
--- what a shot of frame k leaves in the seat's zone. Where the reader got no entry the seat is as it was
-abbrev pub IsZoneShot : {A B : Type 0} → SeatContent A → SeatContent A → ℕ → Result (Shot B) ShotError → Type 0
-IsZoneShot before now k (Ok shot) = IsPlayed before.zone now.zone now.front k shot.ran
-IsZoneShot before now k (Err NoShotEntry) = now ≡ before
-IsZoneShot before now k (Err (NoShotFrame at len)) = now.zone ≡ before.zone
-IsZoneShot before now k (Err NoShotMemory) = now.zone ≡ before.zone
-IsZoneShot before now k (Err (ShotHalted at halt)) = (ran : ℕ) × IsPlayed before.zone now.zone now.front k ran
+-- what a drawing leaves in the seat's zone, where `left` says what it leaves after this many played frames. Where the reader got
+-- no entry the seat is as it was
+abbrev pub IsZoneDrawn : {A B : Type 0} → (ℕ → Type 0) → SeatContent A → SeatContent A → Result (Shot B) ShotError → Type 0
+IsZoneDrawn left before now (Ok shot) = left shot.ran
+IsZoneDrawn left before now (Err NoShotEntry) = now ≡ before
+IsZoneDrawn left before now (Err (NoShotFrame at len)) = now.zone ≡ before.zone
+IsZoneDrawn left before now (Err NoShotMemory) = now.zone ≡ before.zone
+IsZoneDrawn left before now (Err (ShotHalted at halt)) = (ran : ℕ) × left ran
 
--- what a view of frame k leaves in the seat's zone and its window. Where the reader got no entry the seat is as it was
+-- what a shot of frame k leaves in the seat's zone
+abbrev pub IsZoneShot : {A B : Type 0} → SeatContent A → SeatContent A → ℕ → Result (Shot B) ShotError → Type 0
+IsZoneShot before now k result = IsZoneDrawn (IsPlayed before.zone now.zone now.front k) before now result
+
+-- what a view of frame k leaves in the seat's zone and its window
 abbrev pub IsZoneViewed : {A B : Type 0} → SeatContent A → SeatContent A → ℕ → Result (Shot B) ShotError → Type 0
-IsZoneViewed before now k (Ok shot) = IsViewed before.zone now.zone now.front k shot.ran
-IsZoneViewed before now k (Err NoShotEntry) = now ≡ before
-IsZoneViewed before now k (Err (NoShotFrame at len)) = now.zone ≡ before.zone
-IsZoneViewed before now k (Err NoShotMemory) = now.zone ≡ before.zone
-IsZoneViewed before now k (Err (ShotHalted at halt)) = (ran : ℕ) × IsViewed before.zone now.zone now.front k ran
+IsZoneViewed before now k result = IsZoneDrawn (IsViewed before.zone now.zone now.front k) before now result

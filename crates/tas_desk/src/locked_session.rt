@@ -13,6 +13,7 @@ ghost use Rattle.tas_session.specs.Session.{refusal_at, refusal_by, IsEditError}
 ghost use Rattle.tas_session.specs.Strokes.{edits_of, entries_by, edited_by, commit_refusal_at, IsCommitError};
 ghost use Rattle.tas_desk.specs.Locked.{locked_of, locked_after, locked_after_all};
 ghost use Rattle.tas_desk.specs.Zones.{CutsWindow, IsMadeFor, Shares};
+ghost use Rattle.tas_desk.specs.Inside.Counting.{IsCounted};
 ghost use Rattle.tas_desk.specs.Inside.Exporting.{FoundRange};
 ghost use Rattle.tas_desk.specs.Work.{IsJobFrom, Takes};
 ghost use Rattle.tas_desk.specs.Closing.{made_by};
@@ -175,10 +176,7 @@ impl<N: Name, W: CloseOnDrop, A: Allocator + Copy> LockedSession<N, W, A> {
         ensures done { OnOk result
             (self.new ≡ locked_after self.old (entry_of seat.old.number seat.old.made edit)) }
         ensures refused { OnErr result (self.new ≡ self.old) }
-        ensures seat { MatchResult result
-            (λ _. seat.new
-            ≡ seat_of seat.old.number (seat.old.made + 1) self.new.journal seat.old.zone)
-            (λ _. seat.new ≡ seat_of seat.old.number seat.old.made self.new.journal seat.old.zone) }
+        ensures seat { IsCounted seat.old seat.new self.new.journal 1 result }
     {
         self.session.show_to(rt, &mut seat.reader);
         let receipt = self.session.edit(rt, seat.number, seat.made, edit)?;
@@ -213,10 +211,7 @@ impl<N: Name, W: CloseOnDrop, A: Allocator + Copy> LockedSession<N, W, A> {
             (entry_of seat.old.number seat.old.made
             (P.edit_in plan.now (movie_of self.old.journal)))) }
         ensures refused { OnErr result (self.new ≡ self.old) }
-        ensures seat { MatchResult result
-            (λ _. seat.new
-            ≡ seat_of seat.old.number (seat.old.made + 1) self.new.journal seat.old.zone)
-            (λ _. seat.new ≡ seat_of seat.old.number seat.old.made self.new.journal seat.old.zone) }
+        ensures seat { IsCounted seat.old seat.new self.new.journal 1 result }
     {
         self.session.show_to(rt, &mut seat.reader);
         let alloc = seat.zone.allocator();
@@ -248,10 +243,8 @@ impl<N: Name, W: CloseOnDrop, A: Allocator + Copy> LockedSession<N, W, A> {
         ensures done { OnOk result (self.new ≡ locked_after_all self.old
             (entries_by seat.old.number seat.old.made (edits_of stroke))) }
         ensures refused { OnErr result (self.new ≡ self.old) }
-        ensures seat { MatchResult result
-            (λ _. seat.new ≡ seat_of seat.old.number (seat.old.made + length (edits_of stroke))
-            self.new.journal seat.old.zone)
-            (λ _. seat.new ≡ seat_of seat.old.number seat.old.made self.new.journal seat.old.zone) }
+        ensures seat { IsCounted seat.old seat.new self.new.journal
+            (length (edits_of stroke)) result }
     {
         self.session.show_to(rt, &mut seat.reader);
         let count = stroke.count();

@@ -5,9 +5,9 @@ ghost use Rattle.tas_green.specs.Grid.{most_states};
 ghost use Rattle.tas_green.specs.Run.{state_after, picture_of, answer_of};
 ghost use Rattle.tas_green.specs.Green.{IsLawful, IsMoved, IsShotFrom, IsReachedFrom};
 ghost use Rattle.tas_green.specs.Zone.{state_at};
-ghost use Rattle.tas_green.specs.Window.{AreMovieStates, IsWindowMoved, IsViewFrom, IsOneAway, both};
+ghost use Rattle.tas_green.specs.Window.{AreMovieStates, IsViewFrom, both};
 ghost use Rattle.tas_session.specs.History.{movie_of};
-ghost use Rattle.tas_desk.specs.Zones.{Shares, blank_zone};
+ghost use Rattle.tas_desk.specs.Zones.{CutsWindow, IsZoneAway, Shares, blank_zone};
 ghost use Rattle.tas_session.specs.Readings.{version_after};
 
 use crate::Entry;
@@ -136,8 +136,7 @@ impl<A: Allocator + Copy> SeatZone<A> {
             meter.new) }
         ensures lawful { OnOk result (IsLawful self.new.movie self.new.states) }
         ensures near { OnOk result (AreMovieStates self.new.movie self.new.window) }
-        ensures cut { OnOk result
-            (IsWindowMoved self.old.movie self.new.movie self.old.window self.new.window) }
+        ensures cut { OnOk result (CutsWindow self.old self.new) }
         ensures memory { OnErr result ((self.new ≡ self.old) × (meter.new ≡ meter.old)) }
     {
         let old = &self.made_for;
@@ -177,8 +176,7 @@ impl<A: Allocator + Copy> SeatZone<A> {
             viewed.ran) }
         ensures lawful { OnOk result (IsLawful self.new.movie self.new.states) }
         ensures near { OnOk result (AreMovieStates self.new.movie self.new.window) }
-        ensures forward { OnOk result
-            (IsOneAway self.new.movie (k + 1) (both self.new.states self.new.window)) }
+        ensures forward { OnOk result (IsZoneAway self.new (k + 1)) }
         ensures memory { OnErr result (self.new ≡ self.old) }
     {
         let old = &self.made_for;
@@ -217,8 +215,7 @@ impl<A: Allocator + Copy> SeatZone<A> {
             meter.new) }
         ensures lawful { OnOk result (IsLawful self.new.movie self.new.states) }
         ensures near { OnOk result (AreMovieStates self.new.movie self.new.window) }
-        ensures cut { OnOk result
-            (IsWindowMoved self.old.movie self.new.movie self.old.window self.new.window) }
+        ensures cut { OnOk result (CutsWindow self.old self.new) }
         ensures memory { OnErr result ((self.new ≡ self.old) × (meter.new ≡ meter.old)) }
     {
         let old = &self.made_for;
@@ -251,8 +248,7 @@ impl<A: Allocator + Copy> SeatZone<A> {
             (Shares self.old.movie movie.now self.old.states other.now self.new.states) }
         ensures lawful { OnOk result (IsLawful self.new.movie self.new.states) }
         ensures near { OnOk result (AreMovieStates self.new.movie self.new.window) }
-        ensures cut { OnOk result
-            (IsWindowMoved self.old.movie self.new.movie self.old.window self.new.window) }
+        ensures cut { OnOk result (CutsWindow self.old self.new) }
         ensures memory { OnErr result (self.new ≡ self.old) }
     {
         let old = &self.made_for;

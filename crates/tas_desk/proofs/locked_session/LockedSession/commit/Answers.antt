@@ -1,5 +1,4 @@
-use Rattle.std.proofs.lemmas.Grind.{common_steps}
-use Rattle.std.proofs.Common.{ap, rules, arith}
+use Rattle.std.proofs.Common.{ap}
 use Rattle.std.proofs.lemmas.Result.{err_from_is_err_and}
 use Rattle.tas_session.specs.Strokes.{edits_of}
 use Rattle.tas_desk.specs.Locked.{LockedContent}

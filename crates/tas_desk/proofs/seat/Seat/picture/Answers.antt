@@ -1,29 +1,24 @@
 use Rattle.std.proofs.lemmas.Grind.{common_steps}
 use Rattle.std.proofs.Common.{ap, subst, refl, arith}
-use Rattle.tas_session.specs.Version.{VersionContent}
 use Rattle.tas_desk.specs.Seats.{SeatContent}
 use Rattle.tas_desk.specs.Zones.{ZoneContent, IsShort, IsViewed}
 use Rattle.tas_desk.proofs.CutLemmas.{short_view}
-use Rattle.tas_desk.proofs.ZoneLemmas.{seated_on, marked, made_for, seen_more}
+use Rattle.tas_desk.proofs.ZoneLemmas.{seated_on, seated_at, brought_to, seen_more}
 use Rattle.tas_session.proofs.ShotLemmas.{shot_at, so_many, where_shown}
-use Rattle.tas_desk.proofs.ZoneShotLemmas.{zone_viewed}
+use Rattle.tas_desk.proofs.ZoneShotLemmas.{zone_drawn}
 use Rattle.tas_desk.proofs.seat.Seat.picture.Goals as goal
 
 pub returns-clause-zone : goal.returns-clause-zone
 returns-clause-zone g c =
     let e = c.in-Ok-view.ensures in
-    let zone = c.self.inside.zone in
-    let new = marked c.version.result.now zone.made_for c.view.new.self.made_for c.in_ok-at.copied c.copy.new.self.seen c.version.ensures c.in_ok-at.ensures.3 e.made_for in
-    let made = made_for zone c.view.new.self c.copy.new.self.seen new e.movie e.lawful e.near in
-    zone_viewed c.args.self.now _ _ _ c.in-Ok-view.viewed.ran _ c.in-Ok-view.viewed.end _ c.shown.ensures.shot c.shown.ensures.halted
+    let made = brought_to c.version.result.now c.self.inside.zone c.view.new.self c.in_ok-at.copied c.copy.new.self.seen c.version.ensures c.in_ok-at.ensures.3 e.made_for e.movie e.lawful e.near in
+    zone_drawn (IsViewed c.args.self.now.zone c.view.new.self c.copy.new.self.seen c.args.k) c.args.self.now _ _ _ c.in-Ok-view.viewed.ran _ c.in-Ok-view.viewed.end _ c.shown.ensures.shot c.shown.ensures.halted
     (subst (λ (z : ZoneContent _). IsViewed z c.view.new.self c.copy.new.self.seen c.args.k c.in-Ok-view.viewed.ran) (ap (λ (s : SeatContent _). s.zone) c.self.view_is) (record { made = made; view = e.kept }))
 
 pub returns-clause-reply : goal.returns-clause-reply
 returns-clause-reply g c =
     let e = c.in-Ok-view.ensures in
-    let zone = c.self.inside.zone in
-    let new = marked c.version.result.now zone.made_for c.view.new.self.made_for c.in_ok-at.copied c.copy.new.self.seen c.version.ensures c.in_ok-at.ensures.3 e.made_for in
-    let made = made_for zone c.view.new.self c.copy.new.self.seen new e.movie e.lawful e.near in
+    let made = brought_to c.version.result.now c.self.inside.zone c.view.new.self c.in_ok-at.copied c.copy.new.self.seen c.version.ensures c.in_ok-at.ensures.3 e.made_for e.movie e.lawful e.near in
     shot_at c.copy.new.self.seen c.view.new.self.movie _ _ c.in-Ok-view.viewed.ran _ c.in-Ok-view.viewed.end _ made.movie c.in_ok-at.ensures.1 c.in_ok-at.ensures.2 e.answer e.picture c.shown.ensures.shot c.shown.ensures.halted
 
 pub returns-clause-short : goal.returns-clause-short
@@ -43,9 +38,7 @@ invariant_of-self-in_default-view g c =
 
 pub invariant_of-self-2 : goal.invariant_of-self-2
 invariant_of-self-2 g c =
-    let zone = c.self.inside.zone in
-    let new = marked c.version.result.now zone.made_for c.view.new.self.made_for c.in_ok-at.copied c.copy.new.self.seen c.version.ensures c.in_ok-at.ensures.3 c.in-Ok-view.ensures.made_for in
-    seated_on _ _ _ _ _ _ _ zone c.view.new.self c.self.invariant c.in_ok-at.ensures.0 (ap (λ (m : VersionContent _). m.registry) new)
+    seated_at _ _ _ _ _ _ _ c.version.result.now c.self.inside.zone c.view.new.self c.in_ok-at.copied c.copy.new.self.seen c.self.invariant c.in_ok-at.ensures.0 c.version.ensures c.in_ok-at.ensures.3 c.in-Ok-view.ensures.made_for
 
 pub returns-clause-seat : goal.returns-clause-seat
 returns-clause-seat g c = seen_more c.self.inside.reader c.copy.new.self _ _ _ c.self.inside.zone c.view.new.self c.self.view_is c.in_ok-at.ensures.0

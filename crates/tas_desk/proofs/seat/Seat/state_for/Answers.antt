@@ -2,28 +2,24 @@ use Rattle.std.proofs.lemmas.Grind.{common_steps}
 use Rattle.std.proofs.Common.{◌∙◌, ap, sym, subst, subst₂, arith}
 use Rattle.tas_green.specs.Green.{IsReachedFrom}
 use Rattle.tas_green.specs.Run.{state_after}
-use Rattle.tas_session.specs.Version.{VersionContent}
 use Rattle.tas_desk.specs.Seats.{SeatContent}
 use Rattle.tas_desk.specs.States.{IsReached}
 use Rattle.tas_desk.specs.Zones.{ZoneContent, CutsWindow}
-use Rattle.tas_desk.proofs.ZoneLemmas.{seated_on, marked, made_for, seen_more}
+use Rattle.tas_desk.proofs.ZoneLemmas.{seated_on, seated_at, brought_to, seen_more}
 use Rattle.tas_desk.proofs.seat.Seat.state_for.Goals as goal
 
 pub returns-clause-zone : goal.returns-clause-zone
 returns-clause-zone g c =
     let e = c.in-Ok-reach.ensures in
     let zone = c.self.inside.zone in
-    let new = marked c.version.result.now zone.made_for c.reach.new.self.made_for c.in_ok-at.copied c.copy_of.new.self.seen c.version.ensures c.in_ok-at.ensures.3 e.made_for in
     let kept = subst₂ (λ meter rose. IsReachedFrom zone.movie c.reach.new.self.movie c.args.from zone.states c.reach.new.self.states meter rose) c.new-meter.ensures (sym c.count.ensures) e.kept in
-    let made = made_for zone c.reach.new.self c.copy_of.new.self.seen new e.movie e.lawful e.near in
+    let made = brought_to c.version.result.now zone c.reach.new.self c.in_ok-at.copied c.copy_of.new.self.seen c.version.ensures c.in_ok-at.ensures.3 e.made_for e.movie e.lawful e.near in
     subst (λ (z : ZoneContent _). IsReached z c.reach.new.self c.copy_of.new.self.seen c.args.from c.count.result) (ap (λ (s : SeatContent _). s.zone) c.self.view_is) (record { made = made; reach = kept })
 
 pub returns-clause-reply : goal.returns-clause-reply
 returns-clause-reply g c =
     let e = c.in-Ok-reach.ensures in
-    let zone = c.self.inside.zone in
-    let new = marked c.version.result.now zone.made_for c.reach.new.self.made_for c.in_ok-at.copied c.copy_of.new.self.seen c.version.ensures c.in_ok-at.ensures.3 e.made_for in
-    let made = made_for zone c.reach.new.self c.copy_of.new.self.seen new e.movie e.lawful e.near in
+    let made = brought_to c.version.result.now c.self.inside.zone c.reach.new.self c.in_ok-at.copied c.copy_of.new.self.seen c.version.ensures c.in_ok-at.ensures.3 e.made_for e.movie e.lawful e.near in
     (c.if-from-to.false, c.in_ok-at.ensures.2, e.state ∙ ap (λ m. state_after m c.args.from) made.movie, c.in_ok-at.ensures.1)
 
 pub invariant_of-self-in_default : goal.invariant_of-self-in_default
@@ -32,9 +28,7 @@ invariant_of-self-in_default g c =
 
 pub invariant_of-self-2 : goal.invariant_of-self-2
 invariant_of-self-2 g c =
-    let zone = c.self.inside.zone in
-    let new = marked c.version.result.now zone.made_for c.reach.new.self.made_for c.in_ok-at.copied c.copy_of.new.self.seen c.version.ensures c.in_ok-at.ensures.3 c.in-Ok-reach.ensures.made_for in
-    seated_on _ _ _ _ _ _ _ zone c.reach.new.self c.self.invariant c.in_ok-at.ensures.0 (ap (λ (m : VersionContent _). m.registry) new)
+    seated_at _ _ _ _ _ _ _ c.version.result.now c.self.inside.zone c.reach.new.self c.in_ok-at.copied c.copy_of.new.self.seen c.self.invariant c.in_ok-at.ensures.0 c.version.ensures c.in_ok-at.ensures.3 c.in-Ok-reach.ensures.made_for
 
 pub returns-clause-seat : goal.returns-clause-seat
 returns-clause-seat g c = seen_more c.self.inside.reader c.copy_of.new.self _ _ _ c.self.inside.zone c.reach.new.self c.self.view_is c.in_ok-at.ensures.0
