@@ -70,6 +70,18 @@ const OPTIONAL_FRAME: WordKind = WordKind::OptionalNumber {
     most: MAX_FRAME_NUMBER,
 };
 
+const FROM: Word = Word {
+    name: "FROM",
+    help: "The first frame, counted from 0",
+    kind: FRAME,
+};
+
+const TO: Word = Word {
+    name: "TO",
+    help: "The frame after the last one",
+    kind: FRAME,
+};
+
 const OLD: Word = Word {
     name: "OLD",
     help: "The file with the older movie's text",
@@ -144,16 +156,8 @@ static FIRST_SUBCOMMANDS: [Subcommand; 10] = [
         help: EXPORT_HELP,
         words: &[
             CARTRIDGE,
-            Word {
-                name: "FROM",
-                help: "The first frame, counted from 0",
-                kind: FRAME,
-            },
-            Word {
-                name: "TO",
-                help: "The frame after the last one",
-                kind: FRAME,
-            },
+            FROM,
+            TO,
             Word {
                 name: "WORKERS",
                 help: "How many threads play them, 1 to 16",
@@ -239,19 +243,7 @@ static LATER_SUBCOMMANDS: [Subcommand; 6] = [
         name: "cut",
         about: "Writes the text of the movie of some frames of a movie alone",
         help: CUT_HELP,
-        words: &[
-            CARTRIDGE,
-            Word {
-                name: "FROM",
-                help: "The first frame, counted from 0",
-                kind: FRAME,
-            },
-            Word {
-                name: "TO",
-                help: "The frame after the last one",
-                kind: FRAME,
-            },
-        ],
+        words: &[CARTRIDGE, FROM, TO],
     },
     Subcommand {
         name: "diff",

@@ -58,15 +58,7 @@ impl<N: Name> Caller<N> {
         desk: &Desk<N, W>,
         round: usize,
     ) {
-        let saw = match (round, self.role) {
-            (0, Role::LeftEditor) => self.make_movie(rt, alloc, desk),
-            (1, Role::LeftEditor) => self.hold_right(rt, alloc, desk),
-            (1, Role::Worker) => self.work(rt, alloc, desk),
-            (1, Role::Viewer) => self.look(alloc, desk, 100),
-            (2, Role::RightEditor) => self.add_fire(rt, alloc, desk),
-            (2, Role::Viewer) => self.look_ahead(rt, alloc, desk),
-            _ => Ok(None),
-        };
+        let saw = self.turn(rt, alloc, desk, round);
         self.saw = saw;
     }
 
@@ -79,6 +71,25 @@ impl<N: Name> Caller<N> {
         Ok(())
     }
 
+    /// Does what its role has for this round.
+    fn turn<W: CloseOnDrop, R: Wait>(
+        &mut self,
+        rt: &R,
+        alloc: Global,
+        desk: &Desk<N, W>,
+        round: usize,
+    ) -> Result<Option<String>> {
+        match (round, self.role) {
+            (0, Role::LeftEditor) => self.make_movie(rt, alloc, desk),
+            (1, Role::LeftEditor) => self.edit(rt, alloc, desk, hold_right(alloc)?),
+            (1, Role::Worker) => self.work(rt, alloc, desk, &[64, 128]),
+            (1, Role::Viewer) => self.look(alloc, desk, 100),
+            (2, Role::RightEditor) => self.edit(rt, alloc, desk, add_fire(alloc)?),
+            (2, Role::Viewer) => self.look_ahead(rt, alloc, desk, 140),
+            _ => Ok(None),
+        }
+    }
+
     /// Puts the cartridge in, and 200 frames in which nothing is pressed.
     fn make_movie<W: CloseOnDrop, R: Wait>(
         &mut self,
@@ -88,47 +99,30 @@ impl<N: Name> Caller<N> {
     ) -> Result<Option<String>> {
         let cart = playfield_cart(alloc)?;
         desk.edit(rt, &mut self.seat, Edit::Load(cart))?;
-        let inputs = Inputs::repeated(alloc, Input::none(), 200)?;
-        let made = desk.edit(rt, &mut self.seat, Edit::Insert { at: 0, inputs })?;
-        Ok(Some(format!(in alloc; "edit {}, {} frames", made.at, made.len)?))
+        self.edit(rt, alloc, desk, add_frames(alloc)?)
     }
 
-    /// Holds the left stick to the right in frames 150 to 159.
-    fn hold_right<W: CloseOnDrop, R: Wait>(
+    /// Makes an edit.
+    fn edit<W: CloseOnDrop, R: Wait>(
         &mut self,
         rt: &R,
         alloc: Global,
         desk: &Desk<N, W>,
+        edit: Edit,
     ) -> Result<Option<String>> {
-        let mut input = Input::none();
-        input.left.right = true;
-        let inputs = Inputs::repeated(alloc, input, 10)?;
-        let made = desk.edit(rt, &mut self.seat, Edit::Replace { at: 150, inputs })?;
+        let made = desk.edit(rt, &mut self.seat, edit)?;
         Ok(Some(format!(in alloc; "edit {}, {} frames", made.at, made.len)?))
     }
 
-    /// Presses fire in 20 frames after the last one.
-    fn add_fire<W: CloseOnDrop, R: Wait>(
-        &mut self,
-        rt: &R,
-        alloc: Global,
-        desk: &Desk<N, W>,
-    ) -> Result<Option<String>> {
-        let mut input = Input::none();
-        input.right.fire = true;
-        let inputs = Inputs::repeated(alloc, input, 20)?;
-        let made = desk.edit(rt, &mut self.seat, Edit::Insert { at: 200, inputs })?;
-        Ok(Some(format!(in alloc; "edit {}, {} frames", made.at, made.len)?))
-    }
-
-    /// Plays up to frames 64 and 128. The edit of the same round is after them, so their states stay valid.
+    /// Plays up to these frames. The edit of the same round is after them, so their states stay valid.
     fn work<W: CloseOnDrop, R: Wait>(
         &mut self,
         rt: &R,
         alloc: Global,
         desk: &Desk<N, W>,
+        frames: &[usize],
     ) -> Result<Option<String>> {
-        let worked = desk.work(rt, alloc, &mut self.seat, &[64, 128], &NoGate)?;
+        let worked = desk.work(rt, alloc, &mut self.seat, frames, &NoGate)?;
         Ok(Some(format!(in alloc; "{} jobs, {} states", worked.jobs, worked.kept)?))
     }
 
@@ -149,12 +143,35 @@ impl<N: Name> Caller<N> {
         rt: &R,
         alloc: Global,
         desk: &Desk<N, W>,
+        frame: usize,
     ) -> Result<Option<String>> {
         let gained = desk.share(rt, &mut self.seat)?;
-        let shot = desk.shot(alloc, &mut self.seat, 140)?;
+        let shot = desk.shot(alloc, &mut self.seat, frame)?;
         let drawn = describe(alloc, &shot)?;
         Ok(Some(format!(in alloc; "{gained} state gained; {drawn}")?))
     }
+}
+
+/// 200 frames in which nothing is pressed.
+fn add_frames(alloc: Global) -> Result<Edit, AllocError> {
+    let inputs = Inputs::repeated(alloc, Input::none(), 200)?;
+    Ok(Edit::Insert { at: 0, inputs })
+}
+
+/// Holds the left stick to the right in frames 150 to 159.
+fn hold_right(alloc: Global) -> Result<Edit, AllocError> {
+    let mut input = Input::none();
+    input.left.right = true;
+    let inputs = Inputs::repeated(alloc, input, 10)?;
+    Ok(Edit::Replace { at: 150, inputs })
+}
+
+/// Presses fire in 20 frames after the last one.
+fn add_fire(alloc: Global) -> Result<Edit, AllocError> {
+    let mut input = Input::none();
+    input.right.fire = true;
+    let inputs = Inputs::repeated(alloc, input, 20)?;
+    Ok(Edit::Insert { at: 200, inputs })
 }
 
 /// A picture in words.
