@@ -22,6 +22,7 @@ use Rattle.tas_engines.specs.Movies.{IsMovieOf, IsMovieFault}
 use Rattle.tas_engines.specs.Tracing.{IsImageFault}
 use Rattle.tas_tool.specs.Talk.{IsUntouched, IsCartTalk, IsMovieTalk, DraftedState, drafted, AreExchanges, IsTalk, fresh_talk_state, talk_state_from}
 use Rattle.tas_tool.specs.Inside.Alone.{SeesOwn, StartsTalk}
+use Rattle.tas_tool.specs.Inside.Holding.{ReadsMovie}
 use Rattle.tas_seat.specs.Turns.{Standing, standing_of}
 use Rattle.tas_seat.specs.Requests.{TalkState}
 use Rattle.tas_tool.specs.Scripts.{standing_at_start}
@@ -124,15 +125,7 @@ cart_started cart cart' read image movie whole same long is = λ input input' ou
 
 -- ---- over a movie
 
-pub movie_unread : (cart cart' movie movie' : Option (List ℕ)) (fault : ReadFault) (e : ToolFault) → StopsReadingTwo cart cart' movie movie' fault → e ≡ Read fault → StartsTalk (IsMovieTalk cart cart' movie movie') (Err e)
-movie_unread cart cart' movie movie' fault e stops is = λ input output. inl (fault, ap Err is, stops, untouched input output)
-
-pub movie_unmade : (cart cart' movie movie' : Option (List ℕ)) (read image read' said : List ℕ) (fault : RunFault) (e : ToolFault) → IsReadWhole cart cart' read → image ≡ read → IsReadWhole movie movie' read' → said ≡ read'
-    → IsMovieFault image said fault → e ≡ Run fault → StartsTalk (IsMovieTalk cart cart' movie movie') (Err e)
-movie_unmade cart cart' movie movie' read image read' said fault e whole same whole' same' why is = λ input output.
-    inr (image, said, subst (IsReadWhole cart cart') (sym same) whole, subst (IsReadWhole movie movie') (sym same') whole', inl (fault, ap Err is, why, untouched input output))
-
-pub movie_started : (cart cart' movie movie' : Option (List ℕ)) (read image read' said : List ℕ) (content : MovieContent) → IsReadWhole cart cart' read → image ≡ read → IsReadWhole movie movie' read' → said ≡ read'
-    → IsMovieOf image said content → StartsTalk (IsMovieTalk cart cart' movie movie') (Ok content)
-movie_started cart cart' movie movie' read image read' said content whole same whole' same' is = λ input input' output output' end talk.
-    inr (image, said, subst (IsReadWhole cart cart') (sym same) whole, subst (IsReadWhole movie movie') (sym same') whole', inr (content, is, talk))
+pub movie_begun : (cart cart' movie movie' : Option (List ℕ)) (read : Result MovieContent ToolFault) → ReadsMovie cart cart' movie movie' read → StartsTalk (IsMovieTalk cart cart' movie movie') read
+movie_begun cart cart' movie movie' (Ok content) (image, said, whole, whole', is) = λ input input' output output' end talk. inr (image, said, whole, whole', inr (content, is, talk))
+movie_begun cart cart' movie movie' (Err end) (inl (fault, is, stops)) = λ input output. inl (fault, ap Err is, stops, untouched input output)
+movie_begun cart cart' movie movie' (Err end) (inr (image, said, whole, whole', (fault, is, why))) = λ input output. inr (image, said, whole, whole', inl (fault, ap Err is, why, untouched input output))

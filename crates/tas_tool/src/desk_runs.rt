@@ -7,16 +7,17 @@ ghost use Rattle.tas_session.specs.History.{movie_of};
 ghost use Rattle.tas_desk.specs.Seats.{most_seats, name_of};
 ghost use Rattle.tas_engines.specs.declared.fault.RunFault.TheVariants.{Memory, NoPlace};
 ghost use Rattle.tas_tool.specs.Desks.{first_fault, IsDeskHistory, IsDeskOn, IsDeskRun, IsUnwritten};
-ghost use Rattle.tas_tool.specs.Inside.Holding.{AreFresh, ReadsMovie};
+ghost use Rattle.tas_tool.specs.Inside.Holding.{AreFresh};
 
 use crate::holding::{Held, Room, hold_made, put_for_all};
+use crate::making::read_movie;
 use std::alloc::Allocator;
 use std::io::{Read, Write};
 use std::marker::Brand;
 use std::sync::Wait;
 use std::thread::Threads;
 use tas_desk::{Desk, Name, OpenError, Seat, Unopened};
-use tas_engines::{RunFault, SeatFault, ToolFault, movie_of, read_two, write_all};
+use tas_engines::{RunFault, SeatFault, ToolFault, write_all};
 use tas_movie::{Movie, print_text};
 use tas_seat::Door;
 
@@ -135,28 +136,12 @@ fn desk_on<
     first_fault(held.ends.as_slice())
 }
 
-/// Reads a cartridge and a movie text, and makes the movie of them. What was read is dropped here, since conversations may be
-/// long.
-///
-/// Faults, in order: those of [`read_two`], then those of [`movie_of`].
-fn read_movie<A: Allocator + Copy, C: Read, M: Read>(
-    alloc: A,
-    cart: &mut C,
-    movie: &mut M,
-) -> Result<Movie<A>, ToolFault>
-    ensures { ReadsMovie (C.remaining cart.old) (C.remaining cart.new) (M.remaining movie.old)
-        (M.remaining movie.new) result }
-{
-    let (image, bytes) = read_two(alloc, cart, movie)?;
-    Ok(movie_of(alloc, image.as_slice(), bytes.as_slice())?)
-}
-
 /// Reads a cartridge and a movie text, and holds a conversation at each door, 1 to [`MAX_SEATS`](tas_desk::MAX_SEATS) of them: all on
 /// this movie, each by a seat of its own on a thread of its own. Seat 0 makes the movie by two edits that no answer reports, and each
 /// seat has seen them before its first line is answered. Once all conversations have ended it writes the text of the movie that
 /// all their edits have made. The doors come back, in their order.
 ///
-/// Faults, in order: those of [`read_two`], then those of [`movie_of`]; `Memory` and `NoPlace` for the desk; each of these before a door
+/// Faults, in order: those of [`read_two`](tas_engines::read_two), then those of [`movie_of`](tas_engines::movie_of); `Memory` and `NoPlace` for the desk; each of these before a door
 /// is opened. Then, with nothing undone, `Memory` for the text and `Write` for its write; and, with the movie written, `Seat`: the fault
 /// of the first seat whose conversation ended with one. `Foreign` never comes.
 pub fn desk_run<

@@ -1,14 +1,16 @@
-//! A movie that a desk's seat makes by its first two edits.
+//! The movie that a desk begins with: it is read, and a seat makes it by its first two edits.
 
 ghost use Rattle.std.specs.Prelude.{◌≡◌, ◌≤◌, [], length, OnOk, IfOk, IfErr};
 ghost use Rattle.tas_movie.specs.Content.{most_inputs};
 ghost use Rattle.tas_engines.specs.declared.fault.RunFault.TheVariants.{Memory};
+ghost use Rattle.tas_tool.specs.Inside.Holding.{ReadsMovie};
 ghost use Rattle.tas_tool.specs.Inside.TwoEdits.{checked_end, edit_fault, HoldsMovie, IsMakingFault, IsUnrefused};
 
 use std::alloc::{AllocError, Allocator};
+use std::io::Read;
 use std::sync::Wait;
 use tas_desk::{CloseOnDrop, Desk, EditError, Name, Seat};
-use tas_engines::RunFault;
+use tas_engines::{RunFault, ToolFault, movie_of, read_two};
 use tas_movie::{Edit, Inputs, Movie};
 use vcs_machine::Cart;
 
@@ -34,6 +36,22 @@ fn edit_fault(error: EditError) -> RunFault
         EditError::Memory => RunFault::Memory,
         _ => RunFault::Foreign,
     }
+}
+
+/// Reads a cartridge and a movie text, and makes the movie of them. What was read is dropped here, since conversations may be
+/// long.
+///
+/// Faults, in order: those of [`read_two`], then those of [`movie_of`].
+pub fn read_movie<A: Allocator + Copy, C: Read, M: Read>(
+    alloc: A,
+    cart: &mut C,
+    movie: &mut M,
+) -> Result<Movie<A>, ToolFault>
+    ensures { ReadsMovie (C.remaining cart.old) (C.remaining cart.new) (M.remaining movie.old)
+        (M.remaining movie.new) result }
+{
+    let (image, bytes) = read_two(alloc, cart, movie)?;
+    Ok(movie_of(alloc, image.as_slice(), bytes.as_slice())?)
 }
 
 /// Copies of a movie's cartridge and inputs.

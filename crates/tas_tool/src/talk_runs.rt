@@ -8,14 +8,14 @@ ghost use Rattle.tas_movie.specs.Content.{blank_movie};
 ghost use Rattle.tas_tool.specs.Talk.{talk_state_from, IsCartTalk, IsMovieTalk, IsTalk};
 ghost use Rattle.tas_tool.specs.Inside.Alone.{SeesOwn, StartsTalk};
 
-use crate::making::put_movie;
+use crate::making::{put_movie, read_movie};
 use crate::opening::open_alone;
 use std::alloc::Allocator;
 use std::io::{Read, Write};
 use std::marker::Brand;
 use std::sync::Wait;
 use tas_desk::{CloseOnDrop, Desk, Name, Seat, Unopened};
-use tas_engines::{RunFault, ToolFault, movie_of, read_input, read_two};
+use tas_engines::{RunFault, ToolFault, read_input};
 use tas_movie::Movie;
 use tas_seat::converse;
 use vcs_machine::Cart;
@@ -110,23 +110,6 @@ fn read_blank_movie<A: Allocator + Copy, C: Read>(
     Ok(blank_movie_of(alloc, image.as_slice())?)
 }
 
-/// Reads a cartridge and a movie text, and makes the movie of them. What was read is dropped here, since a conversation may be
-/// long.
-///
-/// Faults, in order: those of [`read_two`], then those of [`movie_of`].
-fn read_movie<A: Allocator + Copy, C: Read, M: Read>(
-    alloc: A,
-    cart: &mut C,
-    movie: &mut M,
-) -> Result<Movie<A>, ToolFault>
-    ensures { StartsTalk
-        (IsMovieTalk (C.remaining cart.old) (C.remaining cart.new) (M.remaining movie.old)
-        (M.remaining movie.new)) result }
-{
-    let (image, bytes) = read_two(alloc, cart, movie)?;
-    Ok(movie_of(alloc, image.as_slice(), bytes.as_slice())?)
-}
-
 /// Reads lines and answers each of them, from a blank cartridge with no inputs on: an answer is handed out whole before more
 /// is read. The lines are those of a [`Request`](tas_language::Request): a script's, edits that depend on the movie's frames, looks,
 /// `share`, `history`, those about drafts, and `quit`. Another line, or one of more than [`MAX_LINE`](tas_language::MAX_LINE) bytes, is
@@ -170,7 +153,7 @@ pub fn cart_talk_run<A: Allocator + Copy, T: Wait, C: Read, R: Read, W: Write>(
 /// Reads a cartridge and a movie text, and then talks as [`talk_run`] does, but from this movie on: its cartridge is loaded and
 /// its inputs are put in by two edits that no answer reports.
 ///
-/// Faults, in order: those of [`read_two`], then those of [`movie_of`], each before anything is read of the input or written; then those
+/// Faults, in order: those of [`read_two`](tas_engines::read_two), then those of [`movie_of`](tas_engines::movie_of), each before anything is read of the input or written; then those
 /// of `talk_run`.
 pub fn movie_talk_run<A: Allocator + Copy, T: Wait, C: Read, M: Read, R: Read, W: Write>(
     rt: &T,
