@@ -2,7 +2,6 @@
 use Rattle.std.proofs.Common.{◌≡◌, ℕ, ◌+◌, ◌<◌, List, [], length, Bool, true, false, Option, Some, None, Result, Ok, Err, IfOk, inl, inr, refl, sym, ap, subst, ◌∙◌}
 use Rattle.std.specs.Prelude.{MatchResult, take, drop}
 use Rattle.std.proofs.lemmas.Bool.{lt-ltb}
-use Rattle.std.proofs.lemmas.Result.{MatchResult-weaker}
 use Rattle.vcs_cpu.specs.declared.halt.Halt.{Halt}
 use Rattle.vcs_tia.specs.Image.{ppm_bytes}
 use Rattle.tas_movie.specs.Content.{MovieContent}
@@ -33,39 +32,29 @@ use Rattle.tas_seat.specs.HistoryText.{history_reply_text}
 use Rattle.tas_seat.specs.Seats.{talk_state_at, most_entries, IsAnswered}
 use Rattle.tas_seat.specs.Outcomes.{unshown_as, IsEditAnswered, IsMiscounted, IsUnanswered, HasAnswer, HasNoAnswer}
 use Rattle.tas_seat.proofs.SeatLemmas.{seen_same, looked_at, rests, green_at, views_at, gains_at, answered_here}
+use Rattle.tas_seat.proofs.TextLemmas.{text_or_memory, made_or_memory, reply_or_fault}
 
 -- ---- answers and faults
-
--- another name of the answer's bytes
-answer_as : {A : Type 0} (before now : SeatContent A) (request : Request) (answer bytes : List ℕ) → bytes ≡ answer → HasAnswer A before now request answer → HasAnswer A before now request bytes
-answer_as {A} before now request answer bytes is told = subst (λ (l : List ℕ). HasAnswer A before now request l) (sym is) told
-
-untold : {A : Type 0} (before now : SeatContent A) (request : Request) (answer : List ℕ) (fault : RunFault) → fault ≡ Memory → HasAnswer A before now request answer → HasNoAnswer before now request fault
-untold before now request answer fault is told = subst (HasNoAnswer before now request) (sym is) (inr (answer, told))
 
 -- the answer's bytes, or memory was refused for them
 pub told_text : {X A : Type 0} (before now : SeatContent A) (request : Request) (text : List ℕ) (r : Result X RunFault) (bytes_of : X → List ℕ) → MatchResult r (λ bytes. bytes_of bytes ≡ text) (λ fault. fault ≡ Memory) → HasAnswer A before now request text
     → MatchResult r (λ bytes. HasAnswer A before now request (bytes_of bytes)) (HasNoAnswer before now request)
-told_text before now request text r bytes_of is told =
-    MatchResult-weaker r is (λ bytes e. answer_as before now request text (bytes_of bytes) e told) (λ fault e. untold before now request text fault e told)
+told_text {X} {A} before now request text r bytes_of is told = text_or_memory (HasAnswer A before now request) (HasNoAnswer before now request) text r bytes_of is told (λ has. inr (text, has))
 
 -- an answer was made, or memory was refused for it, and then for the line that says so
 pub answered_or : {X E A : Type 0} (before now : SeatContent A) (request : Request) (answer : Result X E) (r : Result X RunFault) (bytes_of : X → List ℕ)
     → MatchResult answer (λ bytes. r ≡ Ok bytes) (λ fault. MatchResult r (λ bytes. bytes_of bytes ≡ reply_text OutOfMemory) (λ fault. fault ≡ Memory))
     → IfOk answer (λ bytes. HasAnswer A before now request (bytes_of bytes)) → HasAnswer A before now request (reply_text OutOfMemory)
     → MatchResult r (λ bytes. HasAnswer A before now request (bytes_of bytes)) (HasNoAnswer before now request)
-answered_or {X} {E} {A} before now request (Ok bytes) r bytes_of is told lost =
-    subst (λ (x : Result X RunFault). MatchResult x (λ bytes. HasAnswer A before now request (bytes_of bytes)) (HasNoAnswer before now request)) (sym is) told
-answered_or before now request (Err fault) r bytes_of is told lost = told_text before now request (reply_text OutOfMemory) r bytes_of is lost
+answered_or {X} {E} {A} before now request answer r bytes_of is told lost =
+    made_or_memory (HasAnswer A before now request) (HasNoAnswer before now request) answer r bytes_of is told lost (λ has. inr (reply_text OutOfMemory, has))
 
 -- a shot, or a look, that shows nothing
 pub shown_answered : {X A : Type 0} (before now : SeatContent A) (request : Request) (shown : Result Reply RunFault) (r : Result X RunFault) (bytes_of : X → List ℕ)
     → MatchResult shown (λ reply. MatchResult r (λ bytes. bytes_of bytes ≡ reply_text reply) (λ fault. fault ≡ Memory)) (λ fault. r ≡ Err fault)
     → MatchResult shown (λ reply. HasAnswer A before now request (reply_text reply)) (HasNoAnswer before now request)
     → MatchResult r (λ bytes. HasAnswer A before now request (bytes_of bytes)) (HasNoAnswer before now request)
-shown_answered before now request (Ok reply) r bytes_of is told = told_text before now request (reply_text reply) r bytes_of is told
-shown_answered {X} {A} before now request (Err fault) r bytes_of is told =
-    subst (λ (x : Result X RunFault). MatchResult x (λ bytes. HasAnswer A before now request (bytes_of bytes)) (HasNoAnswer before now request)) (sym is) told
+shown_answered {X} {A} before now request shown r bytes_of is told = reply_or_fault (HasAnswer A before now request) (HasNoAnswer before now request) shown r bytes_of is told (λ text has. inr (text, has))
 
 pub unanswered : {A : Type 0} (before now : SeatContent A) (request : Request) (fault : RunFault) → IsUnanswered before now fault → HasNoAnswer before now request fault
 unanswered before now request NoEntry is = seen_same before now is
@@ -144,17 +133,15 @@ unshared before now zone = inl (rests before now now.front now.front zone)
 pub shared_still : {A : Type 0} (before now : SeatContent A) (gained : ℕ) → IsShared before.zone now.zone now.front gained → GainsUnless true (talk_state_at now.front before.zone) (talk_state_at now.front now.zone)
 shared_still before now gained shared = inr (gains_at before now now.front gained shared)
 
+-- a text of how many edits were made and of their movie, by other names of both
+text_at : (text : ℕ → MovieContent → List ℕ) (at made : ℕ) (movie same : MovieContent) → at ≡ made → movie ≡ same → text at movie ≡ text made same
+text_at text at made movie same here is = ap (λ (n : ℕ). text n movie) here ∙ ap (text made) is
+
 pub movie_answered : (A : Type 0) (before now : SeatContent A) (at gained : ℕ) (movie : MovieContent) → HasSeen before now → at ≡ length now.front → movie ≡ now.zone.movie → IsShared before.zone now.zone now.front gained
     → HasAnswer A before now Movie (movie_text at (text2 movie))
-movie_answered A before now at gained movie seen here is shared = (
-  [],
-  answered_here A before now Movie (movie_text at (text2 movie)) seen (
-    false,
-    ap (λ (n : ℕ). movie_text n (text2 movie)) here ∙ ap (λ (m : MovieContent). movie_text (length now.front) (text2 m)) (is ∙ shared.made.movie),
-    refl,
-    gains_at before now now.front gained shared,
-  ),
-)
+movie_answered A before now at gained movie seen here is shared =
+    let told = text_at (λ n m. movie_text n (text2 m)) at (length now.front) movie (movie_of now.front) here (is ∙ shared.made.movie) in
+    ([], answered_here A before now Movie (movie_text at (text2 movie)) seen (false, told, refl, gains_at before now now.front gained shared))
 
 lost_movie : (A : Type 0) (before now : SeatContent A) → HasSeen before now → GainsUnless true (talk_state_at now.front before.zone) (talk_state_at now.front now.zone) → HasAnswer A before now Movie (reply_text OutOfMemory)
 lost_movie A before now seen leaves = ([], answered_here A before now Movie (reply_text OutOfMemory) seen (true, refl, refl, leaves))
@@ -168,16 +155,10 @@ unwritten_movie A before now gained seen shared = lost_movie A before now seen (
 
 pub states_answered : (A : Type 0) (before now : SeatContent A) (at gained : ℕ) → HasSeen before now → at ≡ length now.front → IsShared before.zone now.zone now.front gained
     → HasAnswer A before now States (states_text at (kept_frames (length now.zone.movie.inputs) now.zone.states))
-states_answered A before now at gained seen here shared = (
-  [],
-  answered_here A before now States (states_text at (kept_frames (length now.zone.movie.inputs) now.zone.states)) seen (
-    false,
-    ap (λ (n : ℕ). states_text n (kept_frames (length now.zone.movie.inputs) now.zone.states)) here
-        ∙ ap (λ (m : MovieContent). states_text (length now.front) (kept_frames (length m.inputs) now.zone.states)) shared.made.movie,
-    refl,
-    gains_at before now now.front gained shared,
-  ),
-)
+states_answered A before now at gained seen here shared =
+    let text : ℕ → MovieContent → List ℕ = λ n m. states_text n (kept_frames (length m.inputs) now.zone.states) in
+    let told = text_at text at (length now.front) now.zone.movie (movie_of now.front) here shared.made.movie in
+    ([], answered_here A before now States (text at now.zone.movie) seen (false, told, refl, gains_at before now now.front gained shared))
 
 lost_states : (A : Type 0) (before now : SeatContent A) → HasSeen before now → GainsUnless true (talk_state_at now.front before.zone) (talk_state_at now.front now.zone) → HasAnswer A before now States (reply_text OutOfMemory)
 lost_states A before now seen leaves = ([], answered_here A before now States (reply_text OutOfMemory) seen (true, refl, refl, leaves))

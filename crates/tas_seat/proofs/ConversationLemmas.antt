@@ -3,7 +3,6 @@ use Rattle.std.proofs.Common.{◌≡◌, ℕ, ◌+◌, List, [], ◌∷◌, ◌+
 use Rattle.std.specs.Prelude.{MatchResult, ◌≢◌, ◌==◌, nat_lt, is_some, if◌then◌else◌}
 use Rattle.std.proofs.lemmas.Bool.{false≢true, eq-eqb, ne_eqb, eqb-true}
 use Rattle.std.proofs.lemmas.Bool.Decides.{nat_tests}
-use Rattle.std.proofs.lemmas.Result.{MatchResult-weaker}
 use mathlib.Core.List.{IsPrefix}
 use Rattle.tas_movie.specs.Content.{MovieContent}
 use Rattle.tas_movie.specs.declared.edit.Edit.{Edit}
@@ -39,21 +38,15 @@ use Rattle.tas_seat.specs.Inside.Conversing.{HasMoved, HasNoOutcome}
 use Rattle.tas_seat.specs.Outcomes.{refused_as, IsMiscounted, HasTalkAnswer, HasNoTalkAnswer}
 use Rattle.tas_session.proofs.PrefixLemmas.{prefix_trans}
 use Rattle.tas_seat.proofs.SeatLemmas.{looked_at, stood, strange_later}
+use Rattle.tas_seat.proofs.TextLemmas.{text_or_memory}
 use Rattle.tas_seat.proofs.AnswerLemmas.{unshared, shared_still}
 
 -- ---- answers and faults
 
-said_as : {A : Type 0} (before now : TalkingSeat A) (request : Request) (answer bytes : List ℕ) → bytes ≡ answer → HasTalkAnswer A before now request answer → HasTalkAnswer A before now request bytes
-said_as {A} before now request answer bytes is told = subst (λ (l : List ℕ). HasTalkAnswer A before now request l) (sym is) told
-
-unsaid : {A : Type 0} (before now : TalkingSeat A) (request : Request) (answer : List ℕ) (fault : RunFault) → fault ≡ Memory → HasTalkAnswer A before now request answer → HasNoTalkAnswer before now request fault
-unsaid before now request answer fault is told = subst (HasNoTalkAnswer before now request) (sym is) (inr (answer, told))
-
 -- the answer's bytes, or memory was refused for them
 pub said_text : {X A : Type 0} (before now : TalkingSeat A) (request : Request) (text : List ℕ) (r : Result X RunFault) (bytes_of : X → List ℕ) → MatchResult r (λ bytes. bytes_of bytes ≡ text) (λ fault. fault ≡ Memory) → HasTalkAnswer A before now request text
     → MatchResult r (λ bytes. HasTalkAnswer A before now request (bytes_of bytes)) (HasNoTalkAnswer before now request)
-said_text before now request text r bytes_of is told =
-    MatchResult-weaker r is (λ bytes e. said_as before now request text (bytes_of bytes) e told) (λ fault e. unsaid before now request text fault e told)
+said_text {X} {A} before now request text r bytes_of is told = text_or_memory (HasTalkAnswer A before now request) (HasNoTalkAnswer before now request) text r bytes_of is told (λ has. inr (text, has))
 
 -- the same, where the draft was and is one of these
 pub said_of : {X A : Type 0} (before now : SeatContent A) (draft left old new : Option DraftContent) (request : Request) (text : List ℕ) (r : Result X RunFault) (bytes_of : X → List ℕ) → draft ≡ old → left ≡ new

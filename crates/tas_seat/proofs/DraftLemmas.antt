@@ -2,6 +2,7 @@
 use Rattle.std.proofs.Common.{◌≡◌, ℕ, ◌+◌, ◌%◌, ◌^◌, ◌<◌, ◌≤◌, List, length, Bool, true, false, Option, Some, None, Result, Ok, Err, IfOk, inl, inr, refl, sym, ap, subst, ◌∙◌, arith}
 use Rattle.std.specs.Prelude.{MatchResult, OnOk, IfErr}
 use Rattle.std.proofs.lemmas.Bool.{cases_lt}
+use Rattle.std.proofs.lemmas.Result.{MatchResult-weaker}
 use Rattle.vcs_cpu.specs.declared.halt.Halt.{Halt}
 use Rattle.vcs_cpu.specs.declared.halt.Halt.TheVariants.{Undocumented}
 use Rattle.vcs_machine.specs.declared.state.State.{State}
@@ -41,6 +42,7 @@ use Rattle.tas_seat.specs.Inside.Drafting.{with_states, IsDraftPlayed, IsDraftSh
 use Rattle.tas_seat.specs.Outcomes.{unshown_as, IsDigest}
 use Rattle.tas_seat.proofs.SeatLemmas.{made_none}
 use Rattle.tas_seat.proofs.EditLemmas.{unforeseen}
+use Rattle.tas_seat.proofs.TextLemmas.{text_or_memory, made_or_memory, reply_or_fault}
 use Rattle.tas_seat.proofs.AnswerLemmas.{shown_frame}
 use Rattle.tas_seat.proofs.ReachLemmas.{ram_there, ram_none, shot_none, lag_there, lag_none, lag_ignored, next_place, no_next_place}
 
@@ -50,31 +52,29 @@ pub looked_same : (draft : DraftContent) → IsDraftLookedAt draft draft
 looked_same draft = record { at = refl; base = refl; stands = refl }
 
 -- memory was refused for the answer of a request that was carried out
-untold : (before now : DraftContent) (request : Request) (answer : List ℕ) (fault : RunFault) → fault ≡ Memory → IsDraftAnswered before request answer now → HasNoDraftAnswer before now request fault
-untold before now request answer fault is told = (is, inr (answer, told))
+untold : (before now : DraftContent) (request : Request) (answer : List ℕ) → IsDraftAnswered before request answer now → HasNoDraftAnswer before now request Memory
+untold before now request answer told = (refl, inr (answer, told))
 
 -- the answer's bytes, or memory was refused for them
 pub told_text : {X : Type 0} (before now : DraftContent) (request : Request) (text : List ℕ) (r : Result X RunFault) (bytes_of : X → List ℕ) → MatchResult r (λ bytes. bytes_of bytes ≡ text) (λ fault. fault ≡ Memory)
     → IsDraftAnswered before request text now → MatchResult r (λ bytes. IsDraftAnswered before request (bytes_of bytes) now) (HasNoDraftAnswer before now request)
-told_text before now request text (Ok bytes) bytes_of is told = subst (λ (l : List ℕ). IsDraftAnswered before request l now) (sym is) told
-told_text before now request text (Err fault) bytes_of is told = untold before now request text fault is told
+told_text before now request text r bytes_of is told = text_or_memory (λ l. IsDraftAnswered before request l now) (HasNoDraftAnswer before now request) text r bytes_of is told (untold before now request text)
 
 -- an answer was made, or memory was refused for it, and then for the line that says so
 pub answered_or : {X E : Type 0} (before now : DraftContent) (request : Request) (answer : Result X E) (r : Result X RunFault) (bytes_of : X → List ℕ)
     → MatchResult answer (λ bytes. r ≡ Ok bytes) (λ fault. MatchResult r (λ bytes. bytes_of bytes ≡ reply_text OutOfMemory) (λ fault. fault ≡ Memory))
     → IfOk answer (λ bytes. IsDraftAnswered before request (bytes_of bytes) now) → IsDraftAnswered before request (reply_text OutOfMemory) now
     → MatchResult r (λ bytes. IsDraftAnswered before request (bytes_of bytes) now) (HasNoDraftAnswer before now request)
-answered_or {X} before now request (Ok bytes) r bytes_of is told lost =
-    subst (λ (x : Result X RunFault). MatchResult x (λ bytes. IsDraftAnswered before request (bytes_of bytes) now) (HasNoDraftAnswer before now request)) (sym is) told
-answered_or before now request (Err fault) r bytes_of is told lost = told_text before now request (reply_text OutOfMemory) r bytes_of is lost
+answered_or before now request answer r bytes_of is told lost =
+    made_or_memory (λ l. IsDraftAnswered before request l now) (HasNoDraftAnswer before now request) answer r bytes_of is told lost (untold before now request (reply_text OutOfMemory))
 
 -- a shot, or a look, that shows nothing
 pub shown_answered : {X : Type 0} (before now : DraftContent) (request : Request) (shown : Result Reply RunFault) (r : Result X RunFault) (bytes_of : X → List ℕ)
     → MatchResult shown (λ reply. MatchResult r (λ bytes. bytes_of bytes ≡ reply_text reply) (λ fault. fault ≡ Memory)) (λ fault. r ≡ Err fault)
     → MatchResult shown (λ reply. IsDraftAnswered before request (reply_text reply) now) (λ fault. ⊥)
     → MatchResult r (λ bytes. IsDraftAnswered before request (bytes_of bytes) now) (HasNoDraftAnswer before now request)
-shown_answered before now request (Ok reply) r bytes_of is told = told_text before now request (reply_text reply) r bytes_of is told
-shown_answered before now request (Err fault) r bytes_of is told = absurd told
+shown_answered before now request shown r bytes_of is told =
+    reply_or_fault (λ l. IsDraftAnswered before request l now) (HasNoDraftAnswer before now request) shown r bytes_of is (MatchResult-weaker shown told (λ reply has. has) (λ fault none. absurd none)) (untold before now request)
 
 -- ---- a request that makes no edit
 

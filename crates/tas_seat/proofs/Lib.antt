@@ -1,6 +1,7 @@
 pub mod SeatLemmas
 pub mod EditLemmas
 pub mod LookLemmas
+pub mod TextLemmas
 pub mod AnswerLemmas
 pub mod ReachLemmas
 pub mod KeptLemmas

@@ -6,17 +6,50 @@ use Rattle.tas_engines.specs.declared.fault.RunFault.{RunFault}
 use Rattle.tas_engines.specs.declared.fault.RunFault.TheVariants.{NoEntry, Memory, Foreign, Write, Size, Text, NoFrame as OffMovie, Range as OffRange, Halted as Stopped, HaltedFrame as StoppedFrame, Script, Place, Long, NoPlace}
 use Rattle.tas_language.specs.declared.request.Request.{Request}
 use Rattle.tas_language.specs.declared.request.Request.TheVariants.{Do, Retouch, Picture, Pictures, Ram, Digest, Lag, Movie, States, Share, History, Begin, Commit, Drop, Quit}
-use Rattle.tas_seat.specs.declared.conversation.Subject.TheVariants as subject
+use Rattle.tas_seat.specs.declared.conversation.Subject.{Subject}
+use Rattle.tas_seat.specs.declared.conversation.Subject.TheVariants.{Begin as AboutBegin, Commit as AboutCommit, Drop as AboutDrop, Desk as AboutDesk, Movie as AboutMovie, End as AboutEnd}
 use Rattle.tas_seat.specs.Drafts.{DraftContent, IsDraft, IsDraftAnswered, IsDraftUnanswered, IsAboutDesk}
 use Rattle.tas_seat.specs.Conversations.{TalkingSeat, talking}
 use Rattle.tas_seat.specs.Inside.Conversing.{subject_of}
 use Rattle.tas_seat.specs.Outcomes.{HasAnswer, HasNoAnswer, IsAboutTalk, HasTalkAnswer, HasNoTalkAnswer}
 use Rattle.tas_seat.proofs.SeatLemmas.{seen_self}
 
+-- ---- what a request's subject says of it
+
+-- a request about one subject: it is the one that is about it; or it is about the movie alone, or the desk alone
+abbrev IsOf : Request → Subject → Type 0
+IsOf request AboutBegin = request ≡ Begin
+IsOf request AboutCommit = request ≡ Commit
+IsOf request AboutDrop = request ≡ Drop
+IsOf request AboutEnd = request ≡ Quit
+IsOf request AboutDesk = IsAboutTalk request → ⊥
+IsOf request AboutMovie = (IsAboutDesk request → ⊥) × (IsAboutTalk request → ⊥)
+
+is_of : (request : Request) → IsOf request (subject_of request)
+is_of (Do command) = (λ desk. desk, λ talk. talk)
+is_of (Retouch retouch) = (λ desk. desk, λ talk. talk)
+is_of (Picture k) = (λ desk. desk, λ talk. talk)
+is_of (Pictures from to) = (λ desk. desk, λ talk. talk)
+is_of (Ram k) = (λ desk. desk, λ talk. talk)
+is_of (Digest k) = (λ desk. desk, λ talk. talk)
+is_of (Lag a b) = (λ desk. desk, λ talk. talk)
+is_of Movie = (λ desk. desk, λ talk. talk)
+is_of States = (λ desk. desk, λ talk. talk)
+is_of Share = λ talk. talk
+is_of (History from) = λ talk. talk
+is_of Begin = refl
+is_of Commit = refl
+is_of Drop = refl
+is_of Quit = refl
+
+-- a request is what its subject, by any name, says of it
+of_subject : (request : Request) (about : Subject) → subject_of request ≡ about → IsOf request about
+of_subject request about is = subst (IsOf request) is (is_of request)
+
 -- ---- the other lines
 
 -- a request about the desk is answered in a draft and outside one
-pub desk_answered : (A : Type 0) (before now : SeatContent A) (draft : Option DraftContent) (request : Request) (answer : List ℕ) → subject_of request ≡ subject.Desk → HasAnswer A before now request answer
+pub desk_answered : (A : Type 0) (before now : SeatContent A) (draft : Option DraftContent) (request : Request) (answer : List ℕ) → subject_of request ≡ AboutDesk → HasAnswer A before now request answer
     → HasTalkAnswer A (talking before draft) (talking now draft) request answer
 desk_answered A before now None Share answer is (edits, told) = (edits, (told, refl))
 desk_answered A before now (Some draft) Share answer is (edits, told) = (edits, (told, refl))
@@ -37,7 +70,7 @@ desk_answered A before now draft Drop answer is told = absurd (cc is)
 desk_answered A before now draft Quit answer is told = absurd (cc is)
 
 -- a request about the movie is answered at the desk's outside a draft
-pub movie_answered_outside : (A : Type 0) (before now : SeatContent A) (request : Request) (answer : List ℕ) → subject_of request ≡ subject.Movie → HasAnswer A before now request answer
+pub movie_answered_outside : (A : Type 0) (before now : SeatContent A) (request : Request) (answer : List ℕ) → subject_of request ≡ AboutMovie → HasAnswer A before now request answer
     → HasTalkAnswer A (talking before None) (talking now None) request answer
 movie_answered_outside A before now (Do command) answer is (edits, told) = (edits, (told, refl))
 movie_answered_outside A before now (Retouch retouch) answer is (edits, told) = (edits, (told, refl))
@@ -56,7 +89,7 @@ movie_answered_outside A before now Drop answer is told = absurd (cc is)
 movie_answered_outside A before now Quit answer is told = absurd (cc is)
 
 -- and at the draft's in one
-pub movie_answered_inside : (A : Type 0) (seat : SeatContent A) (draft next : DraftContent) (request : Request) (answer : List ℕ) → subject_of request ≡ subject.Movie → IsDraftAnswered draft request answer next → IsDraft next
+pub movie_answered_inside : (A : Type 0) (seat : SeatContent A) (draft next : DraftContent) (request : Request) (answer : List ℕ) → subject_of request ≡ AboutMovie → IsDraftAnswered draft request answer next → IsDraft next
     → HasTalkAnswer A (talking seat (Some draft)) (talking seat (Some next)) request answer
 movie_answered_inside A seat draft next (Do command) answer is told sound = ([], (next, told, sound, refl, record { same = refl; none = refl }))
 movie_answered_inside A seat draft next (Retouch retouch) answer is told sound = ([], (next, told, sound, refl, record { same = refl; none = refl }))
@@ -95,86 +128,35 @@ unanswered_talk A before now request NoPlace of is = absurd is
 
 -- ---- requests and their results
 
-not_desk : (request : Request) → subject_of request ≡ subject.Movie → IsAboutDesk request → ⊥
-not_desk (Do command) is desk = desk
-not_desk (Retouch retouch) is desk = desk
-not_desk (Picture k) is desk = desk
-not_desk (Pictures from to) is desk = desk
-not_desk (Ram k) is desk = desk
-not_desk (Digest k) is desk = desk
-not_desk (Lag a b) is desk = desk
-not_desk Movie is desk = desk
-not_desk States is desk = desk
-not_desk Share is desk = cc is
-not_desk (History from) is desk = cc is
-not_desk Begin is desk = cc is
-not_desk Commit is desk = cc is
-not_desk Drop is desk = cc is
-not_desk Quit is desk = cc is
-
-not_talk : (request : Request) → subject_of request ≡ subject.Movie → IsAboutTalk request → ⊥
-not_talk (Do command) is talk = talk
-not_talk (Retouch retouch) is talk = talk
-not_talk (Picture k) is talk = talk
-not_talk (Pictures from to) is talk = talk
-not_talk (Ram k) is talk = talk
-not_talk (Digest k) is talk = talk
-not_talk (Lag a b) is talk = talk
-not_talk Movie is talk = talk
-not_talk States is talk = talk
-not_talk Share is talk = cc is
-not_talk (History from) is talk = cc is
-not_talk Begin is talk = cc is
-not_talk Commit is talk = cc is
-not_talk Drop is talk = cc is
-not_talk Quit is talk = cc is
-
-not_talk_either : (request : Request) → subject_of request ≡ subject.Desk → IsAboutTalk request → ⊥
-not_talk_either Share is talk = talk
-not_talk_either (History from) is talk = talk
-not_talk_either (Do command) is talk = cc is
-not_talk_either (Retouch retouch) is talk = cc is
-not_talk_either (Picture k) is talk = cc is
-not_talk_either (Pictures from to) is talk = cc is
-not_talk_either (Ram k) is talk = cc is
-not_talk_either (Digest k) is talk = cc is
-not_talk_either (Lag a b) is talk = cc is
-not_talk_either Movie is talk = cc is
-not_talk_either States is talk = cc is
-not_talk_either Begin is talk = cc is
-not_talk_either Commit is talk = cc is
-not_talk_either Drop is talk = cc is
-not_talk_either Quit is talk = cc is
-
 -- a request about the movie, at the draft
-unanswered_inside : (A : Type 0) (seat : SeatContent A) (draft next : DraftContent) (request : Request) → subject_of request ≡ subject.Movie → IsDraftUnanswered draft request next → IsDraft next
+unanswered_inside : (A : Type 0) (seat : SeatContent A) (draft next : DraftContent) (request : Request) → subject_of request ≡ AboutMovie → IsDraftUnanswered draft request next → IsDraft next
     → HasNoTalkAnswer (talking seat (Some draft)) (talking seat (Some next)) request Memory
 unanswered_inside A seat draft next request is (inl looked) sound = inl (seen_self seat)
 unanswered_inside A seat draft next request is (inr (answer, told)) sound = inr (answer, movie_answered_inside A seat draft next request answer is told sound)
 
-pub inside_said : {X : Type 0} (A : Type 0) (seat : SeatContent A) (draft next : DraftContent) (request : Request) (r : Result (Option X) RunFault) (bytes_of : X → List ℕ) → subject_of request ≡ subject.Movie
+pub inside_said : {X : Type 0} (A : Type 0) (seat : SeatContent A) (draft next : DraftContent) (request : Request) (r : Result (Option X) RunFault) (bytes_of : X → List ℕ) → subject_of request ≡ AboutMovie
     → MatchResult r (λ found. MatchOption found (IsAboutDesk request × (next ≡ draft)) (λ bytes. IsDraftAnswered draft request (bytes_of bytes) next)) (λ fault. (fault ≡ Memory) × IsDraftUnanswered draft request next) → IsDraft next
     → MatchResult r (λ found. MatchOption found ⊥ (λ bytes. HasTalkAnswer A (talking seat (Some draft)) (talking seat (Some next)) request (bytes_of bytes))) (HasNoTalkAnswer (talking seat (Some draft)) (talking seat (Some next)) request)
-inside_said A seat draft next request (Ok None) bytes_of is told sound = not_desk request is told.0
+inside_said A seat draft next request (Ok None) bytes_of is told sound = absurd ((of_subject request AboutMovie is).0 told.0)
 inside_said A seat draft next request (Ok (Some bytes)) bytes_of is told sound = movie_answered_inside A seat draft next request (bytes_of bytes) is told sound
 inside_said A seat draft next request (Err fault) bytes_of is told sound =
     subst (HasNoTalkAnswer (talking seat (Some draft)) (talking seat (Some next)) request) (sym told.0) (unanswered_inside A seat draft next request is told.1 sound)
 
 -- at the desk
-pub outside_said : {X : Type 0} (A : Type 0) (before now : SeatContent A) (request : Request) (r : Result (Option X) RunFault) (bytes_of : X → List ℕ) → subject_of request ≡ subject.Movie
+pub outside_said : {X : Type 0} (A : Type 0) (before now : SeatContent A) (request : Request) (r : Result (Option X) RunFault) (bytes_of : X → List ℕ) → subject_of request ≡ AboutMovie
     → MatchResult r (λ found. MatchOption found (IsAboutTalk request × (now ≡ before)) (λ bytes. HasAnswer A before now request (bytes_of bytes))) (HasNoAnswer before now request)
     → MatchResult r (λ found. MatchOption found ⊥ (λ bytes. HasTalkAnswer A (talking before None) (talking now None) request (bytes_of bytes))) (HasNoTalkAnswer (talking before None) (talking now None) request)
-outside_said A before now request (Ok None) bytes_of is told = not_talk request is told.0
+outside_said A before now request (Ok None) bytes_of is told = absurd ((of_subject request AboutMovie is).1 told.0)
 outside_said A before now request (Ok (Some bytes)) bytes_of is told = movie_answered_outside A before now request (bytes_of bytes) is told
 outside_said A before now request (Err fault) bytes_of is told =
     unanswered_talk A (talking before None) (talking now None) request fault (λ answer has. movie_answered_outside A before now request answer is has) told
 
 -- a request about the desk, in a draft or outside one
-pub desk_said : {X : Type 0} (A : Type 0) (before now : SeatContent A) (draft : Option DraftContent) (request : Request) (r : Result (Option X) RunFault) (bytes_of : X → List ℕ) → subject_of request ≡ subject.Desk
+pub desk_said : {X : Type 0} (A : Type 0) (before now : SeatContent A) (draft : Option DraftContent) (request : Request) (r : Result (Option X) RunFault) (bytes_of : X → List ℕ) → subject_of request ≡ AboutDesk
     → MatchResult r (λ found. MatchOption found (IsAboutTalk request × (now ≡ before)) (λ bytes. HasAnswer A before now request (bytes_of bytes))) (HasNoAnswer before now request)
     → MatchResult r (λ found. MatchOption found ((request ≡ Quit) × (talking now draft ≡ talking before draft)) (λ bytes. HasTalkAnswer A (talking before draft) (talking now draft) request (bytes_of bytes)))
     (HasNoTalkAnswer (talking before draft) (talking now draft) request)
-desk_said A before now draft request (Ok None) bytes_of is told = absurd (not_talk_either request is told.0)
+desk_said A before now draft request (Ok None) bytes_of is told = absurd (of_subject request AboutDesk is told.0)
 desk_said A before now draft request (Ok (Some bytes)) bytes_of is told = desk_answered A before now draft request (bytes_of bytes) is told
 desk_said A before now draft request (Err fault) bytes_of is told =
     unanswered_talk A (talking before draft) (talking now draft) request fault (λ answer has. desk_answered A before now draft request answer is has) told
@@ -201,7 +183,7 @@ movie_in_draft {X} {A} seat draft left old new request r bytes_of was is told =
     (subst (λ (d : Option DraftContent). AnswersMovie A (talking seat (Some old)) (talking seat d) request r bytes_of) (sym is) told))
 
 -- the same where no draft was or is open
-pub movie_at_desk : {X A : Type 0} (before now : SeatContent A) (draft left : Option DraftContent) (request : Request) (r : Result (Option X) RunFault) (bytes_of : X → List ℕ) → draft ≡ None → left ≡ None → subject_of request ≡ subject.Movie
+pub movie_at_desk : {X A : Type 0} (before now : SeatContent A) (draft left : Option DraftContent) (request : Request) (r : Result (Option X) RunFault) (bytes_of : X → List ℕ) → draft ≡ None → left ≡ None → subject_of request ≡ AboutMovie
     → MatchResult r (λ found. MatchOption found (IsAboutTalk request × (now ≡ before)) (λ bytes. HasAnswer A before now request (bytes_of bytes))) (HasNoAnswer before now request)
     → MatchResult r (λ found. MatchOption found ((request ≡ Quit) × (talking now left ≡ talking before draft)) (λ bytes. HasTalkAnswer A (talking before draft) (talking now left) request (bytes_of bytes)))
     (HasNoTalkAnswer (talking before draft) (talking now left) request)
@@ -217,55 +199,13 @@ asked_as {A} before now request other answer is told = subst (λ (q : Request). 
 pub unanswered_as : {A : Type 0} (before now : TalkingSeat A) (request other : Request) (fault : RunFault) → request ≡ other → HasNoTalkAnswer before now other fault → HasNoTalkAnswer before now request fault
 unanswered_as before now request other fault is told = subst (λ (q : Request). HasNoTalkAnswer before now q fault) (sym is) told
 
--- ---- what a request is that is about something
+-- ---- the one request that is about something
 
-pub is_begin : (request : Request) → subject_of request ≡ subject.Begin → request ≡ Begin
-is_begin (Do command) is = absurd (cc is)
-is_begin (Retouch retouch) is = absurd (cc is)
-is_begin (Picture k) is = absurd (cc is)
-is_begin (Pictures from to) is = absurd (cc is)
-is_begin (Ram k) is = absurd (cc is)
-is_begin (Digest k) is = absurd (cc is)
-is_begin (Lag a b) is = absurd (cc is)
-is_begin Movie is = absurd (cc is)
-is_begin States is = absurd (cc is)
-is_begin Share is = absurd (cc is)
-is_begin (History from) is = absurd (cc is)
-is_begin Begin is = refl
-is_begin Commit is = absurd (cc is)
-is_begin Drop is = absurd (cc is)
-is_begin Quit is = absurd (cc is)
+pub is_begin : (request : Request) → subject_of request ≡ AboutBegin → request ≡ Begin
+is_begin request is = of_subject request AboutBegin is
 
-pub is_commit : (request : Request) → subject_of request ≡ subject.Commit → request ≡ Commit
-is_commit (Do command) is = absurd (cc is)
-is_commit (Retouch retouch) is = absurd (cc is)
-is_commit (Picture k) is = absurd (cc is)
-is_commit (Pictures from to) is = absurd (cc is)
-is_commit (Ram k) is = absurd (cc is)
-is_commit (Digest k) is = absurd (cc is)
-is_commit (Lag a b) is = absurd (cc is)
-is_commit Movie is = absurd (cc is)
-is_commit States is = absurd (cc is)
-is_commit Share is = absurd (cc is)
-is_commit (History from) is = absurd (cc is)
-is_commit Begin is = absurd (cc is)
-is_commit Commit is = refl
-is_commit Drop is = absurd (cc is)
-is_commit Quit is = absurd (cc is)
+pub is_commit : (request : Request) → subject_of request ≡ AboutCommit → request ≡ Commit
+is_commit request is = of_subject request AboutCommit is
 
-pub is_drop : (request : Request) → subject_of request ≡ subject.Drop → request ≡ Drop
-is_drop (Do command) is = absurd (cc is)
-is_drop (Retouch retouch) is = absurd (cc is)
-is_drop (Picture k) is = absurd (cc is)
-is_drop (Pictures from to) is = absurd (cc is)
-is_drop (Ram k) is = absurd (cc is)
-is_drop (Digest k) is = absurd (cc is)
-is_drop (Lag a b) is = absurd (cc is)
-is_drop Movie is = absurd (cc is)
-is_drop States is = absurd (cc is)
-is_drop Share is = absurd (cc is)
-is_drop (History from) is = absurd (cc is)
-is_drop Begin is = absurd (cc is)
-is_drop Commit is = absurd (cc is)
-is_drop Drop is = refl
-is_drop Quit is = absurd (cc is)
+pub is_drop : (request : Request) → subject_of request ≡ AboutDrop → request ≡ Drop
+is_drop request is = of_subject request AboutDrop is

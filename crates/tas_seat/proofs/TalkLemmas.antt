@@ -1,5 +1,5 @@
 -- Conversations, line by line.
-use Rattle.std.proofs.Common.{◌≡◌, ℕ, ◌+◌, ◌-◌, ◌<◌, ◌≤◌, List, [], ◌∷◌, ◌++◌, length, take, Bool, Option, Some, None, Ok, Err, inl, inr, refl, sym, ap, subst, ◌∙◌, arith, append_assoc, length-append, append-nil}
+use Rattle.std.proofs.Common.{◌≡◌, ℕ, ◌+◌, ◌-◌, ◌<◌, ◌≤◌, List, [], ◌∷◌, ◌++◌, length, take, Bool, Option, Some, None, Result, Ok, Err, inl, inr, refl, sym, ap, subst, ◌∙◌, arith, append_assoc, length-append, append-nil}
 use Rattle.std.specs.Prelude.{min}
 use Rattle.std.specs.Io.KnownBytes.{Appends, Consumes, Keeps, IsAtEnd}
 use Rattle.std.proofs.KnownBytes.{Appends-nil, Appends-trans, Consumes-nil, Consumes-trans, Consumes-kept}
@@ -12,6 +12,7 @@ use Rattle.tas_movie.specs.declared.edit.Edit.{Edit}
 use Rattle.tas_desk.specs.Seats.{SeatContent, HasSeen}
 use Rattle.tas_engines.specs.declared.fault.RunFault.{RunFault}
 use Rattle.tas_engines.specs.declared.fault.RunFault.TheVariants.{Write, Size, Text, NoFrame as OffMovie, Range as OffRange, Halted as Stopped, HaltedFrame as StoppedFrame, Script, Place, Long, NoPlace, NoEntry, Foreign, Memory}
+use Rattle.tas_engines.specs.declared.fault.ToolFault.{ToolFault}
 use Rattle.tas_engines.specs.declared.fault.ToolFault.TheVariants.{Read, Run}
 use Rattle.tas_engines.specs.declared.fault.ReadFault.TheVariants.{Failed}
 use Rattle.tas_language.specs.declared.request.Request.{Request}
@@ -20,7 +21,7 @@ use Rattle.tas_language.specs.Held.{HoldsLine}
 use Rattle.tas_language.specs.Answers.{unknown_text}
 use Rattle.tas_seat.specs.Conversations.{TalkingSeat, talking, IsTalkAnswered}
 use Rattle.tas_seat.specs.Outcomes.{HasNoTalkAnswer}
-use Rattle.tas_seat.specs.Talk.{Exchange, IsExchange, AreExchanges, IsLeft, HasLooked, IsCarriedOut, IsAnswerCutOff, IsTalk, lines_of, answers_of, last_answer, most_counted}
+use Rattle.tas_seat.specs.Talk.{Exchange, IsExchange, AreExchanges, IsLeft, HasLooked, IsCarriedOut, IsAnswerCutOff, TalkEnds, IsTalk, lines_of, answers_of, last_answer, most_counted}
 use Rattle.tas_seat.specs.Inside.Talking.{CutsOff, HasAnswered, Breaks, StopsAfter, IsLineTurn, IsPartTurn}
 
 -- ---- lists of exchanges
@@ -341,18 +342,18 @@ read_out : {A : Type 0} (input input' input'' : Option (List ℕ)) (xs : List (E
 read_out input input' input'' xs part more p q none =
     subst (Consumes input input'') (ap (λ (l : List ℕ). lines_of xs ++ (part ++ l)) none ∙ ap (λ (l : List ℕ). lines_of xs ++ l) (append-nil part)) (read_on input input' input'' xs part more p q)
 
+-- a conversation that ends with its input
+at_end : {A : Type 0} (first : SeatContent A) (now : TalkingSeat A) (input input' input'' output output'' : Option (List ℕ)) (xs : List (Exchange A)) (part more : List ℕ) (r : Result (Unit {0}) ToolFault) → AreExchanges (talking first None) xs now
+    → Consumes input input' (lines_of xs ++ part) → Consumes input' input'' more → more ≡ [] → TalkEnds now now.seat part (answers_of xs) [] input'' output output'' r → IsTalk first now.seat input input'' output output'' r
+at_end first now input input' input'' output output'' xs part more r all left read none ends =
+    record { exchanges = xs; seat = now; rest = part; more = []; answered = all; left = read_out input input' input'' xs part more left read none; ends = ends }
+
 pub ends_well : {A : Type 0} (first : SeatContent A) (now : TalkingSeat A) (written : ℕ) (held : List ℕ) (long : Bool) (input input' input'' output output' output'' : Option (List ℕ)) (xs : List (Exchange A)) (part more : List ℕ)
     → IsUnderway (talking first None) now written held long input input' output output' xs part → Consumes input' input'' more → more ≡ [] → IsAtEnd input'' → Appends output' output'' (last_answer part)
     → IsTalk first now.seat input input'' output output'' (Ok tt)
-ends_well {A} first now written held long input input' input'' output output' output'' xs part more way read none end out = record {
-  exchanges = xs;
-  seat = now;
-  rest = part;
-  more = [];
-  answered = way.answered.all;
-  left = read_out input input' input'' xs part more way.left read none;
-  ends = (left_as now, inr (way.none, end, Appends-trans output output' output'' (answers_of xs) (last_answer part) way.answered.out out));
-}
+ends_well first now written held long input input' input'' output output' output'' xs part more way read none end out =
+    at_end first now input input' input'' output output'' xs part more (Ok tt) way.answered.all way.left read none
+    (left_as now, inr (way.none, end, Appends-trans output output' output'' (answers_of xs) (last_answer part) way.answered.out out))
 
 -- a write after some answers that was cut off
 cut_off : (told answer : List ℕ) (counted : ℕ) (output output' output'' : Option (List ℕ)) (written : ℕ) → min counted most_counted ≡ min (0 + length told) most_counted → Appends output output' told
@@ -376,19 +377,11 @@ ends_cut {A} first now written held long input input' input'' output output' out
     let same : fault ≡ Write (min (written + cut.0) most_counted) = cut.2 in
     let cut' : CutsOff written (last_answer part) output' output'' (Write (min (written + cut.0) most_counted)) = (cut.0, cut.1, refl) in
     let told : IsTalk first now.seat input input'' output output'' (Err (Run (Write (min (written + cut.0) most_counted)))) =
-    record {
-      exchanges = xs;
-      seat = now;
-      rest = part;
-      more = [];
-      answered = way.answered.all;
-      left = read_out input input' input'' xs part more way.left read none;
-      ends = (
-        last_answer part,
-        inr (left_as now, way.none, end, refl),
-        cut_off (answers_of xs) (last_answer part) written output output' output'' (min (written + cut.0) most_counted) way.answered.count way.answered.out cut',
-      );
-    } in
+    at_end first now input input' input'' output output'' xs part more (Err (Run (Write (min (written + cut.0) most_counted)))) way.answered.all way.left read none (
+      last_answer part,
+      inr (left_as now, way.none, end, refl),
+      cut_off (answers_of xs) (last_answer part) written output output' output'' (min (written + cut.0) most_counted) way.answered.count way.answered.out cut',
+    ) in
     subst (λ (f : RunFault). IsTalk first now.seat input input'' output output'' (Err (Run f))) (sym same) told
 
 -- a part of the input that isn't answered to its end
