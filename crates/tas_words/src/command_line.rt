@@ -9,7 +9,7 @@ use clap::{Arg, ArgAction, Command, value_parser};
 use std::alloc::{AllocError, Global};
 
 /// The versions that `tas --version` prints: the program's, and that of docs/MACHINE.md.
-static VERSION: &str = "0.2.0, machine profile 2";
+static VERSION: &str = "0.3.0, machine profile 2";
 
 const TAS_HELP: &str = "\
 Standard input is read whole before anything is written to standard output; 'talk' reads it line by line,
