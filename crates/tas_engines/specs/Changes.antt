@@ -1,4 +1,4 @@
--- Changes of a movie, and what they make of it (own).
+-- Changes of a movie, and what they make of it.
 use Rattle.std.specs.Prelude.{List, [], ◌∷◌}
 use Rattle.tas_movie.specs.Content.{MovieContent}
 use Rattle.tas_movie.specs.Edit.{edited, IsAllowed}

@@ -1,4 +1,4 @@
--- What `tas check` answers (own).
+-- What `tas check` answers.
 use Rattle.std.specs.Prelude.{◌≡◌, ℕ, List, length, ◌++◌, codes, decimal, Result, Ok, Err}
 use Rattle.tas_movie.specs.Content.{MovieContent}
 use Rattle.tas_engines.specs.declared.fault.RunFault.{RunFault}

@@ -1,4 +1,4 @@
--- What `tas compare` answers (own).
+-- What `tas compare` answers.
 use Rattle.std.specs.Prelude.{◌≡◌, ◌≢◌, ℕ, ◌+◌, ◌<◌, nat_lt, if◌then◌else◌, List, [], length, slice_get, ◌++◌, codes, decimal, Bool, true, false, Option, Some, None, Result, Ok, Err}
 use Rattle.vcs_cpu.specs.declared.halt.Halt.{Halt}
 use Rattle.vcs_tia.specs.Image.{ppm_bytes}

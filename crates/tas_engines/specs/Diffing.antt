@@ -1,4 +1,4 @@
--- What `tas diff` answers (own).
+-- What `tas diff` answers.
 use Rattle.std.specs.Prelude.{◌≡◌, ℕ, List, Option, Result, Ok, Err}
 use Rattle.std.specs.List.{flat_map}
 use Rattle.tas_movie.specs.Content.{MovieContent}

@@ -1,4 +1,4 @@
--- What `tas digest` answers (own).
+-- What `tas digest` answers.
 use Rattle.std.specs.Prelude.{◌≡◌, ℕ, ◌+◌, ◌-◌, ◌*◌, ◌<◌, min, List, length, ◌++◌, codes, decimal, ◌⊎◌, Option, None, Result, Ok, Err}
 use Rattle.std.specs.Int.{div_ceil}
 use Rattle.std.specs.List.{range_with_len, flat_map}

@@ -1,4 +1,4 @@
--- What `tas edit` answers (own).
+-- What `tas edit` answers.
 use Rattle.std.specs.Prelude.{◌≡◌, ℕ, List, ◌⊎◌, Option, Some, None, Result, Ok, Err}
 use Rattle.tas_movie.specs.Content.{MovieContent}
 use Rattle.tas_movie.specs.Text.{text2}

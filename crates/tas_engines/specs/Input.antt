@@ -1,4 +1,4 @@
--- What an engine reads of its inputs (own).
+-- What an engine reads of its inputs.
 use Rattle.std.specs.Prelude.{◌≡◌, ℕ, ◌+◌, List, length, ◌≤◌, Option, Some, ◌⊎◌}
 use Rattle.std.specs.Io.KnownBytes.{Consumes, IsAtEnd}
 use Rattle.tas_engines.specs.declared.fault.ReadFault.{ReadFault}

@@ -1,4 +1,4 @@
--- Stretches of lag frames, and what `tas lag` answers (own).
+-- Stretches of lag frames, and what `tas lag` answers.
 use Rattle.std.specs.Prelude.{◌≡◌, ℕ, zero, suc, ◌+◌, ◌-◌, ◌==◌, nat_lt, Bool, true, not, ◌&&◌, if◌then◌else◌, List, [], ◌++◌, length, codes, decimal, slice_index_or, Option, Result, Ok, Err}
 use Rattle.std.specs.List.{range_with_len, flat_map}
 use Rattle.vcs_machine.specs.Input.{no_input}

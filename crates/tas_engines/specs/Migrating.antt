@@ -1,4 +1,4 @@
--- What `tas migrate` answers (own).
+-- What `tas migrate` answers.
 use Rattle.std.specs.Prelude.{◌≡◌, ℕ, List, Result, Ok, Err}
 use Rattle.tas_movie.specs.Content.{MovieContent}
 use Rattle.tas_movie.specs.Text.{text2}

@@ -1,4 +1,4 @@
--- What an engine writes, and how it ends (own).
+-- What an engine writes, and how it ends.
 use Rattle.std.specs.Prelude.{◌≡◌, ℕ, List, Option, Result, Ok, Err, ◌⊎◌}
 use Rattle.std.specs.Io.KnownBytes.{Appends, Keeps}
 use Rattle.byte_text.specs.CutOff.{IsCutOff}

@@ -1,4 +1,4 @@
--- What `tas ram` answers (own).
+-- What `tas ram` answers.
 use Rattle.std.specs.Prelude.{◌≡◌, ℕ, ◌+◌, ◌-◌, ◌≤◌, List, length, ◌++◌, codes, decimal, ◌⊎◌, Option, Result, Ok, Err}
 use Rattle.std.specs.List.{range_with_len, flat_map}
 use Rattle.byte_text.specs.Digits.{hex_byte}

@@ -1,4 +1,4 @@
--- Changes that depend on a movie's frames: the edits that they are, and why one is refused (own).
+-- Changes that depend on a movie's frames: the edits that they are, and why one is refused.
 use Rattle.std.specs.Prelude.{◌≡◌, ℕ, ◌+◌, ◌*◌, Bool, not, ◌&&◌, ◌||◌, List, map, length, take, drop, replicate, Option, None}
 use Rattle.std.specs.List.{flat_map}
 use Rattle.vcs_machine.specs.declared.input.Input.{Input}

@@ -1,4 +1,4 @@
--- Scripts of `tas edit`: each line is an edit of the movie so far (own).
+-- Scripts of `tas edit`: each line is an edit of the movie so far.
 use Rattle.std.specs.Prelude.{◌≡◌, ℕ, ◌+◌, ◌<◌, List, [], ◌∷◌, ◌++◌, length, Option, Some, None, Result, Ok, Err}
 use Rattle.std.specs.List.{flat_map}
 use Rattle.vcs_machine.specs.declared.input.Input.{Input}

@@ -1,4 +1,4 @@
--- What `tas shot` answers (own).
+-- What `tas shot` answers.
 use Rattle.std.specs.Prelude.{◌≡◌, ℕ, ◌+◌, ◌<◌, ◌≤◌, List, length, ◌⊎◌, Some, None, Result, Ok, Err}
 use Rattle.vcs_cpu.specs.declared.halt.Halt.{Halt}
 use Rattle.vcs_cpu.specs.declared.halt.Halt.TheVariants.{Undocumented}

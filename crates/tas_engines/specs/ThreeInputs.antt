@@ -1,4 +1,4 @@
--- Engines of three inputs, and of four (own).
+-- Engines of three inputs, and of four.
 use Rattle.std.specs.Prelude.{◌≡◌, ℕ, List, ◌⊎◌, Option, Result}
 use Rattle.tas_engines.specs.declared.fault.ReadFault.{ReadFault}
 use Rattle.tas_engines.specs.declared.fault.RunFault.{RunFault}

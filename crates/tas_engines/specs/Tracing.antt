@@ -1,4 +1,4 @@
--- What `tas trace` answers (own).
+-- What `tas trace` answers.
 use Rattle.std.specs.Prelude.{◌≡◌, ℕ, true, false, List, length, Option, Result, Ok, Err}
 use Rattle.vcs_machine.specs.Cart.{is_cart_size}
 use Rattle.vcs_machine.specs.TraceText.{trace_text}

@@ -1,4 +1,4 @@
--- How the frames of a plan fail to be written (own).
+-- How the frames of a plan fail to be written.
 use Rattle.std.specs.Prelude.{◌≡◌, ℕ, ◌-◌, List, Option}
 use Rattle.byte_text.specs.CutOff.{IsCutOff}
 use Rattle.tas_movie.specs.Content.{MovieContent}

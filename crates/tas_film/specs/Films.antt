@@ -1,4 +1,4 @@
--- Films: the pixmaps of frames, each written as soon as it is drawn (own).
+-- Films: the pixmaps of frames, each written as soon as it is drawn.
 use Rattle.std.specs.Prelude.{◌≡◌, ℕ, ◌+◌, ◌-◌, ◌<◌, ◌≤◌, List, length, Option, Some, Result, Ok, Err}
 use Rattle.std.specs.Io.KnownBytes.{Appends}
 use Rattle.byte_text.specs.CutOff.{IsCutOff}

@@ -1,4 +1,4 @@
--- Frames drawn, and their pixmaps (own).
+-- Frames drawn, and their pixmaps.
 use Rattle.std.specs.Prelude.{◌≡◌, ℕ, ◌+◌, ◌-◌, ◌<◌, ◌≤◌, List, Option, Some, None}
 use Rattle.std.specs.List.{range_with_len, flat_map}
 use Rattle.vcs_tia.specs.Image.{ppm_bytes}

@@ -1,4 +1,4 @@
--- Frames split into runs (own).
+-- Frames split into runs.
 use Rattle.std.specs.Prelude.{◌≡◌, ℕ, ◌+◌, ◌-◌, ◌*◌, ◌/◌, ◌<◌, ◌≤◌, nat_lt, if◌then◌else◌, List, length, map, sum, None}
 use Rattle.std.specs.List.{range_with_len, concat}
 use Rattle.tas_movie.specs.Content.{MovieContent, most_inputs}
@@ -21,7 +21,7 @@ cost zone first next = if nat_lt first next then next - nearest first zone else 
 abbrev pub costs : List Savestate → Plan → ℕ → ℕ → ℕ
 costs zone plan i count = sum (map (λ j. cost zone (first_of_run plan j) (first_of_run plan (j + 1))) (range_with_len i count))
 
--- how many workers an export has at most (own)
+-- how many workers an export has at most
 abbrev pub most_workers : ℕ
 most_workers = 16
 

@@ -1,7 +1,5 @@
 //! Runs of a movie's frames as pictures: drawn by workers on threads of their own and written in order, or drawn and written one
 //! by one.
-//!
-//! "(own)" marks a rule that is this project's own; where a rule comes from a manual, its section is named.
 #![tactic(auto)]
 
 mod drawing;

@@ -1,4 +1,4 @@
--- The window of states around the frame that was shown last (own).
+-- The window of states around the frame that was shown last.
 use Rattle.std.specs.Prelude.{◌≡◌, ℕ, ◌+◌, ◌/◌, ◌%◌, ◌==◌, ◌&&◌, ◌||◌, nat_le, max, List, length, filter, Some, Bool, true, if◌then◌else◌}
 use Rattle.vcs_machine.specs.declared.state.State.{State}
 use Rattle.tas_movie.specs.Content.{MovieContent}
@@ -10,11 +10,11 @@ use Rattle.tas_green.specs.Front.{IsSharedFront}
 use Rattle.tas_green.specs.Green.{IsShotFrom}
 use Rattle.tas_green.specs.Batch.{AreStatesOf}
 
--- how many frames, up to the one shown last, have the state before them kept (own)
+-- how many frames, up to the one shown last, have the state before them kept
 abbrev pub most_before : ℕ
 most_before = 64
 
--- further back a state is kept at each multiple of this distance, for so many frames (own)
+-- further back a state is kept at each multiple of this distance, for this many frames
 abbrev pub mark_distance : ℕ
 mark_distance = 16
 
@@ -25,7 +25,7 @@ most_marked = 512
 abbrev pub most_near : ℕ
 most_near = 98
 
--- the frames rise, and each state is the movie's machine after so many of its frames
+-- the frames rise, and each state is the movie's machine after that number of its frames
 abbrev pub AreMovieStates : MovieContent → List Savestate → Type 0
 AreMovieStates movie states = AreStatesOf movie.cart movie.inputs states
 

@@ -19,19 +19,19 @@ use tas_movie::Movie;
 use vcs_cpu::Halt;
 use vcs_tia::Picture;
 
-/// How many frames, up to the one shown last, have the state before them kept (own).
+/// How many frames, up to the one shown last, have the state before them kept.
 pub const MAX_BEFORE: usize = 64;
 
-/// Further back a state is kept at each multiple of this distance, in frames (own).
+/// Further back a state is kept at each multiple of this distance, in frames.
 pub const MARK_DISTANCE: usize = 16;
 
-/// For how many frames back, up to the one shown last (own).
+/// For how many frames back, up to the one shown last.
 pub const MAX_MARKED: usize = 512;
 
-/// How many states a window has at most (own).
+/// How many states a window has at most.
 pub const MAX_NEAR: usize = 98;
 
-/// What a view of a frame took, and how it ended (own).
+/// What a view of a frame took, and how it ended.
 #[derive(Clone, Copy, Debug, PartialEq, Eq)]
 pub struct Viewed {
     /// How many frames were played.
@@ -40,7 +40,7 @@ pub struct Viewed {
     pub end: Result<(), Halt>,
 }
 
-/// A window beside a greenzone (own): states around the frame that was shown last, so that a step to a frame beside it plays
+/// A window beside a greenzone: states around the frame that was shown last, so that a step to a frame beside it plays
 /// that frame alone. They are that of the machine after the frame, those before it and the 63 frames before it, and those at the
 /// multiples of 16 among the 512 places before, as far as they were played. The states take less than 64 KB.
 ///
@@ -216,7 +216,7 @@ impl<A: Allocator> Window<A> {
     }
 }
 
-/// The limits are those of the definitions: 64 frames, a mark each 16 frames for 512 frames, and 98 states (own).
+/// The limits are those of the definitions: 64 frames, a mark each 16 frames for 512 frames, and 98 states.
 pub fn window_limits_are_exact()
     ensures before { MAX_BEFORE ≡ most_before }
     ensures distance { MARK_DISTANCE ≡ mark_distance }

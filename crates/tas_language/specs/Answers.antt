@@ -1,4 +1,4 @@
--- The answers for which a script has no reply (own).
+-- The answers for which a script has no reply.
 use Rattle.std.specs.Prelude.{ℕ, List, ◌∷◌, ◌++◌, length, codes, decimal}
 use Rattle.std.specs.List.{flat_map}
 use Rattle.hex.specs.Hex.{encode_lower}

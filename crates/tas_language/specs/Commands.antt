@@ -1,4 +1,4 @@
--- The lines of a script (own).
+-- The lines of a script.
 use Rattle.std.specs.Prelude.{◌≡◌, ℕ, ◌≤◌, List, ◌∷◌, ◌++◌, codes, decimal}
 use Rattle.tas_movie.specs.Text.{frame_text}
 use Rattle.vcs_machine.specs.declared.input.Input.{Input}

@@ -1,4 +1,4 @@
--- The edits that the lines of a script ask for (own).
+-- The edits that the lines of a script ask for.
 use Rattle.std.specs.Prelude.{List, [], ◌∷◌, replicate}
 use Rattle.tas_movie.specs.declared.edit.Edit.{Edit}
 use Rattle.tas_movie.specs.declared.edit.Edit.TheVariants as edit

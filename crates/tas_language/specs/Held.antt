@@ -1,4 +1,4 @@
--- What is held of a line that comes in pieces (own).
+-- What is held of a line that comes in pieces.
 use Rattle.std.specs.Prelude.{◌≡◌, ℕ, ◌<◌, ◌≤◌, List, length, Bool, true, false}
 use Rattle.tas_language.specs.Requests.{most_bytes}
 

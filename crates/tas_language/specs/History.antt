@@ -1,4 +1,4 @@
--- The lines of a history: each edit as the lines of a script that make it (own).
+-- The lines of a history: each edit as the lines of a script that make it.
 use Rattle.std.specs.Prelude.{◌≡◌, ℕ, ◌+◌, ◌==◌, List, [], ◌∷◌, ◌++◌, length, true, if◌then◌else◌, codes, decimal, Some}
 use Rattle.std.specs.List.{flat_map}
 use Rattle.vcs_machine.specs.Cart.{is_cart_size}

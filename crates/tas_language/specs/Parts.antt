@@ -1,4 +1,4 @@
--- What a `load` or `load2` line says: parts of a cartridge's image, each an offset and the bytes from there on (own).
+-- What a `load` or `load2` line says: parts of a cartridge's image, each an offset and the bytes from there on.
 use Rattle.std.specs.Prelude.{◌≡◌, ℕ, ◌+◌, ◌/◌, ◌%◌, ◌<◌, ◌≤◌, List, [], ◌∷◌, ◌++◌, length, take, drop, replicate, slice_index}
 use Rattle.std.specs.List.{flat_map}
 use Rattle.byte_text.specs.Digits.{digit_of, hex_byte}

@@ -1,4 +1,4 @@
--- The replies to the lines of a script (own).
+-- The replies to the lines of a script.
 use Rattle.std.specs.Prelude.{ℕ, List, ◌++◌, codes, decimal}
 use Rattle.tas_movie.specs.Text.{frame_text}
 use Rattle.tas_language.specs.declared.reply.Reply.{Reply}

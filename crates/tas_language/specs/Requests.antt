@@ -1,4 +1,4 @@
--- The lines of a conversation (own).
+-- The lines of a conversation.
 use Rattle.std.specs.Prelude.{◌≡◌, ℕ, ◌+◌, ◌<◌, ◌≤◌, List, ◌++◌, length, codes, decimal, Option, Some, None}
 use Rattle.tas_language.specs.Commands.{Says, IsNumber, pair_text}
 use Rattle.tas_language.specs.declared.request.Request.{Request}

@@ -1,4 +1,4 @@
--- The lines of changes that depend on the movie's frames, and those of `tas edit` (own).
+-- The lines of changes that depend on the movie's frames, and those of `tas edit`.
 use Rattle.std.specs.Prelude.{◌≡◌, ℕ, List, ◌++◌, codes}
 use Rattle.tas_language.specs.declared.retouch.Retouch.{Retouch}
 use Rattle.tas_language.specs.declared.retouch.Retouch.TheVariants.{Press, Release, Repeat, Copy}

@@ -1,9 +1,9 @@
--- A movie as contracts see it: the cartridge's bytes, and one input for each frame (own).
+-- A movie as contracts see it: the cartridge's bytes, and one input for each frame.
 use Rattle.std.specs.Prelude.{ℕ, List, [], replicate}
 use Rattle.vcs_machine.specs.Cart.{cart_size}
 use Rattle.vcs_machine.specs.declared.input.Input.{Input}
 
--- how many inputs a movie has at most (own)
+-- how many inputs a movie has at most
 abbrev pub most_inputs : ℕ
 most_inputs = 262144
 

@@ -1,4 +1,4 @@
--- What an edit makes of a movie, by cutting and joining lists (own).
+-- What an edit makes of a movie, by cutting and joining lists.
 use Rattle.std.specs.Prelude.{◌≡◌, ℕ, ◌+◌, List, [], ◌++◌, length, take, drop, Option, Some, None, nat_lt, if◌then◌else◌, Result, Ok, Err}
 use Rattle.vcs_machine.specs.declared.input.Input.{Input}
 use Rattle.tas_movie.specs.declared.edit.Edit.{Edit}
@@ -24,7 +24,7 @@ abbrev pub first_refusal : Option EditRefusal → Option EditRefusal → Option 
 first_refusal (Some refused) later = Some refused
 first_refusal None later = later
 
--- putting so many inputs in at the place `at` of `len` inputs changes none of these, so it ends at `at`; its place is refused before
+-- putting this many inputs in at the place `at` of `len` inputs changes none of these, so it ends at `at`; its place is refused before
 -- the length that it would give
 abbrev pub insert_refusal : ℕ → ℕ → ℕ → Option EditRefusal
 insert_refusal len at count = first_refusal (place_refusal len at at) (length_refusal len (len + count))
@@ -40,7 +40,7 @@ refusal movie (Delete at count) = place_refusal (length movie.inputs) at (at + c
 abbrev pub IsAllowed : {A : Type 0} → MovieContent → Edit A → Type 0
 IsAllowed movie edit = refusal movie edit ≡ None
 
--- what a check of the edit answers
+-- what a check of the edit returns
 abbrev pub check_answer : Option EditRefusal → Result (Unit {0}) EditRefusal
 check_answer None = Ok tt
 check_answer (Some refused) = Err refused

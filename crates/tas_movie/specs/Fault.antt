@@ -1,4 +1,4 @@
--- The first line at fault in bytes that aren't a text of a movie with a given cartridge (own).
+-- The first line at fault in bytes that aren't a text of a movie with a given cartridge.
 use Rattle.std.specs.Prelude.{◌≡◌, ℕ, ◌+◌, ◌-◌, ◌≤◌, ◌==◌, nat_le, nat_lt, List, [], ◌∷◌, ◌++◌, length, take, drop, Bool, true, false, not, ◌&&◌, ◌||◌, codes, Option, Some, None, if◌then◌else◌, slice_index, slice_get}
 use Rattle.std.specs.Str.{all_ascii_digits, bytes_eq}
 use Rattle.std.specs.Str.Parse.{digits_value}
@@ -77,7 +77,7 @@ frames_fault n (l ∷ ls) rest =
 
 -- ---- the text of runs
 
--- how many frames a line shows by what stands behind its first 17 letters: one, or as many as the digits behind " x" say
+-- how many frames a line shows by what stands after its first 17 letters: one, or as many as the digits after " x" say
 abbrev pub shown_count : List ℕ → ℕ
 shown_count [] = 1
 shown_count (b ∷ more) = digits_value 10 (drop 1 more)
@@ -156,7 +156,7 @@ fault_by of_lines bytes = of_lines (split_lines bytes).lines (split_lines bytes)
 abbrev pub fault : List ℕ → List ℕ → Option TextError
 fault bytes cart = fault_by (head_fault cart) bytes
 
--- an error of reading is want of memory, or this fault
+-- an error of reading is `Memory`, or this fault
 abbrev pub IsReadError : Option TextError → ReadError → Type 0
 IsReadError found Memory = Unit {0}
 IsReadError found (Text error) = found ≡ Some error

@@ -1,4 +1,4 @@
--- Runs of equal frames (own).
+-- Runs of equal frames.
 use Rattle.std.specs.Prelude.{◌≢◌, ◌+◌, ◌≤◌, List, [], ◌∷◌, replicate, if◌then◌else◌}
 use Rattle.vcs_machine.specs.declared.input.Input.{Input}
 use Rattle.vcs_machine.specs.Input.{are_same_inputs}

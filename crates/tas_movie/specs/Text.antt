@@ -1,4 +1,4 @@
--- The texts of a movie: one that is written and read, and an older one that is read (own).
+-- The texts of a movie: one that is written and read, and an older one that is read.
 use Rattle.std.specs.Prelude.{◌≡◌, ℕ, ◌≤◌, ◌==◌, ◌⊎◌, List, [], ◌∷◌, ◌++◌, length, Bool, if◌then◌else◌, codes, decimal}
 use Rattle.std.specs.List.{flat_map}
 use Rattle.sha2.specs.Sha256.{sha256}

@@ -7,7 +7,7 @@ use std::alloc::{AllocError, Allocator, Global};
 use thiserror::Error;
 use vcs_machine::Cart;
 
-/// A change of a movie (own).
+/// A change of a movie.
 #[derive(Drop)]
 pub enum Edit<A: Allocator = Global> {
     /// Another cartridge; the inputs stay.
@@ -36,7 +36,7 @@ pub enum Edit<A: Allocator = Global> {
     },
 }
 
-/// Why an edit is refused (own).
+/// Why an edit is refused.
 #[derive(Clone, Copy, Debug, PartialEq, Eq, Error)]
 pub enum EditRefusal {
     /// The edit reaches past the movie's last input.

@@ -7,7 +7,7 @@ use crate::lists::{delete_at, insert_at, replace_at};
 use crate::{Edit, EditRefusal, MAX_FRAMES, Movie};
 use std::alloc::Allocator;
 
-/// Whether the edit is allowed on this movie (own): `Place` where it reaches past the last input,
+/// Whether the edit is allowed on this movie: `Place` where it reaches past the last input,
 /// and then `Long` where the movie would have more than `MAX_FRAMES` inputs. Places and lengths are
 /// compared as whole numbers.
 pub fn check<A: Allocator, B: Allocator>(
@@ -25,7 +25,7 @@ pub fn check<A: Allocator, B: Allocator>(
     }
 }
 
-/// Whether `count` inputs may be put in at the place `at` of a movie with `len` inputs (own): `Place`
+/// Whether `count` inputs may be put in at the place `at` of a movie with `len` inputs: `Place`
 /// where `at` is past the last one, and then `Long` where the movie would have more than `MAX_FRAMES`.
 pub fn check_insertion(len: usize, at: usize, count: usize) -> Result<(), EditRefusal>
     ensures { result ≡ check_answer (insert_refusal len at count) }
@@ -39,7 +39,7 @@ pub fn check_insertion(len: usize, at: usize, count: usize) -> Result<(), EditRe
     Ok(())
 }
 
-/// Whether a movie with `len` inputs has the `count` inputs from the place `at` on (own): `Place` where
+/// Whether a movie with `len` inputs has the `count` inputs from the place `at` on: `Place` where
 /// they reach past the last one.
 pub fn check_place(len: usize, at: usize, count: usize) -> Result<(), EditRefusal>
     ensures { result ≡ check_answer (place_refusal len at (at + count)) }
@@ -51,7 +51,7 @@ pub fn check_place(len: usize, at: usize, count: usize) -> Result<(), EditRefusa
     }
 }
 
-/// Makes an edit that `check` allows, without memory (own).
+/// Makes an edit that `check` allows, without memory.
 pub fn apply<A: Allocator, B: Allocator>(movie: &mut Movie<A>, edit: &Edit<B>)
     requires { IsAllowed movie.old edit.now }
     ensures movie { movie.new ≡ edited movie.old edit.now }

@@ -2,7 +2,7 @@
 
 use thiserror::Error;
 
-/// What is wrong with a line (own).
+/// What is wrong with a line.
 #[derive(Clone, Copy, Debug, PartialEq, Eq, Error)]
 pub enum TextErrorKind {
     /// Line 1 is neither `a26movie 1` nor `a26movie 2`.
@@ -25,7 +25,7 @@ pub enum TextErrorKind {
     Run,
 }
 
-/// The first line at fault (own).
+/// The first line at fault.
 #[derive(Clone, Copy, Debug, PartialEq, Eq, Error)]
 #[error("movie line {line}: {kind}")]
 pub struct TextError {
@@ -35,7 +35,7 @@ pub struct TextError {
     pub kind: TextErrorKind,
 }
 
-/// Why no movie was read (own).
+/// Why no movie was read.
 #[derive(Clone, Copy, Debug, PartialEq, Eq, Error)]
 pub enum ReadError {
     /// The room for a movie was refused; nothing is said of the text.

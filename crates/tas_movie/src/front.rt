@@ -4,7 +4,7 @@ ghost use Rattle.tas_movie.specs.Front.{IsCommonFront};
 
 use vcs_machine::Input;
 
-/// The length of the longest common beginning of two lists of inputs, in frames (own).
+/// The length of the longest common beginning of two lists of inputs, in frames.
 pub fn common_front(a: &[Input], b: &[Input]) -> usize
     ensures { IsCommonFront a.now b.now result }
 {

@@ -6,7 +6,7 @@ use std::alloc::{AllocError, Allocator, Global};
 use std::marker::Model;
 use vcs_machine::Input;
 
-/// A list of inputs, one for each frame (own). It is made from a `Vec` and gives it back, without
+/// A list of inputs, one for each frame. It is made from a `Vec` and gives it back, without
 /// memory.
 #[derive(Drop)]
 pub struct Inputs<A: Allocator = Global> {

@@ -11,7 +11,7 @@ ghost use Rattle.tas_movie.specs.Runs.{run_inputs, runs_of, AreLongest};
 ghost use Rattle.tas_movie.specs.Text.{text1, text2, most_frames1, IsText};
 ghost use Rattle.tas_movie.specs.Fault.{fault};
 
-/// Two movies of one cartridge with one text are equal, whichever of the two texts it is (own).
+/// Two movies of one cartridge with one text are equal, whichever of the two texts it is.
 pub fn one_movie_per_text()
     ensures first { (a b : MovieContent) → a.cart ≡ b.cart → text1 a ≡ text1 b → a ≡ b }
     ensures second { (a b : MovieContent) → a.cart ≡ b.cart → length a.inputs ≤ most_inputs
@@ -21,14 +21,14 @@ pub fn one_movie_per_text()
         → IsText bytes b → a ≡ b }
 {}
 
-/// A text of a movie has no fault (own).
+/// A text of a movie has no fault.
 pub fn texts_have_no_fault()
     ensures { (bytes : List ℕ) (movie : MovieContent) → length movie.inputs ≤ most_inputs
         → IsText bytes movie → fault bytes movie.cart ≡ None }
 {}
 
 /// The runs of a movie's frames make up the frames, none of them can be longer, and they are the only ones of
-/// which both holds (own).
+/// which both holds.
 pub fn runs_are_longest()
     ensures made { (inputs : List Input) → flat_map run_inputs (runs_of inputs) ≡ inputs }
     ensures longest { (inputs : List Input) → AreLongest (runs_of inputs) }
@@ -36,7 +36,7 @@ pub fn runs_are_longest()
         → runs_of (flat_map run_inputs runs) ≡ runs }
 {}
 
-/// The limits are those of the definitions: 262,144 inputs of a movie, 65,536 frames of an older text (own).
+/// The limits are those of the definitions: 262,144 inputs of a movie, 65,536 frames of an older text.
 pub fn limits_are_exact()
     ensures movie { MAX_FRAMES ≡ most_inputs }
     ensures text { MAX_FRAMES1 ≡ most_frames1 }

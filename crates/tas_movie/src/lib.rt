@@ -1,6 +1,4 @@
 //! Movies: a cartridge and one input for each frame, edits of them, and their texts.
-//!
-//! "(own)" marks a rule that is this project's own; where a rule comes from a manual, its section is named.
 #![tactic(auto)]
 
 mod edit;

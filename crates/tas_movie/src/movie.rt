@@ -7,11 +7,11 @@ use std::alloc::{AllocError, Allocator, Global};
 use std::marker::Model;
 use vcs_machine::{Cart, Input};
 
-/// How many inputs a movie has at most (own).
+/// How many inputs a movie has at most.
 pub const MAX_FRAMES: usize = 262_144;
 
 /// A cartridge and at most `MAX_FRAMES` inputs, one for each frame, with room reserved for all of
-/// them (own).
+/// them.
 #[derive(Drop)]
 pub struct Movie<A: Allocator = Global> {
     pub(crate) cart: Cart<A>,

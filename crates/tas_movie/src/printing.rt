@@ -34,7 +34,7 @@ fn mark(letter: u8, pressed: bool) -> u8
     if pressed { letter } else { b'.' }
 }
 
-/// The 17 characters of a frame, as `RLDUF RLDUF rsbAB`: left stick, right stick, switches (own).
+/// The 17 characters of a frame, as `RLDUF RLDUF rsbAB`: left stick, right stick, switches.
 pub fn print_frame(input: Input) -> [u8; FRAME_TEXT_SIZE]
     ensures { result ≡ frame_text input }
 {
@@ -101,7 +101,7 @@ fn push_runs<A: Allocator>(out: &mut Vec<u8, A>, inputs: &[Input]) -> Result<(),
     Ok(())
 }
 
-/// The text of a movie (own): of the two texts the one with a line for each run of equal frames.
+/// The text of a movie: of the two texts the one with a line for each run of equal frames.
 /// `AllocError` where memory is refused.
 pub fn print_text<A: Allocator, B: Allocator>(
     alloc: B,

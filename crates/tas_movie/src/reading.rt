@@ -14,7 +14,7 @@ use crate::{Movie, ReadError, TextError, TextErrorKind};
 use std::alloc::Allocator;
 use vcs_machine::{Cart, Input, Stick};
 
-/// How many frames the older text has at most (own).
+/// How many frames the older text has at most.
 pub const MAX_FRAMES1: usize = 65_536;
 
 /// The first line, without its newline, and what follows; nothing where no newline ends it.
@@ -63,7 +63,7 @@ fn shown_input(line: &[u8]) -> Input
 }
 
 /// The input of which these bytes are the 17 characters, without a newline; nothing where there is
-/// none (own).
+/// none.
 pub fn read_frame(line: &[u8]) -> Option<Input>
     ensures some { IfSome result (λ input. line.now ≡ frame_text input) }
     ensures all { (input : Input) → line.now ≡ frame_text input → result ≡ Some input }
@@ -164,7 +164,7 @@ fn read_lines<A: Allocator, B: Allocator>(
     Err(error_at(1, TextErrorKind::Head))
 }
 
-/// Reads a text of a movie with this cartridge (own): the one that [`print_text`](crate::print_text) writes, or the
+/// Reads a text of a movie with this cartridge: the one that [`print_text`](crate::print_text) writes, or the
 /// older one, which has a line for each of at most 65,536 frames. `Memory` comes first (no clause says so),
 /// since the room for a movie is reserved before the text is looked at; `Text` names the first line at fault.
 pub fn read_text<A: Allocator + Copy, B: Allocator>(

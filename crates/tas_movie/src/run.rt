@@ -4,7 +4,7 @@ ghost use Rattle.std.specs.Prelude.{◌≡◌, ◌≢◌, ◌<◌, ◌≤◌, le
 
 use vcs_machine::Input;
 
-/// This many frames with one input, one after the other (own).
+/// This many frames with one input, one after the other.
 #[derive(Clone, Copy)]
 pub struct FrameRun {
     /// The input of each of them.
@@ -13,7 +13,7 @@ pub struct FrameRun {
     pub count: usize,
 }
 
-/// How many inputs at the beginning are this one (own).
+/// How many inputs at the beginning are this one.
 pub fn run_length(inputs: &[Input], input: Input) -> usize
     ensures bound { result ≤ length inputs.now }
     ensures same { take result inputs.now ≡ replicate result input }

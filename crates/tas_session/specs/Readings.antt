@@ -21,12 +21,12 @@ abbrev pub version_after : {A : Type 0} → VersionContent A → Option (MovieCo
 version_after known None = known
 version_after known (Some copied) = copied.version
 
--- what a look at the published movie's length tells, of a reader's view
+-- what a look at the published movie's length returns for a reader's view
 abbrev pub FoundLen : {A : Type 0} → ReaderView A → ReaderView A → Result (ℕ × ℕ) NoReading → Type 0
 FoundLen v w (Ok found) = HasSeenMore v w × (found.0 ≡ length w.seen) × (found.1 ≡ length (movie_of w.seen).inputs)
 FoundLen v w (Err none) = w ≡ v
 
--- what a look at an input tells, of a reader's view
+-- what a look at an input returns for a reader's view
 abbrev pub FoundInput : {A : Type 0} → ReaderView A → ReaderView A → ℕ → Result (ℕ × Input) InputError → Type 0
 FoundInput v w k (Ok found) = HasSeenMore v w × (found.0 ≡ length w.seen) × (answer_input (movie_of w.seen) k ≡ Some found.1)
 FoundInput v w k (Err (NoFrame at len)) = HasSeenMore v w × (at ≡ length w.seen) × (len ≡ length (movie_of w.seen).inputs) × (len ≤ k)

@@ -11,7 +11,7 @@ use Rattle.tas_session.specs.declared.entry.Entry.{Entry}
 use Rattle.tas_session.specs.History.{movie_of}
 use Rattle.tas_session.specs.Answers.{answer_shot}
 
--- a shot shows the frame, and tells how many frames were played for it: those after the nearest kept state
+-- a shot shows the frame, and reports how many frames were played for it: those after the nearest kept state
 pub record IsShot {A B : Type 0} (session : SessionContent A) (k : ℕ) (shot : Shot B) : Type 0 where
   pub shows : answer_shot session.movie k ≡ Some (Ok shot.picture)
   pub at : shot.at ≡ length session.journal
@@ -26,7 +26,7 @@ IsShotError session k (NoFrame at len) = (answer_shot session.movie k ≡ None) 
 IsShotError session k Memory = k < length session.movie.inputs
 IsShotError session k (Halted at halt) = (answer_shot session.movie k ≡ Some (Err halt)) × (at ≡ length session.journal)
 
--- one fact where frames were played, another where none were, for want of the frame or of memory
+-- one fact where frames were played, another where none were, since the movie has no such frame or memory is refused
 abbrev pub MatchPlayed : {B : Type 0} → Result (Shot B) ShotError → Type 0 → Type 0 → Type 0
 MatchPlayed (Ok shot) played unplayed = played
 MatchPlayed (Err NoEntry) played unplayed = unplayed
@@ -34,7 +34,7 @@ MatchPlayed (Err (NoFrame at len)) played unplayed = unplayed
 MatchPlayed (Err Memory) played unplayed = unplayed
 MatchPlayed (Err (Halted at halt)) played unplayed = played
 
--- a shot at a history shows its movie's frame, or tells why there is none; without an entry nothing is said
+-- a shot at a history shows its movie's frame, or reports why there is none; without an entry nothing is said
 abbrev pub IsShotAt : {A B : Type 0} → List (Entry A) → ℕ → Result (Shot B) ShotError → Type 0
 IsShotAt history k (Ok shot) = (answer_shot (movie_of history) k ≡ Some (Ok shot.picture)) × (shot.at ≡ length history) × (shot.frame ≡ k)
 IsShotAt history k (Err NoEntry) = Unit {0}

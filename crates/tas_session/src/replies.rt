@@ -1,4 +1,4 @@
-//! What a session or a desk answers. In every reply `at` is the number of edits of the history that the reply is about.
+//! The replies of a session or a desk. In every reply `at` is the number of edits of the history that the reply is about.
 
 ghost use Rattle.std.specs.Prelude.{◌≡◌, Some, Ok, Err, OnOk, IfErr};
 ghost use Rattle.tas_session.specs.declared.replies.ShotError.TheVariants.{Halted};

@@ -1,4 +1,4 @@
--- The command line, as clap's definitions see it (own).
+-- The command line, as clap's definitions see it.
 use Rattle.std.specs.Prelude.{◌≡◌, ℕ, pos, List, [], ◌∷◌, ◌++◌, Option, Some, None, true, false, codes, drop, fold, map, option_map}
 use Rattle.std.specs.Int.{int_max, int_min}
 use Rattle.clap.specs.Values.{signed_between}

@@ -1,4 +1,4 @@
--- What the words that the system gave ask for (own).
+-- What the words that the system gave ask for.
 use Rattle.std.specs.Prelude.{◌≡◌, List, Result, Ok, Err, String, map, string_bytes}
 use Rattle.std.specs.Iterator.Runs.{WholeRun}
 use Rattle.std.specs.Vec.Iter.{into_iter_steps}
