@@ -1,5 +1,6 @@
 -- A movie as contracts see it: the cartridge's bytes, and one input for each frame (own).
 use Rattle.std.specs.Prelude.{ℕ, List, [], replicate}
+use Rattle.vcs_machine.specs.Cart.{cart_size}
 use Rattle.vcs_machine.specs.declared.input.Input.{Input}
 
 -- how many inputs a movie has at most (own)
@@ -12,4 +13,4 @@ pub record MovieContent : Type 0 where
 
 -- the movie with the blank cartridge, all zeros, and with no inputs
 abbrev pub blank_movie : MovieContent
-blank_movie = record { cart = replicate 4096 0; inputs = [] }
+blank_movie = record { cart = replicate cart_size 0; inputs = [] }
