@@ -109,8 +109,26 @@ fn failed_reads<T: Wait + Threads + Sync + Abort>(
     failed
 }
 
+/// Fails where an engine doesn't write the same where each read gives one byte.
+fn check_bytewise<T: Wait + Threads + Sync + Abort>(
+    rt: &T,
+    alloc: Global,
+    engine: Engine,
+    bytes: &Bytes,
+    whole: &[u8],
+) {
+    let given = Given {
+        at_once: 1,
+        ..engine.given(bytes)
+    };
+    let mut output = Vec::new(alloc);
+    let (end, _reads) = run(rt, alloc, engine, given, &mut output);
+    check_same(rt, engine, end, Ok(()));
+    check_that(rt, engine, output.as_slice() == whole);
+}
+
 /// Each read of an engine fails in turn: one that gives the last bytes of an input, and one that gives none, too. An input that an
-/// engine doesn't have is never read.
+/// engine doesn't have is never read. Where none fails and each gives one byte, the engine writes the same.
 fn check_reads<T: Wait + Threads + Sync + Abort>(
     rt: &T,
     alloc: Global,
@@ -125,47 +143,15 @@ fn check_reads<T: Wait + Threads + Sync + Abort>(
             check_same(rt, ("failed reads", engine, input), failed, *wanted);
         }
     }
+    check_bytewise(rt, alloc, engine, bytes, &whole);
 }
 
 #[test]
-fn each_read_failing(rt: HostRuntime) {
+fn each_read_failing_and_one_byte_at_each(rt: HostRuntime) {
     let alloc = rt.alloc();
     let bytes = make_inputs(&rt, alloc);
-    for engine in ENGINES.iter() {
+    for engine in ENGINES.iter().chain(CONVERSATIONS.iter()) {
         check_reads(&rt, alloc, *engine, &bytes);
-    }
-    for engine in CONVERSATIONS.iter() {
-        check_reads(&rt, alloc, *engine, &bytes);
-    }
-}
-
-/// An engine writes the same where each read gives one byte.
-fn check_bytewise<T: Wait + Threads + Sync + Abort>(
-    rt: &T,
-    alloc: Global,
-    engine: Engine,
-    bytes: &Bytes,
-) {
-    let whole = whole_of(rt, alloc, engine, bytes);
-    let given = Given {
-        at_once: 1,
-        ..engine.given(bytes)
-    };
-    let mut output = Vec::new(alloc);
-    let (end, _reads) = run(rt, alloc, engine, given, &mut output);
-    check_same(rt, engine, end, Ok(()));
-    check_that(rt, engine, output == whole);
-}
-
-#[test]
-fn one_byte_at_each_read(rt: HostRuntime) {
-    let alloc = rt.alloc();
-    let bytes = make_inputs(&rt, alloc);
-    for engine in ENGINES.iter() {
-        check_bytewise(&rt, alloc, *engine, &bytes);
-    }
-    for engine in CONVERSATIONS.iter() {
-        check_bytewise(&rt, alloc, *engine, &bytes);
     }
 }
 
@@ -203,12 +189,8 @@ fn check_cut<T: Wait + Threads + Sync + Abort>(
     }
     let mut output = Vec::new(alloc);
     let (end, _reads) = run(rt, alloc, engine, given, &mut output);
-    check_same(
-        rt,
-        ("cut", engine, input),
-        end,
-        Err(early_end(engine, input)),
-    );
+    let fault = early_end(engine, input);
+    check_same(rt, ("cut", engine, input), end, Err(fault));
 }
 
 #[test]

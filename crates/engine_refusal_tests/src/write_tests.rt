@@ -114,46 +114,49 @@ static TEXTS: [Engine; 10] = [
     Engine::MovieScript,
 ];
 
+/// Each write of each of these engines fails in turn.
+fn fail_all<T: Wait + Threads + Abort + Sync>(
+    rt: &T,
+    alloc: Global,
+    engines: &[Engine],
+    at_once: usize,
+) {
+    let bytes = make_inputs(rt, alloc);
+    for engine in engines {
+        fail_each(rt, alloc, &bytes, *engine, at_once);
+    }
+}
+
 /// Seven bytes at a time.
 #[test]
 fn each_write_of_a_text(rt: HostRuntime) {
-    let bytes = make_inputs(&rt, rt.alloc());
-    for engine in TEXTS.iter() {
-        fail_each(&rt, rt.alloc(), &bytes, *engine, 7);
-    }
+    fail_all(&rt, rt.alloc(), TEXTS.as_slice(), 7);
 }
 
 /// A line or so at a time: each run plays, draws and hashes the movie anew.
 #[test]
 fn each_write_of_a_digest(rt: HostRuntime) {
-    let bytes = make_inputs(&rt, rt.alloc());
-    fail_each(&rt, rt.alloc(), &bytes, Engine::Digest, 150);
+    fail_all(&rt, rt.alloc(), &[Engine::Digest], 150);
 }
 
 /// A row at a time.
 #[test]
 fn each_write_of_a_shot(rt: HostRuntime) {
-    let bytes = make_inputs(&rt, rt.alloc());
-    fail_each(&rt, rt.alloc(), &bytes, Engine::Shot, 1000);
+    fail_all(&rt, rt.alloc(), &[Engine::Shot], 1000);
 }
 
 #[test]
 fn each_write_of_a_film(rt: HostRuntime) {
-    let bytes = make_inputs(&rt, rt.alloc());
-    fail_each(&rt, rt.alloc(), &bytes, Engine::Film, 1000);
+    fail_all(&rt, rt.alloc(), &[Engine::Film], 1000);
 }
 
 #[test]
 fn each_write_of_an_export(rt: HostRuntime) {
-    let bytes = make_inputs(&rt, rt.alloc());
-    fail_each(&rt, rt.alloc(), &bytes, Engine::Export(2), 1000);
+    fail_all(&rt, rt.alloc(), &[Engine::Export(2)], 1000);
 }
 
 /// One of a conversation's answers, a picture, takes three writes.
 #[test]
 fn each_write_of_a_conversation(rt: HostRuntime) {
-    let bytes = make_inputs(&rt, rt.alloc());
-    for engine in CONVERSATIONS.iter() {
-        fail_each(&rt, rt.alloc(), &bytes, *engine, 50_000);
-    }
+    fail_all(&rt, rt.alloc(), CONVERSATIONS.as_slice(), 50_000);
 }

@@ -2,13 +2,14 @@
 
 use crate::checks::{check_same, expect_ok};
 use crate::movies::{
-    BLANK, BLANK_DIGEST, LAST_FRAME, NO_FRAMES, TWO_FRAMES, older_text_of, text_of,
+    BLANK, BLANK_DIGEST, CUT_OFF, LAST_FRAME, NO_FRAMES, TWO_FRAMES, older_text_of, text_of,
 };
-use crate::ran::{Ran, check_fault, check_ran};
+use crate::ran::{
+    FAILED, FileEngine, NO_END, TOO_LONG, check_fault, check_ran, run_beside, run_beside_on,
+};
 use std::alloc::Global;
 use std::process::Abort;
-use tas_engines::{INPUT_LIMIT, ReadFault, RunFault, ToolFault, diff_run, edit_run};
-use tas_movie::{TextError, TextErrorKind};
+use tas_engines::{INPUT_LIMIT, RunFault, ToolFault, edit_run};
 use test_streams::{Failure, Filler, Room, Taker};
 
 /// The text of a movie of the blank cartridge.
@@ -16,31 +17,11 @@ fn blank_text<R: Abort>(rt: &R, alloc: Global, letters: &[u8]) -> Vec<u8> {
     text_of(rt, alloc, BLANK_DIGEST, letters)
 }
 
-/// `tas edit` of these bytes.
-fn edited(alloc: Global, cart: &[u8], script: &[u8], text: &[u8]) -> Ran {
-    let mut cart = cart;
-    let mut script = script;
-    let mut input = text;
-    let mut output = Vec::new(alloc);
-    let end = edit_run(alloc, &mut cart, &mut script, &mut input, &mut output);
-    (output, end)
-}
-
-/// `tas diff` of these bytes.
-fn compared(alloc: Global, cart: &[u8], before: &[u8], after: &[u8]) -> Ran {
-    let mut cart = cart;
-    let mut before = before;
-    let mut input = after;
-    let mut output = Vec::new(alloc);
-    let end = diff_run(alloc, &mut cart, &mut before, &mut input, &mut output);
-    (output, end)
-}
-
 /// The script between two texts, after a check that it makes the one of the other.
 fn go_round<R: Abort>(rt: &R, alloc: Global, before: &[u8], after: &[u8]) -> Vec<u8> {
-    let (script, end) = compared(alloc, &BLANK, before, after);
+    let (script, end) = run_beside_on(alloc, FileEngine::Diff, &BLANK, before, after);
     check_same(rt, "the difference", end, Ok(()));
-    let made = edited(alloc, &BLANK, script.as_slice(), before);
+    let made = run_beside_on(alloc, FileEngine::Edit, &BLANK, script.as_slice(), before);
     check_ran(rt, "the text that the script makes", made, after);
     script
 }
@@ -106,17 +87,13 @@ fn the_longest_movies_are_edited_and_compared(rt: HostRuntime) {
     check_script(&rt, alloc, NO_FRAMES, &full, filled);
     check_script(&rt, alloc, &full, NO_FRAMES, "delete 0 262144\n");
     let one_more = b"insert 262144 1 ..... ..... .....\n";
-    let ran = edited(alloc, &BLANK, one_more, full.as_slice());
-    check_fault(
-        &rt,
-        "one more",
-        ran,
-        ToolFault::Run(RunFault::Long { line: 1 }),
-    );
+    let ran = run_beside_on(alloc, FileEngine::Edit, &BLANK, one_more, full.as_slice());
+    let fault = ToolFault::Run(RunFault::Long { line: 1 });
+    check_fault(&rt, "one more", ran, fault);
     let other = long_movie(&rt, alloc, 262144, 40000);
     let replaced = "replace 40000 1 ....F ..... .....\n";
     check_script(&rt, alloc, &full, &other, replaced);
-    let ran = edited(alloc, &BLANK, b"", other.as_slice());
+    let ran = run_beside_on(alloc, FileEngine::Edit, &BLANK, b"", other.as_slice());
     check_ran(&rt, "no change", ran, other.as_slice());
 }
 
@@ -127,37 +104,31 @@ fn older_texts_are_edited_and_compared(rt: HostRuntime) {
     let before = older_text_of(&rt, alloc, BLANK_DIGEST, b"..RR.");
     let after = blank_text(&rt, alloc, b"..RRRR.");
     let script = b"insert 4 2 R.... ..... .....\n".as_slice();
-    let ran = edited(alloc, &BLANK, script, before.as_slice());
+    let ran = run_beside_on(alloc, FileEngine::Edit, &BLANK, script, before.as_slice());
     check_ran(&rt, "edit", ran, after.as_slice());
-    let ran = compared(alloc, &BLANK, before.as_slice(), after.as_slice());
+    let ran = run_beside_on(
+        alloc,
+        FileEngine::Diff,
+        &BLANK,
+        before.as_slice(),
+        after.as_slice(),
+    );
     check_ran(&rt, "diff", ran, script);
 }
 
 /// Scripts for a movie of two frames, and how each ends.
-static FAULTS: [(&[u8], ToolFault); 9] = [
-    (b"\n", ToolFault::Run(RunFault::Script { line: 1 })),
-    (b"len\n", ToolFault::Run(RunFault::Script { line: 1 })),
-    (
-        b"load 000=A9\n",
-        ToolFault::Run(RunFault::Script { line: 1 }),
-    ),
-    (
-        b"load2 000=A9\n",
-        ToolFault::Run(RunFault::Script { line: 1 }),
-    ),
-    (b"work 0\n", ToolFault::Run(RunFault::Script { line: 1 })),
-    (b"delete 0 1", ToolFault::Run(RunFault::Script { line: 1 })),
-    (
-        b"delete 0 1\ndelete 1 1\n",
-        ToolFault::Run(RunFault::Place { line: 2 }),
-    ),
-    (
-        b"delete 0 3\nlen\n",
-        ToolFault::Run(RunFault::Place { line: 1 }),
-    ),
+static FAULTS: [(&[u8], RunFault); 9] = [
+    (b"\n", RunFault::Script { line: 1 }),
+    (b"len\n", RunFault::Script { line: 1 }),
+    (b"load 000=A9\n", RunFault::Script { line: 1 }),
+    (b"load2 000=A9\n", RunFault::Script { line: 1 }),
+    (b"work 0\n", RunFault::Script { line: 1 }),
+    (b"delete 0 1", RunFault::Script { line: 1 }),
+    (b"delete 0 1\ndelete 1 1\n", RunFault::Place { line: 2 }),
+    (b"delete 0 3\nlen\n", RunFault::Place { line: 1 }),
     (
         b"delete 0 1\ninsert 0 262143 ..... ..... .....\ninsert 0 1 ..... ..... .....\n",
-        ToolFault::Run(RunFault::Long { line: 3 }),
+        RunFault::Long { line: 3 },
     ),
 ];
 
@@ -165,84 +136,51 @@ static FAULTS: [(&[u8], ToolFault); 9] = [
 fn a_line_at_fault_leaves_nothing_written(rt: HostRuntime) {
     let alloc = rt.alloc();
     for (number, (script, fault)) in FAULTS.iter().enumerate() {
-        let ran = edited(alloc, &BLANK, script, TWO_FRAMES);
-        check_fault(&rt, ("script", number), ran, *fault);
+        let ran = run_beside_on(alloc, FileEngine::Edit, &BLANK, script, TWO_FRAMES);
+        check_fault(&rt, ("script", number), ran, ToolFault::Run(*fault));
     }
 }
 
-/// A movie text that is cut off, and what is reported of it.
-const CUT: &[u8] = b"a26movie 2\n";
-
-const END: ToolFault = ToolFault::Run(RunFault::Text(TextError {
-    line: 2,
-    kind: TextErrorKind::End,
-}));
-
 /// Three inputs, and the fault of an engine that reads them.
-type Faulty = (&'static [u8], &'static [u8], &'static [u8], ToolFault);
+type Faulty = (&'static [u8], &'static [u8], &'static [u8], RunFault);
 
 static EDITS: [Faulty; 3] = [
-    (b"1234567", b"len\n", CUT, ToolFault::Run(RunFault::Size(7))),
-    (&[0; 4096], b"len\n", CUT, END),
+    (b"1234567", b"len\n", CUT_OFF, RunFault::Size(7)),
+    (&[0; 4096], b"len\n", CUT_OFF, NO_END),
     (
         &[0; 4096],
         b"len\n",
         TWO_FRAMES,
-        ToolFault::Run(RunFault::Script { line: 1 }),
+        RunFault::Script { line: 1 },
     ),
 ];
 
 static COMPARISONS: [Faulty; 3] = [
-    (b"", CUT, b"", ToolFault::Run(RunFault::Size(0))),
-    (&[0; 4096], CUT, b"", END),
-    (&[0; 4096], TWO_FRAMES, CUT, END),
+    (b"", CUT_OFF, b"", RunFault::Size(0)),
+    (&[0; 4096], CUT_OFF, b"", NO_END),
+    (&[0; 4096], TWO_FRAMES, CUT_OFF, NO_END),
 ];
 
 #[test]
 fn faults_of_the_movies_come_in_order(rt: HostRuntime) {
     let alloc = rt.alloc();
     for (number, (cart, script, input, fault)) in EDITS.iter().enumerate() {
-        let ran = edited(alloc, cart, script, input);
-        check_fault(&rt, ("edit", number), ran, *fault);
+        let ran = run_beside_on(alloc, FileEngine::Edit, cart, script, input);
+        check_fault(&rt, ("edit", number), ran, ToolFault::Run(*fault));
     }
     for (number, (cart, before, after, fault)) in COMPARISONS.iter().enumerate() {
-        let ran = compared(alloc, cart, before, after);
-        check_fault(&rt, ("comparison", number), ran, *fault);
+        let ran = run_beside_on(alloc, FileEngine::Diff, cart, before, after);
+        check_fault(&rt, ("comparison", number), ran, ToolFault::Run(*fault));
     }
 }
 
 /// The inputs, how many reads of each succeed where it fails, the fault, and how many reads there were of each.
 static READS: [([usize; 3], [usize; 3], ToolFault, [usize; 3]); 6] = [
-    (
-        [10, 10, 10],
-        [1, 1, 1],
-        ToolFault::Read(ReadFault::Failed),
-        [1, 0, 0],
-    ),
-    (
-        [10, 10, 10],
-        [0, 2, 1],
-        ToolFault::Read(ReadFault::Failed),
-        [2, 2, 0],
-    ),
-    (
-        [10, 10, 10],
-        [0, 0, 2],
-        ToolFault::Read(ReadFault::Failed),
-        [2, 2, 2],
-    ),
-    (
-        [INPUT_LIMIT + 1, 10, 10],
-        [0, 1, 1],
-        ToolFault::Read(ReadFault::TooLong),
-        [4097, 0, 0],
-    ),
-    (
-        [10, INPUT_LIMIT + 1, 10],
-        [0, 0, 1],
-        ToolFault::Read(ReadFault::TooLong),
-        [2, 4097, 0],
-    ),
+    ([10, 10, 10], [1, 1, 1], FAILED, [1, 0, 0]),
+    ([10, 10, 10], [0, 2, 1], FAILED, [2, 2, 0]),
+    ([10, 10, 10], [0, 0, 2], FAILED, [2, 2, 2]),
+    ([INPUT_LIMIT + 1, 10, 10], [0, 1, 1], TOO_LONG, [4097, 0, 0]),
+    ([10, INPUT_LIMIT + 1, 10], [0, 0, 1], TOO_LONG, [2, 4097, 0]),
     (
         [10, 10, 10],
         [0, 0, 0],
@@ -258,9 +196,8 @@ fn inputs_are_read_in_order_up_to_a_fault(rt: HostRuntime) {
         let mut first = Filler::new(0, lens[0], fails[0]);
         let mut second = Filler::new(0, lens[1], fails[1]);
         let mut third = Filler::new(0, lens[2], fails[2]);
-        let mut output = Vec::new(alloc);
-        let end = edit_run(alloc, &mut first, &mut second, &mut third, &mut output);
-        check_fault(&rt, ("case", number), (output, end), *fault);
+        let ran = run_beside(alloc, FileEngine::Edit, &mut first, &mut second, &mut third);
+        check_fault(&rt, ("case", number), ran, *fault);
         let found = [first.reads, second.reads, third.reads];
         check_same(&rt, ("case", number), found, *reads);
     }
@@ -305,7 +242,7 @@ fn check_example<R: Abort>(rt: &R, alloc: Global, runs: &[u8], size: usize, chan
     let mut old = expect_ok(rt, Vec::from_slice(alloc, NO_FRAMES));
     expect_ok(rt, old.extend_from_slice(runs));
     check_same(rt, ("size", size), old.len(), size);
-    let (new, end) = edited(alloc, &BLANK, changes, old.as_slice());
+    let (new, end) = run_beside_on(alloc, FileEngine::Edit, &BLANK, changes, old.as_slice());
     check_same(rt, ("size", size), end, Ok(()));
     let same = new.as_slice() == old.as_slice();
     check_same(rt, ("size", size), same, false);

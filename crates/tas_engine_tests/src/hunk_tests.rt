@@ -150,25 +150,34 @@ fn check_hunks<R: Abort>(rt: &R, alloc: Global, before: &[u8], after: &[u8], scr
     check_that(rt, "one hunk", whole);
 }
 
-/// A frame comes at 100, and one goes at 1500.
+/// The same of the pattern and what these changes make of it, one after the other.
+fn check_pattern<R: Abort>(
+    rt: &R,
+    alloc: Global,
+    changes: &[((usize, usize), &[u8])],
+    script: &str,
+) {
+    let before = pattern_of(rt, alloc);
+    let mut after = pattern_of(rt, alloc);
+    for (place, others) in changes {
+        after = changed(rt, alloc, after.as_slice(), *place, others);
+    }
+    check_hunks(rt, alloc, before.as_slice(), after.as_slice(), script);
+}
+
+/// A frame goes at 1500, and one comes at 100.
 #[test]
 fn two_far_frames_are_two_hunks(rt: HostRuntime) {
-    let alloc = rt.alloc();
-    let before = pattern_of(&rt, alloc);
-    let short = changed(&rt, alloc, before.as_slice(), (1500, 1501), b"");
-    let after = changed(&rt, alloc, short.as_slice(), (100, 100), b"F");
     let script = "insert 100 1 ....F ..... .....\ndelete 1498 1\n";
-    check_hunks(&rt, alloc, before.as_slice(), after.as_slice(), script);
+    let changes: [((usize, usize), &[u8]); 2] = [((1500, 1501), b""), ((100, 100), b"F")];
+    check_pattern(&rt, rt.alloc(), changes.as_slice(), script);
 }
 
 /// Fifty frames go at 700 and four come, of which the last two are those that went last.
 #[test]
 fn fewer_frames_in_a_place_are_a_hunk(rt: HostRuntime) {
-    let alloc = rt.alloc();
-    let before = pattern_of(&rt, alloc);
-    let after = changed(&rt, alloc, before.as_slice(), (700, 750), b"FFRR");
     let script = "delete 700 48\ninsert 700 2 ....F ..... .....\n";
-    check_hunks(&rt, alloc, before.as_slice(), after.as_slice(), script);
+    check_pattern(&rt, rt.alloc(), &[((700, 750), b"FFRR")], script);
 }
 
 /// The fire button is pressed every second frame; a frame comes and one changes further on.

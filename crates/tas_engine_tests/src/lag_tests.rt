@@ -2,9 +2,8 @@
 //! (`oracle/look`).
 
 use crate::movies::{BLANK, HALTING, HALTING_DIGEST, NO_FRAMES, STORES, image_of, text_of};
-use crate::ran::{Ran, check_fault, check_ran};
-use std::alloc::Global;
-use tas_engines::{RunFault, ToolFault, lag_run};
+use crate::ran::{Engine, check_fault, check_ran, run_on};
+use tas_engines::{RunFault, ToolFault};
 
 /// Reads the sticks in each fourth frame: INC 80, LDA 80, AND #3, BNE F00B, LDA 280, LDA #2, STA VSYNC, LDA #0, STA VSYNC, JMP F000.
 const FOURTH: &[u8] =
@@ -43,15 +42,6 @@ const BUTTON: &[u8] =
 /// The SHA-256 of its cartridge.
 const BUTTON_DIGEST: &str = "4edf4e1cfbc2abe8d2737ce18acdc90330547823ff208a4fe55de921afb7b06a";
 
-/// `tas lag` of these bytes.
-fn lag_shown(alloc: Global, cart: &[u8], text: &[u8]) -> Ran {
-    let mut cart = cart;
-    let mut text = text;
-    let mut output = Vec::new(alloc);
-    let end = lag_run(alloc, &mut cart, &mut text, &mut output);
-    (output, end)
-}
-
 /// Cartridges, the frames of a movie, and the lines of its lag frames.
 static ROWS: [(&[u8], &str, &[u8], &[u8]); 11] = [
     (FOURTH, FOURTH_DIGEST, b"", b""),
@@ -74,7 +64,7 @@ fn stretches_of_lag_frames(rt: HostRuntime) {
     for (row, (program, digest, frames, lines)) in ROWS.iter().enumerate() {
         let cart = image_of(&rt, alloc, program);
         let text = text_of(&rt, alloc, digest, frames);
-        let ran = lag_shown(alloc, cart.as_slice(), text.as_slice());
+        let ran = run_on(alloc, Engine::Lag, cart.as_slice(), text.as_slice());
         check_ran(&rt, row, ran, lines);
     }
 }
@@ -82,8 +72,8 @@ fn stretches_of_lag_frames(rt: HostRuntime) {
 #[test]
 fn lag_frames_of_wrong_inputs(rt: HostRuntime) {
     let alloc = rt.alloc();
-    let ran = lag_shown(alloc, STORES, NO_FRAMES);
+    let ran = run_on(alloc, Engine::Lag, STORES, NO_FRAMES);
     check_fault(&rt, "size", ran, ToolFault::Run(RunFault::Size(7)));
-    let ran = lag_shown(alloc, &BLANK, NO_FRAMES);
+    let ran = run_on(alloc, Engine::Lag, &BLANK, NO_FRAMES);
     check_ran(&rt, "no frames", ran, b"");
 }

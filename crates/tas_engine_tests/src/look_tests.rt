@@ -1,12 +1,15 @@
 //! The engines that look at a played movie: RAM, digests, and where two movies begin to differ. Their numbers were found
 //! by the oracle (`oracle/look`), a machine of its own.
 
-use crate::checks::{check_same, check_that, expect_ok};
+use crate::checks::{check_same, expect_ok};
 use crate::movies::{BLANK, BLANK_DIGEST, HALTING, HALTING_DIGEST, NO_FRAMES, image_of, text_of};
-use crate::ran::{Ran, check_fault, check_ran};
+use crate::ran::{
+    Engine, FileEngine, OTHER_DIGEST, check_fault, check_filled, check_ran, run_beside_on, run_on,
+    run_to,
+};
 use std::alloc::Global;
 use std::process::Abort;
-use tas_engines::{RunFault, ToolFault, compare_run, digest_run, ram_run};
+use tas_engines::{RunFault, ToolFault};
 use tas_movie::{TextError, TextErrorKind};
 use test_streams::{Failure, Room, Taker};
 
@@ -30,34 +33,6 @@ const STOPS_DIGEST: &str = "d6e713bc50ccd20c6a27ef22630c568c760c7b130a7c788917df
 
 /// A cartridge and the digest of its image.
 type Game = (&'static [u8], &'static str);
-
-/// `tas ram` of these bytes.
-fn ram_shown(alloc: Global, from: usize, to: usize, cart: &[u8], text: &[u8]) -> Ran {
-    let mut cart = cart;
-    let mut text = text;
-    let mut output = Vec::new(alloc);
-    let end = ram_run(alloc, from, to, &mut cart, &mut text, &mut output);
-    (output, end)
-}
-
-/// `tas digest` of these bytes.
-fn digested(alloc: Global, every: usize, cart: &[u8], text: &[u8]) -> Ran {
-    let mut cart = cart;
-    let mut text = text;
-    let mut output = Vec::new(alloc);
-    let end = digest_run(alloc, every.max(1), &mut cart, &mut text, &mut output);
-    (output, end)
-}
-
-/// `tas compare` of these bytes.
-fn compared(alloc: Global, cart: &[u8], before: &[u8], after: &[u8]) -> Ran {
-    let mut cart = cart;
-    let mut before = before;
-    let mut input = after;
-    let mut output = Vec::new(alloc);
-    let end = compare_run(alloc, &mut cart, &mut before, &mut input, &mut output);
-    (output, end)
-}
 
 /// Lines of RAM of which only the first bytes aren't 0: of each row of a number and of these bytes' digits, where the number is one from
 /// `from` to `to` - 1.
@@ -95,7 +70,12 @@ fn ram_is_shown_from_power_on(rt: HostRuntime) {
     let text = text_of(&rt, alloc, COUNTS_DIGEST, b"..RR.");
     for (from, to) in [(0usize, 6usize), (0, 1), (2, 4), (5, 6), (3, 3), (6, 6)] {
         let lines = ram_lines(&rt, alloc, &COUNTED, from, to);
-        let ran = ram_shown(alloc, from, to, cart.as_slice(), text.as_slice());
+        let ran = run_on(
+            alloc,
+            Engine::Ram(from, to),
+            cart.as_slice(),
+            text.as_slice(),
+        );
         check_ran(&rt, (from, to), ran, lines.as_slice());
     }
 }
@@ -106,7 +86,12 @@ fn ram_past_the_end_is_out_of_range(rt: HostRuntime) {
     let cart = image_of(&rt, alloc, COUNTS);
     let text = text_of(&rt, alloc, COUNTS_DIGEST, b"..RR.");
     for (from, to) in [(0usize, 7usize), (3, 2), (7, 7)] {
-        let ran = ram_shown(alloc, from, to, cart.as_slice(), text.as_slice());
+        let ran = run_on(
+            alloc,
+            Engine::Ram(from, to),
+            cart.as_slice(),
+            text.as_slice(),
+        );
         check_fault(
             &rt,
             (from, to),
@@ -123,7 +108,7 @@ fn a_halted_machine_keeps_its_ram(rt: HostRuntime) {
     let text = text_of(&rt, alloc, STOPS_DIGEST, b"..R.");
     let rows = [(2, "AB"), (3, "AC"), (4, "AC")];
     let lines = ram_lines(&rt, alloc, &rows, 2, 5);
-    let ran = ram_shown(alloc, 2, 5, cart.as_slice(), text.as_slice());
+    let ran = run_on(alloc, Engine::Ram(2, 5), cart.as_slice(), text.as_slice());
     check_ran(&rt, "RAM", ran, lines.as_slice());
 }
 
@@ -132,22 +117,15 @@ fn cut_lines_of_ram_are_told_by_their_bytes(rt: HostRuntime) {
     let alloc = rt.alloc();
     let image = image_of(&rt, alloc, COUNTS);
     let movie = text_of(&rt, alloc, COUNTS_DIGEST, b"..RR.");
-    let (whole, end) = ram_shown(alloc, 0, 6, image.as_slice(), movie.as_slice());
+    let engine = Engine::Ram(0, 6);
+    let (whole, end) = run_on(alloc, engine, image.as_slice(), movie.as_slice());
     check_same(&rt, "whole", end, Ok(()));
     for room in [0, 1, 258, 259, 260, 700, 1553] {
         let mut lines = Taker::new(alloc, 100, Room::Bytes(room), Failure::Error);
         let mut cart = image.as_slice();
         let mut text = movie.as_slice();
-        let answer = ram_run(alloc, 0, 6, &mut cart, &mut text, &mut lines);
-        check_same(
-            &rt,
-            ("room", room),
-            answer,
-            Err(ToolFault::Run(RunFault::Write { written: room })),
-        );
-        let is_first = Some(lines.taken.as_slice()) == whole.get(..room);
-        check_that(&rt, ("the first bytes", room), is_first);
-        check_same(&rt, ("failed writes", room), lines.failed, 1);
+        let end = run_to(alloc, engine, &mut cart, &mut text, &mut lines);
+        check_filled(&rt, &lines, end, whole.as_slice(), room);
     }
 }
 
@@ -177,7 +155,12 @@ fn a_digest_has_a_line_for_each_stretch(rt: HostRuntime) {
     let cart = image_of(&rt, alloc, COUNTS);
     let text = text_of(&rt, alloc, COUNTS_DIGEST, b"..RR.");
     for (every, wanted) in DIGESTS.iter() {
-        let ran = digested(alloc, *every, cart.as_slice(), text.as_slice());
+        let ran = run_on(
+            alloc,
+            Engine::Digest(*every),
+            cart.as_slice(),
+            text.as_slice(),
+        );
         check_ran(&rt, *every, ran, wanted);
     }
 }
@@ -188,7 +171,7 @@ static NO_FRAMES_DIGEST: &[u8] =
 
 #[test]
 fn a_movie_without_frames_has_a_digest(rt: HostRuntime) {
-    let ran = digested(rt.alloc(), 600, &BLANK, NO_FRAMES);
+    let ran = run_on(rt.alloc(), Engine::Digest(600), &BLANK, NO_FRAMES);
     check_ran(&rt, BLANK_DIGEST, ran, NO_FRAMES_DIGEST);
 }
 
@@ -202,7 +185,12 @@ fn a_movie_that_halts_has_no_digest(rt: HostRuntime) {
         opcode: 2,
     });
     for every in [1, 3, 4, 600] {
-        let ran = digested(alloc, every, cart.as_slice(), text.as_slice());
+        let ran = run_on(
+            alloc,
+            Engine::Digest(every),
+            cart.as_slice(),
+            text.as_slice(),
+        );
         check_fault(&rt, every, ran, fault);
     }
 }
@@ -284,7 +272,13 @@ fn two_movies_differ_first_where_they_do(rt: HostRuntime) {
         let cart = image_of(&rt, alloc, program);
         let before = text_of(&rt, alloc, digest, old);
         let after = text_of(&rt, alloc, digest, new);
-        let ran = compared(alloc, cart.as_slice(), before.as_slice(), after.as_slice());
+        let ran = run_beside_on(
+            alloc,
+            FileEngine::Compare,
+            cart.as_slice(),
+            before.as_slice(),
+            after.as_slice(),
+        );
         check_ran(&rt, (*old, *new), ran, wanted);
     }
 }
@@ -298,12 +292,20 @@ fn the_older_movie_of_two_is_at_fault_first(rt: HostRuntime) {
         line: 1,
         kind: TextErrorKind::Head,
     }));
-    let digest = ToolFault::Run(RunFault::Text(TextError {
-        line: 2,
-        kind: TextErrorKind::Digest,
-    }));
-    let ran = compared(alloc, cart.as_slice(), b"a\n", NO_FRAMES);
+    let ran = run_beside_on(
+        alloc,
+        FileEngine::Compare,
+        cart.as_slice(),
+        b"a\n",
+        NO_FRAMES,
+    );
     check_fault(&rt, "both", ran, head);
-    let ran = compared(alloc, cart.as_slice(), text.as_slice(), NO_FRAMES);
-    check_fault(&rt, "the new one", ran, digest);
+    let ran = run_beside_on(
+        alloc,
+        FileEngine::Compare,
+        cart.as_slice(),
+        text.as_slice(),
+        NO_FRAMES,
+    );
+    check_fault(&rt, "the new one", ran, ToolFault::Run(OTHER_DIGEST));
 }

@@ -46,6 +46,9 @@ pub const TWO_FRAMES: &[u8] =
 pub const LAST_FRAME: &[u8] =
     b"a26movie 2\ncart ad7facb2586fc6e966c004d7d1d16b024f5805ff7cb47c7a85dabd8b48892ca7\n..... ..... .....\n";
 
+/// A movie text that is cut off after its first line.
+pub const CUT_OFF: &[u8] = b"a26movie 2\n";
+
 /// The cartridge with a program at F000, where execution starts too; all other bytes are 0.
 pub fn image_of<R: Abort>(rt: &R, alloc: Global, program: &[u8]) -> Vec<u8> {
     let mut bytes = expect_ok(rt, vec![in alloc; 0u8; 4096]);

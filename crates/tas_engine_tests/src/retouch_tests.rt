@@ -1,16 +1,17 @@
 //! Lines that depend on a movie's frames, and second movies, on lists of frames by hand.
 
 use crate::checks::{check_same, check_that, expect_ok, expect_some};
-use crate::movies::{BLANK, BLANK_DIGEST, HALTING_MOVIE, NO_FRAMES, TWO_FRAMES, text_of};
-use crate::ran::{Ran, check_fault, check_ran};
+use crate::movies::{BLANK, BLANK_DIGEST, CUT_OFF, HALTING_MOVIE, NO_FRAMES, TWO_FRAMES, text_of};
+use crate::ran::{
+    Engine, FAILED, NO_END, OTHER_DIGEST, Ran, TOO_LONG, check_fault, check_ran, run_on,
+};
 use std::alloc::Global;
 use std::process::Abort;
 use tas_engines::{
-    INPUT_LIMIT, ReadFault, RunFault, ScriptFault, ToolFault, cut_run, edit_movie, edit_with_run,
-    pressed_too, released,
+    INPUT_LIMIT, RunFault, ScriptFault, ToolFault, edit_movie, edit_with_run, pressed_too, released,
 };
 use tas_language::{EditLine, Retouch, read_edit_line};
-use tas_movie::{Edit, Inputs, Movie, TextError, TextErrorKind, apply, check, read_frame};
+use tas_movie::{Edit, Inputs, Movie, apply, check, read_frame};
 use test_streams::Filler;
 use vcs_machine::Input;
 
@@ -39,6 +40,14 @@ const FOUR: &str = "R.... ..... .....\n....F .L... r....\n..... ..... .....\n.LD
 
 /// Three frames of another movie.
 const THREE: &str = ".L... ..... .....\n..D.. ..... .....\n...U. ..... .....\n";
+
+/// The movie of four frames after a script's changes, beside that of three, and how the script ended.
+fn edited<R: Abort>(rt: &R, alloc: Global, script: &str) -> (Movie, Result<(), ScriptFault>) {
+    let mut movie = movie_of(rt, alloc, FOUR);
+    let other = Some(movie_of(rt, alloc, THREE));
+    let end = edit_movie(alloc, &mut movie, &other, script.as_bytes());
+    (movie, end)
+}
 
 /// Lines for the movie of four frames, and the frames that they make.
 static MADE: [(&str, &str); 20] = [
@@ -106,10 +115,8 @@ static MADE: [(&str, &str); 20] = [
 #[test]
 fn lines_make_the_frames_by_hand(rt: HostRuntime) {
     let alloc = rt.alloc();
-    let other = Some(movie_of(&rt, alloc, THREE));
     for (script, made) in MADE.iter() {
-        let mut movie = movie_of(&rt, alloc, FOUR);
-        let end = edit_movie(alloc, &mut movie, &other, script.as_bytes());
+        let (movie, end) = edited(&rt, alloc, *script);
         check_same(&rt, *script, end, Ok(()));
         let wanted = movie_of(&rt, alloc, *made);
         check_that(&rt, *script, movie.inputs() == wanted.inputs());
@@ -157,10 +164,8 @@ static ENDS: [(&str, Result<(), ScriptFault>); 22] = [
 #[test]
 fn lines_end_as_by_hand(rt: HostRuntime) {
     let alloc = rt.alloc();
-    let other = Some(movie_of(&rt, alloc, THREE));
     for (script, end) in ENDS.iter() {
-        let mut movie = movie_of(&rt, alloc, FOUR);
-        let ended = edit_movie(alloc, &mut movie, &other, script.as_bytes());
+        let (_movie, ended) = edited(&rt, alloc, *script);
         check_same(&rt, *script, ended, *end);
     }
     let none: Option<Movie> = None;
@@ -279,15 +284,6 @@ fn edited_with(alloc: Global, cart: &[u8], script: &[u8], more: &[u8], text: &[u
     (output, end)
 }
 
-/// `tas cut` of these bytes.
-fn cut(alloc: Global, (from, to): (usize, usize), cart: &[u8], text: &[u8]) -> Ran {
-    let mut cart = cart;
-    let mut input = text;
-    let mut output = Vec::new(alloc);
-    let end = cut_run(alloc, from, to, &mut cart, &mut input, &mut output);
-    (output, end)
-}
-
 #[test]
 fn two_movies_are_spliced(rt: HostRuntime) {
     let alloc = rt.alloc();
@@ -301,53 +297,39 @@ fn two_movies_are_spliced(rt: HostRuntime) {
     check_ran(&rt, "into none", ran, TWO_FRAMES);
 }
 
-/// A movie text that is cut off, and what is reported of it.
-const CUT_OFF: &[u8] = b"a26movie 2\n";
-
-const END: ToolFault = ToolFault::Run(RunFault::Text(TextError {
-    line: 2,
-    kind: TextErrorKind::End,
-}));
-
-/// What is reported of a movie of another cartridge.
-const DIGEST: ToolFault = ToolFault::Run(RunFault::Text(TextError {
-    line: 2,
-    kind: TextErrorKind::Digest,
-}));
-
 /// A cartridge, a script, the second movie's text, the first one's, and the fault.
 type Faulty = (
     &'static [u8],
     &'static [u8],
     &'static [u8],
     &'static [u8],
-    ToolFault,
+    RunFault,
 );
 
 static FAULTS: [Faulty; 6] = [
+    (b"1234567", b"len\n", CUT_OFF, CUT_OFF, RunFault::Size(7)),
+    (&[0; 4096], b"len\n", HALTING_MOVIE, CUT_OFF, OTHER_DIGEST),
+    (&[0; 4096], b"len\n", CUT_OFF, HALTING_MOVIE, NO_END),
     (
-        b"1234567",
+        &[0; 4096],
         b"len\n",
-        CUT_OFF,
-        CUT_OFF,
-        ToolFault::Run(RunFault::Size(7)),
+        TWO_FRAMES,
+        HALTING_MOVIE,
+        OTHER_DIGEST,
     ),
-    (&[0; 4096], b"len\n", HALTING_MOVIE, CUT_OFF, DIGEST),
-    (&[0; 4096], b"len\n", CUT_OFF, HALTING_MOVIE, END),
-    (&[0; 4096], b"len\n", TWO_FRAMES, HALTING_MOVIE, DIGEST),
     (
         &[0; 4096],
         b"len\n",
         TWO_FRAMES,
         TWO_FRAMES,
-        ToolFault::Run(RunFault::Script { line: 1 }),
+        RunFault::Script { line: 1 },
     ),
     (
         &[0; 4096],
         b"copy other 0 2 2\ncopy other 1 2 0\n",
         TWO_FRAMES,
         TWO_FRAMES,
-        ToolFault::Run(RunFault::Place { line: 2 }),
+        RunFault::Place { line: 2 },
     ),
 ];
 
@@ -356,28 +338,18 @@ fn faults_of_two_movies_come_in_order(rt: HostRuntime) {
     let alloc = rt.alloc();
     for (number, (cart, script, more, text, fault)) in FAULTS.iter().enumerate() {
         let ran = edited_with(alloc, cart, script, more, text);
-        check_fault(&rt, ("case", number), ran, *fault);
+        check_fault(&rt, ("case", number), ran, ToolFault::Run(*fault));
     }
 }
 
 /// The inputs, how many reads of each succeed where it fails, the fault, and how many reads there were of each.
 static READS: [([usize; 4], [usize; 4], ToolFault, [usize; 4]); 4] = [
-    (
-        [10; 4],
-        [1, 1, 1, 1],
-        ToolFault::Read(ReadFault::Failed),
-        [1, 0, 0, 0],
-    ),
-    (
-        [10; 4],
-        [0, 0, 2, 1],
-        ToolFault::Read(ReadFault::Failed),
-        [2, 2, 2, 0],
-    ),
+    ([10; 4], [1, 1, 1, 1], FAILED, [1, 0, 0, 0]),
+    ([10; 4], [0, 0, 2, 1], FAILED, [2, 2, 2, 0]),
     (
         [10, 10, INPUT_LIMIT + 1, 10],
         [0, 0, 0, 1],
-        ToolFault::Read(ReadFault::TooLong),
+        TOO_LONG,
         [2, 2, 4097, 0],
     ),
     (
@@ -426,11 +398,11 @@ fn frames_are_cut_out(rt: HostRuntime) {
     let text = text_of(&rt, alloc, BLANK_DIGEST, b"RRF.");
     for (from, to, left) in CUTS.iter() {
         let wanted = text_of(&rt, alloc, BLANK_DIGEST, *left);
-        let ran = cut(alloc, (*from, *to), &BLANK, text.as_slice());
+        let ran = run_on(alloc, Engine::Cut(*from, *to), &BLANK, text.as_slice());
         check_ran(&rt, (*from, *to), ran, wanted.as_slice());
     }
     for (from, to) in [(3, 2), (0, 5), (5, 5), (9_999_999, 9_999_999)].iter() {
-        let ran = cut(alloc, (*from, *to), &BLANK, text.as_slice());
+        let ran = run_on(alloc, Engine::Cut(*from, *to), &BLANK, text.as_slice());
         let fault = ToolFault::Run(RunFault::Range {
             from: *from,
             to: *to,
@@ -438,8 +410,8 @@ fn frames_are_cut_out(rt: HostRuntime) {
         });
         check_fault(&rt, (*from, *to), ran, fault);
     }
-    let ran = cut(alloc, (0, 9), b"1234567", CUT_OFF);
+    let ran = run_on(alloc, Engine::Cut(0, 9), b"1234567", CUT_OFF);
     check_fault(&rt, "size", ran, ToolFault::Run(RunFault::Size(7)));
-    let ran = cut(alloc, (0, 9), &BLANK, CUT_OFF);
-    check_fault(&rt, "text", ran, END);
+    let ran = run_on(alloc, Engine::Cut(0, 9), &BLANK, CUT_OFF);
+    check_fault(&rt, "text", ran, ToolFault::Run(NO_END));
 }

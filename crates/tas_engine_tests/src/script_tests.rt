@@ -30,17 +30,9 @@ const NONE: Input = Input {
 const RIGHT: Input = Input {
     left: Stick {
         right: true,
-        left: false,
-        down: false,
-        up: false,
-        fire: false,
+        ..REST
     },
-    right: REST,
-    reset: false,
-    select: false,
-    mono: false,
-    left_a: false,
-    right_a: false,
+    ..NONE
 };
 
 /// An image of one size or the other, of zeros but for one byte.
@@ -121,8 +113,9 @@ fn each_other_line_is_its_command(rt: HostRuntime) {
     }
 }
 
-/// Lines that load nothing.
-static NO_LOADS: [&[u8]; 17] = [
+/// Lines that are no command.
+static NO_COMMANDS: [&[u8]; 52] = [
+    // Those that would load.
     b"load",
     b"load ",
     b"load 000=",
@@ -140,17 +133,7 @@ static NO_LOADS: [&[u8]; 17] = [
     b"load2 000=A9 ",
     b"load2000=A9",
     b"load3 000=A9",
-];
-
-#[test]
-fn no_other_load_is_understood(rt: HostRuntime) {
-    for (number, line) in NO_LOADS.iter().enumerate() {
-        check_that(&rt, ("line", number), parse_line(line).is_none());
-    }
-}
-
-/// Other lines that are no command.
-static NO_COMMANDS: [&[u8]; 35] = [
+    // Other lines.
     b"",
     b" ",
     b"len ",
@@ -195,10 +178,12 @@ fn no_other_line_is_understood(rt: HostRuntime) {
     }
 }
 
-/// Checks the line of a reply.
-fn check_reply<R: Abort>(rt: &R, alloc: Global, reply: Reply, line: &[u8]) {
-    let text = expect_ok(rt, reply_line(alloc, reply));
-    check_same(rt, reply, text.as_slice(), line);
+/// Fails where one of these replies has another line than this.
+fn check_replies<R: Abort>(rt: &R, alloc: Global, replies: &[(Reply, &[u8])]) {
+    for (reply, line) in replies {
+        let text = expect_ok(rt, reply_line(alloc, *reply));
+        check_same(rt, *reply, text.as_slice(), *line);
+    }
 }
 
 /// Replies to edits and looks, and the line of each.
@@ -221,10 +206,7 @@ static REPLIES: [(Reply, &[u8]); 8] = [
 
 #[test]
 fn replies_to_edits_and_looks(rt: HostRuntime) {
-    let alloc = rt.alloc();
-    for (reply, line) in REPLIES.iter() {
-        check_reply(&rt, alloc, *reply, *line);
-    }
+    check_replies(&rt, rt.alloc(), REPLIES.as_slice());
 }
 
 /// Replies of what was played, and the line of each.
@@ -266,8 +248,5 @@ static PLAYED: [(Reply, &[u8]); 4] = [
 
 #[test]
 fn replies_of_what_was_played(rt: HostRuntime) {
-    let alloc = rt.alloc();
-    for (reply, line) in PLAYED.iter() {
-        check_reply(&rt, alloc, *reply, *line);
-    }
+    check_replies(&rt, rt.alloc(), PLAYED.as_slice());
 }

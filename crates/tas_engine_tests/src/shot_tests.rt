@@ -2,20 +2,10 @@
 
 use crate::checks::{check_same, check_that};
 use crate::movies::{HALTING, PLAYFIELD, PLAYFIELD_MOVIE, image_of};
-use crate::ran::{Ran, check_fault};
-use std::alloc::Global;
+use crate::ran::{Engine, FAILURES, check_fault, check_filled, run_on, run_to};
 use std::process::Abort;
-use tas_engines::{RunFault, ToolFault, shot_run};
-use test_streams::{Failure, Room, Taker};
-
-/// `tas shot` of these bytes.
-fn shown(alloc: Global, frame: usize, cart: &[u8], text: &[u8]) -> Ran {
-    let mut cart = cart;
-    let mut text = text;
-    let mut output = Vec::new(alloc);
-    let end = shot_run(alloc, frame, &mut cart, &mut text, &mut output);
-    (output, end)
-}
+use tas_engines::{RunFault, ToolFault};
+use test_streams::{Room, Taker};
 
 /// Fails where a picture isn't the one of the playfield.
 fn check_playfield<R: Abort>(rt: &R, picture: &[u8]) {
@@ -38,7 +28,7 @@ fn check_playfield<R: Abort>(rt: &R, picture: &[u8]) {
 fn a_playfield_is_drawn(rt: HostRuntime) {
     let alloc = rt.alloc();
     let cart = image_of(&rt, alloc, PLAYFIELD);
-    let (picture, answer) = shown(alloc, 0, cart.as_slice(), PLAYFIELD_MOVIE);
+    let (picture, answer) = run_on(alloc, Engine::Shot(0), cart.as_slice(), PLAYFIELD_MOVIE);
     check_same(&rt, "answer", answer, Ok(()));
     check_playfield(&rt, picture.as_slice());
 }
@@ -47,35 +37,24 @@ fn a_playfield_is_drawn(rt: HostRuntime) {
 fn no_frame_past_the_end_is_drawn(rt: HostRuntime) {
     let alloc = rt.alloc();
     let cart = image_of(&rt, alloc, PLAYFIELD);
-    let ran = shown(alloc, 1, cart.as_slice(), PLAYFIELD_MOVIE);
-    check_fault(
-        &rt,
-        "one",
-        ran,
-        ToolFault::Run(RunFault::NoFrame { frame: 1, len: 1 }),
-    );
+    let ran = run_on(alloc, Engine::Shot(1), cart.as_slice(), PLAYFIELD_MOVIE);
+    let fault = ToolFault::Run(RunFault::NoFrame { frame: 1, len: 1 });
+    check_fault(&rt, "one", ran, fault);
 }
-
-/// How a writer fails.
-static FAILURES: [Failure; 3] = [Failure::Error, Failure::Interrupted, Failure::Nothing];
 
 #[test]
 fn a_cut_picture_is_told_by_its_bytes(rt: HostRuntime) {
     let alloc = rt.alloc();
     let image = image_of(&rt, alloc, PLAYFIELD);
-    let (whole, _end) = shown(alloc, 0, image.as_slice(), PLAYFIELD_MOVIE);
+    let (whole, _end) = run_on(alloc, Engine::Shot(0), image.as_slice(), PLAYFIELD_MOVIE);
     check_playfield(&rt, whole.as_slice());
     for failure in FAILURES.iter() {
         for room in [0, 20, 300, 700, 1100] {
             let mut picture = Taker::new(alloc, 1000, Room::Bytes(room), *failure);
             let mut cart = image.as_slice();
             let mut text = PLAYFIELD_MOVIE;
-            let answer = shot_run(alloc, 0, &mut cart, &mut text, &mut picture);
-            let fault = ToolFault::Run(RunFault::Write { written: room });
-            check_same(&rt, ("room", room), answer, Err(fault));
-            let is_first = Some(picture.taken.as_slice()) == whole.get(..room);
-            check_that(&rt, ("the first bytes", room), is_first);
-            check_same(&rt, ("failed writes", room), picture.failed, 1);
+            let end = run_to(alloc, Engine::Shot(0), &mut cart, &mut text, &mut picture);
+            check_filled(&rt, &picture, end, whole.as_slice(), room);
         }
     }
 }
@@ -96,7 +75,12 @@ fn frames_before_a_halt_have_pictures(rt: HostRuntime) {
     let cart = image_of(&rt, alloc, HALTING);
     check_same(&rt, "text", OLDER_HALTING_MOVIE.len(), 171);
     for frame in 0..3 {
-        let (picture, answer) = shown(alloc, frame, cart.as_slice(), OLDER_HALTING_MOVIE);
+        let (picture, answer) = run_on(
+            alloc,
+            Engine::Shot(frame),
+            cart.as_slice(),
+            OLDER_HALTING_MOVIE,
+        );
         check_same(&rt, frame, answer, Ok(()));
         check_black(&rt, frame, picture.as_slice());
     }
@@ -111,7 +95,12 @@ fn a_halted_frame_has_no_picture(rt: HostRuntime) {
         opcode: 2,
     });
     for frame in 3..5 {
-        let ran = shown(alloc, frame, cart.as_slice(), OLDER_HALTING_MOVIE);
+        let ran = run_on(
+            alloc,
+            Engine::Shot(frame),
+            cart.as_slice(),
+            OLDER_HALTING_MOVIE,
+        );
         check_fault(&rt, frame, ran, fault);
     }
 }

@@ -1,4 +1,5 @@
 //! The assertions of these tests, proved once for all their callers: each `assert_eq!` would be proved again where it stands.
+//! Each crate of tests has this file, letter by letter: a library of these would need the bound `Abort`, which the gate refuses outside tests.
 
 ghost use Rattle.std.specs.Prelude.{◌≡◌, true, Ok, Some};
 

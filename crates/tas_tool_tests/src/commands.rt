@@ -11,37 +11,51 @@ use tas_tool::{
     shot_run, talk_run,
 };
 
-/// Exports frames `from` to the one before `to` by this many workers.
-pub fn export<R: Wait + Threads + Sync, C: Read, I: Read, W: Write>(
+/// A command that answers lines, from a blank cartridge on.
+#[derive(Clone, Copy)]
+pub enum LineCommand {
+    Script,
+    Talk,
+}
+
+/// Answers lines.
+pub fn answer_lines<R: Wait, I: Read, W: Write>(
     rt: &R,
     alloc: Global,
-    (from, to, workers): (usize, usize, usize),
+    command: LineCommand,
+    input: &mut I,
+    output: &mut W,
+) -> Result<(), ToolFault> {
+    match command {
+        LineCommand::Script => script_run(rt, alloc, input, output),
+        LineCommand::Talk => talk_run(rt, alloc, input, output),
+    }
+}
+
+/// A command that writes the pictures of a movie's frames.
+#[derive(Clone, Copy, Debug)]
+pub enum PictureCommand {
+    /// From the first of these frames to the one before the second, where they are given.
+    Film(Option<usize>, Option<usize>),
+    /// From the first of these frames to the one before the second, by this many workers.
+    Export(usize, usize, usize),
+}
+
+/// Writes pictures.
+pub fn write_pictures<R: Wait + Threads + Sync, C: Read, I: Read, W: Write>(
+    rt: &R,
+    alloc: Global,
+    command: PictureCommand,
     cart: &mut C,
     input: &mut I,
     output: &mut W,
 ) -> Result<(), ToolFault> {
-    export_run(rt, alloc, from, to, workers, cart, input, output)
-}
-
-/// Answers a script.
-pub fn answer_script<R: Wait, I: Read, W: Write>(
-    rt: &R,
-    alloc: Global,
-    input: &mut I,
-    output: &mut W,
-) -> Result<(), ToolFault> {
-    script_run(rt, alloc, input, output)
-}
-
-/// Films the frames from the first of these to the one before the second, where they are given.
-pub fn film<C: Read, I: Read, W: Write>(
-    alloc: Global,
-    (from, to): (Option<usize>, Option<usize>),
-    cart: &mut C,
-    input: &mut I,
-    output: &mut W,
-) -> Result<(), ToolFault> {
-    film_run(alloc, from, to, cart, input, output)
+    match command {
+        PictureCommand::Film(from, to) => film_run(alloc, from, to, cart, input, output),
+        PictureCommand::Export(from, to, workers) => {
+            export_run(rt, alloc, from, to, workers, cart, input, output)
+        }
+    }
 }
 
 /// A cartridge and the text of a movie.
@@ -76,16 +90,6 @@ pub fn answer_over_movie<R: Wait, W: Write>(
     let mut movie = movie;
     let mut input = script;
     movie_script_run(rt, alloc, &mut cart, &mut movie, &mut input, output)
-}
-
-/// Talks from a blank cartridge.
-pub fn talk<R: Wait, I: Read, W: Write>(
-    rt: &R,
-    alloc: Global,
-    input: &mut I,
-    output: &mut W,
-) -> Result<(), ToolFault> {
-    talk_run(rt, alloc, input, output)
 }
 
 /// Talks from a cartridge.

@@ -20,8 +20,8 @@ pub struct Client<'a> {
     pub room: usize,
 }
 
-/// One that sends nothing.
-const SILENT: Client<'static> = Client {
+/// One that sends nothing, and takes all answers.
+pub const SILENT: Client<'static> = Client {
     lines: b"",
     fails_at: 0,
     room: usize::MAX,
@@ -29,11 +29,7 @@ const SILENT: Client<'static> = Client {
 
 /// One that sends these lines and takes all answers.
 pub fn sends(lines: &[u8]) -> Client<'_> {
-    Client {
-        lines,
-        fails_at: 0,
-        room: usize::MAX,
-    }
+    Client { lines, ..SILENT }
 }
 
 /// A folder with the files `game.bin` and `other`, and of each of its pairs K the files `inK` and `outK`.

@@ -1,7 +1,7 @@
 //! `tas desk` over pairs of files in memory: answers, the movie, faults and statuses.
 
 use crate::checks::{check_same, check_that, expect_some};
-use crate::desk_files::{Client, DeskFolder, run_desk, sends, tapes};
+use crate::desk_files::{Client, DeskFolder, SILENT, run_desk, sends, tapes};
 use crate::movies::{PLAYFIELD, image_of};
 use crate::programs::{ONE_FRAME, TWO_FRAMES};
 use std::alloc::Global;
@@ -24,6 +24,7 @@ const PUSHED: &[u8] = b"len 2 1\nedit 3 len 1\n";
 
 /// The words, the movie's text, the clients of the first pairs, how many bytes standard output takes; and then the status, standard
 /// output, the line that is told, and what the first pairs' outputs hold, by hand.
+#[derive(Clone, Copy)]
 struct Case<'a> {
     words: &'a [&'a str],
     movie: &'a [u8],
@@ -47,142 +48,115 @@ const EIGHT_PAIRS: &[&str] = &[
 /// One that edits and quits.
 const PUSHING: Client<'static> = Client {
     lines: PUSH_RIGHT,
-    fails_at: 0,
-    room: usize::MAX,
+    ..SILENT
 };
 
 /// One whose only line has no newline.
 const WRONG: Client<'static> = Client {
     lines: b"what",
-    fails_at: 0,
-    room: usize::MAX,
+    ..SILENT
 };
 
 /// One whose read fails after the first line.
 const CUT_OFF: Client<'static> = Client {
     lines: b"len\n",
     fails_at: 2,
-    room: usize::MAX,
+    ..SILENT
 };
 
 /// One that edits, and takes three bytes of the answer.
 const DEAF: Client<'static> = Client {
     lines: b"replace 0 1 R.... ..... .....\nlen\n",
-    fails_at: 0,
     room: 3,
+    ..SILENT
+};
+
+/// One pair that edits and quits.
+const PUSH: Case<'static> = Case {
+    words: ONE_PAIR,
+    movie: ONE_FRAME,
+    clients: &[PUSHING],
+    room: 1000,
+    status: 0,
+    output: RIGHT,
+    line: b"",
+    answers: &[PUSHED],
+};
+
+/// The same where one of the desk's own files can't be read.
+const UNREAD: Case<'static> = Case {
+    status: 1,
+    output: b"",
+    line: b"fault: read failed\n",
+    answers: &[b""],
+    ..PUSH
 };
 
 /// Each status.
 static CASES: [Case<'static>; 11] = [
+    PUSH,
     Case {
-        words: ONE_PAIR,
-        movie: ONE_FRAME,
-        clients: &[PUSHING],
-        room: 1000,
-        status: 0,
-        output: RIGHT,
-        line: b"",
-        answers: &[PUSHED],
-    },
-    Case {
-        words: ONE_PAIR,
-        movie: ONE_FRAME,
         clients: &[WRONG],
-        room: 1000,
-        status: 0,
         output: ONE_FRAME,
-        line: b"",
         answers: &[b"unknown\n"],
+        ..PUSH
     },
     Case {
         words: EIGHT_PAIRS,
-        movie: ONE_FRAME,
         clients: &[],
-        room: 1000,
-        status: 0,
         output: ONE_FRAME,
-        line: b"",
         answers: &[b"", b""],
+        ..PUSH
     },
     Case {
         words: &["desk", "game.bin", "other", "in0", "out0", "in1", "out9"],
-        movie: ONE_FRAME,
-        clients: &[PUSHING],
-        room: 1000,
         status: 1,
-        output: RIGHT,
         line: b"fault: seat 1: not opened\n",
-        answers: &[PUSHED],
+        ..PUSH
     },
     Case {
         words: &["desk", "game.bin", "other", "in9", "out9", "in0", "out0"],
-        movie: ONE_FRAME,
-        clients: &[PUSHING],
-        room: 1000,
         status: 1,
-        output: RIGHT,
         line: b"fault: seat 0: not opened\n",
-        answers: &[PUSHED],
+        ..PUSH
     },
     Case {
-        words: ONE_PAIR,
-        movie: ONE_FRAME,
         clients: &[CUT_OFF],
-        room: 1000,
         status: 1,
         output: ONE_FRAME,
         line: b"fault: seat 0: read failed\n",
         answers: &[b"len 2 1\n"],
+        ..PUSH
     },
     Case {
         words: TWO_PAIRS,
-        movie: ONE_FRAME,
         clients: &[DEAF, CUT_OFF],
-        room: 1000,
         status: 1,
-        output: RIGHT,
         line: b"fault: seat 0: write failed after 3 bytes\n",
         answers: &[b"edi"],
+        ..PUSH
     },
     Case {
         words: TWO_PAIRS,
-        movie: ONE_FRAME,
         clients: &[PUSHING, CUT_OFF],
         room: 5,
         status: 1,
         output: b"a26mo",
         line: b"fault: write failed after 5 bytes\n",
-        answers: &[PUSHED],
+        ..PUSH
     },
     Case {
         words: &["desk", "nothing", "other", "in0", "out0"],
-        movie: ONE_FRAME,
-        clients: &[PUSHING],
-        room: 1000,
-        status: 1,
-        output: b"",
-        line: b"fault: read failed\n",
-        answers: &[b""],
+        ..UNREAD
     },
     Case {
         words: &["desk", "game.bin", "nothing", "in0", "out0"],
-        movie: ONE_FRAME,
-        clients: &[PUSHING],
-        room: 1000,
-        status: 1,
-        output: b"",
-        line: b"fault: read failed\n",
-        answers: &[b""],
+        ..UNREAD
     },
     Case {
-        words: ONE_PAIR,
         movie: b"a26movie 1\n",
-        clients: &[PUSHING],
-        room: 1000,
-        status: 1,
-        output: b"",
         line: b"fault: movie line 2: end\n",
-        answers: &[b""],
+        ..UNREAD
     },
 ];
 

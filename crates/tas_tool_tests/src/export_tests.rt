@@ -1,33 +1,16 @@
 //! Exports of whole movies.
 
-use crate::answers::{Answer, DIGEST, SIZE, check_filled, check_pictures};
 use crate::checks::{check_same, check_that};
-use crate::commands::{Files, export, shots};
-use crate::movies::{FOLDING, HALTING, IDLE, PICTURE, PLAYFIELD, RIGHT, image_of, text_of};
+use crate::commands::{Files, PictureCommand, shots, write_pictures};
+use crate::movies::{FOLDING, HALTING, IDLE, PICTURE, PLAYFIELD, RIGHT, image_of, recording_of};
+use crate::pictures::{check_faults, check_full, check_pictures};
 use crate::programs::ONE_FRAME;
 use std::alloc::Global;
-use std::fmt::Debug;
 use std::process::Abort;
 use std::sync::Wait;
 use std::thread::Threads;
 use tas_tool::{INPUT_LIMIT, ReadFault, RunFault, ToolFault};
-use test_streams::{Failure, Filler, Giver, Room, Taker};
-
-/// Fails where an export ends in another way, or writes other pictures, which are too long to be shown.
-fn check_export<R: Wait + Threads + Sync + Abort, C: Copy + Debug>(
-    rt: &R,
-    alloc: Global,
-    case: C,
-    (image, text): Files<'_>,
-    range: (usize, usize, usize),
-    wanted: Answer<'_>,
-) {
-    let mut output = Vec::new(alloc);
-    let mut cart = image;
-    let mut input = text;
-    let ended = export(rt, alloc, range, &mut cart, &mut input, &mut output);
-    check_pictures(rt, case, (output.as_slice(), ended), wanted);
-}
+use test_streams::{Filler, Giver};
 
 /// Fails where an export's pictures aren't the shots.
 fn check_shots<R: Wait + Threads + Sync + Abort>(
@@ -41,18 +24,19 @@ fn check_shots<R: Wait + Threads + Sync + Abort>(
     let length = to.saturating_sub(from).saturating_mul(PICTURE);
     check_same(rt, (from, to), pictures.len(), length);
     let wanted = (pictures.as_slice(), Ok(()));
-    check_export(rt, alloc, (from, to), files, (from, to, workers), wanted);
+    let command = PictureCommand::Export(from, to, workers);
+    check_pictures(rt, alloc, command, files, wanted);
 }
 
 #[test]
 fn one_frame_is_its_shot(rt: HostRuntime) {
     let alloc = rt.alloc();
-    let image = image_of(&rt, alloc, PLAYFIELD.bytes);
-    let files = (image.as_slice(), ONE_FRAME);
+    let movie = recording_of(&rt, alloc, PLAYFIELD, 1, IDLE);
+    let files = movie.files();
     check_shots(&rt, alloc, files, (0, 1), 4);
-    let nothing = (b"".as_slice(), Ok(()));
     for at in [0, 1] {
-        check_export(&rt, alloc, (at, at), files, (at, at, 3), nothing);
+        let command = PictureCommand::Export(at, at, 3);
+        check_pictures(&rt, alloc, command, files, (b"", Ok(())));
     }
 }
 
@@ -71,26 +55,20 @@ static OTHER_RANGES: [(usize, usize, usize); 8] = [
 #[test]
 fn other_ranges_are_refused(rt: HostRuntime) {
     let alloc = rt.alloc();
-    let image = image_of(&rt, alloc, PLAYFIELD.bytes);
     for row in OTHER_RANGES.iter() {
         let (from, to, len) = *row;
-        let text = text_of(&rt, alloc, PLAYFIELD, len, RIGHT);
-        let files = (image.as_slice(), text.as_bytes());
-        let wanted = (
-            b"".as_slice(),
-            Err(ToolFault::Run(RunFault::Range { from, to, len })),
-        );
-        let case = ("range", from, to, len);
-        check_export(&rt, alloc, case, files, (from, to, 1), wanted);
+        let movie = recording_of(&rt, alloc, PLAYFIELD, len, RIGHT);
+        let command = PictureCommand::Export(from, to, 1);
+        let fault = ToolFault::Run(RunFault::Range { from, to, len });
+        check_pictures(&rt, alloc, command, movie.files(), (b"", Err(fault)));
     }
 }
 
 #[test]
 fn every_number_of_workers_writes_the_shots(rt: HostRuntime) {
     let alloc = rt.alloc();
-    let image = image_of(&rt, alloc, FOLDING.bytes);
-    let text = text_of(&rt, alloc, FOLDING, 20, RIGHT);
-    let files = (image.as_slice(), text.as_bytes());
+    let movie = recording_of(&rt, alloc, FOLDING, 20, RIGHT);
+    let files = movie.files();
     let pictures = shots(&rt, alloc, files, (2, 19));
     let pictures = pictures.as_slice();
     check_same(&rt, "pictures", pictures.len(), 17 * PICTURE);
@@ -98,15 +76,8 @@ fn every_number_of_workers_writes_the_shots(rt: HostRuntime) {
     let fifth = pictures.get(2 * PICTURE..3 * PICTURE);
     check_that(&rt, "third", third != fifth);
     for workers in [1, 2, 3, 16, 0, 17, usize::MAX] {
-        let case = ("workers", workers);
-        check_export(
-            &rt,
-            alloc,
-            case,
-            files,
-            (2, 19, workers),
-            (pictures, Ok(())),
-        );
+        let command = PictureCommand::Export(2, 19, workers);
+        check_pictures(&rt, alloc, command, files, (pictures, Ok(())));
     }
 }
 
@@ -119,53 +90,40 @@ const HALTED: ToolFault = ToolFault::Run(RunFault::Halted {
 #[test]
 fn halted_frames_are_not_written(rt: HostRuntime) {
     let alloc = rt.alloc();
-    let image = image_of(&rt, alloc, HALTING.bytes);
-    let text = text_of(&rt, alloc, HALTING, 5, IDLE);
-    let files = (image.as_slice(), text.as_bytes());
-    let halted = (b"".as_slice(), Err(HALTED));
+    let movie = recording_of(&rt, alloc, HALTING, 5, IDLE);
+    let files = movie.files();
     for (from, to) in [(1, 5), (3, 4), (4, 5), (0, 5)] {
-        check_export(&rt, alloc, (from, to), files, (from, to, 2), halted);
+        let command = PictureCommand::Export(from, to, 2);
+        check_pictures(&rt, alloc, command, files, (b"", Err(HALTED)));
     }
     check_shots(&rt, alloc, files, (0, 3), 2);
 }
 
+/// The first frame.
+const FIRST: PictureCommand = PictureCommand::Export(0, 1, 1);
+
 #[test]
 fn the_longest_movie_is_exported(rt: HostRuntime) {
     let alloc = rt.alloc();
-    let image = image_of(&rt, alloc, PLAYFIELD.bytes);
-    let text = text_of(&rt, alloc, PLAYFIELD, 262_144, RIGHT);
+    let movie = recording_of(&rt, alloc, PLAYFIELD, 262_144, RIGHT);
     let mut output = Vec::new(alloc);
-    let (mut cart, mut input) = (image.as_slice(), text.as_bytes());
-    let end = export(&rt, alloc, (0, 1, 1), &mut cart, &mut input, &mut output);
+    let (mut cart, mut input) = movie.files();
+    let end = write_pictures(&rt, alloc, FIRST, &mut cart, &mut input, &mut output);
     check_same(&rt, "end", end, Ok(()));
     check_same(&rt, "output", output.len(), PICTURE);
-}
-
-/// Fails where a writer with so much room isn't left with the first bytes of these pictures, or is written to again.
-fn check_full<R: Wait + Threads + Sync + Abort>(
-    rt: &R,
-    alloc: Global,
-    (image, text): Files<'_>,
-    pictures: &[u8],
-    room: usize,
-) {
-    let mut output = Taker::new(alloc, 1000, Room::Bytes(room), Failure::Error);
-    let mut cart = image;
-    let mut input = text;
-    let end = export(rt, alloc, (1, 3, 2), &mut cart, &mut input, &mut output);
-    check_filled(rt, &output, end, pictures, room);
 }
 
 /// A failed write is the last one.
 #[test]
 fn a_writer_that_fails_has_the_first_bytes(rt: HostRuntime) {
     let alloc = rt.alloc();
-    let image = image_of(&rt, alloc, FOLDING.bytes);
-    let text = text_of(&rt, alloc, FOLDING, 4, RIGHT);
-    let files = (image.as_slice(), text.as_bytes());
+    let movie = recording_of(&rt, alloc, FOLDING, 4, RIGHT);
+    let files = movie.files();
     let pictures = shots(&rt, alloc, files, (1, 3));
+    let pictures = pictures.as_slice();
+    let command = PictureCommand::Export(1, 3, 2);
     for room in [0, 1, 20, PICTURE, PICTURE + 1, 2 * PICTURE - 1] {
-        check_full(&rt, alloc, files, pictures.as_slice(), room);
+        check_full(&rt, alloc, command, files, pictures, (1000, room));
     }
 }
 
@@ -188,7 +146,7 @@ fn an_export_does_not_read_on(rt: HostRuntime) {
         let mut cart = Giver::new(image.as_slice(), usize::MAX, cart_fails);
         let mut input = Giver::new(ONE_FRAME, usize::MAX, text_fails);
         let mut output = Vec::new(alloc);
-        let ended = export(&rt, alloc, (0, 1, 1), &mut cart, &mut input, &mut output);
+        let ended = write_pictures(&rt, alloc, FIRST, &mut cart, &mut input, &mut output);
         check_same(&rt, reads, ended, end);
         check_same(&rt, "reads", (cart.reads, input.reads), reads);
         check_same(&rt, reads, output.is_empty(), end.is_err());
@@ -202,18 +160,14 @@ fn an_input_past_the_limit_is_too_long(rt: HostRuntime) {
     let mut output = Vec::new(alloc);
     let mut cart = Filler::new(0, INPUT_LIMIT + 2, 0);
     let mut input = Filler::new(0, 10, 0);
-    let end = export(&rt, alloc, (0, 1, 1), &mut cart, &mut input, &mut output);
-    check_same(
-        &rt,
-        "cartridge",
-        end,
-        Err(ToolFault::Read(ReadFault::TooLong)),
-    );
+    let end = write_pictures(&rt, alloc, FIRST, &mut cart, &mut input, &mut output);
+    let fault = ToolFault::Read(ReadFault::TooLong);
+    check_same(&rt, "cartridge", end, Err(fault));
     check_same(&rt, "cart.left", (cart.left, input.reads), (1, 0));
     let mut cart = image.as_slice();
     let mut text = Filler::new(0, INPUT_LIMIT + 2, 0);
-    let end = export(&rt, alloc, (0, 1, 1), &mut cart, &mut text, &mut output);
-    check_same(&rt, "text", end, Err(ToolFault::Read(ReadFault::TooLong)));
+    let end = write_pictures(&rt, alloc, FIRST, &mut cart, &mut text, &mut output);
+    check_same(&rt, "text", end, Err(fault));
     check_same(&rt, "text.left", text.left, 1);
     check_same(&rt, "output", output.len(), 0);
 }
@@ -221,12 +175,5 @@ fn an_input_past_the_limit_is_too_long(rt: HostRuntime) {
 /// The cartridge's size comes before the text's fault, and this before the range.
 #[test]
 fn faults_of_an_export_come_in_order(rt: HostRuntime) {
-    let alloc = rt.alloc();
-    let image = image_of(&rt, alloc, PLAYFIELD.bytes);
-    let other = text_of(&rt, alloc, HALTING, 1, IDLE);
-    for (image, fault) in [(b"1234567".as_slice(), SIZE), (image.as_slice(), DIGEST)] {
-        let files = (image, other.as_bytes());
-        let wanted = (b"".as_slice(), Err(fault));
-        check_export(&rt, alloc, fault, files, (0, 2, 1), wanted);
-    }
+    check_faults(&rt, rt.alloc(), PictureCommand::Export(0, 2, 1));
 }

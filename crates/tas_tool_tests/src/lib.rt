@@ -29,6 +29,8 @@ mod movie_script_tests;
 #[cfg(test)]
 mod movies;
 #[cfg(test)]
+mod pictures;
+#[cfg(test)]
 mod plain_editor;
 #[cfg(test)]
 mod plain_script;
@@ -47,13 +49,9 @@ mod spoilt_script_tests;
 #[cfg(test)]
 mod tails;
 #[cfg(test)]
-mod talk_draft_tests;
+mod talk_by_hand_tests;
 #[cfg(test)]
 mod talk_file_tests;
-#[cfg(test)]
-mod talk_hand_tests;
-#[cfg(test)]
-mod talk_history_tests;
 #[cfg(test)]
 mod talk_look_tests;
 #[cfg(test)]

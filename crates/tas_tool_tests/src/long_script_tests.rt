@@ -16,7 +16,8 @@
 //! - `000=A203A9028500A9008500CAD0F502 FFC=00F0` ends three frames at once, and halts at F00D in its fourth.
 
 use crate::checks::{check_same, check_that, expect_ok, expect_some};
-use crate::commands::answer_script;
+use crate::commands::LineCommand;
+use crate::talks::answers_of;
 use byte_text::split_once;
 use std::alloc::Global;
 use std::process::Abort;
@@ -264,8 +265,6 @@ fn script<R: Abort>(rt: &R, alloc: Global) -> Vec<u8> {
 fn a_long_script_is_answered_as_worked_out_apart(rt: HostRuntime) {
     let alloc = rt.alloc();
     let script = script(&rt, alloc);
-    let mut output = Vec::new(alloc);
-    let end = answer_script(&rt, alloc, &mut script.as_slice(), &mut output);
-    check_same(&rt, "end", end, Ok(()));
+    let output = answers_of(&rt, alloc, LineCommand::Script, script.as_slice());
     compare(&rt, alloc, output.as_slice());
 }

@@ -1,10 +1,11 @@
 //! Whole scripts over a movie.
 
-use crate::answers::{Answer, check_answer};
+use crate::answers::{Answer, SIZE, check_answer};
 use crate::checks::check_same;
-use crate::commands::{Files, answer_over_movie, answer_script};
-use crate::movies::{IDLE, PLAYFIELD, image_of, joined, text_of};
+use crate::commands::{Files, LineCommand, answer_over_movie};
+use crate::movies::{IDLE, PLAYFIELD, image_of, joined, recording_of};
 use crate::programs::ONE_FRAME;
+use crate::talks::check_lines;
 use std::alloc::Global;
 use std::fmt::Debug;
 use std::process::Abort;
@@ -38,10 +39,8 @@ fn check_over_frames<R: Wait + Abort, C: Copy + Debug>(
     script: &[u8],
     wanted: Answer<'_>,
 ) {
-    let cart = image_of(rt, alloc, PLAYFIELD.bytes);
-    let movie = text_of(rt, alloc, PLAYFIELD, frames, IDLE);
-    let files = (cart.as_slice(), movie.as_bytes());
-    check_over_movie(rt, alloc, case, files, script, wanted);
+    let movie = recording_of(rt, alloc, PLAYFIELD, frames, IDLE);
+    check_over_movie(rt, alloc, case, movie.files(), script, wanted);
 }
 
 static LINES: &[u8] =
@@ -59,10 +58,9 @@ fn a_script_goes_on_from_its_movie(rt: HostRuntime) {
     let insert = b"insert 0 3 ..... ..... .....\n";
     let script = joined(&rt, alloc, &[LOAD, insert, LINES]);
     let replies = joined(&rt, alloc, &[b"edit 1 len 0\nedit 2 len 3\n", REPLIES]);
-    let mut output = Vec::new(alloc);
-    let end = answer_script(&rt, alloc, &mut script.as_slice(), &mut output);
     let wanted = (replies.as_slice(), Ok(()));
-    check_answer(&rt, "alone", (output.as_slice(), end), wanted);
+    let command = LineCommand::Script;
+    check_lines(&rt, alloc, command, "alone", &mut script.as_slice(), wanted);
 }
 
 /// Frames of a movie, lines, and the replies.
@@ -108,24 +106,11 @@ fn faults_over_a_movie_come_in_order(rt: HostRuntime) {
     let cart = image_of(&rt, alloc, PLAYFIELD.bytes);
     let bad = b"a26movie 2\n".as_slice();
     let script = b"len\nx\n".as_slice();
-    let size = (b"".as_slice(), Err(ToolFault::Run(RunFault::Size(7))));
-    check_over_movie(
-        &rt,
-        alloc,
-        ("case", 0usize),
-        (b"1234567", bad),
-        script,
-        size,
-    );
-    let end = (b"".as_slice(), Err(NO_END));
-    check_over_movie(
-        &rt,
-        alloc,
-        ("case", 1usize),
-        (cart.as_slice(), bad),
-        script,
-        end,
-    );
+    let carts = [(b"1234567".as_slice(), SIZE), (cart.as_slice(), NO_END)];
+    for (number, (cart, fault)) in carts.iter().enumerate() {
+        let wanted = (b"".as_slice(), Err(*fault));
+        check_over_movie(&rt, alloc, ("case", number), (*cart, bad), script, wanted);
+    }
     for row in NOT_UNDERSTOOD.iter() {
         let (number, script, replies, line) = *row;
         let wanted = (replies, Err(ToolFault::Run(RunFault::Script { line })));

@@ -1,6 +1,7 @@
 //! Cartridges and movies of the tests.
 
 use crate::checks::expect_ok;
+use crate::commands::Files;
 use std::alloc::Global;
 use std::process::Abort;
 
@@ -19,8 +20,8 @@ pub const PLAYFIELD: Program = Program {
 
 /// The same program in a small cartridge: `000=A910850DA91E85084C08F0 7FC=00F0`.
 pub const SMALL_PLAYFIELD: Program = Program {
-    bytes: b"\xA9\x10\x85\x0D\xA9\x1E\x85\x08\x4C\x08\xF0",
     digest: "b5fe266be72b749b56221450f897d39d577232bbd24bd6ff58aa186cb39c84d7",
+    ..PLAYFIELD
 };
 
 /// `000=A203A9028500A9008500CAD0F502 FFC=00F0`: three frames, then the undocumented opcode 02 at F00D.
@@ -34,6 +35,12 @@ pub const HALTING: Program = Program {
 pub const FOLDING: Program = Program {
     bytes: b"\xAD\x80\x02\x65\x80\x85\x80\x85\x09\x4C\x00\xF0",
     digest: "01cd4f43e4064c0915ec1dde6c9364a0d994bc18d980d88e45a83ec89a41c425",
+};
+
+/// `000=A94285804C00F0 FFC=00F0`: LDA #42, STA 80, JMP F000.
+pub const STORING: Program = Program {
+    bytes: b"\xA9\x42\x85\x80\x4C\x00\xF0",
+    digest: "af8b7369a82edda82776f158a41a6d44532e5dd90b590bc81f44cbfc39590b35",
 };
 
 /// Nothing pressed.
@@ -102,6 +109,34 @@ pub fn text_of<R: Abort>(
         }
     }
     text
+}
+
+/// A cartridge, and the text of a movie of it.
+#[derive(Drop)]
+pub struct Recording {
+    image: Vec<u8>,
+    text: String,
+}
+
+impl Recording {
+    /// Both files.
+    pub fn files(&self) -> Files<'_> {
+        (self.image.as_slice(), self.text.as_bytes())
+    }
+}
+
+/// The cartridge with this program, and a movie of this many frames, as [`frame_of`] has them.
+pub fn recording_of<R: Abort>(
+    rt: &R,
+    alloc: Global,
+    program: Program,
+    frames: usize,
+    third: &str,
+) -> Recording {
+    Recording {
+        image: image_of(rt, alloc, program.bytes),
+        text: text_of(rt, alloc, program, frames, third),
+    }
 }
 
 /// How many bytes the pixmap of a picture has.

@@ -1,16 +1,9 @@
 //! The commands that play frames and write more than one picture, through the whole program.
 
 use crate::movies::{
-    HALTING, IDLE, PLAYFIELD, image_of, joined, playfield_picture, repeated, text_of,
+    HALTING, IDLE, PLAYFIELD, STORING, image_of, joined, playfield_picture, recording_of, repeated,
 };
 use crate::programs::{ONE_FRAME, TWO_FRAMES, TwoFiles, check_run, only_game};
-
-/// LDA #42, STA 80, JMP F000. The digest comes from another program.
-static STORES: &[u8] = b"\xa9\x42\x85\x80\x4c\x00\xf0";
-
-/// A movie of this cartridge with one frame.
-const STORES_MOVIE: &[u8] =
-    b"a26movie 2\ncart af8b7369a82edda82776f158a41a6d44532e5dd90b590bc81f44cbfc39590b35\n..... ..... .....\n";
 
 /// A movie of the playfield's cartridge with two frames of nothing pressed.
 const TWO_IDLE_FRAMES: &[u8] =
@@ -44,14 +37,14 @@ fn films_have_their_frames(rt: HostRuntime) {
 #[test]
 fn ram_has_a_line_for_each_number_of_frames(rt: HostRuntime) {
     let alloc = rt.alloc();
-    let game = image_of(&rt, alloc, STORES);
+    let movie = recording_of(&rt, alloc, STORING, 1, IDLE);
+    let (game, text) = movie.files();
     let first = repeated(&rt, alloc, b"0 ", b"00", 128);
     let second = repeated(&rt, alloc, b"\n1 42", b"00", 127);
     let lines = joined(&rt, alloc, &[first.as_slice(), second.as_slice(), b"\n"]);
     let end = (0, lines.as_slice(), b"".as_slice());
-    let folder = only_game(game.as_slice());
     let words = ["ram", "game.bin", "0", "2"];
-    check_run(&rt, alloc, &words, folder, STORES_MOVIE, end);
+    check_run(&rt, alloc, &words, only_game(game), text, end);
 }
 
 /// The digests come from another program: of the image, of the movie's text, of 128 and of 256 zeros, and of the playfield's picture.
@@ -134,12 +127,11 @@ static FAULTS: [(&[&str], &[u8]); 8] = [
 #[test]
 fn faults_of_played_frames_end_with_status_1(rt: HostRuntime) {
     let alloc = rt.alloc();
-    let game = image_of(&rt, alloc, HALTING.bytes);
-    let text = text_of(&rt, alloc, HALTING, 5, IDLE);
+    let movie = recording_of(&rt, alloc, HALTING, 5, IDLE);
+    let (game, text) = movie.files();
     for row in FAULTS.iter() {
         let (words, line) = *row;
         let end = (1, b"".as_slice(), line);
-        let folder = only_game(game.as_slice());
-        check_run(&rt, alloc, words, folder, text.as_bytes(), end);
+        check_run(&rt, alloc, words, only_game(game), text, end);
     }
 }

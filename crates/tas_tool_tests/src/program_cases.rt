@@ -22,22 +22,43 @@ pub fn check_case<R: Threads + Wait + Abort + Sync>(
     check_run(rt, alloc, words, TwoFiles { game, other }, input, end);
 }
 
-pub fn check_cases<R: Threads + Wait + Abort + Sync>(
+/// The words, the file `other`, the input, and what the program then writes.
+pub type Written<'a> = (&'a [&'a str], &'a [u8], &'a [u8], &'a [u8]);
+
+/// Fails where the program over the playfield's cartridge doesn't write just this.
+pub fn check_written<R: Threads + Wait + Abort + Sync>(
     rt: &R,
     alloc: Global,
-    game: &[u8],
-    cases: &[Case<'_>],
+    cases: &[Written<'_>],
 ) {
-    for case in cases {
-        check_case(rt, alloc, game, *case);
+    let game = image_of(rt, alloc, PLAYFIELD.bytes);
+    for (words, other, input, output) in cases {
+        let case: Case = (words, other, input, output, b"");
+        check_case(rt, alloc, game.as_slice(), case);
     }
 }
 
-pub fn check_over_playfield<R: Threads + Wait + Abort + Sync>(
+/// The words, the file `other`, the input, and the fault that the program tells.
+pub type Refused<'a> = (&'a [&'a str], &'a [u8], &'a [u8], &'a [u8]);
+
+/// Fails where the program over this cartridge doesn't tell this fault, or writes something.
+pub fn check_refused<R: Threads + Wait + Abort + Sync>(
     rt: &R,
     alloc: Global,
-    cases: &[Case<'_>],
+    game: &[u8],
+    cases: &[Refused<'_>],
+) {
+    for (words, other, input, line) in cases {
+        check_case(rt, alloc, game, (words, other, input, b"", line));
+    }
+}
+
+/// The same over the playfield's cartridge.
+pub fn check_refused_over_playfield<R: Threads + Wait + Abort + Sync>(
+    rt: &R,
+    alloc: Global,
+    cases: &[Refused<'_>],
 ) {
     let game = image_of(rt, alloc, PLAYFIELD.bytes);
-    check_cases(rt, alloc, game.as_slice(), cases);
+    check_refused(rt, alloc, game.as_slice(), cases);
 }

@@ -2,9 +2,11 @@
 
 use crate::checks::{check_same, check_that};
 use crate::movies::{
-    HALTING, IDLE, PLAYFIELD, Program, image_of, joined, playfield_picture, text_of,
+    HALTING, IDLE, PLAYFIELD, Program, STORING, image_of, joined, playfield_picture, recording_of,
 };
-use crate::program_cases::{Case, check_case, check_cases, check_over_playfield};
+use crate::program_cases::{
+    Case, Refused, Written, check_case, check_refused, check_refused_over_playfield, check_written,
+};
 use crate::programs::{ONE_FRAME, TWO_FRAMES, check_unread, only_game, run};
 use std::alloc::Global;
 use std::io::ErrorKind;
@@ -12,9 +14,6 @@ use std::process::Abort;
 use std::sync::Wait;
 use std::thread::Threads;
 use test_streams::{Failure, Room, Taker};
-
-/// LDA #42, STA 80, JMP F000.
-static STORES: &[u8] = b"\xa9\x42\x85\x80\x4c\x00\xf0";
 
 /// The older text of this movie.
 const OLDER_FRAME: &[u8] =
@@ -31,48 +30,29 @@ const REPLIES: &[u8] =
     b"edit 1 len 0\nedit 2 len 2\nshot 2 1 ran 2 lit 1680\nedit 3 len 2\ninput 3 R.... ..... .....\nno frame 3 len 2\n";
 
 /// Commands that write an answer.
-static ANSWERS: [Case<'static>; 8] = [
-    (
-        &["check", "game.bin"],
-        b"",
-        ONE_FRAME,
-        b"ok 1 frames\n",
-        b"",
-    ),
-    (
-        &["check", "game.bin"],
-        b"",
-        OLDER_FRAME,
-        b"ok 1 frames\n",
-        b"",
-    ),
-    (&["migrate", "game.bin"], b"", OLDER_FRAME, ONE_FRAME, b""),
-    (&["migrate", "game.bin"], b"", ONE_FRAME, ONE_FRAME, b""),
-    (&["script"], b"", SCRIPT, REPLIES, b""),
-    (&["talk"], b"", SCRIPT, REPLIES, b""),
+static ANSWERS: [Written<'static>; 8] = [
+    (&["check", "game.bin"], b"", ONE_FRAME, b"ok 1 frames\n"),
+    (&["check", "game.bin"], b"", OLDER_FRAME, b"ok 1 frames\n"),
+    (&["migrate", "game.bin"], b"", OLDER_FRAME, ONE_FRAME),
+    (&["migrate", "game.bin"], b"", ONE_FRAME, ONE_FRAME),
+    (&["script"], b"", SCRIPT, REPLIES),
+    (&["talk"], b"", SCRIPT, REPLIES),
     (
         &["talk", "game.bin"],
         b"",
         b"len\nwhat",
         b"len 2 0\nunknown\n",
-        b"",
     ),
-    (
-        &["export", "game.bin", "0", "0", "3"],
-        b"",
-        ONE_FRAME,
-        b"",
-        b"",
-    ),
+    (&["export", "game.bin", "0", "0", "3"], b"", ONE_FRAME, b""),
 ];
 
 #[test]
 fn commands_write_their_answers(rt: HostRuntime) {
     let alloc = rt.alloc();
-    check_over_playfield(&rt, alloc, ANSWERS.as_slice());
-    let stores = image_of(&rt, alloc, STORES);
-    let trace: Case = (&["trace", "3"], b"", stores.as_slice(), TRACE, b"");
-    check_over_playfield(&rt, alloc, &[trace]);
+    check_written(&rt, alloc, ANSWERS.as_slice());
+    let stores = image_of(&rt, alloc, STORING.bytes);
+    let trace: Written = (&["trace", "3"], b"", stores.as_slice(), TRACE);
+    check_written(&rt, alloc, &[trace]);
 }
 
 /// Fails where a command over the playfield's cartridge and this movie doesn't write these pictures.
@@ -83,7 +63,7 @@ fn check_pictures<R: Threads + Wait + Abort + Sync>(
     movie: &[u8],
     pictures: &[u8],
 ) {
-    check_over_playfield(rt, alloc, &[(words, b"", movie, pictures, b"")]);
+    check_written(rt, alloc, &[(words, b"", movie, pictures)]);
 }
 
 #[test]
@@ -101,86 +81,76 @@ fn commands_write_their_pictures(rt: HostRuntime) {
 }
 
 /// Faults over the playfield's cartridge.
-static FAULTS: [Case<'static>; 9] = [
+static FAULTS: [Refused<'static>; 8] = [
     (
         &["trace", "1"],
         b"",
         b"1234567",
-        b"",
         b"fault: cartridge has 7 bytes\n",
     ),
     (
         &["check", "other.bin"],
         b"",
         ONE_FRAME,
-        b"",
         b"fault: read failed\n",
     ),
     (
         &["check", "game.bin"],
         b"",
         b"a26movie 1\n",
-        b"",
         b"fault: movie line 2: end\n",
     ),
     (
         &["migrate", "game.bin"],
         b"",
         b"a26movie 1\n",
-        b"",
         b"fault: movie line 2: end\n",
     ),
     (
         &["shot", "other.bin", "0"],
         b"",
         ONE_FRAME,
-        b"",
         b"fault: read failed\n",
     ),
     (
         &["shot", "game.bin", "9999999"],
         b"",
         ONE_FRAME,
-        b"",
         b"fault: no frame 9999999 of 1\n",
     ),
     (
         &["export", "other.bin", "0", "1", "1"],
         b"",
         ONE_FRAME,
-        b"",
         b"fault: read failed\n",
     ),
     (
         &["export", "game.bin", "0", "2", "1"],
         b"",
         ONE_FRAME,
-        b"",
         b"fault: range 0 to 2 of 1\n",
     ),
-    (
+];
+
+#[test]
+fn faults_end_with_status_1(rt: HostRuntime) {
+    let alloc = rt.alloc();
+    check_refused_over_playfield(&rt, alloc, FAULTS.as_slice());
+    let size: Refused = (
+        &["check", "game.bin"],
+        b"",
+        ONE_FRAME,
+        b"fault: cartridge has 7 bytes\n",
+    );
+    check_refused(&rt, alloc, b"1234567", &[size]);
+    let script: Case = (
         &["script"],
         b"",
         b"len\nplay\n",
         b"len 0 0\n",
         b"fault: script line 2\n",
-    ),
-];
-
-/// A fault over a cartridge of seven bytes.
-static SIZE_FAULT: [Case<'static>; 1] = [(
-    &["check", "game.bin"],
-    b"",
-    ONE_FRAME,
-    b"",
-    b"fault: cartridge has 7 bytes\n",
-)];
-
-#[test]
-fn faults_end_with_status_1(rt: HostRuntime) {
-    let alloc = rt.alloc();
-    check_over_playfield(&rt, alloc, FAULTS.as_slice());
-    check_cases(&rt, alloc, b"1234567", SIZE_FAULT.as_slice());
+    );
+    check_case(&rt, alloc, b"", script);
 }
 
 /// `000=4C0C00 FFC=00F0`: goes on at the address 000C, which shows the left fire button.
@@ -217,10 +187,9 @@ fn halts_end_with_status_1(rt: HostRuntime) {
     let alloc = rt.alloc();
     for row in HALTS.iter() {
         let (program, frames, words, line) = *row;
-        let game = image_of(&rt, alloc, program.bytes);
-        let text = text_of(&rt, alloc, program, frames, IDLE);
-        let case: Case = (words, b"", text.as_bytes(), b"", line);
-        check_case(&rt, alloc, game.as_slice(), case);
+        let movie = recording_of(&rt, alloc, program, frames, IDLE);
+        let (game, text) = movie.files();
+        check_case(&rt, alloc, game, (words, b"", text, b"", line));
     }
 }
 

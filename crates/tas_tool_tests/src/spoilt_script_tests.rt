@@ -1,7 +1,7 @@
 //! Scripts that are cut off or have one wrong byte.
 
 use crate::checks::{check_same, check_that, expect_ok, expect_some};
-use crate::commands::answer_script;
+use crate::commands::{LineCommand, answer_lines};
 use crate::plain_editor::answer_plainly;
 use std::alloc::Global;
 use std::process::Abort;
@@ -35,7 +35,7 @@ static SMALL: &[u8] = b"load2 000=AD800249FF8509A2248502CAD0FBA902850086004C00F0
 fn is_alike<R: Wait + Abort>(rt: &R, alloc: Global, script: &[u8]) -> bool {
     let mut replies = Vec::new(alloc);
     let mut input = script;
-    let end = answer_script(rt, alloc, &mut input, &mut replies);
+    let end = answer_lines(rt, alloc, LineCommand::Script, &mut input, &mut replies);
     let (wanted, fault) = answer_plainly(rt, alloc, script);
     let wanted_end = match fault {
         Some(line) => Err(ToolFault::Run(RunFault::Script { line })),

@@ -6,6 +6,7 @@ use crate::commands::{talk_from_cart, talk_from_movie};
 use crate::movies::{
     IDLE, PLAYFIELD, Program, SMALL_PLAYFIELD, image_of, joined, small_image_of, text_of,
 };
+use crate::talks::check_over_movie;
 use std::alloc::Global;
 use std::process::Abort;
 use std::sync::Wait;
@@ -13,7 +14,7 @@ use tas_tool::{ReadFault, RunFault, ToolFault};
 use test_streams::Giver;
 
 /// Lines for conversations over files.
-static OVER_FILES: &[u8] = b"len\nmovie\ninsert 0 1 ..... ..... .....\nshot 0\n";
+const OVER_FILES: &[u8] = b"len\nmovie\ninsert 0 1 ..... ..... .....\nshot 0\n";
 
 /// Fails where a conversation over a cartridge doesn't tell the movie of no frames for its program.
 fn check_over_cart<R: Wait + Abort>(rt: &R, alloc: Global, program: Program, image: &[u8]) {
@@ -44,30 +45,39 @@ fn conversations_go_on_from_a_cartridge(rt: HostRuntime) {
     check_over_cart(&rt, alloc, SMALL_PLAYFIELD, small.as_slice());
 }
 
-/// The text of a movie of three frames of nothing pressed, and an older one.
-static TEXTS: [&[u8]; 2] = [
-    b"a26movie 2\ncart 820c64e9933496de683a000c5e11f0510fb7b1699b2ce86471295236b284906d\n..... ..... ..... x3\n",
-    b"a26movie 1\ncart 820c64e9933496de683a000c5e11f0510fb7b1699b2ce86471295236b284906d\n..... ..... .....\n..... ..... .....\n..... ..... .....\n",
-];
-
-/// What a conversation of [`OVER_FILES`] over either of them tells.
-static OVER_TEXTS: &[u8] =
+/// What a conversation of [`OVER_FILES`] over a movie of three frames of nothing pressed tells.
+const OVER_THREE: &[u8] =
     b"len 2 3\nmovie 2 102\na26movie 2\ncart 820c64e9933496de683a000c5e11f0510fb7b1699b2ce86471295236b284906d\n..... ..... ..... x3\nedit 3 len 4\nshot 3 0 ran 1 lit 1680\n";
 
-/// It goes on from a movie, too, which two edits have made, and tells it by the text of runs, also where the file's text was an
-/// older one.
+/// Movies of the playfield's cartridge, lines, and their answers.
+static OVER_MOVIES: [(&[u8], &[u8], &[u8]); 3] = [
+    // Three frames of nothing pressed.
+    (
+        b"a26movie 2\ncart 820c64e9933496de683a000c5e11f0510fb7b1699b2ce86471295236b284906d\n..... ..... ..... x3\n",
+        OVER_FILES,
+        OVER_THREE,
+    ),
+    // An older text of them: they are told by the text of runs.
+    (
+        b"a26movie 1\ncart 820c64e9933496de683a000c5e11f0510fb7b1699b2ce86471295236b284906d\n..... ..... .....\n..... ..... .....\n..... ..... .....\n",
+        OVER_FILES,
+        OVER_THREE,
+    ),
+    // Two runs, which are one edit, whose number is 1. A history begins with the two edits that put the movie in.
+    (
+        b"a26movie 2\ncart 820c64e9933496de683a000c5e11f0510fb7b1699b2ce86471295236b284906d\n..... ..... ..... x3\nR.... ..... .....\n",
+        b"history 1\ndelete 1 1\nshare\nhistory 1\nhistory 2\n",
+        b"history 2 1 1 66\n1 0 insert 0 3 ..... ..... .....\n1 0 insert 3 1 R.... ..... .....\nedit 3 len 3\nshare 3 0\nhistory 3 1 2 81\n1 0 insert 0 3 ..... ..... .....\n1 0 insert 3 1 R.... ..... .....\n2 0 delete 1 1\nhistory 3 2 1 15\n2 0 delete 1 1\n",
+    ),
+];
+
+/// A conversation goes on from a movie, too, which two edits have made.
 #[test]
 fn conversations_go_on_from_a_movie(rt: HostRuntime) {
     let alloc = rt.alloc();
     let image = image_of(&rt, alloc, PLAYFIELD.bytes);
-    for text in TEXTS.iter() {
-        let mut cart = image.as_slice();
-        let mut movie = *text;
-        let mut input = OVER_FILES;
-        let mut output = Vec::new(alloc);
-        let end = talk_from_movie(&rt, alloc, &mut cart, &mut movie, &mut input, &mut output);
-        let answer = (output.as_slice(), end);
-        check_answer(&rt, "movie", answer, (OVER_TEXTS, Ok(())));
+    for (movie, lines, answers) in OVER_MOVIES.iter() {
+        check_over_movie(&rt, alloc, (image.as_slice(), *movie), lines, answers);
     }
 }
 

@@ -1,9 +1,10 @@
 //! The lines `picture` and `pictures` of a conversation: steps, with edits between them, and strips.
 
 use crate::answers::check_answer;
-use crate::checks::{check_same, check_that, expect_ok};
-use crate::commands::talk;
+use crate::checks::{check_that, expect_ok};
+use crate::commands::LineCommand;
 use crate::movies::{joined, repeated};
+use crate::talks::answers_of;
 use std::alloc::Global;
 use std::process::Abort;
 use std::sync::Wait;
@@ -15,10 +16,7 @@ const FOLDING: &[u8] =
 /// The answers of a conversation that ends well.
 fn answers<R: Wait + Abort>(rt: &R, alloc: Global, lines: &[&[u8]]) -> Vec<u8> {
     let lines = joined(rt, alloc, lines);
-    let mut output = Vec::new(alloc);
-    let end = talk(rt, alloc, &mut lines.as_slice(), &mut output);
-    check_same(rt, "end", end, Ok(()));
-    output
+    answers_of(rt, alloc, LineCommand::Talk, lines.as_slice())
 }
 
 /// Fails where two conversations aren't answered alike.

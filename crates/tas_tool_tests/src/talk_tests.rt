@@ -1,11 +1,11 @@
 //! Whole conversations.
 
 use crate::checks::{check_same, check_that, expect_ok};
-use crate::commands::talk;
+use crate::commands::{LineCommand, answer_lines};
 use crate::movies::{
     IDLE, PLAYFIELD, RIGHT, SMALL_PLAYFIELD, joined, playfield_picture, repeated, text_of,
 };
-use crate::talks::{check_pieces, check_said, check_talk};
+use crate::talks::{START, STARTED, answers_of, check_lines, check_pieces, check_said};
 use std::alloc::Global;
 use std::cell::Cell;
 use std::io;
@@ -25,24 +25,14 @@ fn check_at_once<R: Wait + Abort>(
 ) {
     let mut input = Giver::new(lines, at_once, 0);
     let case = ("at once", at_once);
-    check_talk(rt, alloc, case, &mut input, (answers, Ok(())));
-}
-
-/// Loads the playfield's cartridge and puts in 200 frames.
-const START: &[u8] = b"load 000=A910850DA91E85084C08F0 FFC=00F0\ninsert 0 200 ..... ..... .....\n";
-
-static STARTED: &[u8] = b"edit 1 len 0\nedit 2 len 200\n";
-
-/// Each line of a script, and each refusal that fits in a few lines.
-static SCRIPT: &[u8] =
-    b"len\ninput 0\nshot 0\ninsert 0 2 R.... ..... .....\ninput 1\ndelete 1 2\nreplace 1 1 ..... ..... .....\ninsert 2 262143 ..... ..... .....\nload 000=A203A9028500A9008500CAD0F502 FFC=00F0\ninsert 0 3 ..... ..... .....\nwork 3\nshot 2\nshot 4\nquit\nlen\n";
-
-static REPLIES: &[u8] =
-    b"len 0 0\nno frame 0 len 0\nno frame 0 len 0\nedit 1 len 2\ninput 1 R.... ..... .....\nplace 1 len 2\nedit 2 len 2\nlong 2 len 2\nedit 3 len 2\nedit 4 len 5\nwork jobs 1 kept 0 stale 0\nshot 4 2 ran 3 lit 0\nhalted 4 F00D 02\n";
-
-#[test]
-fn lines_of_a_script_are_answered_as_by_a_script(rt: HostRuntime) {
-    check_said(&rt, rt.alloc(), SCRIPT, REPLIES);
+    check_lines(
+        rt,
+        alloc,
+        LineCommand::Talk,
+        case,
+        &mut input,
+        (answers, Ok(())),
+    );
 }
 
 /// The picture is the one that the playfield's program draws, and its refusals are those of `shot`.
@@ -61,12 +51,6 @@ fn pictures_are_told_whole(rt: HostRuntime) {
             picture.as_slice(),
             b"no frame 2 len 200\nlen 2 200\n",
         ],
-    );
-    check_said(
-        &rt,
-        alloc,
-        b"load 000=A203A9028500A9008500CAD0F502 FFC=00F0\ninsert 0 9 ..... ..... .....\npicture 5\n",
-        b"edit 1 len 0\nedit 2 len 9\nhalted 2 F00D 02\n",
     );
 }
 
@@ -90,38 +74,6 @@ fn pictures_far_on_are_told(rt: HostRuntime) {
             black.as_slice(),
             b"picture 2 19999 100815\n",
             black.as_slice(),
-        ],
-    );
-}
-
-/// The blank cartridge halts in its first frame: it goes on at the address 0000, which tells the collisions of missile 0. Without one it
-/// reads 00, which is `BRK`, whose pushes go down through RAM into the picture's registers. In the 68th missile 0 meets player 1, and so the next
-/// opcode is 80.
-#[test]
-fn blank_cartridge_halts_in_its_first_frame(rt: HostRuntime) {
-    check_said(
-        &rt,
-        rt.alloc(),
-        b"insert 0 1 ..... ..... .....\nshot 0\n",
-        b"edit 1 len 1\nhalted 1 0000 80\n",
-    );
-}
-
-/// The greenzone after shots, an edit, and the edit that takes it back: states after the edited place are gone where they are listed.
-#[test]
-fn states_are_those_of_the_movie(rt: HostRuntime) {
-    check_pieces(
-        &rt,
-        rt.alloc(),
-        &[
-            b"states\n",
-            START,
-            b"states\nshot 191\nstates\nreplace 64 1 R.... ..... .....\nstates\nshot 130\nstates\nreplace 64 1 ..... ..... .....\nstates\nwork 200\nstates\ndelete 0 200\nstates\n",
-        ],
-        &[
-            b"states 0 0\n",
-            STARTED,
-            b"states 2 0\nshot 2 191 ran 192 lit 1680\nstates 2 3 64 128 192\nedit 3 len 200\nstates 3 1 64\nshot 3 130 ran 67 lit 1680\nstates 3 2 64 128\nedit 4 len 200\nstates 4 1 64\nwork jobs 1 kept 3 stale 0\nstates 4 3 64 128 192\nedit 5 len 0\nstates 5 0\n",
         ],
     );
 }
@@ -181,9 +133,7 @@ fn edits_are_bounded(rt: HostRuntime) {
     let rest = b"delete 0 0\nload 000=00\nlen\npicture 0\nstates\n";
     let mut lines = repeated(&rt, alloc, b"", b"delete 0 0\n", 1_000_000);
     expect_ok(&rt, lines.extend_from_slice(rest));
-    let mut output = Vec::new(alloc);
-    let end = talk(&rt, alloc, &mut lines.as_slice(), &mut output);
-    check_same(&rt, "end", end, Ok(()));
+    let output = answers_of(&rt, alloc, LineCommand::Talk, lines.as_slice());
     let last =
         b"edit 1000000 len 0\nfull 1000000\nfull 1000000\nlen 1000000 0\nno frame 1000000 len 0\nstates 1000000 0\n";
     check_that(&rt, "output", output.as_slice().ends_with(last));
@@ -254,7 +204,15 @@ fn lines_are_bounded(rt: HostRuntime) {
         check_at_once(&rt, alloc, lines.as_slice(), at_once, answers);
     }
     let mut blanks = Filler::new(b' ', 20_000_000, 0);
-    check_talk(&rt, alloc, "blanks", &mut blanks, (b"unknown\n", Ok(())));
+    let command = LineCommand::Talk;
+    check_lines(
+        &rt,
+        alloc,
+        command,
+        "blanks",
+        &mut blanks,
+        (b"unknown\n", Ok(())),
+    );
 }
 
 /// One byte at a time, and many lines at once, are answered alike.
@@ -269,9 +227,7 @@ fn pieces_of_the_input_make_no_difference(rt: HostRuntime) {
             b"picture 3\nwhat\nstates\nmovie\nshot 70\nstates\nlen",
         ],
     );
-    let mut whole = Vec::new(alloc);
-    let end = talk(&rt, alloc, &mut lines.as_slice(), &mut whole);
-    check_same(&rt, "end", end, Ok(()));
+    let whole = answers_of(&rt, alloc, LineCommand::Talk, lines.as_slice());
     for at_once in [1, 2, 3, 50] {
         check_at_once(&rt, alloc, lines.as_slice(), at_once, whole.as_slice());
     }
@@ -351,7 +307,7 @@ fn answers_are_out_before_the_next_read(rt: HostRuntime) {
         holds: 0,
         passed: &passed,
     };
-    let end = talk(&rt, alloc, &mut input, &mut output);
+    let end = answer_lines(&rt, alloc, LineCommand::Talk, &mut input, &mut output);
     check_same(&rt, "end", end, Ok(()));
     check_same(&rt, "passed", passed.get(), 101_052);
     check_that(&rt, "input.lines", input.lines.is_empty());
@@ -367,7 +323,7 @@ fn check_full<R: Wait + Abort>(
 ) {
     let mut input = lines;
     let mut output = Taker::new(alloc, 5_000, Room::Bytes(room), failure);
-    let end = talk(rt, alloc, &mut input, &mut output);
+    let end = answer_lines(rt, alloc, LineCommand::Talk, &mut input, &mut output);
     let fault = ToolFault::Run(RunFault::Write { written: room });
     check_same(rt, ("room", room), end, Err(fault));
     let sent = &answers[..room.min(answers.len())];
@@ -386,10 +342,8 @@ fn a_failed_write_ends_the_conversation(rt: HostRuntime) {
     let alloc = rt.alloc();
     let lines = joined(&rt, alloc, &[START, b"picture 3\nlen\nlen"]);
     let lines = lines.as_slice();
-    let mut whole = Vec::new(alloc);
-    let end = talk(&rt, alloc, &mut { lines }, &mut whole);
+    let whole = answers_of(&rt, alloc, LineCommand::Talk, lines);
     let whole = whole.as_slice();
-    check_same(&rt, "end", end, Ok(()));
     for room in ROOMS.iter() {
         for failure in [Failure::Error, Failure::Interrupted, Failure::Nothing] {
             check_full(&rt, alloc, lines, whole, (*room, failure));
@@ -398,7 +352,7 @@ fn a_failed_write_ends_the_conversation(rt: HostRuntime) {
     check_same(&rt, "whole", whole.len(), 100_880);
     let mut input = lines;
     let mut output = Taker::new(alloc, 5_000, Room::Bytes(100_880), Failure::Error);
-    let end = talk(&rt, alloc, &mut input, &mut output);
+    let end = answer_lines(&rt, alloc, LineCommand::Talk, &mut input, &mut output);
     check_same(&rt, "room for all", end, Ok(()));
 }
 
@@ -419,7 +373,37 @@ fn a_failed_read_ends_the_conversation(rt: HostRuntime) {
         let fails_at = *fails_at;
         let mut input = Giver::new(b"len\nx\nlen\nlen", 3, fails_at);
         let wanted = (*answers, Err(ToolFault::Read(ReadFault::Failed)));
-        check_talk(&rt, alloc, ("read", fails_at), &mut input, wanted);
+        let case = ("read", fails_at);
+        check_lines(&rt, alloc, LineCommand::Talk, case, &mut input, wanted);
         check_same(&rt, "input.reads", input.reads, fails_at);
     }
+}
+
+/// Looks in a draft are at what the movie would be, and leave the movie.
+#[test]
+fn looks_in_a_draft_are_at_what_the_movie_would_be(rt: HostRuntime) {
+    let alloc = rt.alloc();
+    let picture = playfield_picture(&rt, alloc);
+    let text = text_of(&rt, alloc, PLAYFIELD, 200, IDLE);
+    let longer = text_of(&rt, alloc, PLAYFIELD, 201, IDLE);
+    check_pieces(
+        &rt,
+        alloc,
+        &[
+            START,
+            b"begin\ninsert 0 1 ..... ..... .....\nmovie\npicture 200\npictures 200 202\nlag 0 201\nram 202\ndrop\nmovie\npicture 200\n",
+        ],
+        &[
+            STARTED,
+            b"begin 2 200\nedit 3 len 201\nmovie 3 104\n",
+            longer.as_bytes(),
+            b"picture 3 200 100815\n",
+            picture.as_slice(),
+            b"picture 3 200 100815\n",
+            picture.as_slice(),
+            b"no frame 3 len 201\nlag 3 0 201 6\n0 201\nno frame 3 len 201\ndropped\nmovie 2 104\n",
+            text.as_bytes(),
+            b"no frame 2 len 200\n",
+        ],
+    );
 }

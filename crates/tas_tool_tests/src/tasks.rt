@@ -1,20 +1,21 @@
 //! Tasks as plain values, which tests compare and show: a `Task` has no `==` and no `Debug`.
 
-use crate::checks::check_same;
+use crate::checks::{check_same, expect_some};
+use crate::programs::words_of;
 use std::alloc::Global;
 use std::process::Abort;
 use tas_program::{Pair, Start, Task, read_words};
 
 /// The names of a pair's two files.
-type Names<'a> = Option<(&'a str, &'a str)>;
+pub type Names<'a> = (&'a str, &'a str);
 
 /// A task's command, the names of its files and its numbers, each in the order of its words, and a desk's pairs. Different tasks
 /// have different parts.
 type Parts<'a> = (
-    &'static str,
+    &'a str,
     [Option<&'a str>; 3],
     [Option<usize>; 3],
-    [Names<'a>; 8],
+    [Option<Names<'a>>; 8],
 );
 
 /// The command's name.
@@ -93,7 +94,7 @@ fn numbers(task: Task<'_>) -> [Option<usize>; 3] {
 }
 
 /// The names of a pair's files, where there is a pair.
-fn names<'a>(pair: Option<Pair<'a>>) -> Names<'a> {
+fn names<'a>(pair: Option<Pair<'a>>) -> Option<Names<'a>> {
     match pair {
         Some(pair) => Some((pair.input, pair.output)),
         None => None,
@@ -101,7 +102,7 @@ fn names<'a>(pair: Option<Pair<'a>>) -> Names<'a> {
 }
 
 /// A desk's pairs.
-fn pairs<'a>(task: Task<'a>) -> [Names<'a>; 8] {
+fn pairs<'a>(task: Task<'a>) -> [Option<Names<'a>>; 8] {
     match task {
         Task::Desk { pairs, .. } => [
             names(Some(pairs.first)),
@@ -122,17 +123,29 @@ fn parts<'a>(task: Task<'a>) -> Parts<'a> {
     (command(task), files(task), numbers(task), pairs(task))
 }
 
-/// Fails where these words are read as another task than this one, or as none.
+/// These items, and none after them.
+fn padded<T: Copy, const N: usize>(items: &[T]) -> [Option<T>; N] {
+    let mut all = [None; N];
+    for (place, item) in all.iter_mut().zip(items) {
+        *place = Some(*item);
+    }
+    all
+}
+
+/// Fails where these words, the first of which is a command, aren't read as a task with it and with just these files, numbers and pairs.
 pub fn check_task<R: Abort>(
     rt: &R,
     alloc: Global,
     number: usize,
-    words: &[String],
-    task: Task<'_>,
+    words: &[&str],
+    (files, numbers, pairs): (&[&str], &[usize], &[Names<'_>]),
 ) {
-    let read = match read_words(alloc, words) {
-        Ok(read) => Some(parts(read)),
+    let command = *expect_some(rt, words.first());
+    let wanted: Parts<'_> = (command, padded(files), padded(numbers), padded(pairs));
+    let words = words_of(rt, alloc, words);
+    let read = match read_words(alloc, words.as_slice()) {
+        Ok(task) => Some(parts(task)),
         Err(_) => None,
     };
-    check_same(rt, ("words", number), read, Some(parts(task)));
+    check_same(rt, ("words", number), read, Some(wanted));
 }

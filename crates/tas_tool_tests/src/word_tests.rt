@@ -2,218 +2,91 @@
 
 use crate::checks::{check_same, check_that};
 use crate::movies::{PLAYFIELD, image_of};
-use crate::programs::{ONE_FRAME, check_run, check_unread, only_game, run, words_of};
+use crate::programs::{ONE_FRAME, check_run, check_unread, only_game, run};
 use crate::tasks::check_task;
 use std::alloc::Global;
 use std::io::ErrorKind;
 use std::process::Abort;
 use std::sync::Wait;
 use std::thread::Threads;
-use tas_program::{MovieFiles, Start, Task};
 
-/// The files of a movie.
-const A_AND_B: MovieFiles<'static> = MovieFiles {
-    cart: "a.bin",
-    movie: "b",
-};
-
-/// Words that name a task, and the task.
-static TASKS: [(&[&str], Task<'static>); 33] = [
-    (&["trace", "0"], Task::Trace { instructions: 0 }),
-    (&["trace", "3"], Task::Trace { instructions: 3 }),
-    (
-        &["trace", "1000000"],
-        Task::Trace {
-            instructions: 1_000_000,
-        },
-    ),
-    (&["check", "a.bin"], Task::Check { cart: "a.bin" }),
-    (&["migrate", "a.bin"], Task::Migrate { cart: "a.bin" }),
-    (
-        &["shot", "a.bin", "0"],
-        Task::Shot {
-            cart: "a.bin",
-            frame: 0,
-        },
-    ),
-    (
-        &["shot", "7", "1000001"],
-        Task::Shot {
-            cart: "7",
-            frame: 1_000_001,
-        },
-    ),
-    (
-        &["shot", "b", "9999999"],
-        Task::Shot {
-            cart: "b",
-            frame: 9_999_999,
-        },
-    ),
-    (
-        &["film", "a.bin"],
-        Task::Film {
-            cart: "a.bin",
-            from: None,
-            to: None,
-        },
-    ),
-    (
-        &["film", "a.bin", "0"],
-        Task::Film {
-            cart: "a.bin",
-            from: Some(0),
-            to: None,
-        },
-    ),
-    (
-        &["film", "7", "9999999", "8"],
-        Task::Film {
-            cart: "7",
-            from: Some(9_999_999),
-            to: Some(8),
-        },
-    ),
+/// Words that name a task, the first of them its command, and the task's files and numbers.
+static TASKS: [(&[&str], &[&str], &[usize]); 33] = [
+    (&["trace", "0"], &[], &[0]),
+    (&["trace", "3"], &[], &[3]),
+    (&["trace", "1000000"], &[], &[1_000_000]),
+    (&["check", "a.bin"], &["a.bin"], &[]),
+    (&["migrate", "a.bin"], &["a.bin"], &[]),
+    (&["shot", "a.bin", "0"], &["a.bin"], &[0]),
+    (&["shot", "7", "1000001"], &["7"], &[1_000_001]),
+    (&["shot", "b", "9999999"], &["b"], &[9_999_999]),
+    (&["film", "a.bin"], &["a.bin"], &[]),
+    (&["film", "a.bin", "0"], &["a.bin"], &[0]),
+    (&["film", "7", "9999999", "8"], &["7"], &[9_999_999, 8]),
     (
         &["film", "a.bin", "0", "9999999"],
-        Task::Film {
-            cart: "a.bin",
-            from: Some(0),
-            to: Some(9_999_999),
-        },
+        &["a.bin"],
+        &[0, 9_999_999],
     ),
     (
         &["ram", "a.bin", "0", "9999999"],
-        Task::Ram {
-            cart: "a.bin",
-            from: 0,
-            to: 9_999_999,
-        },
+        &["a.bin"],
+        &[0, 9_999_999],
     ),
-    (
-        &["ram", "7", "9999999", "0"],
-        Task::Ram {
-            cart: "7",
-            from: 9_999_999,
-            to: 0,
-        },
-    ),
-    (
-        &["digest", "a.bin"],
-        Task::Digest {
-            cart: "a.bin",
-            every: 600,
-        },
-    ),
-    (
-        &["digest", "a.bin", "1"],
-        Task::Digest {
-            cart: "a.bin",
-            every: 1,
-        },
-    ),
-    (
-        &["digest", "7", "262144"],
-        Task::Digest {
-            cart: "7",
-            every: 262_144,
-        },
-    ),
-    (
-        &["digest", "a.bin", "+0600"],
-        Task::Digest {
-            cart: "a.bin",
-            every: 600,
-        },
-    ),
-    (
-        &["compare", "a.bin", "b"],
-        Task::Compare {
-            cart: "a.bin",
-            old: "b",
-        },
-    ),
-    (&["lag", "a.bin"], Task::Lag { cart: "a.bin" }),
-    (
-        &["edit", "a.bin", "b"],
-        Task::Edit {
-            cart: "a.bin",
-            script: "b",
-            other: None,
-        },
-    ),
+    (&["ram", "7", "9999999", "0"], &["7"], &[9_999_999, 0]),
+    (&["digest", "a.bin"], &["a.bin"], &[600]),
+    (&["digest", "a.bin", "1"], &["a.bin"], &[1]),
+    (&["digest", "7", "262144"], &["7"], &[262_144]),
+    (&["digest", "a.bin", "+0600"], &["a.bin"], &[600]),
+    (&["compare", "a.bin", "b"], &["a.bin", "b"], &[]),
+    (&["lag", "a.bin"], &["a.bin"], &[]),
+    (&["edit", "a.bin", "b"], &["a.bin", "b"], &[]),
     (
         &["edit", "a.bin", "b", "--with", "c"],
-        Task::Edit {
-            cart: "a.bin",
-            script: "b",
-            other: Some("c"),
-        },
+        &["a.bin", "b", "c"],
+        &[],
     ),
     (
         &["edit", "--with=c", "a.bin", "b"],
-        Task::Edit {
-            cart: "a.bin",
-            script: "b",
-            other: Some("c"),
-        },
+        &["a.bin", "b", "c"],
+        &[],
     ),
     (
         &["cut", "a.bin", "0", "9999999"],
-        Task::Cut {
-            cart: "a.bin",
-            from: 0,
-            to: 9_999_999,
-        },
+        &["a.bin"],
+        &[0, 9_999_999],
     ),
-    (
-        &["diff", "a.bin", "b"],
-        Task::Diff {
-            cart: "a.bin",
-            old: "b",
-        },
-    ),
-    (&["script"], Task::Script(None)),
+    (&["diff", "a.bin", "b"], &["a.bin", "b"], &[]),
+    (&["script"], &[], &[]),
     (
         &["script", "--cart", "a.bin", "--movie", "b"],
-        Task::Script(Some(A_AND_B)),
+        &["a.bin", "b"],
+        &[],
     ),
     (
         &["script", "--movie=b", "--cart=a.bin"],
-        Task::Script(Some(A_AND_B)),
+        &["a.bin", "b"],
+        &[],
     ),
-    (&["talk"], Task::Talk(Start::Blank)),
-    (
-        &["talk", "a.bin"],
-        Task::Talk(Start::Cart { cart: "a.bin" }),
-    ),
-    (&["talk", "a.bin", "b"], Task::Talk(Start::Movie(A_AND_B))),
+    (&["talk"], &[], &[]),
+    (&["talk", "a.bin"], &["a.bin"], &[]),
+    (&["talk", "a.bin", "b"], &["a.bin", "b"], &[]),
     (
         &["export", "a.bin", "0", "9999999", "1"],
-        Task::Export {
-            cart: "a.bin",
-            from: 0,
-            to: 9_999_999,
-            workers: 1,
-        },
+        &["a.bin"],
+        &[0, 9_999_999, 1],
     ),
     (
         &["export", "7", "9999999", "0", "16"],
-        Task::Export {
-            cart: "7",
-            from: 9_999_999,
-            to: 0,
-            workers: 16,
-        },
+        &["7"],
+        &[9_999_999, 0, 16],
     ),
 ];
 
 #[test]
 fn each_command_is_its_task(rt: HostRuntime) {
-    let alloc = rt.alloc();
-    for (number, (words, task)) in TASKS.iter().enumerate() {
-        let words = words_of(&rt, alloc, words);
-        check_task(&rt, alloc, number, words.as_slice(), *task);
+    for (number, (words, files, numbers)) in TASKS.iter().enumerate() {
+        check_task(&rt, rt.alloc(), number, words, (files, numbers, &[]));
     }
 }
 
@@ -308,10 +181,9 @@ fn begins(text: &[u8], start: &[u8]) -> bool {
 
 /// Fails where the program, run with these words over this cartridge and input, ends with another status, or what it writes or
 /// what it tells begins in another way.
-pub fn check_begins<R: Threads + Wait + Abort + Sync>(
+fn check_begins<R: Threads + Wait + Abort + Sync>(
     rt: &R,
     alloc: Global,
-    case: (&str, usize),
     words: &[&str],
     (game, input): (&[u8], &[u8]),
     (code, output, line): (u8, &[u8], &[u8]),
@@ -320,15 +192,37 @@ pub fn check_begins<R: Threads + Wait + Abort + Sync>(
     let mut told = Vec::new(alloc);
     let folder = only_game(game);
     let status = run(rt, alloc, words, folder, input, &mut written, &mut told);
-    check_same(rt, case, status, code);
-    check_that(rt, case, begins(written.as_slice(), output));
-    check_that(rt, case, begins(told.as_slice(), line));
+    check_same(rt, words, status, code);
+    check_that(rt, words, begins(written.as_slice(), output));
+    check_that(rt, words, begins(told.as_slice(), line));
+}
+
+/// Words, and the beginning of the text that they show.
+pub type Shown<'a> = (&'a [&'a str], &'a [u8]);
+
+/// Fails where words over this input end with another status, or don't show their text: where they are understood (0) on standard
+/// output, else as an error.
+pub fn check_shown<R: Threads + Wait + Abort + Sync>(
+    rt: &R,
+    alloc: Global,
+    code: u8,
+    input: &[u8],
+    rows: &[Shown<'_>],
+) {
+    for (words, text) in rows {
+        let end = if code == 0 {
+            (code, *text, b"".as_slice())
+        } else {
+            (code, b"".as_slice(), *text)
+        };
+        check_begins(rt, alloc, words, (b"", input), end);
+    }
 }
 
 fn check_misuses<R: Threads + Wait + Abort + Sync>(rt: &R, alloc: Global, cart: &[u8]) {
-    for (number, words) in MISUSES.iter().enumerate() {
+    for words in MISUSES.iter() {
         let end = (2, b"".as_slice(), b"error: ".as_slice());
-        check_begins(rt, alloc, ("words", number), words, (cart, ONE_FRAME), end);
+        check_begins(rt, alloc, words, (cart, ONE_FRAME), end);
     }
 }
 
@@ -345,7 +239,7 @@ fn other_words_end_with_status_2(rt: HostRuntime) {
 }
 
 /// Words of which one is missing, and the beginning of the text, which names it.
-static MISSING: [(&[&str], &[u8]); 5] = [
+static MISSING: [Shown<'static>; 5] = [
     (
         &["script", "--cart", "game.bin"],
         b"error: the following required arguments were not provided:\n  --movie <MOVIE>\n",
@@ -370,15 +264,11 @@ static MISSING: [(&[&str], &[u8]); 5] = [
 
 #[test]
 fn a_missing_word_is_named(rt: HostRuntime) {
-    let alloc = rt.alloc();
-    for (number, (words, text)) in MISSING.iter().enumerate() {
-        let end = (2, b"".as_slice(), *text);
-        check_begins(&rt, alloc, ("missing", number), words, (b"", b""), end);
-    }
+    check_shown(&rt, rt.alloc(), 2, b"", MISSING.as_slice());
 }
 
 /// Words that ask for help, and the beginning of the text.
-static HELPS: [(&[&str], &[u8]); 17] = [
+static HELPS: [Shown<'static>; 17] = [
     (
         &["--help"],
         b"Replays movies of Atari 2600 cartridges, exactly and from power-on\n\nUsage: tas <COMMAND>\n",
@@ -452,10 +342,7 @@ static HELPS: [(&[&str], &[u8]); 17] = [
 #[test]
 fn help_and_version_are_shown(rt: HostRuntime) {
     let alloc = rt.alloc();
-    for (number, (words, text)) in HELPS.iter().enumerate() {
-        let end = (0, *text, b"".as_slice());
-        check_begins(&rt, alloc, ("help", number), words, (b"", b""), end);
-    }
+    check_shown(&rt, alloc, 0, b"", HELPS.as_slice());
     let version = b"tas 0.2.0, machine profile 2\n".as_slice();
     let end = (0, version, b"".as_slice());
     check_run(&rt, alloc, &["--version"], only_game(b""), b"", end);

@@ -1,6 +1,7 @@
 //! The assertions of these tests, proved once for all their callers: each `assert_eq!` would be proved again where it stands.
+//! Each crate of tests has this file, letter by letter: a library of these would need the bound `Abort`, which the gate refuses outside tests.
 
-ghost use Rattle.std.specs.Prelude.{◌≡◌, true, Ok};
+ghost use Rattle.std.specs.Prelude.{◌≡◌, true, Ok, Some};
 
 use std::fmt::Debug;
 use std::process::Abort;
@@ -29,4 +30,11 @@ pub fn expect_ok<R: Abort, T, E: Debug>(rt: &R, answer: Result<T, E>) -> T
     ensures { answer ≡ Ok result }
 {
     answer.expect(rt, "no error")
+}
+
+/// The value that is there. Where there is none the test fails.
+pub fn expect_some<R: Abort, T>(rt: &R, value: Option<T>) -> T
+    ensures { value ≡ Some result }
+{
+    value.expect(rt, "a value")
 }
