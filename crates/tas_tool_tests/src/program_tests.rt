@@ -242,6 +242,6 @@ fn help_that_cannot_be_written_is_a_fault(rt: HostRuntime) {
     check_same(&rt, "status", code, 1);
     let line = b"fault: write failed after 20 bytes\n".as_slice();
     check_same(&rt, "errors", errors.as_slice(), line);
-    let first = b"tas 0.2.0, machine p".as_slice();
+    let first = b"tas 0.3.0, machine p".as_slice();
     check_same(&rt, "the first bytes", room.as_slice(), first);
 }

@@ -343,7 +343,7 @@ static HELPS: [Shown<'static>; 17] = [
 fn help_and_version_are_shown(rt: HostRuntime) {
     let alloc = rt.alloc();
     check_shown(&rt, alloc, 0, b"", HELPS.as_slice());
-    let version = b"tas 0.2.0, machine profile 2\n".as_slice();
+    let version = b"tas 0.3.0, machine profile 2\n".as_slice();
     let end = (0, version, b"".as_slice());
     check_run(&rt, alloc, &["--version"], only_game(b""), b"", end);
 }
