@@ -5,7 +5,7 @@ use crate::desks::{OpenGate, batch_of, run_call};
 use crate::edits::{Change, edit_of};
 use crate::fixtures::{has_lacked, right};
 use crate::plans::Append;
-use crate::runs::{Heap, NEVER, NOT_AS_BEFORE, NOT_TOLD, Run, count_growths, refuse};
+use crate::runs::{Heap, NEVER, NOT_AS_BEFORE, NOT_TOLD, Run, count_growths, is_over, refuse};
 use std::alloc::{AllocError, Global};
 use std::process::Abort;
 use std::sync::Wait;
@@ -414,7 +414,7 @@ static CALLS: [(Call, &str, u64); 15] = [
 
 /// How many growths the call of this name has, each of which is refused in turn.
 fn growths_of<R: Wait + Abort>(rt: &R, alloc: Global, call: Call, name: &str) -> u64 {
-    count_growths(rt, name, |number| run_call(rt, alloc, call, number))
+    count_growths(|number| is_over(rt, (name, number), run_call(rt, alloc, call, number)))
 }
 
 #[test]
