@@ -5,7 +5,8 @@ use crate::runs::Heap;
 use std::alloc::Allocator;
 use std::sync::Wait;
 use tas_desk::{
-    Desk, EditError, Name, OfferError, Offered, Receipt, Seat, Shot, ShotError, WorkError, Worked,
+    CloseOnDrop, Desk, EditError, Name, OfferError, Offered, Receipt, Seat, Shot, ShotError,
+    WorkError, Worked,
 };
 use tas_green::Batch;
 use tas_movie::Edit;
@@ -63,6 +64,16 @@ pub static TURNS: [[Turn; 6]; 3] = [
     ],
 ];
 
+/// What the callers share.
+#[derive(Drop)]
+pub struct Shared<'s, 'a, N: Name, W: CloseOnDrop, R> {
+    pub rt: &'s R,
+    pub heap: &'a Heap,
+    pub desk: &'s Desk<N, W, &'a Heap>,
+    /// The sums over the picture of the frame after no edit of a caller, after one, and so on.
+    pub sums: &'s [u64],
+}
+
 /// A seat with the edits that it will make, each of them twice, and what became of its calls.
 #[derive(Drop)]
 pub struct Caller<'a, N: Name> {
@@ -90,12 +101,12 @@ impl<'a, N: Name> Caller<'a, N> {
 
     /// An edit: whether it is made, after the history that was seen before it; nothing where memory is refused. The receipt of a
     /// refused one, given again, is the next one of the seat.
-    fn edit<R: Wait>(&mut self, rt: &R, desk: &Desk<N, &R, &'a Heap>) -> Option<bool> {
+    fn edit<W: CloseOnDrop, R: Wait>(&mut self, shared: &Shared<'_, 'a, N, W, R>) -> Option<bool> {
         let Some(edit) = self.edits.pop() else {
             return Some(false);
         };
         let before = self.seen;
-        match desk.edit(rt, &mut self.seat, edit) {
+        match shared.desk.edit(shared.rt, &mut self.seat, edit) {
             Ok(Receipt { at, len }) => Some(before < at && self.sees(at) && is_len(at, len)),
             Err(EditError::Memory) => None,
             Err(_) => Some(false),
@@ -103,35 +114,29 @@ impl<'a, N: Name> Caller<'a, N> {
     }
 
     /// Whether the movie's length is right.
-    pub fn looks<R: Wait>(&mut self, desk: &Desk<N, &R, &'a Heap>) -> bool {
-        match desk.len(&mut self.seat) {
+    pub fn looks<W: CloseOnDrop, R>(&mut self, shared: &Shared<'_, 'a, N, W, R>) -> bool {
+        match shared.desk.len(&mut self.seat) {
             Ok((at, len)) => self.sees(at) && is_len(at, len),
             Err(_) => false,
         }
     }
 
     /// A shot: whether it is right; nothing where memory is refused.
-    pub fn shot<R: Wait>(
-        &mut self,
-        heap: &'a Heap,
-        desk: &Desk<N, &R, &'a Heap>,
-        sums: &[u64],
-    ) -> Option<bool> {
-        match desk.shot(heap, &mut self.seat, FRAME) {
-            Ok(shot) => Some(self.sees(shot.at) && is_drawn(&shot, sums)),
+    pub fn shot<W: CloseOnDrop, R>(&mut self, shared: &Shared<'_, 'a, N, W, R>) -> Option<bool> {
+        match shared.desk.shot(shared.heap, &mut self.seat, FRAME) {
+            Ok(shot) => Some(self.sees(shot.at) && is_drawn(&shot, shared.sums)),
             Err(ShotError::Memory) => None,
             Err(_) => Some(false),
         }
     }
 
     /// Work: whether it is right, or what was done for the targets before a refusal is told; nothing where memory is refused.
-    fn work<R: Wait>(
-        &mut self,
-        rt: &R,
-        heap: &'a Heap,
-        desk: &Desk<N, &R, &'a Heap>,
-    ) -> Option<bool> {
-        match desk.work(rt, heap, &mut self.seat, &[32, 64], &OpenGate) {
+    fn work<W: CloseOnDrop, R: Wait>(&mut self, shared: &Shared<'_, 'a, N, W, R>) -> Option<bool> {
+        let (rt, heap) = (shared.rt, shared.heap);
+        match shared
+            .desk
+            .work(rt, heap, &mut self.seat, &[32, 64], &OpenGate)
+        {
             Ok(Worked { jobs, kept, stale }) => Some(jobs == 2 && kept <= 1 && stale == 0),
             Err(WorkError::Memory { done }) if is_begun(done) => None,
             Err(_) => Some(false),
@@ -139,38 +144,35 @@ impl<'a, N: Name> Caller<'a, N> {
     }
 
     /// A share: whether the seat's zone gains what is reported; nothing where memory is refused.
-    fn share<R: Wait>(&mut self, rt: &R, desk: &Desk<N, &R, &'a Heap>) -> Option<bool> {
+    fn share<W: CloseOnDrop, R: Wait>(&mut self, shared: &Shared<'_, 'a, N, W, R>) -> Option<bool> {
         let kept = self.seat.kept();
-        match desk.share(rt, &mut self.seat) {
+        match shared.desk.share(shared.rt, &mut self.seat) {
             Ok(gained) => Some(gained == self.seat.kept().saturating_sub(kept)),
             Err(_) => None,
         }
     }
 
     /// The batch that is held, or what a job for 64 frames makes; nothing where memory is refused.
-    fn batch<R: Wait>(
+    fn batch<W: CloseOnDrop, R: Wait>(
         &mut self,
-        rt: &R,
-        heap: &'a Heap,
-        desk: &Desk<N, &R, &'a Heap>,
+        shared: &Shared<'_, 'a, N, W, R>,
     ) -> Option<Batch<&'a Heap>> {
         if self.held.is_some() {
             return self.held.take();
         }
-        match desk.job(rt, heap, &mut self.seat, 64) {
+        match shared.desk.job(shared.rt, shared.heap, &mut self.seat, 64) {
             Ok(job) => Some(job.run()),
             Err(_) => None,
         }
     }
 
     /// An offer of this batch: whether it is taken; nothing where memory is refused, and then the batch is held.
-    fn offer<R: Wait>(
+    fn offer<W: CloseOnDrop, R: Wait>(
         &mut self,
-        rt: &R,
-        desk: &Desk<N, &R, &'a Heap>,
+        shared: &Shared<'_, 'a, N, W, R>,
         batch: Batch<&'a Heap>,
     ) -> Option<bool> {
-        match desk.offer(rt, &mut self.seat, batch) {
+        match shared.desk.offer(shared.rt, &mut self.seat, batch) {
             Ok(offered) => Some(self.sees(offered.at) && is_taken(offered)),
             Err(OfferError::Memory(batch)) => {
                 self.held = Some(batch);
@@ -181,43 +183,37 @@ impl<'a, N: Name> Caller<'a, N> {
     }
 
     /// A turn: whether its answer is right; nothing where memory is refused.
-    fn try_turn<R: Wait>(
+    fn try_turn<W: CloseOnDrop, R: Wait>(
         &mut self,
-        rt: &R,
-        heap: &'a Heap,
-        desk: &Desk<N, &R, &'a Heap>,
-        sums: &[u64],
+        shared: &Shared<'_, 'a, N, W, R>,
         turn: Turn,
     ) -> Option<bool> {
         match turn {
-            Turn::Edit => self.edit(rt, desk),
-            Turn::Shot => self.shot(heap, desk, sums),
-            Turn::Work => self.work(rt, heap, desk),
-            Turn::Share => self.share(rt, desk),
-            Turn::Offer => match self.batch(rt, heap, desk) {
-                Some(batch) => self.offer(rt, desk, batch),
+            Turn::Edit => self.edit(shared),
+            Turn::Shot => self.shot(shared),
+            Turn::Work => self.work(shared),
+            Turn::Share => self.share(shared),
+            Turn::Offer => match self.batch(shared) {
+                Some(batch) => self.offer(shared, batch),
                 None => None,
             },
         }
     }
 
     /// A turn, and where it is refused memory the same again: whether each answer was right. A refused one leaves movie and zone.
-    fn take<R: Wait>(
+    fn take<W: CloseOnDrop, R: Wait>(
         &mut self,
-        rt: &R,
-        heap: &'a Heap,
-        desk: &Desk<N, &R, &'a Heap>,
-        sums: &[u64],
+        shared: &Shared<'_, 'a, N, W, R>,
         turn: Turn,
     ) -> bool {
         let kept = self.seat.kept();
-        let mut answer = self.try_turn(rt, heap, desk, sums, turn);
+        let mut answer = self.try_turn(shared, turn);
         if answer.is_none() {
             self.refused = self.refused.saturating_add(1);
-            if self.seat.kept() != kept || !self.looks(desk) {
+            if self.seat.kept() != kept || !self.looks(shared) {
                 return false;
             }
-            answer = self.try_turn(rt, heap, desk, sums, turn);
+            answer = self.try_turn(shared, turn);
         } else if matches!(turn, Turn::Edit) {
             drop(self.edits.pop());
         }
@@ -225,16 +221,10 @@ impl<'a, N: Name> Caller<'a, N> {
     }
 
     /// Its turns in order, up to the first one with an answer that isn't right.
-    pub fn take_all<R: Wait>(
-        &mut self,
-        rt: &R,
-        heap: &'a Heap,
-        desk: &Desk<N, &R, &'a Heap>,
-        sums: &[u64],
-    ) {
+    pub fn take_all<W: CloseOnDrop, R: Wait>(&mut self, shared: &Shared<'_, 'a, N, W, R>) {
         let turns = self.turns;
         for turn in turns {
-            self.is_right = self.is_right && self.take(rt, heap, desk, sums, *turn);
+            self.is_right = self.is_right && self.take(shared, *turn);
         }
     }
 }

@@ -1,16 +1,16 @@
 //! Desks: after each refusal history, movie and zones are as they were, and the same call is right.
 
 use crate::checks::{check_same, expect_ok, expect_some};
-use crate::desks::{OpenGate, batch_of, run_call};
+use crate::desks::{OpenGate, Place, run_call};
 use crate::edits::{Change, edit_of};
 use crate::fixtures::{has_lacked, right};
 use crate::plans::Append;
-use crate::runs::{Heap, NEVER, NOT_AS_BEFORE, NOT_TOLD, Run, count_growths, refuse};
+use crate::runs::{Heap, NEVER, NOT_AS_BEFORE, NOT_TOLD, Run, count_growths, is_over, refuse};
 use std::alloc::{AllocError, Global};
 use std::process::Abort;
 use std::sync::Wait;
 use tas_desk::{
-    CommitError, Desk, EditError, Name, OfferError, Offered, Receipt, Seat, Shot, ShotError,
+    CloseOnDrop, CommitError, EditError, Name, OfferError, Offered, Receipt, Shot, ShotError,
     Stroke, WorkError, Worked,
 };
 use tas_green::Batch;
@@ -50,100 +50,192 @@ pub enum Call {
     TwoJobs,
 }
 
-/// An edit: whether it is the fifth, and the movie has this length then.
-fn make_edit<'a, N: Name, R: Wait + Abort>(
-    rt: &R,
-    heap: &'a Heap,
-    desk: &Desk<N, &R, &'a Heap>,
-    seat: &mut Seat<N, &'a Heap>,
-    change: Change,
-    number: u64,
-) -> Result<bool, AllocError> {
-    let edit = expect_ok(rt, edit_of(heap, change));
-    let len = change.len_after(400);
-    refuse(heap, number);
-    match desk.edit(rt, seat, edit) {
-        Ok(receipt) => Ok(receipt == Receipt { at: 5, len } && desk.len(seat) == Ok((5, len))),
-        Err(EditError::Memory) => Err(AllocError),
-        Err(_) => Ok(false),
-    }
-}
-
-/// An edit that depends on the movie: whether it is the fifth, and three inputs stand after the others then.
-fn edit_by<'a, N: Name, R: Wait>(
-    rt: &R,
-    heap: &'a Heap,
-    desk: &Desk<N, &R, &'a Heap>,
-    seat: &mut Seat<N, &'a Heap>,
-    number: u64,
-) -> Result<bool, AllocError> {
-    let input = right();
-    refuse(heap, number);
-    match desk.edit_by(rt, seat, &Append { input, count: 3 }) {
-        Ok(receipt) => {
-            let last = desk.input(seat, 402);
-            Ok(receipt == Receipt { at: 5, len: 403 } && last == Ok((5, input)))
+/// In each of these calls the growth of the given number is refused.
+impl<'a, N: Name, W: CloseOnDrop, R: Wait + Abort> Place<'_, 'a, N, W, R> {
+    /// An edit: whether it is the fifth, and the movie has this length then.
+    fn edit(&mut self, change: Change, number: u64) -> Result<bool, AllocError> {
+        let edit = expect_ok(self.rt, edit_of(self.heap, change));
+        let len = change.len_after(400);
+        refuse(self.heap, number);
+        match self.desk.edit(self.rt, self.seat, edit) {
+            Ok(receipt) => {
+                let is_fifth = receipt == Receipt { at: 5, len };
+                Ok(is_fifth && self.desk.len(self.seat) == Ok((5, len)))
+            }
+            Err(EditError::Memory) => Err(AllocError),
+            Err(_) => Ok(false),
         }
-        Err(EditError::Memory) => Err(AllocError),
-        Err(_) => Ok(false),
     }
-}
 
-/// Two edits as one step: whether they are the fifth and the sixth, and the movie has the inputs of both then.
-fn commit<'a, N: Name, R: Wait + Abort>(
-    rt: &R,
-    heap: &'a Heap,
-    desk: &Desk<N, &R, &'a Heap>,
-    seat: &mut Seat<N, &'a Heap>,
-    number: u64,
-) -> Result<bool, AllocError> {
-    let last = expect_ok(rt, edit_of(heap, Change::Insert(400, 3)));
-    let first = expect_ok(rt, edit_of(heap, Change::Insert(0, 2)));
-    refuse(heap, number);
-    match desk.commit(rt, seat, 4, Stroke::Two(last, first)) {
-        Ok(receipt) => Ok(receipt == Receipt { at: 6, len: 405 } && desk.len(seat) == Ok((6, 405))),
-        Err(CommitError::Refused(EditError::Memory)) => Err(AllocError),
-        Err(_) => Ok(false),
+    /// An edit that depends on the movie: whether it is the fifth, and three inputs stand after the others then.
+    fn edit_by(&mut self, number: u64) -> Result<bool, AllocError> {
+        let input = right();
+        refuse(self.heap, number);
+        let append = Append { input, count: 3 };
+        match self.desk.edit_by(self.rt, self.seat, &append) {
+            Ok(receipt) => {
+                let last = self.desk.input(self.seat, 402);
+                Ok(receipt == Receipt { at: 5, len: 403 } && last == Ok((5, input)))
+            }
+            Err(EditError::Memory) => Err(AllocError),
+            Err(_) => Ok(false),
+        }
     }
-}
 
-/// The history: whether it has four entries, all of which are there.
-fn ask_history<'a, N: Name, R: Wait>(
-    rt: &R,
-    heap: &'a Heap,
-    desk: &Desk<N, &R, &'a Heap>,
-    seat: &mut Seat<N, &'a Heap>,
-    number: u64,
-) -> Result<bool, AllocError> {
-    refuse(heap, number);
-    match desk.history(rt, heap, seat, 0, 9) {
-        Ok(told) => Ok(told.at == 4 && told.entries.len() == 4),
-        Err(error) => Err(error),
+    /// Two edits as one step: whether they are the fifth and the sixth, and the movie has the inputs of both then.
+    fn commit(&mut self, number: u64) -> Result<bool, AllocError> {
+        let last = expect_ok(self.rt, edit_of(self.heap, Change::Insert(400, 3)));
+        let first = expect_ok(self.rt, edit_of(self.heap, Change::Insert(0, 2)));
+        refuse(self.heap, number);
+        let stroke = Stroke::Two(last, first);
+        match self.desk.commit(self.rt, self.seat, 4, stroke) {
+            Ok(receipt) => {
+                let are_last = receipt == Receipt { at: 6, len: 405 };
+                Ok(are_last && self.desk.len(self.seat) == Ok((6, 405)))
+            }
+            Err(CommitError::Refused(EditError::Memory)) => Err(AllocError),
+            Err(_) => Ok(false),
+        }
     }
-}
 
-/// A shot: whether it is of a black frame, after this many frames were played, and the seat's zone keeps six states then.
-fn shoot<'a, N: Name, R: Wait>(
-    heap: &'a Heap,
-    desk: &Desk<N, &R, &'a Heap>,
-    seat: &mut Seat<N, &'a Heap>,
-    ran: u64,
-    number: u64,
-) -> Result<bool, AllocError> {
-    refuse(heap, number);
-    is_shown(desk.shot(heap, seat, 383), ran, seat.kept())
-}
+    /// The history: whether it has four entries, all of which are there.
+    fn history(&mut self, number: u64) -> Result<bool, AllocError> {
+        refuse(self.heap, number);
+        match self.desk.history(self.rt, self.heap, self.seat, 0, 9) {
+            Ok(told) => Ok(told.at == 4 && told.entries.len() == 4),
+            Err(error) => Err(error),
+        }
+    }
 
-/// The same of a picture by zone and window.
-fn view<'a, N: Name, R: Wait>(
-    heap: &'a Heap,
-    desk: &Desk<N, &R, &'a Heap>,
-    seat: &mut Seat<N, &'a Heap>,
-    ran: u64,
-    number: u64,
-) -> Result<bool, AllocError> {
-    refuse(heap, number);
-    is_shown(desk.picture(heap, seat, 383), ran, seat.kept())
+    /// A shot: whether it is of a black frame, after this many frames were played, and the seat's zone keeps six states then.
+    fn shot(&mut self, ran: u64, number: u64) -> Result<bool, AllocError> {
+        refuse(self.heap, number);
+        let answer = self.desk.shot(self.heap, self.seat, 383);
+        is_shown(answer, ran, self.seat.kept())
+    }
+
+    /// The same of a picture by zone and window.
+    fn picture(&mut self, ran: u64, number: u64) -> Result<bool, AllocError> {
+        refuse(self.heap, number);
+        let answer = self.desk.picture(self.heap, self.seat, 383);
+        is_shown(answer, ran, self.seat.kept())
+    }
+
+    /// A share: whether the seat's zone gains the desk's two states.
+    fn share(&mut self, number: u64) -> Result<bool, AllocError> {
+        refuse(self.heap, number);
+        match self.desk.share(self.rt, self.seat) {
+            Ok(gained) => Ok(gained == 2 && self.seat.kept() == 2),
+            Err(error) => Err(error),
+        }
+    }
+
+    /// A job: whether it makes what one for all frames does.
+    fn job(&mut self, number: u64) -> Result<bool, AllocError> {
+        refuse(self.heap, number);
+        match self.desk.job(self.rt, self.heap, self.seat, 400) {
+            Ok(job) => Ok(is_of_all(&job.run())),
+            Err(error) => Err(error),
+        }
+    }
+
+    /// An offer of the batch that is held: whether it gains what it should. Out of memory, the batch that was handed back is held.
+    fn offer(&mut self, held: &mut Option<Batch>, number: u64) -> Result<bool, AllocError> {
+        let batch = expect_some(self.rt, held.take());
+        refuse(self.heap, number);
+        match self.desk.offer(self.rt, self.seat, batch) {
+            Ok(offered) => Ok(offered == ALL),
+            Err(OfferError::Memory(batch)) => {
+                *held = Some(batch);
+                Err(AllocError)
+            }
+            Err(OfferError::Cartridge { .. }) => Ok(false),
+        }
+    }
+
+    /// Whether history and movie are as before the call, and so are the zones: the seat's keeps n states, and the desk's two, so
+    /// that a job starts at the second of them.
+    fn is_as_before(&mut self, alloc: Global, kept: usize) -> bool {
+        let batch = self.batch(alloc, 400);
+        let is_kept = starts_at_the_second(&batch) && self.seat.kept() == kept;
+        is_kept && self.desk.len(self.seat) == Ok((4, 400))
+    }
+
+    /// The call with this growth refused: whether it is right, where memory isn't refused.
+    fn take(
+        &mut self,
+        held: &mut Option<Batch>,
+        call: Call,
+        number: u64,
+    ) -> Result<bool, AllocError> {
+        match call {
+            Call::Edit(change) => self.edit(change, number),
+            Call::EditBy => self.edit_by(number),
+            Call::Commit => self.commit(number),
+            Call::History => self.history(number),
+            Call::FirstShot => self.shot(384, number),
+            Call::Shot => self.shot(256, number),
+            Call::FirstPicture => self.picture(384, number),
+            Call::Picture => self.picture(256, number),
+            Call::Share => self.share(number),
+            Call::Job => self.job(number),
+            Call::Offer => self.offer(held, number),
+            _ => Ok(false),
+        }
+    }
+
+    /// A call that leaves all as it was where memory is refused: it with one growth refused, and the same call after it. A batch of
+    /// all frames is held before it.
+    fn take_twice(&mut self, alloc: Global, call: Call, number: u64) -> Run {
+        let mut held = Some(self.batch(alloc, 400));
+        let kept = self.seat.kept();
+        let mut answer = self.take(&mut held, call, number);
+        let has_refused = self.heap.has_refused();
+        if has_refused {
+            if answer.is_ok() {
+                return NOT_TOLD;
+            }
+            if !self.is_as_before(alloc, kept) {
+                return NOT_AS_BEFORE;
+            }
+            answer = self.take(&mut held, call, NEVER);
+        }
+        Run::ended(has_refused, matches!(answer, Ok(true)))
+    }
+
+    /// Work on two targets, 192 and 384: what was done before a refusal stays, and is told.
+    fn try_work(&mut self, number: u64) -> Run {
+        refuse(self.heap, number);
+        let answer = self.work(&[192, 384]);
+        if !self.heap.has_refused() {
+            return Run::ended(false, answer == Ok(worked(2, 4)));
+        }
+        let kept = match answer {
+            Err(WorkError::Memory { done }) if done == worked(0, 0) => 0,
+            Err(WorkError::Memory { done }) if done == worked(1, 1) => 1,
+            _ => return Run::Wrong("what was done isn't told"),
+        };
+        let again = self.work(&[192, 384]);
+        Run::ended(true, again == Ok(worked(2, 4 - kept)))
+    }
+
+    /// Work on the targets 64 and 192, with a growth of the second job refused: the first one's state stays.
+    fn try_two_jobs(&mut self, number: u64) -> Run {
+        refuse(self.heap, number);
+        let done = worked(1, 1);
+        let answer = self.work(&[64, 192]);
+        if answer != Err(WorkError::Memory { done }) {
+            return Run::Wrong("the first job isn't told");
+        }
+        let again = self.work(&[64, 192]);
+        Run::ended(self.heap.has_refused(), again == Ok(worked(2, 2)))
+    }
+
+    /// Work on these targets, whose gate is open.
+    fn work(&mut self, targets: &[usize]) -> Result<Worked, WorkError> {
+        self.desk
+            .work(self.rt, self.heap, self.seat, targets, &OpenGate)
+    }
 }
 
 /// Whether a black frame is shown, played so many, and the zone keeps six states then.
@@ -162,36 +254,6 @@ fn is_shown(
     }
 }
 
-/// A share: whether the seat's zone gains the desk's two states.
-fn share<'a, N: Name, R: Wait>(
-    rt: &R,
-    heap: &'a Heap,
-    desk: &Desk<N, &R, &'a Heap>,
-    seat: &mut Seat<N, &'a Heap>,
-    number: u64,
-) -> Result<bool, AllocError> {
-    refuse(heap, number);
-    match desk.share(rt, seat) {
-        Ok(gained) => Ok(gained == 2 && seat.kept() == 2),
-        Err(error) => Err(error),
-    }
-}
-
-/// A job: whether it makes what one for all frames does.
-fn work_all<'a, N: Name, R: Wait>(
-    rt: &R,
-    heap: &'a Heap,
-    desk: &Desk<N, &R, &'a Heap>,
-    seat: &mut Seat<N, &'a Heap>,
-    number: u64,
-) -> Result<bool, AllocError> {
-    refuse(heap, number);
-    match desk.job(rt, heap, seat, 400) {
-        Ok(job) => Ok(is_of_all(&job.run())),
-        Err(error) => Err(error),
-    }
-}
-
 /// Whether a batch is of all frames, and has the states that a zone with two of them lacks.
 fn is_of_all(batch: &Batch<&Heap>) -> bool {
     batch.inputs().len() == 400 && has_lacked(batch)
@@ -204,109 +266,9 @@ const ALL: Offered = Offered {
     kept: 4,
 };
 
-/// An offer of the batch that is held: whether it gains what it should. Out of memory, the batch that was handed back is held.
-fn offer<'a, N: Name, R: Wait + Abort>(
-    rt: &R,
-    heap: &'a Heap,
-    desk: &Desk<N, &R, &'a Heap>,
-    seat: &mut Seat<N, &'a Heap>,
-    held: &mut Option<Batch>,
-    number: u64,
-) -> Result<bool, AllocError> {
-    let batch = expect_some(rt, held.take());
-    refuse(heap, number);
-    match desk.offer(rt, seat, batch) {
-        Ok(offered) => Ok(offered == ALL),
-        Err(OfferError::Memory(batch)) => {
-            *held = Some(batch);
-            Err(AllocError)
-        }
-        Err(OfferError::Cartridge { .. }) => Ok(false),
-    }
-}
-
 /// Whether the job that made a batch started at the second of the states that are kept.
 fn starts_at_the_second(batch: &Batch) -> bool {
     !batch.holds(128) && batch.holds(192)
-}
-
-/// Whether history and movie are as before the call, and so are the zones: the seat's keeps n states, and the desk's two, so that
-/// a job starts at the second of them.
-fn is_as_before<'a, N: Name, R: Wait + Abort>(
-    rt: &R,
-    alloc: Global,
-    desk: &Desk<N, &R, &'a Heap>,
-    seat: &mut Seat<N, &'a Heap>,
-    kept: usize,
-) -> bool {
-    let starts_at_the_second = starts_at_the_second(&batch_of(rt, alloc, desk, seat, 400));
-    starts_at_the_second && seat.kept() == kept && desk.len(seat) == Ok((4, 400))
-}
-
-/// The call with this growth refused: whether it is right, where memory isn't refused.
-fn take<'a, N: Name, R: Wait + Abort>(
-    rt: &R,
-    heap: &'a Heap,
-    desk: &Desk<N, &R, &'a Heap>,
-    seat: &mut Seat<N, &'a Heap>,
-    held: &mut Option<Batch>,
-    call: Call,
-    number: u64,
-) -> Result<bool, AllocError> {
-    match call {
-        Call::Edit(change) => make_edit(rt, heap, desk, seat, change, number),
-        Call::EditBy => edit_by(rt, heap, desk, seat, number),
-        Call::Commit => commit(rt, heap, desk, seat, number),
-        Call::History => ask_history(rt, heap, desk, seat, number),
-        Call::FirstShot => shoot(heap, desk, seat, 384, number),
-        Call::Shot => shoot(heap, desk, seat, 256, number),
-        Call::FirstPicture => view(heap, desk, seat, 384, number),
-        Call::Picture => view(heap, desk, seat, 256, number),
-        Call::Share => share(rt, heap, desk, seat, number),
-        Call::Job => work_all(rt, heap, desk, seat, number),
-        Call::Offer => offer(rt, heap, desk, seat, held, number),
-        _ => Ok(false),
-    }
-}
-
-/// A call that leaves all as it was where memory is refused: it with one growth refused, and the same call after it.
-fn take_twice<'a, N: Name, R: Wait + Abort>(
-    rt: &R,
-    alloc: Global,
-    heap: &'a Heap,
-    desk: &Desk<N, &R, &'a Heap>,
-    seat: &mut Seat<N, &'a Heap>,
-    held: &mut Option<Batch>,
-    call: Call,
-    number: u64,
-) -> Run {
-    let kept = seat.kept();
-    let mut answer = take(rt, heap, desk, seat, held, call, number);
-    let has_refused = heap.has_refused();
-    if has_refused {
-        if answer.is_ok() {
-            return NOT_TOLD;
-        }
-        if !is_as_before(rt, alloc, desk, seat, kept) {
-            return NOT_AS_BEFORE;
-        }
-        answer = take(rt, heap, desk, seat, held, call, NEVER);
-    }
-    Run::ended(has_refused, matches!(answer, Ok(true)))
-}
-
-/// So is a call taken where a batch of all frames is held.
-fn take_held<'a, N: Name, R: Wait + Abort>(
-    rt: &R,
-    alloc: Global,
-    heap: &'a Heap,
-    desk: &Desk<N, &R, &'a Heap>,
-    seat: &mut Seat<N, &'a Heap>,
-    call: Call,
-    number: u64,
-) -> Run {
-    let mut held = Some(batch_of(rt, alloc, desk, seat, 400));
-    take_twice(rt, alloc, heap, desk, seat, &mut held, call, number)
 }
 
 /// This many jobs, none of them stale, and this many states.
@@ -318,62 +280,17 @@ const fn worked(jobs: usize, kept: usize) -> Worked {
     }
 }
 
-/// Work on two targets, 192 and 384: what was done before a refusal stays, and is told.
-fn try_work<'a, N: Name, R: Wait>(
-    rt: &R,
-    heap: &'a Heap,
-    desk: &Desk<N, &R, &'a Heap>,
-    seat: &mut Seat<N, &'a Heap>,
-    number: u64,
-) -> Run {
-    refuse(heap, number);
-    let answer = desk.work(rt, heap, seat, &[192, 384], &OpenGate);
-    if !heap.has_refused() {
-        return Run::ended(false, answer == Ok(worked(2, 4)));
-    }
-    let kept = match answer {
-        Err(WorkError::Memory { done }) if done == worked(0, 0) => 0,
-        Err(WorkError::Memory { done }) if done == worked(1, 1) => 1,
-        _ => return Run::Wrong("what was done isn't told"),
-    };
-    let again = desk.work(rt, heap, seat, &[192, 384], &OpenGate);
-    Run::ended(true, again == Ok(worked(2, 4 - kept)))
-}
-
-/// Work on the targets 64 and 192, with a growth of the second job refused: the first one's state stays.
-fn try_two_jobs<'a, N: Name, R: Wait>(
-    rt: &R,
-    heap: &'a Heap,
-    desk: &Desk<N, &R, &'a Heap>,
-    seat: &mut Seat<N, &'a Heap>,
-    number: u64,
-) -> Run {
-    refuse(heap, number);
-    let done = worked(1, 1);
-    let answer = desk.work(rt, heap, seat, &[64, 192], &OpenGate);
-    if answer != Err(WorkError::Memory { done }) {
-        return Run::Wrong("the first job isn't told");
-    }
-    let again = desk.work(rt, heap, seat, &[64, 192], &OpenGate);
-    Run::ended(heap.has_refused(), again == Ok(worked(2, 2)))
-}
-
 /// The call with one growth refused, and the same call after it.
-pub fn take_call<'a, N: Name, R: Wait + Abort>(
-    rt: &R,
+pub fn take_call<N: Name, W: CloseOnDrop, R: Wait + Abort>(
+    place: &mut Place<'_, '_, N, W, R>,
     alloc: Global,
-    heap: &'a Heap,
-    desk: &Desk<N, &R, &'a Heap>,
-    seats: (&mut Seat<N, &'a Heap>, &mut Seat<N, &'a Heap>),
     call: Call,
     number: u64,
 ) -> Run {
-    let (one, other) = seats;
     match call {
-        Call::Work => try_work(rt, heap, desk, other, number),
-        Call::TwoJobs => try_two_jobs(rt, heap, desk, other, number),
-        Call::Shot | Call::Picture => take_held(rt, alloc, heap, desk, one, call, number),
-        _ => take_held(rt, alloc, heap, desk, other, call, number),
+        Call::Work => place.try_work(number),
+        Call::TwoJobs => place.try_two_jobs(number),
+        _ => place.take_twice(alloc, call, number),
     }
 }
 
@@ -414,7 +331,7 @@ static CALLS: [(Call, &str, u64); 15] = [
 
 /// How many growths the call of this name has, each of which is refused in turn.
 fn growths_of<R: Wait + Abort>(rt: &R, alloc: Global, call: Call, name: &str) -> u64 {
-    count_growths(rt, name, |number| run_call(rt, alloc, call, number))
+    count_growths(|number| is_over(rt, (name, number), run_call(rt, alloc, call, number)))
 }
 
 #[test]

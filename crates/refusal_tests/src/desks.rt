@@ -11,7 +11,7 @@ use std::alloc::Global;
 use std::marker::Brand;
 use std::process::Abort;
 use std::sync::Wait;
-use tas_desk::{Closed, Desk, Gate, Name, OpenError, Seat, Unopened};
+use tas_desk::{CloseOnDrop, Closed, Desk, Gate, Name, OpenError, Seat, Unopened};
 use tas_green::Batch;
 
 /// A gate that nobody waits at.
@@ -72,15 +72,20 @@ pub fn keep_up_to<'a, N: Name, R: Wait + Abort>(
     expect_ok(rt, desk.share(rt, seat));
 }
 
-/// What a job for the first frames makes, in memory that isn't refused.
-pub fn batch_of<'a, N: Name, R: Wait + Abort>(
-    rt: &R,
-    alloc: Global,
-    desk: &Desk<N, &R, &'a Heap>,
-    seat: &mut Seat<N, &'a Heap>,
-    near: usize,
-) -> Batch {
-    expect_ok(rt, desk.job(rt, alloc, seat, near)).run()
+/// A seat at a desk, both over a heap that can refuse a growth.
+#[derive(Drop)]
+pub struct Place<'s, 'a, N: Name, W: CloseOnDrop, R> {
+    pub rt: &'s R,
+    pub heap: &'a Heap,
+    pub desk: &'s Desk<N, W, &'a Heap>,
+    pub seat: &'s mut Seat<N, &'a Heap>,
+}
+
+impl<N: Name, W: CloseOnDrop, R: Wait + Abort> Place<'_, '_, N, W, R> {
+    /// What a job for the first frames makes, in memory that isn't refused.
+    pub fn batch(&mut self, alloc: Global, near: usize) -> Batch {
+        expect_ok(self.rt, self.desk.job(self.rt, alloc, self.seat, near)).run()
+    }
 }
 
 /// The first two seats.
@@ -127,7 +132,17 @@ fn take_at<'a, N: Name, R: Wait + Abort>(
             keep_up_to(rt, heap, desk, one, 128);
         }
     }
-    take_call(rt, alloc, heap, desk, (one, other), call, number)
+    let seat = match call {
+        Call::Shot | Call::Picture => one,
+        _ => other,
+    };
+    let mut place = Place {
+        rt,
+        heap,
+        desk,
+        seat,
+    };
+    take_call(&mut place, alloc, call, number)
 }
 
 /// A call at a new desk with one growth refused, and the same call after it.

@@ -58,23 +58,8 @@ fn insert_of<A: Allocator>(
     input: Input,
     count: usize,
 ) -> Result<Edit<A>, AllocError> {
-    match Inputs::repeated(alloc, input, count) {
-        Ok(inputs) => Ok(Edit::Insert { at, inputs }),
-        Err(error) => Err(error),
-    }
-}
-
-/// The edit that writes this many of an input over others.
-fn replace_of<A: Allocator>(
-    alloc: A,
-    at: usize,
-    input: Input,
-    count: usize,
-) -> Result<Edit<A>, AllocError> {
-    match Inputs::repeated(alloc, input, count) {
-        Ok(inputs) => Ok(Edit::Replace { at, inputs }),
-        Err(error) => Err(error),
-    }
+    let inputs = Inputs::repeated(alloc, input, count)?;
+    Ok(Edit::Insert { at, inputs })
 }
 
 /// The left stick pushed up.
@@ -93,7 +78,10 @@ pub fn edit_of<A: Allocator>(alloc: A, change: Change) -> Result<Edit<A>, AllocE
         Change::Insert(at, count) => insert_of(alloc, at, Input::none(), count),
         Change::InsertRight(at, count) => insert_of(alloc, at, right(), count),
         Change::InsertUp(at) => insert_of(alloc, at, up(), 1),
-        Change::ReplaceRight(at, count) => replace_of(alloc, at, right(), count),
+        Change::ReplaceRight(at, count) => {
+            let inputs = Inputs::repeated(alloc, right(), count)?;
+            Ok(Edit::Replace { at, inputs })
+        }
         Change::Delete(at, count) => Ok(Edit::Delete { at, count }),
     }
 }

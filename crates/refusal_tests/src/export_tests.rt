@@ -5,16 +5,20 @@ ghost use Rattle.std.specs.Prelude.{◌≡◌};
 ghost use Rattle.tas_desk.specs.Seats.{name_of};
 
 use crate::checks::{check_same, check_that, expect_ok};
-use crate::desks::{batch_of, close, keep_up_to, make_edits, open, two_seats, with_history};
+use crate::desks::{Place, close, keep_up_to, make_edits, open, two_seats, with_history};
 use crate::edits::{Change, FOLDING_OF_72, make_all};
-use crate::runs::{Heap, MOST, NEVER, NOT_AS_BEFORE, NOT_TOLD, Run, refuse, refusing};
+use crate::runs::{
+    Heap, NEVER, NOT_AS_BEFORE, NOT_TOLD, Run, count_growths, is_over, refuse, refusing,
+};
 use std::alloc::Global;
 use std::marker::Brand;
 use std::process::Abort;
 use std::sync::Wait;
 use std::sync::atomic::{AtomicU64, Ordering};
 use std::thread::Threads;
-use tas_desk::{Desk, ExportError, Exported, Gate, MAX_WORKERS, Name, Seat, Shot, Unopened};
+use tas_desk::{
+    CloseOnDrop, Desk, ExportError, Exported, Gate, MAX_WORKERS, Name, Seat, Shot, Unopened,
+};
 use tas_movie::Movie;
 use vcs_machine::{Meter, State, play};
 use vcs_tia::{Picture, ppm};
@@ -34,9 +38,11 @@ enum Zone {
     Older,
 }
 
-/// What the seat sees, and what an export and a shot of the last of its frames answer.
+/// An export, what its seat sees, and what it and a shot of the last of its frames answer.
 #[derive(Drop)]
 struct Wanted {
+    zone: Zone,
+    workers: usize,
     at: u64,
     len: usize,
     /// How many frames the export plays.
@@ -63,8 +69,8 @@ fn pixmaps_of<R: Abort>(rt: &R, alloc: Global, movie: &Movie) -> Vec<u8> {
     pixmaps
 }
 
-/// What is wanted where an export plays this many frames.
-fn wanted_of<R: Abort>(rt: &R, alloc: Global, zone: Zone, played: u64) -> Wanted {
+/// What is wanted where an export by this many workers plays this many frames.
+fn wanted_of<R: Abort>(rt: &R, alloc: Global, zone: Zone, workers: usize, played: u64) -> Wanted {
     let mut movie = expect_ok(rt, Movie::blank(alloc));
     make_all(rt, alloc, &mut movie, &FOLDING_OF_72);
     let (mut at, mut len, mut ran) = (3, 72, 6);
@@ -73,6 +79,8 @@ fn wanted_of<R: Abort>(rt: &R, alloc: Global, zone: Zone, played: u64) -> Wanted
         (at, len, ran) = (4, 73, 70);
     }
     Wanted {
+        zone,
+        workers,
         at,
         len,
         played,
@@ -94,15 +102,12 @@ impl Gate for Counting {
 }
 
 /// Whether an export is right; nothing where memory is refused before any worker has passed the gate, with nothing written.
-fn export<'a, N: Name, R: Threads + Wait + Abort + Sync>(
-    rt: &R,
+fn export<N: Name, W: CloseOnDrop, R: Threads + Wait + Abort + Sync>(
+    place: &mut Place<'_, '_, N, W, R>,
     alloc: Global,
-    heap: &'a Heap,
-    desk: &Desk<N, &R, &'a Heap>,
-    seat: &mut Seat<N, &'a Heap>,
-    workers: usize,
     wanted: &Wanted,
 ) -> Option<bool> {
+    let (rt, heap, workers) = (place.rt, place.heap, wanted.workers);
     let (from, to) = FRAMES;
     let is_number = 1 <= workers && workers <= MAX_WORKERS;
     check_that(rt, ("workers", workers), is_number);
@@ -110,9 +115,10 @@ fn export<'a, N: Name, R: Threads + Wait + Abort + Sync>(
         passed: AtomicU64::new(0),
     };
     let mut out = Vec::new(alloc);
-    let end = desk.export(rt, heap, seat, from, to, workers, &gate, &mut out);
+    let desk = place.desk;
+    let end = desk.export(rt, heap, place.seat, from, to, workers, &gate, &mut out);
     let passed = gate.passed.load(Ordering::SeqCst);
-    is_exported(end, passed, out.as_slice(), workers, wanted)
+    is_exported(end, passed, out.as_slice(), wanted)
 }
 
 /// Whether an export's end is right, where this many workers passed the gate and this was written.
@@ -120,13 +126,12 @@ fn is_exported(
     end: Result<Exported, ExportError>,
     passed: u64,
     out: &[u8],
-    workers: usize,
     wanted: &Wanted,
 ) -> Option<bool> {
     match end {
         Ok(exported) => {
             let is_told = exported.at == wanted.at && exported.played == wanted.played;
-            Some(is_told && passed == workers as u64 && out == wanted.pixmaps.as_slice())
+            Some(is_told && passed == wanted.workers as u64 && out == wanted.pixmaps.as_slice())
         }
         Err(ExportError::Memory) if passed == 0 && out.is_empty() => None,
         Err(_) => Some(false),
@@ -135,30 +140,24 @@ fn is_exported(
 
 /// Whether the movie is as before the export, and so are the zones: the seat's keeps its state, and the desk's too, unless seat 1
 /// made an edit before it. A job that starts there gives no state there.
-fn is_as_before<'a, N: Name, R: Wait + Abort>(
-    rt: &R,
+fn is_as_before<N: Name, W: CloseOnDrop, R: Wait + Abort>(
+    place: &mut Place<'_, '_, N, W, R>,
     alloc: Global,
-    desk: &Desk<N, &R, &'a Heap>,
-    seat: &mut Seat<N, &'a Heap>,
-    zone: Zone,
     wanted: &Wanted,
 ) -> bool {
-    let holds_first = batch_of(rt, alloc, desk, seat, wanted.len).holds(64);
-    let is_seen = desk.len(seat) == Ok((wanted.at, wanted.len));
-    is_seen && seat.kept() == 1 && holds_first == (zone == Zone::Older)
+    let holds_first = place.batch(alloc, wanted.len).holds(64);
+    let is_seen = place.desk.len(place.seat) == Ok((wanted.at, wanted.len));
+    is_seen && place.seat.kept() == 1 && holds_first == (wanted.zone == Zone::Older)
 }
 
 /// Whether the seat's shot of the last frame is right, and starts from the seat's zone as it was.
-fn shoots_last<'a, N: Name, R: Wait + Abort>(
-    rt: &R,
+fn shoots_last<N: Name, W: CloseOnDrop, R: Abort>(
+    place: &mut Place<'_, '_, N, W, R>,
     alloc: Global,
-    heap: &'a Heap,
-    desk: &Desk<N, &R, &'a Heap>,
-    seat: &mut Seat<N, &'a Heap>,
     wanted: &Wanted,
 ) -> bool {
-    match desk.shot(heap, seat, FRAMES.1 - 1) {
-        Ok(shot) => is_last(rt, alloc, &shot, wanted),
+    match place.desk.shot(place.heap, place.seat, FRAMES.1 - 1) {
+        Ok(shot) => is_last(place.rt, alloc, &shot, wanted),
         Err(_) => false,
     }
 }
@@ -171,33 +170,28 @@ fn is_last<R: Abort>(rt: &R, alloc: Global, shot: &Shot<&Heap>, wanted: &Wanted)
     is_told && wanted.pixmaps.ends_with(pixmap.as_slice())
 }
 
-/// An export by this many workers with one growth refused, the same export after it, and a shot.
-fn try_export<'a, N: Name, R: Threads + Wait + Abort + Sync>(
-    rt: &R,
+/// An export with one growth refused, the same export after it, and a shot.
+fn try_export<N: Name, W: CloseOnDrop, R: Threads + Wait + Abort + Sync>(
+    place: &mut Place<'_, '_, N, W, R>,
     alloc: Global,
-    heap: &'a Heap,
-    desk: &Desk<N, &R, &'a Heap>,
-    seat: &mut Seat<N, &'a Heap>,
-    zone: Zone,
-    workers: usize,
     wanted: &Wanted,
     number: u64,
 ) -> Run {
-    refuse(heap, number);
-    let mut answer = export(rt, alloc, heap, desk, seat, workers, wanted);
-    let has_refused = heap.has_refused();
+    refuse(place.heap, number);
+    let mut answer = export(place, alloc, wanted);
+    let has_refused = place.heap.has_refused();
     if has_refused {
         if answer.is_some() {
             return NOT_TOLD;
         }
-        if !is_as_before(rt, alloc, desk, seat, zone, wanted) {
+        if !is_as_before(place, alloc, wanted) {
             return NOT_AS_BEFORE;
         }
-        answer = export(rt, alloc, heap, desk, seat, workers, wanted);
+        answer = export(place, alloc, wanted);
     }
-    refuse(heap, NEVER);
-    let is_as_before = is_as_before(rt, alloc, desk, seat, zone, wanted);
-    let is_shot = shoots_last(rt, alloc, heap, desk, seat, wanted);
+    refuse(place.heap, NEVER);
+    let is_as_before = is_as_before(place, alloc, wanted);
+    let is_shot = shoots_last(place, alloc, wanted);
     Run::ended(has_refused, answer == Some(true) && is_as_before && is_shot)
 }
 
@@ -217,18 +211,22 @@ fn make_and_export<'a, N: Name, R: Threads + Wait + Abort + Sync>(
     heap: &'a Heap,
     desk: &Desk<N, &R, &'a Heap>,
     seats: &mut [Seat<N, &'a Heap>],
-    zone: Zone,
-    workers: usize,
     wanted: &Wanted,
     number: u64,
 ) -> Run {
-    let (one, other) = two_seats(rt, seats);
-    make_edits(rt, heap, desk, one, &FOLDING_OF_72);
-    keep_up_to(rt, heap, desk, one, 64);
-    if zone == Zone::Older {
+    let (seat, other) = two_seats(rt, seats);
+    make_edits(rt, heap, desk, seat, &FOLDING_OF_72);
+    keep_up_to(rt, heap, desk, seat, 64);
+    if wanted.zone == Zone::Older {
         make_edits(rt, heap, desk, other, &BEHIND);
     }
-    try_export(rt, alloc, heap, desk, one, zone, workers, wanted, number)
+    let mut place = Place {
+        rt,
+        heap,
+        desk,
+        seat,
+    };
+    try_export(&mut place, alloc, wanted, number)
 }
 
 /// An export at a new desk, by seat 0, with one growth refused, and the same export after it.
@@ -237,32 +235,27 @@ fn export_at<'a, N: Name, R: Threads + Wait + Abort + Sync>(
     alloc: Global,
     heap: &'a Heap,
     unopened: Unopened<&'a Heap>,
-    zone: Zone,
-    workers: usize,
     wanted: &Wanted,
     number: u64,
 ) -> Run
     requires name { unopened ≡ name_of N.registry N.name N.parts }
 {
     let (desk, mut seats) = open::<N, R>(rt, heap, unopened);
-    let lent = seats.as_mut_slice();
-    let run = make_and_export(rt, alloc, heap, &desk, lent, zone, workers, wanted, number);
+    let run = make_and_export(rt, alloc, heap, &desk, seats.as_mut_slice(), wanted, number);
     let closed = close(rt, desk, seats);
-    with_history(rt, alloc, run, &closed, history_of(zone))
+    with_history(rt, alloc, run, &closed, history_of(wanted.zone))
 }
 
 /// An export with one growth refused, and the same export after it.
 fn run_export<R: Threads + Wait + Abort + Sync>(
     rt: &R,
     alloc: Global,
-    zone: Zone,
-    workers: usize,
     wanted: &Wanted,
     number: u64,
 ) -> Run {
     let heap = refusing(alloc, NEVER);
     let unopened = expect_ok(rt, Unopened::new(&heap, 2));
-    export_at::<Brand, R>(rt, alloc, &heap, unopened, zone, workers, wanted, number)
+    export_at::<Brand, R>(rt, alloc, &heap, unopened, wanted, number)
 }
 
 /// Refuses each growth of an export by this many workers, which plays this many frames.
@@ -274,16 +267,11 @@ fn refuse_each<R: Threads + Wait + Abort + Sync>(
     played: u64,
     growths: u64,
 ) {
-    let wanted = wanted_of(rt, alloc, zone, played);
-    let mut refused = 0;
-    for number in 1..MOST {
-        let run = run_export(rt, alloc, zone, workers, &wanted, number);
-        if run == Run::Done {
-            break;
-        }
-        check_same(rt, ("workers, growth", workers, number), run, Run::Refused);
-        refused = number;
-    }
+    let wanted = wanted_of(rt, alloc, zone, workers, played);
+    let refused = count_growths(|number| {
+        let run = run_export(rt, alloc, &wanted, number);
+        is_over(rt, ("workers", workers, number), run)
+    });
     check_same(rt, ("workers", workers), refused, growths);
 }
 

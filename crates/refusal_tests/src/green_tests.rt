@@ -5,7 +5,9 @@ ghost use Rattle.tas_green.specs.Green.{IsLawful};
 
 use crate::checks::{check_same, check_that, expect_ok};
 use crate::fixtures::{BRIEF, GRID, PLAYFIELD, has_lacked, movie_of, replaced};
-use crate::runs::{Heap, NEVER, NOT_AS_BEFORE, NOT_TOLD, Run, count_growths, refuse, refusing};
+use crate::runs::{
+    Heap, NEVER, NOT_AS_BEFORE, NOT_TOLD, Run, count_growths, is_over, refuse, refusing,
+};
 use std::alloc::{AllocError, Allocator, Global};
 use std::process::Abort;
 use tas_green::{Batch, Green, Job, MergeError, Merged, Viewed, Window};
@@ -272,7 +274,10 @@ fn growths_of<R: Abort>(rt: &R, alloc: Global, given: &Given, seeking: Seeking, 
     requires long { 384 ≤ length given.now.movie.inputs }
     requires other { 384 ≤ length given.now.other.inputs }
 {
-    count_growths(rt, name, |number| run_seeking(rt, alloc, given, seeking, number))
+    count_growths(|number| {
+        let run = run_seeking(rt, alloc, given, seeking, number);
+        is_over(rt, (name, number), run)
+    })
 }
 
 /// Compares how many growths each call has.

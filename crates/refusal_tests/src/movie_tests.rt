@@ -3,7 +3,7 @@
 use crate::checks::{check_same, expect_ok};
 use crate::edits::{Change, edit_of};
 use crate::fixtures::{PLAYFIELD, are_equal, image, movie_of, right};
-use crate::runs::{Heap, NEVER, NOT_TOLD, Run, count_growths, refuse, refusing};
+use crate::runs::{Heap, MOST, NEVER, NOT_TOLD, Run, count_growths, is_over, refuse, refusing};
 use std::alloc::{AllocError, Global};
 use std::process::Abort;
 use tas_movie::{Edit, Inputs, Movie, ReadError, TextError, TextErrorKind, print_text, read_text};
@@ -110,7 +110,7 @@ fn run_making(alloc: Global, made: &Made, making: Making, number: u64) -> Run {
 
 /// How many growths the call of this name has, each of which is refused in turn.
 fn growths_of<R: Abort>(rt: &R, alloc: Global, made: &Made, making: Making, name: &str) -> u64 {
-    count_growths(rt, name, |number| run_making(alloc, made, making, number))
+    count_growths(|number| is_over(rt, (name, number), run_making(alloc, made, making, number)))
 }
 
 fn make_all<R: Abort>(rt: &R, alloc: Global) -> Made {
@@ -223,7 +223,12 @@ fn copy_twice<'a>(heap: &'a Heap, edit: &Edit<&'a Heap>, number: u64) -> Run {
 
 /// How many growths the copy of an edit has, each of which is refused in turn.
 fn growths_of_copy<'a, R: Abort>(rt: &R, heap: &'a Heap, edit: &Edit<&'a Heap>, name: &str) -> u64 {
-    count_growths(rt, name, |number| copy_twice(heap, edit, number))
+    for number in 1..MOST {
+        if is_over(rt, (name, number), copy_twice(heap, edit, number)) {
+            return number - 1;
+        }
+    }
+    MOST
 }
 
 /// An edit of each kind, the kind's name, and how many growths its copy has.

@@ -5,6 +5,7 @@ ghost use Rattle.std.specs.Prelude.{◌≤◌};
 use crate::checks::check_same;
 use refusals::Refusing;
 use std::alloc::Global;
+use std::fmt::Debug;
 use std::process::Abort;
 
 /// The allocator that a call, a session or a desk gets.
@@ -55,16 +56,23 @@ pub const NOT_TOLD: Run = Run::Wrong("the refusal isn't told");
 /// Something isn't as it was before the call that met the refusal.
 pub const NOT_AS_BEFORE: Run = Run::Wrong("not as before the refusal");
 
-/// How many growths a call of this name has: it is run with each of them refused in turn.
-pub fn count_growths<R: Abort, F: Fn(u64) -> Run>(rt: &R, name: &str, run: F) -> u64
-    requires { F.IsAlwaysCallable run }
+/// Whether nothing was refused in a run any more. The test fails where something was, and the run wasn't right; it shows the case then.
+pub fn is_over<R: Abort, C: Copy + Debug>(rt: &R, case: C, run: Run) -> bool {
+    let is_over = run == Run::Done;
+    if !is_over {
+        check_same(rt, ("growth", case), run, Run::Refused);
+    }
+    is_over
+}
+
+/// How many growths a call has: it is run with each of them refused in turn, up to the run that is over.
+pub fn count_growths<F: Fn(u64) -> bool>(is_over: F) -> u64
+    requires { F.IsAlwaysCallable is_over }
 {
     for number in 1..MOST {
-        let ended = run(number);
-        if ended == Run::Done {
+        if is_over(number) {
             return number - 1;
         }
-        check_same(rt, ("growth", name, number), ended, Run::Refused);
     }
     MOST
 }

@@ -3,7 +3,9 @@
 use crate::checks::{check_same, check_that, expect_ok, expect_some};
 use crate::edits::{BRIEF_OF_400, Change, edit_of, history, movie_text};
 use crate::fixtures::{GRID, has_lacked};
-use crate::runs::{Heap, NEVER, NOT_AS_BEFORE, NOT_TOLD, Run, count_growths, refuse, refusing};
+use crate::runs::{
+    Heap, NEVER, NOT_AS_BEFORE, NOT_TOLD, Run, count_growths, is_over, refuse, refusing,
+};
 use std::alloc::{AllocError, Allocator, Global};
 use std::process::Abort;
 use std::sync::Wait;
@@ -286,7 +288,7 @@ fn run_call<R: Wait + Abort>(rt: &R, alloc: Global, turn: Option<Turn>, number: 
 
 /// How many growths the turn of this name, or a new session, has, each of which is refused in turn.
 fn growths_of<R: Wait + Abort>(rt: &R, alloc: Global, turn: Option<Turn>, name: &str) -> u64 {
-    count_growths(rt, name, |number| run_call(rt, alloc, turn, number))
+    count_growths(|number| is_over(rt, (name, number), run_call(rt, alloc, turn, number)))
 }
 
 /// Each turn, its name, and how many growths it has. The first edit has those of its seat's count, of the second copy of its inputs, of

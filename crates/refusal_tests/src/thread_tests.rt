@@ -4,17 +4,17 @@
 ghost use Rattle.std.specs.Prelude.{◌≡◌};
 ghost use Rattle.tas_desk.specs.Seats.{name_of};
 
-use crate::callers::{Caller, FIRST_AT, FIRST_LEN, FRAME, TURNS, sum_of};
-use crate::checks::{check_same, check_that, expect_ok, expect_some};
+use crate::callers::{Caller, FIRST_AT, FIRST_LEN, FRAME, Shared, TURNS, sum_of};
+use crate::checks::{check_that, expect_ok, expect_some};
 use crate::desks::{close, make_edits, open};
 use crate::edits::{Change, FOLDING_OF_72, edit_of, make_all};
-use crate::runs::{Heap, MOST, NEVER, Run, refuse, refusing};
+use crate::runs::{Heap, NEVER, Run, count_growths, is_over, refuse, refusing};
 use std::alloc::Global;
 use std::marker::Brand;
 use std::process::Abort;
 use std::sync::Wait;
 use std::thread::{Threads, join_mut};
-use tas_desk::{Closed, Desk, Name, Seat, Unopened};
+use tas_desk::{CloseOnDrop, Closed, Desk, Name, Seat, Unopened};
 use tas_movie::{Edit, Movie};
 use vcs_machine::{Meter, State, play};
 use vcs_tia::Picture;
@@ -99,28 +99,22 @@ fn seats_of<'a, N: Name, R: Abort>(
 
 /// The callers take their turns, each on a thread of its own.
 fn take_turns<'a, N: Name + Send + Sync, R: Threads + Wait + Sync>(
-    rt: &R,
-    heap: &'a Heap,
-    desk: &Desk<N, &R, &'a Heap>,
+    shared: &Shared<'_, 'a, N, &R, R>,
     callers: &mut [Caller<'a, N>],
-    sums: &[u64],
 ) {
     let Some((one, others)) = callers.split_first_mut() else {
         return;
     };
     join_mut(
-        rt,
-        &mut || one.take_all(rt, heap, desk, sums),
-        &mut || take_last_turns(rt, heap, desk, sums, others),
+        shared.rt,
+        &mut || one.take_all(shared),
+        &mut || take_last_turns(shared, others),
     );
 }
 
 /// So do the last two of them.
 fn take_last_turns<'a, N: Name + Send + Sync, R: Threads + Wait + Sync>(
-    rt: &R,
-    heap: &'a Heap,
-    desk: &Desk<N, &R, &'a Heap>,
-    sums: &[u64],
+    shared: &Shared<'_, 'a, N, &R, R>,
     callers: &mut [Caller<'a, N>],
 ) {
     let Some((two, others)) = callers.split_first_mut() else {
@@ -130,29 +124,27 @@ fn take_last_turns<'a, N: Name + Send + Sync, R: Threads + Wait + Sync>(
         return;
     };
     join_mut(
-        rt,
-        &mut || two.take_all(rt, heap, desk, sums),
-        &mut || three.take_all(rt, heap, desk, sums),
+        shared.rt,
+        &mut || two.take_all(shared),
+        &mut || three.take_all(shared),
     );
 }
 
 /// Whether each call was right, and one of them was refused memory just where a growth was; and whether further calls of each
 /// seat answer the movie of all edits.
-fn were_right<'a, N: Name, R: Wait>(
-    heap: &'a Heap,
-    desk: &Desk<N, &R, &'a Heap>,
+fn were_right<'a, N: Name, W: CloseOnDrop, R>(
+    shared: &Shared<'_, 'a, N, W, R>,
     callers: &mut [Caller<'a, N>],
-    sums: &[u64],
 ) -> Run {
-    let has_refused = heap.has_refused();
-    refuse(heap, NEVER);
+    let has_refused = shared.heap.has_refused();
+    refuse(shared.heap, NEVER);
     let mut refused = 0u64;
     for caller in callers {
         refused = refused.saturating_add(caller.refused);
         if !caller.is_right || !caller.edits.is_empty() {
             return Run::Wrong("a caller's answer");
         }
-        if !caller.looks(desk) || caller.shot(heap, desk, sums) != Some(true) {
+        if !caller.looks(shared) || caller.shot(shared) != Some(true) {
             return Run::Wrong("a look or a shot at the end");
         }
         if caller.seen != FIRST_AT + EDITS as u64 {
@@ -188,16 +180,13 @@ fn is_inserted(edit: &Edit<&Heap>) -> bool {
 
 /// The callers take their turns with one growth refused.
 fn play_turns<'a, N: Name + Send + Sync, R: Threads + Wait + Sync>(
-    rt: &R,
-    heap: &'a Heap,
-    desk: &Desk<N, &R, &'a Heap>,
+    shared: &Shared<'_, 'a, N, &R, R>,
     callers: &mut [Caller<'a, N>],
-    sums: &[u64],
     number: u64,
 ) -> Run {
-    refuse(heap, number);
-    take_turns(rt, heap, desk, callers, sums);
-    were_right(heap, desk, callers, sums)
+    refuse(shared.heap, number);
+    take_turns(shared, callers);
+    were_right(shared, callers)
 }
 
 /// A desk of three seats, whose callers take their turns with one growth refused.
@@ -220,7 +209,13 @@ fn run_at<'a, N: Name + Send + Sync, R: Threads + Wait + Abort + Sync>(
         &FOLDING_OF_72,
     );
     let mut callers = callers(rt, alloc, heap, seats);
-    let run = play_turns(rt, heap, &desk, callers.as_mut_slice(), sums, number);
+    let shared = Shared {
+        rt,
+        heap,
+        desk: &desk,
+        sums,
+    };
+    let run = play_turns(&shared, callers.as_mut_slice(), number);
     let closed = close(rt, desk, seats_of(rt, heap, callers));
     if is_complete(&closed) {
         run
@@ -268,15 +263,9 @@ const MOST_GROWTHS: u64 = 48;
 
 /// Refuses each growth of the callers' turns.
 fn refuse_each<R: Threads + Wait + Abort + Sync>(rt: &R, alloc: Global, sums: &[u64]) {
-    let mut refused = 0;
-    for number in 1..MOST {
-        let run = run_callers(rt, alloc, sums, number);
-        if run == Run::Done {
-            break;
-        }
-        check_same(rt, ("growth", number), run, Run::Refused);
-        refused = number;
-    }
+    let refused = count_growths(|number| {
+        is_over(rt, number, run_callers(rt, alloc, sums, number))
+    });
     let is_number = LEAST_GROWTHS <= refused && refused <= MOST_GROWTHS;
     check_that(rt, ("growths", refused), is_number);
 }

@@ -45,8 +45,9 @@ pub enum Call {
     Stepped(u32, usize, usize, u64),
     /// Pictures of each frame from one to another by two seats, that of the first from its window: they are the same.
     Alike(u32, u32, usize, usize),
-    /// Work on some targets, each of which passes the gate with its index.
-    Work(u32, &'static [usize], Worked),
+    /// Work on some targets, each of which passes the gate with its index: the number of jobs, none of them stale, and of states
+    /// that are kept.
+    Work(u32, &'static [usize], usize, usize),
     /// How many states the seat's zone gained.
     Share(u32, usize),
     /// The movie's first input over that of a frame.
@@ -164,10 +165,11 @@ fn is_answered<N: Name, W: CloseOnDrop, R: Threads + Wait + Abort + Sync>(
         Call::Committed(_, at, changes, answer) => {
             commit(rt, alloc, desk, seat, at, changes) == answer
         }
-        Call::Work(_, targets, worked) => {
+        Call::Work(_, targets, jobs, kept) => {
             let gate = InOrder::new();
             let told = desk.work(rt, alloc, seat, targets, &gate);
-            told == Ok(worked) && gate.was_passed_by(targets.len())
+            let stale = 0;
+            told == Ok(Worked { jobs, kept, stale }) && gate.was_passed_by(targets.len())
         }
         Call::Share(_, gained) => desk.share(rt, seat).ok() == Some(gained),
         Call::Brought(_, at, gained) => desk.bring(rt, seat) == Ok(Shared { at, gained }),

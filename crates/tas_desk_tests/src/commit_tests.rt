@@ -2,8 +2,7 @@
 
 use crate::calls::{Call, play_calls};
 use crate::changes::{Change, PLAYFIELD};
-use crate::checks::check_same;
-use crate::sessions::history;
+use crate::sessions::check_history;
 use tas_desk::{CommitError, EditError, Receipt};
 
 /// Nothing, the first two edits, and one edit of the other seat, which first says how many edits it has seen.
@@ -51,12 +50,10 @@ static STEPS: [Call; 9] = [
 
 #[test]
 fn a_step_is_made_where_nobody_has_edited_since(rt: HostRuntime) {
-    let alloc = rt.alloc();
-    let closed = play_calls(&rt, alloc, 2, &STEPS);
-    let told = history(&rt, alloc, closed.journal.as_slice());
+    let closed = play_calls(&rt, rt.alloc(), 2, &STEPS);
     let text =
         "0 0 load\n0 1 insert 0 200\n1 0 delete 0 1\n0 2 delete 10 5\n0 3 insert 10 7\n0 4 delete 0 1\n";
-    check_same(&rt, "history", told.as_str(), text);
+    check_history(&rt, rt.alloc(), &closed, text);
 }
 
 /// The second edit is allowed in the movie before the first, and the other way round.
@@ -95,9 +92,7 @@ static REFUSED: [Call; 7] = [
 
 #[test]
 fn where_the_second_edit_is_refused_the_first_is_not_made(rt: HostRuntime) {
-    let alloc = rt.alloc();
-    let closed = play_calls(&rt, alloc, 2, &REFUSED);
-    let told = history(&rt, alloc, closed.journal.as_slice());
+    let closed = play_calls(&rt, rt.alloc(), 2, &REFUSED);
     let text = "0 0 insert 0 20\n1 0 insert 0 5\n1 1 delete 22 3\n";
-    check_same(&rt, "history", told.as_str(), text);
+    check_history(&rt, rt.alloc(), &closed, text);
 }

@@ -3,25 +3,14 @@
 use crate::calls::{Call, play_calls};
 use crate::changes::{Change, HALT, HALTING, PLAYFIELD, fire};
 use crate::checks::check_same;
-use crate::sessions::history;
-use tas_desk::{EditError, InputError, ShotError, Worked};
+use crate::sessions::{check_history, lengths};
+use tas_desk::{EditError, InputError, ShotError};
 use vcs_machine::Input;
 
 /// Cartridge and inputs of most tests: two edits of seat 0.
 pub const LOADED: Call = Call::Made(0, Change::Load(PLAYFIELD), 1, 0);
 
 pub const FILLED: Call = Call::Made(0, Change::Insert(0, 200), 2, 200);
-
-/// Seat 0 works the first three states of this movie.
-pub const WORKED: Call = Call::Work(
-    0,
-    &[192],
-    Worked {
-        jobs: 1,
-        kept: 3,
-        stale: 0,
-    },
-);
 
 static FRESH: [Call; 8] = [
     Call::Input(1, 0, Err(InputError::NoFrame { at: 0, len: 0 })),
@@ -45,12 +34,7 @@ static FRESH: [Call; 8] = [
 #[test]
 fn a_fresh_desk_has_no_frames(rt: HostRuntime) {
     let closed = play_calls(&rt, rt.alloc(), 2, &FRESH);
-    check_same(
-        &rt,
-        "journal, movie",
-        [closed.journal.len(), closed.movie.len()],
-        [0, 0],
-    );
+    check_same(&rt, "journal, movie", lengths(&closed), [0, 0]);
 }
 
 /// Some of three seats, and whether they are all.
@@ -116,26 +100,16 @@ static REFUSALS: [Call; 7] = [
 /// A refused edit takes no serial.
 #[test]
 fn refusals_of_a_desk_come_in_order(rt: HostRuntime) {
-    let alloc = rt.alloc();
-    let closed = play_calls(&rt, alloc, 2, &REFUSALS);
+    let closed = play_calls(&rt, rt.alloc(), 2, &REFUSALS);
     let text = "0 0 insert 0 262144\n1 0 replace 262144 0\n1 1 delete 1 262143\n0 1 delete 0 0\n";
-    let told = history(&rt, alloc, closed.journal.as_slice());
-    check_same(&rt, "history", told.as_str(), text);
+    check_history(&rt, rt.alloc(), &closed, text);
 }
 
 static SHARED: [Call; 17] = [
     LOADED,
     FILLED,
-    WORKED,
-    Call::Work(
-        0,
-        &[192],
-        Worked {
-            jobs: 1,
-            kept: 0,
-            stale: 0,
-        },
-    ),
+    Call::Work(0, &[192], 1, 3),
+    Call::Work(0, &[192], 1, 0),
     Call::Keeps(1, 0),
     Call::Share(1, 3),
     Call::Keeps(1, 3),
@@ -159,33 +133,9 @@ fn work_is_shared_with_other_seats(rt: HostRuntime) {
 static TARGETS: [Call; 7] = [
     LOADED,
     FILLED,
-    Call::Work(
-        0,
-        &[],
-        Worked {
-            jobs: 0,
-            kept: 0,
-            stale: 0,
-        },
-    ),
-    Call::Work(
-        0,
-        &[64, 192, 63],
-        Worked {
-            jobs: 3,
-            kept: 3,
-            stale: 0,
-        },
-    ),
-    Call::Work(
-        1,
-        &[0, 1000],
-        Worked {
-            jobs: 2,
-            kept: 0,
-            stale: 0,
-        },
-    ),
+    Call::Work(0, &[], 0, 0),
+    Call::Work(0, &[64, 192, 63], 3, 3),
+    Call::Work(1, &[0, 1000], 2, 0),
     Call::Share(0, 3),
     Call::Drawn(0, 199, 2, 8, 1680),
 ];
@@ -256,15 +206,7 @@ static HALTED: [Call; 9] = [
     Call::NotDrawn(0, 99, ShotError::Halted { at: 2, halt: HALT }),
     Call::Keeps(0, 1),
     Call::NotDrawn(0, 80, ShotError::Halted { at: 2, halt: HALT }),
-    Call::Work(
-        1,
-        &[100],
-        Worked {
-            jobs: 1,
-            kept: 1,
-            stale: 0,
-        },
-    ),
+    Call::Work(1, &[100], 1, 1),
     Call::Share(0, 0),
     Call::Share(1, 1),
 ];

@@ -18,36 +18,14 @@ use std::thread::Threads;
 use tas_desk::{Desk, ExportError, Exported, MAX_WORKERS, Name, Seat};
 use tas_movie::Movie;
 
-/// The edits that make a movie of a program and some inputs.
-static FOLDED: [Change; 3] = [
-    Change::Load(FOLDING),
-    Change::Insert(0, 20),
-    Change::ReplaceRight(1),
-];
-
-static LIT: [Change; 3] = [
-    Change::Load(PLAYFIELD),
-    Change::Insert(0, 2),
-    Change::ReplaceRight(1),
-];
-
-static LONG: [Change; 3] = [
-    Change::Load(PLAYFIELD),
-    Change::Insert(0, 1030),
-    Change::ReplaceRight(1),
-];
-
-static LONGEST: [Change; 3] = [
-    Change::Load(WAITING),
-    Change::Insert(0, 1024),
-    Change::ReplaceRight(1),
-];
-
-static HALTED: [Change; 3] = [
-    Change::Load(HALTING),
-    Change::Insert(0, 8),
-    Change::ReplaceRight(1),
-];
+/// The edits that make this many frames of a program, with the left stick pushed right in the second one.
+fn edits_of(program: &'static [u8], frames: usize) -> [Change; 3] {
+    [
+        Change::Load(program),
+        Change::Insert(0, frames),
+        Change::ReplaceRight(1),
+    ]
+}
 
 /// Five frames of nothing pressed, of which the fourth halts.
 static HALTED_FIVE: [Change; 2] = [Change::Load(HALTING), Change::Insert(0, 5)];
@@ -82,9 +60,10 @@ pub fn export_by_each<N: Name + Send + Sync, R: Threads + Wait + Abort + Sync>(
     frames: usize,
 ) {
     let seat = expect_some(rt, seats.first_mut());
-    make_edits(rt, alloc, desk, seat, &FOLDED);
+    let folded = edits_of(FOLDING, 20);
+    make_edits(rt, alloc, desk, seat, &folded);
     let range = (2, frames.saturating_add(2));
-    let (bytes, sum) = wanted_pixmaps(rt, alloc, &FOLDED, range);
+    let (bytes, sum) = wanted_pixmaps(rt, alloc, &folded, range);
     check_same(rt, "bytes", bytes, frames.saturating_mul(100_815));
     for workers in 1..17usize {
         let told = export(rt, alloc, desk, seat, range, workers, &Open, usize::MAX);
@@ -114,7 +93,7 @@ pub fn export_through_gates<N: Name + Send + Sync, R: Threads + Wait + Abort + S
     seats: &mut [Seat<N>],
 ) {
     let seat = expect_some(rt, seats.first_mut());
-    make_edits(rt, alloc, desk, seat, &LIT);
+    make_edits(rt, alloc, desk, seat, &edits_of(PLAYFIELD, 2));
     let (told, bytes, sum) = export(rt, alloc, desk, seat, (0, 2), 1, &Open, usize::MAX);
     check_same(rt, "by one worker", (told, bytes), (Ok((3, 2)), 201_630));
     let ordered = Ordered::new();
@@ -224,7 +203,8 @@ static FOUR_OF_FIVE: [Case; 1] = [Case::Halted(2, (1, 5), 2, 3)];
 
 #[test]
 fn the_least_halted_frame_is_told(rt: HostRuntime) {
-    lend(&rt, rt.alloc(), 1, Task::Exports(&HALTED, &HALTS));
+    let halted = edits_of(HALTING, 8);
+    lend(&rt, rt.alloc(), 1, Task::Exports(&halted, &HALTS));
     let of_five = Task::Exports(&HALTED_FIVE, &FOUR_OF_FIVE);
     lend(&rt, rt.alloc(), 1, of_five);
 }
@@ -249,7 +229,8 @@ static ENDS: [Case; 14] = [
 
 #[test]
 fn writers_fail_and_ranges_end(rt: HostRuntime) {
-    lend(&rt, rt.alloc(), 1, Task::Exports(&LONG, &ENDS));
+    let long = edits_of(PLAYFIELD, 1030);
+    lend(&rt, rt.alloc(), 1, Task::Exports(&long, &ENDS));
 }
 
 /// How many of 1,024 frames this many runs play that start from the kept states of every 64th frame.
@@ -275,7 +256,7 @@ pub fn export_longest<N: Name + Send + Sync, R: Threads + Wait + Abort + Sync>(
     first: usize,
 ) {
     let seat = expect_some(rt, seats.first_mut());
-    make_edits(rt, alloc, desk, seat, &LONGEST);
+    make_edits(rt, alloc, desk, seat, &edits_of(WAITING, 1024));
     let mut bytes = expect_ok(rt, Vec::with_capacity(alloc, 103_234_560));
     let alone = told(desk.export(rt, alloc, seat, 0, 1024, 1, &Open, &mut bytes));
     check_same(rt, "alone", alone, Some((3, 1024)));

@@ -2,7 +2,7 @@
 
 use crate::calls::{Call, play_calls};
 use crate::changes::{COUNTING, Change, PLAYFIELD, fire, right};
-use crate::desk_tests::{FILLED, LOADED, WORKED};
+use crate::desk_tests::{FILLED, LOADED};
 use crate::sessions::history;
 use std::alloc::Global;
 use std::process::Abort;
@@ -167,7 +167,7 @@ static BROUGHT: [Call; 8] = [
     Call::Brought(1, 0, 0),
     LOADED,
     FILLED,
-    WORKED,
+    Call::Work(0, &[192], 1, 3),
     Call::Brought(1, 2, 3),
     Call::Made(0, Change::ReplaceRight(100), 3, 200),
     Call::Brought(1, 3, 0),

@@ -27,9 +27,10 @@ pub struct Caller<N: Name> {
     pub replies: Vec<Reply>,
 }
 
-/// A schedule that is played.
-#[derive(Clone, Copy)]
-pub struct Played<'a> {
+/// A schedule that is played at a desk.
+#[derive(Drop)]
+pub struct Played<'a, N: Name, W: CloseOnDrop> {
+    pub desk: &'a Desk<N, W>,
     pub order: &'a StepOrder,
     pub steps: &'a [Step],
 }
@@ -62,18 +63,6 @@ fn told<N: Name, W: CloseOnDrop, R: Wait + Abort>(
         Action::Share => Some(Answer::Share(expect_ok(rt, desk.share(rt, seat)))),
         Action::Start(_) | Action::Offer | Action::Pass(_) => None,
     }
-}
-
-/// The reply to a work with one target.
-fn work<N: Name, W: CloseOnDrop, R: Wait>(
-    rt: &R,
-    alloc: Global,
-    desk: &Desk<N, W>,
-    seat: &mut Seat<N>,
-    gate: &Pause<'_>,
-    target: usize,
-) -> Answer {
-    Answer::Work(desk.work(rt, alloc, seat, &[target], gate))
 }
 
 /// The reply to the offer of a job that was taken before its gate.
@@ -110,8 +99,7 @@ impl<N: Name> Caller<N> {
         &mut self,
         rt: &R,
         alloc: Global,
-        desk: &Desk<N, W>,
-        played: Played<'_>,
+        played: &Played<'_, N, W>,
         start: usize,
         near: usize,
     ) {
@@ -124,46 +112,35 @@ impl<N: Name> Caller<N> {
         };
         played.order.wait_for(start);
         let answer = if seat == 1 {
-            job(rt, alloc, desk, &mut self.seat, &gate, near)
+            job(rt, alloc, played.desk, &mut self.seat, &gate, near)
         } else {
-            work(rt, alloc, desk, &mut self.seat, &gate, near)
+            let seat = &mut self.seat;
+            Answer::Work(played.desk.work(rt, alloc, seat, &[near], &gate))
         };
         self.note(rt, offer, answer);
         played.order.done(offer);
     }
 
-    /// Takes a step that is done at once.
-    fn take_at_once<W: CloseOnDrop, R: Wait + Abort>(
-        &mut self,
-        rt: &R,
-        alloc: Global,
-        desk: &Desk<N, W>,
-        played: Played<'_>,
-        number: usize,
-        action: Action,
-    ) {
-        played.order.wait_for(number);
-        if let Some(answer) = told(rt, alloc, desk, &mut self.seat, action) {
-            self.note(rt, number, answer);
-        }
-        played.order.done(number);
-    }
-
-    /// Takes a step. An export begins in the first one.
+    /// Takes a step. A job's is over in a later one, and an export begins in the first one.
     pub fn take<W: CloseOnDrop, R: Threads + Wait + Abort + Sync>(
         &mut self,
         rt: &R,
         alloc: Global,
-        desk: &Desk<N, W>,
-        played: Played<'_>,
+        played: &Played<'_, N, W>,
         number: usize,
         action: Action,
     ) {
         match action {
-            Action::Start(near) => self.start(rt, alloc, desk, played, number, near),
-            Action::Pass(_) if number == 0 => self.export(rt, alloc, desk, played),
+            Action::Start(near) => self.start(rt, alloc, played, number, near),
+            Action::Pass(_) if number == 0 => self.export(rt, alloc, played),
             Action::Offer | Action::Pass(_) => {}
-            _ => self.take_at_once(rt, alloc, desk, played, number, action),
+            _ => {
+                played.order.wait_for(number);
+                if let Some(answer) = told(rt, alloc, played.desk, &mut self.seat, action) {
+                    self.note(rt, number, answer);
+                }
+                played.order.done(number);
+            }
         }
     }
 
@@ -172,8 +149,7 @@ impl<N: Name> Caller<N> {
         &mut self,
         rt: &R,
         alloc: Global,
-        desk: &Desk<N, W>,
-        played: Played<'_>,
+        played: &Played<'_, N, W>,
     ) {
         let steps = played.steps;
         let passes = (pass_of(steps, 0), pass_of(steps, 1), pass_of(steps, 2));
@@ -182,7 +158,8 @@ impl<N: Name> Caller<N> {
                 order: played.order,
                 passes: [first, second, third],
             };
-            let answer = export(rt, alloc, desk, &mut self.seat, RANGE, 3, &gate, usize::MAX);
+            let (desk, seat) = (played.desk, &mut self.seat);
+            let answer = export(rt, alloc, desk, seat, RANGE, 3, &gate, usize::MAX);
             self.note(rt, 0, Answer::Export(answer));
         }
     }

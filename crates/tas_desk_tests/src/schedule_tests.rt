@@ -54,12 +54,11 @@ fn alone<N: Name, R: Abort>(rt: &R, alloc: Global, caller: Caller<N>) -> Group<N
 fn play_group<N: Name, W: CloseOnDrop, R: Threads + Wait + Abort + Sync>(
     rt: &R,
     alloc: Global,
-    desk: &Desk<N, W>,
     group: &mut Group<N>,
-    played: Played<'_>,
+    played: &Played<'_, N, W>,
 ) {
     for (number, step) in played.steps.iter().enumerate() {
-        play_step(rt, alloc, desk, group, played, number, *step);
+        play_step(rt, alloc, group, played, number, *step);
     }
 }
 
@@ -67,15 +66,14 @@ fn play_group<N: Name, W: CloseOnDrop, R: Threads + Wait + Abort + Sync>(
 fn play_step<N: Name, W: CloseOnDrop, R: Threads + Wait + Abort + Sync>(
     rt: &R,
     alloc: Global,
-    desk: &Desk<N, W>,
     group: &mut Group<N>,
-    played: Played<'_>,
+    played: &Played<'_, N, W>,
     number: usize,
     step: Step,
 ) {
     for caller in group.callers.iter_mut() {
         if caller.seat.number() == step.seat {
-            caller.take(rt, alloc, desk, played, number, step.action);
+            caller.take(rt, alloc, played, number, step.action);
         }
     }
 }
@@ -104,6 +102,7 @@ pub fn play_steps<N: Name + Send + Sync, R: Threads + Wait + Abort + Sync>(
     let mut groups = groups_of(rt, alloc, seats);
     let order = StepOrder::new();
     let played = Played {
+        desk,
         order: &order,
         steps,
     };
@@ -112,7 +111,7 @@ pub fn play_steps<N: Name + Send + Sync, R: Threads + Wait + Abort + Sync>(
         groups.as_mut_slice(),
         8,
         &|_, group| {
-            play_group(rt, alloc, desk, group, played);
+            play_group(rt, alloc, group, &played);
         },
     );
     let was_played = order.was_played(steps.len());

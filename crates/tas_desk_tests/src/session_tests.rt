@@ -2,7 +2,9 @@
 
 use crate::changes::{Change, HALT, HALTING, PLAYFIELD, cart, edit_of, right};
 use crate::checks::{check_same, check_that, expect_ok};
-use crate::sessions::{Lent, Turn, history, lend, open_movie, play_turns, take_turns};
+use crate::sessions::{
+    Lent, Turn, check_history, lend, lengths, open_movie, play_turns, take_turns,
+};
 use std::alloc::Global;
 use std::fmt::Display;
 use std::process::Abort;
@@ -13,16 +15,15 @@ use tas_desk::{
 };
 use vcs_machine::{Cart, Input, Meter};
 
-/// The history that a session leaves, in words.
-fn check_history<R: Abort>(rt: &R, alloc: Global, closed: &Closed, text: &str) {
-    let told = history(rt, alloc, closed.journal.as_slice());
-    check_same(rt, "history", told.as_str(), text);
-}
-
 /// The movie that a session leaves has this cartridge.
 fn check_cart<R: Abort>(rt: &R, closed: &Closed, cart: &Cart) {
     check_that(rt, "cart", closed.movie.cart().bytes() == cart.bytes());
 }
+
+/// Cartridge and inputs of most tests.
+const LOADED: Turn = Turn::Made(Change::Load(PLAYFIELD), 1, 0);
+
+const FILLED: Turn = Turn::Made(Change::Insert(0, 200), 2, 200);
 
 static FIRST_TURNS: [Turn; 2] = [
     Turn::Kept("0:"),
@@ -33,12 +34,7 @@ static FIRST_TURNS: [Turn; 2] = [
 fn a_new_session_is_empty(rt: HostRuntime) {
     let alloc = rt.alloc();
     let closed = play_turns(&rt, alloc, &FIRST_TURNS);
-    check_same(
-        &rt,
-        "journal, movie",
-        [closed.journal.len(), closed.movie.len()],
-        [0, 0],
-    );
+    check_same(&rt, "journal, movie", lengths(&closed), [0, 0]);
     let blank = expect_ok(&rt, Cart::blank(alloc));
     check_cart(&rt, &closed, &blank);
 }
@@ -71,7 +67,7 @@ fn serials_count_the_seat_s_own_edits(rt: HostRuntime) {
 }
 
 static EACH_KIND: [Turn; 7] = [
-    Turn::Made(Change::Load(PLAYFIELD), 1, 0),
+    LOADED,
     Turn::Made(Change::Insert(0, 5), 2, 5),
     Turn::Made(Change::Insert(5, 2), 3, 7),
     Turn::Made(Change::ReplaceRight(6), 4, 7),
@@ -251,13 +247,12 @@ impl Lent for Million {
 #[test]
 fn a_million_edits_are_the_most(rt: HostRuntime) {
     let closed = lend(&rt, rt.alloc(), &Million);
-    let lengths = [closed.journal.len(), closed.movie.len()];
-    check_same(&rt, "journal, movie", lengths, [1_000_000, 0]);
+    check_same(&rt, "journal, movie", lengths(&closed), [1_000_000, 0]);
 }
 
 static SHOTS_AND_EDITS: [Turn; 11] = [
-    Turn::Made(Change::Load(PLAYFIELD), 1, 0),
-    Turn::Made(Change::Insert(0, 200), 2, 200),
+    LOADED,
+    FILLED,
     Turn::Drawn(191, 2, 192, 1680),
     Turn::Kept("3: 64 128 192"),
     Turn::Made(Change::ReplaceRight(64), 3, 200),
@@ -275,8 +270,8 @@ fn shots_and_edits_in_turn(rt: HostRuntime) {
 }
 
 static INSERTED: [Turn; 11] = [
-    Turn::Made(Change::Load(PLAYFIELD), 1, 0),
-    Turn::Made(Change::Insert(0, 200), 2, 200),
+    LOADED,
+    FILLED,
     Turn::Drawn(199, 2, 200, 1680),
     Turn::Drawn(150, 2, 23, 1680),
     Turn::Made(Change::InsertRight(127, 1), 3, 201),
@@ -294,8 +289,8 @@ fn states_behind_an_insert_are_made_anew(rt: HostRuntime) {
 }
 
 static TAKEN_BACK: [Turn; 6] = [
-    Turn::Made(Change::Load(PLAYFIELD), 1, 0),
-    Turn::Made(Change::Insert(0, 200), 2, 200),
+    LOADED,
+    FILLED,
     Turn::Drawn(191, 2, 192, 1680),
     Turn::Made(Change::ReplaceRight(64), 3, 200),
     Turn::Made(Change::Replace(64, 1), 4, 200),
@@ -308,7 +303,7 @@ fn an_edit_that_is_taken_back_still_costs_its_states(rt: HostRuntime) {
 }
 
 static LENGTHENED: [Turn; 12] = [
-    Turn::Made(Change::Load(PLAYFIELD), 1, 0),
+    LOADED,
     Turn::Made(Change::Insert(0, 32831), 2, 32831),
     Turn::Drawn(199, 2, 200, 1680),
     Turn::Kept("3: 64 128 192"),
@@ -362,8 +357,8 @@ fn halted_frames_are_told_and_kept(rt: HostRuntime) {
 }
 
 static NO_FRAME: [Turn; 8] = [
-    Turn::Made(Change::Load(PLAYFIELD), 1, 0),
-    Turn::Made(Change::Insert(0, 200), 2, 200),
+    LOADED,
+    FILLED,
     Turn::Drawn(100, 2, 101, 1680),
     Turn::NotDrawn(200, ShotError::NoFrame { at: 2, len: 200 }, 0),
     Turn::NotDrawn(201, ShotError::NoFrame { at: 2, len: 200 }, 0),
@@ -375,12 +370,7 @@ static NO_FRAME: [Turn; 8] = [
 #[test]
 fn a_frame_that_is_not_there_changes_nothing(rt: HostRuntime) {
     let closed = play_turns(&rt, rt.alloc(), &NO_FRAME);
-    check_same(
-        &rt,
-        "journal, movie",
-        [closed.journal.len(), closed.movie.len()],
-        [2, 200],
-    );
+    check_same(&rt, "journal, movie", lengths(&closed), [2, 200]);
 }
 
 /// Frames 10 and 10 play 11 frames each; frame 70 plays 71, which keeps the state after 64, and then 7; there is no

@@ -1,7 +1,7 @@
 //! Sessions for tests: lent to turns, and then closed.
 
 use crate::changes::{Change, edit_of};
-use crate::checks::{check_that, expect_ok};
+use crate::checks::{check_same, check_that, expect_ok};
 use std::alloc::{AllocError, Global};
 use std::process::Abort;
 use std::str;
@@ -79,6 +79,17 @@ pub fn history<R: Abort>(rt: &R, alloc: Global, journal: &[Entry]) -> String {
         expect_ok(rt, text.push_str(line.as_str()));
     }
     text
+}
+
+/// Fails where a session or a desk leaves another history than this one, in words.
+pub fn check_history<R: Abort>(rt: &R, alloc: Global, closed: &Closed, text: &str) {
+    let told = history(rt, alloc, closed.journal.as_slice());
+    check_same(rt, "history", told.as_str(), text);
+}
+
+/// How many edits the history has that a session or a desk leaves, and how many inputs its movie.
+pub fn lengths(closed: &Closed) -> [usize; 2] {
+    [closed.journal.len(), closed.movie.len()]
 }
 
 /// All that a session shows: history, kept states and movie.

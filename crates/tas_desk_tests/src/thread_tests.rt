@@ -6,6 +6,7 @@ use crate::checks::{check_same, check_that, expect_ok, expect_some};
 use crate::desks::{Task, Told, nothing, play};
 use crate::replays::{Notes, judge};
 use crate::schedule_callers::Reply;
+use crate::sessions::lengths;
 use crate::steps::{Action, Answer, Step};
 use std::alloc::Global;
 use std::process::Abort;
@@ -80,12 +81,7 @@ fn two_seats_on_two_threads(rt: HostRuntime) {
 /// Two seats made 100 edits each, and all that they were told is right.
 fn judge_inserts<R: Abort>(rt: &R, alloc: Global, closed: &Closed, all: &[Notes]) {
     let journal = closed.journal.as_slice();
-    check_same(
-        rt,
-        "journal, movie",
-        [journal.len(), closed.movie.len()],
-        [200, 200],
-    );
+    check_same(rt, "journal, movie", lengths(closed), [200, 200]);
     let counts = [entries_of(rt, journal, 0), entries_of(rt, journal, 1)];
     check_same(rt, "entries_of", counts, [100, 100]);
     check_same(rt, "seats that were told something", all.len(), 2);

@@ -4,7 +4,7 @@ ghost use Rattle.std.specs.Prelude.{◌≡◌, ◌≤◌};
 ghost use Rattle.tas_desk.specs.Seats.{name_of};
 
 use crate::checks::{check_that, expect_ok, expect_some};
-use crate::turns::{Turn, play, take_turns};
+use crate::turns::{LOADED, Turn, check_lengths, play, take_turns};
 use refusals::Refusing;
 use std::alloc::Global;
 use std::marker::Brand;
@@ -45,8 +45,7 @@ static COMMITTED: [Turn; 19] = [
 #[test]
 fn a_commit_makes_the_draft(rt: HostRuntime) {
     let closed = play(&rt, rt.alloc(), &COMMITTED);
-    check_that(&rt, "edits", closed.journal.len() == 4);
-    check_that(&rt, "frames", closed.movie.len() == 202);
+    check_lengths(&rt, &closed, 4, 202);
 }
 
 static MOVED: [Turn; 17] = [
@@ -73,8 +72,7 @@ static MOVED: [Turn; 17] = [
 #[test]
 fn a_draft_is_made_of_the_movie_that_it_began_with(rt: HostRuntime) {
     let closed = play(&rt, rt.alloc(), &MOVED);
-    check_that(&rt, "edits", closed.journal.len() == 3);
-    check_that(&rt, "frames", closed.movie.len() == 9);
+    check_lengths(&rt, &closed, 3, 9);
 }
 
 /// Seat 1 has a draft, and seat 0 edits the movie.
@@ -145,11 +143,7 @@ fn a_commit_has_moved_before_it_is_out_of_memory(rt: HostRuntime) {
 }
 
 static SHARED: [Turn; 12] = [
-    (
-        0,
-        "load 000=A910850DA91E85084C08F0 FFC=00F0",
-        "edit 1 len 0\n",
-    ),
+    LOADED,
     (0, "insert 0 200 ..... ..... .....", "edit 2 len 200\n"),
     (0, "begin", "begin 2 200\n"),
     (1, "work 200", "work jobs 1 kept 3 stale 0\n"),
@@ -170,11 +164,7 @@ fn share_in_a_draft_is_about_the_desk(rt: HostRuntime) {
 }
 
 static FILLED: [Turn; 5] = [
-    (
-        0,
-        "load 000=A910850DA91E85084C08F0 FFC=00F0",
-        "edit 1 len 0\n",
-    ),
+    LOADED,
     (0, "insert 0 200 ..... ..... .....", "edit 2 len 200\n"),
     (1, "work 200", "work jobs 1 kept 3 stale 0\n"),
     (0, "begin", "begin 2 200\n"),
@@ -199,6 +189,5 @@ static LOST: [Turn; 5] = [
 #[test]
 fn a_draft_that_is_not_committed_is_lost(rt: HostRuntime) {
     let closed = play(&rt, rt.alloc(), &LOST);
-    check_that(&rt, "edits", closed.journal.len() == 1);
-    check_that(&rt, "frames", closed.movie.len() == 10);
+    check_lengths(&rt, &closed, 1, 10);
 }

@@ -4,7 +4,7 @@ ghost use Rattle.std.specs.Prelude.{◌≡◌};
 ghost use Rattle.tas_desk.specs.Seats.{name_of};
 
 use crate::checks::{check_that, expect_ok, expect_some};
-use crate::turns::{Turn, play};
+use crate::turns::{LOADED, Turn, check_lengths, play};
 use std::alloc::Global;
 use std::marker::Brand;
 use std::process::Abort;
@@ -31,11 +31,7 @@ fn check_answer<N: Name, W: CloseOnDrop, R: Wait + Abort>(
 /// greenzone.
 static MADE: [Turn; 14] = [
     (0, "len", "len 0 0\n"),
-    (
-        0,
-        "load 000=A910850DA91E85084C08F0 FFC=00F0",
-        "edit 1 len 0\n",
-    ),
+    LOADED,
     (1, "insert 0 200 ..... ..... .....", "edit 2 len 200\n"),
     (0, "len", "len 2 200\n"),
     (0, "shot 191", "shot 2 191 ran 192 lit 1680\n"),
@@ -53,16 +49,11 @@ static MADE: [Turn; 14] = [
 #[test]
 fn edits_of_two_seats_are_counted_in_one_history(rt: HostRuntime) {
     let closed = play(&rt, rt.alloc(), &MADE);
-    check_that(&rt, "edits", closed.journal.len() == 4);
-    check_that(&rt, "frames", closed.movie.len() == 201);
+    check_lengths(&rt, &closed, 4, 201);
 }
 
 static SHARED: [Turn; 12] = [
-    (
-        0,
-        "load 000=A910850DA91E85084C08F0 FFC=00F0",
-        "edit 1 len 0\n",
-    ),
+    LOADED,
     (1, "insert 0 200 ..... ..... .....", "edit 2 len 200\n"),
     (1, "share", "share 2 0\n"),
     (0, "work 200", "work jobs 1 kept 3 stale 0\n"),
@@ -77,11 +68,7 @@ static SHARED: [Turn; 12] = [
 ];
 
 static LOOKED_AT: [Turn; 5] = [
-    (
-        0,
-        "load 000=A910850DA91E85084C08F0 FFC=00F0",
-        "edit 1 len 0\n",
-    ),
+    LOADED,
     (0, "insert 0 200 ..... ..... .....", "edit 2 len 200\n"),
     (0, "work 200", "work jobs 1 kept 3 stale 0\n"),
     (

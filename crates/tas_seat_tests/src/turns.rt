@@ -15,6 +15,13 @@ use tas_seat::{Draft, answer_talk};
 /// A seat, a line of it, and the line's answer.
 pub type Turn = (usize, &'static str, &'static str);
 
+/// Seat 0 loads the playfield's cartridge into a new movie.
+pub const LOADED: Turn = (
+    0,
+    "load 000=A910850DA91E85084C08F0 FFC=00F0",
+    "edit 1 len 0\n",
+);
+
 /// Fails where one of these lines is answered in another way.
 pub fn take_turns<N: Name, W: CloseOnDrop, A: Allocator + Copy, R: Wait + Abort>(
     rt: &R,
@@ -54,4 +61,10 @@ fn play_at<N: Name, R: Wait + Abort>(
 pub fn play<R: Wait + Abort>(rt: &R, alloc: Global, turns: &[Turn]) -> Closed {
     let unopened = expect_ok(rt, Unopened::new(alloc, 2));
     play_at::<Brand, R>(rt, alloc, unopened, turns)
+}
+
+/// Fails where a desk doesn't leave a history of this many edits and a movie of this many frames.
+pub fn check_lengths<R: Abort>(rt: &R, closed: &Closed, edits: usize, frames: usize) {
+    check_that(rt, "edits", closed.journal.len() == edits);
+    check_that(rt, "frames", closed.movie.len() == frames);
 }
