@@ -17,8 +17,7 @@ use Rattle.tas_engines.specs.declared.fault.RunFault.{RunFault}
 use Rattle.tas_engines.specs.declared.fault.RunFault.TheVariants.{Write, Size, Text, NoFrame as OffMovie, Range as OffRange, Halted as Stopped, HaltedFrame as StoppedFrame, Script, Place, Long, NoPlace, NoEntry, Foreign, Memory}
 use Rattle.tas_engines.specs.declared.fault.ToolFault.{ToolFault}
 use Rattle.tas_engines.specs.declared.fault.ToolFault.TheVariants.{Read, Run}
-use Rattle.tas_engines.specs.Input.{IsReadWhole, StopsReading, StopsReadingTwo}
-use Rattle.tas_engines.specs.Movies.{IsMovieOf, IsMovieFault}
+use Rattle.tas_engines.specs.Input.{IsReadWhole, StopsReading}
 use Rattle.tas_engines.specs.Tracing.{IsImageFault}
 use Rattle.tas_tool.specs.Talk.{IsUntouched, IsCartTalk, IsMovieTalk, DraftedState, drafted, AreExchanges, IsTalk, fresh_talk_state, talk_state_from}
 use Rattle.tas_tool.specs.Inside.Alone.{SeesOwn, StartsTalk}
@@ -125,7 +124,10 @@ cart_started cart cart' read image movie whole same long is = λ input input' ou
 
 -- ---- over a movie
 
-pub movie_begun : (cart cart' movie movie' : Option (List ℕ)) (read : Result MovieContent ToolFault) → ReadsMovie cart cart' movie movie' read → StartsTalk (IsMovieTalk cart cart' movie movie') read
-movie_begun cart cart' movie movie' (Ok content) (image, said, whole, whole', is) = λ input input' output output' end talk. inr (image, said, whole, whole', inr (content, is, talk))
-movie_begun cart cart' movie movie' (Err end) (inl (fault, is, stops)) = λ input output. inl (fault, ap Err is, stops, untouched input output)
-movie_begun cart cart' movie movie' (Err end) (inr (image, said, whole, whole', (fault, is, why))) = λ input output. inr (image, said, whole, whole', inl (fault, ap Err is, why, untouched input output))
+pub movie_unread : (cart cart' movie movie' input output : Option (List ℕ)) (end : ToolFault) → ReadsMovie cart cart' movie movie' (Err end) → IsMovieTalk cart cart' movie movie' input input output output (Err end)
+movie_unread cart cart' movie movie' input output end (inl (fault, is, stops)) = inl (fault, ap Err is, stops, untouched input output)
+movie_unread cart cart' movie movie' input output end (inr (image, said, whole, whole', (fault, is, why))) = inr (image, said, whole, whole', inl (fault, ap Err is, why, untouched input output))
+
+pub movie_read : (cart cart' movie movie' input input' output output' : Option (List ℕ)) (content : MovieContent) (end : Result (Unit {0}) ToolFault) → ReadsMovie cart cart' movie movie' (Ok content)
+    → IsTalk (talk_state_from (Some content)) input input' output output' end → IsMovieTalk cart cart' movie movie' input input' output output' end
+movie_read cart cart' movie movie' input input' output output' content end (image, said, whole, whole', is) talk = inr (image, said, whole, whole', inr (content, is, talk))
