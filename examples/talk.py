@@ -49,5 +49,5 @@ if __name__ == "__main__":
             sys.stdout.buffer.write(pixmap)
     if name != "-":
         Path(name).write_bytes(png(pixmap))
-    print("kept states:", *editor.ask("states")[0][3:], file=sys.stderr)
+    print("kept states:", *(editor.ask("states")[0][3:] or ["none"]), file=sys.stderr)
     editor.ask("quit")
