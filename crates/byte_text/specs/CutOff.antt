@@ -1,4 +1,4 @@
--- How a write is cut off (own).
+-- How a write is cut off.
 use Rattle.std.specs.Prelude.{ℕ, ◌<◌, List, length, take, Option}
 use Rattle.std.specs.Io.KnownBytes.{Appends}
 

@@ -1,4 +1,4 @@
--- Bytes in which a byte doesn't occur (own).
+-- Bytes in which a byte doesn't occur.
 use Rattle.std.specs.Prelude.{◌≡◌, ℕ, List, [], ◌∷◌}
 
 -- a byte doesn't stand in the bytes

@@ -6,7 +6,7 @@ ghost use Rattle.byte_text.specs.CutOff.{IsCutOff};
 
 use std::io::{Error, ErrorKind, Write};
 
-/// A write failed, or took no byte, after so many bytes (own).
+/// A write failed, or took no byte, after so many bytes.
 #[derive(Drop)]
 pub struct WriteFault {
     /// How many bytes had gone out: fewer than all.
@@ -18,7 +18,7 @@ pub struct WriteFault {
 /// Writes until all is written or a write fails, and answers how many bytes have gone out with the `before` ones that went out earlier.
 ///
 /// An error of the writer, of any kind, or an `Ok(0)` ends it, and no write is tried again. The fault counts the bytes before, too.
-/// A caller shows that all of them together can be counted: they are fewer than 2^64 (own).
+/// A caller shows that all of them together can be counted: they are fewer than 2^64.
 pub fn write_counted<W: Write>(bytes: &[u8], before: usize, to: &mut W) -> Result<usize, WriteFault>
     requires { before + length bytes.now < 2 ^ 64 }
     ensures count { IfOk result (λ n. n ≡ before + length bytes.now) }

@@ -11,21 +11,21 @@ fn digit(n: u8) -> u8
     if n < 10 { b'0' + n } else { b'A' + (n - 10) }
 }
 
-/// The digit of a byte's high four bits (own).
+/// The digit of a byte's high four bits.
 pub fn high_digit(byte: u8) -> u8
     ensures { result ≡ digit_of (byte / 16) }
 {
     digit(byte >> 4)
 }
 
-/// The digit of a byte's low four bits (own).
+/// The digit of a byte's low four bits.
 pub fn low_digit(byte: u8) -> u8
     ensures { result ≡ digit_of (byte % 16) }
 {
     digit(byte & 15)
 }
 
-/// A byte as two upper case hexadecimal digits, the high four bits first (own).
+/// A byte as two upper case hexadecimal digits, the high four bits first.
 pub fn hex_digits(byte: u8) -> [u8; 2]
     ensures { result ≡ hex_byte byte }
 {

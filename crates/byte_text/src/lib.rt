@@ -1,6 +1,4 @@
 //! Text as bytes: hexadecimal and decimal digits, the parts of a line, and writes that are counted.
-//!
-//! (own) after a comment says that its rule is this project's own.
 #![tactic(auto)]
 
 mod counted;

@@ -14,7 +14,7 @@ pub enum EditLine {
     Change(Change),
     /// A change that depends on the movie's frames.
     Retouch(Retouch),
-    /// `copy other FROM COUNT AT`: a copy of some frames of a second movie is put in.
+    /// `copy other FROM COUNT PLACE`: a copy of some frames of a second movie is put in.
     CopyOther {
         /// The first frame in the second movie, counted from 0.
         from: usize,

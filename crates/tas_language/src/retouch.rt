@@ -10,7 +10,7 @@ use vcs_machine::Input;
 /// A change that depends on the movie's frames, as one line says it.
 #[derive(Clone, Copy, Debug, PartialEq, Eq)]
 pub enum Retouch {
-    /// `press AT COUNT FRAME`: the switches of an input are pressed in some frames, whatever else is pressed there.
+    /// `press PLACE COUNT FRAME`: the switches of an input are pressed in some frames, whatever else is pressed there.
     Press {
         /// The first frame, counted from 0.
         at: usize,
@@ -19,7 +19,7 @@ pub enum Retouch {
         /// The switches.
         input: Input,
     },
-    /// `release AT COUNT FRAME`: the switches of an input are released in some frames; all others stay.
+    /// `release PLACE COUNT FRAME`: the switches of an input are released in some frames; all others stay.
     Release {
         /// The first frame, counted from 0.
         at: usize,
@@ -28,7 +28,7 @@ pub enum Retouch {
         /// The switches.
         input: Input,
     },
-    /// `repeat AT COUNT TIMES`: some frames are put in again, directly after themselves.
+    /// `repeat PLACE COUNT TIMES`: some frames are put in again, directly after themselves.
     Repeat {
         /// The first frame, counted from 0.
         at: usize,
@@ -37,7 +37,7 @@ pub enum Retouch {
         /// How many times more.
         times: usize,
     },
-    /// `copy FROM COUNT AT`: a copy of some frames is put in.
+    /// `copy FROM COUNT PLACE`: a copy of some frames is put in.
     Copy {
         /// The first frame, counted from 0.
         from: usize,

@@ -113,14 +113,14 @@ Example:
 
 pub(crate) const EDIT_HELP: &str = "\
 Standard input is the movie text, as for 'tas check'. The script's file has edits, a line each:
-  insert PLACE COUNT FRAME   insert COUNT frames such as 'R.... ..... .....'
-  replace PLACE COUNT FRAME  replace COUNT frames
-  delete PLACE COUNT         delete COUNT frames
-  press AT COUNT FRAME       press what FRAME has in COUNT frames; the rest of them stays
-  release AT COUNT FRAME     release what FRAME has in COUNT frames; the rest of them stays
-  repeat AT COUNT TIMES      insert COUNT frames TIMES more times, directly after themselves
-  copy FROM COUNT AT         insert a copy of the COUNT frames from FROM before frame AT
-  copy other FROM COUNT AT   the same, from the movie whose text is in the file OTHER
+  insert PLACE COUNT FRAME     insert COUNT frames such as 'R.... ..... .....'
+  replace PLACE COUNT FRAME    replace COUNT frames
+  delete PLACE COUNT           delete COUNT frames
+  press PLACE COUNT FRAME      press what FRAME has in COUNT frames; the rest of them stays
+  release PLACE COUNT FRAME    release what FRAME has in COUNT frames; the rest of them stays
+  repeat PLACE COUNT TIMES     insert COUNT frames TIMES more times, directly after themselves
+  copy FROM COUNT PLACE        insert a copy of the COUNT frames from FROM before frame PLACE
+  copy other FROM COUNT PLACE  the same, from the movie whose text is in the file OTHER
 A frame is 'RLDUF RLDUF rsbAB': right, left, down, up and fire of the left stick; the same of the right
 stick; reset, select, black and white, left difficulty A, right difficulty A. A dot in a letter's place
 means that it isn't pressed or set: '..D.F ..... .....' pushes the left stick down and fires.
@@ -170,10 +170,10 @@ Examples:
 pub(crate) const TALK_HELP: &str = "\
 Standard input is lines, as of 'tas script', and standard output has the answer to each before the
 next one is read, so that another program can hold the conversation. It has these lines, too:
-  press AT COUNT FRAME       press what FRAME has in COUNT frames; the rest of them stays
-  release AT COUNT FRAME     release what FRAME has in COUNT frames; the rest of them stays
-  repeat AT COUNT TIMES      insert COUNT frames TIMES more times, directly after themselves
-  copy FROM COUNT AT         insert a copy of the COUNT frames from FROM before frame AT
+  press PLACE COUNT FRAME    press what FRAME has in COUNT frames; the rest of them stays
+  release PLACE COUNT FRAME  release what FRAME has in COUNT frames; the rest of them stays
+  repeat PLACE COUNT TIMES   insert COUNT frames TIMES more times, directly after themselves
+  copy FROM COUNT PLACE      insert a copy of the COUNT frames from FROM before frame PLACE
   picture K                  a line 'picture AT K BYTES', then BYTES bytes: the pixmap of frame K
   pictures FROM TO           the answers to 'picture K' for FROM to TO - 1, 1 to 1024 of them
   ram K                      'ram AT K' and 256 hexadecimal digits: RAM after K frames from power-on
