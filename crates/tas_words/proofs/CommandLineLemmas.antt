@@ -15,11 +15,10 @@ use Rattle.clap.specs.declared.parser.matches.ArgMatches.{ArgMatches}
 use Rattle.clap.proofs.OnLiterals.{clap_on_literals}
 use Rattle.clap.proofs.SimpleLemmas.{label_first}
 use Rattle.tas_words.specs.CommandLine.{command_names, labels, own_flags, rule_of_word, shape_with, HasRules, HasWordsOf, IsAsked, command_line, empty_line}
-use Rattle.tas_words.specs.Task.{IsNumberWord}
+use Rattle.tas_words.specs.Task.{IsNumberText, IsNumberWord}
 use Rattle.tas_words.specs.declared.subcommands.Word.{Word}
 use Rattle.tas_words.specs.declared.task.Task.{Task}
 use Rattle.std.specs.Prelude.{Result, Ok, ℕ}
-use Rattle.std.specs.Str.Parse.{digits_value, without_leading_plus}
 use Rattle.clap.specs.Matches.{ReadsOne, one_text}
 use Rattle.clap.specs.declared.parser.matches.Found.{Found}
 use Rattle.clap.proofs.WalkLemmas.{one_text-rows}
@@ -118,10 +117,10 @@ met_asked line words m task is matches met =
 
 -- a number that was read, in its range
 pub number_read : {E : Type 0} (G : List ℕ → Result ℕ E → Type 0) (f : Found) (name : Text) (least most : ℕ) (r : Option ℕ) (n : ℕ) → (one_text f name ≡ None → r ≡ None) → ((t : Text) → one_text f name ≡ Some t → ReadsOne G t r)
-    → ((t : Text) (v : ℕ) → G t (Ok v) → v ≡ digits_value 10 (without_leading_plus t)) → r ≡ Some n → least ≤ n → n ≤ most → IsNumberWord (rows_of f) name least most n
+    → ((t : Text) (v : ℕ) → G t (Ok v) → IsNumberText t v) → r ≡ Some n → least ≤ n → n ≤ most → IsNumberWord (rows_of f) name least most n
 number_read G f name least most r n none some value is above below = (above, below, go (one_text f name) refl)
   where
-    go : (o : Option Text) → one_text f name ≡ o → (text : Text) × (one_of name (rows_of f) ≡ Some text) × (n ≡ digits_value 10 (without_leading_plus text))
+    go : (o : Option Text) → one_text f name ≡ o → (text : Text) × (one_of name (rows_of f) ≡ Some text) × IsNumberText text n
     go None e =
         let bad : Some n ≡ None = sym is ∙ none e in
         cc

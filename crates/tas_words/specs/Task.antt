@@ -2,7 +2,7 @@
 use Rattle.std.specs.Prelude.{◌≡◌, ℕ, ◌≤◌, List, [], ◌∷◌, ◌⊎◌, Option, Some, None, codes}
 use Rattle.std.specs.List.{filter_map}
 use Rattle.std.specs.Borrow.{Bor}
-use Rattle.std.specs.Str.Parse.{digits_value, without_leading_plus}
+use Rattle.std.specs.Str.Parse.{IsNumeral, digits_value, without_leading_plus}
 use Rattle.clap.specs.Walk.{Row, Text, first_of, one_of}
 use Rattle.tas_language.specs.Commands.{most_number}
 use Rattle.tas_film.specs.Runs.{most_workers}
@@ -26,10 +26,14 @@ abbrev pub IsOptionalWord : List Row → Text → Option (Bor Text) → Type 0
 IsOptionalWord rows name None = HasNoWord rows name
 IsOptionalWord rows name (Some word) = IsWord rows name word.now
 
+-- a text is this number in decimal digits, before which there may be a plus
+abbrev pub IsNumberText : Text → ℕ → Type 0
+IsNumberText text n = IsNumeral 10 (without_leading_plus text) × (n ≡ digits_value 10 (without_leading_plus text))
+
 -- the word of this name is this number, which is in a range
 abbrev pub IsNumberWord : List Row → Text → ℕ → ℕ → ℕ → Type 0
 IsNumberWord rows name least most n =
-    (least ≤ n) × (n ≤ most) × ((text : Text) × (one_of name rows ≡ Some text) × (n ≡ digits_value 10 (without_leading_plus text)))
+    (least ≤ n) × (n ≤ most) × ((text : Text) × (one_of name rows ≡ Some text) × IsNumberText text n)
 
 -- the same of a word that may be left out
 abbrev pub IsOptionalNumberWord : List Row → Text → ℕ → ℕ → Option ℕ → Type 0
