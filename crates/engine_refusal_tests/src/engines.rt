@@ -9,8 +9,8 @@ use std::sync::Wait;
 use std::thread::Threads;
 use tas_tool::{
     ToolFault, cart_talk_run, check_run, compare_run, cut_run, diff_run, digest_run, edit_run,
-    export_run, film_run, lag_run, migrate_run, movie_script_run, movie_talk_run, ram_run,
-    script_run, shot_run, talk_run, trace_run,
+    edit_with_run, export_run, film_run, lag_run, migrate_run, movie_script_run, movie_talk_run,
+    ram_run, script_run, shot_run, talk_run, trace_run,
 };
 use test_streams::Giver;
 
@@ -28,6 +28,8 @@ pub enum Engine {
     Lag,
     Cut,
     Edit,
+    /// With a second movie.
+    EditWith,
     Diff,
     /// Of two movies with as many frames.
     DiffReplaced,
@@ -41,7 +43,7 @@ pub enum Engine {
 }
 
 /// Those that read their inputs whole before they write anything.
-pub static ENGINES: [Engine; 16] = [
+pub static ENGINES: [Engine; 17] = [
     Engine::Trace,
     Engine::Check,
     Engine::Migrate,
@@ -53,6 +55,7 @@ pub static ENGINES: [Engine; 16] = [
     Engine::Lag,
     Engine::Cut,
     Engine::Edit,
+    Engine::EditWith,
     Engine::Diff,
     Engine::DiffReplaced,
     Engine::Script,
@@ -74,8 +77,9 @@ impl Engine {
             (_, 0) => bytes.cart.as_slice(),
             (Engine::Trace | Engine::Script | Engine::Talk, _) => bytes.none.as_slice(),
             (Engine::Edit, 1) => bytes.changes.as_slice(),
-            (Engine::Edit, 2) | (_, 1) => bytes.old.as_slice(),
-            (Engine::Diff | Engine::Compare, 2) => bytes.new.as_slice(),
+            (Engine::EditWith, 1) => bytes.changes_with.as_slice(),
+            (Engine::Edit, 2) | (Engine::EditWith, 3) | (_, 1) => bytes.old.as_slice(),
+            (Engine::Diff | Engine::Compare | Engine::EditWith, 2) => bytes.new.as_slice(),
             (Engine::DiffReplaced, 2) => bytes.replaced.as_slice(),
             _ => bytes.none.as_slice(),
         }
@@ -88,9 +92,10 @@ impl Engine {
                 self.input(bytes, 0),
                 self.input(bytes, 1),
                 self.input(bytes, 2),
+                self.input(bytes, 3),
             ],
             at_once: usize::MAX,
-            fails_at: [0; 3],
+            fails_at: [0; 4],
             kind: ErrorKind::Other,
         }
     }
@@ -115,6 +120,7 @@ impl Engine {
             | Engine::DiffReplaced
             | Engine::MovieScript
             | Engine::MovieTalk => 3,
+            Engine::EditWith => 4,
         }
     }
 }
@@ -123,11 +129,11 @@ impl Engine {
 #[derive(Clone, Copy)]
 pub struct Given<'a> {
     /// Its inputs; those after its last one are empty.
-    pub inputs: [&'a [u8]; 3],
+    pub inputs: [&'a [u8]; 4],
     /// How many bytes each read gives at most.
     pub at_once: usize,
     /// Which read of each input fails, counted from 1; at 0 none does.
-    pub fails_at: [usize; 3],
+    pub fails_at: [usize; 4],
     /// The kind of the error.
     pub kind: ErrorKind,
 }
@@ -142,7 +148,7 @@ impl<'a> Given<'a> {
 }
 
 /// How an engine ended, and how often it read each input.
-pub type Ran = (Result<(), ToolFault>, [usize; 3]);
+pub type Ran = (Result<(), ToolFault>, [usize; 4]);
 
 /// Runs an engine.
 pub fn run<T: Wait + Threads + Sync, A: Allocator + Copy + Send + Sync, W: Write>(
@@ -155,6 +161,7 @@ pub fn run<T: Wait + Threads + Sync, A: Allocator + Copy + Send + Sync, W: Write
     let mut one = given.giver(given.inputs[0], given.fails_at[0]);
     let mut two = given.giver(given.inputs[1], given.fails_at[1]);
     let mut three = given.giver(given.inputs[2], given.fails_at[2]);
+    let mut four = given.giver(given.inputs[3], given.fails_at[3]);
     let (first, second, third) = (&mut one, &mut two, &mut three);
     let end = match engine {
         Engine::Trace => trace_run(alloc, 3, first, output),
@@ -168,6 +175,7 @@ pub fn run<T: Wait + Threads + Sync, A: Allocator + Copy + Send + Sync, W: Write
         Engine::Lag => lag_run(alloc, first, second, output),
         Engine::Cut => cut_run(alloc, 1, 3, first, second, output),
         Engine::Edit => edit_run(alloc, first, second, third, output),
+        Engine::EditWith => edit_with_run(alloc, first, second, third, &mut four, output),
         Engine::Diff | Engine::DiffReplaced => diff_run(alloc, first, second, third, output),
         Engine::Script => script_run(rt, alloc, first, output),
         Engine::MovieScript => movie_script_run(rt, alloc, first, second, third, output),
@@ -176,7 +184,7 @@ pub fn run<T: Wait + Threads + Sync, A: Allocator + Copy + Send + Sync, W: Write
         Engine::CartTalk => cart_talk_run(rt, alloc, first, second, output),
         Engine::MovieTalk => movie_talk_run(rt, alloc, first, second, third, output),
     };
-    (end, [one.reads, two.reads, three.reads])
+    (end, [one.reads, two.reads, three.reads, four.reads])
 }
 
 /// What an engine writes over good inputs, where nothing is refused.

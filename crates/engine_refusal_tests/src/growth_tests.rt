@@ -162,7 +162,8 @@ fn check_engine<T: Wait + Threads + Sync + Abort>(
 /// - `Digest`: those, the movie's text, 4 of the first lines (room for 22 bytes, then for 44, 91 and 182), a picture, room for its pixmap and 2 of the lines of the two stretches.
 /// - `Compare`: three inputs, a cartridge and a movie twice, two pictures with room for their pixmaps, and 3 of the lines.
 /// - `Lag`: two inputs, a cartridge and a movie, and 1 of the line of its one stretch. `Cut`: as `Lag`, with 1 of the text.
-/// - `Edit`: three inputs, a cartridge and a movie, the inputs of two changes, and a text.
+/// - `Edit`: three inputs, a cartridge and a movie, the inputs of two changes, and a text. `EditWith`: four inputs, a cartridge, two
+///   movies, the inputs of two changes, and a text.
 /// - `Diff`: three inputs, a cartridge and a movie twice, the runs of each that differ, two tables for each of three lengths of stretches,
 ///   both once more for the hunks between them, 8, the list of changes, 2 and 3 of their lines and 2 of the script. A replacement alone: 3 and 1.
 /// - `Script`: 15 of a desk (12 until it is opened, 2 of its seat's zone, 1 of the list of seats), an input, 19 of the lines of the replies
@@ -177,7 +178,7 @@ fn check_engine<T: Wait + Threads + Sync + Abort>(
 ///   cartridge, a new movie of it, the 15 and the two edits without inputs to copy, 5.
 /// - `Export`: the first 27 of `MovieScript`; the movie's copy, the list of runs, and for each run a picture, and room for its pixmaps where
 ///   it has frames.
-static GROWTHS: [(Engine, u64, u64); 21] = [
+static GROWTHS: [(Engine, u64, u64); 22] = [
     (Engine::Trace, 2, 0),
     (Engine::Check, 7, 0),
     (Engine::Migrate, 6, 0),
@@ -189,6 +190,7 @@ static GROWTHS: [(Engine, u64, u64); 21] = [
     (Engine::Lag, 6, 0),
     (Engine::Cut, 6, 0),
     (Engine::Edit, 9, 0),
+    (Engine::EditWith, 13, 0),
     (Engine::Diff, 33, 0),
     (Engine::DiffReplaced, 30, 0),
     (Engine::Script, 40, 16),

@@ -7,7 +7,7 @@ use std::process::Abort;
 use tas_movie::print_text;
 use vcs_machine::Input;
 
-/// The bytes of a cartridge, of the texts of three movies of it, of changes of the first, of a script of edits and looks, and
+/// The bytes of a cartridge, of the texts of three movies of it, of changes of the first, without and with the second, of a script of edits and looks, and
 /// of a conversation that has these lines and others; and none.
 #[derive(Drop)]
 pub struct Bytes {
@@ -18,6 +18,7 @@ pub struct Bytes {
     /// It differs from the first by a replacement.
     pub replaced: Vec<u8>,
     pub changes: Vec<u8>,
+    pub changes_with: Vec<u8>,
     pub script: Vec<u8>,
     pub talk: Vec<u8>,
     pub none: Vec<u8>,
@@ -25,6 +26,9 @@ pub struct Bytes {
 
 /// Each kind of change.
 const CHANGES: &[u8] = b"delete 0 1\ninsert 0 3 R.... ..... .....\nreplace 1 2 .L... ..... .....\n";
+
+/// Three changes, of which one takes frames from a second movie.
+const CHANGES_WITH: &[u8] = b"delete 0 1\ncopy other 0 2 1\npress 0 1 ....F ..... .....\n";
 
 /// Nine lines on a movie, each kind of edit among them.
 const SCRIPT: &[u8] =
@@ -52,6 +56,7 @@ pub fn make_inputs<R: Abort>(rt: &R, alloc: Global) -> Bytes {
         replaced: text_of(rt, alloc, right(), 3),
         cart: copy_of(rt, alloc, &brief_image()),
         changes: copy_of(rt, alloc, CHANGES),
+        changes_with: copy_of(rt, alloc, CHANGES_WITH),
         script: copy_of(rt, alloc, SCRIPT),
         talk: copy_of(rt, alloc, TALK),
         none: Vec::new(alloc),

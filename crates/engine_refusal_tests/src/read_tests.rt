@@ -18,11 +18,12 @@ const MOST: usize = 100;
 const AT_ONCE: usize = 2000;
 
 /// How often the inputs are read up to a read of the input with this number, where these are the reads of all inputs to their ends.
-fn reads_up_to(whole: [usize; 3], input: usize, read: usize) -> [usize; 3] {
+fn reads_up_to(whole: [usize; 4], input: usize, read: usize) -> [usize; 4] {
     match input {
-        0 => [read, 0, 0],
-        1 => [whole[0], read, 0],
-        _ => [whole[0], whole[1], read],
+        0 => [read, 0, 0, 0],
+        1 => [whole[0], read, 0, 0],
+        2 => [whole[0], whole[1], read, 0],
+        _ => [whole[0], whole[1], whole[2], read],
     }
 }
 
@@ -43,10 +44,10 @@ fn written_before(engine: Engine, input: usize, read: usize, whole: &[u8]) -> &[
 }
 
 /// How often each input is read where no read fails: n times for its bytes, and once at its end.
-fn whole_reads(engine: Engine, bytes: &Bytes) -> [usize; 3] {
-    let mut reads = [0; 3];
+fn whole_reads(engine: Engine, bytes: &Bytes) -> [usize; 4] {
+    let mut reads = [0; 4];
     for input in 0..engine.count() {
-        if input < 3 {
+        if input < 4 {
             let size = engine.input(bytes, input).len();
             reads[input] = size.div_ceil(AT_ONCE).saturating_add(1);
         }
@@ -86,7 +87,7 @@ fn failed_reads<T: Wait + Threads + Sync + Abort>(
     for read in 1..MOST {
         let given = Given {
             at_once: AT_ONCE,
-            fails_at: reads_up_to([0; 3], input, read),
+            fails_at: reads_up_to([0; 4], input, read),
             kind,
             ..engine.given(bytes)
         };
@@ -166,7 +167,7 @@ fn early_end(engine: Engine, input: usize) -> ToolFault {
         (Engine::Script, _) | (Engine::MovieScript, 2) => ToolFault::Run(RunFault::Script {
             line: 9,
         }),
-        (Engine::Edit, 1) => ToolFault::Run(RunFault::Script { line: 3 }),
+        (Engine::Edit | Engine::EditWith, 1) => ToolFault::Run(RunFault::Script { line: 3 }),
         (_, 0) => ToolFault::Run(RunFault::Size(4095)),
         _ => ToolFault::Run(RunFault::Text(TextError {
             line: 3,

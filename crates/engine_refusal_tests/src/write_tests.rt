@@ -101,13 +101,16 @@ fn fail_so<T: Wait + Threads + Abort + Sync>(
 }
 
 /// Engines that write a text.
-static TEXTS: [Engine; 10] = [
+static TEXTS: [Engine; 13] = [
     Engine::Trace,
     Engine::Check,
     Engine::Migrate,
     Engine::Ram,
     Engine::Compare,
+    Engine::Lag,
+    Engine::Cut,
     Engine::Edit,
+    Engine::EditWith,
     Engine::Diff,
     Engine::DiffReplaced,
     Engine::Script,

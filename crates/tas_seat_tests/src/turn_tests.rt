@@ -10,7 +10,7 @@ use std::marker::Brand;
 use std::process::Abort;
 use std::sync::Wait;
 use tas_desk::{CloseOnDrop, Desk, Name, Seat, Unopened};
-use tas_language::Request;
+use tas_language::{Request, parse_request};
 use tas_seat::answer_request;
 
 /// Fails where a seat answers a request in another way.
@@ -168,4 +168,64 @@ fn check_numbers_at<N: Name, R: Wait + Abort>(rt: &R, alloc: Global, unopened: U
 fn the_greatest_numbers_are_answered(rt: HostRuntime) {
     let unopened = expect_ok(&rt, Unopened::new(rt.alloc(), 1));
     check_numbers_at::<Brand, HostRuntime>(&rt, rt.alloc(), unopened);
+}
+
+/// One edit more than an answer to `history` has, each a deletion of no frames.
+const EDITS: usize = 257;
+
+/// `history FROM` after these edits: FROM, the answer's first line, and how many lines follow it.
+static ENTRIES: [(usize, &str, usize); 4] = [
+    (0, "history 257 0 256 4242\n", 256),
+    (1, "history 257 1 256 4244\n", 256),
+    (2, "history 257 2 255 4229\n", 255),
+    (257, "history 257 257 0 0\n", 0),
+];
+
+/// Such an answer.
+fn entries<R: Abort>(rt: &R, alloc: Global, (from, first, count): (usize, &str, usize)) -> Vec<u8> {
+    let mut text = expect_ok(rt, Vec::from_slice(alloc, first.as_bytes()));
+    for number in from..from.saturating_add(count) {
+        let line = expect_ok(rt, format!(in alloc; "{number} 0 delete 0 0\n"));
+        expect_ok(rt, text.extend_from_slice(line.as_bytes()));
+    }
+    text
+}
+
+/// Makes these edits, and fails where a history isn't answered so.
+fn check_entries<N: Name, W: CloseOnDrop, R: Wait + Abort>(
+    rt: &R,
+    alloc: Global,
+    desk: &Desk<N, W>,
+    seat: &mut Seat<N>,
+) {
+    for _made in 0..EDITS {
+        let edit = expect_some(rt, parse_request(b"delete 0 0"));
+        expect_ok(rt, answer_request(rt, alloc, desk, seat, edit));
+    }
+    for row in ENTRIES.iter() {
+        let request = Request::History { from: row.0 };
+        let found = expect_ok(rt, answer_request(rt, alloc, desk, seat, request));
+        let wanted = entries(rt, alloc, *row);
+        check_that(
+            rt,
+            *row,
+            expect_some(rt, found).as_slice() == wanted.as_slice(),
+        );
+    }
+}
+
+/// The same at a desk of its own.
+fn check_entries_at<N: Name, R: Wait + Abort>(rt: &R, alloc: Global, unopened: Unopened)
+    requires name { unopened ≡ name_of N.registry N.name N.parts }
+{
+    let (desk, mut seats) = expect_ok(rt, Desk::<N, &R>::open(rt, alloc, unopened));
+    check_that(rt, "a seat", !seats.is_empty());
+    check_entries(rt, alloc, &desk, &mut seats[0]);
+}
+
+/// Of 257 edits: those from 0 on are one too many for an answer, those from 1 on just as many as it has, those from 2 on one fewer.
+#[test]
+fn an_answer_has_256_entries_at_most(rt: HostRuntime) {
+    let unopened = expect_ok(&rt, Unopened::new(rt.alloc(), 1));
+    check_entries_at::<Brand, HostRuntime>(&rt, rt.alloc(), unopened);
 }
