@@ -1,0 +1,324 @@
+"""What the program answers to words, files and standard input: its standard output, the line on standard error, and its status.
+
+Written from docs/FORMATS.md alone. Texts are read by readings.py. What only another machine could tell, and what the page leaves open, raises Open.
+"""
+
+import re
+from collections import namedtuple
+from hashlib import sha256
+
+import drafts
+import machine
+import readings
+from answers import hands
+from readings import MOST
+from resting import BLACK, MOST_PLAYED, Open, lag_line, rest_of
+
+MOST_BYTES = 16777216
+MOST_DRAWN = 200
+# The words after each command: a cartridge, a file, a movie's file, a number; those after the bar may be missing. And the most that each number may be.
+FORMS = {
+    "check": "c", "migrate": "c", "edit": "cf", "cut": "cnn", "diff": "cm", "script": "", "talk": "|cm", "shot": "cn", "film": "c|nn", "export": "cnnw", "ram": "cnn",
+    "digest": "c|e", "compare": "cm", "lag": "c", "trace": "t", "desk": "cmff|ffffffffffffff"}
+NUMBERS = {"n": (0, 9999999), "w": (1, 16), "e": (1, MOST), "t": (0, 1000000)}
+FLAGS = {"edit": ("--with",), "script": ("--cart", "--movie")}
+NUMBER = re.compile(r"\+?0*([0-9]{1,8})")
+
+Wanted = namedtuple("Wanted", "output errors status")  # nothing stands for a text for people
+NOT_TEXT = Wanted(b"", b"error: the words aren't all text\n", 2)
+WRONG = Wanted(b"", None, 2)
+FOR_PEOPLE = Wanted(None, b"", 0)
+
+
+class Wrong(Exception):
+    """The words are wrong."""
+
+
+# ---- words
+
+def number_of(word, kind):
+    match = NUMBER.fullmatch(word)
+    if not match or not NUMBERS[kind][0] <= int(match.group(1)) <= NUMBERS[kind][1]:
+        raise Wrong
+    return int(match.group(1))
+
+
+def apart(command, words):
+    """The words without flags, and those with a flag."""
+    plain, flagged, words = [], {}, list(words)
+    while words:
+        word = words.pop(0)
+        if word == "--":
+            return plain + words, flagged
+        if not word.startswith("-"):
+            plain.append(word)
+        elif word not in FLAGS.get(command, ()) or not words:
+            raise Wrong
+        elif word in flagged or words[0].startswith("-"):
+            raise Open("a flag that is given twice, or is followed by one")
+        else:
+            flagged[word] = words.pop(0)
+    return plain, flagged
+
+
+def given(command, words):
+    """What the words of a command give: letters of FORMS with words or numbers."""
+    plain, flagged = apart(command, words)
+    least, _, more = FORMS[command].partition("|")
+    form = least + more
+    if not len(least) <= len(plain) <= len(form) or command == "desk" and len(plain) % 2:
+        raise Wrong
+    if command == "script" and len(flagged) == 1:
+        raise Open("`tas script` with one of its flags alone")
+    return [(kind, number_of(word, kind) if kind in NUMBERS else word) for kind, word in zip(form, plain)], flagged
+
+
+# ---- files
+
+class Inputs:
+    """The files of a run and its standard input."""
+
+    def __init__(self, files, stream):
+        self.files, self.stream = files, stream
+
+    def read(self, names, has_stream=True):
+        """The bytes of these files, and of the stream last."""
+        for name in names:
+            if "/" in name and name not in self.files:
+                raise Open("a path")
+        if not all(name in self.files for name in names):
+            raise hands.Fault("read failed")
+        found = [self.files[name] for name in names] + ([self.stream] if has_stream else [])
+        if any(len(data) > MOST_BYTES for data in found):
+            raise hands.Fault("input is too long")
+        return found
+
+
+def sized(cart):
+    if len(cart) not in (2048, 4096):
+        raise hands.Fault("cartridge has %d bytes" % len(cart))
+    return cart
+
+
+def within(first, last, count, most=None):
+    if first > last or last > count:
+        raise hands.Fault("range %d to %d of %d" % (first, last, count if most is None else most))
+
+
+# ---- commands: each gives its output, or raises its fault
+
+class Run:
+    def __init__(self, files, stream, seen):
+        self.inputs, self.seen = Inputs(files, stream), seen
+
+    def wanted(self, words):
+        """What must come of these words."""
+        try:
+            words = [word.decode() for word in words]
+        except UnicodeDecodeError:
+            return NOT_TEXT
+        if not words or words[0] == "--" or {"-", "-h", "-V"} & set(words):
+            raise Open("no words, or a flag that the page doesn't name")
+        if words[1:] == ["--help"] and words[0] in FORMS or words in (["--help"], ["--version"]):
+            return FOR_PEOPLE
+        if "--help" in words or "--version" in words:
+            raise Open("a request for help among other words")
+        if words[0] not in FORMS:
+            return WRONG
+        try:
+            found, flagged = given(words[0], words[1:])
+        except Wrong:
+            return WRONG
+        return self.ran(words[0], found, flagged)
+
+    def ran(self, command, found, flagged):
+        self.output = b""
+        try:
+            self.output = getattr(self, command)(*[value for _, value in found], **{flag[2:]: word for flag, word in flagged.items()})
+        except hands.Fault as fault:
+            self.seen["%s: %s" % (command, getattr(fault, "detail", re.sub(r"halted.*", "halted", re.sub(r"\d+", "N", str(fault)))))] += 1
+            return Wanted(self.output, ("fault: %s\n" % fault).encode(), 1)
+        self.seen[command + ": done"] += 1
+        return Wanted(self.output, b"", 0)
+
+    def movie(self, cart):
+        """The cartridge, and the movie on the stream."""
+        cart, text = self.inputs.read([cart])
+        return sized(cart), readings.read_movie(text, cart)
+
+    def two_movies(self, cart, old):
+        """The cartridge, the movie of a file, and the one on the stream."""
+        cart, old, text = self.inputs.read([cart, old])
+        found = [sized(cart)]
+        for which, movie in (("first", old), ("second", text)):
+            try:
+                found.append(readings.read_movie(movie, cart))
+            except hands.Fault as fault:
+                fault.detail = which + " text"
+                raise
+        return tuple(found)
+
+    def check(self, cart):
+        return b"ok %d frames\n" % len(self.movie(cart)[1])
+
+    def migrate(self, cart):
+        return hands.movie_text(*self.movie(cart))
+
+    def edit(self, cart, script, **flagged):
+        others = [flagged["with"]] if flagged else []
+        cart, script, *others, text = self.inputs.read([cart, script] + others)
+        sized(cart)
+        others = [readings.read_movie(other, cart) for other in others]
+        frames = readings.read_movie(text, cart)
+        return hands.movie_text(cart, hands.edited(frames, others[0] if others else None, script.decode("latin-1"), self.seen))
+
+    def cut(self, cart, first, last):
+        cart, frames = self.movie(cart)
+        within(first, last, len(frames))
+        return hands.movie_text(cart, frames[first:last])
+
+    def diff(self, cart, old):
+        """What must be said of the script: it is compared by what it makes."""
+        return self.two_movies(cart, old)
+
+    def script(self, cart=None, movie=None):
+        if cart is None:
+            holder, text = readings.Holder(is_script=True), self.inputs.read([])[0]
+        else:
+            cart, old, text = self.inputs.read([cart, movie])
+            holder = readings.Holder(sized(cart), readings.read_movie(old, cart), True)
+        self.output, fault = readings.scripted(holder, text, self.seen)
+        if fault:
+            raise hands.Fault(fault)
+        return self.output
+
+    def talk(self, cart=None, movie=None):
+        if cart is None:
+            return readings.conversed(readings.Holder(), self.inputs.stream, self.seen)
+        cart, *old = self.inputs.read([cart] if movie is None else [cart, movie], False)
+        frames = readings.read_movie(old[0], sized(cart)) if old else sized(cart) and []
+        return readings.conversed(readings.Holder(cart, frames), self.inputs.stream, self.seen)
+
+    def desk(self, cart, movie, *pairs):
+        """Where no pair is there."""
+        cart, old = self.inputs.read([cart, movie], False)
+        frames = readings.read_movie(old, sized(cart))
+        if any(name in self.inputs.files for name in pairs):
+            raise Open("a pair of a desk")
+        self.output = hands.movie_text(cart, frames)
+        raise hands.Fault("seat 0: not opened")
+
+    # -- what plays the movie, for cartridges that needn't be played
+
+    def played(self, cart, count):
+        """What each frame comes to, where so many are to be played."""
+        if count > MOST_PLAYED:
+            raise Open("too many frames for this comparison")
+        return rest_of(cart)
+
+    def drawn(self, cart, first, last, fault):
+        """The pictures of these frames."""
+        if first >= last:
+            return b""
+        halt = self.played(cart, last).halt
+        if halt is not None:
+            raise hands.Fault(fault + " by ".join(halt.split(" ")))
+        if last - first > MOST_DRAWN:
+            raise Open("too many pictures for this comparison")
+        return BLACK * (last - first)
+
+    def shot(self, cart, frame):
+        cart, frames = self.movie(cart)
+        if frame >= len(frames):
+            raise hands.Fault("no frame %d of %d" % (frame, len(frames)))
+        return self.drawn(cart, frame, frame + 1, "halted at ")
+
+    def film(self, cart, first=0, last=None):
+        cart, frames = self.movie(cart)
+        last = len(frames) if last is None else last
+        within(first, last, len(frames))
+        if 0 < first < last and rest_of(cart).halt is not None:
+            raise Open("the first halted frame of a film that begins behind it")
+        return self.drawn(cart, first, last, "frame 0 halted at ")
+
+    def export(self, cart, first, last, _workers):
+        cart, frames = self.movie(cart)
+        within(first, last, min(len(frames), first + 1024), len(frames))
+        return self.drawn(cart, first, last, "halted at ")
+
+    def ram(self, cart, first, last):
+        cart, frames = self.movie(cart)
+        within(first, last, len(frames) + 1, len(frames))
+        if first == last:
+            return b""
+        ram = self.played(cart, last).ram if last > 1 else bytes(128)
+        return "".join("%d %s\n" % (count, (ram if count else bytes(128)).hex().upper()) for count in range(first, last)).encode()
+
+    def digest(self, cart, every=600):
+        cart, frames = self.movie(cart)
+        self.drawn(cart, 0, len(frames), "halted at ")
+        text = hands.movie_text(cart, frames)
+        lines = ["a26digest 1", "profile 2", "cart " + sha256(cart).hexdigest(), "movie " + sha256(text).hexdigest()]
+        for first in range(0, len(frames), every):
+            last = min(first + every, len(frames))
+            lines.append("frames %d to %d ram %s picture %s" % (
+                first, last, sha256(bytes(128 * (last - first))).hexdigest(), sha256(BLACK).hexdigest()))
+        return "".join(line + "\n" for line in lines + ["end %d frames" % len(frames)]).encode()
+
+    def compare(self, cart, old):
+        cart, old, new = self.two_movies(cart, old)
+        if old or new:
+            self.played(cart, len(old) + len(new))
+        common = drafts.common(old, new)
+        first = str(common) if old != new else "none"
+        later = str(min(len(old), len(new))) if len(old) != len(new) else "none"
+        return ("input %s\nram %s\npicture %s\n" % (first, later, later)).encode()
+
+    def lag(self, cart):
+        cart, frames = self.movie(cart)
+        if frames:
+            self.played(cart, len(frames))
+        return lag_line(0, len(frames)).encode()
+
+    def trace(self, count):
+        cart, = self.inputs.read([])
+        sized(cart)
+        if count > MOST_PLAYED and rest_of(cart).halt is None:
+            raise Open("too many instructions for this comparison")
+        return machine.trace_text(machine.Machine(cart), count).encode() if count else b""
+
+
+# ---- scripts of changes
+
+def broken_promises(old, new, script):
+    """What the page promises of the script that makes the new movie of the old one, and this one doesn't keep; nothing if it keeps all."""
+    front = drafts.common(old, new)
+    back = drafts.common(old[front:][::-1], new[front:][::-1])
+    now, end, last = old, 0, None
+    for text in script.split("\n")[:-1]:
+        said = hands.understood(text, False)
+        if said is None or said[0] not in ("insert", "replace", "delete"):
+            return "a line of another kind: " + text
+        kind, (place, count), frame = said
+        gone = 0 if kind == "insert" else count
+        if count == 0 or place < max(front, end) or place + gone > len(now) - back:
+            return "a line that is out of its order, does nothing, or touches what both movies have in common: " + text
+        if kind == "replace" and not is_one_change(now[place:place + count], frame):
+            return "a replacement that doesn't begin and end with a change, or has sixteen frames in a row that stay: " + text
+        if last and place == end and not may_touch(last, said):
+            return "two lines that could be one: " + text
+        try:
+            now = hands.made(now, [], *said)
+        except hands.Fault as fault:
+            return "a line that is refused as %s: %s" % (fault, text)
+        end, last = place + (0 if kind == "delete" else count), said
+    return None if now == new and script[-1:] in ("", "\n") else "another movie"
+
+
+def is_one_change(old, frame):
+    stays = "".join("=" if one == frame else "x" for one in old)
+    return stays[0] == stays[-1] == "x" and "=" * 16 not in stays
+
+
+def may_touch(one, other):
+    return one[0] == other[0] and one[0] != "delete" and one[2] != other[2] or {one[0], other[0]} == {"insert", "delete"}

@@ -1,0 +1,305 @@
+"""What texts mean: movie texts of both kinds, scripts, and the lines of a conversation with their answers.
+
+Written from docs/FORMATS.md alone. The model of edits is that of `hands`, understood lines are those of answers.py. What is shown and kept is that of resting.py.
+"""
+
+import re
+from functools import lru_cache
+from hashlib import sha256
+
+import answers
+import drafts
+from answers import Movie, Said, hands
+from resting import BLACK, Kept, KeptOfDraft, Open, lag_line, rest_of
+
+MOST = hands.MOST
+HEADS = {"a26movie 1": 65536, "a26movie 2": MOST}
+RUN = re.compile(r"(.{17}) x([1-9][0-9]{0,6})")
+MOST_EDITS = 1000000
+OF_SCRIPTS = ("load", "insert", "replace", "delete", "len", "input", "shot", "work")
+
+
+class MovieFault(hands.Fault):
+    def __init__(self, line, kind, detail):
+        super().__init__("movie line %d: %s" % (line, kind))
+        self.detail = detail
+
+
+# ---- movie texts
+
+is_frame = lru_cache(100000)(hands.is_frame)
+
+
+class MovieText:
+    """A movie text, read line by line up to its first line at fault."""
+
+    def __init__(self, text, cart):
+        self.lines = text.decode("latin-1").split("\n")
+        self.digest = "cart " + sha256(cart).hexdigest()
+        self.frames, self.last = [], None
+
+    def read(self):
+        count = len(self.lines) - (self.lines[-1] == "")
+        for number in range(1, max(2, count) + 1):
+            kind = self.fault_of(number)
+            if kind:
+                raise MovieFault(number, kind.split(",")[0], "movie %s %s" % (self.lines[0][-1:] if self.lines[0] in HEADS else "?", kind))
+        return self.frames
+
+    def fault_of(self, number):
+        if number >= len(self.lines):
+            return "end"
+        line = self.lines[number - 1]
+        if number == 1:
+            return None if line in HEADS else "head"
+        if number == 2:
+            return None if line == self.digest else "digest"
+        return self.fault_of_frames(line)
+
+    def fault_of_frames(self, line):
+        if len(self.frames) >= HEADS[self.lines[0]]:
+            return "too many, before the line"
+        has_runs = self.lines[0] == "a26movie 2"
+        frame, count = run_of(line) if has_runs else (line, 1)
+        if not is_frame(frame):
+            return "frame"
+        if has_runs and frame == self.last:
+            return "run"
+        if has_runs and len(self.frames) + count > MOST:
+            return "too many, with the line"
+        self.frames += [frame] * count
+        self.last = frame
+        return None
+
+
+def run_of(line):
+    match = RUN.fullmatch(line)
+    return (match.group(1), int(match.group(2))) if match and 2 <= int(match.group(2)) <= MOST else (line, 1)
+
+
+def read_movie(text, cart):
+    """The frames of a movie text. Raises the fault of its first line at fault."""
+    return MovieText(text, cart).read()
+
+
+# ---- lines and their answers
+
+@lru_cache(100000)
+def understood(line, is_script):
+    """What a line of a script or of a conversation says; nothing where it isn't understood."""
+    if is_script and line.split(" ")[0] not in OF_SCRIPTS + ("load2",):
+        return None
+    if is_script and len(line) > answers.LONGEST_LINE and line.startswith("load"):
+        kind, *parts = line.split(" ")
+        return answers.image_of(kind, parts) if kind in answers.SIZES else None
+    return answers.understood(line)
+
+
+def entry(frames, said):
+    """The lines that a history has for an edit of these frames."""
+    kind, found = said.kind, said.numbers
+    if kind == "load":
+        return ["%s 000=%s" % ("load" if len(said.frame) == 4096 else "load2", said.frame.hex().upper())]
+    if kind == "delete":
+        return ["delete %d %d" % tuple(found)]
+    if kind in ("insert", "replace"):
+        return ["%s %d %d %s" % (kind, *found, said.frame if found[1] else hands.REST)]
+    word, place, new = "insert", found[0], said.frame
+    if kind in ("press", "release"):
+        word, new = "replace", [hands.letters(f, said.frame, kind == "press") for f in frames[place:place + found[1]]]
+    elif kind == "repeat":
+        place, new = place + found[1], frames[place:place + found[1]] * found[2]
+    elif kind == "copy":
+        place, new = found[2], frames[found[0]:found[0] + found[1]]
+    return drafts.run_lines(word, place, new) or ["%s %d 0 %s" % (word, place, hands.REST)]
+
+
+class Side:
+    """A movie with its number of edits and its states: the one that is held, or that of a draft."""
+
+    def __init__(self, movie, at, kept):
+        self.movie, self.at, self.kept = movie, at, kept
+
+    def make(self, said):
+        place, count = (said.numbers + [0, 0])[:2]
+        if said.kind == "copy":
+            place = said.numbers[2]
+        self.movie = answers.made(self.movie, said)
+        self.kept.edited(said.kind, place, count)
+        self.at += 1
+
+    def length(self):
+        return len(self.movie.frames)
+
+
+class Holder:
+    """What a script or a conversation holds. Its methods' answers have no newline at the end of their first line, but all that follows it."""
+
+    def __init__(self, cart=None, frames=(), is_script=False):
+        self.is_script, self.draft, self.edits = is_script, None, []
+        self.main = Side(answers.BLANK, 0, Kept())
+        if cart is not None:
+            self.main.movie, self.main.at = Movie(cart, list(frames)), 2
+            self.edits = [entry([], Said("load", [], cart)), entry([], Said("frames", [0], frames))]
+
+    def answer(self, line):
+        """The answer to a line; nothing where it isn't understood."""
+        said = understood(line, self.is_script)
+        if said is None:
+            return None
+        side = self.draft or self.main
+        if said.kind in answers.EDITS or said.kind == "load":
+            return self.edit(side, said)
+        return getattr(self, "of_" + said.kind)(side, *said.numbers)
+
+    def edit(self, side, said):
+        if side.at >= MOST_EDITS:
+            if self.draft:
+                raise Open("`full` in a draft")
+            return "full %d" % side.at
+        if said.kind == "load" and self.draft:
+            return "in draft"
+        frames = side.movie.frames
+        try:
+            side.make(said)
+        except hands.Fault as fault:
+            return "%s %d len %d" % (fault, side.at, side.length())
+        if side is self.main:
+            self.edits.append(entry(frames, said))
+        return "edit %d len %d" % (side.at, side.length())
+
+    def no_frame(self, side):
+        return "no frame %d len %d" % (side.at, side.length())
+
+    # -- what needs no machine
+
+    def of_len(self, side):
+        return "len %d %d" % (side.at, side.length())
+
+    def of_input(self, side, frame):
+        return "input %d %s" % (side.at, side.movie.frames[frame]) if frame < side.length() else self.no_frame(side)
+
+    def of_movie(self, side):
+        text = hands.movie_text(*side.movie).decode()
+        side.kept.share(side.movie)
+        return "movie %d %d\n%s" % (side.at, len(text), text)
+
+    def of_states(self, side):
+        side.kept.share(side.movie)
+        side.kept.sure()
+        return " ".join(map(str, ["states", side.at, len(side.kept.shots)] + sorted(side.kept.shots)))
+
+    def of_share(self, _side):
+        gained = self.main.kept.share(self.main.movie)
+        self.main.kept.sure()
+        return "share %d %d" % (self.main.at, gained)
+
+    def of_history(self, _side, first):
+        told = self.edits[first:first + answers.TOLD_AT_ONCE]
+        text = "".join("%d 0 %s\n" % (number, line) for number, lines in enumerate(told, first) for line in lines)
+        return "history %d %d %d %d\n%s" % (self.main.at, first, len(told), len(text), text)
+
+    def of_begin(self, side):
+        if self.draft:
+            return "in draft"
+        side.kept.share(side.movie)
+        self.draft = Side(side.movie, side.at, KeptOfDraft(side.kept))
+        return "begin %d %d" % (side.at, side.length())
+
+    def of_commit(self, _side):
+        if not self.draft:
+            return "no draft"
+        edits = drafts.stroke(self.main.movie.frames, self.draft.movie.frames)
+        if self.main.at + len(edits) > MOST_EDITS:
+            return "full %d" % self.main.at
+        for lines in edits:
+            self.main.kept.edited("replace", int(lines[0].split(" ")[1]), 0)
+        self.edits += edits
+        self.main.movie, self.draft, self.main.at = self.draft.movie, None, self.main.at + len(edits)
+        return "commit %d %d" % (self.main.at, self.main.length())
+
+    def of_drop(self, _side):
+        dropped, self.draft = self.draft, None
+        return "dropped" if dropped else "no draft"
+
+    # -- what a cartridge that needn't be played shows
+
+    def shown(self, side, frame, keeps_to, show):
+        """What `show` makes of the first frame that is played, or the refusal."""
+        if frame >= side.length():
+            return self.no_frame(side)
+        rest = rest_of(side.movie.cart)
+        first = side.kept.play(side.movie, frame, keeps_to)
+        return show(first) if rest.halt is None else "halted %d %s" % (side.at, rest.halt)
+
+    def of_shot(self, side, frame):
+        return self.shown(side, frame, frame + 1, lambda first: "shot %d %d ran %d lit 0" % (side.at, frame, frame + 1 - first))
+
+    def of_picture(self, side, frame):
+        return self.shown(side, frame, frame + 1, lambda _: "picture %d %d %d\n%s" % (side.at, frame, len(BLACK), BLACK.decode()))
+
+    def of_pictures(self, side, first, last):
+        heads = [self.of_picture(side, frame) for frame in range(first, last)]
+        return "".join(head if head.startswith("picture ") else head + "\n" for head in heads)
+
+    def of_digest(self, side, frame):
+        hexes = sha256(bytes(128)).hexdigest(), sha256(BLACK).hexdigest()
+        return self.shown(side, frame, frame, lambda _: "digest %d %d ram %s picture %s" % (side.at, frame, *hexes))
+
+    def of_ram(self, side, count):
+        if count > side.length():
+            return self.no_frame(side)
+        ram = rest_of(side.movie.cart).ram if count else bytes(128)
+        side.kept.play(side.movie, count, count)
+        return "ram %d %d %s" % (side.at, count, ram.hex().upper())
+
+    def of_lag(self, side, first, last):
+        if not first <= last <= side.length():
+            return self.no_frame(side)
+        rest_of(side.movie.cart)
+        side.kept.play(side.movie, first, first)
+        return "lag %d %d %d %d\n%s" % (side.at, first, last, len(lag_line(first, last)), lag_line(first, last))
+
+    def of_work(self, side, frame):
+        return "work jobs 1 kept %d stale 0" % side.kept.work(side.movie, frame)
+
+
+def whole(answer):
+    return answer if "\n" in answer else answer + "\n"
+
+
+def conversed(holder, text, seen):
+    """The answers of a conversation with these lines."""
+    lines, out = text.decode("latin-1").split("\n"), []
+    for place, line in enumerate(lines):
+        if place == len(lines) - 1:
+            out += ["unknown\n"] if line else []
+        elif line == "quit":
+            seen["quit"] += 1
+            break
+        else:
+            answer = holder.answer(line) or "unknown"
+            seen["talk " + kind_of(answer)] += 1
+            out.append(whole(answer))
+    return "".join(out).encode("latin-1")
+
+
+def scripted(holder, text, seen):
+    """The replies to a script, and the fault that ends it or nothing."""
+    lines, out, fault = text.decode("latin-1").split("\n"), [], None
+    for number, line in enumerate(lines, 1):
+        if number == len(lines) and line == "":
+            break
+        answer = holder.answer(line) if number < len(lines) else None
+        if answer is None:
+            fault = "script line %d" % number
+            break
+        seen["script " + kind_of(answer)] += 1
+        out.append(answer + "\n")
+    return "".join(out).encode("latin-1"), fault
+
+
+def kind_of(answer):
+    """What an answer's first word says, and its second one where it needs that."""
+    words = answer.split(None, 2)
+    return " ".join(words[:2]) if words[0] in ("no", "in", "work") else words[0]
