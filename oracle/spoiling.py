@@ -33,7 +33,7 @@ def number_spoilt(rng, line):
     old = rng.choice(found)
     digits = old.group()
     new = rng.choice((b"0" + digits, b"+" + digits, b"-" + digits, digits + b"0", digits + b".", b"0", b"1", b"2", b"00", b"01", b"", b"262143", b"262144",
-                      b"262145", b"65536", b"9999999", b"10000000", b"0000001", b"00000001", b"99999999999999999999", b"\xd9\xa3", b"16", b"17", b"1000001", str(int(digits) + 1).encode()))
+                      b"262145", b"65536", b"9999999", b"10000000", b"0000001", b"00000001", b"99999999999999999999", b"\xd9\xa3", b"16", b"17", b"1000001", str(int(digits[:18]) + 1).encode()))
     return line[:old.start()] + new + line[old.end():]
 
 
