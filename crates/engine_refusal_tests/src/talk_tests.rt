@@ -16,10 +16,12 @@ const MOST: u64 = 1000;
 const MADE: &[u8] = b"load 000=A9028500A90085004C00F0 FFC=00F0\ninsert 0 3 R.... ..... .....\n";
 
 /// Looks at it.
-static LOOKS: [&[u8]; 7] = [
+static LOOKS: [&[u8]; 9] = [
     b"picture 1\n",
     b"ram 3\n",
     b"digest 1\n",
+    b"lag 0 2\n",
+    b"history 0\n",
     b"movie\n",
     b"states\n",
     b"shot 2\n",

@@ -12,7 +12,7 @@ use std::marker::Brand;
 use std::process::Abort;
 use std::sync::Wait;
 use std::thread::{Threads, join_mut};
-use tas_desk::{Desk, Name, Receipt, Seat, Shot, ShotError, Unopened};
+use tas_desk::{Desk, Name, Reached, Receipt, Seat, Shot, ShotError, StateError, Unopened};
 use tas_movie::{Edit, Inputs};
 
 /// The desk's memory.
@@ -38,6 +38,8 @@ struct Looks {
     len: bool,
     input: bool,
     shot: bool,
+    picture: bool,
+    state: bool,
     held: (bool, bool),
 }
 
@@ -66,10 +68,14 @@ impl<'a, N: Name> Caller<'a, N> {
         let len = desk.len(&mut self.seat) == Ok((2, 3));
         let input = desk.input(&mut self.seat, 1) == Ok((2, right()));
         let shot = is_drawn(desk.shot(alloc, &mut self.seat, 2));
+        let picture = is_drawn(desk.picture(alloc, &mut self.seat, 2));
+        let state = is_reached(desk.state(&mut self.seat, 3));
         self.told = Told::Looked(Looks {
             len,
             input,
             shot,
+            picture,
+            state,
             held: (before, heap.holds()),
         });
         heap.release();
@@ -91,6 +97,14 @@ fn is_drawn(answer: Result<Shot, ShotError>) -> bool {
         Ok(shot) => {
             shot.at == 2 && shot.frame == 2 && shot.ran == 3 && shot.picture.lit() == 1680
         }
+        Err(_) => false,
+    }
+}
+
+/// Whether the state after all three frames is reached at two edits, played from power-on.
+fn is_reached(answer: Result<Reached, StateError>) -> bool {
+    match answer {
+        Ok(reached) => reached.at == 2 && reached.ran == 3,
         Err(_) => false,
     }
 }
@@ -168,6 +182,8 @@ fn check_callers<'a, N: Name, R: Wait + Abort>(
         len: true,
         input: true,
         shot: true,
+        picture: true,
+        state: true,
         held: (true, true),
     });
     for (number, caller) in callers.iter_mut().enumerate() {

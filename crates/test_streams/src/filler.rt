@@ -1,6 +1,6 @@
 //! A reader of one byte over and over.
 
-ghost use Rattle.std.specs.Prelude.{◌≡◌};
+ghost use Rattle.std.specs.Prelude.{◌≡◌, Some, replicate};
 
 use std::io;
 use std::io::{Error, ErrorKind, Read};
@@ -23,6 +23,8 @@ impl Filler {
     pub fn new(byte: u8, left: usize, fails_at: usize) -> Filler
         ensures left { result.left ≡ left }
         ensures reads { result.reads ≡ 0 }
+        ensures byte { result.byte ≡ byte }
+        ensures fails_at { result.fails_at ≡ fails_at }
     {
         Filler {
             left,
@@ -35,6 +37,8 @@ impl Filler {
 }
 
 impl Read for Filler {
+    ghost remaining = { λ filler. Some (replicate filler.left filler.byte) };
+
     fn read(&mut self, buf: &mut [u8]) -> io::Result<usize> {
         self.reads = self.reads.saturating_add(1);
         if self.reads == self.fails_at {

@@ -22,7 +22,10 @@ pub struct Giver<'a> {
 impl<'a> Giver<'a> {
     /// Reads are counted from 1; at 0 none fails.
     pub fn new(bytes: &'a [u8], at_once: usize, fails_at: usize) -> Giver<'a>
-        ensures { result.reads ≡ 0 }
+        ensures reads { result.reads ≡ 0 }
+        ensures bytes { result.bytes.now ≡ bytes.now }
+        ensures at_once { result.at_once ≡ at_once }
+        ensures fails_at { result.fails_at ≡ fails_at }
     {
         Giver {
             reads: 0,

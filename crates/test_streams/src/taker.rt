@@ -1,6 +1,6 @@
 //! A writer that gets full.
 
-ghost use Rattle.std.specs.Prelude.{◌≡◌, []};
+ghost use Rattle.std.specs.Prelude.{◌≡◌, [], Some};
 
 use std::alloc::Global;
 use std::io;
@@ -46,6 +46,9 @@ impl Taker {
         ensures taken { result.taken.items ≡ [] }
         ensures writes { result.writes ≡ 0 }
         ensures failed { result.failed ≡ 0 }
+        ensures at_once { result.at_once ≡ at_once }
+        ensures room { result.room ≡ room }
+        ensures failure { result.failure ≡ failure }
     {
         Taker {
             taken: Vec::new(alloc),
@@ -68,6 +71,8 @@ impl Taker {
 }
 
 impl Write for Taker {
+    ghost contents = { λ taker. Some taker.taken.items };
+
     fn write(&mut self, buf: &[u8]) -> io::Result<usize> {
         let n = buf.len().min(self.at_once).min(self.room());
         self.writes = self.writes.saturating_add(1);
