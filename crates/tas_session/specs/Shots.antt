@@ -1,4 +1,4 @@
--- Replies to shots and offers.
+-- Replies to shots.
 use Rattle.std.specs.Prelude.{◌≡◌, ℕ, ◌+◌, ◌<◌, List, length, Some, None, Result, Ok, Err}
 use Rattle.tas_green.specs.Zone.{nearest}
 use Rattle.tas_session.specs.declared.replies.Shot.{Shot}

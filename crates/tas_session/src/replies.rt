@@ -180,7 +180,7 @@ pub enum StateError {
     /// The seat's reader found its writer gone, as in [`NoEntry`](crate::NoEntry); the seat is as it was.
     #[error("no entry")]
     NoEntry,
-    /// The movie has fewer frames.
+    /// The movie doesn't have these frames: it ends before, or the first one is past the last.
     #[error("no such frame of {len} at {at}")]
     NoFrame {
         /// How many edits the history has.

@@ -81,8 +81,8 @@ impl<A: Allocator> Session<A> {
         publisher.close(rt)
     }
 
-    /// A reader of the published movie that has seen the whole history. `AllocError` where memory is refused or no place for a reader
-    /// is left. The session is as it was.
+    /// A reader of the published movie that has seen the whole history. It takes no memory: `AllocError` where no place for a reader is
+    /// left. The session is as it was.
     pub fn reader<R: Wait>(&mut self, rt: &R) -> Result<MovieReader<A>, AllocError>
         ensures same { self.new ≡ self.old }
         ensures seen { IfOk result
