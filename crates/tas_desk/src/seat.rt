@@ -88,7 +88,7 @@ impl<N: Name, A: Allocator> Seat<N, A> {
         self.zone.holds(frame)
     }
 
-    /// The movie that its greenzone was made for: the one that a shot or [`Desk::share`](crate::Desk::share) brought last, and
+    /// The movie that its greenzone was made for: that of the seat's last shot, picture, state or share that was answered or halted, and
     /// before the first the blank cartridge with no inputs.
     pub fn zone_movie(&self) -> &Movie<A>
         ensures { result.now ≡ self.now.zone.movie }
