@@ -1,4 +1,4 @@
--- A seat's conversation: each line is answered at a beginning of the desk's history, and these never get shorter.
+-- A seat's conversation: outside a draft each line is answered at a beginning of the desk's history, and these never get shorter.
 use Rattle.std.specs.Prelude.{◌≡◌, ℕ, ◌<◌, ◌≤◌, min, List, [], ◌∷◌, ◌++◌, length, Option, Some, None, Result, Ok, Err, ◌⊎◌}
 use Rattle.std.specs.List.{flat_map}
 use Rattle.std.specs.Io.KnownBytes.{Appends, Consumes, IsAtEnd}

@@ -1,5 +1,6 @@
-//! What a seat of a desk is answered: a command, a request, and a whole conversation. Each line is answered at a history that begins
-//! with all that the seat had seen; the seat has then seen this history, and the edits that the line made.
+//! What a seat of a desk is answered: a command, a request, and a whole conversation. Outside a draft each line, and each picture of a
+//! line `pictures`, is answered at a history that begins with all that the seat had seen; the seat has then seen this history, and the
+//! edits that the line made. In a draft a line about the movie is answered at the draft.
 //!
 //! Nothing here asks whether other seats edit the movie, too: a desk of one seat is the case in which nobody else does.
 #![tactic(auto)]
