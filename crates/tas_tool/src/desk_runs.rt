@@ -137,8 +137,8 @@ fn desk_on<
 }
 
 /// Reads a cartridge and a movie text, and holds a conversation at each door, 1 to [`MAX_SEATS`](tas_desk::MAX_SEATS) of them: all on
-/// this movie, each by a seat of its own on a thread of its own. Seat 0 makes the movie by two edits that no answer reports, and each
-/// seat has seen them before its first line is answered. Once all conversations have ended it writes the text of the movie that
+/// this movie, each by a seat of its own on a thread of its own. Seat 0 makes the movie by two edits, numbers 0 and 1 of `history`, and
+/// each seat has seen them before its first line is answered. Once all conversations have ended it writes the text of the movie that
 /// all their edits have made. The doors come back, in their order.
 ///
 /// Faults, in order: those of [`read_two`](tas_engines::read_two), then those of [`movie_of`](tas_engines::movie_of); `Memory` and `NoPlace` for the desk; each of these before a door

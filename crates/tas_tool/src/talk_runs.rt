@@ -131,8 +131,8 @@ pub fn talk_run<A: Allocator + Copy, T: Wait, R: Read, W: Write>(
     talk_from(rt, alloc, None, input, output)
 }
 
-/// Reads a cartridge, and then talks as [`talk_run`] does, but from this cartridge with no inputs on: it is loaded, and no
-/// inputs are put in, by two edits that no answer reports.
+/// Reads a cartridge, and then talks as [`talk_run`] does, but from this cartridge with no inputs on: before the first line two edits
+/// load it and put no inputs in. They are edits 0 and 1 of `history`.
 ///
 /// Faults, in order: those of [`read_input`], and `Size`, each before anything is read of the input or written; `Memory`; then those
 /// of `talk_run`.
@@ -150,8 +150,8 @@ pub fn cart_talk_run<A: Allocator + Copy, T: Wait, C: Read, R: Read, W: Write>(
     talk_from(rt, alloc, Some(movie), input, output)
 }
 
-/// Reads a cartridge and a movie text, and then talks as [`talk_run`] does, but from this movie on: its cartridge is loaded and
-/// its inputs are put in by two edits that no answer reports.
+/// Reads a cartridge and a movie text, and then talks as [`talk_run`] does, but from this movie on: before the first line two edits
+/// load its cartridge and put its inputs in. They are edits 0 and 1 of `history`.
 ///
 /// Faults, in order: those of [`read_two`](tas_engines::read_two), then those of [`movie_of`](tas_engines::movie_of), each before anything is read of the input or written; then those
 /// of `talk_run`.
