@@ -129,7 +129,8 @@ fn run_desk<T: Wait + Threads + Sync, F: Folder + Sync, W: Write>(
     desk_run(rt, alloc, &mut cart, &mut movie, &mut doors, output)
 }
 
-/// Does a task by its engine, over the two streams that engines know. A desk takes its memory from `global`, all else from `alloc`.
+/// Does a task by its engine, over the two streams that engines know. `Task::Desk` takes its memory from `global`, each other task from
+/// `alloc`.
 fn run_engine<
     T: Wait + Threads + Sync,
     A: Allocator + Copy + Send + Sync,
@@ -309,8 +310,8 @@ pub fn carry_out<
     }
 }
 
-/// The whole program: reads the words, the first of which is its name, and does what they ask for. clap and a desk take their memory
-/// from `global` alone, all else from `alloc`.
+/// The whole program: reads the words, the first of which is its name, and does what they ask for. clap and `Task::Desk` take their
+/// memory from `global` alone, all else from `alloc`.
 pub fn run_program<
     T: Wait + Threads + Sync,
     A: Allocator + Copy + Send + Sync,
