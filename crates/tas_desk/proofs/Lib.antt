@@ -4,7 +4,6 @@ pub mod CutLemmas
 pub mod LockedLemmas
 pub mod PlanLemmas
 pub mod SeatLemmas
-pub mod StateLemmas
 pub mod WorkLemmas
 pub mod ZoneLemmas
 pub mod ZoneShotLemmas

@@ -1,5 +1,5 @@
 -- Replies to looks at the machine's state.
-use Rattle.std.specs.Prelude.{◌≡◌, ℕ, ◌<◌, ◌≤◌, List, length, Result, Ok, Err}
+use Rattle.std.specs.Prelude.{◌≡◌, ℕ, ◌≤◌, List, length, Result, Ok, Err}
 use Rattle.tas_green.specs.Run.{state_after}
 use Rattle.tas_green.specs.Green.{IsReachedFrom}
 use Rattle.tas_session.specs.declared.entry.Entry.{Entry}
@@ -9,13 +9,6 @@ use Rattle.tas_session.specs.declared.replies.StateError.TheVariants.{NoEntry, N
 use Rattle.tas_session.specs.History.{movie_of}
 use Rattle.tas_desk.specs.Zones.{ZoneContent, IsMadeFor}
 use Rattle.tas_desk.specs.Seats.{SeatContent}
-
--- the machine after k frames of a history's movie, halted or not, or why it wasn't reached; without an entry nothing is said
-abbrev pub IsStateAt : {A : Type 0} → List (Entry A) → ℕ → Result Reached StateError → Type 0
-IsStateAt history k (Ok reached) = (k ≤ length (movie_of history).inputs) × (reached.state ≡ state_after (movie_of history) k) × (reached.at ≡ length history)
-IsStateAt history k (Err NoEntry) = Unit {0}
-IsStateAt history k (Err (NoFrame at len)) = (at ≡ length history) × (len ≡ length (movie_of history).inputs) × (len < k)
-IsStateAt history k (Err Memory) = k ≤ length (movie_of history).inputs
 
 -- the machine in which frame `from` begins, where the movie has all frames from it to the one before `to`, or why it wasn't reached;
 -- without an entry nothing is said

@@ -12,7 +12,7 @@ ghost use Rattle.tas_session.specs.declared.replies.OpenError.TheVariants.{Memor
 ghost use Rattle.tas_session.specs.Answers.{answer_len};
 ghost use Rattle.tas_session.specs.History.{most_edits, movie_of, IsLegal};
 ghost use Rattle.tas_session.specs.Shots.{IsShotAt, MatchPlayed};
-ghost use Rattle.tas_desk.specs.States.{IsStateAt, IsStateFor, IsZoneReached};
+ghost use Rattle.tas_desk.specs.States.{IsStateFor, IsZoneReached};
 ghost use Rattle.tas_desk.specs.Zones.{CutsWindow, IsShared, IsShort, IsZoneAway, blank_zone};
 ghost use Rattle.tas_green.specs.Grid.{most_states};
 ghost use Rattle.tas_session.specs.Strokes.{edits_of};
@@ -287,22 +287,10 @@ impl<N: Name, W: CloseOnDrop, A: Allocator + Copy> Desk<N, W, A> {
         seat.picture(alloc, k)
     }
 
-    /// The machine after the movie's first `k` frames, halted or not: 0 to the movie's length. It takes no lock. The frames are
-    /// played from the nearest state of the seat's own zone at `k` or before it, once the zone is cut as a shot cuts it; it
-    /// gains the states on the way that are on the grid.
-    ///
-    /// `NoEntry` leaves the seat as it was, `NoFrame` and `Memory` its zone.
-    pub fn state(&self, seat: &mut Seat<N, A>, k: usize) -> Result<Reached, StateError>
-        ensures seat { HasSeen seat.old seat.new }
-        ensures reply { IsStateAt seat.new.front k result }
-        ensures zone { IsZoneReached seat.old seat.new k result }
-        ensures window { OnOk result (CutsWindow seat.old.zone seat.new.zone) }
-    {
-        seat.state(k)
-    }
-
     /// The machine in which frame `from` begins, where the movie has all frames from `from` to the one before `to`: `from` is at most
-    /// `to`, and `to` at most the movie's length. It is played as by [`Desk::state`] of `from`, without the lock.
+    /// `to`, and `to` at most the movie's length. It takes no lock. The frames before `from` are played from the nearest state of the
+    /// seat's own zone at `from` or before it, once the zone is cut as a shot cuts it; it gains the states on the way that are on the
+    /// grid.
     ///
     /// `NoFrame` comes exactly where the movie doesn't have these frames. `NoEntry` leaves the seat as it was, `NoFrame` and `Memory` its
     /// zone.

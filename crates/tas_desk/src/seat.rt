@@ -8,7 +8,7 @@ ghost use Rattle.tas_session.specs.Shots.{IsShotAt, MatchPlayed};
 ghost use Rattle.tas_session.specs.Answers.{answer_len};
 ghost use Rattle.tas_session.specs.History.{movie_of};
 ghost use Rattle.tas_session.specs.Published.{KnowsRegistry};
-ghost use Rattle.tas_desk.specs.States.{IsStateAt, IsStateFor, IsZoneReached};
+ghost use Rattle.tas_desk.specs.States.{IsStateFor, IsZoneReached};
 ghost use Rattle.tas_desk.specs.Zones.{CutsWindow, IsShort, IsZoneAway};
 ghost use Rattle.tas_desk.specs.Seats.{seat_of, HasSeen, KeepsZone, IsInput, IsZoneShot, IsZoneViewed};
 
@@ -165,16 +165,6 @@ impl<N: Name, A: Allocator + Copy> Seat<N, A> {
             return Err(ShotError::Memory);
         };
         shown(at, k, viewed.ran, picture, viewed.end)
-    }
-
-    /// The machine after `k` frames, from the seat's own zone.
-    pub(crate) fn state(&mut self, k: usize) -> Result<Reached, StateError>
-        ensures seat { HasSeen self.old self.new }
-        ensures reply { IsStateAt self.new.front k result }
-        ensures zone { IsZoneReached self.old self.new k result }
-        ensures window { OnOk result (CutsWindow self.old.zone self.new.zone) }
-    {
-        self.state_for(k, k)
     }
 
     /// The machine after `from` frames, from the seat's own zone, where `from` is at most `to`, and `to` at most the movie's length.

@@ -69,7 +69,7 @@ impl<'a, N: Name> Caller<'a, N> {
         let input = desk.input(&mut self.seat, 1) == Ok((2, right()));
         let shot = is_drawn(desk.shot(alloc, &mut self.seat, 2));
         let picture = is_drawn(desk.picture(alloc, &mut self.seat, 2));
-        let state = is_reached(desk.state(&mut self.seat, 3));
+        let state = is_reached(desk.state_for(&mut self.seat, 3, 3));
         self.told = Told::Looked(Looks {
             len,
             input,
