@@ -448,7 +448,7 @@ fn errors_of_edits_in_words(rt: HostRuntime) {
         (EditError::Full { at }, "full at 7"),
         (
             EditError::Place { at, place: 31, len },
-            "place 31 of 30 at 7",
+            "no place 31: 30 frames at edit 7",
         ),
         (EditError::Long { at, len }, "too long: 30 at 7"),
         (EditError::Memory, "out of memory"),
@@ -463,14 +463,20 @@ fn errors_of_looks_in_words(rt: HostRuntime) {
     let (at, len) = (7, 30);
     let looks = [
         (InputError::NoEntry, "no entry"),
-        (InputError::NoFrame { at, len }, "no such frame of 30 at 7"),
+        (
+            InputError::NoFrame { at, len },
+            "no such frame: 30 frames at edit 7",
+        ),
     ];
     for (error, text) in looks {
         check_words(&rt, rt.alloc(), error, text);
     }
     let shots = [
         (ShotError::NoEntry, "no entry"),
-        (ShotError::NoFrame { at, len }, "no such frame of 30 at 7"),
+        (
+            ShotError::NoFrame { at, len },
+            "no such frame: 30 frames at edit 7",
+        ),
         (ShotError::Memory, "out of memory"),
         (ShotError::Halted { at, halt: HALT }, "halted at 7"),
     ];

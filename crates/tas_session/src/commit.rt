@@ -18,8 +18,9 @@ impl<A: Allocator + Copy> Session<A> {
     /// frames.
     ///
     /// It is refused, in this order, for `Serial`, `Moved` (the history has another number of edits than `at`), `Full` (no room for
-    /// all of the edits), `Place`, `Long` and `Memory`; each refusal leaves history, movie and greenzone as they were. Afterwards the
-    /// kept states are those that the edits leave, made one after the other. No edits take no memory.
+    /// all of the edits), `Place` or `Long` of the first edit that is refused, and `Memory`; each refusal leaves history, movie and
+    /// greenzone as they were. Afterwards the kept states are those that the edits leave, made one after the other. With no edits it
+    /// takes no memory.
     pub fn commit<R: Wait>(
         &mut self,
         rt: &R,

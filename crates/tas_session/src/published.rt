@@ -40,7 +40,7 @@ where
     ghost view = { λ s. published_of s.movie s.at s.version };
 }
 
-/// The accepted edits of one step on their way into both copies, with the version of the history that they end.
+/// The accepted edits of one step on their way into both copies, with the version of the history once they are made.
 #[derive(Drop)]
 pub struct PublishedStep<A: Allocator = Global>
 where
@@ -63,7 +63,7 @@ where
 }
 
 impl<A: Allocator> PublishedStep<A> {
-    /// Edits, with the version of the history that they end.
+    /// Edits, with the version of the history once they are made.
     pub fn new(stroke: Stroke<A>, version: Version<A>) -> PublishedStep<A>
         ensures { result ≡ change_of (edits_of stroke) version }
     {

@@ -37,7 +37,7 @@ pub enum InputError {
     #[error("no entry")]
     NoEntry,
     /// The movie has no such frame.
-    #[error("no such frame of {len} at {at}")]
+    #[error("no such frame: {len} frames at edit {at}")]
     NoFrame {
         /// How many edits the history has.
         at: u64,
@@ -66,14 +66,14 @@ pub enum EditError {
         /// How many of them are this seat's.
         counted: u64,
     },
-    /// The history has [`MAX_EDITS`](crate::MAX_EDITS) edits.
+    /// The history has [`MAX_EDITS`](crate::MAX_EDITS) edits or, of a step, has no room for all of its edits.
     #[error("full at {at}")]
     Full {
         /// How many edits the history has.
         at: u64,
     },
     /// The edit reaches past the movie's last input.
-    #[error("place {place} of {len} at {at}")]
+    #[error("no place {place}: {len} frames at edit {at}")]
     Place {
         /// How many edits the history has.
         at: u64,
@@ -143,7 +143,7 @@ pub enum ShotError {
     #[error("no entry")]
     NoEntry,
     /// The movie has no such frame.
-    #[error("no such frame of {len} at {at}")]
+    #[error("no such frame: {len} frames at edit {at}")]
     NoFrame {
         /// How many edits the history has.
         at: u64,
@@ -181,7 +181,7 @@ pub enum StateError {
     #[error("no entry")]
     NoEntry,
     /// The movie doesn't have these frames: it ends before, or the first one is past the last.
-    #[error("no such frame of {len} at {at}")]
+    #[error("no such frame: {len} frames at edit {at}")]
     NoFrame {
         /// How many edits the history has.
         at: u64,
