@@ -12,7 +12,7 @@ use Rattle.tas_session.specs.Strokes.{entries_by, edited_by, refusal_in, commit_
 use Rattle.tas_desk.specs.Seats.{SeatContent, seat_of}
 
 -- what an answer says of the length of the history at which it is given, where the caller says that there are `at` edits: a receipt says
--- that there are so many, and `Moved` that there are another number, and which
+-- that there are `at`, and `Moved` that there are another number, and which
 abbrev pub TellsLength : ℕ → ℕ → Result Receipt CommitError → Type 0
 TellsLength at long (Ok receipt) = long ≡ at
 TellsLength at long (Err (Moved told)) = (told ≡ long) × (long ≢ at)

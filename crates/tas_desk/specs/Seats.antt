@@ -28,7 +28,7 @@ use Rattle.tas_desk.specs.Zones.{ZoneContent, IsPlayed, IsViewed}
 abbrev pub most_seats : ℕ
 most_seats = 8
 
--- a seat: its number, how many edits it made, what it has seen of the history, and its greenzone
+-- a seat: its number, how many edits it made, what it has seen of the history, and its greenzone with its window
 pub record SeatContent (A : Type 0) : Type 0 where
   pub number : ℕ
   pub made : ℕ

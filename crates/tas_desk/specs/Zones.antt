@@ -56,8 +56,8 @@ pub record IsShared {A : Type 0} (before now : ZoneContent A) (front : List (Ent
 pub record IsShort {A : Type 0} (before now : ZoneContent A) (k ran : ℕ) : Type 0 where
   pub most : (left : List Savestate) → IsMoved before.movie now.movie before.states left → HoldsGrid (stride (length now.movie.inputs)) k left → ran ≤ stride (length now.movie.inputs)
 
--- frame k of a history's movie was viewed: zone and window were cut for that movie, this many frames were played from the nearest state
--- of both, the zone is then as a shot leaves it, and the window is filled
+-- frame k of a history's movie was viewed: zone and window were cut for that movie, this many frames were played from `view_start`,
+-- the zone is then as a shot leaves it, and the window is filled
 pub record IsViewed {A : Type 0} (before now : ZoneContent A) (front : List (Entry A)) (k ran : ℕ) : Type 0 where
   pub made : IsMadeFor now front
   pub view : IsViewFrom before.movie now.movie k (both before.states before.window) (both now.states now.window) ran

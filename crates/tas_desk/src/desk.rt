@@ -227,8 +227,8 @@ impl<N: Name, W: CloseOnDrop, A: Allocator + Copy> Desk<N, W, A> {
         self.locked.lock(rt).edit_by(rt, seat, plan)
     }
 
-    /// Makes the edits of a stroke as one step, as the seat, where the history has `at` edits: nobody's edit comes before or between
-    /// them, and nobody sees one without the other. The receipt has the number of edits then, and the movie's length in frames.
+    /// Makes the edits of a stroke as one step, as the seat, where the history has `at` edits: no other edit comes between those and
+    /// these, or between these, and nobody sees one without the other. The receipt has the number of edits then, and the movie's length in frames.
     ///
     /// It is refused, in this order, for `Serial` as [`Desk::edit`] is, for `Moved` (the history has another number of edits), `Full`
     /// (no room for all of the edits below 1,000,000), `Place` and `Long` (the first edit that is refused) and `Memory`. After a refusal
@@ -267,9 +267,10 @@ impl<N: Name, W: CloseOnDrop, A: Allocator + Copy> Desk<N, W, A> {
         seat.shot(alloc, k)
     }
 
-    /// Draws frame `k` as [`Desk::shot`] does, but played from the nearest state of the seat's zone and its window, and fills the
-    /// window: it then has the states around this frame, so that a step to the next frame plays one, and so does a step back to one
-    /// of the 63 frames before, as far as they were played. The zone is left as by a shot. It takes no lock.
+    /// Draws frame `k` as [`Desk::shot`] does, but played from the nearest state of the seat's zone and its window, or from the
+    /// zone's where a place of the grid lies between the two, and fills the window: it then has the states around this frame, so that a
+    /// step to the next frame plays one, and so does a step back to one of the 63 frames before, as far as they were played. The zone
+    /// is left as by a shot. It takes no lock.
     ///
     /// `NoEntry` leaves the seat as it was, `NoFrame` and `Memory` its zone and window; after `Halted` both are as after an answer.
     pub fn picture<B: Allocator>(
@@ -367,7 +368,7 @@ impl<N: Name, W: CloseOnDrop, A: Allocator + Copy> Desk<N, W, A> {
 
     /// Takes what a job made: the states up to the common front of the batch's inputs and the movie's, on the movie's grid.
     ///
-    /// `Cartridge` comes exactly where the bytes of the two cartridges differ, and gives the batch up; `Memory` hands the same batch
+    /// `Cartridge` comes exactly where the bytes of the two cartridges differ, and drops the batch; `Memory` hands the same batch
     /// back. Both leave the kept states as they were.
     pub fn offer<B: Allocator, R: Wait>(
         &self,

@@ -304,7 +304,7 @@ impl<N: Name, W: CloseOnDrop, A: Allocator + Copy> LockedSession<N, W, A> {
         }
     }
 
-    /// Lets a seat's zone gain exactly the kept states that it lacks, and returns how many with the number of edits.
+    /// Cuts a seat's zone for the movie, lets it gain exactly the kept states that it lacks, and returns how many with the number of edits.
     pub fn bring<R: Wait>(&self, rt: &R, seat: &mut Seat<N, A>) -> Result<Shared, AllocError>
         ensures begins { IsPrefix seat.old.front self.now.journal }
         ensures seat { seat.new

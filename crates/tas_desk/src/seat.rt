@@ -23,7 +23,8 @@ use tas_session::{MovieReader, shown};
 use vcs_machine::{Input, Meter};
 use vcs_tia::Picture;
 
-/// A seat of a desk. Contracts see its number, how many edits it made, what it has seen of the history, and its greenzone.
+/// A seat of a desk. Contracts see its number, how many edits it made, what it has seen of the history, and its greenzone with
+/// its window.
 #[derive(Drop)]
 pub struct Seat<N: Name, A: Allocator = Global> {
     pub(crate) number: u32,
@@ -117,7 +118,7 @@ impl<N: Name, A: Allocator> Seat<N, A> {
 
 impl<N: Name, A: Allocator + Copy> Seat<N, A> {
     /// A copy of its greenzone: a zone of the same movie, [`Seat::zone_movie`], for one who plays it or an edited copy of it elsewhere. It
-    /// takes its memory from `alloc`; the seat isn't changed.
+    /// takes its memory from `alloc`: `AllocError` where that is refused. The seat isn't changed.
     pub fn copy_zone<B: Allocator>(&self, alloc: B) -> Result<Green<B>, AllocError>
         ensures same { IfOk result (λ green. green ≡ self.now.zone.states) }
         ensures lawful { IfOk result (λ green. IsLawful self.now.zone.movie green) }
