@@ -1,4 +1,4 @@
--- Drafts: changes of a movie that a conversation gathers before it makes them as one step, and what lines are answered meanwhile.
+-- Drafts: changes of a movie that a conversation gathers before it makes them as one step, and the answers to lines meanwhile.
 use Rattle.std.specs.Prelude.{codes, ◌≡◌, ℕ, ◌+◌, ◌-◌, ◌≤◌, ◌==◌, List, [], ◌∷◌, length, take, drop, reverse, if◌then◌else◌, ◌⊎◌}
 use Rattle.std.specs.List.{flat_map}
 use Rattle.vcs_machine.specs.declared.input.Input.{Input}
@@ -125,7 +125,7 @@ IsDraftUnanswered draft request draft' = IsDraftLookedAt draft draft' ⊎ ((answ
 
 -- ---- what a draft comes to
 
--- the inputs without so many at the front and at the back
+-- the inputs without the first `front` and the last `back`
 abbrev pub inner_inputs : ℕ → ℕ → List Input → List Input
 inner_inputs front back inputs = take (length inputs - front - back) (drop front inputs)
 

@@ -41,7 +41,7 @@ pub record IsGreen (state : TalkState) : Type 0 where
   pub lawful : IsLawful state.kept_for state.states
 
 -- frame k was played: the greenzone was cut for the movie, and is as if `ran` frames were played from the nearest state that was left: the
--- states on the way that stand on the grid are kept, too. `shot` tells `ran`; `picture` may have played fewer, from its window
+-- states on the way that stand on the grid are kept, too. `shot` reports `ran`; `picture` may have played fewer, from its window
 pub record Plays (old new : TalkState) (k ran : ℕ) : Type 0 where
   pub green : IsGreen new
   pub shot : IsShotFrom old.kept_for new.kept_for k old.states new.states 0 ran
@@ -75,7 +75,7 @@ abbrev pub GainsUnless : Bool → TalkState → TalkState → Type 0
 GainsUnless true old new = Rests old new ⊎ Gains old new
 GainsUnless false old new = Gains old new
 
--- what `shot K` leaves of the greenzone, by its reply, which tells how many frames were played
+-- what `shot K` leaves of the greenzone, by its reply, which reports how many frames were played
 abbrev pub ShotLeaves : TalkState → TalkState → ℕ → Reply → Type 0
 ShotLeaves old new k (Drawn made frame ran lit) = Plays old new k ran
 ShotLeaves old new k (Halted made at opcode) = (ran : ℕ) × Plays old new k ran
@@ -161,14 +161,14 @@ abbrev pub IsPictureAnswer : TalkState → ℕ → List ℕ → TalkState → Ty
 IsPictureAnswer state k answer next =
     (no_memory : Bool) × (answer ≡ answer_to_picture no_memory state.stands k (answer_shot state.stands.movie k)) × (next.stands ≡ state.stands) × PictureLeaves no_memory state next k (answer_shot state.stands.movie k)
 
--- the answer to `share`, which tells how many states were gained
+-- the answer to `share`, which reports how many states were gained
 abbrev pub IsShareAnswer : Bool → TalkState → List ℕ → TalkState → Type 0
 IsShareAnswer true state answer next = (answer ≡ reply_text OutOfMemory) × Rests state next
 IsShareAnswer false state answer next = (gains : Gains state next) × (answer ≡ share_text state.stands.made gains.gained)
 
 -- the answer to a request at some history and greenzone, and what both come to then. `pictures` and `history` aren't answered so: the pictures
 -- of a strip may be answered at several histories, and the entries of a history are more than what it comes to. `begin`, `commit` and `drop` are
--- about the conversation's draft, and `quit`, which is answered nothing, about its end
+-- about the conversation's draft, and `quit`, which gets no answer, about its end
 abbrev pub IsAnswerTo : TalkState → Request → List ℕ → TalkState → Type 0
 IsAnswerTo state (Do command) answer next = (reply : Reply) × IsTurn state.stands command reply next.stands × (answer ≡ reply_text reply) × CommandLeaves state next command reply
 IsAnswerTo state (Retouch retouch) answer next = (reply : Reply) × IsRetouchTurn state.stands retouch reply next.stands × (answer ≡ reply_text reply) × Rests state next

@@ -62,7 +62,7 @@ AreStrip {A} seat from (shown ∷ strip) last = IsAnsweredAt A seat shown.next (
 abbrev pub strip_answers : {A : Type 0} → List (StripAnswer A) → List ℕ
 strip_answers strip = flat_map (λ shown. shown.answer) strip
 
--- how many entries one answer tells at most
+-- how many entries one answer reports at most
 abbrev pub most_entries : ℕ
 most_entries = 256
 

@@ -86,14 +86,14 @@ pub record HasLooked {A : Type 0} (seat : TalkingSeat A) (last : SeatContent A) 
   pub seen : HasSeen seat.seat last
   pub none : edits ≡ []
 
--- a write of an answer failed: it was cut off with the answers before it, but these went out whole; the fault tells how many bytes went out
+-- a write of an answer failed: it was cut off with the answers before it, but these went out whole; the fault reports how many bytes went out
 pub record IsAnswerCutOff (told answer : List ℕ) (old new : Option (List ℕ)) (written : ℕ) : Type 0 where
   pub sent : ℕ
   pub cut : IsCutOff old new (told ++ answer) sent
   pub before : length told ≤ sent
   pub count : written ≡ min sent most_counted
 
--- how a conversation ends in front of this rest, with these answers out before, and what it has made of the rest: by `quit`; at the end of
+-- how a conversation ends before this rest, with these answers out before, and what it has made of the rest: by `quit`; at the end of
 -- the input, after the answer to what comes after the last newline; where a read failed, with no whole line unanswered; where a write
 -- failed; where memory or a reader's entry was refused; or where the history has another number of the seat's edits than it made, which
 -- never comes where the seat alone makes them
@@ -109,7 +109,7 @@ TalkEnds seat last rest told edits input output output' (Err (Run Foreign)) = Is
 TalkEnds seat last rest told edits input output output' (Err _) = ⊥
 
 -- a seat's conversation, from the seat as it was to the seat as it is, and from what the reader has and the writer holds before to what they
--- have and hold afterwards: what left the reader is the lines that were answered, and the rest in front of which it ended. It begins with no
+-- have and hold afterwards: what left the reader is the lines that were answered, and the rest before which it ended. It begins with no
 -- draft, and one that is open at the end is lost
 pub record IsTalk {A : Type 0} (start last : SeatContent A) (input input' output output' : Option (List ℕ)) (result : Result (Unit {0}) ToolFault) : Type 0 where
   pub exchanges : List (Exchange A)

@@ -65,13 +65,9 @@ reply_to_edit no_memory stands edit = edit_reply (refused_reply stands.made (ref
 abbrev pub standing_after_edit : {A : Type 0} → Bool → Standing → Edit A → Standing
 standing_after_edit no_memory stands edit = standing_unless (refused_reply stands.made (refusal stands.movie edit)) no_memory stands edit
 
--- the reply to an edit, and what is made then
-abbrev pub IsEditTurn : {A : Type 0} → Standing → Edit A → Reply → Standing → Type 0
-IsEditTurn stands edit reply next = (no_memory : Bool) × (reply ≡ reply_to_edit no_memory stands edit) × (next ≡ standing_after_edit no_memory stands edit)
-
 -- ---- edits that depend on what the movie has
 
--- the reply to one, which no script has: where nothing refuses it and memory is there, its edit is made
+-- the reply to one, which is no line of `tas script`: where nothing refuses it and memory is there, its edit is made
 abbrev pub reply_to_retouch : Bool → Standing → Retouch → Reply
 reply_to_retouch no_memory stands retouch =
     edit_reply (refused_reply stands.made (retouch_refusal stands.movie retouch)) no_memory stands.made (length (edited stands.movie (retouch_of stands.movie.inputs retouch)).inputs)

@@ -65,7 +65,8 @@ fn hold<N: Name, C: CloseOnDrop, A: Allocator + Copy, T: Wait, D: Door + Drop>(
     seat_end(end)
 }
 
-/// Holds all conversations, each on a thread of its own.
+/// Holds all conversations, each on a thread of its own. One whose thread can't be started is held by this thread, once those after it
+/// have ended.
 pub fn converse_all<
     N: Name + Send + Sync,
     A: Allocator + Copy + Send + Sync,

@@ -1,4 +1,4 @@
-//! The ways to the other ends of seats.
+//! Connections to the programs that seats talk to.
 
 ghost use Rattle.std.specs.Prelude.{◌≡◌, IfOk, OnErr};
 ghost use Rattle.tas_seat.specs.Lines.{DoorFacts, unknown_facts};
@@ -6,7 +6,7 @@ ghost use Rattle.tas_seat.specs.Lines.{DoorFacts, unknown_facts};
 use std::io;
 use std::io::{Read, Write};
 
-/// The way to a seat's other end, which is opened once the seat's conversation begins, and closed when it has ended.
+/// A connection to the program that a seat talks to. It is opened once the seat's conversation begins, and closed when it has ended.
 pub trait Door {
     /// What the seat reads from.
     type Input: Read + Drop + Send + Sync;

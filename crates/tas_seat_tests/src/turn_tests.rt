@@ -129,7 +129,7 @@ fn missing_frames_are_told(rt: HostRuntime) {
     play(&rt, rt.alloc(), &MISSING);
 }
 
-/// Requests that no line asks for: the greatest number is no frame, either. `quit` is answered nothing.
+/// Requests that no line asks for: the greatest number is no frame, either. `quit` gets no answer.
 fn check_numbers<N: Name, W: CloseOnDrop, R: Wait + Abort>(
     rt: &R,
     alloc: Global,

@@ -25,7 +25,7 @@ subject_of Share = subject.Desk
 subject_of (History from) = subject.Desk
 subject_of _ = subject.Movie
 
--- a history of this many edits has as many as it had, or another number: which, where it has
+-- whether a history of `long` edits has another number than `at`; which, where it has
 abbrev pub HasMoved : ℕ → ℕ → Option ℕ → Type 0
 HasMoved at long None = long ≡ at
 HasMoved at long (Some now) = (long ≢ at) × (now ≡ long)
