@@ -55,7 +55,7 @@ IsFilmRun from to cart cart' input input' output output' result =
     (λ end. (image : List ℕ) × IsReadWhole cart cart' image × ((bytes : List ℕ) × IsReadWhole input input' bytes × Films from to image bytes output output' end))
     output output' result
 
--- the fault of a halted frame, and the one that tells why a film ended before its last frame. Private functions cite them
+-- the fault of a halted frame, and the one that reports why a film ended before its last frame. Private functions cite them
 abbrev pub halted_fault : ℕ → Halt → RunFault
 halted_fault frame (Undocumented at opcode) = HaltedFrame frame at opcode
 

@@ -63,7 +63,7 @@ pub record IsOwnHistory (state : TalkState) (edits : List EditContent) (from : �
   pub answer_is : answer ≡ (if no_memory then reply_text OutOfMemory else history_reply_text (length edits) from (take most_entries (drop from (own_entries edits))))
   pub rests : next ≡ state
 
--- the answer to a request at what was made and kept so far, and what is made and kept then. `quit` is answered nothing: it ends the
+-- the answer to a request at what was made and kept so far, and what is made and kept then. `quit` gets no answer: it ends the
 -- conversation
 abbrev pub IsAnswerTo : TalkState → List EditContent → Request → List ℕ → TalkState → Type 0
 IsAnswerTo state edits (Pictures from to) answer next = (strip : List StripAnswer) × (length strip ≡ to - from) × AreStrip state from strip next × (answer ≡ strip_answers strip)
@@ -159,7 +159,7 @@ IsFirstAnswer state rest answer = (exchange : Exchange) × (more : List ℕ) × 
 abbrev pub IsNextAnswer : DraftedState → List ℕ → Option (List ℕ) → List ℕ → Type 0
 IsNextAnswer state rest input answer = IsFirstAnswer state rest answer ⊎ (NoByte 10 rest × IsAtEnd input × (answer ≡ last_answer rest))
 
--- how a conversation ends in front of this rest, with these answers out before: by `quit`; at the end of the input, after the answer to what
+-- how a conversation ends before this rest, with these answers out before: by `quit`; at the end of the input, after the answer to what
 -- comes after the last newline; where a read failed, with no whole line unanswered; where a write failed; where memory or
 -- a reader's entry was refused; or before the first line, where the desk had no place
 abbrev pub TalkEnds : DraftedState → (rest told : List ℕ) → (input output output' : Option (List ℕ)) → Result (Unit {0}) ToolFault → Type 0
@@ -172,7 +172,7 @@ TalkEnds state rest told input output output' (Err (Run NoPlace)) = (rest ≡ []
 TalkEnds state rest told input output output' (Err _) = ⊥
 
 -- a conversation from such a state on, from what the reader has and the writer holds before to what they have and hold afterwards:
--- what left the reader is the lines that were answered, and the rest in front of which it ended
+-- what left the reader is the lines that were answered, and the rest before which it ended
 pub record IsTalk (start : DraftedState) (input input' output output' : Option (List ℕ)) (result : Result (Unit {0}) ToolFault) : Type 0 where
   pub exchanges : List Exchange
   pub state : DraftedState

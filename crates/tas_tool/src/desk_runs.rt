@@ -137,13 +137,14 @@ fn desk_on<
 }
 
 /// Reads a cartridge and a movie text, and holds a conversation at each door, 1 to [`MAX_SEATS`](tas_desk::MAX_SEATS) of them: all on
-/// this movie, each by a seat of its own on a thread of its own. Seat 0 makes the movie by two edits, numbers 0 and 1 of `history`, and
-/// each seat has seen them before its first line is answered. Once all conversations have ended it writes the text of the movie that
-/// all their edits have made. The doors come back, in their order.
+/// this movie, each by a seat of its own on a thread of its own. A conversation whose thread can't be started is held by the calling
+/// thread, once those after it have ended. Seat 0 makes the movie by two edits, numbers 0 and 1 of `history`, and each seat has seen them
+/// before its first line is answered. Once all conversations have ended it writes the text of the movie that all their edits have made.
+/// The doors come back, in their order.
 ///
 /// Faults, in order: those of [`read_two`](tas_engines::read_two), then those of [`movie_of`](tas_engines::movie_of); `Memory` and `NoPlace` for the desk; each of these before a door
 /// is opened. Then, with nothing undone, `Memory` for the text and `Write` for its write; and, with the movie written, `Seat`: the fault
-/// of the first seat whose conversation ended with one. `Foreign` never comes.
+/// of the least seat whose conversation ended with one. `Foreign` never comes.
 pub fn desk_run<
     A: Allocator + Copy + Send + Sync,
     T: Wait + Threads + Sync,

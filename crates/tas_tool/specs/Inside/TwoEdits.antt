@@ -52,7 +52,7 @@ next_edit A movie made = if made == 0 then Load movie.cart else Insert 0 movie.i
 abbrev pub IsUnrefused : (A : Type 0) → SeatContent A → MovieContent → Type 0
 IsUnrefused A seat movie = refusal_at seat.front seat.number seat.made (next_edit A movie seat.made) ≡ None
 
--- what a desk's answer to an export is reported as: one that tells of the movie's frames is compared with the two edits
+-- what a desk's answer to an export is reported as: one that reports on the movie's frames is compared with the two edits
 abbrev pub export_end : ℕ → ℕ → Result Exported ExportError → Result (Unit {0}) RunFault
 export_end from to (Ok exported) = checked_end 2 exported.at (Ok tt)
 export_end from to (Err (OffRange at len)) = checked_end 2 at (Err (Range from to len))
@@ -60,7 +60,7 @@ export_end from to (Err OutOfRoom) = Err Memory
 export_end from to (Err (HaltedAt at frame halt)) = checked_end 2 at (Err (halt_fault halt))
 export_end from to (Err (WriteFailed written error)) = Err (Write written)
 
--- an answer that tells of the movie's frames stands at just the seat's own edits, and one that tells of others' edits doesn't
+-- an answer that reports on the movie's frames stands at just the seat's own edits, and one that reports on others' edits doesn't
 abbrev pub StandsAtOwn : {A : Type 0} → SeatContent A → Result (Unit {0}) RunFault → Type 0
 StandsAtOwn seat (Ok _) = length seat.front ≡ seat.made
 StandsAtOwn seat (Err (Range from to len)) = length seat.front ≡ seat.made
