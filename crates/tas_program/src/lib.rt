@@ -16,6 +16,6 @@ pub use running::{carry_out, run_program, run_task};
 pub use status::Status;
 pub use streams::Streams;
 pub use tas_words::{
-    MAX_EVERY, MAX_FRAME_NUMBER, MAX_INSTRUCTIONS, MAX_WORKERS, MovieFiles, Pair, Pairs, Request,
-    Start, Task, USUAL_EVERY, read_request, read_words,
+    DEFAULT_EVERY, MAX_EVERY, MAX_FRAME_NUMBER, MAX_INSTRUCTIONS, MAX_WORKERS, MovieFiles, Pair,
+    Pairs, Request, Start, Task, read_request, read_words,
 };

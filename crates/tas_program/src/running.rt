@@ -57,7 +57,7 @@ fn run_script<T: Wait, A: Allocator + Copy, F: Folder, R: Read, W: Write>(
     }
 }
 
-/// Makes the lines of a script on the movie whose text is the input.
+/// Makes the edits of a script on the movie whose text is the input.
 fn run_edit<A: Allocator + Copy, F: Folder, R: Read, W: Write>(
     alloc: A,
     cart: &str,
@@ -232,8 +232,8 @@ pub fn run_task<
     )
 }
 
-/// Writes the line of a fault: as a whole, so that another program's lines come between two of them and not into one, and piece by
-/// piece where memory is refused for it.
+/// Writes the line of a fault in one write, so that lines of other programs don't come into its middle; piece by piece where memory
+/// is refused for it.
 fn write_line<A: Allocator, E: Write>(
     alloc: A,
     errors: &mut E,
@@ -246,7 +246,7 @@ fn write_line<A: Allocator, E: Write>(
 }
 
 /// The status of what was done; the line of a fault is written to `errors`.
-fn tell<A: Allocator, E: Write>(alloc: A, errors: &mut E, end: Result<(), ToolFault>) -> Status
+fn report<A: Allocator, E: Write>(alloc: A, errors: &mut E, end: Result<(), ToolFault>) -> Status
     ensures { result ≡ end_status end }
 {
     match end {
@@ -292,17 +292,17 @@ pub fn carry_out<
     match request {
         Request::Do(task) => {
             let end = run_task(rt, global, alloc, task, folder, streams);
-            tell(alloc, &mut streams.errors, end)
+            report(alloc, &mut streams.errors, end)
         }
         Request::Show(text) => {
             let end = show(&mut streams.output, text.as_str());
-            tell(alloc, &mut streams.errors, end)
+            report(alloc, &mut streams.errors, end)
         }
         Request::Refuse(text) => {
             let _ = write_all(&mut streams.errors, text.as_bytes());
             Status::Misuse
         }
-        Request::NoMemory => tell(
+        Request::NoMemory => report(
             alloc,
             &mut streams.errors,
             Err(ToolFault::Run(RunFault::Memory)),

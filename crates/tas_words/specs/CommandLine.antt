@@ -119,7 +119,7 @@ line_of shapes = record {
   subs = shapes;
 }
 
--- the files of the pairs of `tas desk`: of each pair but the first both names stand there or none
+-- the files of the pairs of `tas desk`; of each pair but the first both may be left out
 abbrev pub pair_rules : List Rule
 pair_rules =
     file_rule (codes "IN0") ∷ file_rule (codes "OUT0")

@@ -52,16 +52,16 @@ IsOptionalFrameWord rows name said = IsOptionalNumberWord rows name 0 most_numbe
 abbrev pub most_traced : ℕ
 most_traced = 1000000
 
--- the most frames of a stretch of a digest, and how many it has where the words don't say it
+-- the most frames of a stretch of a digest, and the default
 abbrev pub most_every : ℕ
 most_every = 262144
 
-abbrev pub usual_every : ℕ
-usual_every = 600
+abbrev pub default_every : ℕ
+default_every = 600
 
 -- the word EVERY is this number, or it is left out and the number is the usual one
 abbrev pub IsEvery : List Row → ℕ → Type 0
-IsEvery rows n = IsNumberWord rows (codes "EVERY") 1 most_every n ⊎ (HasNoWord rows (codes "EVERY") × (n ≡ usual_every))
+IsEvery rows n = IsNumberWord rows (codes "EVERY") 1 most_every n ⊎ (HasNoWord rows (codes "EVERY") × (n ≡ default_every))
 
 -- the words name what is started from: nothing, a cartridge, or a movie
 abbrev pub IsStart : List Row → Start → Type 0

@@ -69,8 +69,8 @@ pub(crate) const RAM_HELP: &str = "\
 Standard input is the movie text, as for 'tas check'.
 Standard output has a line 'K DIGITS' for each K from FROM to TO - 1: the 128 bytes of RAM after K
 frames from power-on, addresses 80 to FF, as 256 upper case hexadecimal digits. K is a number of
-frames: 0 is power-on, and TO is at most the movie's length and one. Frame K - 1 is the last one that
-is played before line K.
+frames: 0 is power-on, and TO is at most the movie's length plus one. Frame K - 1 is the last one
+that is played before line K.
 
 Example, address 80 after each of the first ten frames:
   examples/cart joystick > joystick.bin
@@ -181,7 +181,7 @@ next one is read, so that another program can hold the conversation. It has thes
   lag A B                    a line 'lag AT A B BYTES', then BYTES bytes: the lag frames of A to B - 1
   movie                      a line 'movie AT BYTES', then BYTES bytes: the movie's text
   states                     'states AT N' and the N frames after which a machine state is kept
-  share                      'share AT N': the states that 'work' kept, of any seat, are kept for shots, N more
+  share                      'share AT N': shots now use the states that any seat's 'work' kept: N more
   history FROM               a line 'history AT FROM COUNT BYTES', then BYTES bytes: edits from number FROM on,
                              lines 'NUMBER SEAT LINE', LINE as of a script; ask on from FROM + COUNT
   begin                      'begin AT LEN': a draft is opened; until it is committed or dropped, lines change

@@ -52,7 +52,7 @@ pub fn read_request<'a, A: Allocator>(
     }
 }
 
-/// The words, as the system gave them. Where it gave none, memory was refused or one is no text.
+/// The words, as the system gave them. Where it gave none, memory was refused, or a word isn't UTF-8.
 pub fn collect_words<A: Allocator>(
     alloc: A,
     words: io::Result<Args<A>>,

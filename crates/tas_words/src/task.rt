@@ -11,8 +11,8 @@ pub const MAX_FRAME_NUMBER: u32 = MAX_NUMBER as u32;
 /// The most frames of one stretch of a digest.
 pub const MAX_EVERY: u32 = 262_144;
 
-/// How many frames a stretch of a digest has, where the words don't say it.
-pub const USUAL_EVERY: u32 = 600;
+/// The default of EVERY: how many frames a line of a digest is for.
+pub const DEFAULT_EVERY: u32 = 600;
 
 /// The most workers of one export.
 pub const MAX_WORKERS: u32 = tas_film::MAX_WORKERS as u32;
@@ -143,7 +143,7 @@ pub enum Task<'a> {
         /// The name of the cartridge's file.
         cart: &'a str,
     },
-    /// Make the lines of a script on the movie on standard input.
+    /// Make the edits of a script on the movie on standard input.
     Edit {
         /// The name of the cartridge's file.
         cart: &'a str,

@@ -7,8 +7,8 @@ ghost use Rattle.tas_words.specs.CommandLine.{HasWordsOf, IsAsked, IsCommandLine
 
 use crate::command_line::command_line;
 use crate::{
-    MAX_EVERY, MAX_FRAME_NUMBER, MAX_INSTRUCTIONS, MAX_WORKERS, MovieFiles, Pair, Pairs, Start,
-    Task, USUAL_EVERY,
+    DEFAULT_EVERY, MAX_EVERY, MAX_FRAME_NUMBER, MAX_INSTRUCTIONS, MAX_WORKERS, MovieFiles, Pair,
+    Pairs, Start, Task,
 };
 use clap::error::ErrorKind;
 use clap::{ArgMatches, Command, Error};
@@ -74,7 +74,7 @@ fn every_of(matches: &ArgMatches<'_>) -> Option<usize>
 {
     match optional_number_of(matches, "EVERY", 1, MAX_EVERY)? {
         Some(every) => Some(every as usize),
-        None => Some(USUAL_EVERY as usize),
+        None => Some(DEFAULT_EVERY as usize),
     }
 }
 

@@ -1,4 +1,4 @@
-use Rattle.tas_program.proofs.running.tell.Goals as goal
+use Rattle.tas_program.proofs.running.report.Goals as goal
 
 pub returns-in-Err : goal.returns-in-Err
 returns-in-Err g c = rw c.in-Err.is
