@@ -1,6 +1,6 @@
 //! Strokes: edits that become one step of the history, all or none of them.
 
-ghost use Rattle.std.specs.Prelude.{◌≡◌, length, IfOk};
+ghost use Rattle.std.specs.Prelude.{◌≡◌, length};
 ghost use Rattle.tas_movie.specs.Content.{MovieContent};
 ghost use Rattle.tas_movie.specs.Edit.{IsAllowed, refusal, check_answer, edited};
 ghost use Rattle.tas_session.specs.Strokes.{edits_of, refusal_in};
