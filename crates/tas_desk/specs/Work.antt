@@ -1,5 +1,5 @@
 -- Jobs, what they made, and replies to work.
-use Rattle.std.specs.Prelude.{◌≡◌, ℕ, ◌+◌, ◌-◌, ◌*◌, ◌<◌, ◌≤◌, List, length, take, min, Option, Some, None, Result, Ok, Err}
+use Rattle.std.specs.Prelude.{◌≡◌, ℕ, ◌+◌, ◌*◌, ◌<◌, ◌≤◌, List, length, take, min, Option, Some, None, Result, Ok, Err}
 use mathlib.Core.List.{IsPrefix}
 use Rattle.tas_movie.specs.Content.{MovieContent}
 use Rattle.tas_green.specs.declared.savestate.Savestate.{Savestate}

@@ -25,7 +25,7 @@ pub use name::Name;
 pub use plan::Plan;
 pub use seat::Seat;
 pub use shared::Shared;
-pub use tas_film::{FilmStop, Gate, HaltedFrame, MAX_WORKERS, for_each_on_threads, write_film};
+pub use tas_film::{FilmStop, Gate, HaltedFrame, MAX_WORKERS, write_film};
 pub use tas_session::{
     Closed, CommitError, EditError, Entry, InputError, MAX_EDITS, NoEntry, OfferError, Offered,
     OpenError, Reached, Receipt, Session, Shot, ShotError, StateError, Stroke,

@@ -23,7 +23,7 @@ use crate::export::{ExportError, is_in_range};
 use crate::history::part_of;
 use crate::plan::planned;
 use crate::{
-    Closed, CommitError, EditError, Entry, History, Name, OfferError, Offered, Plan, Receipt, Seat,
+    Closed, CommitError, EditError, History, Name, OfferError, Offered, Plan, Receipt, Seat,
     Session, Shared, Stroke,
 };
 use std::alloc::{AllocError, Allocator, Global};
