@@ -18,7 +18,7 @@ pub struct Caller<N: Name, D, A: Allocator = Global> {
     pub seat: Seat<N, A>,
     /// The door.
     pub door: D,
-    /// How the conversation ended.
+    /// How the conversation ended; `Ok` before it is held.
     pub end: Result<(), SeatFault>,
 }
 
@@ -42,6 +42,7 @@ pub fn seat_end(end: Result<(), ToolFault>) -> Result<(), SeatFault>
         Err(ToolFault::Run(RunFault::Write { written })) => Err(SeatFault::Write { written }),
         Err(ToolFault::Run(RunFault::NoEntry)) => Err(SeatFault::NoEntry),
         Err(ToolFault::Run(RunFault::Memory)) => Err(SeatFault::Memory),
+        // `Foreign`: `converse` ends with no other of these, and with no `Seat`.
         Err(ToolFault::Run(_)) => Err(SeatFault::Foreign),
         Err(ToolFault::Seat { seat: _, fault }) => Err(fault),
     }

@@ -139,6 +139,7 @@ fn moved_from<N: Name, W: CloseOnDrop, A: Allocator + Copy, R: Wait>(
         Ok(_) => Ok(None),
         Err(CommitError::Moved { at }) => Ok(Some(at)),
         Err(CommitError::Refused(error)) => {
+            // Only `Serial` comes here; that `Full` doesn't is no clause of `commit`.
             refused_as(error)?;
             Ok(None)
         }

@@ -1,6 +1,6 @@
 //! Looks at a draft: its frames, the machine after some of them, and its kept states.
 
-ghost use Rattle.std.specs.Prelude.{◌≡◌, MatchResult};
+ghost use Rattle.std.specs.Prelude.{MatchResult};
 ghost use Rattle.tas_language.specs.declared.request.Request.TheVariants.{Picture as PictureLine, Ram as RamLine, Digest as DigestLine, Lag as LagLine, Movie as MovieLine, States as StatesLine};
 ghost use Rattle.tas_seat.specs.Drafts.{IsDraftAnswered};
 ghost use Rattle.tas_seat.specs.Inside.Drafting.{IsDraftShot, IsDraftStateFor, HasNoDraftAnswer};
