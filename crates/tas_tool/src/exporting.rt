@@ -20,15 +20,8 @@ use std::sync::Wait;
 use std::thread::Threads;
 use tas_desk::{CloseOnDrop, Desk, ExportError, Exported, Gate, MAX_WORKERS, Name, Seat, Unopened};
 use tas_engines::{RunFault, ToolFault, halt_fault, movie_of, read_two};
+use tas_film::Plan;
 use tas_movie::Movie;
-
-/// Which frames are written, from `from` to the one before `to`, and by how many workers.
-#[derive(Clone, Copy)]
-struct Frames {
-    from: usize,
-    to: usize,
-    workers: usize,
-}
 
 /// A gate that stands open.
 struct OpenGate;
@@ -72,7 +65,7 @@ fn write_frames<
     alloc: A,
     desk: &Desk<N, C, A>,
     seat: &mut Seat<N, A>,
-    frames: Frames,
+    frames: Plan,
     output: &mut W,
 ) -> Result<(), RunFault>
     requires two { (seat.old.made ≡ 2) × (2 ≤ length seat.old.front) }
@@ -86,7 +79,7 @@ fn write_frames<
         (λ fault. fault ≡ Memory
         → IsInRange (length (movie_of seat.new.front).inputs) frames.from frames.to) }
 {
-    let Frames { from, to, workers } = frames;
+    let Plan { from, to, workers } = frames;
     let answer = desk.export(rt, alloc, seat, from, to, workers, &OpenGate, output);
     export_end(from, to, answer)
 }
@@ -104,7 +97,7 @@ fn export_made<
     desk: &Desk<N, C, A>,
     seat: &mut Seat<N, A>,
     movie: &Movie<A>,
-    frames: Frames,
+    frames: Plan,
     output: &mut W,
 ) -> Result<(), RunFault>
     requires first { (seat.old.number ≡ 0) × (seat.old.made ≡ 0) × (seat.old.front ≡ []) }
@@ -126,7 +119,7 @@ fn export_from_desk<N: Name, A: Allocator + Copy + Send + Sync, R: Wait + Thread
     alloc: A,
     unopened: Unopened<A>,
     movie: &Movie<A>,
-    frames: Frames,
+    frames: Plan,
     output: &mut W,
 ) -> Result<(), RunFault>
     requires name { unopened ≡ name_of N.registry N.name N.parts }
@@ -146,7 +139,7 @@ fn export_from_desk<N: Name, A: Allocator + Copy + Send + Sync, R: Wait + Thread
 fn export_movie<A: Allocator + Copy + Send + Sync, R: Wait + Threads + Sync, W: Write>(
     rt: &R,
     alloc: A,
-    frames: Frames,
+    frames: Plan,
     image: &[u8],
     bytes: &[u8],
     output: &mut W,
@@ -192,7 +185,7 @@ pub fn export_run<
         (W.contents output.new) result }
 {
     let (image, bytes) = read_two(alloc, cart, input)?;
-    let frames = Frames {
+    let frames = Plan {
         from,
         to,
         workers: workers.clamp(1, MAX_WORKERS),

@@ -1,6 +1,6 @@
 //! Conversations on one desk, from seats and doors to the closed desk.
 
-ghost use Rattle.std.specs.Prelude.{◌≡◌, ◌≤◌, ◌<◌, ℕ, [], length, map, IfOk, IfErr, OnOk, slice_index_or};
+ghost use Rattle.std.specs.Prelude.{◌≡◌, ◌<◌, ℕ, length, map, IfOk, IfErr, OnOk, slice_index_or};
 ghost use mathlib.Core.List.{IsPrefix};
 ghost use Rattle.tas_session.specs.History.{movie_of};
 ghost use Rattle.tas_desk.specs.Seats.{KeepsZone};
@@ -112,6 +112,7 @@ fn gather<N: Name, A: Allocator, D: Door + Drop>(
         callers.push_reserved(Caller {
             seat,
             door,
+            // It isn't held yet.
             end: Ok(()),
         });
     }

@@ -21,7 +21,7 @@ pub use filming::film_run;
 pub use movie_scripting::movie_script_run;
 pub use scripting::script_run;
 pub use talk_runs::{cart_talk_run, movie_talk_run, talk_run};
-pub use tas_desk::{MAX_SEATS, MAX_WORKERS};
+pub use tas_desk::MAX_SEATS;
 pub use tas_engines::{
     INPUT_LIMIT, ReadFault, RunFault, SeatFault, ToolFault, check_run, compare_run, cut_run,
     diff_run, digest_run, edit_run, edit_with_run, lag_run, migrate_run, ram_run, shot_run,
