@@ -15,7 +15,4 @@ pub use folder::Folder;
 pub use running::{carry_out, run_program, run_task};
 pub use status::Status;
 pub use streams::Streams;
-pub use tas_words::{
-    DEFAULT_EVERY, MAX_EVERY, MAX_FRAME_NUMBER, MAX_INSTRUCTIONS, MAX_WORKERS, MovieFiles, Pair,
-    Pairs, Request, Start, Task, read_request, read_words,
-};
+pub use tas_words::{Pair, Request, Start, Task, read_words};
