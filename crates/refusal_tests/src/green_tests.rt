@@ -193,7 +193,7 @@ fn seek(
             let drawn = green.shot(movie, 383, picture, meter)?;
             drawn.is_ok() && shows(picture, meter, 256) && is_full(green)
         }
-        // The zone is cut behind frame 100, so that its state after 128 frames goes.
+        // The zone is cut after frame 100, so that its state after 128 frames goes.
         Seeking::ShotFrom => {
             let drawn = green.shot_from(movie, other, 383, picture, meter)?;
             drawn.is_ok() && shows(picture, meter, 320) && is_full(green)

@@ -19,9 +19,11 @@ pub struct Append {
 }
 
 impl<A: Allocator> Plan<A> for Append {
-    ghost refusal_in = { λ plan movie. insert_refusal (length movie.inputs) (length movie.inputs) plan.count };
+    ghost refusal_in = { λ plan movie.
+        insert_refusal (length movie.inputs) (length movie.inputs) plan.count };
 
-    ghost edit_in = { λ plan movie. Insert (length movie.inputs) (replicate plan.count plan.input) };
+    ghost edit_in = { λ plan movie.
+        Insert (length movie.inputs) (replicate plan.count plan.input) };
 
     fn check(&self, len: usize) -> Result<(), EditRefusal> {
         check_insertion(len, len, self.count)

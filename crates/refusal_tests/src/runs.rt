@@ -44,7 +44,7 @@ impl Run {
         match (has_refused, is_right) {
             (true, true) => Run::Refused,
             (false, true) => Run::Done,
-            (true, false) => Run::Wrong("wrong behind the refusal"),
+            (true, false) => Run::Wrong("wrong after the refusal"),
             (false, false) => Run::Wrong("wrong, and nothing was refused"),
         }
     }

@@ -19,7 +19,7 @@ use vcs_machine::{Input, Meter};
 enum Turn {
     /// The first edit of all, an insertion.
     First,
-    /// The first edit of seat 1, behind four of seat 0.
+    /// The first edit of seat 1, after four of seat 0.
     Edit(Change),
     /// A shot of frame 383, where two states are kept.
     Shot,

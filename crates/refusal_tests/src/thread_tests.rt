@@ -254,7 +254,7 @@ fn check_pictures<R: Abort>(rt: &R, sums: &[u64]) {
 /// doubles at the fifth and at the ninth. Five shots have 5 of their pictures, and six jobs, two in each work and one in each offer, 12 of their
 /// cartridges and inputs. The desk's list of states and those of three zones have 4, and the list of the first job that keeps a state 1. A
 /// movie's copy has 2: a shot or a share makes one where its seat's zone is of another history, so the first one of each seat does, and each one
-/// behind an edit of the seat: 7 of them, with 14.
+/// after an edit of the seat: 7 of them, with 14.
 const LEAST_GROWTHS: u64 = 44;
 
 /// How many they have at most. It depends on who comes first: up to three jobs may find no state kept, and the last shot of the first seat

@@ -17,7 +17,8 @@ pub struct FirstOver {
 }
 
 impl Plan<Global> for FirstOver {
-    ghost refusal_in = { λ plan movie. place_refusal (length movie.inputs) plan.place (plan.place + 1) };
+    ghost refusal_in = { λ plan movie.
+        place_refusal (length movie.inputs) plan.place (plan.place + 1) };
 
     ghost edit_in = { λ plan movie. Replace plan.place (take 1 movie.inputs) };
 
@@ -44,9 +45,11 @@ pub struct Append {
 }
 
 impl Plan<Global> for Append {
-    ghost refusal_in = { λ plan movie. insert_refusal (length movie.inputs) (length movie.inputs) plan.count };
+    ghost refusal_in = { λ plan movie.
+        insert_refusal (length movie.inputs) (length movie.inputs) plan.count };
 
-    ghost edit_in = { λ plan movie. Insert (length movie.inputs) (replicate plan.count plan.input) };
+    ghost edit_in = { λ plan movie.
+        Insert (length movie.inputs) (replicate plan.count plan.input) };
 
     fn check(&self, len: usize) -> Result<(), EditRefusal> {
         check_insertion(len, len, self.count)

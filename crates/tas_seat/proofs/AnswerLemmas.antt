@@ -31,7 +31,7 @@ use Rattle.tas_seat.specs.Requests.{PictureLeaves, Gains, GainsUnless, answer_to
 use Rattle.tas_seat.specs.HistoryText.{history_reply_text}
 use Rattle.tas_seat.specs.Seats.{talk_state_at, most_entries, IsAnswered}
 use Rattle.tas_seat.specs.Outcomes.{unshown_as, IsEditAnswered, IsMiscounted, IsUnanswered, HasAnswer, HasNoAnswer}
-use Rattle.tas_seat.proofs.SeatLemmas.{seen_same, looked_at, rests, green_at, views_at, gains_at, answered_here}
+use Rattle.tas_seat.proofs.SeatLemmas.{looked_at, rests, green_at, views_at, gains_at, answered_here}
 use Rattle.tas_seat.proofs.TextLemmas.{text_or_memory, made_or_memory, reply_or_fault}
 
 -- ---- answers and faults
@@ -57,7 +57,7 @@ pub shown_answered : {X A : Type 0} (before now : SeatContent A) (request : Requ
 shown_answered {X} {A} before now request shown r bytes_of is told = reply_or_fault (HasAnswer A before now request) (HasNoAnswer before now request) shown r bytes_of is told (λ text has. inr (text, has))
 
 pub unanswered : {A : Type 0} (before now : SeatContent A) (request : Request) (fault : RunFault) → IsUnanswered before now fault → HasNoAnswer before now request fault
-unanswered before now request NoEntry is = seen_same before now is
+unanswered before now request NoEntry is = inl is
 unanswered before now request Foreign is = is
 unanswered before now request Memory is = absurd is
 unanswered before now request (Write written) is = absurd is
@@ -114,7 +114,7 @@ shown_frame movie k within = rw (lt-ltb k (length movie.inputs) within) refl
 -- a view without a picture
 pub undrawn : (A : Type 0) (before now : SeatContent A) (k : ℕ) (error : ShotError) → HasSeen before now → IsShotAt {B = A} now.front k (Err error) → IsZoneViewed {B = A} before now k (Err error)
     → MatchResult (unshown_as error) (λ reply. HasAnswer A before now (Picture k) (reply_text reply)) (HasNoAnswer before now (Picture k))
-undrawn A before now k NoShotEntry seen shown zone = seen
+undrawn A before now k NoShotEntry seen shown zone = inl zone
 undrawn A before now k (NoShotFrame at len) seen shown zone =
     told_frame A before now k false None (reply_text (NoFrame at len)) seen shown.0
     (ap (λ (n : ℕ). reply_text (NoFrame n len)) shown.1 ∙ ap (λ (n : ℕ). reply_text (NoFrame (length now.front) n)) shown.2) (rests before now now.front now.front zone)
@@ -175,6 +175,10 @@ share_answered A before now at gained answer seen here shared is =
     let gains : Gains (talk_state_at now.front before.zone) (talk_state_at now.front now.zone) =
     record { green = green_at now.zone now.front shared.made; other = shared.other; others = shared.others; gained = gained; gain = shared.gain } in
     ([], answered_here A before now Share answer seen (false, (gains, is ∙ ap (λ (n : ℕ). share_text n gained) here), refl))
+
+-- memory was refused for the answer
+pub lost_share : (A : Type 0) (before now : SeatContent A) (at gained : ℕ) (fault : RunFault) → fault ≡ Memory → HasSeen before now → at ≡ length now.front → IsShared before.zone now.zone now.front gained → HasNoAnswer before now Share fault
+lost_share A before now at gained fault is seen here shared = subst (HasNoAnswer before now Share) (sym is) (inr (share_text at gained, share_answered A before now at gained (share_text at gained) seen here shared refl))
 
 pub unshared_share : (A : Type 0) (before now : SeatContent A) → HasSeen before now → now.zone ≡ before.zone → HasAnswer A before now Share (reply_text OutOfMemory)
 unshared_share A before now seen zone = ([], answered_here A before now Share (reply_text OutOfMemory) seen (true, (refl, rests before now now.front now.front zone), refl))

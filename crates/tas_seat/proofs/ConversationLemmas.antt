@@ -1,6 +1,6 @@
 -- Answers of conversations, in a draft and outside one.
 use Rattle.std.proofs.Common.{◌≡◌, ℕ, ◌+◌, List, [], ◌∷◌, ◌++◌, length, Bool, true, false, Option, Some, None, Result, Ok, Err, inl, inr, refl, sym, ap, subst, ◌∙◌, arith, append-nil, ◌<◌, ◌≤◌}
-use Rattle.std.specs.Prelude.{MatchResult, ◌≢◌, ◌==◌, nat_lt, is_some, if◌then◌else◌}
+use Rattle.std.specs.Prelude.{MatchResult, ◌≢◌, ◌==◌, nat_lt, is_some, is_none, if◌then◌else◌}
 use Rattle.std.proofs.lemmas.Bool.{false≢true, eq-eqb, ne_eqb, eqb-true}
 use Rattle.std.proofs.lemmas.Bool.Decides.{nat_tests}
 use mathlib.Core.List.{IsPrefix}
@@ -21,10 +21,10 @@ use Rattle.tas_engines.specs.declared.fault.RunFault.TheVariants.{Memory, Foreig
 use Rattle.tas_language.specs.declared.reply.Reply.{Reply}
 use Rattle.tas_language.specs.declared.reply.Reply.TheVariants.{Full, Place as PlaceReply, Long as LongReply, OutOfMemory}
 use Rattle.tas_language.specs.Replies.{reply_text}
-use Rattle.tas_language.specs.declared.draft_reply.DraftReply.TheVariants.{Began, Committed, Moved as MovedReply}
+use Rattle.tas_language.specs.declared.draft_reply.DraftReply.TheVariants.{Began, Committed, Moved as MovedReply, Dropped}
 use Rattle.tas_language.specs.Drafts.{draft_reply_text}
 use Rattle.tas_language.specs.declared.request.Request.{Request}
-use Rattle.tas_language.specs.declared.request.Request.TheVariants.{Begin, Commit}
+use Rattle.tas_language.specs.declared.request.Request.TheVariants.{Begin, Commit, Drop}
 use Rattle.tas_session.specs.Strokes.{entries_by, refusal_in, refused_as as refused_stroke, commit_refusal_at}
 use Rattle.tas_desk.specs.Commits.{IsCommitted as IsDeskCommit}
 use Rattle.tas_session.specs.declared.replies.CommitError.{CommitError}
@@ -453,5 +453,11 @@ refusal_fault A before mid now draft here stroke error r fault looked tells was 
     (strange.0, strange_later before mid now looked.seen strange.1)
 
 -- a commit that isn't carried out
-pub no_outcome : {A : Type 0} (before now : TalkingSeat A) (fault : RunFault) → (fault ≡ Foreign) × IsMiscounted before.seat now.seat → HasNoTalkAnswer before now Commit fault
-no_outcome before now fault is = subst (HasNoTalkAnswer before now Commit) (sym is.0) is.1
+pub no_outcome : {A : Type 0} (before now : TalkingSeat A) (fault : RunFault) → now.draft ≡ before.draft → (fault ≡ Foreign) × IsMiscounted before.seat now.seat → HasNoTalkAnswer before now Commit fault
+no_outcome before now fault same is = subst (HasNoTalkAnswer before now Commit) (sym is.0) (is.1, same)
+
+-- ---- `drop`
+
+pub dropped : (A : Type 0) (seat : SeatContent A) (draft : Option DraftContent) → is_none draft ≡ false → HasTalkAnswer A (talking seat draft) (talking seat None) Drop (draft_reply_text Dropped)
+dropped A seat None is = absurd (false≢true (sym is))
+dropped A seat (Some draft) is = ([], (refl, refl, record { same = refl; none = refl }))

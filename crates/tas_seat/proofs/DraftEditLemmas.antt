@@ -1,5 +1,5 @@
 -- Changes of drafts, and lines of a script at drafts.
-use Rattle.std.proofs.Common.{◌≡◌, ℕ, ◌+◌, ◌≤◌, List, [], ◌∷◌, length, filter, Bool, true, false, Option, Some, None, inl, inr, refl, sym, ap, subst, ◌∙◌, arith}
+use Rattle.std.proofs.Common.{◌≡◌, ℕ, ◌+◌, ◌≤◌, List, [], ◌∷◌, length, min, filter, Bool, true, false, Option, Some, None, inl, inr, refl, sym, ap, subst, ◌∙◌, arith}
 use Rattle.std.specs.Prelude.{◌==◌, if◌then◌else◌, slice_get}
 use Rattle.std.proofs.lemmas.Bool.{eq-eqb, eqb-true}
 use Rattle.std.proofs.lemmas.Option.{slice_get_past}
@@ -9,7 +9,7 @@ use Rattle.tas_movie.specs.declared.edit.Edit.{Edit}
 use Rattle.tas_movie.specs.declared.edit.EditRefusal.{EditRefusal}
 use Rattle.tas_movie.specs.Edit.{edited, edited_unless, edited_place, refusal}
 use Rattle.tas_green.specs.declared.savestate.Savestate.{Savestate}
-use Rattle.tas_green.specs.Green.{is_left}
+use Rattle.tas_green.specs.Green.{is_left, IsReachedFrom}
 use Rattle.tas_session.specs.History.{most_edits}
 use Rattle.tas_session.specs.Session.{left_by}
 use Rattle.tas_engines.specs.Retouching.{taken_by, retouch_with}
@@ -192,9 +192,9 @@ pub work_kept : (before d : DraftContent) (states : List Savestate) (k : ℕ) �
 work_kept before d states k is same = work_refused before (with_states d states) k (ap (with_states d) same ∙ is)
 
 pub work_answered : (before d : DraftContent) (states : List Savestate) (k kept : ℕ) → d ≡ before → length states ≡ length d.states + kept → Gains (draft_state d) (state_with d states)
-    → IsDraftReply before (with_states d states) (Do (Work k)) (Worked 1 kept 0)
-work_answered before d states k kept is count gains =
+    → (ran : ℕ) × IsReachedFrom d.movie d.movie (min k (length d.movie.inputs)) d.states states 0 ran → IsDraftReply before (with_states d states) (Do (Work k)) (Worked 1 kept 0)
+work_answered before d states k kept is count gains reached =
     subst (λ (x : DraftContent). IsDraftReply x (with_states d states) (Do (Work k)) (Worked 1 kept 0)) is (
       looked d (with_states d states) (Do (Work k)) (reply_text (Worked 1 kept 0)) refl (Worked 1 kept 0, (record { refused = false; ran = 0; kept = kept; stale = 0 }, refl, refl), refl, gains),
-      inr (kept, refl, count),
+      inr (kept, reached.0, refl, count, reached.1),
     )

@@ -4,7 +4,7 @@ use Rattle.std.proofs.lemmas.List.{append-nil, length-append}
 use Rattle.tas_engines.specs.declared.fault.RunFault.{RunFault}
 use Rattle.tas_engines.specs.declared.fault.RunFault.TheVariants.{Memory}
 use Rattle.tas_language.specs.declared.request.Request.TheVariants.{Picture, Pictures}
-use Rattle.tas_seat.specs.Drafts.{DraftContent, DraftPicture, AreDraftPictures, draft_pictures, IsAnsweredInDraft, IsDraftAnswered, IsDraftLookedAt}
+use Rattle.tas_seat.specs.Drafts.{DraftContent, DraftPicture, AreDraftPictures, draft_pictures, IsAnsweredInDraft, IsDraftAnswered, IsDraftLookedAt, KeepsDraft}
 use Rattle.tas_seat.specs.Inside.Drafting.{HasNoDraftAnswer}
 use Rattle.tas_seat.proofs.DraftLemmas.{looked_same}
 
@@ -69,9 +69,14 @@ strip_answered before now from to frame bytes shown end = (shown.strip, shown.ma
 
 -- memory was refused for the strip after a picture
 pub strip_without_memory : (before mid now : DraftContent) (from to frame : ℕ) (more : List ℕ) (fault : RunFault) → fault ≡ Memory → IsDraftLookedAt before mid → IsDraftAnswered mid (Picture frame) more now → HasNoDraftAnswer before now (Pictures from to) fault
-strip_without_memory before mid now from to frame more fault is seen told = (is, inl (looked_more before mid now seen (picture_looked mid now frame more told)))
+strip_without_memory before mid now from to frame more fault is seen told = (is, inl (inr (tt, looked_more before mid now seen (picture_looked mid now frame more told))))
+
+-- one picture is no strip
+kept_looked : (before now : DraftContent) (frame : ℕ) → KeepsDraft (Picture frame) before now → IsDraftLookedAt before now
+kept_looked before now frame (inl same) = subst (IsDraftLookedAt before) (sym same) (looked_same before)
+kept_looked before now frame (inr strip) = absurd strip.0
 
 -- a picture of it isn't told
 pub strip_unanswered : (before mid now : DraftContent) (from to frame : ℕ) (fault : RunFault) → IsDraftLookedAt before mid → HasNoDraftAnswer mid now (Picture frame) fault → HasNoDraftAnswer before now (Pictures from to) fault
-strip_unanswered before mid now from to frame fault seen (is, inl more) = (is, inl (looked_more before mid now seen more))
-strip_unanswered before mid now from to frame fault seen (is, inr told) = (is, inl (looked_more before mid now seen (picture_looked mid now frame told.0 told.1)))
+strip_unanswered before mid now from to frame fault seen (is, inl kept) = (is, inl (inr (tt, looked_more before mid now seen (kept_looked mid now frame kept))))
+strip_unanswered before mid now from to frame fault seen (is, inr told) = (is, inl (inr (tt, looked_more before mid now seen (picture_looked mid now frame told.0 told.1))))

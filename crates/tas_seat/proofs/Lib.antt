@@ -16,4 +16,5 @@ pub mod CommitLemmas
 pub mod DraftLemmas
 pub mod DraftEditLemmas
 pub mod DraftStripLemmas
+pub mod DraftWorkLemmas
 pub mod StrokeLemmas

@@ -140,7 +140,7 @@ unreached : (A : Type 0) (before now : SeatContent A) (request : Request) (from 
     → ((from ≤ to → to ≤ length (movie_of now.front).inputs → ⊥) → now.zone ≡ before.zone → HasAnswer A before now request (reply_text (NoFrame (length now.front) (length (movie_of now.front).inputs))))
     → (from ≤ to → to ≤ length (movie_of now.front).inputs → now.zone ≡ before.zone → HasAnswer A before now request (reply_text OutOfMemory))
     → MatchResult (unshown_as (shot_error error)) (λ reply. HasAnswer A before now request (reply_text reply)) (HasNoAnswer before now request)
-unreached A before now request from to NoStateEntry seen reply zone few lost = seen
+unreached A before now request from to NoStateEntry seen reply zone few lost = inl zone
 unreached A before now request from to (FewFrames at len) seen reply zone few lost =
     subst (λ (n : ℕ). HasAnswer A before now request (reply_text (NoFrame n len))) (sym reply.0)
     (subst (λ (n : ℕ). HasAnswer A before now request (reply_text (NoFrame (length now.front) n))) (sym reply.1)

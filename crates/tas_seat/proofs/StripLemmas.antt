@@ -8,8 +8,8 @@ use Rattle.tas_engines.specs.declared.fault.RunFault.TheVariants.{NoEntry, Memor
 use Rattle.tas_language.specs.declared.request.Request.TheVariants.{Picture, Pictures}
 use Rattle.tas_seat.specs.Turns.{standing_of}
 use Rattle.tas_seat.specs.Seats.{IsAnsweredAt, StripAnswer, AreStrip, strip_answers}
-use Rattle.tas_seat.specs.Outcomes.{HasAnswer, HasNoAnswer}
-use Rattle.tas_seat.proofs.SeatLemmas.{seen_self, seen_more, seen_after, strange_later, made_nothing}
+use Rattle.tas_seat.specs.Outcomes.{KeepsSeat, HasAnswer, HasNoAnswer}
+use Rattle.tas_seat.proofs.SeatLemmas.{seen_self, seen_same, seen_more, seen_after, strange_later, made_nothing}
 
 -- ---- one frame
 
@@ -77,14 +77,19 @@ strip_answered A before now from to frame bytes shown end = ([], (refl, shown.st
 
 -- memory was refused for a strip: some of its pictures may be drawn
 pub strip_without_memory : (A : Type 0) (before now : SeatContent A) (from to : ℕ) (fault : RunFault) → fault ≡ Memory → HasSeen before now → HasNoAnswer before now (Pictures from to) fault
-strip_without_memory A before now from to fault is seen = subst (HasNoAnswer before now (Pictures from to)) (sym is) (inl seen)
+strip_without_memory A before now from to fault is seen = subst (HasNoAnswer before now (Pictures from to)) (sym is) (inl (inr (tt, seen)))
+
+-- one picture is no strip
+kept_seen : {A : Type 0} (before now : SeatContent A) (frame : ℕ) → KeepsSeat (Picture frame) before now → HasSeen before now
+kept_seen before now frame (inl same) = seen_same before now same
+kept_seen before now frame (inr strip) = absurd strip.0
 
 -- a picture of it isn't told
 pub strip_unanswered : (A : Type 0) (before mid now : SeatContent A) (from to frame : ℕ) (fault : RunFault) → HasSeen before mid → HasNoAnswer mid now (Picture frame) fault → HasNoAnswer before now (Pictures from to) fault
-strip_unanswered A before mid now from to frame NoEntry seen is = seen_more before mid now seen is
+strip_unanswered A before mid now from to frame NoEntry seen is = inr (tt, seen_more before mid now seen (kept_seen mid now frame is))
 strip_unanswered A before mid now from to frame Foreign seen is = strange_later before mid now seen is
-strip_unanswered A before mid now from to frame Memory seen (inl more) = inl (seen_more before mid now seen more)
-strip_unanswered A before mid now from to frame Memory seen (inr told) = inl (seen_more before mid now seen (picture_seen A mid now frame told.0 told.1))
+strip_unanswered A before mid now from to frame Memory seen (inl kept) = inl (inr (tt, seen_more before mid now seen (kept_seen mid now frame kept)))
+strip_unanswered A before mid now from to frame Memory seen (inr told) = inl (inr (tt, seen_more before mid now seen (picture_seen A mid now frame told.0 told.1)))
 strip_unanswered A before mid now from to frame (Write written) seen is = absurd is
 strip_unanswered A before mid now from to frame (Size n) seen is = absurd is
 strip_unanswered A before mid now from to frame (Text error) seen is = absurd is

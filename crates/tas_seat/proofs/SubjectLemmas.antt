@@ -12,7 +12,6 @@ use Rattle.tas_seat.specs.Drafts.{DraftContent, IsDraft, IsDraftAnswered, IsDraf
 use Rattle.tas_seat.specs.Conversations.{TalkingSeat, talking}
 use Rattle.tas_seat.specs.Inside.Conversing.{subject_of}
 use Rattle.tas_seat.specs.Outcomes.{HasAnswer, HasNoAnswer, IsAboutTalk, HasTalkAnswer, HasNoTalkAnswer}
-use Rattle.tas_seat.proofs.SeatLemmas.{seen_self}
 
 -- ---- what a request's subject says of it
 
@@ -109,29 +108,29 @@ movie_answered_inside A seat draft next Quit answer is told sound = absurd (cc i
 
 -- why a request isn't answered outside a draft, where one that is answered is one of the conversation
 pub unanswered_talk : (A : Type 0) (before now : TalkingSeat A) (request : Request) (fault : RunFault) → ((answer : List ℕ) → HasAnswer A before.seat now.seat request answer → HasTalkAnswer A before now request answer)
-    → HasNoAnswer before.seat now.seat request fault → HasNoTalkAnswer before now request fault
-unanswered_talk A before now request NoEntry of is = is
-unanswered_talk A before now request Foreign of is = is
-unanswered_talk A before now request Memory of (inl seen) = inl seen
-unanswered_talk A before now request Memory of (inr (answer, told)) = inr (answer, of answer told)
-unanswered_talk A before now request (Write written) of is = absurd is
-unanswered_talk A before now request (Size n) of is = absurd is
-unanswered_talk A before now request (Text error) of is = absurd is
-unanswered_talk A before now request (OffMovie frame len) of is = absurd is
-unanswered_talk A before now request (OffRange from to len) of is = absurd is
-unanswered_talk A before now request (Stopped at opcode) of is = absurd is
-unanswered_talk A before now request (StoppedFrame frame at opcode) of is = absurd is
-unanswered_talk A before now request (Script number) of is = absurd is
-unanswered_talk A before now request (Place number) of is = absurd is
-unanswered_talk A before now request (Long number) of is = absurd is
-unanswered_talk A before now request NoPlace of is = absurd is
+    → now.draft ≡ before.draft → HasNoAnswer before.seat now.seat request fault → HasNoTalkAnswer before now request fault
+unanswered_talk A before now request NoEntry of same is = inl (is, same)
+unanswered_talk A before now request Foreign of same is = (is, same)
+unanswered_talk A before now request Memory of same (inl kept) = inl (inl (kept, same))
+unanswered_talk A before now request Memory of same (inr (answer, told)) = inr (answer, of answer told)
+unanswered_talk A before now request (Write written) of same is = absurd is
+unanswered_talk A before now request (Size n) of same is = absurd is
+unanswered_talk A before now request (Text error) of same is = absurd is
+unanswered_talk A before now request (OffMovie frame len) of same is = absurd is
+unanswered_talk A before now request (OffRange from to len) of same is = absurd is
+unanswered_talk A before now request (Stopped at opcode) of same is = absurd is
+unanswered_talk A before now request (StoppedFrame frame at opcode) of same is = absurd is
+unanswered_talk A before now request (Script number) of same is = absurd is
+unanswered_talk A before now request (Place number) of same is = absurd is
+unanswered_talk A before now request (Long number) of same is = absurd is
+unanswered_talk A before now request NoPlace of same is = absurd is
 
 -- ---- requests and their results
 
 -- a request about the movie, at the draft
 unanswered_inside : (A : Type 0) (seat : SeatContent A) (draft next : DraftContent) (request : Request) → subject_of request ≡ AboutMovie → IsDraftUnanswered draft request next → IsDraft next
     → HasNoTalkAnswer (talking seat (Some draft)) (talking seat (Some next)) request Memory
-unanswered_inside A seat draft next request is (inl looked) sound = inl (seen_self seat)
+unanswered_inside A seat draft next request is (inl kept) sound = inl (inr (refl, draft, next, refl, refl, kept))
 unanswered_inside A seat draft next request is (inr (answer, told)) sound = inr (answer, movie_answered_inside A seat draft next request answer is told sound)
 
 pub inside_said : {X : Type 0} (A : Type 0) (seat : SeatContent A) (draft next : DraftContent) (request : Request) (r : Result (Option X) RunFault) (bytes_of : X → List ℕ) → subject_of request ≡ AboutMovie
@@ -149,7 +148,7 @@ pub outside_said : {X : Type 0} (A : Type 0) (before now : SeatContent A) (reque
 outside_said A before now request (Ok None) bytes_of is told = absurd ((of_subject request AboutMovie is).1 told.0)
 outside_said A before now request (Ok (Some bytes)) bytes_of is told = movie_answered_outside A before now request (bytes_of bytes) is told
 outside_said A before now request (Err fault) bytes_of is told =
-    unanswered_talk A (talking before None) (talking now None) request fault (λ answer has. movie_answered_outside A before now request answer is has) told
+    unanswered_talk A (talking before None) (talking now None) request fault (λ answer has. movie_answered_outside A before now request answer is has) refl told
 
 -- a request about the desk, in a draft or outside one
 pub desk_said : {X : Type 0} (A : Type 0) (before now : SeatContent A) (draft : Option DraftContent) (request : Request) (r : Result (Option X) RunFault) (bytes_of : X → List ℕ) → subject_of request ≡ AboutDesk
@@ -159,7 +158,7 @@ pub desk_said : {X : Type 0} (A : Type 0) (before now : SeatContent A) (draft : 
 desk_said A before now draft request (Ok None) bytes_of is told = absurd (of_subject request AboutDesk is told.0)
 desk_said A before now draft request (Ok (Some bytes)) bytes_of is told = desk_answered A before now draft request (bytes_of bytes) is told
 desk_said A before now draft request (Err fault) bytes_of is told =
-    unanswered_talk A (talking before draft) (talking now draft) request fault (λ answer has. desk_answered A before now draft request answer is has) told
+    unanswered_talk A (talking before draft) (talking now draft) request fault (λ answer has. desk_answered A before now draft request answer is has) refl told
 
 -- a request about the movie is answered something
 pub movie_said : {X A : Type 0} (before now : TalkingSeat A) (request : Request) (r : Result (Option X) RunFault) (bytes_of : X → List ℕ)

@@ -1,5 +1,5 @@
 -- Drafts: changes of a movie that a conversation gathers before it makes them as one step, and the answers to lines meanwhile.
-use Rattle.std.specs.Prelude.{codes, ◌≡◌, ℕ, ◌+◌, ◌-◌, ◌≤◌, ◌==◌, List, [], ◌∷◌, length, take, drop, reverse, if◌then◌else◌, ◌⊎◌}
+use Rattle.std.specs.Prelude.{codes, ◌≡◌, ℕ, ◌+◌, ◌-◌, ◌≤◌, ◌==◌, List, [], ◌∷◌, length, take, drop, reverse, min, if◌then◌else◌, ◌⊎◌}
 use Rattle.std.specs.List.{flat_map}
 use Rattle.vcs_machine.specs.declared.input.Input.{Input}
 use Rattle.tas_movie.specs.Content.{MovieContent}
@@ -8,7 +8,7 @@ use Rattle.tas_movie.specs.declared.edit.Edit.TheVariants.{Insert, Replace, Dele
 use Rattle.tas_movie.specs.Edit.{IsAllowed, edited}
 use Rattle.tas_movie.specs.Front.{IsCommonFront}
 use Rattle.tas_green.specs.declared.savestate.Savestate.{Savestate}
-use Rattle.tas_green.specs.Green.{IsLawful}
+use Rattle.tas_green.specs.Green.{IsLawful, IsReachedFrom}
 use Rattle.tas_session.specs.History.{most_edits}
 use Rattle.tas_session.specs.Session.{left_by}
 use Rattle.tas_language.specs.declared.command.Command.TheVariants.{Load, Work}
@@ -85,19 +85,21 @@ AreDraftPictures draft from (shown ∷ strip) last = IsAnsweredInDraft draft (Pi
 abbrev pub draft_pictures : List DraftPicture → List ℕ
 draft_pictures strip = flat_map (λ shown. shown.answer) strip
 
--- nobody else keeps states for a draft. So `work` is one job with no stale state, and reports how many states more are kept then; where memory is
--- refused for it the same are kept
-abbrev pub IsDraftWork : DraftContent → List ℕ → DraftContent → Type 0
-IsDraftWork draft answer draft' =
-    ((answer ≡ reply_text OutOfMemory) × (draft'.states ≡ draft.states)) ⊎ ((kept : ℕ) × (answer ≡ reply_text (Worked 1 kept 0)) × (length draft'.states ≡ length draft.states + kept))
+-- nobody else keeps states for a draft. So `work k` is one job with no stale state: the states are kept that playing up to frame k leaves, or up to
+-- the movie's end, and the answer has how many more these are; where memory is refused for it the same are kept as before
+abbrev pub IsDraftWork : DraftContent → ℕ → List ℕ → DraftContent → Type 0
+IsDraftWork draft k answer draft' =
+    ((answer ≡ reply_text OutOfMemory) × (draft'.states ≡ draft.states))
+    ⊎ ((kept ran : ℕ) × (answer ≡ reply_text (Worked 1 kept 0)) × (length draft'.states ≡ length draft.states + kept)
+    × IsReachedFrom draft.movie draft.movie (min k (length draft.movie.inputs)) draft.states draft'.states 0 ran)
 
 -- a request is answered at a draft. A draft has the cartridge of the movie that it began with, so a line that loads one has no place in
--- it. `movie` and `states` leave its greenzone. `history`, `share` and `quit` aren't about a draft
+-- it. `movie` and `states` leave its greenzone. `history` and `share` are about the desk, and `begin`, `commit`, `drop` and `quit` about the conversation
 abbrev pub IsDraftAnswered : DraftContent → Request → List ℕ → DraftContent → Type 0
 IsDraftAnswered draft (Do (Load image)) answer draft' = (answer ≡ in_draft_text) × (draft' ≡ draft)
 IsDraftAnswered draft (Pictures from to) answer draft' =
     (strip : List DraftPicture) × (length strip ≡ to - from) × AreDraftPictures draft from strip draft' × (answer ≡ draft_pictures strip)
-IsDraftAnswered draft (Do (Work k)) answer draft' = IsAnsweredInDraft draft (Do (Work k)) answer draft' × IsDraftWork draft answer draft'
+IsDraftAnswered draft (Do (Work k)) answer draft' = IsAnsweredInDraft draft (Do (Work k)) answer draft' × IsDraftWork draft k answer draft'
 IsDraftAnswered draft Movie answer draft' = IsAnsweredInDraft draft Movie answer draft' × (draft'.states ≡ draft.states)
 IsDraftAnswered draft States answer draft' = IsAnsweredInDraft draft States answer draft' × (draft'.states ≡ draft.states)
 IsDraftAnswered draft Share answer draft' = ⊥
@@ -113,15 +115,24 @@ IsAboutDesk Drop = Unit {0}
 IsAboutDesk Quit = Unit {0}
 IsAboutDesk _ = ⊥
 
+-- a line that asks for several pictures
+abbrev pub IsStrip : Request → Type 0
+IsStrip (Pictures from to) = Unit {0}
+IsStrip _ = ⊥
+
 -- nothing was changed, but some pictures of a strip may have been drawn: the greenzone may have other states of the movie
 pub record IsDraftLookedAt (draft draft' : DraftContent) : Type 0 where
   pub at : draft'.at ≡ draft.at
   pub base : draft'.base ≡ draft.base
   pub stands : draft_standing draft' ≡ draft_standing draft
 
+-- what a request that isn't answered leaves: the draft as it was, but that some pictures of a strip may have been drawn
+abbrev pub KeepsDraft : Request → DraftContent → DraftContent → Type 0
+KeepsDraft request draft draft' = (draft' ≡ draft) ⊎ (IsStrip request × IsDraftLookedAt draft draft')
+
 -- memory was refused for an answer: nothing was changed; or the request was carried out
 abbrev pub IsDraftUnanswered : DraftContent → Request → DraftContent → Type 0
-IsDraftUnanswered draft request draft' = IsDraftLookedAt draft draft' ⊎ ((answer : List ℕ) × IsDraftAnswered draft request answer draft')
+IsDraftUnanswered draft request draft' = KeepsDraft request draft draft' ⊎ ((answer : List ℕ) × IsDraftAnswered draft request answer draft')
 
 -- ---- what a draft comes to
 

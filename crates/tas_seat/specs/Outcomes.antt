@@ -24,6 +24,7 @@ use Rattle.tas_seat.specs.Edits.{made_between}
 use Rattle.tas_seat.specs.Turns.{Standing, standing_of, refused_reply, edit_reply, standing_unless, halted_reply}
 use Rattle.tas_seat.specs.Requests.{drawn_digest}
 use Rattle.tas_seat.specs.Seats.{IsSeatAfter, IsRequestAnswered}
+use Rattle.tas_seat.specs.Drafts.{DraftContent, IsStrip, KeepsDraft}
 use Rattle.tas_seat.specs.Conversations.{TalkingSeat, IsTalkAnswered}
 use Rattle.tas_seat.specs.Inside.EditRequests.{requested_refusal, requested_edit}
 
@@ -77,12 +78,16 @@ IsUnanswered before now _ = ⊥
 abbrev pub HasAnswer : (A : Type 0) → SeatContent A → SeatContent A → Request → List ℕ → Type 0
 HasAnswer A before now request answer = (edits : List (Edit A)) × IsRequestAnswered A before now request answer edits
 
+-- what a request that isn't answered leaves: the seat as it was, but that some pictures of a strip may have been drawn
+abbrev pub KeepsSeat : {A : Type 0} → Request → SeatContent A → SeatContent A → Type 0
+KeepsSeat request before now = (now ≡ before) ⊎ (IsStrip request × HasSeen before now)
+
 -- why a request isn't answered: as a command, but that a strip may have been drawn in part; or it was carried out, and memory was refused for its
 -- answer
 abbrev pub HasNoAnswer : {A : Type 0} → SeatContent A → SeatContent A → Request → RunFault → Type 0
-HasNoAnswer before now request NoEntry = HasSeen before now
+HasNoAnswer before now request NoEntry = KeepsSeat request before now
 HasNoAnswer before now request Foreign = IsMiscounted before now
-HasNoAnswer {A} before now request Memory = HasSeen before now ⊎ ((answer : List ℕ) × HasAnswer A before now request answer)
+HasNoAnswer {A} before now request Memory = KeepsSeat request before now ⊎ ((answer : List ℕ) × HasAnswer A before now request answer)
 HasNoAnswer before now request _ = ⊥
 
 -- requests about the conversation itself, its draft and its end, of which no desk knows
@@ -97,9 +102,13 @@ IsAboutTalk _ = ⊥
 abbrev pub HasTalkAnswer : (A : Type 0) → TalkingSeat A → TalkingSeat A → Request → List ℕ → Type 0
 HasTalkAnswer A before now request answer = (edits : List (Edit A)) × IsTalkAnswered A before.seat before.draft now request answer edits
 
+-- what it leaves where it isn't: seat and draft as they were, but that some pictures of a strip may have been drawn, of the draft where one is open
+abbrev pub KeepsTalk : {A : Type 0} → Request → TalkingSeat A → TalkingSeat A → Type 0
+KeepsTalk request before now = (KeepsSeat request before.seat now.seat × (now.draft ≡ before.draft)) ⊎ ((now.seat ≡ before.seat) × (old next : DraftContent) × (before.draft ≡ Some old) × (now.draft ≡ Some next) × KeepsDraft request old next)
+
 -- why it isn't: as a request of a seat alone
 abbrev pub HasNoTalkAnswer : {A : Type 0} → TalkingSeat A → TalkingSeat A → Request → RunFault → Type 0
-HasNoTalkAnswer before now request NoEntry = HasSeen before.seat now.seat
-HasNoTalkAnswer before now request Foreign = IsMiscounted before.seat now.seat
-HasNoTalkAnswer {A} before now request Memory = HasSeen before.seat now.seat ⊎ ((answer : List ℕ) × HasTalkAnswer A before now request answer)
+HasNoTalkAnswer before now request NoEntry = KeepsTalk request before now
+HasNoTalkAnswer before now request Foreign = IsMiscounted before.seat now.seat × (now.draft ≡ before.draft)
+HasNoTalkAnswer {A} before now request Memory = KeepsTalk request before now ⊎ ((answer : List ℕ) × HasTalkAnswer A before now request answer)
 HasNoTalkAnswer before now request _ = ⊥

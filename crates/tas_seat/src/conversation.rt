@@ -192,19 +192,16 @@ fn answer_commit<N: Name, W: CloseOnDrop, A: Allocator + Copy, R: Wait>(
         CommitLine bytes.items)
         (HasNoTalkAnswer (talking seat.old draft.old) (talking seat.new draft.new) CommitLine) }
 {
-    let Some(opened) = draft.take() else {
+    let Some(opened) = draft else {
         return answer_about_draft(alloc, DraftReply::NoDraft);
     };
-    match make_stroke(rt, alloc, desk, seat, &opened)? {
-        Outcome::Made(reply) => answer_about_draft(alloc, reply),
-        Outcome::Moved(reply) => {
-            *draft = Some(opened);
+    match make_stroke(rt, alloc, desk, seat, opened)? {
+        Outcome::Made(reply) => {
+            *draft = None;
             answer_about_draft(alloc, reply)
         }
-        Outcome::Refused(reply) => {
-            *draft = Some(opened);
-            answer_of_reply(alloc, reply)
-        }
+        Outcome::Moved(reply) => answer_about_draft(alloc, reply),
+        Outcome::Refused(reply) => answer_of_reply(alloc, reply),
     }
 }
 
@@ -233,7 +230,8 @@ fn answer_in_draft<A: Allocator + Copy>(
         (λ found. MatchOption found ⊥
         (λ bytes. HasTalkAnswer A (talking seat (Some opened.old)) (talking seat (Some opened.new))
         request bytes.items))
-        (HasNoTalkAnswer (talking seat (Some opened.old)) (talking seat (Some opened.new)) request) }
+        (HasNoTalkAnswer (talking seat (Some opened.old)) (talking seat (Some opened.new))
+        request) }
 {
     opened.answer(alloc, request)
 }

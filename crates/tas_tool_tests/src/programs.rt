@@ -27,7 +27,8 @@ impl<'a> Folder for TwoFiles<'a> {
 
     type Sink = Taker;
 
-    ghost bytes_of = { λ s name. Some (if pointwise nat_eq name (codes "game.bin") then s.game.now else s.other.now) };
+    ghost bytes_of = { λ s name. Some
+        (if pointwise nat_eq name (codes "game.bin") then s.game.now else s.other.now) };
 
     fn open(&self, name: &str) -> io::Result<&'a [u8]> {
         if name == "game.bin" {

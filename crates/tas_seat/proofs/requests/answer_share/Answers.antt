@@ -1,7 +1,8 @@
+use Rattle.std.proofs.lemmas.Result.{err_from_is_err_and}
 use Rattle.tas_language.specs.declared.reply.Reply.TheVariants.{OutOfMemory}
 use Rattle.tas_language.specs.Replies.{reply_text}
 use Rattle.tas_language.specs.declared.request.Request.TheVariants.{Share}
-use Rattle.tas_seat.proofs.AnswerLemmas.{told_text, share_answered, unshared_share}
+use Rattle.tas_seat.proofs.AnswerLemmas.{told_text, share_answered, lost_share, unshared_share}
 use Rattle.tas_seat.proofs.requests.answer_share.Goals as goal
 
 pub returns-in_default : goal.returns-in_default
@@ -12,3 +13,8 @@ returns-in_default g c =
 pub returns : goal.returns
 returns g c =
     share_answered g.row.A.Denot c.args.seat.now c.bring.new.seat c.in-Ok.shared.at c.in-Ok.shared.gained c.in_ok-share_answer.field-0.items c.bring.ensures.seat c.in-Ok.ensures.at c.in-Ok.ensures.zone c.in_ok-share_answer.ensures
+
+pub returns-in_err-share_answer : goal.returns-in_err-share_answer
+returns-in_err-share_answer g c =
+    let p = err_from_is_err_and c.from_residual.result c.from_residual.ensures.1 in
+    rw p.1 (lost_share g.row.A.Denot c.args.seat.now c.bring.new.seat c.in-Ok.shared.at c.in-Ok.shared.gained p.0 p.2 c.bring.ensures.seat c.in-Ok.ensures.at c.in-Ok.ensures.zone)
