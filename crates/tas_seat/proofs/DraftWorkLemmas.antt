@@ -58,22 +58,31 @@ filled movie k front old now states cart inputs s start lawful is-cart is is-str
   where
     end : ℕ
     end = min k (length movie.inputs)
+
     from : ℕ
     from = nearest end old
+
     step : ℕ
     step = stride (length movie.inputs)
+
     le : end ≤ length movie.inputs
     le = min-le_right k (length movie.inputs)
+
     rise : end - from + from ≡ end
     rise = let low : from ≤ end = nearest_le end old in omega (arith, low)
+
     shown : ℕ → Option State
     shown f = Some (after movie.cart (take f inputs))
+
     long : length inputs ≡ end
     long = ap length is ∙ length-take-le end movie.inputs le
+
     last : front ≡ end
     last = whole_front movie.inputs end front le (subst (λ (l : List Input). IsCommonFront l movie.inputs front) is common)
+
     played : (f : ℕ) → state_at f states ≡ where_true (is_passed step from (length inputs) f) (shown f)
     played f = rw (is-cart, is-stride, is-start) at batch f
+
     gained : (f : ℕ) → where_true (is_on_grid step front f) (state_at f states) ≡ where_true (is_passed step from end f) (Some (state_after movie f))
     gained f =
         ap (where_true (is_on_grid step front f)) (played f)
@@ -81,5 +90,6 @@ filled movie k front old now states cart inputs s start lawful is-cart is is-str
         ∙ ap (λ (n : ℕ). where_true (is_on_grid step end f) (where_true (is_passed step from n f) (shown f))) long
         ∙ passed_once step from end f (shown f)
         ∙ passed_same step from end f (shown f) (Some (state_after movie f)) (λ within. ap (λ (l : List Input). Some (after movie.cart l)) (ap (take f) is ∙ take-take f end movie.inputs within))
+
     kept : (f : ℕ) → state_at f now ≡ first_of (state_at f old) (where_true (is_passed step from end f) (Some (state_after movie f)))
     kept f = merged f ∙ ap (first_of (state_at f old)) (gained f)
