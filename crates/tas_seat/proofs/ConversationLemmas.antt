@@ -1,6 +1,6 @@
 -- Answers of conversations, in a draft and outside one.
 use Rattle.std.proofs.Common.{◌≡◌, ℕ, ◌+◌, List, [], ◌∷◌, ◌++◌, length, Bool, true, false, Option, Some, None, Result, Ok, Err, inl, inr, refl, sym, ap, subst, ◌∙◌, arith, append-nil, ◌<◌, ◌≤◌}
-use Rattle.std.specs.Prelude.{MatchResult, ◌≢◌, ◌==◌, nat_lt, is_some, is_none, if◌then◌else◌}
+use Rattle.std.specs.Prelude.{MatchResult, ◌≢◌, ◌==◌, nat_lt, is_some, if◌then◌else◌}
 use Rattle.std.proofs.lemmas.Bool.{false≢true, eq-eqb, ne_eqb, eqb-true}
 use Rattle.std.proofs.lemmas.Bool.Decides.{nat_tests}
 use mathlib.Core.List.{IsPrefix}
@@ -458,6 +458,6 @@ no_outcome before now fault same is = subst (HasNoTalkAnswer before now Commit) 
 
 -- ---- `drop`
 
-pub dropped : (A : Type 0) (seat : SeatContent A) (draft : Option DraftContent) → is_none draft ≡ false → HasTalkAnswer A (talking seat draft) (talking seat None) Drop (draft_reply_text Dropped)
+pub dropped : (A : Type 0) (seat : SeatContent A) (draft : Option DraftContent) → true ≡ is_some draft → HasTalkAnswer A (talking seat draft) (talking seat None) Drop (draft_reply_text Dropped)
 dropped A seat None is = absurd (false≢true (sym is))
 dropped A seat (Some draft) is = ([], (refl, refl, record { same = refl; none = refl }))

@@ -212,10 +212,9 @@ fn answer_drop<A: Allocator>(alloc: A, draft: &mut Option<Draft<A>>) -> Result<V
         bytes.items)
         (HasNoTalkAnswer (talking seat draft.old) (talking seat draft.new) DropLine) }
 {
-    if draft.is_none() {
+    if draft.take().is_none() {
         return answer_about_draft(alloc, DraftReply::NoDraft);
     }
-    *draft = None;
     answer_about_draft(alloc, DraftReply::Dropped)
 }
 

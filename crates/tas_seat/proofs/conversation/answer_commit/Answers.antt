@@ -1,4 +1,4 @@
-use Rattle.std.proofs.Common.{refl, Some, None}
+use Rattle.std.proofs.Common.{refl, sym, Some, None}
 use Rattle.tas_language.specs.Replies.{reply_text}
 use Rattle.tas_language.specs.Drafts.{draft_reply_text}
 use Rattle.tas_language.specs.declared.request.Request.TheVariants.{Commit}
@@ -14,15 +14,15 @@ returns-in-Made g c =
 
 pub returns-in-Moved : goal.returns-in-Moved
 returns-in-Moved g c =
-    said_of c.args.seat.now c.make_stroke.new.seat c.args.draft.now _ (Some _) _ Commit (draft_reply_text c.in-Moved.reply) c.answer_about_draft-in-Moved.result (λ bytes. bytes.items) c.in-Some.is c.in-Some.is
+    said_of c.args.seat.now c.make_stroke.new.seat c.args.draft.now _ (Some c.in-Some.opened) _ Commit (draft_reply_text c.in-Moved.reply) c.answer_about_draft-in-Moved.result (λ bytes. bytes.items) c.in-Some.is refl
     c.answer_about_draft-in-Moved.ensures (rw c.in-Moved.is at c.in_ok-reply.ensures)
 
 pub returns-in_err-reply : goal.returns-in_err-reply
 returns-in_err-reply g c =
     let p = err_from_is_err_and c.from_residual.result c.from_residual.ensures.1 in
-    rw (p.1, p.2) (no_outcome (talking c.args.seat.now c.args.draft.now) (talking c.make_stroke.new.seat _) c.in_err-reply.field-0.0 refl c.in_err-reply.ensures)
+    rw (p.1, p.2) (no_outcome (talking c.args.seat.now c.args.draft.now) (talking c.make_stroke.new.seat (Some c.in-Some.opened)) c.in_err-reply.field-0.0 (sym c.in-Some.is) c.in_err-reply.ensures)
 
 pub returns-in-Refused : goal.returns-in-Refused
 returns-in-Refused g c =
-    said_of c.args.seat.now c.make_stroke.new.seat c.args.draft.now _ (Some _) _ Commit (reply_text c.in-Refused.reply) c.answer_of_reply.result (λ bytes. bytes.items) c.in-Some.is c.in-Some.is
+    said_of c.args.seat.now c.make_stroke.new.seat c.args.draft.now _ (Some c.in-Some.opened) _ Commit (reply_text c.in-Refused.reply) c.answer_of_reply.result (λ bytes. bytes.items) c.in-Some.is refl
     c.answer_of_reply.ensures (rw c.in-Refused.is at c.in_ok-reply.ensures)
