@@ -1,6 +1,6 @@
 //! Doors of the tests, and desks over them.
 
-ghost use Rattle.std.specs.Prelude.{◌≤◌, length};
+ghost use Rattle.std.specs.Prelude.{◌≡◌, ◌≤◌, [], length, false, Some, None};
 ghost use Rattle.tas_desk.specs.Seats.{most_seats};
 
 use crate::checks::{check_that, expect_ok};
@@ -50,6 +50,13 @@ impl Door for TestDoor {
     type Input = Giver<'static>;
 
     type Output = Taker;
+
+    ghost facts = { record {
+      given = λ door. None;
+      held = λ door. Some [];
+      left = λ door input output. output ≡ Some door.written.items;
+      refused = λ door. door.opens ≡ false;
+    } };
 
     fn open(&mut self) -> io::Result<(Giver<'static>, Taker)> {
         if !self.opens {
