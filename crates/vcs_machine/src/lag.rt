@@ -32,7 +32,7 @@ use vcs_tia::Tia;
 pub(crate) struct Noted {
     /// The frame is over after it.
     pub over: bool,
-    /// It ignored the input.
+    /// It ignored the input and, of a frame's last step, no press sets a latch after it.
     pub ignored: bool,
     /// The halt that came in its place, if one did.
     pub halt: Option<Halt>,
@@ -69,7 +69,8 @@ fn ignores_input<O: Observer>(regs: &Regs, bus: &ConsoleBus<'_, O>) -> bool
     !(bus.tia.latches_presses() | reads_watched(regs, bus))
 }
 
-/// One step of a frame, and whether it ignored the input.
+/// One step of a frame, and whether it ignored the input; of the last one also whether no press sets a latch
+/// after it.
 fn step_noting<O: Observer>(regs: &mut Regs, bus: &mut ConsoleBus<'_, O>) -> Noted
     requires { now_of bus.old < end_time }
     ensures led { LeadsTo O.observe regs.old (content_of bus.old) result regs.new
