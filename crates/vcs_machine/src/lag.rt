@@ -121,6 +121,7 @@ fn run_noting<O: Observer>(regs: &mut Regs, bus: &mut ConsoleBus<'_, O>) -> (Opt
             return (noted.halt, ignored);
         }
     }
+    // Not reached: a frame ends within these steps.
     (None, ignored)
 }
 
