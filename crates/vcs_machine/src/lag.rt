@@ -96,7 +96,7 @@ fn step_noting<O: Observer>(regs: &mut Regs, bus: &mut ConsoleBus<'_, O>) -> Not
     }
 }
 
-/// Steps until the frame ends, and answers the halt that ended it if one did, and whether all steps ignored the
+/// Steps until the frame ends, and returns the halt that ended it if one did, and whether all steps ignored the
 /// input. Then the chips don't lag behind any more.
 fn run_noting<O: Observer>(regs: &mut Regs, bus: &mut ConsoleBus<'_, O>) -> (Option<Halt>, bool)
     requires low { now_of bus.old < first_time + line_cycles }

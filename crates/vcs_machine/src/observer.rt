@@ -27,7 +27,7 @@ pub(crate) trait Observer {
         ensures tia { tia.new ≡ after_clocks clocks tia.old }
         ensures seen { seen self.new ≡ observe (trace clocks tia.old) (seen self.old) };
 
-    /// Whether it looks at the clocks at all; if not, it sees the same whatever they draw. `true` says
+    /// Whether it looks at the clocks at all; if not, it sees the same whatever they draw. `true` proves
     /// nothing.
     fn looks(&self) -> bool
         ensures { result ≡ false → (n : ℕ) (t u : Tia)

@@ -53,7 +53,7 @@ pub(crate) fn after_wait(now: u32, owed: bool) -> u32
     }
 }
 
-/// The offset from the time where VSYNC has ended the frame.
+/// The offset of the count: `LATE` where VSYNC has ended the frame, else 0.
 #[inline(always)]
 pub(crate) fn late_where(rose: bool) -> u32
     ensures late { rose ≡ true → result ≡ most_offset }
