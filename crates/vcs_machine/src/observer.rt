@@ -1,7 +1,7 @@
 //! What observes the colour clocks that pass on the bus.
 #![tactic(auto)]
 
-ghost use Rattle.std.specs.Prelude.{◌≡◌, ℕ, ◌+◌, ◌<◌, List, [], ◌++◌, true, false};
+ghost use Rattle.std.specs.Prelude.{◌≡◌, ℕ, ◌+◌, ◌<◌, List, [], ◌++◌, false};
 ghost use Rattle.vcs_tia.specs.Beam.{most_beam_clocks};
 ghost use Rattle.vcs_tia.specs.Tia.{clocks_passed, read_at};
 ghost use Rattle.vcs_tia.specs.Trace.{after_clocks, trace, drawn};
