@@ -106,7 +106,8 @@ fn run_noting<O: Observer>(regs: &mut Regs, bus: &mut ConsoleBus<'_, O>) -> (Opt
           halt = result.0;
           observed = chips_of bus.new;
         }) }
-    ensures ignored { result.1 ≡ is_ignored_within O.observe most_instructions regs.old (content_of bus.old) }
+    ensures ignored { result.1
+        ≡ is_ignored_within O.observe most_instructions regs.old (content_of bus.old) }
     ensures thirds { clocks_passed bus.new.tia.now % 3 ≡ 0 }
     ensures fixed { fixed_of bus.new ≡ fixed_of bus.old }
 {
