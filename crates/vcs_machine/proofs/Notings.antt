@@ -11,7 +11,7 @@ use Rattle.vcs_tia.specs.Tia.{latches_presses, clocks_passed, clock_of}
 use Rattle.vcs_tia.specs.Trace.{after_clocks}
 use Rattle.vcs_tia.proofs.Later.{fire-after_clocks}
 use Rattle.vcs_machine.specs.declared.input.Input.{Input}
-use Rattle.vcs_machine.specs.declared.lag.Noted.{Noted}
+use Rattle.vcs_machine.specs.declared.lag.LagStep.{LagStep}
 use Rattle.vcs_machine.specs.Bus.{Observed, nothing_seen}
 use Rattle.vcs_machine.specs.Step.{console_step}
 use Rattle.vcs_machine.specs.Frame.{FrameEnd, end_within, end_or_next, is_frame_over}
@@ -45,7 +45,7 @@ module _ {Seen : Type 0} (observe : List Tia → Seen → Seen) where
   }
 
   -- a step after which the frame is over, or goes on
-  abbrev noted_of : Bool → Bool → Bool → Noted
+  abbrev noted_of : Bool → Bool → Bool → LagStep
   noted_of over ignored latches = record { over = over; ignored = ignored && not (over && latches); halt = None }
 
   abbrev after_step : ℕ → Regs → Observed Seen → Bool → Option (FrameEnd Seen)
@@ -89,7 +89,7 @@ module _ {Seen : Type 0} (observe : List Tia → Seen → Seen) where
     pub come-nowhere : HasComeNoting observe first start 12160 first start true
     come-nowhere = record { come = refl; noted = refl }
 
-    module _ (r s : Regs) (o p : Observed Seen) (ignored : Bool) (k n : ℕ) (noted : Noted) (come : HasComeNoting observe first start k r o ignored) (led : LeadsTo observe r o noted s p) (more : k ≡ suc n) where
+    module _ (r s : Regs) (o p : Observed Seen) (ignored : Bool) (k n : ℕ) (noted : LagStep) (come : HasComeNoting observe first start k r o ignored) (led : LeadsTo observe r o noted s p) (more : k ≡ suc n) where
       here : end_within observe (suc n) r o ≡ end_within observe 12160 first start
       here = ap (λ j. end_within observe j r o) (sym more) ∙ come.come
 

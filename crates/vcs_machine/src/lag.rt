@@ -29,7 +29,7 @@ use vcs_tia::Tia;
 
 /// What is noted of a step.
 #[derive(Clone, Copy)]
-pub(crate) struct Noted {
+pub(crate) struct LagStep {
     /// The frame is over after it.
     pub over: bool,
     /// It ignored the input and, of a frame's last step, no press sets a latch after it.
@@ -71,7 +71,7 @@ fn ignores_input<O: Observer>(regs: &Regs, bus: &ConsoleBus<'_, O>) -> bool
 
 /// One step of a frame, and whether it ignored the input; of the last one also whether no press sets a latch
 /// after it.
-fn step_noting<O: Observer>(regs: &mut Regs, bus: &mut ConsoleBus<'_, O>) -> Noted
+fn lag_step<O: Observer>(regs: &mut Regs, bus: &mut ConsoleBus<'_, O>) -> LagStep
     requires { now_of bus.old < end_time }
     ensures led { LeadsTo O.observe regs.old (content_of bus.old) result regs.new
         (content_of bus.new) }
@@ -80,14 +80,14 @@ fn step_noting<O: Observer>(regs: &mut Regs, bus: &mut ConsoleBus<'_, O>) -> Not
 {
     let ignored = ignores_input(regs, bus);
     match console_step(regs, bus) {
-        Err(halt) => Noted {
+        Err(halt) => LagStep {
             over: true,
             ignored,
             halt: Some(halt),
         },
         Ok(_cycles) => {
             let over = is_frame_over(bus);
-            Noted {
+            LagStep {
                 over,
                 ignored: ignored & !(over & bus.tia.latches_presses()),
                 halt: None,
@@ -98,7 +98,7 @@ fn step_noting<O: Observer>(regs: &mut Regs, bus: &mut ConsoleBus<'_, O>) -> Not
 
 /// Steps until the frame ends, and returns the halt that ended it if one did, and whether all steps ignored the
 /// input. Then the chips don't lag behind any more.
-fn run_noting<O: Observer>(regs: &mut Regs, bus: &mut ConsoleBus<'_, O>) -> (Option<Halt>, bool)
+fn run_for_lag<O: Observer>(regs: &mut Regs, bus: &mut ConsoleBus<'_, O>) -> (Option<Halt>, bool)
     requires low { now_of bus.old < first_time + line_cycles }
     ensures ended { end_within O.observe most_instructions regs.old (content_of bus.old)
         ≡ Some (record {
@@ -115,7 +115,7 @@ fn run_noting<O: Observer>(regs: &mut Regs, bus: &mut ConsoleBus<'_, O>) -> (Opt
     let mut left = MOST_INSTRUCTIONS;
     while left > 0 {
         left -= 1;
-        let noted = step_noting(regs, bus);
+        let noted = lag_step(regs, bus);
         ignored &= noted.ignored;
         if noted.over {
             bus.catch_up();
@@ -153,7 +153,7 @@ fn run_chips_noting(
 {
     let mut nobody = Nobody;
     let mut bus = ConsoleBus::new(rom, pins, riot, tia, &mut nobody);
-    run_noting(regs, &mut bus)
+    run_for_lag(regs, &mut bus)
 }
 
 /// Plays one frame without a picture, as [`play_unseen`](crate::play_unseen) does, and returns whether it is a

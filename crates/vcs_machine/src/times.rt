@@ -55,7 +55,7 @@ pub(crate) fn after_wait(now: u32, owed: bool) -> u32
 
 /// The offset of the count: `LATE` where VSYNC has ended the frame, else 0.
 #[inline(always)]
-pub(crate) fn late_where(rose: bool) -> u32
+pub(crate) fn offset_for(rose: bool) -> u32
     ensures late { rose ≡ true → result ≡ most_offset }
     ensures none { rose ≡ false → result ≡ 0 }
     ensures most { result ≤ most_offset }

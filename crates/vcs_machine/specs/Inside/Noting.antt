@@ -5,10 +5,10 @@ use Rattle.vcs_tia.specs.declared.chip.Tia.{Tia}
 use Rattle.vcs_machine.specs.Bus.{Observed}
 use Rattle.vcs_machine.specs.Frame.{most_instructions, end_within}
 use Rattle.vcs_machine.specs.Lag.{is_ignored_within}
-use Rattle.vcs_machine.specs.declared.lag.Noted.{Noted}
+use Rattle.vcs_machine.specs.declared.lag.LagStep.{LagStep}
 
 -- where a step led: to the frame's end, or to where the frame goes on; and what it says of the input
-pub record LeadsTo {Seen : Type 0} (observe : List Tia → Seen → Seen) (regs : Regs) (o : Observed Seen) (noted : Noted) (regs' : Regs) (o' : Observed Seen) : Type 0 where
+pub record LeadsTo {Seen : Type 0} (observe : List Tia → Seen → Seen) (regs : Regs) (o : Observed Seen) (noted : LagStep) (regs' : Regs) (o' : Observed Seen) : Type 0 where
   pub ends : noted.over ≡ true → (n : ℕ) → end_within observe (suc n) regs o ≡ Some (record { regs = regs'; observed = o'; halt = noted.halt })
   pub last : noted.over ≡ true → (n : ℕ) → is_ignored_within observe (suc n) regs o ≡ noted.ignored
   pub goes_on : noted.over ≡ false → (n : ℕ) → end_within observe (suc n) regs o ≡ end_within observe n regs' o'

@@ -2,7 +2,7 @@ use Rattle.std.proofs.Common.{◌≡◌, ◌<◌}
 use Rattle.vcs_machine.specs.Inside.Times.{end_time}
 use Rattle.vcs_machine.specs.Inside.Console.{content_of, fixed_of, now_of}
 use Rattle.vcs_machine.specs.Inside.Noting.{HasComeNoting}
-use Rattle.vcs_machine.proofs.lag.run_noting.Given as goal
+use Rattle.vcs_machine.proofs.lag.run_for_lag.Given as goal
 
 -- the steps so far have come here
 abbrev pub invariant-loop-left : goal.invariant-loop-left

@@ -1,7 +1,7 @@
 use Rattle.std.proofs.Common.{◌∙◌, sym, refl}
 use Rattle.vcs_machine.specs.Inside.Console.{content_of, clocks_of}
 use Rattle.vcs_machine.proofs.Notings.{step-halts, step-leads, latches_presses-later}
-use Rattle.vcs_machine.proofs.lag.step_noting.Goals as goal
+use Rattle.vcs_machine.proofs.lag.lag_step.Goals as goal
 
 pub returns-in-Err-clause-led : goal.returns-in-Err-clause-led
 returns-in-Err-clause-led g c =

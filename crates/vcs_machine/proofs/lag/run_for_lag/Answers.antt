@@ -4,13 +4,13 @@ use Rattle.vcs_machine.proofs.Endings.{clock-later}
 use Rattle.vcs_machine.proofs.Frames.{ended-same}
 use Rattle.vcs_machine.proofs.BusTime.{passed}
 use Rattle.vcs_machine.proofs.Notings.{come-end, come-said, come-unended}
-use Rattle.vcs_machine.proofs.lag.run_noting.Goals as goal
+use Rattle.vcs_machine.proofs.lag.run_for_lag.Goals as goal
 
 pub returns-then-noted-clause-ended : goal.returns-then-noted-clause-ended
 returns-then-noted-clause-ended g c =
     let b = c.args.bus.now in
     let l = c.loop-left in
-    let s = c.step_noting-noted in
+    let s = c.lag_step-noted in
     come-end g.O.Observer.observe c.args.regs.now (content_of b) l.regs s.new.regs (content_of l.bus) (content_of s.new.bus) l.ignored l.left (l.left - 1) s.result
     l.invariant.come s.ensures.led (omega (arith, c.loop-left-test.true)) c.if-noted.true
     ∙ ended-same _ _ _ _ _ refl (sym c.catch_up.ensures.content)
@@ -19,7 +19,7 @@ pub returns-then-noted-clause-ignored : goal.returns-then-noted-clause-ignored
 returns-then-noted-clause-ignored g c =
     let b = c.args.bus.now in
     let l = c.loop-left in
-    let s = c.step_noting-noted in
+    let s = c.lag_step-noted in
     come-said g.O.Observer.observe c.args.regs.now (content_of b) l.regs s.new.regs (content_of l.bus) (content_of s.new.bus) l.ignored l.left (l.left - 1) s.result
     l.invariant.come s.ensures.led (omega (arith, c.loop-left-test.true)) c.if-noted.true
 
