@@ -23,7 +23,7 @@ pub record IsLeastHalted (movie : MovieContent) (from to : ℕ) (halted : Halted
   pub halt : (state_after movie (halted.frame + 1)).halt ≡ Some halted.halt
   pub before : (f : ℕ) → from ≤ f → f < halted.frame → IsDrawn movie f
 
--- the portable pixmaps of the frames from `from` to the one before `to`, one after the other
+-- the portable pixmaps of `count` frames from the frame `from` on, one after the other
 abbrev pub pixmaps_of : MovieContent → ℕ → ℕ → List ℕ
 pixmaps_of movie from count = flat_map (λ f. ppm_bytes (picture_of movie f)) (range_with_len from count)
 
@@ -45,7 +45,7 @@ pub record IsRefused (movie : MovieContent) (from to : ℕ) : Type 0 where
   pub drawn : AllDrawn movie from (frame + 1)
 
 -- the bytes are the pixmaps of the frames from `from` to the one before `to`, or one of these is the least halted one, or memory was
--- refused before a halted one
+-- refused at one up to which none is halted
 abbrev pub Shows : MovieContent → ℕ → ℕ → List ℕ → Option Stop → Type 0
 Shows movie from to bytes None = AreDrawn movie from to bytes
 Shows movie from to bytes (Some (Halted halted)) = IsLeastHalted movie from to halted
