@@ -21,7 +21,7 @@ mark_distance = 16
 abbrev pub most_marked : ℕ
 most_marked = 512
 
--- how many states a window has at most: 65 up to the place after the frame shown last, and 33 marks
+-- a bound of a window's states: 65 up to the place after the frame shown last, and 33 marks, of which 28 at most aren't among the 65
 abbrev pub most_near : ℕ
 most_near = 98
 
@@ -29,11 +29,12 @@ most_near = 98
 abbrev pub AreMovieStates : MovieContent → List Savestate → Type 0
 AreMovieStates movie states = AreStatesOf movie.cart movie.inputs states
 
--- which states are kept once the frame before the place `end` was shown: the one at this place, those at the 64 places before it,
--- and marks at the multiples of 16 among the 512 places before it
+-- a place is not more than 64 before `end`, or it is a mark, a multiple of 16, not more than 512 before it; each place after `end` is close, too
 abbrev pub is_close : ℕ → ℕ → Bool
 is_close end f = nat_le end (f + most_before) || ((f % mark_distance == 0) && nat_le end (f + most_marked))
 
+-- which states are kept once the frame before the place `end` was shown: the one at this place, those at the 64 places before it,
+-- and marks at the multiples of 16 among the 512 places before it
 abbrev pub is_near : ℕ → ℕ → Bool
 is_near end f = nat_le f end && is_close end f
 
@@ -53,7 +54,8 @@ pub record BothContent : Type 0 where
 abbrev pub both : List Savestate → List Savestate → BothContent
 both green window = record { green = green; window = window }
 
--- where frame k is played from: the later one of the nearest states of both, as long as no place of the grid lies between them; else the greenzone's
+-- where frame k is played from: the later one of the nearest states of both, as long as no place of the grid comes after the
+-- greenzone's, up to it; else the greenzone's
 abbrev pub start_between : ℕ → ℕ → ℕ → ℕ
 start_between stride kept near = if near / stride == kept / stride then max kept near else kept
 

@@ -16,7 +16,7 @@ use vcs_machine::{Meter, State};
 impl<A: Allocator> Green<A> {
     /// Plays the movie's first `k` frames from the nearest kept state, without pictures, and returns the machine's state
     /// after them, halted or not. It keeps the states on the way that stand on the movie's grid. The meter rises by
-    /// `k - nearest(k)`. After `AllocError` greenzone and meter are unchanged. The caller shows that the movie has so many
+    /// `k - nearest(k)`. After `AllocError` greenzone and meter are unchanged. The caller shows that the movie has these
     /// frames, and that the meter has room for them ([`Meter::room`]).
     pub fn reach<B: Allocator>(
         &mut self,

@@ -1,10 +1,10 @@
 //! The window of states around the frame that was shown last.
 
-ghost use Rattle.std.specs.Prelude.{◌≡◌, ◌⊎◌, ℕ, ◌+◌, ◌/◌, ◌^◌, ◌<◌, ◌≤◌, [], length, filter, nat_le, is_some, true, IsSome, IfOk, OnOk, OnErr, vec_len, vec_capacity};
+ghost use Rattle.std.specs.Prelude.{◌≡◌, ◌⊎◌, ℕ, ◌+◌, ◌/◌, ◌<◌, ◌≤◌, [], length, is_some, true, IsSome, IfOk, OnOk, OnErr};
 ghost use Rattle.tas_green.specs.declared.window.TheConstants.{MAX_BEFORE, MARK_DISTANCE, MAX_MARKED, MAX_NEAR};
 ghost use Rattle.tas_movie.specs.Content.{MovieContent};
 ghost use Rattle.tas_green.specs.Run.{state_after, picture_of, answer_of};
-ghost use Rattle.tas_green.specs.Zone.{state_at, nearest};
+ghost use Rattle.tas_green.specs.Zone.{state_at};
 ghost use Rattle.tas_green.specs.Grid.{stride};
 ghost use Rattle.tas_green.specs.Green.{IsLawful, HoldsGrid};
 ghost use Rattle.tas_green.specs.Window.{most_before, mark_distance, most_marked, most_near, both, view_start, is_near, AreMovieStates, IsWindowMoved, IsViewFrom, IsOneAway};
@@ -25,10 +25,10 @@ pub const MAX_BEFORE: usize = 64;
 /// Further back a state is kept at each multiple of this distance, in frames.
 pub const MARK_DISTANCE: usize = 16;
 
-/// For how many frames back, up to the one shown last.
+/// How far back there are such marks, in frames.
 pub const MAX_MARKED: usize = 512;
 
-/// How many states a window has at most.
+/// A bound of a window's states; there are 93 at most (no clause says so).
 pub const MAX_NEAR: usize = 98;
 
 /// What a view of a frame took, and how it ended.
@@ -101,8 +101,8 @@ impl<A: Allocator> Window<A> {
         retain_up_to(&mut self.states, last);
     }
 
-    /// Where frame `k` is played from: the window's nearest state, where it is past the greenzone's and no place of the grid lies
-    /// between them; else the greenzone's.
+    /// Where frame `k` is played from: the window's nearest state, where it is past the greenzone's and no place of the grid comes
+    /// after the greenzone's, up to it; else the greenzone's.
     fn start_of<B: Allocator, C: Allocator>(
         &self,
         green: &Green<B>,
