@@ -29,7 +29,7 @@ most_near = 98
 abbrev pub AreMovieStates : MovieContent → List Savestate → Type 0
 AreMovieStates movie states = AreStatesOf movie.cart movie.inputs states
 
--- a place is not more than 64 before `end`, or it is a mark, a multiple of 16, not more than 512 before it; each place after `end` is close, too
+-- a place is not more than 64 before `end`, or it is a mark, a multiple of 16, not more than 512 before it; all after `end` are close, too
 abbrev pub is_close : ℕ → ℕ → Bool
 is_close end f = nat_le end (f + most_before) || ((f % mark_distance == 0) && nat_le end (f + most_marked))
 
