@@ -15,7 +15,7 @@ spliced at count new inputs = take at inputs ++ new ++ drop (at + count) inputs
 abbrev pub place_refusal : ℕ → ℕ → ℕ → Option EditRefusal
 place_refusal len at end = if nat_lt len end then Some (Place at len) else None
 
--- inputs that are longer than those of a movie may be are refused
+-- an edit that makes the movie longer than a movie may be is refused
 abbrev pub length_refusal : ℕ → ℕ → Option EditRefusal
 length_refusal len longer = if nat_lt most_inputs longer then Some (Long len) else None
 
@@ -24,8 +24,7 @@ abbrev pub first_refusal : Option EditRefusal → Option EditRefusal → Option 
 first_refusal (Some refused) later = Some refused
 first_refusal None later = later
 
--- putting this many inputs in at the place `at` of `len` inputs changes none of these, so it ends at `at`; its place is refused before
--- the length that it would give
+-- an insertion overwrites nothing, so only `at` must be within the movie; the place is checked before the length
 abbrev pub insert_refusal : ℕ → ℕ → ℕ → Option EditRefusal
 insert_refusal len at count = first_refusal (place_refusal len at at) (length_refusal len (len + count))
 

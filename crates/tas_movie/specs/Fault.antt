@@ -15,12 +15,12 @@ use Rattle.tas_movie.specs.Content.{most_inputs}
 use Rattle.tas_movie.specs.Runs.{run_inputs}
 use Rattle.tas_movie.specs.Text.{run_text, head_text1, head_text2, digest_text, most_frames1}
 
--- the lines that a newline ends, without it, and what stands behind the last newline
+-- the lines that a newline ends, without it, and what stands after the last newline
 pub record SplitLines : Type 0 where
   pub lines : List (List ℕ)
   pub rest : List ℕ
 
--- one byte more in front, which is no newline
+-- one byte more before them, which is no newline
 abbrev pub prepend_byte : ℕ → List (List ℕ) → List ℕ → SplitLines
 prepend_byte b [] rest = record { lines = []; rest = b ∷ rest }
 prepend_byte b (l ∷ ls) rest = record { lines = (b ∷ l) ∷ ls; rest = rest }
@@ -66,7 +66,7 @@ fault_at number kind = Some (record { line = number; kind = kind })
 -- ---- the older text
 
 -- the first fault of the lines from the third on, of which n frames came before: a line that no newline ends, a
--- line behind as many frames as this text has at most, or one that is no frame
+-- line after as many frames as this text has at most, or one that is no frame
 unfoldable pub frames_fault : ℕ → List (List ℕ) → List ℕ → Option TextError
 frames_fault n [] [] = None
 frames_fault n [] (b ∷ rest) = fault_at (n + 3) End
@@ -109,7 +109,7 @@ abbrev pub is_repeated : Option Input → Input → Bool
 is_repeated None input = false
 is_repeated (Some last) input = are_same_inputs last input
 
--- what is wrong with a line behind the frames with these inputs, in this order: there are as many frames as a movie has at
+-- what is wrong with a line after the frames with these inputs, in this order: there are as many frames as a movie has at
 -- most, it is no run, its frame is the one before, or there would be too many frames with it
 unfoldable pub run_fault : List Input → List ℕ → Option TextErrorKind
 run_fault before l =
@@ -124,7 +124,7 @@ abbrev pub fault_or : ℕ → Option TextErrorKind → Option TextError → Opti
 fault_or number None next = next
 fault_or number (Some kind) next = fault_at number kind
 
--- the first fault of the lines from this number on, behind the frames with these inputs: that of a line, or a line that no
+-- the first fault of the lines from this number on, after the frames with these inputs: that of a line, or a line that no
 -- newline ends
 unfoldable pub runs_fault : ℕ → List Input → List (List ℕ) → List ℕ → Option TextError
 runs_fault number before [] [] = None

@@ -11,7 +11,7 @@ run_inputs run = replicate run.count run.input
 abbrev pub run_of_one : Input → FrameRun
 run_of_one input = record { input = input; count = 1 }
 
--- runs with one frame more in front: it belongs to the first of them where their inputs are equal, else it is a run of its own
+-- runs with one frame more before them: it belongs to the first of them where their inputs are equal, else it is a run of its own
 abbrev pub in_front : Input → List FrameRun → List FrameRun
 in_front input [] = run_of_one input ∷ []
 in_front input (run ∷ runs) =

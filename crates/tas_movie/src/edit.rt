@@ -12,7 +12,7 @@ use vcs_machine::Cart;
 pub enum Edit<A: Allocator = Global> {
     /// Another cartridge; the inputs stay.
     Load(Cart<A>),
-    /// The inputs are put in front of the input at the place `at`, or after the last one where
+    /// The inputs are put before the input at the place `at`, or after the last one where
     /// `at` is the movie's length.
     Insert {
         /// A place in the movie's inputs, counted from 0.

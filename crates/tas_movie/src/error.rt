@@ -20,7 +20,7 @@ pub enum TextErrorKind {
     /// As many frames as the text has at most stand before the line, or there would be more with it.
     #[error("too many")]
     TooMany,
-    /// The line's frame is that of the line before, which stands in the text of runs alone.
+    /// The line's frame is that of the line before: a fault of the text of runs alone.
     #[error("run")]
     Run,
 }

@@ -5,7 +5,7 @@ ghost use Rattle.std.specs.Prelude.{◌≡◌, ◌+◌, ◌≤◌, ◌++◌, len
 use std::alloc::Allocator;
 use vcs_machine::Input;
 
-/// Puts `new` in front of the place `at`. There is room for it.
+/// Puts `new` before the place `at`. There is room for it.
 pub fn insert_at<A: Allocator>(list: &mut Vec<Input, A>, at: usize, new: &[Input])
     requires place { at ≤ vec_len list.old }
     requires room { vec_len list.old + length new.now ≤ vec_capacity list.old }

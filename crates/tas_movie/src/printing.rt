@@ -25,7 +25,7 @@ const DIGEST_LINE_SIZE: usize = 69;
 /// How many bytes the first two lines of a text have.
 const HEAD_SIZE: usize = 81;
 
-/// How many bytes the line of one frame has. That of a run has fewer than this for each frame.
+/// How many bytes the line of one frame has. That of a run has no more than this for each frame.
 const FRAME_LINE_SIZE: usize = FRAME_TEXT_SIZE + 1;
 
 fn mark(letter: u8, pressed: bool) -> u8

@@ -4,7 +4,7 @@ ghost use Rattle.std.specs.Prelude.{◌≡◌, ◌≢◌, ◌<◌, ◌≤◌, le
 
 use vcs_machine::Input;
 
-/// This many frames with one input, one after the other.
+/// Consecutive frames with one input.
 #[derive(Clone, Copy)]
 pub struct FrameRun {
     /// The input of each of them.

@@ -20,7 +20,7 @@ use vcs_machine::Input;
 const LEAST_COUNT: usize = 2;
 
 /// How often a frame comes, by the bytes after its 17 characters: once where there are none, else as often as
-/// the number behind ` x` says, which is 2 at least and as many as a movie has frames at most.
+/// the number after ` x` says, which is 2 at least and as many as a movie has frames at most.
 fn read_count(bytes: &[u8]) -> Option<usize>
     ensures some { IfSome result
         (λ count. (bytes.now ≡ count_text count) × (1 ≤ count) × (count ≤ most_inputs)) }
@@ -55,9 +55,9 @@ fn read_run(line: &[u8]) -> Option<FrameRun>
     if line.len() < FRAME_TEXT_SIZE {
         return None;
     }
-    let (letters, behind) = line.split_at(FRAME_TEXT_SIZE);
+    let (letters, rest) = line.split_at(FRAME_TEXT_SIZE);
     let input = read_frame(letters)?;
-    let count = read_count(behind)?;
+    let count = read_count(rest)?;
     Some(FrameRun { input, count })
 }
 
