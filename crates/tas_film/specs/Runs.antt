@@ -9,7 +9,7 @@ use Rattle.tas_film.specs.declared.runs.RunEnd.{RunEnd}
 use Rattle.tas_film.specs.declared.runs.Plan.{Plan}
 use Rattle.tas_film.specs.Frames.{Shows}
 
--- the first frame of run i: the frames are shared out by division without remainder
+-- the first frame of run i: the frames are shared out by division, rounded down
 abbrev pub first_of_run : Plan → ℕ → ℕ
 first_of_run plan i = plan.from + i * (plan.to - plan.from) / plan.workers
 
@@ -43,7 +43,7 @@ pub record IsRunEnd (movie : MovieContent) (zone : List Savestate) (first next :
 abbrev pub pixmaps_in : {A : Type 0} → List (Run A) → List (List ℕ)
 pixmaps_in runs = map (λ run. run.pixmaps) runs
 
--- how the first n runs end: their pixmaps, one after the other, show all frames of these runs
+-- how the first `count` runs end: their pixmaps, one after the other, show all frames of these runs
 pub record AreRunsEnd (movie : MovieContent) (zone : List Savestate) (plan : Plan) (count : ℕ) (all_pixmaps : List (List ℕ)) (end : RunEnd) : Type 0 where
   pub shows : Shows movie plan.from (first_of_run plan count) (concat all_pixmaps) end.stop
   pub played : end.stop ≡ None → end.played ≡ costs zone plan 0 count

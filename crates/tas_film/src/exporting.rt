@@ -34,8 +34,8 @@ pub enum ExportFault {
     },
 }
 
-/// Draws the frames of a plan, each run of them by a worker on a thread of its own, which passes the
-/// gate first and makes the pixmaps of its frames too, and writes all of these in order once they are there. A run
+/// Draws the frames of a plan, each run of them by a worker on a thread of its own, where one can be started. A worker passes the
+/// gate first and makes the pixmaps of its frames too; all of these are written in order once they are there. A run
 /// starts from the nearest kept state at its first frame or before it. Returns how many frames were played.
 pub fn export_frames<
     A: Allocator + Copy + Send + Sync,

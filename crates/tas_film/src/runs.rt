@@ -183,7 +183,7 @@ fn play_each<A: Allocator + Send + Sync, R: Threads + Sync, G: Gate + Sync>(
     for_each_on_threads(rt, runs, &play);
 }
 
-/// Draws all runs, each on a thread of its own, and returns what they did.
+/// Draws all runs, each on a thread of its own where one can be started, and returns what they did.
 pub fn play_runs<A: Allocator + Send + Sync, R: Threads + Sync, G: Gate + Sync>(
     rt: &R,
     movie: &Movie<A>,
