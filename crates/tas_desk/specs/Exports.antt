@@ -8,7 +8,7 @@ use Rattle.tas_green.specs.Green.{IsMoved}
 use Rattle.tas_desk.specs.declared.export.Exported.{Exported}
 use Rattle.tas_desk.specs.declared.export.ExportError.{ExportError}
 use Rattle.tas_desk.specs.declared.export.ExportError.TheVariants.{Range, Memory, Halted, Write}
-use Rattle.tas_film.specs.declared.runs.Plan.{Plan}
+use Rattle.tas_film.specs.declared.runs.ExportPlan.{ExportPlan}
 use Rattle.tas_film.specs.Frames.{AllDrawn, IsLeastHalted, pixmaps_of}
 use Rattle.tas_film.specs.Runs.{costs}
 use Rattle.tas_desk.specs.Zones.{ZoneContent}
@@ -25,7 +25,7 @@ pub record IsInRange (len from to : ℕ) : Type 0 where
 
 -- all frames of a plan are drawn and written, and this many were played: each run from the nearest of the states that a cut for
 -- the movie would leave in the zone
-pub record IsExported {A : Type 0} (zone : ZoneContent A) (movie : MovieContent) (plan : Plan) (old new : Option (List ℕ)) (played : ℕ) : Type 0 where
+pub record IsExported {A : Type 0} (zone : ZoneContent A) (movie : MovieContent) (plan : ExportPlan) (old new : Option (List ℕ)) (played : ℕ) : Type 0 where
   pub range : IsInRange (length movie.inputs) plan.from plan.to
   pub written : Appends old new (pixmaps_of movie plan.from (plan.to - plan.from))
   pub drawn : AllDrawn movie plan.from plan.to
@@ -34,7 +34,7 @@ pub record IsExported {A : Type 0} (zone : ZoneContent A) (movie : MovieContent)
   pub cost : played ≡ costs left plan 0 plan.workers
 
 -- how an export of a movie that this many edits made ends, by a seat with this zone
-abbrev pub IsExport : {A : Type 0} → ZoneContent A → MovieContent → ℕ → Plan → Option (List ℕ) → Option (List ℕ) → Result Exported ExportError → Type 0
+abbrev pub IsExport : {A : Type 0} → ZoneContent A → MovieContent → ℕ → ExportPlan → Option (List ℕ) → Option (List ℕ) → Result Exported ExportError → Type 0
 IsExport zone movie edits plan old new (Ok exported) = (exported.at ≡ edits) × IsExported zone movie plan old new exported.played
 IsExport zone movie edits plan old new (Err (Range at len)) = (at ≡ edits) × (len ≡ length movie.inputs) × (IsInRange (length movie.inputs) plan.from plan.to → ⊥) × (new ≡ old)
 IsExport zone movie edits plan old new (Err Memory) = IsInRange (length movie.inputs) plan.from plan.to × (new ≡ old)

@@ -15,7 +15,7 @@ use std::alloc::Allocator;
 use std::io::{Error, Write};
 use std::sync::Wait;
 use std::thread::Threads;
-use tas_film::{ExportFault, Plan, export_frames};
+use tas_film::{ExportFault, ExportPlan, export_frames};
 use tas_movie::Movie;
 use vcs_cpu::Halt;
 
@@ -104,7 +104,7 @@ impl<N: Name, W: CloseOnDrop, A: Allocator + Copy> Desk<N, W, A> {
     {
         let found = self.locked.lock(rt).copy(rt, alloc, seat, from, to);
         let (at, movie) = found?;
-        let plan = Plan { from, to, workers };
+        let plan = ExportPlan { from, to, workers };
         let end = export_movie(rt, alloc, &movie, &seat.zone, plan, gate, out);
         end_at(at, end)
     }
@@ -122,7 +122,7 @@ fn export_movie<
     alloc: B,
     movie: &Movie<B>,
     zone: &SeatZone<A>,
-    plan: Plan,
+    plan: ExportPlan,
     gate: &G,
     out: &mut O,
 ) -> Result<u64, ExportFault>

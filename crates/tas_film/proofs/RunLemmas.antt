@@ -15,7 +15,7 @@ use Rattle.tas_film.specs.declared.pixmaps.Stop.{Stop}
 use Rattle.tas_film.specs.declared.pixmaps.Stop.TheVariants.{Halted, Memory}
 use Rattle.tas_film.specs.declared.runs.Run.{Run}
 use Rattle.tas_film.specs.declared.runs.RunEnd.{RunEnd}
-use Rattle.tas_film.specs.declared.runs.Plan.{Plan}
+use Rattle.tas_film.specs.declared.runs.ExportPlan.{ExportPlan}
 use Rattle.tas_film.specs.Frames.{AllDrawn, Shows, pixmaps_of}
 use Rattle.tas_film.specs.Runs.{first_of_run, cost, costs, IsPlan, IsRunEnd, pixmaps_in, AreRunsEnd}
 use Rattle.tas_film.proofs.DrawingLemmas.{range_joined, pixmaps_none, pixmaps_joined}
@@ -26,22 +26,22 @@ cost_some zone first next lt = ap (λ (b : Bool). cond b (next - nearest first z
 
 -- ---- where runs begin
 
-pub begins : (plan : Plan) → first_of_run plan 0 ≡ plan.from
+pub begins : (plan : ExportPlan) → first_of_run plan 0 ≡ plan.from
 begins plan = ap (λ (n : ℕ). plan.from + n) (none (plan.to - plan.from) plan.workers) ∙ (let e : plan.from + 0 ≡ plan.from = omega arith in e)
   where
     none : (n w : ℕ) → 0 * n / w ≡ 0
     none n w = omega arith
 
-pub ends : (plan : Plan) → 0 < plan.workers → plan.from ≤ plan.to → first_of_run plan plan.workers ≡ plan.to
+pub ends : (plan : ExportPlan) → 0 < plan.workers → plan.from ≤ plan.to → first_of_run plan plan.workers ≡ plan.to
 ends plan pos le = ap (λ (n : ℕ). plan.from + n) (mul-div_cancel_left (plan.to - plan.from) pos) ∙ omega arith
 
-pub next_behind : (plan : Plan) (i : ℕ) → 0 < plan.workers → first_of_run plan i ≤ first_of_run plan (i + 1)
+pub next_behind : (plan : ExportPlan) (i : ℕ) → 0 < plan.workers → first_of_run plan i ≤ first_of_run plan (i + 1)
 next_behind plan i pos =
     let more : i * (plan.to - plan.from) ≤ (i + 1) * (plan.to - plan.from) = omega arith in
     let up = div_mono (i * (plan.to - plan.from)) ((i + 1) * (plan.to - plan.from)) plan.workers pos more in
     omega arith
 
-pub next_within : (plan : Plan) (i : ℕ) → 0 < plan.workers → plan.from ≤ plan.to → i ≤ plan.workers → first_of_run plan i ≤ plan.to
+pub next_within : (plan : ExportPlan) (i : ℕ) → 0 < plan.workers → plan.from ≤ plan.to → i ≤ plan.workers → first_of_run plan i ≤ plan.to
 next_within plan i pos le lt =
     let more : i * (plan.to - plan.from) ≤ plan.workers * (plan.to - plan.from) = scaled i plan.workers (plan.to - plan.from) lt in
     let up = div_mono (i * (plan.to - plan.from)) (plan.workers * (plan.to - plan.from)) plan.workers pos more in
@@ -122,7 +122,7 @@ one_sum : (x : ℕ) → sum (x ∷ []) ≡ x
 one_sum x = sum_by-cons (λ (y : ℕ). y) x [] ∙ (let e : x + 0 ≡ x = omega arith in e)
 
 -- what one run more costs
-costs_more : (zone : List Savestate) (plan : Plan) (i : ℕ) → costs zone plan 0 (i + 1) ≡ costs zone plan 0 i + cost zone (first_of_run plan i) (first_of_run plan (i + 1))
+costs_more : (zone : List Savestate) (plan : ExportPlan) (i : ℕ) → costs zone plan 0 (i + 1) ≡ costs zone plan 0 i + cost zone (first_of_run plan i) (first_of_run plan (i + 1))
 costs_more zone plan i =
     let here = range_joined 0 i 1 ∙ ap (λ (k : ℕ). range_with_len 0 i ++ k ∷ []) (zero-add i) in
     ap (λ (js : List ℕ). sum (map (λ j. cost zone (first_of_run plan j) (first_of_run plan (j + 1))) js)) here
@@ -131,7 +131,7 @@ costs_more zone plan i =
     ∙ ap (λ (n : ℕ). costs zone plan 0 i + n) (one_sum (cost zone (first_of_run plan i) (first_of_run plan (i + 1))))
 
 -- one run more
-runs_joined : (movie : MovieContent) (zone : List Savestate) (plan : Plan) (i : ℕ) (before : List (List ℕ)) (mine : List ℕ) (front back end : RunEnd)
+runs_joined : (movie : MovieContent) (zone : List Savestate) (plan : ExportPlan) (i : ℕ) (before : List (List ℕ)) (mine : List ℕ) (front back end : RunEnd)
     → IsPlan movie plan → i < plan.workers
     → AreRunsEnd movie zone plan i before front → IsRunEnd movie zone (first_of_run plan i) (first_of_run plan (i + 1)) mine back
     → end.played ≡ front.played + back.played → end.stop ≡ first_of front.stop back.stop
@@ -154,7 +154,7 @@ runs_joined movie zone plan i before mine front back end is lt so_far one played
     }
 
 -- the next run of a list
-pub runs_more : {A : Type 0} (movie : MovieContent) (zone : List Savestate) (plan : Plan) (i : ℕ) (runs : List (Run A)) (run : Run A) (front back end : RunEnd)
+pub runs_more : {A : Type 0} (movie : MovieContent) (zone : List Savestate) (plan : ExportPlan) (i : ℕ) (runs : List (Run A)) (run : Run A) (front back end : RunEnd)
     → IsPlan movie plan → i < plan.workers → i < length runs
     → AreRunsEnd movie zone plan i (pixmaps_in (take i runs)) front → IsRunEnd movie zone (first_of_run plan i) (first_of_run plan (i + 1)) (get_or runs i run).pixmaps back
     → end.played ≡ front.played + back.played → end.stop ≡ first_of front.stop back.stop
@@ -164,7 +164,7 @@ runs_more {A = A} movie zone plan i runs run front back end is lt here so_far on
     (runs_joined movie zone plan i (pixmaps_in (take i runs)) (get_or runs i run).pixmaps front back end is lt so_far one played stop)
 
 -- all runs show all frames
-pub runs_shown : (movie : MovieContent) (zone : List Savestate) (plan : Plan) (all_pixmaps : List (List ℕ)) (end : RunEnd) → IsPlan movie plan → AreRunsEnd movie zone plan plan.workers all_pixmaps end
+pub runs_shown : (movie : MovieContent) (zone : List Savestate) (plan : ExportPlan) (all_pixmaps : List (List ℕ)) (end : RunEnd) → IsPlan movie plan → AreRunsEnd movie zone plan plan.workers all_pixmaps end
     → Shows movie plan.from plan.to (concat all_pixmaps) end.stop
 runs_shown movie zone plan all_pixmaps end is runs = subst (λ (n : ℕ). Shows movie plan.from n (concat all_pixmaps) end.stop) (ends plan is.some is.order) runs.shows
 

@@ -14,7 +14,7 @@ use Rattle.tas_green.specs.declared.savestate.Savestate.{Savestate}
 use Rattle.tas_film.specs.declared.pixmaps.HaltedFrame.{HaltedFrame}
 use Rattle.tas_film.specs.declared.pixmaps.Stop.{Stop}
 use Rattle.tas_film.specs.declared.pixmaps.Stop.TheVariants.{Halted, Memory}
-use Rattle.tas_film.specs.declared.runs.Plan.{Plan}
+use Rattle.tas_film.specs.declared.runs.ExportPlan.{ExportPlan}
 use Rattle.tas_film.specs.declared.runs.Run.{Run}
 use Rattle.tas_film.specs.declared.runs.RunEnd.{RunEnd}
 use Rattle.tas_film.specs.declared.exporting.ExportFault.{ExportFault}
@@ -89,13 +89,13 @@ pub shown_refused : (movie : MovieContent) (from to : ℕ) (bytes : List ℕ) (s
 shown_refused movie from to bytes stop is shown = subst (λ (s : Option Stop). Shows movie from to bytes s) is shown
 
 -- the pixmaps of runs of which none stopped
-pub runs_drawn : {A : Type 0} (movie : MovieContent) (plan : Plan) (zone : List Savestate) (runs : List (Run A)) (end : RunEnd) → IsPlan movie plan
+pub runs_drawn : {A : Type 0} (movie : MovieContent) (plan : ExportPlan) (zone : List Savestate) (runs : List (Run A)) (end : RunEnd) → IsPlan movie plan
     → AreRunsEnd movie zone plan plan.workers (pixmaps_in runs) end → end.stop ≡ None → AreDrawn movie plan.from plan.to (concat (pixmaps_in runs))
 runs_drawn {A = A} movie plan zone runs end plans ended none =
     shown_drawn movie plan.from plan.to (concat (pixmaps_in runs)) end.stop none (runs_shown movie zone plan (pixmaps_in runs) end plans ended)
 
 -- a fault of runs is one of an export
-pub fault_of_runs : {X : Type 0} (movie : MovieContent) (plan : Plan) (old new : Option (List ℕ)) (r : Result X ExportFault) → IfErr r (IsRunsFault movie plan old new) → IfErr r (IsExportFault movie plan old new)
+pub fault_of_runs : {X : Type 0} (movie : MovieContent) (plan : ExportPlan) (old new : Option (List ℕ)) (r : Result X ExportFault) → IfErr r (IsRunsFault movie plan old new) → IfErr r (IsExportFault movie plan old new)
 fault_of_runs movie plan old new (Ok x) is = tt
 fault_of_runs movie plan old new (Err MemoryFault) is = is.1
 fault_of_runs movie plan old new (Err (HaltedFault halted)) is = is

@@ -10,7 +10,7 @@ ghost use Rattle.tas_film.specs.Faults.{IsExportFault, IsRunsFault};
 
 use crate::Gate;
 use crate::pixmaps::{HaltedFrame, Stop};
-use crate::runs::{Plan, Run, play_runs};
+use crate::runs::{ExportPlan, Run, play_runs};
 use crate::writing::write_pixmaps;
 use std::alloc::Allocator;
 use std::io::{Error, Write};
@@ -47,7 +47,7 @@ pub fn export_frames<
     alloc: A,
     movie: &Movie<A>,
     zone: &Green<A>,
-    plan: Plan,
+    plan: ExportPlan,
     gate: &G,
     to: &mut W,
 ) -> Result<u64, ExportFault>
@@ -71,7 +71,7 @@ fn export_runs<A: Allocator + Send + Sync, R: Threads + Sync, G: Gate + Sync, W:
     rt: &R,
     movie: &Movie<A>,
     zone: &Green<A>,
-    plan: Plan,
+    plan: ExportPlan,
     gate: &G,
     runs: &mut [Run<A>],
     to: &mut W,

@@ -15,5 +15,5 @@ pub use exporting::{ExportFault, export_frames};
 pub use film::{FilmStop, write_film};
 pub use gate::Gate;
 pub use pixmaps::HaltedFrame;
-pub use runs::{MAX_WORKERS, Plan};
+pub use runs::{ExportPlan, MAX_WORKERS};
 pub use threads::for_each_on_threads;

@@ -22,7 +22,7 @@ pub const MAX_WORKERS: usize = 16;
 
 /// Which frames are drawn, from `from` to the one before `to`, and by how many workers.
 #[derive(Clone, Copy)]
-pub struct Plan {
+pub struct ExportPlan {
     /// The first frame, counted from 0.
     pub from: usize,
     /// The place after the last frame.
@@ -55,7 +55,7 @@ const NOTHING_PLAYED: RunEnd = RunEnd {
     stop: None,
 };
 
-impl Plan {
+impl ExportPlan {
     /// The first frame of a run, by its number.
     fn first_of_run(&self, run: usize) -> usize
         requires some { 0 < self.now.workers }
@@ -140,7 +140,7 @@ impl<A: Allocator> Run<A> {
         movie: &Movie<A>,
         zone: &Green<A>,
         gate: &G,
-        plan: Plan,
+        plan: ExportPlan,
         number: usize,
     )
         requires plan { IsPlan movie.now plan }
@@ -163,7 +163,7 @@ fn play_each<A: Allocator + Send + Sync, R: Threads + Sync, G: Gate + Sync>(
     movie: &Movie<A>,
     zone: &Green<A>,
     gate: &G,
-    plan: Plan,
+    plan: ExportPlan,
     runs: &mut [Run<A>],
 )
     requires plan { IsPlan movie.now plan }
@@ -189,7 +189,7 @@ pub fn play_runs<A: Allocator + Send + Sync, R: Threads + Sync, G: Gate + Sync>(
     movie: &Movie<A>,
     zone: &Green<A>,
     gate: &G,
-    plan: Plan,
+    plan: ExportPlan,
     runs: &mut [Run<A>],
 ) -> RunEnd
     requires plan { IsPlan movie.now plan }

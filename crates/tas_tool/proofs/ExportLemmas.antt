@@ -10,7 +10,7 @@ use Rattle.vcs_cpu.specs.declared.halt.Halt.TheVariants.{Undocumented}
 use Rattle.tas_movie.specs.Content.{MovieContent}
 use Rattle.tas_session.specs.declared.entry.Entry.{Entry}
 use Rattle.tas_desk.specs.declared.export.Exported.{Exported}
-use Rattle.tas_film.specs.declared.runs.Plan.{Plan}
+use Rattle.tas_film.specs.declared.runs.ExportPlan.{ExportPlan}
 use Rattle.tas_desk.specs.declared.export.ExportError.{ExportError}
 use Rattle.tas_desk.specs.declared.export.ExportError.TheVariants.{Range as OffRange, Memory as OutOfRoom, Halted as HaltedAt, Write as WriteFailed}
 use Rattle.tas_session.specs.History.{movie_of, entries_of}
@@ -77,25 +77,25 @@ other_here X at fault ne =
 kept : (old new : Option (List ℕ)) → new ≡ old → Keeps old new
 kept old new same = subst (λ (o : Option (List ℕ)). Keeps old o) (sym same) (Keeps-refl old)
 
-pub pixmaps_end : {A : Type 0} (zone : ZoneContent A) (movie : MovieContent) (edits : ℕ) (plan : Plan) (old new : Option (List ℕ)) (exported : Exported) → IsExport zone movie edits plan old new (Ok exported)
+pub pixmaps_end : {A : Type 0} (zone : ZoneContent A) (movie : MovieContent) (edits : ℕ) (plan : ExportPlan) (old new : Option (List ℕ)) (exported : Exported) → IsExport zone movie edits plan old new (Ok exported)
     → Ends (IsPixmapsAnswer movie plan.from plan.to) old new (Ok tt)
 pixmaps_end zone movie edits plan old new exported is =
     (pixmaps_of movie plan.from (plan.to - plan.from), record { range = is.1.range; drawn = is.1.drawn; pixmaps = refl }, is.1.written)
 
-pub range_ends : {A : Type 0} (zone : ZoneContent A) (movie : MovieContent) (edits : ℕ) (plan : Plan) (old new : Option (List ℕ)) (at len : ℕ) → IsExport zone movie edits plan old new (Err (OffRange at len))
+pub range_ends : {A : Type 0} (zone : ZoneContent A) (movie : MovieContent) (edits : ℕ) (plan : ExportPlan) (old new : Option (List ℕ)) (at len : ℕ) → IsExport zone movie edits plan old new (Err (OffRange at len))
     → Ends (IsPixmapsAnswer movie plan.from plan.to) old new (Err (Range plan.from plan.to len))
 range_ends zone movie edits plan old new at len is = inl ((refl, refl, is.1, is.2), kept old new is.3)
 
-pub halted_ends : {A : Type 0} (zone : ZoneContent A) (movie : MovieContent) (edits : ℕ) (plan : Plan) (old new : Option (List ℕ)) (at frame : ℕ) (halt : Halt) (fault : RunFault) → IsExport zone movie edits plan old new (Err (HaltedAt at frame halt))
+pub halted_ends : {A : Type 0} (zone : ZoneContent A) (movie : MovieContent) (edits : ℕ) (plan : ExportPlan) (old new : Option (List ℕ)) (at frame : ℕ) (halt : Halt) (fault : RunFault) → IsExport zone movie edits plan old new (Err (HaltedAt at frame halt))
     → fault ≡ halt_fault halt → Ends (IsPixmapsAnswer movie plan.from plan.to) old new (Err fault)
 halted_ends zone movie edits plan old new at frame (Undocumented address opcode) fault is told =
     subst (λ (f : RunFault). Ends (IsPixmapsAnswer movie plan.from plan.to) old new (Err f)) (sym told) (inl ((is.1, (frame, is.2)), kept old new is.3))
 
-pub memory_ends : {A : Type 0} (zone : ZoneContent A) (movie : MovieContent) (edits : ℕ) (plan : Plan) (old new : Option (List ℕ)) → IsExport zone movie edits plan old new (Err OutOfRoom)
+pub memory_ends : {A : Type 0} (zone : ZoneContent A) (movie : MovieContent) (edits : ℕ) (plan : ExportPlan) (old new : Option (List ℕ)) → IsExport zone movie edits plan old new (Err OutOfRoom)
     → Ends (IsPixmapsAnswer movie plan.from plan.to) old new (Err Memory)
 memory_ends zone movie edits plan old new is = inl (tt, kept old new is.1)
 
-pub write_ends : (movie : MovieContent) (plan : Plan) (old new : Option (List ℕ)) (written : ℕ) → IsInRange (length movie.inputs) plan.from plan.to → AllDrawn movie plan.from plan.to
+pub write_ends : (movie : MovieContent) (plan : ExportPlan) (old new : Option (List ℕ)) (written : ℕ) → IsInRange (length movie.inputs) plan.from plan.to → AllDrawn movie plan.from plan.to
     → IsCutOff old new (pixmaps_of movie plan.from (plan.to - plan.from)) written → Ends (IsPixmapsAnswer movie plan.from plan.to) old new (Err (Write written))
 write_ends movie plan old new written range drawn cut =
     inr (record {
@@ -105,7 +105,7 @@ write_ends movie plan old new written range drawn cut =
     })
 
 -- what a desk answers is reported so
-export_ends : {A : Type 0} (seat : SeatContent A) (zone : ZoneContent A) (plan : Plan) (old new : Option (List ℕ)) (answer : Result Exported ExportError) → seat.made ≡ 2 → 2 ≤ length seat.front
+export_ends : {A : Type 0} (seat : SeatContent A) (zone : ZoneContent A) (plan : ExportPlan) (old new : Option (List ℕ)) (answer : Result Exported ExportError) → seat.made ≡ 2 → 2 ≤ length seat.front
     → IsExport zone (movie_of seat.front) (length seat.front) plan old new answer → length seat.front ≤ seat.made
     → Ends (IsPixmapsAnswer (movie_of seat.front) plan.from plan.to) old new (export_end plan.from plan.to answer)
 export_ends seat zone plan old new (Ok exported) made two is le =
@@ -117,13 +117,13 @@ export_ends seat zone plan old new (Err (HaltedAt at frame halt)) made two is le
     ends_here seat (movie_of seat.front) at plan.from plan.to old new (Err (halt_fault halt)) made two is.0 le (halted_ends zone (movie_of seat.front) (length seat.front) plan old new at frame halt (halt_fault halt) is refl)
 export_ends seat zone plan old new (Err (WriteFailed written error)) made two is le = write_ends (movie_of seat.front) plan old new written is.0 is.1 is.2
 
-pub frames_end : {A : Type 0} (seat : SeatContent A) (zone : ZoneContent A) (plan : Plan) (old new : Option (List ℕ)) (answer : Result Exported ExportError) (told : Result (Unit {0}) RunFault) → seat.made ≡ 2
+pub frames_end : {A : Type 0} (seat : SeatContent A) (zone : ZoneContent A) (plan : ExportPlan) (old new : Option (List ℕ)) (answer : Result Exported ExportError) (told : Result (Unit {0}) RunFault) → seat.made ≡ 2
     → 2 ≤ length seat.front → IsExport zone (movie_of seat.front) (length seat.front) plan old new answer → told ≡ export_end plan.from plan.to answer → length seat.front ≤ seat.made
     → Ends (IsPixmapsAnswer (movie_of seat.front) plan.from plan.to) old new told
 frames_end seat zone plan old new answer told made two is same le =
     subst (λ (r : Result (Unit {0}) RunFault). Ends (IsPixmapsAnswer (movie_of seat.front) plan.from plan.to) old new r) (sym same) (export_ends seat zone plan old new answer made two is le)
 
-pub export_own : {A : Type 0} (seat : SeatContent A) (zone : ZoneContent A) (plan : Plan) (old new : Option (List ℕ)) (answer : Result Exported ExportError) → seat.made ≡ 2 → 2 ≤ length seat.front
+pub export_own : {A : Type 0} (seat : SeatContent A) (zone : ZoneContent A) (plan : ExportPlan) (old new : Option (List ℕ)) (answer : Result Exported ExportError) → seat.made ≡ 2 → 2 ≤ length seat.front
     → IsExport zone (movie_of seat.front) (length seat.front) plan old new answer → StandsAtOwn seat (export_end plan.from plan.to answer)
 export_own seat zone plan old new (Ok exported) made two is = own_here seat exported.at (Ok tt) made two is.0 (λ own. own)
 export_own seat zone plan old new (Err (OffRange at len)) made two is = own_here seat at (Err (Range plan.from plan.to len)) made two is.0 (λ own. own)
@@ -132,7 +132,7 @@ export_own seat zone plan old new (Err (HaltedAt at frame (Undocumented address 
 export_own seat zone plan old new (Err (WriteFailed written error)) made two is = tt
 
 -- and as out of memory only where the movie has the frames
-pub export_room : {A : Type 0} (zone : ZoneContent A) (movie : MovieContent) (edits : ℕ) (plan : Plan) (old new : Option (List ℕ)) (answer : Result Exported ExportError) → IsExport zone movie edits plan old new answer
+pub export_room : {A : Type 0} (zone : ZoneContent A) (movie : MovieContent) (edits : ℕ) (plan : ExportPlan) (old new : Option (List ℕ)) (answer : Result Exported ExportError) → IsExport zone movie edits plan old new answer
     → IfErr (export_end plan.from plan.to answer) (λ (fault : RunFault). fault ≡ Memory → IsInRange (length movie.inputs) plan.from plan.to)
 export_room zone movie edits plan old new (Ok exported) is =
     checked_cases {X = Unit {0}} 2 exported.at (Ok tt) (checked_end 2 exported.at (Ok tt)) (λ (r : Result (Unit {0}) RunFault). IfErr r (λ (f : RunFault). f ≡ Memory → IsInRange (length movie.inputs) plan.from plan.to)) refl

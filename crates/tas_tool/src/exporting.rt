@@ -20,7 +20,7 @@ use std::sync::Wait;
 use std::thread::Threads;
 use tas_desk::{CloseOnDrop, Desk, ExportError, Exported, Gate, MAX_WORKERS, Name, Seat, Unopened};
 use tas_engines::{RunFault, ToolFault, halt_fault, movie_of, read_two};
-use tas_film::Plan;
+use tas_film::ExportPlan;
 use tas_movie::Movie;
 
 /// A gate that stands open.
@@ -65,7 +65,7 @@ fn write_frames<
     alloc: A,
     desk: &Desk<N, C, A>,
     seat: &mut Seat<N, A>,
-    frames: Plan,
+    frames: ExportPlan,
     output: &mut W,
 ) -> Result<(), RunFault>
     requires two { (seat.old.made ≡ 2) × (2 ≤ length seat.old.front) }
@@ -79,7 +79,7 @@ fn write_frames<
         (λ fault. fault ≡ Memory
         → IsInRange (length (movie_of seat.new.front).inputs) frames.from frames.to) }
 {
-    let Plan { from, to, workers } = frames;
+    let ExportPlan { from, to, workers } = frames;
     let answer = desk.export(rt, alloc, seat, from, to, workers, &OpenGate, output);
     export_end(from, to, answer)
 }
@@ -97,7 +97,7 @@ fn export_made<
     desk: &Desk<N, C, A>,
     seat: &mut Seat<N, A>,
     movie: &Movie<A>,
-    frames: Plan,
+    frames: ExportPlan,
     output: &mut W,
 ) -> Result<(), RunFault>
     requires first { (seat.old.number ≡ 0) × (seat.old.made ≡ 0) × (seat.old.front ≡ []) }
@@ -119,7 +119,7 @@ fn export_from_desk<N: Name, A: Allocator + Copy + Send + Sync, R: Wait + Thread
     alloc: A,
     unopened: Unopened<A>,
     movie: &Movie<A>,
-    frames: Plan,
+    frames: ExportPlan,
     output: &mut W,
 ) -> Result<(), RunFault>
     requires name { unopened ≡ name_of N.registry N.name N.parts }
@@ -139,7 +139,7 @@ fn export_from_desk<N: Name, A: Allocator + Copy + Send + Sync, R: Wait + Thread
 fn export_movie<A: Allocator + Copy + Send + Sync, R: Wait + Threads + Sync, W: Write>(
     rt: &R,
     alloc: A,
-    frames: Plan,
+    frames: ExportPlan,
     image: &[u8],
     bytes: &[u8],
     output: &mut W,
@@ -185,7 +185,7 @@ pub fn export_run<
         (W.contents output.new) result }
 {
     let (image, bytes) = read_two(alloc, cart, input)?;
-    let frames = Plan {
+    let frames = ExportPlan {
         from,
         to,
         workers: workers.clamp(1, MAX_WORKERS),

@@ -1,6 +1,6 @@
 use Rattle.std.proofs.Common.{◌≡◌, [], vec_len, vec_items}
 use Rattle.std.specs.List.{All}
-use Rattle.tas_film.proofs.runs.Plan.runs.Given as goal
+use Rattle.tas_film.proofs.runs.ExportPlan.runs.Given as goal
 
 abbrev pub invariant-loop-number : goal.invariant-loop-number
 invariant-loop-number g l = record {

@@ -1,6 +1,6 @@
 use Rattle.std.proofs.Common.{◌+◌, arith}
 use Rattle.tas_film.proofs.RunLemmas.{next_behind, next_within, empty_more}
-use Rattle.tas_film.proofs.runs.Plan.runs.Goals as goal
+use Rattle.tas_film.proofs.runs.ExportPlan.runs.Goals as goal
 
 pub overflow_sub-frames : goal.overflow_sub-frames
 overflow_sub-frames g c =
