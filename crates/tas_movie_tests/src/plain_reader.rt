@@ -40,17 +40,17 @@ fn said(line: &[u8], has_runs: bool) -> Option<(&[u8], usize)> {
     if line.len() < 17 {
         return None;
     }
-    let (frame, behind) = line.split_at(17);
+    let (frame, rest) = line.split_at(17);
     if !is_frame(frame) {
         return None;
     }
-    if behind.is_empty() {
+    if rest.is_empty() {
         return Some((frame, 1));
     }
     if !has_runs {
         return None;
     }
-    let count = count_of(behind.strip_prefix(b" x".as_slice())?)?;
+    let count = count_of(rest.strip_prefix(b" x".as_slice())?)?;
     Some((frame, count))
 }
 

@@ -220,7 +220,7 @@ static LAST_LINES: [(&[u8], &[u8], usize, TextErrorKind); 5] = [
     (SOME, b"..... ..... ..... x2\n", 4, TextErrorKind::Run),
 ];
 
-/// Where as many frames as a movie has stand before a line, this is told before what else is wrong with it; and a
+/// Where as many frames as a movie has stand before a line, this is reported before what else is wrong with it; and a
 /// line that is no run before that it is the frame of the line before.
 #[test]
 fn the_first_fault_of_a_line_is_told(rt: HostRuntime) {
