@@ -85,7 +85,7 @@ start_row s kept near =
       | inr apart ↦ rw apart.0 refl
     ]
 
--- what a start tells
+-- what a start shows
 start_parts : (s kept near j : ℕ) → start_between s kept near ≡ j → (kept ≡ j) ⊎ ((near ≡ j) × (near / s ≡ kept / s))
 start_parts s kept near j e =
     elim (eqb_tells (near / s) (kept / s)) [

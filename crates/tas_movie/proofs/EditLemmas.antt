@@ -28,7 +28,7 @@ unrefused (Some r) later none = absurd (refused r none)
 pub insert_within : (len at count : ℕ) → insert_refusal len at count ≡ None → at ≤ len
 insert_within len at count none = place_within len at at (unrefused (place_refusal len at at) (length_refusal len (len + count)) none).0
 
--- what stands before a place stays, where it is put in front again
+-- what stands before a place stays, where it is put back before the rest
 pub front_stays : (at : ℕ) (xs was ys now : List Input) → xs ≡ was → at ≤ length was → now ≡ take at xs ++ ys → take at now ≡ take at was
 front_stays at xs was ys now same le is =
     ap (take at) is ∙ take_at (take at xs) ys at (length-take-le at xs (rw same le)) ∙ ap (take at) same

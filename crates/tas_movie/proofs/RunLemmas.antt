@@ -27,7 +27,7 @@ cases_same a b = ⊎_elim (λ t. inl (same_equal a b t)) (λ f. inr (λ e. false
 pub apart_same : (a b : Input) → (a ≡ b → ⊥) → are_same_inputs a b ≡ false
 apart_same a b ne = ⊎_elim (λ t. absurd (ne (same_equal a b t))) (λ f. f) (cases_Bool (are_same_inputs a b))
 
--- ---- a frame more in front
+-- ---- a frame more before the others
 
 front_same : (i : Input) (r : FrameRun) (rs : List FrameRun) → i ≡ r.input → in_front i (r ∷ rs) ≡ record r { count = r.count + 1 } ∷ rs
 front_same i r rs e = ap (λ (b : Bool). cond b (record r { count = r.count + 1 } ∷ rs) (run_of_one i ∷ r ∷ rs)) (equal_same i r.input e)
@@ -132,14 +132,14 @@ some_below [] n i e = absurd (none_some i e)
 some_below (x ∷ xs) zero i e = omega arith
 some_below (x ∷ xs) (suc n) i e = let below = some_below xs n i e in omega (arith, below)
 
--- so many equal frames, behind which another one stands or none, are the first run
+-- n equal frames, after which another one stands or none, are the first run
 pub runs_split : (xs : List Input) (i : Input) (n : ℕ) → 1 ≤ n → take n xs ≡ replicate n i → (n < length xs → slice_get xs n ≡ Some i → ⊥)
     → runs_of xs ≡ record { input = i; count = n } ∷ runs_of (drop n xs)
 runs_split xs i n le same longest =
     ap runs_of (sym (take-append-drop n xs) ∙ ap (λ (l : List Input). l ++ drop n xs) same)
     ∙ first_of i n (drop n xs) le (begin_other i (drop n xs) (λ e. let here : slice_get xs n ≡ Some i = sym (get_drop xs n) ∙ e in longest (some_below xs n i here) here))
 
--- ---- a run more behind some frames
+-- ---- a run more after some frames
 
 last_more : (x y : Input) (xs : List Input) → slice_get (x ∷ y ∷ xs) (length (x ∷ y ∷ xs) - 1) ≡ slice_get (y ∷ xs) (length (y ∷ xs) - 1)
 last_more x y xs = let e : suc (suc (length xs)) - 1 ≡ suc (suc (length xs) - 1) = omega arith in ap (slice_get (x ∷ y ∷ xs)) e

@@ -323,7 +323,7 @@ inputs_same a b few less e =
     ∙ ap (flat_map run_inputs) (runs_same (runs_of a) (runs_of b) (runs_longest a) (runs_longest b) (omega (arith, one, few)) (omega (arith, other, less)) e)
     ∙ runs_made b
 
--- ---- what stands behind a frame
+-- ---- what stands after a frame
 
 pub count_is : (bytes : List ℕ) (n : ℕ) → bytes ≡ count_text n → 1 ≤ n → (length bytes ≡ 0 → ⊥) → (2 ≤ n) × (bytes ≡ 32 ∷ 120 ∷ decimal n)
 count_is bytes n is le some =
@@ -333,7 +333,7 @@ pub no_count : (bytes : List ℕ) → length bytes ≡ 0 → bytes ≡ count_tex
 no_count [] e = refl
 no_count (b ∷ bytes) e = absurd (omega arith)
 
--- ---- a frame and what stands behind it
+-- ---- a frame and what stands after it
 
 pub run_made : (l letters behind : List ℕ) (i : Input) (n : ℕ) → letters ≡ take 17 l → behind ≡ drop 17 l → letters ≡ frame_text i → behind ≡ count_text n → l ≡ run_text (record { input = i; count = n })
 run_made l letters behind i n front back is count =
@@ -348,7 +348,7 @@ run_parts l letters behind r front back is = (front ∙ ap (λ (x : List ℕ). t
 pub run_length-ge : (l : List ℕ) (r : FrameRun) → l ≡ run_text r → 17 ≤ length l
 run_length-ge l r is = let e : length l ≡ length (run_text r) = ap length is in omega (arith, e, length-append (frame_text r.input) (count_text r.count))
 
--- the digits behind the mark are one number's text
+-- the digits after the mark are one number's text
 pub same_count : (bytes digits : List ℕ) (m n : ℕ) → digits ≡ drop 2 bytes → digits ≡ decimal m → m < 2 ^ 64 → n < 2 ^ 64 → bytes ≡ 32 ∷ 120 ∷ decimal n → n ≡ m
 same_count bytes digits m n back number lt less is = decimal_injective n m less lt (sym (ap (λ (l : List ℕ). drop 2 l) is) ∙ sym back ∙ number)
 
@@ -361,7 +361,7 @@ long_count bytes n is le some = let e : length bytes ≡ length (32 ∷ 120 ∷ 
 
 -- ---- steps of the code
 
--- so many copies more at the end of a list
+-- further copies of an input at the end of a list
 pub resized : (old : List Input) (all k n : ℕ) (i : Input) → length old ≤ all → k ≡ n → take all old ++ replicate k i ≡ old ++ replicate n i
 resized old all k n i le e = ap (λ (l : List Input). l ++ replicate k i) (take_all all old le) ∙ ap (λ (m : ℕ). old ++ replicate m i) e
 

@@ -61,7 +61,7 @@ read_no_error cart bytes m error is le text-m found =
 
 -- ---- which text the first line begins
 
--- what a test of the first line tells
+-- what a test of the first line shows
 pub head_tells : (head literal text : List ℕ) (r b : Bool) → r ≡ bytes_eq head literal → literal ≡ text → r ≡ b → bytes_eq head text ≡ b
 head_tells head literal text r b test same is = ap (λ (l : List ℕ). bytes_eq head l) (sym same) ∙ sym test ∙ is
 
@@ -97,7 +97,7 @@ headed bytes head text after cart rest lines is same behind read =
     is ∙ ap (λ (l : List ℕ). line l ++ after) ((bytes_eq-Decides head text).0 same)
     ∙ ap (λ (l : List ℕ). line text ++ l) (behind ∙ ap (λ (l : List ℕ). line (digest_text cart) ++ l) read)
 
--- what was read behind the two first lines is a movie of the whole
+-- what was read after the two first lines is a movie of the whole
 pub first_read : (r : Result (Unit {0}) TextError) (bytes head after cart rest : List ℕ) (inputs : List Input) → bytes ≡ line head ++ after → bytes_eq head head_text1 ≡ true
     → after ≡ line (digest_text cart) ++ rest → length inputs ≤ most_frames1 → OnOk r (rest ≡ flat_map frame_line inputs) → OnOk r (IsText bytes (record { cart = cart; inputs = inputs }))
 first_read (Ok u) bytes head after cart rest inputs is same behind few read = inl (headed bytes head head_text1 after cart rest (flat_map frame_line inputs) is same behind read, few)
