@@ -16,7 +16,7 @@ use Rattle.tas_green.proofs.BoundLemmas.{nearest_close}
 use Rattle.tas_green.proofs.ViewLemmas.{view_less}
 use Rattle.tas_desk.specs.Zones.{ZoneContent, IsShort}
 
-get_take : (xs : List Input) (m n : ℕ) → n < m → slice_get (take m xs) n ≡ slice_get xs n
+pub get_take : (xs : List Input) (m n : ℕ) → n < m → slice_get (take m xs) n ≡ slice_get xs n
 get_take xs zero n lt = absurd (omega (arith, lt))
 get_take [] (suc m) n lt = refl
 get_take (x ∷ xs) (suc m) zero lt = refl

@@ -1,6 +1,6 @@
 -- The states that `work` keeps in a draft.
-use Rattle.std.proofs.Common.{◌≡◌, ℕ, zero, suc, ◌+◌, ◌-◌, ◌<◌, ◌≤◌, ◌%◌, Bool, true, false, eqb, List, [], ◌∷◌, length, take, min, Option, Some, refl, ap, subst, ◌∙◌, inl, inr, arith}
-use Rattle.std.specs.Prelude.{nat_le, ◌&&◌, slice_get}
+use Rattle.std.proofs.Common.{◌≡◌, ℕ, ◌+◌, ◌-◌, ◌≤◌, ◌%◌, Bool, true, false, eqb, List, length, take, min, Option, Some, refl, ap, subst, ◌∙◌, inl, inr, arith}
+use Rattle.std.specs.Prelude.{nat_le, ◌&&◌}
 use Rattle.std.proofs.lemmas.Bool.{cases_lt, leb-true, and_parts}
 use Rattle.std.proofs.lemmas.List.{take-take, length-take-le}
 use Rattle.std.proofs.Math.Nat.{min-le_right}
@@ -15,13 +15,8 @@ use Rattle.tas_green.specs.Grid.{stride}
 use Rattle.tas_green.specs.Green.{IsLawful, IsReachedFrom}
 use Rattle.tas_green.specs.Zone.{state_at, nearest, first_of, where_true, is_on_grid, is_passed}
 use Rattle.tas_green.proofs.ViewLemmas.{nearest_le}
+use Rattle.tas_desk.proofs.CutLemmas.{get_take}
 use Rattle.tas_seat.proofs.DraftLemmas.{played_over}
-
-get_take : (xs : List Input) (m n : ℕ) → n < m → slice_get (take m xs) n ≡ slice_get xs n
-get_take xs zero n lt = absurd (omega (arith, lt))
-get_take [] (suc m) n lt = refl
-get_take (x ∷ xs) (suc m) zero lt = refl
-get_take (x ∷ xs) (suc m) (suc n) lt = get_take xs m n (omega (arith, lt))
 
 -- the first inputs of a list begin it as a whole
 whole_front : (xs : List Input) (end front : ℕ) → end ≤ length xs → IsCommonFront (take end xs) xs front → front ≡ end
