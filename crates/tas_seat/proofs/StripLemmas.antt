@@ -5,6 +5,7 @@ use Rattle.tas_movie.specs.declared.edit.Edit.{Edit}
 use Rattle.tas_desk.specs.Seats.{SeatContent, HasSeen}
 use Rattle.tas_engines.specs.declared.fault.RunFault.{RunFault}
 use Rattle.tas_engines.specs.declared.fault.RunFault.TheVariants.{NoEntry, Memory, Foreign, Write, Size, Text, NoFrame as OffMovie, Range as OffRange, Halted as Stopped, HaltedFrame as StoppedFrame, Script, Place, Long, NoPlace}
+use Rattle.tas_language.specs.declared.request.Request.{Request}
 use Rattle.tas_language.specs.declared.request.Request.TheVariants.{Picture, Pictures}
 use Rattle.tas_seat.specs.Turns.{standing_of}
 use Rattle.tas_seat.specs.Seats.{IsAnsweredAt, StripAnswer, AreStrip, strip_answers}
@@ -79,16 +80,16 @@ strip_answered A before now from to frame bytes shown end = ([], (refl, shown.st
 pub strip_without_memory : (A : Type 0) (before now : SeatContent A) (from to : ℕ) (fault : RunFault) → fault ≡ Memory → HasSeen before now → HasNoAnswer before now (Pictures from to) fault
 strip_without_memory A before now from to fault is seen = subst (HasNoAnswer before now (Pictures from to)) (sym is) (inl (inr (tt, seen)))
 
--- one picture is no strip
-kept_seen : {A : Type 0} (before now : SeatContent A) (frame : ℕ) → KeepsSeat (Picture frame) before now → HasSeen before now
-kept_seen before now frame (inl same) = seen_same before now same
-kept_seen before now frame (inr strip) = absurd strip.0
+-- a request that isn't answered leaves what the seat has seen
+pub kept_seen : {A : Type 0} (before now : SeatContent A) (request : Request) → KeepsSeat request before now → HasSeen before now
+kept_seen before now request (inl same) = seen_same before now same
+kept_seen before now request (inr strip) = strip.1
 
 -- a picture of it isn't told
 pub strip_unanswered : (A : Type 0) (before mid now : SeatContent A) (from to frame : ℕ) (fault : RunFault) → HasSeen before mid → HasNoAnswer mid now (Picture frame) fault → HasNoAnswer before now (Pictures from to) fault
-strip_unanswered A before mid now from to frame NoEntry seen is = inr (tt, seen_more before mid now seen (kept_seen mid now frame is))
+strip_unanswered A before mid now from to frame NoEntry seen is = inr (tt, seen_more before mid now seen (kept_seen mid now (Picture frame) is))
 strip_unanswered A before mid now from to frame Foreign seen is = strange_later before mid now seen is
-strip_unanswered A before mid now from to frame Memory seen (inl kept) = inl (inr (tt, seen_more before mid now seen (kept_seen mid now frame kept)))
+strip_unanswered A before mid now from to frame Memory seen (inl kept) = inl (inr (tt, seen_more before mid now seen (kept_seen mid now (Picture frame) kept)))
 strip_unanswered A before mid now from to frame Memory seen (inr told) = inl (inr (tt, seen_more before mid now seen (picture_seen A mid now frame told.0 told.1)))
 strip_unanswered A before mid now from to frame (Write written) seen is = absurd is
 strip_unanswered A before mid now from to frame (Size n) seen is = absurd is

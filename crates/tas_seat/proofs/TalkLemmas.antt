@@ -24,6 +24,7 @@ use Rattle.tas_seat.specs.Outcomes.{KeepsTalk, HasNoTalkAnswer}
 use Rattle.tas_seat.specs.Talk.{Exchange, IsExchange, AreExchanges, IsLeft, HasLooked, IsCarriedOut, IsAnswerCutOff, TalkEnds, IsTalk, lines_of, answers_of, last_answer, most_counted}
 use Rattle.tas_seat.specs.Inside.Talking.{CutsOff, HasAnswered, Breaks, StopsAfter, IsLineTurn, IsPartTurn}
 use Rattle.tas_seat.proofs.SeatLemmas.{seen_same}
+use Rattle.tas_seat.proofs.StripLemmas.{kept_seen}
 
 -- ---- lists of exchanges
 
@@ -142,17 +143,16 @@ looked before now seen = record { seen = seen; none = refl }
 pub not_looked : {A : Type 0} (seat : TalkingSeat A) → HasLooked seat seat.seat []
 not_looked seat = looked seat seat (record { number = refl; made = refl; begins = ([], append-nil seat.seat.front) })
 
--- a request that wasn't answered leaves what the seat has seen
-kept_seen : {A : Type 0} (before now : TalkingSeat A) (request : Request) → KeepsTalk request before now → HasSeen before.seat now.seat
-kept_seen before now request (inl (inl same, draft)) = seen_same before.seat now.seat same
-kept_seen before now request (inl (inr strip, draft)) = strip.1
-kept_seen before now request (inr inside) = seen_same before.seat now.seat inside.0
+-- a request of a conversation that isn't answered leaves what the seat has seen
+kept_talk : {A : Type 0} (before now : TalkingSeat A) (request : Request) → KeepsTalk request before now → HasSeen before.seat now.seat
+kept_talk before now request (inl (kept, draft)) = kept_seen before.seat now.seat request kept
+kept_talk before now request (inr inside) = seen_same before.seat now.seat inside.0
 
 -- a line whose answer memory was refused for
 unanswered_line : {A : Type 0} (before now : TalkingSeat A) (said : List ℕ) (request : Request) (told : ℕ) (old : Option (List ℕ)) (more : List ℕ) → NoByte 10 said → IsHeard said (Some request) → HasNoTalkAnswer before now request Memory
     → (edits : List (Edit A)) × Breaks before now.seat (line said ++ more) edits told old old Memory
 unfolding known_exchange
-unanswered_line before now said request told old more none heard (inl kept) = ([], (inl (looked before now (kept_seen before now request kept)), Appends-nil old))
+unanswered_line before now said request told old more none heard (inl kept) = ([], (inl (looked before now (kept_talk before now request kept)), Appends-nil old))
 unanswered_line before now said request told old more none heard (inr (answer, (edits, is))) =
     let x = known_exchange now said answer request edits in
     (edits, (inr (answer, carried_out before now x more (is_known before now said answer request edits is none heard) refl), Appends-nil old))
@@ -160,7 +160,7 @@ unanswered_line before now said request told old more none heard (inr (answer, (
 -- a request wasn't answered
 pub line_fault : {A : Type 0} (before now : TalkingSeat A) (said : List ℕ) (request : Request) (told : ℕ) (old : Option (List ℕ)) (fault : RunFault) → NoByte 10 said → IsHeard said (Some request) → HasNoTalkAnswer before now request fault
     → IsLineTurn before now said told old old (Err fault)
-line_fault before now said request told old NoEntry none heard is = λ more. ([], (looked before now (kept_seen before now request is), omega (arith, length-append (said ++ 10 ∷ []) more, length-append said (10 ∷ [])), Appends-nil old))
+line_fault before now said request told old NoEntry none heard is = λ more. ([], (looked before now (kept_talk before now request is), omega (arith, length-append (said ++ 10 ∷ []) more, length-append said (10 ∷ [])), Appends-nil old))
 line_fault before now said request told old Memory none heard is = λ more. unanswered_line before now said request told old more none heard is
 line_fault before now said request told old Foreign none heard is = λ more. ([], is.0)
 line_fault before now said request told old (Write written) none heard is = absurd is
