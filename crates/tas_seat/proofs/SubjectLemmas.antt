@@ -109,9 +109,9 @@ movie_answered_inside A seat draft next Quit answer is told sound = absurd (cc i
 -- why a request isn't answered outside a draft, where one that is answered is one of the conversation
 pub unanswered_talk : (A : Type 0) (before now : TalkingSeat A) (request : Request) (fault : RunFault) → ((answer : List ℕ) → HasAnswer A before.seat now.seat request answer → HasTalkAnswer A before now request answer)
     → now.draft ≡ before.draft → HasNoAnswer before.seat now.seat request fault → HasNoTalkAnswer before now request fault
-unanswered_talk A before now request NoEntry of same is = inl (is, same)
+unanswered_talk A before now request NoEntry of same is = inl (record { seat = is; draft = same })
 unanswered_talk A before now request Foreign of same is = (is, same)
-unanswered_talk A before now request Memory of same (inl kept) = inl (inl (kept, same))
+unanswered_talk A before now request Memory of same (inl kept) = inl (inl (record { seat = kept; draft = same }))
 unanswered_talk A before now request Memory of same (inr (answer, told)) = inr (answer, of answer told)
 unanswered_talk A before now request (Write written) of same is = absurd is
 unanswered_talk A before now request (Size n) of same is = absurd is
@@ -130,7 +130,7 @@ unanswered_talk A before now request NoPlace of same is = absurd is
 -- a request about the movie, at the draft
 unanswered_inside : (A : Type 0) (seat : SeatContent A) (draft next : DraftContent) (request : Request) → subject_of request ≡ AboutMovie → IsDraftUnanswered draft request next → IsDraft next
     → HasNoTalkAnswer (talking seat (Some draft)) (talking seat (Some next)) request Memory
-unanswered_inside A seat draft next request is (inl kept) sound = inl (inr (refl, draft, next, refl, refl, kept))
+unanswered_inside A seat draft next request is (inl kept) sound = inl (inr (record { old = draft; next = next; seat = refl; draft_was = refl; draft_is = refl; kept = kept }))
 unanswered_inside A seat draft next request is (inr (answer, told)) sound = inr (answer, movie_answered_inside A seat draft next request answer is told sound)
 
 pub inside_said : {X : Type 0} (A : Type 0) (seat : SeatContent A) (draft next : DraftContent) (request : Request) (r : Result (Option X) RunFault) (bytes_of : X → List ℕ) → subject_of request ≡ AboutMovie

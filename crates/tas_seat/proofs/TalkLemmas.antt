@@ -145,8 +145,8 @@ not_looked seat = looked seat seat (record { number = refl; made = refl; begins 
 
 -- a request of a conversation that isn't answered leaves what the seat has seen
 kept_talk : {A : Type 0} (before now : TalkingSeat A) (request : Request) → KeepsTalk request before now → HasSeen before.seat now.seat
-kept_talk before now request (inl (kept, draft)) = kept_seen before.seat now.seat request kept
-kept_talk before now request (inr inside) = seen_same before.seat now.seat inside.0
+kept_talk before now request (inl outside) = kept_seen before.seat now.seat request outside.seat
+kept_talk before now request (inr inside) = seen_same before.seat now.seat inside.seat
 
 -- a line whose answer memory was refused for
 unanswered_line : {A : Type 0} (before now : TalkingSeat A) (said : List ℕ) (request : Request) (told : ℕ) (old : Option (List ℕ)) (more : List ℕ) → NoByte 10 said → IsHeard said (Some request) → HasNoTalkAnswer before now request Memory

@@ -102,11 +102,26 @@ IsAboutTalk _ = ⊥
 abbrev pub HasTalkAnswer : (A : Type 0) → TalkingSeat A → TalkingSeat A → Request → List ℕ → Type 0
 HasTalkAnswer A before now request answer = (edits : List (Edit A)) × IsTalkAnswered A before.seat before.draft now request answer edits
 
--- what it leaves where it isn't: seat and draft as they were, but that some pictures of a strip may have been drawn, of the draft where one is open
-abbrev pub KeepsTalk : {A : Type 0} → Request → TalkingSeat A → TalkingSeat A → Type 0
-KeepsTalk request before now = (KeepsSeat request before.seat now.seat × (now.draft ≡ before.draft)) ⊎ ((now.seat ≡ before.seat) × (old next : DraftContent) × (before.draft ≡ Some old) × (now.draft ≡ Some next) × KeepsDraft request old next)
+-- the draft, where one is open, is as it was, and so is the seat, but that some pictures of a strip may have been drawn
+pub record KeepsAtDesk {A : Type 0} (request : Request) (before now : TalkingSeat A) : Type 0 where
+  pub seat : KeepsSeat request before.seat now.seat
+  pub draft : now.draft ≡ before.draft
 
--- why it isn't: as a request of a seat alone
+-- the seat is as it was, and so is the open draft, but that some pictures of a strip may have been drawn
+pub record KeepsInDraft {A : Type 0} (request : Request) (before now : TalkingSeat A) : Type 0 where
+  pub old : DraftContent
+  pub next : DraftContent
+  pub seat : now.seat ≡ before.seat
+  pub draft_was : before.draft ≡ Some old
+  pub draft_is : now.draft ≡ Some next
+  pub kept : KeepsDraft request old next
+
+-- what a request of a conversation leaves where it isn't answered: seat and draft as they were, but that some pictures of a strip may have been
+-- drawn, at the desk or in the draft
+abbrev pub KeepsTalk : {A : Type 0} → Request → TalkingSeat A → TalkingSeat A → Type 0
+KeepsTalk request before now = KeepsAtDesk request before now ⊎ KeepsInDraft request before now
+
+-- why it isn't answered: as a request of a seat alone
 abbrev pub HasNoTalkAnswer : {A : Type 0} → TalkingSeat A → TalkingSeat A → Request → RunFault → Type 0
 HasNoTalkAnswer before now request NoEntry = KeepsTalk request before now
 HasNoTalkAnswer before now request Foreign = IsMiscounted before.seat now.seat × (now.draft ≡ before.draft)
