@@ -13,13 +13,13 @@ use Rattle.tas_session.specs.Session.{SessionContent, IsEditError, refusal_of, e
 use Rattle.std.specs.Prelude.{Option}
 use Rattle.tas_session.specs.declared.replies.EditError.{EditError}
 use Rattle.tas_session.specs.declared.reader_view.ReaderView.{ReaderView}
-use Rattle.tas_session.specs.Published.{PublishedContent, PublisherContent, ChangeContent, change_of, view_of, after, pushed_by, IsSoundPublished, IsCurrent, Follows}
+use Rattle.tas_session.specs.Published.{PublishedContent, PublisherContent, StepContent, step_of, view_of, after, pushed_by, IsSoundPublished, IsCurrent, Follows}
 use Rattle.tas_session.specs.declared.journal.Step.{Step}
 use Rattle.tas_session.specs.Inside.Steps.{entries_in}
 use Rattle.tas_session.specs.Strokes.{edits_in, edited_by, AreNext}
 use Rattle.tas_session.proofs.HistoryLemmas.{movie_of-on, legal-on, room-on}
 
-sound_pushed : {A : Type 0} (x : PublishedContent A) (log es : List (Entry A)) (b : Book) → x.version.history ≡ log → IsSoundPublished x → AreNext log es → IsSoundPublished (after x (change_of (edits_in es) (version_of b (log ++ es))))
+sound_pushed : {A : Type 0} (x : PublishedContent A) (log es : List (Entry A)) (b : Book) → x.version.history ≡ log → IsSoundPublished x → AreNext log es → IsSoundPublished (after x (step_of (edits_in es) (version_of b (log ++ es))))
 sound_pushed {A} x log es b same s may =
     let long = length-append log es in
     let many : length (edits_in es) ≡ length es = length-map es (λ (e : Entry A). e.edit) in
@@ -32,16 +32,16 @@ sound_pushed {A} x log es b same s may =
       legal = legal-on log es (subst (λ (h : List (Entry A)). IsLegal h) same s.legal) may;
     }
 
-pub follows : {A : Type 0} (x : PublishedContent A) (pending : List (ChangeContent A)) (b : Book) (log seen : List (Entry A)) (step : Step A) (c : ChangeContent A) → IsCurrent x pending b log seen → AreNext log (entries_in step)
-    → c ≡ change_of (edits_in (entries_in step)) (version_of b (log ++ entries_in step)) → Follows x c
+pub follows : {A : Type 0} (x : PublishedContent A) (pending : List (StepContent A)) (b : Book) (log seen : List (Entry A)) (step : Step A) (c : StepContent A) → IsCurrent x pending b log seen → AreNext log (entries_in step)
+    → c ≡ step_of (edits_in (entries_in step)) (version_of b (log ++ entries_in step)) → Follows x c
 follows {A} x pending b log seen step c s may is =
-    subst (λ (d : ChangeContent A). Follows x d) (sym is)
+    subst (λ (d : StepContent A). Follows x d) (sym is)
     (record { registry = s.registry; step = step; more = ap (λ (l : List (Entry A)). l ++ entries_in step) (sym s.same); sound = sound_pushed x log (entries_in step) b s.same s.sound may })
 
-accepted : {A : Type 0} (x y : PublishedContent A) (pending now : List (ChangeContent A)) (b : Book) (log seen es : List (Entry A)) (c : ChangeContent A) (v : ReaderView A) → IsCurrent x pending b log seen → AreNext log es → c ≡ change_of (edits_in es) (version_of b (log ++ es))
+accepted : {A : Type 0} (x y : PublishedContent A) (pending now : List (StepContent A)) (b : Book) (log seen es : List (Entry A)) (c : StepContent A) (v : ReaderView A) → IsCurrent x pending b log seen → AreNext log es → c ≡ step_of (edits_in es) (version_of b (log ++ es))
     → now ≡ [] → y ≡ after x c → v ≡ view_of y.version → IsCurrent y now b (log ++ es) v.seen
 accepted {A} x y pending now b log seen es c v s may is none made view =
-    let all : y ≡ after x (change_of (edits_in es) (version_of b (log ++ es))) = made ∙ ap (after x) is in record {
+    let all : y ≡ after x (step_of (edits_in es) (version_of b (log ++ es))) = made ∙ ap (after x) is in record {
       none = none;
       registry = ap (λ (p : PublishedContent A). p.version.registry) all;
       same = ap (λ (p : PublishedContent A). p.version.history) all;
@@ -50,13 +50,13 @@ accepted {A} x y pending now b log seen es c v s may is none made view =
     }
 
 -- what is published is the journal, after the change
-pub accepted_as : {A : Type 0} (x y : PublishedContent A) (pending now : List (ChangeContent A)) (b b' : Book) (log log' seen es : List (Entry A)) (c : ChangeContent A) (v : ReaderView A) → IsCurrent x pending b log seen → AreNext log es → c ≡ change_of (edits_in es) (version_of b (log ++ es))
+pub accepted_as : {A : Type 0} (x y : PublishedContent A) (pending now : List (StepContent A)) (b b' : Book) (log log' seen es : List (Entry A)) (c : StepContent A) (v : ReaderView A) → IsCurrent x pending b log seen → AreNext log es → c ≡ step_of (edits_in es) (version_of b (log ++ es))
     → now ≡ [] → y ≡ after x c → v ≡ view_of y.version → b' ≡ b → log' ≡ log ++ es → IsCurrent y now b' log' v.seen
 accepted_as {A} x y pending now b b' log log' seen es c v s may is none made view book list =
     subst (λ (d : Book). IsCurrent y now d log' v.seen) (sym book) (subst (λ (l : List (Entry A)). IsCurrent y now b l v.seen) (sym list) (accepted x y pending now b log seen es c v s may is none made view))
 
 -- the published movie is the edited one
-pub edited_as : {A : Type 0} (x y : PublishedContent A) (edits : List (Edit A)) (m : VersionContent A) (c : ChangeContent A) → c ≡ change_of edits m → y ≡ after x c → y.movie ≡ edited_by x.movie edits
+pub edited_as : {A : Type 0} (x y : PublishedContent A) (edits : List (Edit A)) (m : VersionContent A) (c : StepContent A) → c ≡ step_of edits m → y ≡ after x c → y.movie ≡ edited_by x.movie edits
 edited_as {A} x y edits m c is made = ap (λ (p : PublishedContent A). p.movie) (made ∙ ap (after x) is)
 
 -- the publisher after a step
@@ -74,12 +74,12 @@ left_as {A} old b b' log log' m m' view book same new =
     now ∙ view
 
 -- the change that stands for a step
-pub change_is : {A : Type 0} (b : Book) (log items es : List (Entry A)) (edits : List (Edit A)) (op : ChangeContent A) (last again newest : VersionContent A) → edits ≡ edits_in es → items ≡ log ++ es → again ≡ last → last ≡ newest → newest ≡ version_of b items → op ≡ change_of edits again
-    → op ≡ change_of (edits_in es) (version_of b (log ++ es))
-change_is b log items es edits op last again newest p q r s t u = u ∙ (λ i. change_of (p i) ((r ∙ s ∙ t ∙ ap (version_of b) q) i))
+pub change_is : {A : Type 0} (b : Book) (log items es : List (Entry A)) (edits : List (Edit A)) (op : StepContent A) (last again newest : VersionContent A) → edits ≡ edits_in es → items ≡ log ++ es → again ≡ last → last ≡ newest → newest ≡ version_of b items → op ≡ step_of edits again
+    → op ≡ step_of (edits_in es) (version_of b (log ++ es))
+change_is b log items es edits op last again newest p q r s t u = u ∙ (λ i. step_of (p i) ((r ∙ s ∙ t ∙ ap (version_of b) q) i))
 
 -- what is published is the journal still
-pub same_current : {A : Type 0} (x y : PublishedContent A) (pending now : List (ChangeContent A)) (b b' : Book) (log log' : List (Entry A)) (v w : ReaderView A) → IsCurrent x pending b log v.seen → y ≡ x → now ≡ [] → w ≡ v → b' ≡ b → log' ≡ log → IsCurrent y now b' log' w.seen
+pub same_current : {A : Type 0} (x y : PublishedContent A) (pending now : List (StepContent A)) (b b' : Book) (log log' : List (Entry A)) (v w : ReaderView A) → IsCurrent x pending b log v.seen → y ≡ x → now ≡ [] → w ≡ v → b' ≡ b → log' ≡ log → IsCurrent y now b' log' w.seen
 same_current {A} x y pending now b b' log log' v w s same none view book list = record {
   none = none;
   registry = ap (λ (p : PublishedContent A). p.version.registry) same ∙ s.registry ∙ sym book;

@@ -1,18 +1,18 @@
 -- What a publish did that can't fail.
 use Rattle.std.proofs.Common.{◌≡◌, true, false, true≢false, List, [], ◌∷◌, ◌++◌, ap, sym, ◌∙◌}
 use Rattle.std.specs.Prelude.{Result, Ok, Err, IsOk, is_err, OnOk, OnErr, MatchResult, fold}
-use Rattle.tas_session.specs.Published.{PublishedContent, ChangeContent, after}
+use Rattle.tas_session.specs.Published.{PublishedContent, StepContent, after}
 
 pub done_of : {X E : Type 0} (P Q : Type 0) (r : Result X E) → IsOk r → MatchResult r (λ _. P) (λ _. Q) → P
 done_of P Q (Ok x) ok v = v
 done_of P Q (Err e) ok v = absurd (true≢false (sym ok))
 
 -- where nothing is pending, what was published stays
-pub stayed : {A : Type 0} (x y : PublishedContent A) (ops : List (ChangeContent A)) → y ≡ fold after x ops → ops ≡ [] → y ≡ x
+pub stayed : {A : Type 0} (x y : PublishedContent A) (ops : List (StepContent A)) → y ≡ fold after x ops → ops ≡ [] → y ≡ x
 stayed x y ops is none = is ∙ ap (fold after x) none
 
 -- where one change is pending, it is made
-pub showed : {A : Type 0} (x was y : PublishedContent A) (before ops : List (ChangeContent A)) (op : ChangeContent A) → y ≡ fold after was ops → was ≡ x → ops ≡ before ++ op ∷ [] → before ≡ [] → y ≡ after x op
+pub showed : {A : Type 0} (x was y : PublishedContent A) (before ops : List (StepContent A)) (op : StepContent A) → y ≡ fold after was ops → was ≡ x → ops ≡ before ++ op ∷ [] → before ≡ [] → y ≡ after x op
 showed x was y before ops op is same more none = is ∙ (λ i. fold after (same i) ((more ∙ ap (λ l. l ++ op ∷ []) none) i))
 
 -- a result that isn't taken apart, where it is known to be no error, and where it is known to be one

@@ -13,7 +13,7 @@ use Rattle.tas_session.specs.declared.reader_view.ReaderView.{ReaderView}
 use Rattle.tas_session.specs.Version.{VersionContent}
 use Rattle.tas_session.specs.History.{movie_of, IsLegal}
 use Rattle.tas_session.specs.Inside.Steps.{entries_in}
-use Rattle.tas_session.specs.Published.{PublishedContent, published_of, IsSoundPublished, HasSeenPrefix, HasSeenAll, HasSeenMore, HasStepMore, Holds, Sees, PublishesStep, PublishesNothing, learned, view_of, blank_view, ChangeContent, after, Follows, IsCurrent}
+use Rattle.tas_session.specs.Published.{PublishedContent, published_of, IsSoundPublished, HasSeenPrefix, HasSeenAll, HasSeenMore, HasStepMore, Holds, Sees, PublishesStep, PublishesNothing, learned, view_of, blank_view, StepContent, after, Follows, IsCurrent}
 use Rattle.tas_session.proofs.PrefixLemmas.{prefix_trans, prefix_self, prefix_shorter}
 use Rattle.tas_session.proofs.HistoryLemmas.{legal_none, movie_of-none}
 
@@ -140,12 +140,12 @@ pub learned_all : {A : Type 0} (m : VersionContent A) → learned blank_view (vi
 learned_all m = all_of (view_of m) (nat_lt (length m.history) 0) refl
 
 -- what follows is one step more
-pub follows_on : {A : Type 0} (x was y : PublishedContent A) (c : ChangeContent A) → x ≡ was → y ≡ after was c → Follows was c → HasStepMore x y
+pub follows_on : {A : Type 0} (x was y : PublishedContent A) (c : StepContent A) → x ≡ was → y ≡ after was c → Follows was c → HasStepMore x y
 follows_on {A} x was y c same is f =
     subst (λ (p : PublishedContent A). HasStepMore p y) (sym same) (subst (λ (p : PublishedContent A). HasStepMore was p) (sym is) (record { registry = f.registry; step = f.step; more = f.more; sound = λ _. f.sound }))
 
 -- a session that opens: nothing waits to be published, and what is published is the empty history
-pub opened_as : {A : Type 0} (x : PublishedContent A) (pending : List (ChangeContent A)) (newest : VersionContent A) (journal : List (Entry A)) (v : ReaderView A) → pending ≡ [] → x ≡ published_of blank_movie 0 newest → newest.history ≡ [] → journal ≡ [] → v ≡ blank_view → IsCurrent x pending newest.registry journal v.seen
+pub opened_as : {A : Type 0} (x : PublishedContent A) (pending : List (StepContent A)) (newest : VersionContent A) (journal : List (Entry A)) (v : ReaderView A) → pending ≡ [] → x ≡ published_of blank_movie 0 newest → newest.history ≡ [] → journal ≡ [] → v ≡ blank_view → IsCurrent x pending newest.registry journal v.seen
 opened_as {A} x pending newest journal v none is empty fresh nothing = record {
   none = none;
   registry = ap (λ (p : PublishedContent A). p.version.registry) is;

@@ -27,7 +27,7 @@ pub record PublisherContent (A : Type 0) : Type 0 where
   pub movie : MovieContent
 
 -- edits that are made at once, and all edits up to them
-pub record ChangeContent (A : Type 0) : Type 0 where
+pub record StepContent (A : Type 0) : Type 0 where
   pub edits : List (Edit A)
   pub version : VersionContent A
 
@@ -42,10 +42,10 @@ pushed_by publisher entries = record {
 abbrev pub published_of : {A : Type 0} → MovieContent → ℕ → VersionContent A → PublishedContent A
 published_of m n v = record { movie = m; at = n; version = v }
 
-abbrev pub change_of : {A : Type 0} → List (Edit A) → VersionContent A → ChangeContent A
-change_of edits v = record { edits = edits; version = v }
+abbrev pub step_of : {A : Type 0} → List (Edit A) → VersionContent A → StepContent A
+step_of edits v = record { edits = edits; version = v }
 
-abbrev pub after : {A : Type 0} → PublishedContent A → ChangeContent A → PublishedContent A
+abbrev pub after : {A : Type 0} → PublishedContent A → StepContent A → PublishedContent A
 after x c = published_of (edited_by x.movie c.edits) (min (x.at + length c.edits) most_counted) c.version
 
 -- what the one who knows this history of this registry has seen
@@ -114,7 +114,7 @@ abbrev pub learned : {A : Type 0} → ReaderView A → ReaderView A → ReaderVi
 learned v w = if w.known then (if nat_lt (length w.seen) (length v.seen) then v else w) else v
 
 -- nothing waits to be published, what is published is the journal, in the registry that numbers it, and it is what the writer has seen
-pub record IsCurrent {A : Type 0} (x : PublishedContent A) (pending : List (ChangeContent A)) (numbering : Book) (journal writers : List (Entry A)) : Type 0 where
+pub record IsCurrent {A : Type 0} (x : PublishedContent A) (pending : List (StepContent A)) (numbering : Book) (journal writers : List (Entry A)) : Type 0 where
   pub none : pending ≡ []
   pub registry : x.version.registry ≡ numbering
   pub same : x.version.history ≡ journal
@@ -122,7 +122,7 @@ pub record IsCurrent {A : Type 0} (x : PublishedContent A) (pending : List (Chan
   pub sound : IsSoundPublished x
 
 -- a change of what is published that adds just the entries of one step and leaves it sound
-pub record Follows {A : Type 0} (x : PublishedContent A) (c : ChangeContent A) : Type 0 where
+pub record Follows {A : Type 0} (x : PublishedContent A) (c : StepContent A) : Type 0 where
   pub registry : x.version.registry ≡ c.version.registry
   pub step : Step A
   pub more : c.version.history ≡ x.version.history ++ entries_in step

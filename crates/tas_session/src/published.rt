@@ -4,7 +4,7 @@
 ghost use Rattle.std.specs.Prelude.{◌≡◌};
 ghost use Rattle.tas_movie.specs.Edit.{edited};
 ghost use Rattle.tas_session.specs.Strokes.{edits_of, edited_by};
-ghost use Rattle.tas_session.specs.Published.{published_of, change_of};
+ghost use Rattle.tas_session.specs.Published.{published_of, step_of};
 
 use crate::reader_view::ReaderView;
 use crate::version::{Version, VersionRule};
@@ -54,18 +54,18 @@ impl<A: Allocator> Model for PublishedStep<A>
 where
     VersionRule: Rule<LinkedList<Entry<A>, A>, u64>,
 {
-    ghost use Rattle.tas_session.specs.Published.{ChangeContent, change_of};
+    ghost use Rattle.tas_session.specs.Published.{StepContent, step_of};
     ghost use Rattle.tas_session.specs.Strokes.{edits_of};
 
-    ghost Value = { ChangeContent A };
+    ghost Value = { StepContent A };
 
-    ghost view = { λ o. change_of (edits_of o.stroke) o.version };
+    ghost view = { λ o. step_of (edits_of o.stroke) o.version };
 }
 
 impl<A: Allocator> PublishedStep<A> {
     /// Edits, with the version of the history once they are made.
     pub fn new(stroke: Stroke<A>, version: Version<A>) -> PublishedStep<A>
-        ensures { result ≡ change_of (edits_of stroke) version }
+        ensures { result ≡ step_of (edits_of stroke) version }
     {
         PublishedStep { stroke, version }
     }

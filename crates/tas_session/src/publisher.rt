@@ -144,8 +144,8 @@ fn publish_nothing<A: Allocator, R: Wait>(writer: MovieWriter<A>, rt: &R) -> Mov
     writer
 }
 
-/// Publishes one change, by value. Its only growth comes first: where that is refused nothing is published.
-fn publish_edit<A: Allocator, R: Wait>(
+/// Publishes one step, by value. Its only growth comes first: where that is refused nothing is published.
+fn publish<A: Allocator, R: Wait>(
     writer: MovieWriter<A>,
     rt: &R,
     change: PublishedStep<A>,
@@ -274,7 +274,7 @@ impl<A: Allocator + Copy> Publisher<A> {
                 renew(rt, &mut latest, &journal);
                 let version = latest.version().copy();
                 let change = PublishedStep::new(stroke, version);
-                let (writer, answer) = publish_edit(writer, rt, change);
+                let (writer, answer) = publish(writer, rt, change);
                 if answer.is_err() {
                     take_back(&mut journal, kept);
                 }

@@ -9,19 +9,19 @@ use Rattle.tas_session.proofs.PublishLemmas.{where_ok, where_err, on_ok, on_err,
 use Rattle.tas_session.proofs.publisher.Publisher.pushed.Goals.{then-is_err, else-is_err}
 use Rattle.tas_session.proofs.publisher.Publisher.pushed.Goals as goal
 
-pub publish_edit-writer-requires-clause-follows : goal.publish_edit-writer-requires-clause-follows
-publish_edit-writer-requires-clause-follows g c =
+pub publish-writer-requires-clause-follows : goal.publish-writer-requires-clause-follows
+publish-writer-requires-clause-follows g c =
     let may = subst (λ (s : PublisherContent _). AreNext s.journal (entries_in c.args.step)) (sym c.self.view_is) c.requires in
     let op = change_is c.self.inside.latest.registry c.self.inside.journal.items _ (entries_in c.args.step) _ _ _ _ _ c.in-Ok.ensures.stroke c.in-Ok.ensures.journal c.copy-version.ensures c.version.ensures c.renew.ensures c.new-change.ensures in
     follows _ _ _ _ _ c.args.step c.new-change.result c.self.invariant may op
 
-pub publish_edit-writer-requires-clause-known : goal.publish_edit-writer-requires-clause-known
-publish_edit-writer-requires-clause-known g c = c.self.invariant.view ∙ sym c.self.invariant.same
+pub publish-writer-requires-clause-known : goal.publish-writer-requires-clause-known
+publish-writer-requires-clause-known g c = c.self.invariant.view ∙ sym c.self.invariant.same
 
 pub invariant_of-publisher : goal.invariant_of-publisher
 invariant_of-publisher g c =
-    let e = c.publish_edit-writer.ensures in
-    let answer = c.publish_edit-writer.result.1 in
+    let e = c.publish-writer.ensures in
+    let answer = c.publish-writer.result.1 in
     let registry = ap (λ (m : VersionContent _). m.registry) c.renew.ensures in
     let may = subst (λ (s : PublisherContent _). AreNext s.journal (entries_in c.args.step)) (sym c.self.view_is) c.requires in
     let op = change_is c.self.inside.latest.registry c.self.inside.journal.items _ (entries_in c.args.step) _ _ _ _ _ c.in-Ok.ensures.stroke c.in-Ok.ensures.journal c.copy-version.ensures c.version.ensures c.renew.ensures c.new-change.ensures in elim c.if-is_err.branch [
@@ -37,21 +37,21 @@ invariant_of-publisher g c =
 
 pub returns-after-is_err-clause-done : goal.returns-after-is_err-clause-done
 returns-after-is_err-clause-done g c =
-    let e = c.publish_edit-writer.ensures in
-    let answer = c.publish_edit-writer.result.1 in
+    let e = c.publish-writer.ensures in
+    let answer = c.publish-writer.result.1 in
     let registry = ap (λ (m : VersionContent _). m.registry) c.renew.ensures in
     let op = change_is c.self.inside.latest.registry c.self.inside.journal.items _ (entries_in c.args.step) _ _ _ _ _ c.in-Ok.ensures.stroke c.in-Ok.ensures.journal c.copy-version.ensures c.version.ensures c.renew.ensures c.new-change.ensures in elim c.if-is_err.branch [
       | then-is_err w ↦ not_ok _ answer (sym c.is_err.ensures.value ∙ w.if-is_err.true)
       | else-is_err w ↦
           let done = sym c.is_err.ensures.value ∙ w.if-is_err.false in
           let list = ap (λ v. v.items) w.journal-is ∙ c.in-Ok.ensures.journal in
-          on_ok _ answer (pushed_as _ _ _ _ _ _ _ (entries_in c.args.step) c.self.view_is registry list (edited_as c.self.inside.writer.desk.shown.value c.publish_edit-writer.result.0.desk.shown.value _ _ _ op (where_ok _ _ answer done e.value)))
+          on_ok _ answer (pushed_as _ _ _ _ _ _ _ (entries_in c.args.step) c.self.view_is registry list (edited_as c.self.inside.writer.desk.shown.value c.publish-writer.result.0.desk.shown.value _ _ _ op (where_ok _ _ answer done e.value)))
     ]
 
 pub returns-after-is_err-clause-refused : goal.returns-after-is_err-clause-refused
 returns-after-is_err-clause-refused g c =
-    let e = c.publish_edit-writer.ensures in
-    let answer = c.publish_edit-writer.result.1 in
+    let e = c.publish-writer.ensures in
+    let answer = c.publish-writer.result.1 in
     let registry = ap (λ (m : VersionContent _). m.registry) c.renew.ensures in elim c.if-is_err.branch [
       | then-is_err w ↦
           let failed = sym c.is_err.ensures.value ∙ w.if-is_err.true in

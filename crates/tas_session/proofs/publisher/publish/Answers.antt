@@ -3,7 +3,7 @@ use Rattle.std.proofs.Common.{ap, refl, subst, arith}
 use Rattle.tas_session.specs.Published.{PublishedContent, HasStepMore}
 use Rattle.tas_session.proofs.PublishedRule.{follows_on}
 use Rattle.tas_session.proofs.PublishLemmas.{showed}
-use Rattle.tas_session.proofs.publisher.publish_edit.Goals as goal
+use Rattle.tas_session.proofs.publisher.publish.Goals as goal
 
 pub publish_step-requires-clause-known : goal.publish_step-requires-clause-known
 publish_step-requires-clause-known g c = rw c.append.ensures.desk c.requires.known
