@@ -129,21 +129,21 @@ impl<N: Name, W: CloseOnDrop, A: Allocator> Desk<N, W, A> {
     }
 
     /// Whether these are all seats of the desk: the numbers from 0 on, each once, and no others.
-    pub fn whole(&self, seats: &[Seat<N, A>]) -> bool
+    pub fn has_all(&self, seats: &[Seat<N, A>]) -> bool
         ensures { IsTrue result ↔ IsWhole N.parts seats.now }
     {
-        if seats.len() != self.seats as usize || !below(seats, self.seats) {
+        if seats.len() != self.seats as usize || !are_below(seats, self.seats) {
             return false;
         }
         for k in 0..self.seats {
-            if times(seats, k) > 1 {
+            if count_of(seats, k) > 1 {
                 return false;
             }
         }
         true
     }
 
-    /// Ends the desk, with all its seats, for which [`Desk::whole`] is the test. It returns the movie and the history that made it,
+    /// Ends the desk, with all its seats, for which [`Desk::has_all`] is the test. It returns the movie and the history that made it,
     /// in which each seat has just as many entries as edits that it made, and nobody else has any.
     pub fn close<R: Wait>(self, rt: &R, seats: Vec<Seat<N, A>, A>) -> Closed<A>
         requires whole { IsWhole N.parts seats.items }
@@ -391,7 +391,7 @@ impl<N: Name, W: CloseOnDrop, A: Allocator + Copy> Desk<N, W, A> {
 }
 
 /// Whether each seat's number is below `n`.
-fn below<N: Name, A: Allocator>(seats: &[Seat<N, A>], n: u32) -> bool
+fn are_below<N: Name, A: Allocator>(seats: &[Seat<N, A>], n: u32) -> bool
     ensures { IsTrue result ↔ All (λ s. s.number < n) seats.now }
 {
     for k in 0..seats.len() {
@@ -403,7 +403,7 @@ fn below<N: Name, A: Allocator>(seats: &[Seat<N, A>], n: u32) -> bool
 }
 
 /// How many seats have this number.
-fn times<N: Name, A: Allocator>(seats: &[Seat<N, A>], k: u32) -> usize
+fn count_of<N: Name, A: Allocator>(seats: &[Seat<N, A>], k: u32) -> usize
     ensures { result ≡ count_by (λ s. s.number == k) seats.now }
 {
     seats.iter().filter(|s| s.number() == k).count()

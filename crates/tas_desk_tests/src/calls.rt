@@ -241,7 +241,7 @@ fn is_whole<N: Name, W: CloseOnDrop>(
     answer: bool,
 ) -> bool {
     match seats.get(from..to) {
-        Some(some) => desk.whole(some) == answer,
+        Some(some) => desk.has_all(some) == answer,
         None => false,
     }
 }

@@ -1,7 +1,7 @@
 use Rattle.std.proofs.Common.{◌<◌, sym, subst, refl, arith, rules}
 use Rattle.tas_desk.specs.Seats.{SeatContent}
 use Rattle.tas_desk.proofs.SeatLemmas.{below_more}
-use Rattle.tas_desk.proofs.desk.below.Goals as goal
+use Rattle.tas_desk.proofs.desk.are_below.Goals as goal
 
 pub loop-k-preserved : goal.loop-k-preserved
 loop-k-preserved g c =
