@@ -21,24 +21,24 @@ use Rattle.tas_seat.specs.Conversations.{TalkingSeat, talking, LeavesSeat, IsAns
 use Rattle.tas_seat.specs.Drafts.{DraftContent}
 use Rattle.tas_seat.specs.Outcomes.{IsMiscounted}
 use Rattle.tas_seat.specs.Talk.{Exchange, IsExchange, AreExchanges, IsLeft, HasLooked, IsCarriedOut, TalkEnds, IsTalk, edits_of, all_edits}
-use Rattle.tas_seat.specs.Histories.{entries_by, IsInHistory}
+use Rattle.tas_seat.specs.Histories.{entries_of_seat, IsInHistory}
 
 pub prefix_length : {X : Type 0} (a b : List X) (p : IsPrefix a b) → length b ≡ length a + length p.0
 prefix_length {X} a b p = ap (λ (l : List X). length l) (sym p.1) ∙ length-append a p.0
 
 -- ---- a seat's entries
 
-by-append : {A : Type 0} (n : ℕ) (xs ys : List (Entry A)) → entries_by n (xs ++ ys) ≡ entries_by n xs ++ entries_by n ys
+by-append : {A : Type 0} (n : ℕ) (xs ys : List (Entry A)) → entries_of_seat n (xs ++ ys) ≡ entries_of_seat n xs ++ entries_of_seat n ys
 by-append {A} n xs ys = filter-append (λ (e : Entry A). e.seat == n) xs ys
 
 -- how many they are
-pub by_length : {A : Type 0} (n : ℕ) (xs : List (Entry A)) → length (entries_by n xs) ≡ entries_of n xs
+pub by_length : {A : Type 0} (n : ℕ) (xs : List (Entry A)) → length (entries_of_seat n xs) ≡ entries_of n xs
 by_length {A} n xs = length-filter (λ (e : Entry A). e.seat == n) xs
 
-by_length-append : {A : Type 0} (n : ℕ) (xs ys : List (Entry A)) → length (entries_by n (xs ++ ys)) ≡ length (entries_by n xs) + length (entries_by n ys)
-by_length-append {A} n xs ys = ap (λ (l : List (Entry A)). length l) (by-append n xs ys) ∙ length-append (entries_by n xs) (entries_by n ys)
+by_length-append : {A : Type 0} (n : ℕ) (xs ys : List (Entry A)) → length (entries_of_seat n (xs ++ ys)) ≡ length (entries_of_seat n xs) + length (entries_of_seat n ys)
+by_length-append {A} n xs ys = ap (λ (l : List (Entry A)). length l) (by-append n xs ys) ∙ length-append (entries_of_seat n xs) (entries_of_seat n ys)
 
-by_own : {A : Type 0} (n m : ℕ) (edits : List (Edit A)) → entries_by n (entries_from n m edits) ≡ entries_from n m edits
+by_own : {A : Type 0} (n m : ℕ) (edits : List (Edit A)) → entries_of_seat n (entries_from n m edits) ≡ entries_from n m edits
 by_own {A} n m [] = refl
 by_own {A} n m (edit ∷ edits) = rw (eq-eqb n n refl) (ap (λ (l : List (Entry A)). entry_of n m edit ∷ l) (by_own n (m + 1) edits))
 
@@ -56,14 +56,14 @@ none_of [] is = refl
 none_of (x ∷ xs) is = absurd (omega (arith, is))
 
 -- what stands after a beginning of a history
-pub by_rest : {A : Type 0} (n : ℕ) (xs ys : List (Entry A)) (p : IsPrefix xs ys) → length (entries_by n ys) ≡ length (entries_by n xs) + length (entries_by n p.0)
-by_rest {A} n xs ys p = ap (λ (l : List (Entry A)). length (entries_by n l)) (sym p.1) ∙ by_length-append n xs p.0
+pub by_rest : {A : Type 0} (n : ℕ) (xs ys : List (Entry A)) (p : IsPrefix xs ys) → length (entries_of_seat n ys) ≡ length (entries_of_seat n xs) + length (entries_of_seat n p.0)
+by_rest {A} n xs ys p = ap (λ (l : List (Entry A)). length (entries_of_seat n l)) (sym p.1) ∙ by_length-append n xs p.0
 
 -- a beginning of a history that has as many of them has the same
-prefix_equal : {A : Type 0} (n : ℕ) (xs ys : List (Entry A)) → IsPrefix xs ys → length (entries_by n ys) ≤ length (entries_by n xs) → entries_by n ys ≡ entries_by n xs
+prefix_equal : {A : Type 0} (n : ℕ) (xs ys : List (Entry A)) → IsPrefix xs ys → length (entries_of_seat n ys) ≤ length (entries_of_seat n xs) → entries_of_seat n ys ≡ entries_of_seat n xs
 prefix_equal {A} n xs ys p few =
-    let none : entries_by n p.0 ≡ [] = none_of (entries_by n p.0) (omega (arith, few, by_rest n xs ys p)) in
-    ap (λ (l : List (Entry A)). entries_by n l) (sym p.1) ∙ by-append n xs p.0 ∙ ap (λ (l : List (Entry A)). entries_by n xs ++ l) none ∙ append-nil (entries_by n xs)
+    let none : entries_of_seat n p.0 ≡ [] = none_of (entries_of_seat n p.0) (omega (arith, few, by_rest n xs ys p)) in
+    ap (λ (l : List (Entry A)). entries_of_seat n l) (sym p.1) ∙ by-append n xs p.0 ∙ ap (λ (l : List (Entry A)). entries_of_seat n xs ++ l) none ∙ append-nil (entries_of_seat n xs)
 
 -- ---- what lines leave of a seat
 
@@ -74,9 +74,9 @@ pub record Leaves {A : Type 0} (start last : SeatContent A) (edits : List (Edit 
   pub made : last.made ≡ start.made + length edits
   pub seen : IsPrefix start.front last.front
   pub longer : length start.front + length edits ≤ length last.front
-  pub grows : length (entries_by start.number start.front) + length edits ≤ length (entries_by start.number last.front)
-  pub own : length (entries_by start.number last.front) ≤ length (entries_by start.number start.front) + length edits
-      → entries_by start.number last.front ≡ entries_by start.number start.front ++ entries_from start.number start.made edits
+  pub grows : length (entries_of_seat start.number start.front) + length edits ≤ length (entries_of_seat start.number last.front)
+  pub own : length (entries_of_seat start.number last.front) ≤ length (entries_of_seat start.number start.front) + length edits
+      → entries_of_seat start.number last.front ≡ entries_of_seat start.number start.front ++ entries_from start.number start.made edits
 
 pub leaves_seen : {A : Type 0} (start last : SeatContent A) → HasSeen start last → Leaves start last []
 leaves_seen {A} start last seen =
@@ -87,7 +87,7 @@ leaves_seen {A} start last seen =
       seen = seen.begins;
       longer = omega (arith, prefix_length start.front last.front seen.begins);
       grows = omega (arith, more);
-      own = λ few. prefix_equal start.number start.front last.front seen.begins (omega (arith, few)) ∙ sym (append-nil (entries_by start.number start.front));
+      own = λ few. prefix_equal start.number start.front last.front seen.begins (omega (arith, few)) ∙ sym (append-nil (entries_of_seat start.number start.front));
     }
 
 pub leaves_same : {A : Type 0} (start last : SeatContent A) → last ≡ start → Leaves start last []
@@ -98,14 +98,14 @@ leaves_same {A} start last is = leaves_seen start last (record {
 })
 
 -- a seat's entries after it was answered
-after_by : {A : Type 0} (seat next : SeatContent A) (at : List (Entry A)) (edits : List (Edit A)) → IsSeatAfter seat at edits next → entries_by seat.number next.front ≡ entries_by seat.number at ++ entries_from seat.number seat.made edits
+after_by : {A : Type 0} (seat next : SeatContent A) (at : List (Entry A)) (edits : List (Edit A)) → IsSeatAfter seat at edits next → entries_of_seat seat.number next.front ≡ entries_of_seat seat.number at ++ entries_from seat.number seat.made edits
 after_by {A} seat next at edits is =
-    ap (λ (l : List (Entry A)). entries_by seat.number l) is.front ∙ by-append seat.number at (entries_from seat.number seat.made edits) ∙ ap (λ (l : List (Entry A)). entries_by seat.number at ++ l) (by_own seat.number seat.made edits)
+    ap (λ (l : List (Entry A)). entries_of_seat seat.number l) is.front ∙ by-append seat.number at (entries_from seat.number seat.made edits) ∙ ap (λ (l : List (Entry A)). entries_of_seat seat.number at ++ l) (by_own seat.number seat.made edits)
 
-after_length : {A : Type 0} (seat next : SeatContent A) (at : List (Entry A)) (edits : List (Edit A)) → IsSeatAfter seat at edits next → length (entries_by seat.number next.front) ≡ length (entries_by seat.number at) + length edits
+after_length : {A : Type 0} (seat next : SeatContent A) (at : List (Entry A)) (edits : List (Edit A)) → IsSeatAfter seat at edits next → length (entries_of_seat seat.number next.front) ≡ length (entries_of_seat seat.number at) + length edits
 after_length {A} seat next at edits is =
-    ap (λ (l : List (Entry A)). length l) (after_by seat next at edits is) ∙ length-append (entries_by seat.number at) (entries_from seat.number seat.made edits)
-    ∙ ap (λ (k : ℕ). length (entries_by seat.number at) + k) (from_length seat.number seat.made edits)
+    ap (λ (l : List (Entry A)). length l) (after_by seat next at edits is) ∙ length-append (entries_of_seat seat.number at) (entries_from seat.number seat.made edits)
+    ∙ ap (λ (k : ℕ). length (entries_of_seat seat.number at) + k) (from_length seat.number seat.made edits)
 
 pub front_length : {A : Type 0} (seat next : SeatContent A) (at : List (Entry A)) (edits : List (Edit A)) → IsSeatAfter seat at edits next → length next.front ≡ length at + length edits
 front_length {A} seat next at edits is =
@@ -129,24 +129,24 @@ pub leaves_more : {A : Type 0} (start mid last : SeatContent A) (edits others : 
 leaves_more {A} start mid last edits others first rest =
     let n : ℕ = start.number in
     let long : length (edits ++ others) ≡ length edits + length others = length-append edits others in
-    let named : (h : List (Entry A)) → entries_by mid.number h ≡ entries_by n h = λ (h : List (Entry A)). ap (λ (k : ℕ). entries_by k h) first.number in
-    let mid_long : length (entries_by mid.number mid.front) ≡ length (entries_by n mid.front) = ap (λ (l : List (Entry A)). length l) (named mid.front) in
-    let last_long : length (entries_by mid.number last.front) ≡ length (entries_by n last.front) = ap (λ (l : List (Entry A)). length l) (named last.front) in
+    let named : (h : List (Entry A)) → entries_of_seat mid.number h ≡ entries_of_seat n h = λ (h : List (Entry A)). ap (λ (k : ℕ). entries_of_seat k h) first.number in
+    let mid_long : length (entries_of_seat mid.number mid.front) ≡ length (entries_of_seat n mid.front) = ap (λ (l : List (Entry A)). length l) (named mid.front) in
+    let last_long : length (entries_of_seat mid.number last.front) ≡ length (entries_of_seat n last.front) = ap (λ (l : List (Entry A)). length l) (named last.front) in
     record {
       number = rest.number ∙ first.number;
       made = omega (arith, rest.made, first.made, long);
       seen = prefix_trans start.front mid.front last.front first.seen rest.seen;
       longer = omega (arith, first.longer, rest.longer, long);
       grows = omega (arith, first.grows, rest.grows, mid_long, last_long, long);
-      own = λ (few : length (entries_by n last.front) ≤ length (entries_by n start.front) + length (edits ++ others)).
+      own = λ (few : length (entries_of_seat n last.front) ≤ length (entries_of_seat n start.front) + length (edits ++ others)).
           let rest_own = rest.own (omega (arith, few, first.grows, mid_long, last_long, long)) in
           let first_own = first.own (omega (arith, few, rest.grows, mid_long, last_long, long)) in
           sym (named last.front) ∙ rest_own
           ∙ ap (λ (l : List (Entry A)). l ++ entries_from mid.number mid.made others) (named mid.front ∙ first_own)
-          ∙ ap (λ (k : ℕ). (entries_by n start.front ++ entries_from n start.made edits) ++ entries_from k mid.made others) first.number
-          ∙ ap (λ (k : ℕ). (entries_by n start.front ++ entries_from n start.made edits) ++ entries_from n k others) first.made
-          ∙ append_assoc (entries_by n start.front) (entries_from n start.made edits) (entries_from n (start.made + length edits) others)
-          ∙ ap (λ (l : List (Entry A)). entries_by n start.front ++ l) (sym (from-append n start.made edits others));
+          ∙ ap (λ (k : ℕ). (entries_of_seat n start.front ++ entries_from n start.made edits) ++ entries_from k mid.made others) first.number
+          ∙ ap (λ (k : ℕ). (entries_of_seat n start.front ++ entries_from n start.made edits) ++ entries_from n k others) first.made
+          ∙ append_assoc (entries_of_seat n start.front) (entries_from n start.made edits) (entries_from n (start.made + length edits) others)
+          ∙ ap (λ (l : List (Entry A)). entries_of_seat n start.front ++ l) (sym (from-append n start.made edits others));
     }
 
 -- ---- one line
@@ -297,26 +297,26 @@ talk_in_history {A} start last input input' output output' result talk history s
     first : Leaves start talk.seat.seat (edits_of talk.exchanges)
     first = exchanges_leave (talking start None) talk.seat talk.exchanges talk.answered
 
-    fewer : start.made ≤ length (entries_by start.number start.front)
+    fewer : start.made ≤ length (entries_of_seat start.number start.front)
     fewer = subst (λ (k : ℕ). start.made ≤ k) (sym (by_length start.number start.front)) seen
 
     -- the seat's entries of the history, under the number that it had
-    few : (last.number ≡ start.number) → length (entries_by start.number last.front) ≤ last.made
+    few : (last.number ≡ start.number) → length (entries_of_seat start.number last.front) ≤ last.made
     few named =
-        let exact : length (entries_by start.number history) ≡ last.made = ap (λ (n : ℕ). length (entries_by n history)) (sym named) ∙ by_length last.number history ∙ settled.exact in
+        let exact : length (entries_of_seat start.number history) ≡ last.made = ap (λ (n : ℕ). length (entries_of_seat n history)) (sym named) ∙ by_length last.number history ∙ settled.exact in
         omega (arith, exact, by_rest start.number last.front history settled.begins)
 
     go : Rested talk.seat last talk.more result → IsInHistory history start last (all_edits talk) × (result ≡ Err (Run Foreign) → ⊥)
     go (inl strange) =
         let named : last.number ≡ start.number = strange.seen.number ∙ first.number in
-        let long : entries_of last.number last.front ≡ length (entries_by start.number last.front) = sym (by_length last.number last.front) ∙ ap (λ (n : ℕ). length (entries_by n last.front)) named in
+        let long : entries_of last.number last.front ≡ length (entries_of_seat start.number last.front) = sym (by_length last.number last.front) ∙ ap (λ (n : ℕ). length (entries_of_seat n last.front)) named in
         let more = by_rest start.number talk.seat.seat.front last.front strange.seen.begins in
         absurd (strange.other (omega (arith, long, more, few named, first.grows, first.made, strange.seen.made, fewer)))
     go (inr (left, other)) =
         let all : Leaves start last (all_edits talk) = leaves_more start talk.seat.seat last (edits_of talk.exchanges) talk.more first left in
         let own = all.own (omega (arith, few all.number, all.made, fewer)) in
-        let exact : length (entries_by start.number history) ≡ last.made = ap (λ (n : ℕ). length (entries_by n history)) (sym all.number) ∙ by_length last.number history ∙ settled.exact in
-        let whole : entries_by start.number history ≡ entries_by start.number last.front =
+        let exact : length (entries_of_seat start.number history) ≡ last.made = ap (λ (n : ℕ). length (entries_of_seat n history)) (sym all.number) ∙ by_length last.number history ∙ settled.exact in
+        let whole : entries_of_seat start.number history ≡ entries_of_seat start.number last.front =
         prefix_equal start.number last.front history settled.begins (omega (arith, exact, all.grows, all.made, fewer)) in (
           record {
             begins = settled.begins;
