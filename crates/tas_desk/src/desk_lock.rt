@@ -10,19 +10,19 @@ pub struct DeskLock<T> {
 }
 
 impl<T> DeskLock<T> {
-    /// Puts the value under a lock that nobody has.
+    /// Puts the value under a lock that nobody holds.
     pub fn new(value: T) -> DeskLock<T> {
         DeskLock {
             value: Mutex::new(value),
         }
     }
 
-    /// Waits for the lock, and has it until the guard is dropped.
+    /// Waits for the lock, and holds it until the guard is dropped.
     pub fn lock<R: Wait>(&self, rt: &R) -> MutexGuard<'_, T> {
         self.value.lock(rt)
     }
 
-    /// The value, once nobody else can have the lock.
+    /// The value, once nobody else can hold the lock.
     pub fn into_inner(self) -> T {
         self.value.into_inner()
     }

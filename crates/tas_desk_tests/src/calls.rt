@@ -233,7 +233,7 @@ fn is_met<N: Name, W: CloseOnDrop, R: Wait>(
     }
 }
 
-/// Whether these seats are told to be all seats of the desk, or not, as it says.
+/// Whether [`Desk::has_all`] returns this answer for these seats.
 fn is_whole<N: Name, W: CloseOnDrop>(
     desk: &Desk<N, W>,
     seats: &[Seat<N>],

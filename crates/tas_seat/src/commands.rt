@@ -102,7 +102,7 @@ impl Gate for OpenGate {
     fn pass(&self, _piece: usize) {}
 }
 
-/// The reply to a `work` line: what was worked.
+/// The reply to a `work` line: what was done.
 fn worked_reply(worked: Worked) -> Reply
     ensures { result ≡ WorkedReply worked.jobs worked.kept worked.stale }
 {

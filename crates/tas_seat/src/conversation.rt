@@ -123,7 +123,7 @@ enum Outcome {
     Refused(Reply),
 }
 
-/// Whether the history has another number of edits than `at`: how many, where it has. A commit of no edits finds out; beside that only
+/// Whether the history has another number of edits than `at`: how many, where it has. A commit of no edits finds out; otherwise only
 /// `Serial` refuses it, which is the fault `Foreign`.
 fn moved_from<N: Name, W: CloseOnDrop, A: Allocator + Copy, R: Wait>(
     rt: &R,

@@ -150,7 +150,7 @@ fn answer_movie<N: Name, W: CloseOnDrop, A: Allocator + Copy, R: Wait>(
     answer_or_refusal(alloc, bytes)
 }
 
-/// Puts a frame at the end, where a state is kept after it.
+/// Appends a frame, where a state is kept after it.
 fn push_kept<K: Kept, B: Allocator>(
     frames: &mut Vec<usize, B>,
     kept: &K,

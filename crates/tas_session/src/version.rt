@@ -35,7 +35,7 @@ impl<A: Allocator> Rule<LinkedList<Entry<A>, A>, u64> for VersionRule {
     ghost moves = { λ ask before after answer. Unit {0} };
 }
 
-/// A caller of a registry gets nothing beside the answer.
+/// A caller of a registry gets nothing but the answer.
 pub struct NoGain;
 
 impl<A: Allocator> Gain<LinkedList<Entry<A>, A>, u64> for NoGain {
