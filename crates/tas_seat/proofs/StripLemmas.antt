@@ -70,11 +70,11 @@ shown_more A before mid now from frame bytes more next le shown told is =
       seen = seen_more before mid now shown.seen (picture_seen A mid now frame more told);
     }
 
--- all of a strip was told
+-- all of a strip was answered
 pub strip_answered : (A : Type 0) (before now : SeatContent A) (from to frame : ℕ) (bytes : List ℕ) → HasShown A before now from frame bytes → frame - from ≡ to - from → HasAnswer A before now (Pictures from to) bytes
 strip_answered A before now from to frame bytes shown end = ([], (refl, shown.strip, shown.many ∙ end, shown.are, shown.told))
 
--- ---- a strip that isn't told
+-- ---- a strip that isn't answered
 
 -- memory was refused for a strip: some of its pictures may be drawn
 pub strip_without_memory : (A : Type 0) (before now : SeatContent A) (from to : ℕ) (fault : RunFault) → fault ≡ Memory → HasSeen before now → HasNoAnswer before now (Pictures from to) fault
@@ -85,7 +85,7 @@ pub kept_seen : {A : Type 0} (before now : SeatContent A) (request : Request) �
 kept_seen before now request (inl same) = seen_same before now same
 kept_seen before now request (inr strip) = strip.1
 
--- a picture of it isn't told
+-- a picture of it isn't answered
 pub strip_unanswered : (A : Type 0) (before mid now : SeatContent A) (from to frame : ℕ) (fault : RunFault) → HasSeen before mid → HasNoAnswer mid now (Picture frame) fault → HasNoAnswer before now (Pictures from to) fault
 strip_unanswered A before mid now from to frame NoEntry seen is = inr (tt, seen_more before mid now seen (kept_seen mid now (Picture frame) is))
 strip_unanswered A before mid now from to frame Foreign seen is = strange_later before mid now seen is
