@@ -32,7 +32,7 @@ Asks said Commit = said ≡ codes "commit"
 Asks said Drop = said ≡ codes "drop"
 Asks said Quit = said ≡ codes "quit"
 
--- a line of one word. Private functions cite it
+-- a line of one word that a script doesn't have. Private functions cite it
 abbrev pub IsOneWord : Request → Type 0
 IsOneWord Movie = Unit {0}
 IsOneWord States = Unit {0}

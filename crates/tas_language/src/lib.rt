@@ -2,7 +2,8 @@
 //! held while it comes in pieces.
 //!
 //! A script has the lines of [`Command`]; a conversation has those and some more ([`Request`]). A script's replies are those of
-//! [`Reply`]; the other lines of a conversation have answers of their own. A script of `tas edit` has the lines of [`EditLine`].
+//! [`Reply`]; the other lines of a conversation have these, too, and answers of their own. A script of `tas edit` has the lines of
+//! [`EditLine`]. A line says what it is the printed text of.
 #![tactic(auto)]
 
 mod answers;

@@ -87,7 +87,7 @@ fn lag_frames(line: &[u8]) -> Option<(usize, usize)>
     pair(rest)
 }
 
-/// The request of one word that a line is.
+/// The request of one word that a line is, but `len`, which is a script's.
 fn one_word(line: &[u8]) -> Option<Request>
     ensures some { IfSome result (λ request. Asks line.now request × IsOneWord request) }
     ensures none { IfNone result
