@@ -9,11 +9,11 @@ use Rattle.byte_text.specs.Digits.{hex_byte}
 abbrev pub unknown_text : List ℕ
 unknown_text = codes "unknown\n"
 
--- a picture: a line that tells how many bytes follow, and the pixmap
+-- a picture: a line that says how many bytes follow, and the pixmap
 abbrev pub picture_text : ℕ → ℕ → List ℕ → List ℕ
 picture_text made k pixmap = codes "picture " ++ decimal made ++ codes " " ++ decimal k ++ codes " " ++ decimal (length pixmap) ++ codes "\n" ++ pixmap
 
--- a movie: a line that tells how many bytes follow, and the movie's text
+-- a movie: a line that says how many bytes follow, and the movie's text
 abbrev pub movie_text : ℕ → List ℕ → List ℕ
 movie_text made text = codes "movie " ++ decimal made ++ codes " " ++ decimal (length text) ++ codes "\n" ++ text
 
@@ -34,7 +34,7 @@ abbrev pub frame_digest_text : ℕ → ℕ → List ℕ → List ℕ → List �
 frame_digest_text made k ram pixmap =
     codes "digest " ++ decimal made ++ codes " " ++ decimal k ++ codes " ram " ++ encode_lower (sha256 ram) ++ codes " picture " ++ encode_lower (sha256 pixmap) ++ codes "\n"
 
--- the lag frames among the frames a to b - 1: a line that tells how many bytes follow, and a line for each stretch of them
+-- the lag frames among the frames a to b - 1: a line that says how many bytes follow, and a line for each stretch of them
 abbrev pub lag_head : ℕ → ℕ → ℕ → ℕ → List ℕ
 lag_head made a b count = codes "lag " ++ decimal made ++ codes " " ++ decimal a ++ codes " " ++ decimal b ++ codes " " ++ decimal count ++ codes "\n"
 
@@ -45,7 +45,7 @@ lag_text made a b lines = lag_head made a b (length lines) ++ lines
 abbrev pub share_text : ℕ → ℕ → List ℕ
 share_text made gained = codes "share " ++ decimal made ++ codes " " ++ decimal gained ++ codes "\n"
 
--- the entries of the history from one on: a line that tells how many they are and how many bytes follow, and their lines
+-- the entries of the history from one on: a line that says how many they are and how many bytes follow, and their lines
 abbrev pub history_head : ℕ → ℕ → ℕ → ℕ → List ℕ
 history_head made from count bytes = codes "history " ++ decimal made ++ codes " " ++ decimal from ++ codes " " ++ decimal count ++ codes " " ++ decimal bytes ++ codes "\n"
 
