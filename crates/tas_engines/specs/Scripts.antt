@@ -62,7 +62,7 @@ line_refusal other movie (asks.Change change) = refusal movie (edit_of change)
 line_refusal other movie (asks.Retouch retouch) = retouch_refusal movie retouch
 line_refusal other movie (asks.CopyOther from count at) = copy_refusal (length (inputs_of other)) from count (length movie.inputs) at
 
--- the line brings frames: only then is memory asked for
+-- the line puts frames in or overwrites some, possibly none: only for such a line is memory asked for
 abbrev pub BringsFrames : EditLine → Type 0
 BringsFrames (asks.Change change) = BringsCopies change
 BringsFrames (asks.Retouch retouch) = Unit {0}

@@ -104,7 +104,8 @@ fn nearest(old: &[FrameRun], new: &[FrameRun], room: Room) -> Option<Anchor>
     None
 }
 
-/// A place from which both lists go on alike, while the parts before it nowhere do: `far`, if that is so of it, else the nearest one.
+/// A place from which both lists go on alike, while the parts before it don't, within reach: `far`, if that is so of it, else the
+/// nearest one.
 pub(crate) fn next_alike(
     old: &[FrameRun],
     new: &[FrameRun],

@@ -178,7 +178,8 @@ fn place_with_sum(marks: &[Mark], index: usize, sum: usize) -> Option<usize> {
     }
 }
 
-/// Pairs each new mark whose sum no other new mark has with the one old mark that has it.
+/// Pairs each new mark that is alone in its slot with the old mark that is alone in it, if that has the same sum. Each other keeps
+/// its partner.
 fn pair<A: Allocator + Copy>(alloc: A, old: &[Mark], new: &mut [Mark]) -> Result<(), AllocError> {
     let size = old.len().max(new.len()).saturating_mul(2).max(MIN_SLOTS);
     let olds = slots_of(alloc, old, size)?;

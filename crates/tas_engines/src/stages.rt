@@ -44,8 +44,8 @@ pub(crate) fn runs_in<A: Allocator>(
     Ok(runs)
 }
 
-/// The next hunk, where `old` and `new` are the runs that are left and the old movie has `len` frames. `None` where there is no place
-/// within reach from which both go on alike. `far` is a place from which they may.
+/// The next hunk, where `old` and `new` are the runs that are left and the old movie has `len` frames. `far` is a place, at any distance,
+/// from which both may go on alike. `None` where they don't from there, nor from any place within reach.
 pub(crate) fn next_step(
     old: &[FrameRun],
     new: &[FrameRun],
