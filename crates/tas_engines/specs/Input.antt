@@ -4,7 +4,7 @@ use Rattle.std.specs.Io.KnownBytes.{Consumes, IsAtEnd}
 use Rattle.tas_engines.specs.declared.fault.ReadFault.{ReadFault}
 use Rattle.tas_engines.specs.declared.fault.ReadFault.TheVariants.{TooLong, Failed, Memory}
 
--- a fact of the bytes, where a reader tells them
+-- a fact of the bytes, where it is known what a reader has
 abbrev pub IfKnown : Option (List ℕ) → (List ℕ → Type 0) → Type 0
 IfKnown known P = (bytes : List ℕ) → known ≡ Some bytes → P bytes
 

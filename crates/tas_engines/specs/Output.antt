@@ -9,7 +9,7 @@ use Rattle.tas_engines.specs.declared.fault.ToolFault.{ToolFault}
 use Rattle.tas_engines.specs.declared.fault.ToolFault.TheVariants.{Read}
 use Rattle.tas_engines.specs.Faults.{told}
 
--- a write failed: only the first bytes went out, and the fault tells how many
+-- a write failed: only the first bytes went out, and the fault reports how many
 pub record StopsWriting (old new : Option (List ℕ)) (bytes : List ℕ) (fault : RunFault) : Type 0 where
   pub written : ℕ
   pub is_write : fault ≡ Write written
@@ -26,11 +26,11 @@ abbrev pub Ends : (Result (List ℕ) RunFault → Type 0) → Option (List ℕ) 
 Ends answers old new (Ok _) = (bytes : List ℕ) × answers (Ok bytes) × Appends old new bytes
 Ends answers old new (Err fault) = (answers (Err fault) × Keeps old new) ⊎ BreaksOff answers old new fault
 
--- the same of an engine that tells how it ended
+-- the same of an engine that reports how it ended
 abbrev pub EndsTold : (Result (List ℕ) RunFault → Type 0) → Option (List ℕ) → Option (List ℕ) → Result (Unit {0}) ToolFault → Type 0
 EndsTold answers old new result = (end : Result (Unit {0}) RunFault) × (result ≡ told end) × Ends answers old new end
 
--- how an engine ends: reading stopped, and nothing is written; or it ran on what it had read, and tells how that ended
+-- how an engine ends: reading stopped, and nothing is written; or it ran on what it had read, and reports how that ended
 abbrev pub EndsAfter : (ReadFault → Type 0) → (Result (Unit {0}) RunFault → Type 0) → Option (List ℕ) → Option (List ℕ) → Result (Unit {0}) ToolFault → Type 0
 EndsAfter stops runs old new result =
     ((fault : ReadFault) × (result ≡ Err (Read fault)) × stops fault × Keeps old new) ⊎ ((end : Result (Unit {0}) RunFault) × (result ≡ told end) × runs end)

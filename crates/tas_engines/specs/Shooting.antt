@@ -15,7 +15,7 @@ pub record IsShot (movie : MovieContent) (k : ℕ) (picture : List ℕ) : Type 0
   pub runs : (state_after movie (k + 1)).halt ≡ None
   pub drawn : picture ≡ ppm_bytes (picture_of movie k)
 
--- the fault that tells a halt
+-- the fault that reports a halt
 abbrev pub halt_fault : Halt → RunFault
 halt_fault (Undocumented at opcode) = Halted at opcode
 

@@ -19,11 +19,11 @@ fn keep_frames<A: Allocator>(movie: &mut Movie<A>, from: usize, to: usize) -> Re
     if from > to || to > len {
         return Err(RunFault::Range { from, to, len });
     }
-    let behind: Edit<A> = Edit::Delete {
+    let after: Edit<A> = Edit::Delete {
         at: to,
         count: len - to,
     };
-    apply(movie, &behind);
+    apply(movie, &after);
     let before: Edit<A> = Edit::Delete { at: 0, count: from };
     apply(movie, &before);
     Ok(())
