@@ -7,7 +7,6 @@ ghost use Rattle.byte_text.specs.CutOff.{IsCutOff};
 ghost use Rattle.byte_text.specs.Digits.{hex_byte};
 ghost use Rattle.tas_movie.specs.Content.{most_inputs};
 ghost use Rattle.tas_engines.specs.Output.{Ends, StopsWriting};
-ghost use Rattle.tas_engines.specs.Movies.{IsMovieRun};
 ghost use Rattle.tas_engines.specs.Ram.{numbered_bytes, ram_lines, IsRamRange, IsRamAnswer, IsRamRun};
 
 use crate::passing::{pass_frame, pass_frames};

@@ -1,6 +1,6 @@
 //! Changes that depend on a movie's frames: the edits that they are.
 
-ghost use Rattle.std.specs.Prelude.{◌≡◌, ◌+◌, ◌<◌, ◌^◌, ◌||◌, ◌&&◌, not, map, length, IfOk};
+ghost use Rattle.std.specs.Prelude.{◌≡◌, ◌+◌, ◌<◌, ◌^◌, map, length, IfOk};
 ghost use Rattle.vcs_machine.specs.declared.input.Input.{Input};
 ghost use Rattle.tas_movie.specs.Content.{MovieContent};
 ghost use Rattle.tas_language.specs.declared.retouch.Retouch.TheVariants.{Repeat};
@@ -14,7 +14,6 @@ ghost use Rattle.tas_engines.specs.Retouching.{
   times_over,
   taken_from,
   taken_count,
-  taken_by,
   retouch_with,
   retouch_on,
   retouch_refusal,
