@@ -112,7 +112,7 @@ pub record IsRefused (other : Option MovieContent) (movie : MovieContent) (bytes
   pub first : Begins other bytes asked
   pub is : line_refusal other movie asked ≡ Some refused
 
--- the first line is allowed, and brings frames, for which memory is asked
+-- the first line is allowed, and brings frames, possibly none, for which memory is asked
 pub record AsksForMemory (other : Option MovieContent) (movie : MovieContent) (bytes : List ℕ) : Type 0 where
   pub asked : EditLine
   pub first : Begins other bytes asked

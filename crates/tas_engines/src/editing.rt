@@ -30,7 +30,7 @@ fn script_fault(fault: ScriptFault) -> RunFault
 }
 
 /// The text of the movie that a script makes of this one, beside which there may be a second one, or why there is none.
-/// `Memory` comes only at a line that is allowed and brings frames, and for the text of a movie that all lines have made.
+/// `Memory` comes only at a line that is allowed and brings frames, possibly none, and for the text of a movie that all lines have made.
 fn text_made<A: Allocator + Copy>(
     alloc: A,
     movie: &mut Movie<A>,
