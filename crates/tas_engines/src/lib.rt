@@ -47,7 +47,7 @@ pub use migrating::migrate_run;
 pub use movies::movie_of;
 pub use ram::ram_run;
 pub use reading::{INPUT_LIMIT, ThreeInputs, read_input, read_three, read_two};
-pub use retouching::{check_retouch, edit_with, pressed_too, released, retouch_edit, taken_frames};
+pub use retouching::{check_retouch, pressed_too, released, retouch_edit};
 pub use scripts::{ScriptFault, edit_movie, print_changes};
 pub use shooting::{halt_fault, shot_run};
 pub use tracing::trace_run;

@@ -126,7 +126,7 @@ pub fn check_retouch(len: usize, retouch: Retouch) -> Result<(), EditRefusal>
 }
 
 /// The frames that a retouch takes from a movie: the first one, and how many.
-pub fn taken_frames(retouch: Retouch) -> (usize, usize)
+fn taken_frames(retouch: Retouch) -> (usize, usize)
     ensures from { result.0 ≡ taken_from retouch }
     ensures count { result.1 ≡ taken_count retouch }
 {
@@ -167,7 +167,7 @@ fn repeated<A: Allocator>(alloc: A, frames: &[Input], times: usize) -> Result<In
 }
 
 /// The edit that a retouch is, by the frames that it takes. `AllocError` where memory is refused.
-pub fn edit_with<A: Allocator>(
+fn edit_with<A: Allocator>(
     alloc: A,
     taken: &[Input],
     retouch: Retouch,
