@@ -7,8 +7,8 @@ use std::alloc::Global;
 use std::process::Abort;
 use tas_engines::edit_of;
 use tas_language::{
-    Command, MAX_LINE, Request, history_answer, parse_line, parse_request, push_edit_lines,
-    push_entry, share_answer, strip,
+    Command, MAX_LINE, Request, after_prefix, history_answer, parse_line, parse_request,
+    push_edit_lines, push_entry, share_answer,
 };
 use tas_movie::{Edit, Inputs, Movie, apply, check, read_frame};
 use vcs_machine::{CART_SIZE, Cart, SMALL_CART_SIZE};
@@ -82,7 +82,7 @@ fn make_lines<R: Abort>(
         let Some((line, after)) = split_once(rest, b'\n') else {
             break;
         };
-        make_line(rt, alloc, movie, expect_some(rt, strip(line, prefix)));
+        make_line(rt, alloc, movie, expect_some(rt, after_prefix(line, prefix)));
         count = count.saturating_add(1);
         rest = after;
     }

@@ -4,7 +4,7 @@ ghost use Rattle.std.specs.Prelude.{IfSome, IfNone};
 ghost use Rattle.tas_language.specs.declared.edit_line.EditLine.{EditLine as Asked};
 ghost use Rattle.tas_language.specs.Retouches.{IsEditLine};
 
-use crate::words::{strip, triple};
+use crate::words::{after_prefix, triple};
 use crate::{Change, Retouch, read_change, read_retouch};
 
 /// A line of `tas edit`.
@@ -36,7 +36,7 @@ pub fn read_edit_line(line: &[u8]) -> Option<EditLine>
     if let Some(retouch) = read_retouch(line) {
         return Some(EditLine::Retouch(retouch));
     }
-    let rest = strip(line, b"copy other ")?;
+    let rest = after_prefix(line, b"copy other ")?;
     let (from, count, at) = triple(rest)?;
     Some(EditLine::CopyOther { from, count, at })
 }

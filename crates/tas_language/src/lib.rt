@@ -41,4 +41,4 @@ pub use printing::reply_line;
 pub use reply::Reply;
 pub use request::Request;
 pub use retouch::{Retouch, read_retouch};
-pub use words::{MAX_NUMBER, number, strip};
+pub use words::{MAX_NUMBER, after_prefix, number};

@@ -7,7 +7,7 @@ ghost use Rattle.tas_language.specs.declared.request.Request.{Request as AskedFo
 ghost use Rattle.tas_language.specs.Requests.{Asks, IsOneWord, IsStrip};
 
 use crate::loading::load_image;
-use crate::words::{frames, number, pair, strip};
+use crate::words::{after_prefix, number, pair, place_count_frame};
 use crate::{Change, Command, Image, Request, read_retouch};
 
 /// What a line, without its newline, asks for; nothing where it isn't understood. Takes no memory.
@@ -18,23 +18,23 @@ pub fn parse_line(line: &[u8]) -> Option<Command>
     if line == b"len".as_slice() {
         return Some(Command::Length);
     }
-    if let Some(rest) = strip(line, b"load2") {
+    if let Some(rest) = after_prefix(line, b"load2") {
         let image = Image::Small(load_image(rest)?);
         return Some(Command::Load { image });
     }
-    if let Some(rest) = strip(line, b"load") {
+    if let Some(rest) = after_prefix(line, b"load") {
         let image = Image::Large(load_image(rest)?);
         return Some(Command::Load { image });
     }
-    if let Some(rest) = strip(line, b"insert ") {
-        let (at, count, input) = frames(rest)?;
+    if let Some(rest) = after_prefix(line, b"insert ") {
+        let (at, count, input) = place_count_frame(rest)?;
         return Some(Command::Edit(Change::Insert { at, count, input }));
     }
-    if let Some(rest) = strip(line, b"replace ") {
-        let (at, count, input) = frames(rest)?;
+    if let Some(rest) = after_prefix(line, b"replace ") {
+        let (at, count, input) = place_count_frame(rest)?;
         return Some(Command::Edit(Change::Replace { at, count, input }));
     }
-    if let Some(rest) = strip(line, b"delete ") {
+    if let Some(rest) = after_prefix(line, b"delete ") {
         let (at, count) = pair(rest)?;
         return Some(Command::Edit(Change::Delete { at, count }));
     }
@@ -53,7 +53,7 @@ fn numbered(line: &[u8], front: &[u8]) -> Option<usize>
     ensures some { IfSome result (λ n. (line.now ≡ front.now ++ decimal n) × IsNumber n) }
     ensures none { IfNone result ((n : ℕ) → IsNumber n → line.now ≢ front.now ++ decimal n) }
 {
-    let rest = strip(line, front)?;
+    let rest = after_prefix(line, front)?;
     number(rest)
 }
 
@@ -68,7 +68,7 @@ fn strip_frames(line: &[u8]) -> Option<(usize, usize)>
     ensures none { IfNone result ((from to : ℕ) → IsNumber from → IsNumber to → IsStrip from to
         → line.now ≢ codes "pictures " ++ pair_text from to) }
 {
-    let rest = strip(line, b"pictures ")?;
+    let rest = after_prefix(line, b"pictures ")?;
     let (from, to) = pair(rest)?;
     if from >= to || to - from > MAX_PICTURES {
         return None;
@@ -83,7 +83,7 @@ fn lag_frames(line: &[u8]) -> Option<(usize, usize)>
     ensures none { IfNone result ((from to : ℕ) → IsNumber from → IsNumber to
         → line.now ≢ codes "lag " ++ pair_text from to) }
 {
-    let rest = strip(line, b"lag ")?;
+    let rest = after_prefix(line, b"lag ")?;
     pair(rest)
 }
 

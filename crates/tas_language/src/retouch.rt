@@ -4,7 +4,7 @@ ghost use Rattle.std.specs.Prelude.{IfSome, IfNone};
 ghost use Rattle.tas_language.specs.declared.retouch.Retouch.{Retouch as Asked};
 ghost use Rattle.tas_language.specs.Retouches.{IsRetouchLine};
 
-use crate::words::{frames, strip, triple};
+use crate::words::{after_prefix, place_count_frame, triple};
 use vcs_machine::Input;
 
 /// A change that depends on the movie's frames, as one line says it.
@@ -53,19 +53,19 @@ pub fn read_retouch(line: &[u8]) -> Option<Retouch>
     ensures some { IfSome result (IsRetouchLine line.now) }
     ensures none { IfNone result ((retouch : Asked) → IsRetouchLine line.now retouch → ⊥) }
 {
-    if let Some(rest) = strip(line, b"press ") {
-        let (at, count, input) = frames(rest)?;
+    if let Some(rest) = after_prefix(line, b"press ") {
+        let (at, count, input) = place_count_frame(rest)?;
         return Some(Retouch::Press { at, count, input });
     }
-    if let Some(rest) = strip(line, b"release ") {
-        let (at, count, input) = frames(rest)?;
+    if let Some(rest) = after_prefix(line, b"release ") {
+        let (at, count, input) = place_count_frame(rest)?;
         return Some(Retouch::Release { at, count, input });
     }
-    if let Some(rest) = strip(line, b"repeat ") {
+    if let Some(rest) = after_prefix(line, b"repeat ") {
         let (at, count, times) = triple(rest)?;
         return Some(Retouch::Repeat { at, count, times });
     }
-    let rest = strip(line, b"copy ")?;
+    let rest = after_prefix(line, b"copy ")?;
     let (from, count, at) = triple(rest)?;
     Some(Retouch::Copy { from, count, at })
 }

@@ -13,7 +13,7 @@ use vcs_machine::Input;
 pub const MAX_NUMBER: usize = 9_999_999;
 
 /// The bytes of `line` after `front`; nothing where the line doesn't begin with it.
-pub fn strip<'a>(line: &'a [u8], front: &[u8]) -> Option<&'a [u8]>
+pub fn after_prefix<'a>(line: &'a [u8], front: &[u8]) -> Option<&'a [u8]>
     ensures some { IfSome result (λ rest. line.entry.now ≡ front.now ++ rest.now) }
     ensures none { IfNone result ((rest : List ℕ) → line.entry.now ≢ front.now ++ rest) }
 {
@@ -74,7 +74,7 @@ fn count_and_frame(bytes: &[u8]) -> Option<(usize, Input)>
 }
 
 /// A place, a count and a frame with one space between.
-pub fn frames(bytes: &[u8]) -> Option<(usize, usize, Input)>
+pub fn place_count_frame(bytes: &[u8]) -> Option<(usize, usize, Input)>
     ensures some { IfSome result
         (λ found. (bytes.now ≡ frames_text found.0 found.1 found.2) × IsNumber found.0
         × IsNumber found.1) }

@@ -11,7 +11,7 @@ returns-in_err-load_image-clause-none c =
 pub returns-in_err-load_image-2-clause-none : goal.returns-in_err-load_image-2-clause-none
 returns-in_err-load_image-2-clause-none c =
     rw c.from_residual-in_err-load_image-2.ensures
-    (only_load c.args.line.now c.in-Some-strip.rest.now c.in-Some-strip.ensures.some c.in_default.ensures.none c.in_err-load_image-2.ensures.none)
+    (only_load c.args.line.now c.in-Some-after_prefix.rest.now c.in-Some-after_prefix.ensures.some c.in_default.ensures.none c.in_err-load_image-2.ensures.none)
 
 pub returns-in_err-at-2-clause-some : goal.returns-in_err-at-2-clause-some
 returns-in_err-at-2-clause-some c = grind (arith, common_steps)

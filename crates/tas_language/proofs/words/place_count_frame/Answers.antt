@@ -4,7 +4,7 @@ use Rattle.tas_movie.specs.Text.{frame_text}
 use Rattle.byte_text.specs.Splitting.{NoByte}
 use Rattle.tas_language.proofs.WordLemmas.{number_first}
 use Rattle.byte_text.proofs.SplitLemmas.{no_parts}
-use Rattle.tas_language.proofs.words.frames.Goals as goal
+use Rattle.tas_language.proofs.words.place_count_frame.Goals as goal
 
 pub returns-in_err-first-clause-none : goal.returns-in_err-first-clause-none
 returns-in_err-first-clause-none c =
