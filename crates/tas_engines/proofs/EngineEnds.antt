@@ -3,10 +3,10 @@ use Rattle.std.proofs.Common.{◌≡◌, sym, subst, ℕ, List, Option, Result, 
 use Rattle.std.specs.Io.KnownBytes.{Appends}
 use Rattle.tas_engines.specs.declared.fault.RunFault.{RunFault}
 use Rattle.tas_engines.specs.declared.fault.ToolFault.{ToolFault}
-use Rattle.tas_engines.specs.Faults.{told}
+use Rattle.tas_engines.specs.Faults.{reported}
 use Rattle.tas_engines.specs.Input.{IsReadWhole}
 use Rattle.tas_engines.specs.Movies.{IsMovieRun}
-use Rattle.tas_engines.specs.Output.{Ends, EndsTold, StopsWriting}
+use Rattle.tas_engines.specs.Output.{Ends, EndsReported, StopsWriting}
 use Rattle.tas_engines.specs.ThreeInputs.{EndsAfterThree, EndsAfterFour}
 
 -- a write of a whole answer ends an engine
@@ -45,7 +45,7 @@ ok-of_mapped (Err e) P tells = absurd tells
 
 -- an engine ran on the cartridge and the text that it had read
 pub movie_ran : (answers : List ℕ → List ℕ → Result (List ℕ) RunFault → Type 0) (cart cart' input input' output output' : Option (List ℕ)) (read image read' bytes : List ℕ) (end : Result (Unit {0}) RunFault)
-    (result : Result (Unit {0}) ToolFault) → IsReadWhole cart cart' read → image ≡ read → IsReadWhole input input' read' → bytes ≡ read' → Ends (answers image bytes) output output' end → result ≡ told end
+    (result : Result (Unit {0}) ToolFault) → IsReadWhole cart cart' read → image ≡ read → IsReadWhole input input' read' → bytes ≡ read' → Ends (answers image bytes) output output' end → result ≡ reported end
     → IsMovieRun answers cart cart' input input' output output' result
 movie_ran answers cart cart' input input' output output' read image read' bytes end result whole same whole' same' ends is =
     inr (end, is, (image, subst (IsReadWhole cart cart') (sym same) whole, (bytes, subst (IsReadWhole input input') (sym same') whole', ends)))
@@ -53,7 +53,7 @@ movie_ran answers cart cart' input input' output output' read image read' bytes 
 -- an engine wrote its answer to the cartridge and the text that it had read
 pub movie_answered : {T : Type 0} (answers : List ℕ → List ℕ → Result (List ℕ) RunFault → Type 0) (cart cart' input input' output output' : Option (List ℕ)) (read image read' bytes : List ℕ)
     (answer : Result T RunFault) (items : T → List ℕ) (result : Result (Unit {0}) ToolFault) → IsReadWhole cart cart' read → image ≡ read → IsReadWhole input input' read' → bytes ≡ read'
-    → IfOk answer (λ t. answers image bytes (Ok (items t))) → IfErr answer (λ e. answers image bytes (Err e)) → EndsTold (λ said. MatchResult answer (λ t. said ≡ Ok (items t)) (λ e. said ≡ Err e)) output output' result
+    → IfOk answer (λ t. answers image bytes (Ok (items t))) → IfErr answer (λ e. answers image bytes (Err e)) → EndsReported (λ said. MatchResult answer (λ t. said ≡ Ok (items t)) (λ e. said ≡ Err e)) output output' result
     → IsMovieRun answers cart cart' input input' output output' result
 movie_answered answers cart cart' input input' output output' read image read' bytes answer items result whole same whole' same' holds fails (end, tells, ends) =
     movie_ran answers cart cart' input input' output output' read image read' bytes end result whole same whole' same' (ends-answered (answers image bytes) answer items output output' end holds fails ends) tells
@@ -61,14 +61,14 @@ movie_answered answers cart cart' input input' output output' read image read' b
 -- an engine ran on the three inputs that it had read
 pub three_ran : (runs : List ℕ → List ℕ → List ℕ → Result (Unit {0}) RunFault → Type 0) (a a' b b' c c' output output' : Option (List ℕ)) (read first read' second read'' third : List ℕ)
     (end : Result (Unit {0}) RunFault) (result : Result (Unit {0}) ToolFault) → IsReadWhole a a' read → first ≡ read → IsReadWhole b b' read' → second ≡ read' → IsReadWhole c c' read'' → third ≡ read''
-    → runs first second third end → result ≡ told end → EndsAfterThree runs a a' b b' c c' output output' result
+    → runs first second third end → result ≡ reported end → EndsAfterThree runs a a' b b' c c' output output' result
 three_ran runs a a' b b' c c' output output' read first read' second read'' third end result one is one' is' one'' is'' ends tells =
     inr (end, tells, (first, subst (IsReadWhole a a') (sym is) one, (second, subst (IsReadWhole b b') (sym is') one', (third, subst (IsReadWhole c c') (sym is'') one'', ends))))
 
 -- an engine wrote its answer to the three inputs that it had read
 pub three_answered : {T : Type 0} (answers : List ℕ → List ℕ → List ℕ → Result (List ℕ) RunFault → Type 0) (a a' b b' c c' output output' : Option (List ℕ)) (read first read' second read'' third : List ℕ)
     (answer : Result T RunFault) (items : T → List ℕ) (result : Result (Unit {0}) ToolFault) → IsReadWhole a a' read → first ≡ read → IsReadWhole b b' read' → second ≡ read' → IsReadWhole c c' read'' → third ≡ read''
-    → IfOk answer (λ t. answers first second third (Ok (items t))) → IfErr answer (λ e. answers first second third (Err e)) → EndsTold (λ said. MatchResult answer (λ t. said ≡ Ok (items t)) (λ e. said ≡ Err e)) output output' result
+    → IfOk answer (λ t. answers first second third (Ok (items t))) → IfErr answer (λ e. answers first second third (Err e)) → EndsReported (λ said. MatchResult answer (λ t. said ≡ Ok (items t)) (λ e. said ≡ Err e)) output output' result
     → EndsAfterThree (λ image more bytes end. Ends (answers image more bytes) output output' end) a a' b b' c c' output output' result
 three_answered answers a a' b b' c c' output output' read first read' second read'' third answer items result one is one' is' one'' is'' holds fails (end, tells, ends) =
     three_ran (λ image more bytes last. Ends (answers image more bytes) output output' last) a a' b b' c c' output output' read first read' second read'' third end result one is one' is' one'' is''
@@ -77,7 +77,7 @@ three_answered answers a a' b b' c c' output output' read first read' second rea
 -- the same of four
 pub four_ran : (runs : List ℕ → List ℕ → List ℕ → List ℕ → Result (Unit {0}) RunFault → Type 0) (a a' b b' c c' d d' output output' : Option (List ℕ))
     (read first read' second read'' third last fourth : List ℕ) (end : Result (Unit {0}) RunFault) (result : Result (Unit {0}) ToolFault) → IsReadWhole a a' read → first ≡ read
-    → IsReadWhole b b' read' → second ≡ read' → IsReadWhole c c' read'' → third ≡ read'' → IsReadWhole d d' last → fourth ≡ last → runs first second third fourth end → result ≡ told end
+    → IsReadWhole b b' read' → second ≡ read' → IsReadWhole c c' read'' → third ≡ read'' → IsReadWhole d d' last → fourth ≡ last → runs first second third fourth end → result ≡ reported end
     → EndsAfterFour runs a a' b b' c c' d d' output output' result
 four_ran runs a a' b b' c c' d d' output output' read first read' second read'' third last fourth end result one is one' is' one'' is'' all is_all ends tells =
     inr (

@@ -20,6 +20,6 @@ text_fault (text.Text error) = Text error
 text_fault text.Memory = Memory
 
 -- how an engine ends that has read its inputs
-abbrev pub told : Result (Unit {0}) RunFault → Result (Unit {0}) ToolFault
-told (Ok u) = Ok u
-told (Err fault) = Err (Run fault)
+abbrev pub reported : Result (Unit {0}) RunFault → Result (Unit {0}) ToolFault
+reported (Ok u) = Ok u
+reported (Err fault) = Err (Run fault)

@@ -7,7 +7,7 @@ use Rattle.tas_engines.specs.declared.fault.RunFault.{RunFault}
 use Rattle.tas_engines.specs.declared.fault.RunFault.TheVariants.{Write}
 use Rattle.tas_engines.specs.declared.fault.ToolFault.{ToolFault}
 use Rattle.tas_engines.specs.declared.fault.ToolFault.TheVariants.{Read}
-use Rattle.tas_engines.specs.Faults.{told}
+use Rattle.tas_engines.specs.Faults.{reported}
 
 -- a write failed: only the first bytes went out, and the fault reports how many
 pub record StopsWriting (old new : Option (List ℕ)) (bytes : List ℕ) (fault : RunFault) : Type 0 where
@@ -27,10 +27,10 @@ Ends answers old new (Ok _) = (bytes : List ℕ) × answers (Ok bytes) × Append
 Ends answers old new (Err fault) = (answers (Err fault) × Keeps old new) ⊎ BreaksOff answers old new fault
 
 -- the same of an engine that reports how it ended
-abbrev pub EndsTold : (Result (List ℕ) RunFault → Type 0) → Option (List ℕ) → Option (List ℕ) → Result (Unit {0}) ToolFault → Type 0
-EndsTold answers old new result = (end : Result (Unit {0}) RunFault) × (result ≡ told end) × Ends answers old new end
+abbrev pub EndsReported : (Result (List ℕ) RunFault → Type 0) → Option (List ℕ) → Option (List ℕ) → Result (Unit {0}) ToolFault → Type 0
+EndsReported answers old new result = (end : Result (Unit {0}) RunFault) × (result ≡ reported end) × Ends answers old new end
 
 -- how an engine ends: reading stopped, and nothing is written; or it ran on what it had read, and reports how that ended
 abbrev pub EndsAfter : (ReadFault → Type 0) → (Result (Unit {0}) RunFault → Type 0) → Option (List ℕ) → Option (List ℕ) → Result (Unit {0}) ToolFault → Type 0
 EndsAfter stops runs old new result =
-    ((fault : ReadFault) × (result ≡ Err (Read fault)) × stops fault × Keeps old new) ⊎ ((end : Result (Unit {0}) RunFault) × (result ≡ told end) × runs end)
+    ((fault : ReadFault) × (result ≡ Err (Read fault)) × stops fault × Keeps old new) ⊎ ((end : Result (Unit {0}) RunFault) × (result ≡ reported end) × runs end)

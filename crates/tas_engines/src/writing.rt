@@ -2,7 +2,7 @@
 
 ghost use Rattle.std.specs.Prelude.{◌≡◌, Ok, Err, OnOk, IfErr, MatchResult};
 ghost use Rattle.std.specs.Io.KnownBytes.{Appends};
-ghost use Rattle.tas_engines.specs.Output.{EndsTold, StopsWriting};
+ghost use Rattle.tas_engines.specs.Output.{EndsReported, StopsWriting};
 
 use crate::{RunFault, ToolFault};
 use byte_text::write_counted;
@@ -26,7 +26,7 @@ pub(crate) fn write_answer<A: Allocator, W: Write>(
     output: &mut W,
     answer: Result<Vec<u8, A>, RunFault>,
 ) -> Result<(), ToolFault>
-    ensures { EndsTold (λ said.
+    ensures { EndsReported (λ said.
         MatchResult answer (λ text. said ≡ Ok text.items) (λ fault. said ≡ Err fault))
         (W.contents output.old) (W.contents output.new) result }
 {

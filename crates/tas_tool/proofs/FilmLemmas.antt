@@ -10,7 +10,7 @@ use Rattle.tas_film.specs.Frames.{IsLeastHalted, pixmaps_of}
 use Rattle.tas_film.specs.Films.{IsFilm}
 use Rattle.tas_engines.specs.declared.fault.RunFault.{RunFault}
 use Rattle.tas_engines.specs.declared.fault.ToolFault.{ToolFault}
-use Rattle.tas_engines.specs.Faults.{told}
+use Rattle.tas_engines.specs.Faults.{reported}
 use Rattle.tas_engines.specs.Input.{IsReadWhole}
 use Rattle.tas_engines.specs.Movies.{IsMovieOf}
 use Rattle.tas_tool.specs.Films.{AreFrames, IsFilmOf, IsFilmBetween, Films, IsFilmRun, halted_fault, stop_fault}
@@ -34,7 +34,7 @@ movie_films from to image bytes movie old new (Err fault) is ends = inr (movie, 
 
 -- the engine ran on the cartridge and the text that it had read
 pub film_ran : (from to : Option ℕ) (cart cart' input input' output output' : Option (List ℕ)) (read image read' bytes : List ℕ) (end : Result (Unit {0}) RunFault) (result : Result (Unit {0}) ToolFault)
-    → IsReadWhole cart cart' read → image ≡ read → IsReadWhole input input' read' → bytes ≡ read' → Films from to image bytes output output' end → result ≡ told end
+    → IsReadWhole cart cart' read → image ≡ read → IsReadWhole input input' read' → bytes ≡ read' → Films from to image bytes output output' end → result ≡ reported end
     → IsFilmRun from to cart cart' input input' output output' result
 film_ran from to cart cart' input input' output output' read image read' bytes end result whole same whole' same' films is =
     inr (end, is, (image, subst (IsReadWhole cart cart') (sym same) whole, (bytes, subst (IsReadWhole input input') (sym same') whole', films)))

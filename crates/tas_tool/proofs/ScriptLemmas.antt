@@ -7,7 +7,7 @@ use Rattle.std.proofs.KnownBytes.{Appends-nil}
 use Rattle.tas_engines.specs.declared.fault.RunFault.{RunFault}
 use Rattle.tas_engines.specs.declared.fault.RunFault.TheVariants.{Write, Size, Text, NoFrame as OffMovie, Range as OffRange, Halted as Stopped, HaltedFrame as StoppedFrame, Script, Place, Long, NoPlace, NoEntry, Foreign, Memory}
 use Rattle.tas_engines.specs.declared.fault.ToolFault.{ToolFault}
-use Rattle.tas_engines.specs.Faults.{told}
+use Rattle.tas_engines.specs.Faults.{reported}
 use Rattle.tas_engines.specs.Input.{IsReadWhole}
 use Rattle.tas_engines.specs.Output.{StopsWriting}
 use Rattle.tas_language.specs.declared.command.Command.{Command}
@@ -179,5 +179,5 @@ broken_off answers items text old new end fault at is stops = inr (record { text
 
 -- a script was read and run
 pub script_ran : (input input' output output' : Option (List ℕ)) (read bytes : List ℕ) (end : Result (Unit {0}) RunFault) (result : Result (Unit {0}) ToolFault) → IsReadWhole input input' read → bytes ≡ read
-    → RunsScript bytes output output' end → result ≡ told end → IsScriptRun input input' output output' result
+    → RunsScript bytes output output' end → result ≡ reported end → IsScriptRun input input' output output' result
 script_ran input input' output output' read bytes end result whole same runs is = inr (end, is, (bytes, subst (IsReadWhole input input') (sym same) whole, runs))
