@@ -4,7 +4,7 @@ use Rattle.std.proofs.lemmas.List.{length-drop, take-take, drop-take, take_rest,
 use Rattle.tas_movie.specs.Content.{most_inputs}
 use Rattle.tas_movie.specs.declared.run.FrameRun.{FrameRun}
 use Rattle.tas_engines.specs.Differences.{frames, GoOnAlike, AreApart}
-use Rattle.tas_engines.specs.declared.alike.Room.{Room}
+use Rattle.tas_engines.specs.declared.alike.Lengths.{Lengths}
 use Rattle.tas_engines.specs.declared.anchors.Anchor.{Anchor}
 use Rattle.tas_engines.specs.declared.comparing.Gap.{Gap}
 use Rattle.tas_engines.specs.declared.stages.Stage.{Stage}
@@ -51,28 +51,28 @@ alike_longer old new made left n m i j g =
           (subst (λ (l : List FrameRun). made + frames l + (left - frames (take i (take n old))) ≤ most_inputs) (take-take j m new in_new) g.room);
     }
 
-pub nearest_next : (old new : List FrameRun) (room : Room) (found : Option Anchor) → IsNearest old new room found → IsNext old new room found
-nearest_next old new room None h = h
-nearest_next old new room (Some at) h = (
+pub nearest_next : (old new : List FrameRun) (lengths : Lengths) (found : Option Anchor) → IsNearest old new lengths found → IsNext old new lengths found
+nearest_next old new lengths None h = h
+nearest_next old new lengths (Some at) h = (
   h.0,
   λ i j near g.
       let old_within = g.old_within in
       let new_within = g.new_within in
-      h.1 i j (omega (arith, old_within, new_within, length-take at.old old, length-take at.new new)) (alike_longer old new room.made room.left at.old at.new i j g),
+      h.1 i j (omega (arith, old_within, new_within, length-take at.old old, length-take at.new new)) (alike_longer old new lengths.made lengths.left at.old at.new i j g),
 )
 
-pub nearer_next : (old new : List FrameRun) (room : Room) (n m : ℕ) (at : Anchor) → IsNearest (take n old) (take m new) room (Some at) → IsNext old new room (Some at)
-nearer_next old new room n m at h =
-    let next = nearest_next (take n old) (take m new) room (Some at) h in
+pub nearer_next : (old new : List FrameRun) (lengths : Lengths) (n m : ℕ) (at : Anchor) → IsNearest (take n old) (take m new) lengths (Some at) → IsNext old new lengths (Some at)
+nearer_next old new lengths n m at h =
+    let next = nearest_next (take n old) (take m new) lengths (Some at) h in
     let in_old : at.old ≤ n = omega (arith, h.0.old_within, length-take n old) in
     let in_new : at.new ≤ m = omega (arith, h.0.new_within, length-take m new) in (
-      alike_longer old new room.made room.left n m at.old at.new h.0,
-      subst (λ (l : List FrameRun). AreApart l (take at.new new) room.made room.left) (take-take at.old n old in_old)
-          (subst (λ (l : List FrameRun). AreApart (take at.old (take n old)) l room.made room.left) (take-take at.new m new in_new) next.1),
+      alike_longer old new lengths.made lengths.left n m at.old at.new h.0,
+      subst (λ (l : List FrameRun). AreApart l (take at.new new) lengths.made lengths.left) (take-take at.old n old in_old)
+          (subst (λ (l : List FrameRun). AreApart (take at.old (take n old)) l lengths.made lengths.left) (take-take at.new m new in_new) next.1),
     )
 
-pub room_within : (old new : List FrameRun) (room : Room) (n m : ℕ) → HasRoom old new room → HasRoom (take n old) (take m new) room
-room_within old new room n m h =
+pub room_within : (old new : List FrameRun) (lengths : Lengths) (n m : ℕ) → HasRoom old new lengths → HasRoom (take n old) (take m new) lengths
+room_within old new lengths n m h =
     record { old_left = omega (arith, h.old_left, frames_within n old); left_bound = h.left_bound; made_bound = omega (arith, h.made_bound, frames_within m new) }
 
 -- ---- a step to a place from which both lists go on alike

@@ -13,7 +13,7 @@ use Rattle.tas_engines.specs.Differences.{IsCommonEnd, frames, AreApart, Hunk, I
 use Rattle.tas_engines.specs.declared.comparing.Gap.{Gap}
 use Rattle.tas_engines.specs.declared.stages.Stage.{Stage}
 use Rattle.tas_engines.specs.declared.stages.Step.{Step}
-use Rattle.tas_engines.specs.Hunks.{IsGapOf, AddsHunk, GoesOn, HasRoom, IsStep, room_at, IsNextStep}
+use Rattle.tas_engines.specs.Hunks.{IsGapOf, AddsHunk, GoesOn, HasRoom, IsStep, lengths_at, IsNextStep}
 use Rattle.tas_engines.proofs.HunkLemmas.{led_same, led_within}
 use Rattle.tas_engines.proofs.DifferenceLemmas.{Reached, reached_next, reached_last}
 use Rattle.tas_engines.proofs.RunLemmas.{frames_join, dropped, inputs_at}
@@ -269,7 +269,7 @@ pub record MayStep (old new : List Input) (old_runs new_runs : List FrameRun) (s
   pub old_few : length old_runs ≤ most_inputs
   pub new_few : length new_runs ≤ most_inputs
   pub gap_old : stage.gap.old ≤ length old
-  pub room : HasRoom (take (length old_runs - stage.runs.old) (drop stage.runs.old old_runs)) (take (length new_runs - stage.runs.new) (drop stage.runs.new new_runs)) (room_at (length old) stage)
+  pub room : HasRoom (take (length old_runs - stage.runs.old) (drop stage.runs.old old_runs)) (take (length new_runs - stage.runs.new) (drop stage.runs.new new_runs)) (lengths_at (length old) stage)
 
 pub may_step : (old new : List Input) (front end : ℕ) (old_runs new_runs : List FrameRun) (stage : Stage) (changes : List Change) → AreRuns old new front end old_runs new_runs
     → Walked old new front end old_runs new_runs stage changes → MayStep old new old_runs new_runs stage
@@ -284,8 +284,8 @@ may_step old new front end old_runs new_runs stage changes runs w =
       old_few = omega (arith, old_few, g.old_within, g.short);
       new_few = omega (arith, new_few, g.new_within, g.short_new);
       gap_old = omega (arith, g.old_forward, g.old_within);
-      room = subst (λ (l : List FrameRun). HasRoom l (take (length new_runs - stage.runs.new) (drop stage.runs.new new_runs)) (room_at (length old) stage)) (sym (take_rest old_runs stage.runs.old))
-          (subst (λ (l : List FrameRun). HasRoom (drop stage.runs.old old_runs) l (room_at (length old) stage)) (sym (take_rest new_runs stage.runs.new)) (record {
+      room = subst (λ (l : List FrameRun). HasRoom l (take (length new_runs - stage.runs.new) (drop stage.runs.new new_runs)) (lengths_at (length old) stage)) (sym (take_rest old_runs stage.runs.old))
+          (subst (λ (l : List FrameRun). HasRoom (drop stage.runs.old old_runs) l (lengths_at (length old) stage)) (sym (take_rest new_runs stage.runs.new)) (record {
             old_left = omega (arith, left.old_left, g.old_within);
             left_bound = omega (arith, g.short);
             made_bound = omega (arith, left.new_left, g.new_within, g.short_new);

@@ -8,7 +8,7 @@ use Rattle.tas_language.specs.declared.change.Change.{Change}
 use Rattle.tas_language.specs.declared.change.Change.TheVariants.{Insert, Replace, Delete}
 use Rattle.tas_engines.specs.declared.anchors.Anchor.{Anchor}
 use Rattle.tas_engines.specs.declared.comparing.Gap.{Gap}
-use Rattle.tas_engines.specs.declared.alike.Room.{Room}
+use Rattle.tas_engines.specs.declared.alike.Lengths.{Lengths}
 use Rattle.tas_engines.specs.declared.stages.Stage.{Stage}
 use Rattle.tas_engines.specs.declared.stages.Step.{Step}
 use Rattle.tas_engines.specs.Changes.{changed_by, AreAllowed, HaveNumbers}
@@ -97,25 +97,25 @@ pub record IsLongestFront (old new : List FrameRun) (n : ℕ) : Type 0 where
   pub longest : (m : ℕ) → m ≤ length old → m ≤ length new → take m old ≡ take m new → m ≤ n
 
 -- the frames of the old runs are left, and the movie isn't too long with them, nor with the new ones
-pub record HasRoom (old new : List FrameRun) (room : Room) : Type 0 where
-  pub old_left : frames old ≤ room.left
-  pub left_bound : room.left ≤ most_inputs
-  pub made_bound : room.made + frames new ≤ most_inputs
+pub record HasRoom (old new : List FrameRun) (lengths : Lengths) : Type 0 where
+  pub old_left : frames old ≤ lengths.left
+  pub left_bound : lengths.left ≤ most_inputs
+  pub made_bound : lengths.made + frames new ≤ most_inputs
 
 -- a place at this distance at which they go on alike
-abbrev pub IsAt : List FrameRun → List FrameRun → Room → ℕ → Option Anchor → Type 0
-IsAt old new room distance (Some at) = GoOnAlike old new room.made room.left at.old at.new × (at.old + at.new ≡ distance)
-IsAt old new room distance None = (i j : ℕ) → i + j ≡ distance → GoOnAlike old new room.made room.left i j → ⊥
+abbrev pub IsAt : List FrameRun → List FrameRun → Lengths → ℕ → Option Anchor → Type 0
+IsAt old new lengths distance (Some at) = GoOnAlike old new lengths.made lengths.left at.old at.new × (at.old + at.new ≡ distance)
+IsAt old new lengths distance None = (i j : ℕ) → i + j ≡ distance → GoOnAlike old new lengths.made lengths.left i j → ⊥
 
 -- the nearest one
-abbrev pub IsNearest : List FrameRun → List FrameRun → Room → Option Anchor → Type 0
-IsNearest old new room (Some at) = GoOnAlike old new room.made room.left at.old at.new × ((i j : ℕ) → i + j < at.old + at.new → GoOnAlike old new room.made room.left i j → ⊥)
-IsNearest old new room None = AreApart old new room.made room.left
+abbrev pub IsNearest : List FrameRun → List FrameRun → Lengths → Option Anchor → Type 0
+IsNearest old new lengths (Some at) = GoOnAlike old new lengths.made lengths.left at.old at.new × ((i j : ℕ) → i + j < at.old + at.new → GoOnAlike old new lengths.made lengths.left i j → ⊥)
+IsNearest old new lengths None = AreApart old new lengths.made lengths.left
 
 -- one before which they are apart
-abbrev pub IsNext : List FrameRun → List FrameRun → Room → Option Anchor → Type 0
-IsNext old new room (Some at) = GoOnAlike old new room.made room.left at.old at.new × AreApart (take at.old old) (take at.new new) room.made room.left
-IsNext old new room None = AreApart old new room.made room.left
+abbrev pub IsNext : List FrameRun → List FrameRun → Lengths → Option Anchor → Type 0
+IsNext old new lengths (Some at) = GoOnAlike old new lengths.made lengths.left at.old at.new × AreApart (take at.old old) (take at.new new) lengths.made lengths.left
+IsNext old new lengths None = AreApart old new lengths.made lengths.left
 
 -- where a hunk ends before `out` and `into`, runs that are left, and after it `stays` stay
 pub record IsStep (old new : List FrameRun) (len : ℕ) (stage : Stage) (step : Step) : Type 0 where
@@ -134,8 +134,8 @@ pub record IsStep (old new : List FrameRun) (len : ℕ) (stage : Stage) (step : 
   pub after_new : step.after.runs.new ≡ stage.runs.new + length into + length stays
   pub after_gap : step.after.gap ≡ record { old = stage.gap.old + frames out + frames stays; old_end = stage.gap.old_end; new = stage.gap.new + frames into + frames stays; new_end = stage.gap.new_end }
 
-abbrev pub room_at : ℕ → Stage → Room
-room_at len stage = record { made = stage.gap.new; left = len - stage.gap.old }
+abbrev pub lengths_at : ℕ → Stage → Lengths
+lengths_at len stage = record { made = stage.gap.new; left = len - stage.gap.old }
 
 abbrev pub IsNextStep : List FrameRun → List FrameRun → ℕ → Stage → Option Step → Type 0
 IsNextStep old new len stage (Some step) = IsStep old new len stage step

@@ -16,7 +16,7 @@ const REACH: usize = 512;
 
 /// What the movie has where the runs begin.
 #[derive(Clone, Copy)]
-pub(crate) struct Room {
+pub(crate) struct Lengths {
     /// The frames before them.
     pub(crate) made: usize,
     /// The old frames from them on.
@@ -55,25 +55,25 @@ pub(crate) fn frames_of(runs: &[FrameRun]) -> usize
 
 /// Whether both lists go on alike from a place on, and the movie isn't too long with the new runs before it and the old
 /// ones from it on.
-fn go_on_alike(old: &[FrameRun], new: &[FrameRun], at: Anchor, room: Room) -> bool
+fn go_on_alike(old: &[FrameRun], new: &[FrameRun], at: Anchor, lengths: Lengths) -> bool
     requires old_within { at.old ≤ length old.now }
     requires new_within { at.new ≤ length new.now }
-    requires room { HasRoom old.now new.now room }
-    ensures { IsTrue result ↔ GoOnAlike old.now new.now room.made room.left at.old at.new }
+    requires room { HasRoom old.now new.now lengths }
+    ensures { IsTrue result ↔ GoOnAlike old.now new.now lengths.made lengths.left at.old at.new }
 {
     if common_runs(&old[at.old..], &new[at.new..]) < ALIKE_RUNS {
         return false;
     }
-    let made = room.made + frames_of(&new[..at.new]);
-    let left = room.left - frames_of(&old[..at.old]);
+    let made = lengths.made + frames_of(&new[..at.new]);
+    let left = lengths.left - frames_of(&old[..at.old]);
     made + left <= MAX_FRAMES
 }
 
 /// A place from which both lists go on alike, with this many runs of the two before it.
-fn alike_at(old: &[FrameRun], new: &[FrameRun], distance: usize, room: Room) -> Option<Anchor>
+fn alike_at(old: &[FrameRun], new: &[FrameRun], distance: usize, lengths: Lengths) -> Option<Anchor>
     requires near { distance < reach }
-    requires room { HasRoom old.now new.now room }
-    ensures { IsAt old.now new.now room distance result }
+    requires room { HasRoom old.now new.now lengths }
+    ensures { IsAt old.now new.now lengths distance result }
 {
     let first = distance.saturating_sub(new.len());
     for i in first..distance.min(old.len()) + 1 {
@@ -81,7 +81,7 @@ fn alike_at(old: &[FrameRun], new: &[FrameRun], distance: usize, room: Room) -> 
             old: i,
             new: distance - i,
         };
-        if go_on_alike(old, new, at, room) {
+        if go_on_alike(old, new, at, lengths) {
             return Some(at);
         }
     }
@@ -89,13 +89,13 @@ fn alike_at(old: &[FrameRun], new: &[FrameRun], distance: usize, room: Room) -> 
 }
 
 /// The place nearest to the beginning from which both lists go on alike.
-fn nearest(old: &[FrameRun], new: &[FrameRun], room: Room) -> Option<Anchor>
-    requires { HasRoom old.now new.now room }
-    ensures { IsNearest old.now new.now room result }
+fn nearest(old: &[FrameRun], new: &[FrameRun], lengths: Lengths) -> Option<Anchor>
+    requires { HasRoom old.now new.now lengths }
+    ensures { IsNearest old.now new.now lengths result }
 {
     let mut distance = 0;
     while distance < REACH && distance < old.len().saturating_add(new.len()) {
-        let found = alike_at(old, new, distance, room);
+        let found = alike_at(old, new, distance, lengths);
         if found.is_some() {
             return found;
         }
@@ -110,15 +110,15 @@ pub(crate) fn next_alike(
     old: &[FrameRun],
     new: &[FrameRun],
     far: Anchor,
-    room: Room,
+    lengths: Lengths,
 ) -> Option<Anchor>
-    requires { HasRoom old.now new.now room }
-    ensures { IsNext old.now new.now room result }
+    requires { HasRoom old.now new.now lengths }
+    ensures { IsNext old.now new.now lengths result }
 {
-    if far.old > old.len() || far.new > new.len() || !go_on_alike(old, new, far, room) {
-        return nearest(old, new, room);
+    if far.old > old.len() || far.new > new.len() || !go_on_alike(old, new, far, lengths) {
+        return nearest(old, new, lengths);
     }
-    match nearest(&old[..far.old], &new[..far.new], room) {
+    match nearest(&old[..far.old], &new[..far.new], lengths) {
         Some(near) => Some(near),
         None => Some(far),
     }

@@ -3,9 +3,9 @@
 ghost use Rattle.std.specs.Prelude.{◌≡◌, ◌≤◌, ◌-◌, ◌+◌, length, IfOk};
 ghost use Rattle.tas_movie.specs.Content.{most_inputs};
 ghost use Rattle.tas_movie.specs.Runs.{runs_of};
-ghost use Rattle.tas_engines.specs.Hunks.{HasRoom, IsNextStep, room_at};
+ghost use Rattle.tas_engines.specs.Hunks.{HasRoom, IsNextStep, lengths_at};
 
-use crate::alike::{Room, common_runs, frames_of, next_alike};
+use crate::alike::{Lengths, common_runs, frames_of, next_alike};
 use crate::anchors::Anchor;
 use crate::comparing::Gap;
 use std::alloc::{AllocError, Allocator};
@@ -57,7 +57,7 @@ pub(crate) fn next_step(
     requires new_bound { stage.runs.new + length new.now ≤ most_inputs }
     requires gap_old { stage.gap.old ≤ len }
     requires len_bound { len ≤ most_inputs }
-    requires room { HasRoom old.now new.now (room_at len stage) }
+    requires room { HasRoom old.now new.now (lengths_at len stage) }
     ensures { IsNextStep old.now new.now len stage result }
 {
     let Gap {
@@ -66,7 +66,7 @@ pub(crate) fn next_step(
         ..
     } = stage.gap;
     let left = len - gone;
-    let at = match next_alike(old, new, far, Room { made, left }) {
+    let at = match next_alike(old, new, far, Lengths { made, left }) {
         Some(at) => at,
         None => return None,
     };

@@ -4,7 +4,7 @@ use Rattle.tas_movie.specs.declared.run.FrameRun.{FrameRun}
 use Rattle.tas_language.specs.declared.change.Change.{Change}
 use Rattle.tas_engines.specs.declared.stages.Stage.{Stage}
 use Rattle.tas_engines.specs.declared.stages.Step.{Step}
-use Rattle.tas_engines.specs.Hunks.{HasRoom, room_at, IsNextStep}
+use Rattle.tas_engines.specs.Hunks.{HasRoom, lengths_at, IsNextStep}
 use Rattle.tas_engines.proofs.DifferenceLemmas.{first_gap, plain_end, reached_first}
 use Rattle.tas_engines.proofs.StageLemmas.{Walked, walked_first, may_step, plain_step, step_gap, walked_on, walked_last}
 use Rattle.tas_engines.proofs.comparing.changes_between.Goals as goal
@@ -42,9 +42,9 @@ next_step-requires-clause-room g c =
     let q = c.loop-step.stage.runs.new in
     let old_runs = c.in_ok-old_runs.old_runs.items in
     let slice = c.deref-in-loop-step-2.result.now in
-    let room = room_at (length c.args.old.now) c.loop-step.stage in
-    subst (λ (a : List FrameRun). HasRoom (take (length a - p) (drop p a)) (take (length slice - q) (drop q slice)) room) (sym c.deref-in-loop-step.ensures.value)
-    (subst (λ (b : List FrameRun). HasRoom (take (length old_runs - p) (drop p old_runs)) (take (length b - q) (drop q b)) room) (sym c.deref-in-loop-step-2.ensures.value) may.room)
+    let lengths = lengths_at (length c.args.old.now) c.loop-step.stage in
+    subst (λ (a : List FrameRun). HasRoom (take (length a - p) (drop p a)) (take (length slice - q) (drop q slice)) lengths) (sym c.deref-in-loop-step.ensures.value)
+    (subst (λ (b : List FrameRun). HasRoom (take (length old_runs - p) (drop p old_runs)) (take (length b - q) (drop q b)) lengths) (sym c.deref-in-loop-step-2.ensures.value) may.room)
 
 -- what a call of `next_step` finds, of the runs themselves
 found : (old_runs new_runs a b : List FrameRun) (len : ℕ) (stage : Stage) (step : Option Step) → ◌≡◌ {A = List FrameRun} a old_runs → ◌≡◌ {A = List FrameRun} b new_runs
