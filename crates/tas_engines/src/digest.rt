@@ -98,15 +98,15 @@ fn play_stretch<A: Allocator, B: Allocator>(
     Ok(digits_of(hasher.finalize()))
 }
 
-/// The digits of the digest of a picture's pixmap, which is made in `room`.
+/// The digits of the digest of a picture's pixmap, which is made in `buffer`.
 fn picture_digest<A: Allocator, B: Allocator>(
     picture: &Picture<A>,
-    room: &mut Vec<u8, B>,
+    buffer: &mut Vec<u8, B>,
 ) -> Result<[u8; DIGITS], AllocError>
     ensures { IfOk result (λ digits. digits ≡ digest_of (ppm_bytes picture.now)) }
 {
-    fill_pixmap(picture, room)?;
-    Ok(digest_of(room.as_slice()))
+    fill_pixmap(picture, buffer)?;
+    Ok(digest_of(buffer.as_slice()))
 }
 
 /// Adds a number in decimal digits.
@@ -145,14 +145,14 @@ fn push_stretch<A: Allocator>(out: &mut Vec<u8, A>, stretch: &Stretch) -> Result
     Ok(())
 }
 
-/// Plays the frames of a stretch, from `from` to `to` - 1, and makes the two digests, that of the pixmap in `room`.
+/// Plays the frames of a stretch, from `from` to `to` - 1, and makes the two digests, that of the pixmap in `buffer`.
 fn digest_stretch<A: Allocator, B: Allocator>(
     movie: &Movie<A>,
     from: usize,
     to: usize,
     state: &mut State,
     picture: &mut Picture<B>,
-    room: &mut Vec<u8, B>,
+    buffer: &mut Vec<u8, B>,
 ) -> Result<Stretch, RunFault>
     requires order { from < to }
     requires within { to ≤ length movie.now.inputs }
@@ -170,7 +170,7 @@ fn digest_stretch<A: Allocator, B: Allocator>(
 {
     match play_stretch(movie, from, to, state, picture) {
         Ok(ram) => {
-            let picture = picture_digest(picture, room)?;
+            let picture = picture_digest(picture, buffer)?;
             Ok(Stretch {
                 from,
                 to,
@@ -201,11 +201,11 @@ fn push_stretches<A: Allocator + Copy>(
     let len = movie.len();
     let mut state = State::power_on(movie.cart());
     let mut picture = Picture::blank(alloc)?;
-    let mut room = Vec::with_capacity(alloc, PIXMAP_SIZE)?;
+    let mut buffer = Vec::with_capacity(alloc, PIXMAP_SIZE)?;
     for i in 0..len.div_ceil(every) {
         let from = i * every;
         let to = from + every.min(len - from);
-        let stretch = digest_stretch(movie, from, to, &mut state, &mut picture, &mut room)?;
+        let stretch = digest_stretch(movie, from, to, &mut state, &mut picture, &mut buffer)?;
         push_stretch(out, &stretch)?;
     }
     Ok(())

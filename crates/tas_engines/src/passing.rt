@@ -51,15 +51,15 @@ pub(crate) fn draw_frame<A: Allocator, B: Allocator>(
     play(movie.cart(), state, movie.inputs()[k], picture, &mut meter)
 }
 
-/// Makes a picture's pixmap in place of what the room has.
+/// Makes a picture's pixmap in place of what the buffer has.
 pub(crate) fn fill_pixmap<A: Allocator, B: Allocator>(
     picture: &Picture<A>,
-    room: &mut Vec<u8, B>,
+    buffer: &mut Vec<u8, B>,
 ) -> Result<(), AllocError>
-    ensures { OnOk result (room.new.items ≡ ppm_bytes picture.now) }
+    ensures { OnOk result (buffer.new.items ≡ ppm_bytes picture.now) }
 {
-    room.clear();
-    match ppm(picture, room) {
+    buffer.clear();
+    match ppm(picture, buffer) {
         Ok(()) => Ok(()),
         Err(_) => Err(AllocError),
     }

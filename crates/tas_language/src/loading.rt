@@ -46,16 +46,16 @@ fn offset_of(first: u8, second: u8, third: u8) -> Option<usize>
 }
 
 /// Writes the bytes of these digits; `None` where one of them isn't a digit.
-fn write_bytes(digits: &[u8], room: &mut [u8]) -> Option<()>
-    requires { length digits.now ≡ 2 * length room.old }
-    ensures len { length room.new ≡ length room.old }
-    ensures bytes { IsBytes room.new }
-    ensures written { IfSome result (λ _. digits.now ≡ hex_text room.new) }
+fn write_bytes(digits: &[u8], buffer: &mut [u8]) -> Option<()>
+    requires { length digits.now ≡ 2 * length buffer.old }
+    ensures len { length buffer.new ≡ length buffer.old }
+    ensures bytes { IsBytes buffer.new }
+    ensures written { IfSome result (λ _. digits.now ≡ hex_text buffer.new) }
     ensures other { IfNone result ((bytes : List ℕ) → IsBytes bytes → digits.now ≢ hex_text bytes) }
 {
-    for k in 0..room.len() {
+    for k in 0..buffer.len() {
         let byte = byte_of(digits[2 * k], digits[2 * k + 1])?;
-        room[k] = byte;
+        buffer[k] = byte;
     }
     Some(())
 }

@@ -24,13 +24,13 @@ returns-then-end-image-clause-other c = λ part is-part is.
 
 pub returns-clause-written : goal.returns-clause-written
 returns-clause-written c = IfSome_then c.write_bytes.result c.write_bytes.ensures.written (λ u digits.
-    let part : Part = record { offset = c.in_ok-offset.offset; bytes = c.write_bytes.new.room } in
-    let l : length c.split_at.result.1.now ≡ 2 * length c.write_bytes.new.room = ap length digits ∙ length-hex_text c.write_bytes.new.room in
+    let part : Part = record { offset = c.in_ok-offset.offset; bytes = c.write_bytes.new.buffer } in
+    let l : length c.split_at.result.1.now ≡ 2 * length c.write_bytes.new.buffer = ap length digits ∙ length-hex_text c.write_bytes.new.buffer in
     let is-part : IsPart (length c.args.image.now) part = record { some = omega (arith, l, c.split_at.ensures.back_len); within = omega (arith, l); bytes = c.write_bytes.ensures.bytes } in (
       part,
       is-part,
-      word_made c.args.word.now c.split_at.result.1.now c.write_bytes.new.room c.in_ok-offset.offset (omega arith) c.split_at.ensures.back c.if-word-ne61.false c.in_ok-offset.ensures.some.1 digits,
-      image_over c.in_ok-offset.offset _ c.args.image.now c.write_bytes.new.room (omega arith) (omega (arith, l)),
+      word_made c.args.word.now c.split_at.result.1.now c.write_bytes.new.buffer c.in_ok-offset.offset (omega arith) c.split_at.ensures.back c.if-word-ne61.false c.in_ok-offset.ensures.some.1 digits,
+      image_over c.in_ok-offset.offset _ c.args.image.now c.write_bytes.new.buffer (omega arith) (omega (arith, l)),
     ))
 
 pub returns-clause-other : goal.returns-clause-other
