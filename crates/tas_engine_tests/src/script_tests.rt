@@ -102,8 +102,8 @@ static COMMANDS: [(&[u8], Command); 11] = [
     (b"input 9999999", Command::InputAt { frame: 9_999_999 }),
     (b"shot 191", Command::Shot { frame: 191 }),
     (b"shot 10", Command::Shot { frame: 10 }),
-    (b"work 0", Command::Work { frame: 0 }),
-    (b"work 9999999", Command::Work { frame: 9_999_999 }),
+    (b"work 0", Command::Work { frames: 0 }),
+    (b"work 9999999", Command::Work { frames: 9_999_999 }),
 ];
 
 #[test]

@@ -64,4 +64,4 @@ Says said (Edit change) = IsChangeLine said change
 Says said Length = said ≡ codes "len"
 Says said (InputAt frame) = (said ≡ codes "input " ++ decimal frame) × IsNumber frame
 Says said (Shot frame) = (said ≡ codes "shot " ++ decimal frame) × IsNumber frame
-Says said (Work frame) = (said ≡ codes "work " ++ decimal frame) × IsNumber frame
+Says said (Work frames) = (said ≡ codes "work " ++ decimal frames) × IsNumber frames

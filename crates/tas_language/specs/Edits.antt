@@ -31,7 +31,7 @@ edits_of (Edits change) = edit_of change ∷ []
 edits_of Length = []
 edits_of (InputAt frame) = []
 edits_of (Shot frame) = []
-edits_of (Work frame) = []
+edits_of (Work frames) = []
 
 -- the movie after some edits, one after the other
 unfoldable pub edited_by : MovieContent → List EditContent → MovieContent

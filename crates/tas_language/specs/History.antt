@@ -57,7 +57,7 @@ command_text (Edits change) = change_text change
 command_text Length = codes "len"
 command_text (InputAt frame) = codes "input " ++ decimal frame
 command_text (Shot frame) = codes "shot " ++ decimal frame
-command_text (Work frame) = codes "work " ++ decimal frame
+command_text (Work frames) = codes "work " ++ decimal frames
 
 -- the lines of the commands that make an edit, each after the same prefix
 abbrev pub edit_lines : {A : Type 0} → List ℕ → Edit A → List ℕ

@@ -26,7 +26,7 @@ pub enum Command {
     },
     /// `work K`: the states up to a frame are filled.
     Work {
-        /// How many frames from power-on; it may lie past the end.
-        frame: usize,
+        /// The number of frames from power-on; it may be more than the movie has.
+        frames: usize,
     },
 }

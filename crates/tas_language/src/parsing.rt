@@ -44,8 +44,8 @@ pub fn parse_line(line: &[u8]) -> Option<Command>
     if let Some(frame) = numbered(line, b"shot ") {
         return Some(Command::Shot { frame });
     }
-    let frame = numbered(line, b"work ")?;
-    Some(Command::Work { frame })
+    let frames = numbered(line, b"work ")?;
+    Some(Command::Work { frames })
 }
 
 /// The number at the end of a line that begins with `front`.

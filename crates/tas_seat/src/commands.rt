@@ -153,6 +153,6 @@ pub fn reply_to_command<N: Name, W: CloseOnDrop, A: Allocator + Copy, R: Wait>(
         Command::Length => show_length(desk, seat),
         Command::InputAt { frame } => show_input(desk, seat, frame),
         Command::Shot { frame } => draw(alloc, desk, seat, frame),
-        Command::Work { frame } => Ok(work(rt, alloc, desk, seat, frame)),
+        Command::Work { frames } => Ok(work(rt, alloc, desk, seat, frames)),
     }
 }

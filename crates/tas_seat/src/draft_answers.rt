@@ -107,8 +107,8 @@ impl<A: Allocator + Copy> Draft<A> {
             Command::Length => answer_of_reply(alloc, self.show_length()),
             Command::InputAt { frame } => answer_of_reply(alloc, self.show_input(frame)),
             Command::Shot { frame } => self.answer_shot(alloc, frame),
-            Command::Work { frame } => {
-                let reply = self.work(alloc, frame);
+            Command::Work { frames } => {
+                let reply = self.work(alloc, frames);
                 answer_of_reply(alloc, reply)
             }
         }

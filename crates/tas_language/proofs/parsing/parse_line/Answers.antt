@@ -19,8 +19,8 @@ returns-in_err-at-2-clause-some c = grind (arith, common_steps)
 pub returns-in_err-load_image-2-clause-some : goal.returns-in_err-load_image-2-clause-some
 returns-in_err-load_image-2-clause-some c = grind (arith, common_steps)
 
-pub returns-in_err-frame-clause-none : goal.returns-in_err-frame-clause-none
-returns-in_err-frame-clause-none c = grind (arith, common_steps)
+pub returns-in_err-frames-clause-none : goal.returns-in_err-frames-clause-none
+returns-in_err-frames-clause-none c = grind (arith, common_steps)
 
 pub returns-in_err-at-clause-some : goal.returns-in_err-at-clause-some
 returns-in_err-at-clause-some c = grind (arith, common_steps)
@@ -34,8 +34,8 @@ returns-in_err-at-3-clause-some c = grind (arith, common_steps)
 pub returns-in_err-at-3-clause-none : goal.returns-in_err-at-3-clause-none
 returns-in_err-at-3-clause-none c = grind (arith, common_steps)
 
-pub returns-in_err-frame-clause-some : goal.returns-in_err-frame-clause-some
-returns-in_err-frame-clause-some c = grind (arith, common_steps)
+pub returns-in_err-frames-clause-some : goal.returns-in_err-frames-clause-some
+returns-in_err-frames-clause-some c = grind (arith, common_steps)
 
 pub returns-in_err-load_image-clause-some : goal.returns-in_err-load_image-clause-some
 returns-in_err-load_image-clause-some c = grind (arith, common_steps)

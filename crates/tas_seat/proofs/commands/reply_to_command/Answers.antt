@@ -20,4 +20,4 @@ pub returns-in-Shot : goal.returns-in-Shot
 returns-in-Shot g c = answered_as g.row.A.Denot c.args.seat.now c.draw.new.seat c.args.command (Shot c.in-Shot.frame) c.draw.result c.in-Shot.is c.draw.ensures
 
 pub returns-in-Work : goal.returns-in-Work
-returns-in-Work g c = answered_as g.row.A.Denot c.args.seat.now c.work.new.seat c.args.command (Work c.in-Work.frame) (Ok c.work.result) c.in-Work.is c.work.ensures
+returns-in-Work g c = answered_as g.row.A.Denot c.args.seat.now c.work.new.seat c.args.command (Work c.in-Work.frames) (Ok c.work.result) c.in-Work.is c.work.ensures

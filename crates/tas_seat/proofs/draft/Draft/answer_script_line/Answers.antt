@@ -12,4 +12,4 @@ returns-in-Edit g c =
 pub returns-in-Work : goal.returns-in-Work
 returns-in-Work g c =
     rw c.in-Work.is
-    (told_text c.args.self.now c.work-reply.new.self (Do (Work c.in-Work.frame)) (reply_text c.work-reply.result) c.answer_of_reply-in-Work.result (λ bytes. bytes.items) c.answer_of_reply-in-Work.ensures c.work-reply.ensures)
+    (told_text c.args.self.now c.work-reply.new.self (Do (Work c.in-Work.frames)) (reply_text c.work-reply.result) c.answer_of_reply-in-Work.result (λ bytes. bytes.items) c.answer_of_reply-in-Work.ensures c.work-reply.ensures)
