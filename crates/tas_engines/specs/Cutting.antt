@@ -3,7 +3,7 @@ use Rattle.std.specs.Prelude.{◌≡◌, ℕ, ◌≤◌, List, length, take, dro
 use Rattle.tas_movie.specs.Content.{MovieContent}
 use Rattle.tas_movie.specs.Text.{text2}
 use Rattle.tas_engines.specs.declared.fault.RunFault.{RunFault}
-use Rattle.tas_engines.specs.declared.fault.RunFault.TheVariants.{Range, Memory}
+use Rattle.tas_engines.specs.declared.fault.RunFault.TheVariants.{Range}
 use Rattle.tas_engines.specs.declared.fault.ToolFault.{ToolFault}
 use Rattle.tas_engines.specs.Movies.{IsMovieOf, IsMovieFault, IsMovieRun}
 
@@ -16,10 +16,9 @@ pub record IsCutRange (movie : MovieContent) (from to : ℕ) : Type 0 where
 abbrev pub cut_out : MovieContent → ℕ → ℕ → MovieContent
 cut_out movie from to = record { cart = movie.cart; inputs = drop from (take to movie.inputs) }
 
--- why there is no such movie; memory is asked for where there is one
+-- why there is no such movie
 abbrev pub IsCutFault : ℕ → ℕ → MovieContent → RunFault → Type 0
 IsCutFault from to movie (Range first end len) = (first ≡ from) × (end ≡ to) × (len ≡ length movie.inputs) × (IsCutRange movie from to → ⊥)
-IsCutFault from to movie Memory = IsCutRange movie from to
 IsCutFault from to movie _ = ⊥
 
 -- its text, or why there is none

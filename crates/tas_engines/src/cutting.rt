@@ -14,6 +14,7 @@ fn keep_frames<A: Allocator>(movie: &mut Movie<A>, from: usize, to: usize) -> Re
     ensures range { IfOk result
         (λ done. IsCutRange movie.old from to × (movie.new ≡ cut_out movie.old from to)) }
     ensures fault { IfErr result (IsCutFault from to movie.old) }
+    ensures kept { IfErr result (λ _. movie.new ≡ movie.old) }
 {
     let len = movie.len();
     if from > to || to > len {
