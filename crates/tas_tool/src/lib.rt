@@ -1,8 +1,8 @@
 //! The engines of the program `tas`: a public function for each form of a command, over any readers and
 //! any writer.
 //!
-//! Those of one movie that need no desk are in `tas_engines`, and this crate hands them out with what they share. Here are those that need
-//! a desk, and `film`.
+//! Those that need no desk are in `tas_engines`, and this crate hands them out with what they share. Here are those that need a desk, and
+//! `film`.
 #![tactic(auto)]
 
 mod desk_runs;

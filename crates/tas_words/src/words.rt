@@ -244,7 +244,7 @@ fn task_by<'a, A: Allocator>(
     let matches = line.try_get_matches_from_mut(words)?;
     match task_of(&matches) {
         Some(task) => Ok(task),
-        // Not expected: clap has met these words' command and its rules. No clause says so.
+        // Not expected: clap has met the command's rules. Its clauses say so of the command's name alone, and of words that it `takes`.
         None => Err(line.error(ErrorKind::InvalidSubcommand, "no such command")?),
     }
 }
