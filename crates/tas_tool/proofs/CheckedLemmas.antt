@@ -11,7 +11,7 @@ use Rattle.tas_session.specs.History.{entries_of}
 use Rattle.tas_desk.specs.Seats.{SeatContent, HasSeen, IsEdited}
 use Rattle.tas_engines.specs.declared.fault.RunFault.{RunFault}
 use Rattle.tas_engines.specs.declared.fault.RunFault.TheVariants.{Foreign}
-use Rattle.tas_tool.specs.Inside.TwoEdits.{checked_end}
+use Rattle.tas_tool.specs.Inside.TwoEdits.{unless_foreign}
 
 -- ---- compared answers
 
@@ -22,13 +22,13 @@ more_than a b le other = elim (cases_lt a b) [
   | inr h ↦ absurd (other (omega (arith, le, h)))
 ]
 
--- what was compared is as it was where it stands at just these edits, and `Foreign` where it doesn't
-pub checked_cases : {X : Type 0} (made at : ℕ) (end r : Result X RunFault) (P : Result X RunFault → Type 0) → r ≡ checked_end made at end → (at ≡ made → P end) → ((at ≡ made → ⊥) → P (Err Foreign)) → P r
-checked_cases {X} made at end r P is same_at other_at = go (at == made) refl
+-- what was compared is as it was where it stands at just the two edits, and `Foreign` where it doesn't
+pub foreign_cases : (at : ℕ) (end r : Result (Unit {0}) RunFault) (P : Result (Unit {0}) RunFault → Type 0) → r ≡ unless_foreign at end → (at ≡ 2 → P end) → ((at ≡ 2 → ⊥) → P (Err Foreign)) → P r
+foreign_cases at end r P is same_at other_at = go (at == 2) refl is
   where
-    go : (b : Bool) → at == made ≡ b → P r
-    go true e = let e' : r ≡ end = is ∙ rw e refl in subst P (sym e') (same_at (eqb-true at made e))
-    go false e = let e' : r ≡ Err Foreign = is ∙ rw e refl in subst P (sym e') (other_at (λ (same : at ≡ made). let t : true ≡ false = sym (eq-eqb at made same) ∙ e in absurd (cc t)))
+    go : (b : Bool) → (at == 2) ≡ b → r ≡ (if b then end else Err Foreign) → P r
+    go true e here = let e' : r ≡ end = here in subst P (sym e') (same_at (eqb-true at 2 e))
+    go false e here = let e' : r ≡ Err Foreign = here in subst P (sym e') (other_at (λ (same : at ≡ 2). let t : true ≡ false = sym (eq-eqb at 2 same) ∙ e in absurd (cc t)))
 
 -- ---- seats
 

@@ -25,8 +25,8 @@ use Rattle.tas_engines.specs.Movies.{IsMovieOf}
 use Rattle.tas_engines.specs.Shooting.{halt_fault}
 use Rattle.tas_engines.specs.Output.{Ends}
 use Rattle.tas_tool.specs.Pixmaps.{IsPixmapsAnswer, IsExportAnswer}
-use Rattle.tas_tool.specs.Inside.TwoEdits.{checked_end, export_end, HoldsMovie, IsMakingFault, StandsAtOwn}
-use Rattle.tas_tool.proofs.CheckedLemmas.{longer, more_than, checked_cases}
+use Rattle.tas_tool.specs.Inside.TwoEdits.{export_end, HoldsMovie, IsMakingFault, StandsAtOwn, unless_foreign}
+use Rattle.tas_tool.proofs.CheckedLemmas.{longer, more_than, foreign_cases}
 
 pub still_holds : {A : Type 0} (before now : SeatContent A) (movie : MovieContent) → HasSeen before now → HoldsMovie before movie → HoldsMovie now movie
 still_holds {A} before now movie seen holds =
@@ -54,24 +54,24 @@ at_movie {A} seat movie from to old new end holds ends le = subst (λ (m : Movie
 
 -- an answer that names the front at which it stands, where the seat made two edits
 ends_here : {A : Type 0} (seat : SeatContent A) (movie : MovieContent) (at from to : ℕ) (old new : Option (List ℕ)) (end : Result (Unit {0}) RunFault) → seat.made ≡ 2 → 2 ≤ length seat.front → at ≡ length seat.front
-    → length seat.front ≤ seat.made → Ends (IsPixmapsAnswer movie from to) old new end → Ends (IsPixmapsAnswer movie from to) old new (checked_end 2 at end)
+    → length seat.front ≤ seat.made → Ends (IsPixmapsAnswer movie from to) old new end → Ends (IsPixmapsAnswer movie from to) old new (unless_foreign at end)
 ends_here seat movie at from to old new end made two is le ends =
-    checked_cases 2 at end (checked_end 2 at end) (Ends (IsPixmapsAnswer movie from to) old new) refl (λ (here : at ≡ 2). ends)
+    foreign_cases at end (unless_foreign at end) (Ends (IsPixmapsAnswer movie from to) old new) refl (λ (here : at ≡ 2). ends)
     (λ (other : at ≡ 2 → ⊥). absurd (other (omega (arith, two, made, is, le))))
 
 own_here : {A : Type 0} (seat : SeatContent A) (at : ℕ) (end : Result (Unit {0}) RunFault) → seat.made ≡ 2 → 2 ≤ length seat.front → at ≡ length seat.front → (length seat.front ≡ seat.made → StandsAtOwn seat end)
-    → StandsAtOwn seat (checked_end 2 at end)
+    → StandsAtOwn seat (unless_foreign at end)
 own_here seat at end made two is stands =
-    checked_cases 2 at end (checked_end 2 at end) (StandsAtOwn seat) refl (λ (here : at ≡ 2). stands (omega (arith, is, here, made)))
+    foreign_cases at end (unless_foreign at end) (StandsAtOwn seat) refl (λ (here : at ≡ 2). stands (omega (arith, is, here, made)))
     (λ (other : at ≡ 2 → ⊥). more_than seat.made (length seat.front) (omega (arith, two, made)) (λ (own : length seat.front ≡ seat.made). other (omega (arith, is, own, made))))
 
 foreign_room : ◌≡◌ {A = RunFault} Foreign Memory → ⊥
 foreign_room e = cc
 
 -- an end that isn't being out of memory is none where it is compared
-other_here : (X : Type 0) (at : ℕ) (fault : RunFault) → (fault ≡ Memory → ⊥) → IfErr (checked_end {X = Unit {0}} 2 at (Err fault)) (λ (f : RunFault). f ≡ Memory → X)
+other_here : (X : Type 0) (at : ℕ) (fault : RunFault) → (fault ≡ Memory → ⊥) → IfErr (unless_foreign at (Err fault)) (λ (f : RunFault). f ≡ Memory → X)
 other_here X at fault ne =
-    checked_cases {X = Unit {0}} 2 at (Err fault) (checked_end 2 at (Err fault)) (λ (r : Result (Unit {0}) RunFault). IfErr r (λ (f : RunFault). f ≡ Memory → X)) refl
+    foreign_cases at (Err fault) (unless_foreign at (Err fault)) (λ (r : Result (Unit {0}) RunFault). IfErr r (λ (f : RunFault). f ≡ Memory → X)) refl
     (λ (here : at ≡ 2). λ e. absurd (ne e)) (λ (other : at ≡ 2 → ⊥). λ e. absurd (foreign_room e))
 
 kept : (old new : Option (List ℕ)) → new ≡ old → Keeps old new
@@ -135,7 +135,7 @@ export_own seat zone plan old new (Err (WriteFailed written error)) made two is 
 pub export_room : {A : Type 0} (zone : ZoneContent A) (movie : MovieContent) (edits : ℕ) (plan : ExportPlan) (old new : Option (List ℕ)) (answer : Result Exported ExportError) → IsExport zone movie edits plan old new answer
     → IfErr (export_end plan.from plan.to answer) (λ (fault : RunFault). fault ≡ Memory → IsInRange (length movie.inputs) plan.from plan.to)
 export_room zone movie edits plan old new (Ok exported) is =
-    checked_cases {X = Unit {0}} 2 exported.at (Ok tt) (checked_end 2 exported.at (Ok tt)) (λ (r : Result (Unit {0}) RunFault). IfErr r (λ (f : RunFault). f ≡ Memory → IsInRange (length movie.inputs) plan.from plan.to)) refl
+    foreign_cases exported.at (Ok tt) (unless_foreign exported.at (Ok tt)) (λ (r : Result (Unit {0}) RunFault). IfErr r (λ (f : RunFault). f ≡ Memory → IsInRange (length movie.inputs) plan.from plan.to)) refl
     (λ (here : exported.at ≡ 2). tt) (λ (other : exported.at ≡ 2 → ⊥). λ e. absurd (foreign_room e))
 export_room zone movie edits plan old new (Err (OffRange at len)) is = other_here (IsInRange (length movie.inputs) plan.from plan.to) at (Range plan.from plan.to len) (λ e. cc)
 export_room zone movie edits plan old new (Err OutOfRoom) is = λ e. is.0

@@ -22,8 +22,8 @@ use Rattle.tas_desk.specs.Zones.{ZoneContent}
 use Rattle.tas_session.proofs.HistoryLemmas.{movie_of-push, movie_of-none}
 use Rattle.tas_engines.specs.declared.fault.RunFault.{RunFault}
 use Rattle.tas_engines.specs.declared.fault.RunFault.TheVariants.{Foreign, Memory}
-use Rattle.tas_tool.specs.Inside.TwoEdits.{HasForeign, checked_end, edit_fault, HoldsMovie, IsMakingFault, next_edit, IsUnrefused}
-use Rattle.tas_tool.proofs.CheckedLemmas.{entries_push, more_than, checked_cases}
+use Rattle.tas_tool.specs.Inside.TwoEdits.{HasForeign, edit_fault, HoldsMovie, IsMakingFault, next_edit, IsUnrefused, unless_foreign}
+use Rattle.tas_tool.proofs.CheckedLemmas.{entries_push, more_than, foreign_cases}
 
 -- ---- the first edit
 
@@ -166,10 +166,10 @@ seen_others seat cart inputs second other =
 abbrev IsMade : {A : Type 0} → SeatContent A → MovieContent → Result (Unit {0}) RunFault → Type 0
 IsMade seat movie r = OnOk r (HoldsMovie seat movie) × IfErr r (IsMakingFault seat)
 
-ended : {A : Type 0} (seat : SeatContent A) (cart : List ℕ) (inputs : List Input) (at : ℕ) (r : Result (Unit {0}) RunFault) → HasInserted seat cart inputs → at ≡ length seat.front → r ≡ checked_end 2 at (Ok tt)
+ended : {A : Type 0} (seat : SeatContent A) (cart : List ℕ) (inputs : List Input) (at : ℕ) (r : Result (Unit {0}) RunFault) → HasInserted seat cart inputs → at ≡ length seat.front → r ≡ unless_foreign at (Ok tt)
     → IsMade seat (record { cart = cart; inputs = inputs }) r
 ended {A} seat cart inputs at r second here is =
-    checked_cases 2 at (Ok tt) r (λ (x : Result (Unit {0}) RunFault). IsMade seat (record { cart = cart; inputs = inputs }) x) is
+    foreign_cases at (Ok tt) r (λ (x : Result (Unit {0}) RunFault). IsMade seat (record { cart = cart; inputs = inputs }) x) is
     (λ (same : at ≡ 2). (holds seat cart inputs second (sym here ∙ same), tt))
     (λ (other : at ≡ 2 → ⊥). (tt, seen_others seat cart inputs second (λ (same : length seat.front ≡ 2). other (here ∙ same))))
 
@@ -185,7 +185,7 @@ inserted_here {A} before now edit receipt e =
     counted ∙ sym long
 
 pub movie_made : {A : Type 0} (before now : SeatContent A) (movie : MovieContent) (cart : List ℕ) (inputs : List Input) (receipt : Receipt) (r : Result (Unit {0}) RunFault) → movie ≡ record { cart = cart; inputs = inputs }
-    → length inputs ≤ most_inputs → HasLoaded before cart → IsEdited before now (Insert 0 inputs) (Ok receipt) → r ≡ checked_end 2 receipt.at (Ok tt) → IsMade now movie r
+    → length inputs ≤ most_inputs → HasLoaded before cart → IsEdited before now (Insert 0 inputs) (Ok receipt) → r ≡ unless_foreign receipt.at (Ok tt) → IsMade now movie r
 movie_made {A} before now movie cart inputs receipt r whole few first edit is =
     subst (λ (m : MovieContent). IsMade now m r) (sym whole)
     (ended now cart inputs receipt.at r (inserted before now cart inputs receipt few first edit) (inserted_here before now (insert_of A inputs) receipt edit) is)
@@ -266,7 +266,7 @@ insert_unrefused {A} before now movie cart inputs error whole one edit is =
     unrefused_next now movie 1 (Insert 0 inputs) (as_before before now (insert_of A inputs) error edit ∙ one) (ap (λ (m : MovieContent). next_edit A m 1) whole) (room_alone before now (Insert 0 inputs) error edit is)
 
 -- an answer that was compared is none of memory
-pub compared : {A : Type 0} (seat : SeatContent A) (movie : MovieContent) (at : ℕ) (r : Result (Unit {0}) RunFault) → r ≡ checked_end 2 at (Ok tt) → IfErr r (λ (f : RunFault). f ≡ Memory → IsUnrefused A seat movie)
+pub compared : {A : Type 0} (seat : SeatContent A) (movie : MovieContent) (at : ℕ) (r : Result (Unit {0}) RunFault) → r ≡ unless_foreign at (Ok tt) → IfErr r (λ (f : RunFault). f ≡ Memory → IsUnrefused A seat movie)
 compared {A} seat movie at r is =
-    checked_cases 2 at (Ok tt) r (λ (x : Result (Unit {0}) RunFault). IfErr x (λ (f : RunFault). f ≡ Memory → IsUnrefused A seat movie)) is
+    foreign_cases at (Ok tt) r (λ (x : Result (Unit {0}) RunFault). IfErr x (λ (f : RunFault). f ≡ Memory → IsUnrefused A seat movie)) is
     (λ (here : at ≡ 2). tt) (λ (other : at ≡ 2 → ⊥). λ e. absurd (not_room e))

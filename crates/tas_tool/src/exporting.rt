@@ -11,7 +11,7 @@ ghost use Rattle.tas_engines.specs.Output.{Ends};
 ghost use Rattle.tas_tool.specs.Pixmaps.{IsPixmapsAnswer, IsExportAnswer};
 ghost use Rattle.tas_tool.specs.Inside.TwoEdits.{export_end, StandsAtOwn};
 
-use crate::making::{MOVIE_EDITS, checked, put_movie};
+use crate::making::{put_movie, unless_foreign};
 use crate::opening::open_alone;
 use std::alloc::Allocator;
 use std::io::{Read, Write};
@@ -36,15 +36,13 @@ fn export_end(from: usize, to: usize, answer: Result<Exported, ExportError>) -> 
     ensures { result ≡ export_end from to answer }
 {
     match answer {
-        Ok(exported) => checked(MOVIE_EDITS, exported.at, Ok(())),
-        Err(ExportError::Range { at, len }) => checked(
-            MOVIE_EDITS,
+        Ok(exported) => unless_foreign(exported.at, Ok(())),
+        Err(ExportError::Range { at, len }) => unless_foreign(
             at,
             Err(RunFault::Range { from, to, len }),
         ),
         Err(ExportError::Memory) => Err(RunFault::Memory),
-        Err(ExportError::Halted { at, frame: _, halt }) => checked(
-            MOVIE_EDITS,
+        Err(ExportError::Halted { at, frame: _, halt }) => unless_foreign(
             at,
             Err(halt_fault(halt)),
         ),

@@ -4,7 +4,7 @@ ghost use Rattle.std.specs.Prelude.{◌≡◌, ◌≤◌, [], length, OnOk, IfOk
 ghost use Rattle.tas_movie.specs.Content.{most_inputs};
 ghost use Rattle.tas_engines.specs.declared.fault.RunFault.TheVariants.{Memory};
 ghost use Rattle.tas_tool.specs.Inside.Holding.{ReadsMovie};
-ghost use Rattle.tas_tool.specs.Inside.TwoEdits.{checked_end, edit_fault, HoldsMovie, IsMakingFault, IsUnrefused};
+ghost use Rattle.tas_tool.specs.Inside.TwoEdits.{edit_fault, HoldsMovie, IsMakingFault, IsUnrefused, unless_foreign};
 
 use std::alloc::{AllocError, Allocator};
 use std::io::Read;
@@ -15,13 +15,13 @@ use tas_movie::{Edit, Inputs, Movie};
 use vcs_machine::Cart;
 
 /// How many edits [`put_movie`] makes.
-pub const MOVIE_EDITS: u64 = 2;
+const MOVIE_EDITS: u64 = 2;
 
-/// An answer, or another end, if the desk has `made` edits then, all of them the seat's own; else `Foreign`.
-pub fn checked<T: Copy>(made: u64, at: u64, end: Result<T, RunFault>) -> Result<T, RunFault>
-    ensures { result ≡ checked_end made at end }
+/// This end, if the history at which it was reached has just the two edits that made the movie; else `Foreign`.
+pub fn unless_foreign(at: u64, end: Result<(), RunFault>) -> Result<(), RunFault>
+    ensures { result ≡ unless_foreign at end }
 {
-    if at == made {
+    if at == MOVIE_EDITS {
         end
     } else {
         Err(RunFault::Foreign)
@@ -90,7 +90,7 @@ pub fn put_movie<N: Name, W: CloseOnDrop, A: Allocator + Copy, R: Wait>(
         Err(error) => return Err(edit_fault(error)),
     }
     match desk.edit(rt, seat, Edit::Insert { at: 0, inputs }) {
-        Ok(receipt) => checked(MOVIE_EDITS, receipt.at, Ok(())),
+        Ok(receipt) => unless_foreign(receipt.at, Ok(())),
         Err(error) => Err(edit_fault(error)),
     }
 }

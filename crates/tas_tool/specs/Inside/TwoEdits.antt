@@ -29,9 +29,9 @@ pub record HoldsMovie {A : Type 0} (seat : SeatContent A) (movie : MovieContent)
 abbrev pub HasForeign : {A : Type 0} → SeatContent A → Type 0
 HasForeign seat = seat.made < length seat.front
 
--- an answer, or another end, that stands at this many edits, where these are just the seat's own
-abbrev pub checked_end : {X : Type 0} → ℕ → ℕ → Result X RunFault → Result X RunFault
-checked_end made at end = if at == made then end else Err Foreign
+-- this end, if the history at which it was reached has just the two edits; else `Foreign`
+abbrev pub unless_foreign : ℕ → Result (Unit {0}) RunFault → Result (Unit {0}) RunFault
+unless_foreign at end = if at == 2 then end else Err Foreign
 
 -- what a refused edit is reported as
 abbrev pub edit_fault : EditError → RunFault
@@ -54,10 +54,10 @@ IsUnrefused A seat movie = refusal_at seat.front seat.number seat.made (next_edi
 
 -- what a desk's answer to an export is reported as: one that reports on the movie's frames is compared with the two edits
 abbrev pub export_end : ℕ → ℕ → Result Exported ExportError → Result (Unit {0}) RunFault
-export_end from to (Ok exported) = checked_end 2 exported.at (Ok tt)
-export_end from to (Err (OffRange at len)) = checked_end 2 at (Err (Range from to len))
+export_end from to (Ok exported) = unless_foreign exported.at (Ok tt)
+export_end from to (Err (OffRange at len)) = unless_foreign at (Err (Range from to len))
 export_end from to (Err OutOfRoom) = Err Memory
-export_end from to (Err (HaltedAt at frame halt)) = checked_end 2 at (Err (halt_fault halt))
+export_end from to (Err (HaltedAt at frame halt)) = unless_foreign at (Err (halt_fault halt))
 export_end from to (Err (WriteFailed written error)) = Err (Write written)
 
 -- an answer that reports on the movie's frames stands at just the seat's own edits, and one that reports on others' edits doesn't

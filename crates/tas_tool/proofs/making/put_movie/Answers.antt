@@ -8,12 +8,12 @@ use Rattle.tas_tool.proofs.making.put_movie.Goals as goal
 pub returns-in-Ok-edit-clause-holds : goal.returns-in-Ok-edit-clause-holds
 returns-in-Ok-edit-clause-holds g c =
     let first = loaded c.args.seat.now c.edit.new.seat c.in_ok-cart.cart c.in-Ok.field-0 c.requires.first.0 c.requires.first.1 c.in-Ok.ensures in
-    (movie_made c.edit.new.seat c.edit-2.new.seat c.args.movie.now c.in_ok-cart.cart c.in_ok-cart.inputs c.in-Ok-edit.receipt _ c.in_ok-cart.ensures.whole c.in_ok-cart.ensures.few first c.in-Ok-edit.ensures c.checked.ensures).0
+    (movie_made c.edit.new.seat c.edit-2.new.seat c.args.movie.now c.in_ok-cart.cart c.in_ok-cart.inputs c.in-Ok-edit.receipt _ c.in_ok-cart.ensures.whole c.in_ok-cart.ensures.few first c.in-Ok-edit.ensures c.unless_foreign.ensures).0
 
 pub returns-in-Ok-edit-clause-fault : goal.returns-in-Ok-edit-clause-fault
 returns-in-Ok-edit-clause-fault g c =
     let first = loaded c.args.seat.now c.edit.new.seat c.in_ok-cart.cart c.in-Ok.field-0 c.requires.first.0 c.requires.first.1 c.in-Ok.ensures in
-    (movie_made c.edit.new.seat c.edit-2.new.seat c.args.movie.now c.in_ok-cart.cart c.in_ok-cart.inputs c.in-Ok-edit.receipt _ c.in_ok-cart.ensures.whole c.in_ok-cart.ensures.few first c.in-Ok-edit.ensures c.checked.ensures).1
+    (movie_made c.edit.new.seat c.edit-2.new.seat c.args.movie.now c.in_ok-cart.cart c.in_ok-cart.inputs c.in-Ok-edit.receipt _ c.in_ok-cart.ensures.whole c.in_ok-cart.ensures.few first c.in-Ok-edit.ensures c.unless_foreign.ensures).1
 
 pub returns-in-Err-edit-clause-fault : goal.returns-in-Err-edit-clause-fault
 returns-in-Err-edit-clause-fault g c =
@@ -62,4 +62,4 @@ returns-in-Err-edit-clause-memory g c = λ e.
     insert_unrefused c.edit.new.seat c.edit-2.new.seat c.args.movie.now c.in_ok-cart.cart c.in_ok-cart.inputs c.in-Err-edit.error c.in_ok-cart.ensures.whole first.made c.in-Err-edit.ensures (sym c.edit_fault-in-Err-edit.ensures ∙ e)
 
 pub returns-in-Ok-edit-clause-memory : goal.returns-in-Ok-edit-clause-memory
-returns-in-Ok-edit-clause-memory g c = compared c.edit-2.new.seat c.args.movie.now _ c.checked.result c.checked.ensures
+returns-in-Ok-edit-clause-memory g c = compared c.edit-2.new.seat c.args.movie.now _ c.unless_foreign.result c.unless_foreign.ensures
