@@ -1,14 +1,14 @@
--- How requests end.
+-- How invocations end.
 use Rattle.std.proofs.Common.{◌≡◌, ℕ, List, Option, Result, Ok, Err, inr, subst}
 use Rattle.tas_engines.specs.declared.fault.ToolFault.{ToolFault}
 use Rattle.std.specs.Prelude.{String}
 use Rattle.std.specs.declared.vec.IntoIter.{IntoIter}
 use Rattle.std.specs.declared.io.Error.{Error}
 use Rattle.clap.specs.Walk.{Text}
-use Rattle.tas_words.specs.declared.request.Request.{Request}
-use Rattle.tas_words.specs.declared.request.Request.TheVariants.{Do, Show, Refuse, NoMemory}
+use Rattle.tas_words.specs.declared.invocation.Invocation.{Invocation}
+use Rattle.tas_words.specs.declared.invocation.Invocation.TheVariants.{Do, Show, Refuse, NoMemory}
 use Rattle.tas_words.specs.declared.task.Task.{Task}
-use Rattle.tas_words.specs.Requests.{AreGiven, IsNoTask, IsRequest}
+use Rattle.tas_words.specs.Invocations.{AreGiven, IsInvocation, IsNoTask}
 use Rattle.tas_program.specs.Program.{IsAskedBy, end_status, FileEngine, TwoFilesEngine, ThreeFilesEngine, EndsOver, EndsOverTwo, EndsOverThree, DoesTask, TaskEnds}
 use Rattle.tas_program.specs.Files.{FileBytes}
 use Rattle.tas_program.specs.Streams.{StreamBytes}
@@ -38,14 +38,14 @@ over_three engine one two three file left file' left' file'' left'' old new end 
     inr (left, left', left'', subst (λ (f : Option (List ℕ)). engine f left two left' three left'' old.input new.input old.output new.output end) is second)
 
 -- what listed words ask for is asked by what the system gave
-pub asked_by : {A : Type 0} (given : Result (IntoIter (String A) A) Error) (words : List Text) (request : Request A) → AreGiven given words → IsRequest words request → IsAskedBy given request
+pub asked_by : {A : Type 0} (given : Result (IntoIter (String A) A) Error) (words : List Text) (invocation : Invocation A) → AreGiven given words → IsInvocation words invocation → IsAskedBy given invocation
 asked_by given words (Do chosen) are asks = (words, are, asks)
 asked_by given words (Show text) are asks = tt
 asked_by given words (Refuse text) are asks = tt
 asked_by given words NoMemory are asks = tt
 
 -- whatever it gave, no task may be asked
-pub no_task_asked_by : {A : Type 0} (given : Result (IntoIter (String A) A) Error) (request : Request A) → IsNoTask request → IsAskedBy given request
+pub no_task_asked_by : {A : Type 0} (given : Result (IntoIter (String A) A) Error) (invocation : Invocation A) → IsNoTask invocation → IsAskedBy given invocation
 no_task_asked_by given (Do chosen) none = absurd none
 no_task_asked_by given (Show text) none = tt
 no_task_asked_by given (Refuse text) none = tt

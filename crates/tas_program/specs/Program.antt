@@ -31,15 +31,15 @@ use Rattle.tas_tool.specs.Desks.{IsDeskRun}
 use Rattle.tas_words.specs.Task.{pairs_in}
 use Rattle.tas_words.specs.declared.task.Pair.{Pair}
 use Rattle.tas_words.specs.declared.task.Pairs.{Pairs}
-use Rattle.tas_words.specs.declared.request.Request.{Request}
-use Rattle.tas_words.specs.declared.request.Request.TheVariants.{Do, Show, Refuse, NoMemory}
+use Rattle.tas_words.specs.declared.invocation.Invocation.{Invocation}
+use Rattle.tas_words.specs.declared.invocation.Invocation.TheVariants.{Do, Show, Refuse, NoMemory}
 use Rattle.tas_program.specs.declared.status.Status.{Status}
 use Rattle.tas_program.specs.declared.status.Status.TheVariants.{Done, Fault, Misuse}
 use Rattle.tas_words.specs.declared.task.Task.{Task}
 use Rattle.tas_words.specs.declared.task.Task.TheVariants.{Trace, Check, Migrate, Shot, Film, Export, Ram, Digest, Compare, Lag, Edit, Cut, Diff, Script, Talk, Desk}
 use Rattle.tas_words.specs.declared.task.Start.TheVariants.{Blank, Cart, Movie}
 use Rattle.clap.specs.Walk.{Text}
-use Rattle.tas_words.specs.Requests.{AreGiven, IsRequest}
+use Rattle.tas_words.specs.Invocations.{AreGiven, IsInvocation}
 use Rattle.tas_program.specs.Files.{FileBytes}
 use Rattle.tas_program.specs.Streams.{StreamBytes}
 
@@ -129,18 +129,18 @@ TextEnds text old new Done = Appends old new text
 TextEnds text old new Fault = (fault : RunFault) × StopsWriting old new text fault
 TextEnds text old new Misuse = ⊥
 
--- the program's end after a request: where there is no task, nothing is read, and where there is nothing to show, nothing is written
-abbrev pub CarriesOut : {A : Type 0} → FileBytes → Request A → StreamBytes → StreamBytes → Status → Type 0
+-- the program's end after an invocation: where there is no task, nothing is read, and where there is nothing to show, nothing is written
+abbrev pub CarriesOut : {A : Type 0} → FileBytes → Invocation A → StreamBytes → StreamBytes → Status → Type 0
 CarriesOut files (Do chosen) old new status = TaskEnds files chosen old new status
 CarriesOut files (Show text) old new status = (new.input ≡ old.input) × TextEnds (string_bytes text) old.output new.output status
 CarriesOut files (Refuse text) old new status = (status ≡ Misuse) × (new ≡ old)
 CarriesOut files NoMemory old new status = (status ≡ Fault) × (new ≡ old)
 
 -- what may be asked for by what the system gave: a task by its words alone
-abbrev pub IsAskedBy : {A : Type 0} → Result (IntoIter (String A) A) Error → Request A → Type 0
-IsAskedBy {A = A} given (Do chosen) = (words : List Text) × AreGiven given words × IsRequest {A = A} words (Do chosen)
+abbrev pub IsAskedBy : {A : Type 0} → Result (IntoIter (String A) A) Error → Invocation A → Type 0
+IsAskedBy {A = A} given (Do chosen) = (words : List Text) × AreGiven given words × IsInvocation {A = A} words (Do chosen)
 IsAskedBy given _ = Unit {0}
 
 -- the program carries out what the words may ask for
 abbrev pub ProgramEnds : {A : Type 0} → Result (IntoIter (String A) A) Error → FileBytes → StreamBytes → StreamBytes → Status → Type 0
-ProgramEnds {A = A} given files old new status = (request : Request A) × IsAskedBy given request × CarriesOut files request old new status
+ProgramEnds {A = A} given files old new status = (invocation : Invocation A) × IsAskedBy given invocation × CarriesOut files invocation old new status

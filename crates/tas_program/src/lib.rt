@@ -1,7 +1,7 @@
 //! The program `tas` without its runtime: words, a way to open files, streams to read and to write
 //! go in, and a status comes out.
 //!
-//! [`run_program`] reads the words into a [`Request`] and carries it out. The program's crate only
+//! [`run_program`] reads the words into an [`Invocation`] and carries it out. The program's crate only
 //! hands it the real arguments, files and streams; tests hand it others.
 #![tactic(auto)]
 
@@ -15,4 +15,4 @@ pub use folder::Folder;
 pub use running::{carry_out, run_program, run_task};
 pub use status::Status;
 pub use streams::Streams;
-pub use tas_words::{Pair, Request, Start, Task, read_words};
+pub use tas_words::{Invocation, Pair, Start, Task, read_words};

@@ -1,4 +1,4 @@
-//! Carrying a request out.
+//! Carrying an invocation out.
 
 ghost use Rattle.std.specs.Prelude.{◌≡◌, ℕ, List, Option, IfOk, IfErr, OnOk, OnErr};
 ghost use Rattle.std.specs.Io.KnownBytes.{Appends};
@@ -22,7 +22,7 @@ use tas_tool::{
     movie_script_run, movie_talk_run, ram_run, script_run, shot_run, talk_run, trace_run,
     write_all,
 };
-use tas_words::{MovieFiles, Pairs, Request, Start, Task, collect_words, read_request};
+use tas_words::{Invocation, MovieFiles, Pairs, Start, Task, collect_words, read_invocation};
 
 /// Opens a file of this name.
 fn open<F: Folder>(folder: &F, name: &str) -> Result<F::File, ToolFault>
@@ -269,7 +269,7 @@ fn show<W: Write>(output: &mut W, text: &str) -> Result<(), ToolFault>
     Ok(write_all(output, text.as_bytes())?)
 }
 
-/// Carries a request out, and returns the program's status: 0 where it was done, 1 after a fault, whose
+/// Carries an invocation out, and returns the program's status: 0 where it was done, 1 after a fault, whose
 /// line is written to standard error, and 2 where the words weren't understood, whose text goes there too.
 pub fn carry_out<
     T: Wait + Threads + Sync,
@@ -282,27 +282,27 @@ pub fn carry_out<
     rt: &T,
     global: Global,
     alloc: A,
-    request: Request<'_, A>,
+    invocation: Invocation<'_, A>,
     folder: &F,
     streams: &mut Streams<R, W, E>,
 ) -> Status
     ensures { CarriesOut (files_by (F.bytes_of folder.now) (F.held_by folder.now))
-        request.entry streams.old streams.new result }
+        invocation.entry streams.old streams.new result }
 {
-    match request {
-        Request::Do(task) => {
+    match invocation {
+        Invocation::Do(task) => {
             let end = run_task(rt, global, alloc, task, folder, streams);
             report(alloc, &mut streams.errors, end)
         }
-        Request::Show(text) => {
+        Invocation::Show(text) => {
             let end = show(&mut streams.output, text.as_str());
             report(alloc, &mut streams.errors, end)
         }
-        Request::Refuse(text) => {
+        Invocation::Refuse(text) => {
             let _ = write_all(&mut streams.errors, text.as_bytes());
             Status::Misuse
         }
-        Request::NoMemory => report(
+        Invocation::NoMemory => report(
             alloc,
             &mut streams.errors,
             Err(ToolFault::Run(RunFault::Memory)),
@@ -332,9 +332,9 @@ pub fn run_program<
 {
     match collect_words(alloc, words) {
         Ok(words) => {
-            let request = read_request(global, alloc, words.as_slice());
-            carry_out(rt, global, alloc, request, folder, streams)
+            let invocation = read_invocation(global, alloc, words.as_slice());
+            carry_out(rt, global, alloc, invocation, folder, streams)
         }
-        Err(request) => carry_out(rt, global, alloc, request, folder, streams),
+        Err(invocation) => carry_out(rt, global, alloc, invocation, folder, streams),
     }
 }

@@ -1,3 +1,3 @@
 pub mod Task
 pub mod CommandLine
-pub mod Requests
+pub mod Invocations

@@ -1,5 +1,5 @@
 use Rattle.std.proofs.Common.{ap, map, sym, string_bytes}
-use Rattle.tas_words.proofs.request.collect_words.Goals as goal
+use Rattle.tas_words.proofs.invocation.collect_words.Goals as goal
 
 pub returns-in-Ok-collect-clause-words : goal.returns-in-Ok-collect-clause-words
 returns-in-Ok-collect-clause-words g c =

@@ -4,19 +4,19 @@ use Rattle.std.specs.Iterator.Runs.{WholeRun}
 use Rattle.std.specs.Vec.Iter.{into_iter_steps}
 use Rattle.std.specs.declared.vec.IntoIter.{IntoIter}
 use Rattle.std.specs.declared.io.Error.{Error}
-use Rattle.tas_words.specs.declared.request.Request.{Request}
-use Rattle.tas_words.specs.declared.request.Request.TheVariants.{Do}
+use Rattle.tas_words.specs.declared.invocation.Invocation.{Invocation}
+use Rattle.tas_words.specs.declared.invocation.Invocation.TheVariants.{Do}
 use Rattle.clap.specs.Walk.{Text}
 use Rattle.tas_words.specs.CommandLine.{IsAsked}
 
 -- what these words may ask for, the first of which is the program's name: the task of the command that they name, with its files and
 -- numbers, these in their ranges; or a text, or nothing that is understood, or memory was refused
-abbrev pub IsRequest : {A : Type 0} → List Text → Request A → Type 0
-IsRequest words (Do chosen) = IsAsked words chosen
-IsRequest words _ = Unit {0}
+abbrev pub IsInvocation : {A : Type 0} → List Text → Invocation A → Type 0
+IsInvocation words (Do chosen) = IsAsked words chosen
+IsInvocation words _ = Unit {0}
 
--- a request that is no task
-abbrev pub IsNoTask : {A : Type 0} → Request A → Type 0
+-- an invocation that is no task
+abbrev pub IsNoTask : {A : Type 0} → Invocation A → Type 0
 IsNoTask (Do chosen) = ⊥
 IsNoTask _ = Unit {0}
 

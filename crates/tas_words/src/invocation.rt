@@ -1,7 +1,7 @@
 //! What the words ask for.
 
 ghost use Rattle.std.specs.Prelude.{IfOk, IfErr, map, string_bytes};
-ghost use Rattle.tas_words.specs.Requests.{AreGiven, IsNoTask, IsRequest};
+ghost use Rattle.tas_words.specs.Invocations.{AreGiven, IsInvocation, IsNoTask};
 
 use crate::{Task, read_words};
 use clap::Error;
@@ -12,7 +12,7 @@ use std::io;
 
 /// What the words on the command line ask for.
 #[derive(Drop)]
-pub enum Request<'a, A: Allocator = Global> {
+pub enum Invocation<'a, A: Allocator = Global> {
     /// A command.
     Do(Task<'a>),
     /// This text on standard output: help, or the version.
@@ -23,32 +23,32 @@ pub enum Request<'a, A: Allocator = Global> {
     NoMemory,
 }
 
-/// The text of a request for help, or of words that aren't understood.
-fn request_of<'a, A: Allocator>(alloc: A, error: &Error) -> Request<'a, A>
+/// The text that was asked for, or why the words aren't understood.
+fn invocation_of<'a, A: Allocator>(alloc: A, error: &Error) -> Invocation<'a, A>
     ensures { IsNoTask result }
 {
     if error.kind() == ErrorKind::OutOfMemory {
-        return Request::NoMemory;
+        return Invocation::NoMemory;
     }
     match error.to_string(alloc) {
-        Ok(text) if error.use_stderr() => Request::Refuse(text),
-        Ok(text) => Request::Show(text),
-        Err(_) => Request::NoMemory,
+        Ok(text) if error.use_stderr() => Invocation::Refuse(text),
+        Ok(text) => Invocation::Show(text),
+        Err(_) => Invocation::NoMemory,
     }
 }
 
 /// What the words ask for; the first of them is the program's name. A task is that of the command that they name. clap takes its memory
 /// from `global` alone, a text its from `alloc`.
-pub fn read_request<'a, A: Allocator>(
+pub fn read_invocation<'a, A: Allocator>(
     global: Global,
     alloc: A,
     words: &'a [String<A>],
-) -> Request<'a, A>
-    ensures { IsRequest (map string_bytes words.entry.now) result }
+) -> Invocation<'a, A>
+    ensures { IsInvocation (map string_bytes words.entry.now) result }
 {
     match read_words(global, words) {
-        Ok(task) => Request::Do(task),
-        Err(error) => request_of(alloc, &error),
+        Ok(task) => Invocation::Do(task),
+        Err(error) => invocation_of(alloc, &error),
     }
 }
 
@@ -56,19 +56,19 @@ pub fn read_request<'a, A: Allocator>(
 pub fn collect_words<A: Allocator>(
     alloc: A,
     words: io::Result<Args<A>>,
-) -> Result<Vec<String<A>, A>, Request<'static, A>>
+) -> Result<Vec<String<A>, A>, Invocation<'static, A>>
     ensures words { IfOk result (λ list. AreGiven words (map string_bytes list.items)) }
     ensures none { IfErr result IsNoTask }
 {
     match words {
         Ok(words) => match words.collect(alloc) {
             Ok(words) => Ok(words),
-            Err(_) => Err(Request::NoMemory),
+            Err(_) => Err(Invocation::NoMemory),
         },
-        Err(error) if error.kind() == io::ErrorKind::OutOfMemory => Err(Request::NoMemory),
+        Err(error) if error.kind() == io::ErrorKind::OutOfMemory => Err(Invocation::NoMemory),
         Err(_) => match String::from_str(alloc, "error: the words aren't all text\n") {
-            Ok(text) => Err(Request::Refuse(text)),
-            Err(_) => Err(Request::NoMemory),
+            Ok(text) => Err(Invocation::Refuse(text)),
+            Err(_) => Err(Invocation::NoMemory),
         },
     }
 }
