@@ -1,3 +1,3 @@
-pub mod DeskLines
+pub mod DoorEndLemmas
 pub mod PairLemmas
 pub mod ProgramLemmas

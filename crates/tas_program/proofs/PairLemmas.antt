@@ -1,4 +1,4 @@
--- The pairs of a desk, and their lines.
+-- The pairs of a desk, and the ends of their doors.
 use Rattle.std.proofs.Common.{◌≡◌, ℕ, ◌<◌, ◌≤◌, ◌+◌, List, [], ◌∷◌, ◌++◌, Option, Some, None, Result, Err, inl, subst, All, arith, length, map, take, get_or, append-nil, refl, sym, ap, ◌∙◌}
 use Rattle.std.proofs.lemmas.List.{map-append, take_more}
 use Rattle.std.proofs.lemmas.List.Elements.{All-head, All-push, All-tail, filter_map-append}
@@ -9,15 +9,15 @@ use Rattle.std.proofs.KnownBytes.{Keeps-refl}
 use Rattle.tas_engines.specs.declared.fault.ReadFault.TheVariants.{Memory}
 use Rattle.tas_engines.specs.declared.fault.ToolFault.{ToolFault}
 use Rattle.tas_engines.specs.declared.fault.ToolFault.TheVariants.{Read}
-use Rattle.tas_seat.specs.Lines.{DoorFacts, LineEnds, line_facts}
+use Rattle.tas_seat.specs.Lines.{DoorFacts, DoorEnds, end_facts}
 use Rattle.tas_tool.specs.Desks.{IsDeskRun}
 use Rattle.tas_words.specs.Task.{pairs_in}
 use Rattle.tas_words.specs.declared.task.Pair.{Pair}
 use Rattle.tas_words.specs.declared.task.Pairs.{Pairs}
 use Rattle.tas_program.specs.Files.{files_by}
-use Rattle.tas_program.specs.Program.{EndsOverTwo, IsDeskTask, line_by, lines_of}
+use Rattle.tas_program.specs.Program.{EndsOverTwo, IsDeskTask, ends_by, ends_of}
 use Rattle.tas_program.specs.Streams.{StreamBytes}
-use Rattle.tas_program.proofs.DeskLines.{desk_run_lines, line_of}
+use Rattle.tas_program.proofs.DoorEndLemmas.{desk_run_ends, door_ends}
 use Rattle.tas_program.proofs.ProgramLemmas.{over_two}
 
 -- the pairs of the places up to this one
@@ -41,30 +41,30 @@ without_door places i d below none = go (get_or places i d) refl
     go None e = pairs_more places i d below ∙ rw e (append-nil (filter_map (λ pair. pair) (take i places)))
     go (Some pair) e = absurd (none pair e)
 
--- the lines of doors to these pairs in one folder are the pairs' lines
-pub lines_are : {D F : Type 0} (read held : F → List ℕ → Option (List ℕ)) (folder_of : D → F) (pair_of : D → Pair) (folder : F) (doors : List D) (pairs : Pairs) → All (λ door. folder_of door ≡ folder) doors
+-- the ends of doors to these pairs in one folder are the pairs' ends
+pub ends_are : {D F : Type 0} (read held : F → List ℕ → Option (List ℕ)) (folder_of : D → F) (pair_of : D → Pair) (folder : F) (doors : List D) (pairs : Pairs) → All (λ door. folder_of door ≡ folder) doors
     → map pair_of doors ≡ pairs_in pairs
-    → map (λ door. line_by (files_by (read (folder_of door)) (held (folder_of door))) (pair_of door)) doors ≡ lines_of (files_by (read folder) (held folder)) pairs
-lines_are {D = D} {F = F} read held folder_of pair_of folder doors pairs all is = go doors all ∙ ap (λ l. map (line_by (files_by (read folder) (held folder))) l) is
+    → map (λ door. ends_by (files_by (read (folder_of door)) (held (folder_of door))) (pair_of door)) doors ≡ ends_of (files_by (read folder) (held folder)) pairs
+ends_are {D = D} {F = F} read held folder_of pair_of folder doors pairs all is = go doors all ∙ ap (λ l. map (ends_by (files_by (read folder) (held folder))) l) is
   where
-    line : D → LineEnds
-    line door = line_by (files_by (read (folder_of door)) (held (folder_of door))) (pair_of door)
+    known : D → DoorEnds
+    known door = ends_by (files_by (read (folder_of door)) (held (folder_of door))) (pair_of door)
 
-    go : (l : List D) → All (λ door. folder_of door ≡ folder) l → map line l ≡ map (line_by (files_by (read folder) (held folder))) (map pair_of l)
+    go : (l : List D) → All (λ door. folder_of door ≡ folder) l → map known l ≡ map (ends_by (files_by (read folder) (held folder))) (map pair_of l)
     go [] all = refl
-    go (door ∷ l) all = rw (All-head (λ d. folder_of d ≡ folder) door l all) (ap (λ r. line_by (files_by (read folder) (held folder)) (pair_of door) ∷ r) (go l (All-tail (λ d. folder_of d ≡ folder) door l all)))
+    go (door ∷ l) all = rw (All-head (λ d. folder_of d ≡ folder) door l all) (ap (λ r. ends_by (files_by (read folder) (held folder)) (pair_of door) ∷ r) (go l (All-tail (λ d. folder_of d ≡ folder) door l all)))
 
--- a desk was run over two files and the lines of these doors
-pub over_lines : {D : Type 0} (facts : DoorFacts D) (doors doors' : List D) (lines : List LineEnds) (one two file left file' left' : Option (List ℕ)) (old new : StreamBytes) (end : Result (Unit {0}) ToolFault) → file ≡ one → file' ≡ two
-    → new.input ≡ old.input → map (line_of facts) doors ≡ lines → IsDeskRun GlobalType facts doors doors' file left file' left' old.output new.output end → EndsOverTwo one two (IsDeskTask lines) old new end
-over_lines facts doors doors' lines one two file left file' left' old new end is is' unread are ran =
-    over_two (IsDeskTask lines) one two file left file' left' old new end is is'
-    (unread, subst (λ l. IsDeskRun GlobalType line_facts l l file left file' left' old.output new.output end) are (desk_run_lines facts doors doors' file left file' left' old.output new.output end ran))
+-- a desk was run over two files and the ends of these doors
+pub over_ends : {D : Type 0} (facts : DoorFacts D) (doors doors' : List D) (ends : List DoorEnds) (one two file left file' left' : Option (List ℕ)) (old new : StreamBytes) (end : Result (Unit {0}) ToolFault) → file ≡ one → file' ≡ two
+    → new.input ≡ old.input → map (door_ends facts) doors ≡ ends → IsDeskRun GlobalType facts doors doors' file left file' left' old.output new.output end → EndsOverTwo one two (IsDeskTask ends) old new end
+over_ends facts doors doors' ends one two file left file' left' old new end is is' unread are ran =
+    over_two (IsDeskTask ends) one two file left file' left' old new end is is'
+    (unread, subst (λ l. IsDeskRun GlobalType end_facts l l file left file' left' old.output new.output end) are (desk_run_ends facts doors doors' file left file' left' old.output new.output end ran))
 
 -- memory was refused for the doors, and nothing is read or written
-pub no_doors : (lines : List LineEnds) (one two file file' : Option (List ℕ)) (old : StreamBytes) → file ≡ one → file' ≡ two → EndsOverTwo one two (IsDeskTask lines) old old (Err (Read Memory))
-no_doors lines one two file file' old is is' =
-    over_two (IsDeskTask lines) one two file file file' file' old old (Err (Read Memory)) is is' (refl, inl (Memory, refl, inl (([], unread file, omega arith), refl), (refl, Keeps-refl old.output)))
+pub no_doors : (ends : List DoorEnds) (one two file file' : Option (List ℕ)) (old : StreamBytes) → file ≡ one → file' ≡ two → EndsOverTwo one two (IsDeskTask ends) old old (Err (Read Memory))
+no_doors ends one two file file' old is is' =
+    over_two (IsDeskTask ends) one two file file file' file' old old (Err (Read Memory)) is is' (refl, inl (Memory, refl, inl (([], unread file, omega arith), refl), (refl, Keeps-refl old.output)))
   where
     unread : (known : Option (List ℕ)) → Consumes known known []
     unread None = tt

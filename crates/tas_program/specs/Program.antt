@@ -26,7 +26,7 @@ use Rattle.tas_tool.specs.Films.{IsFilmRun}
 use Rattle.tas_engines.specs.Editing.{IsEditRun, IsEditWithRun}
 use Rattle.tas_engines.specs.Cutting.{IsCutRun}
 use Rattle.std.specs.Global.{Global as GlobalType}
-use Rattle.tas_seat.specs.Lines.{LineEnds, line_facts}
+use Rattle.tas_seat.specs.Lines.{DoorEnds, end_facts}
 use Rattle.tas_tool.specs.Desks.{IsDeskRun}
 use Rattle.tas_words.specs.Task.{pairs_in}
 use Rattle.tas_words.specs.declared.task.Pair.{Pair}
@@ -81,17 +81,17 @@ EndsOverThree one two three engine old new end =
     ((end ≡ Err (Read Failed)) × (new ≡ old))
     ⊎ ((left left' left'' : Option (List ℕ)) × engine one left two left' three left'' old.input new.input old.output new.output end)
 
--- the line of a desk's pair: the bytes of its first file, and those that its second one holds
-abbrev pub line_by : FileBytes → Pair → LineEnds
-line_by files pair = record { given = files.read pair.input.now; held = files.held pair.output.now }
+-- the ends of a desk's pair: the bytes of its first file, and those that its second one holds
+abbrev pub ends_by : FileBytes → Pair → DoorEnds
+ends_by files pair = record { given = files.read pair.input.now; held = files.held pair.output.now }
 
 -- those of its pairs, in order
-abbrev pub lines_of : FileBytes → Pairs → List LineEnds
-lines_of files pairs = map (line_by files) (pairs_in pairs)
+abbrev pub ends_of : FileBytes → Pairs → List DoorEnds
+ends_of files pairs = map (ends_by files) (pairs_in pairs)
 
--- a desk of these lines, over a cartridge and a movie; it reads nothing of the input
-abbrev pub IsDeskTask : List LineEnds → TwoFilesEngine
-IsDeskTask lines cart cart' movie movie' input input' output output' end = (input' ≡ input) × IsDeskRun GlobalType line_facts lines lines cart cart' movie movie' output output' end
+-- a desk whose doors have these ends, over a cartridge and a movie; it reads nothing of the input
+abbrev pub IsDeskTask : List DoorEnds → TwoFilesEngine
+IsDeskTask ends cart cart' movie movie' input input' output output' end = (input' ≡ input) × IsDeskRun GlobalType end_facts ends ends cart cart' movie movie' output output' end
 
 -- a task ends as the definition of its command says, over its files and the streams
 abbrev pub DoesTask : FileBytes → Task → StreamBytes → StreamBytes → Result (Unit {0}) ToolFault → Type 0
@@ -115,7 +115,7 @@ DoesTask files (Script (Some start)) old new end = EndsOverTwo (files.read start
 DoesTask files (Talk Blank) old new end = IsTalk (talk_state_from None) old.input new.input old.output new.output end
 DoesTask files (Talk (Cart cart)) old new end = EndsOver (files.read cart.now) IsCartTalk old new end
 DoesTask files (Talk (Movie start)) old new end = EndsOverTwo (files.read start.cart.now) (files.read start.movie.now) IsMovieTalk old new end
-DoesTask files (Desk cart movie pairs) old new end = EndsOverTwo (files.read cart.now) (files.read movie.now) (IsDeskTask (lines_of files pairs)) old new end
+DoesTask files (Desk cart movie pairs) old new end = EndsOverTwo (files.read cart.now) (files.read movie.now) (IsDeskTask (ends_of files pairs)) old new end
 
 -- the program's end after a task: done where the task is, else a fault
 abbrev pub TaskEnds : FileBytes → Task → StreamBytes → StreamBytes → Status → Type 0

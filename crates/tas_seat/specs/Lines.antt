@@ -22,13 +22,13 @@ abbrev pub unknown_facts : {D : Type 0} → DoorFacts D
 unknown_facts = record { given = λ door. None; held = λ door. None; left = λ door input output. Unit {0}; refused = λ door. Unit {0} }
 
 -- a door of which the bytes of both ends may be known before it is opened
-pub record LineEnds : Type 0 where
+pub record DoorEnds : Type 0 where
   pub given : Option (List ℕ)
   pub held : Option (List ℕ)
 
 -- afterwards nothing is known of it
-abbrev pub line_facts : DoorFacts LineEnds
-line_facts = record { given = λ line. line.given; held = λ line. line.held; left = λ line input output. Unit {0}; refused = λ line. Unit {0} }
+abbrev pub end_facts : DoorFacts DoorEnds
+end_facts = record { given = λ ends. ends.given; held = λ ends. ends.held; left = λ ends input output. Unit {0}; refused = λ ends. Unit {0} }
 
 -- how a seat's conversation ended, as the desk reports it
 abbrev pub seat_end : Result (Unit {0}) ToolFault → Result (Unit {0}) SeatFault
