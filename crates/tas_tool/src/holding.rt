@@ -98,7 +98,7 @@ impl<N: Name, D: Drop, A: Allocator + Copy> Room<N, D, A> {
 }
 
 /// Puts the seats with their doors into an empty list that has room for them.
-fn gather<N: Name, A: Allocator, D: Door + Drop>(
+fn pair_up<N: Name, A: Allocator, D: Door + Drop>(
     seats: Vec<Seat<N, A>, A>,
     doors: Vec<D, A>,
     callers: &mut Vec<Caller<N, D, A>, A>,
@@ -119,7 +119,7 @@ fn gather<N: Name, A: Allocator, D: Door + Drop>(
 }
 
 /// Puts the doors, the seats, and how their conversations ended, into empty lists that have room for them.
-fn part<N: Name, A: Allocator, D: Door + Drop>(
+fn separate<N: Name, A: Allocator, D: Door + Drop>(
     callers: Vec<Caller<N, D, A>, A>,
     doors: &mut Vec<D, A>,
     back: &mut Back<N, A>,
@@ -172,7 +172,7 @@ fn hold_callers<
     ensures movie { result.closed.movie ≡ movie_of result.closed.journal.items }
 {
     converse_all(rt, alloc, &desk, callers.as_mut_slice());
-    part(callers, doors, &mut back);
+    separate(callers, doors, &mut back);
     let Back { seats, ends } = back;
     let closed = desk.close(rt, seats);
     Held { ends, closed }
@@ -207,6 +207,6 @@ pub fn hold_made<
         doors: empty,
         back,
     } = room;
-    gather(seats, mem::replace(doors, empty), &mut callers);
+    pair_up(seats, mem::replace(doors, empty), &mut callers);
     hold_callers(rt, alloc, desk, callers, doors, back)
 }

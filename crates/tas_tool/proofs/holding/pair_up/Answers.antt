@@ -1,6 +1,6 @@
 use Rattle.std.proofs.Common.{length, inl, inr, sym, ap, ◌∙◌, arith}
 use Rattle.tas_tool.proofs.HoldingLemmas.{none_left, none_moved, one_moved}
-use Rattle.tas_tool.proofs.holding.gather.Goals as goal
+use Rattle.tas_tool.proofs.holding.pair_up.Goals as goal
 
 pub loop-seat-init : goal.loop-seat-init
 loop-seat-init g c =

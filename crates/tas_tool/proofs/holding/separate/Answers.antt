@@ -1,7 +1,7 @@
 use Rattle.std.proofs.Common.{arith}
 use Rattle.std.proofs.lemmas.List.{nil_from_length}
 use Rattle.tas_tool.proofs.HoldingLemmas.{all_moved, room_for_one}
-use Rattle.tas_tool.proofs.holding.part.Goals as goal
+use Rattle.tas_tool.proofs.holding.separate.Goals as goal
 
 pub loop-caller-init : goal.loop-caller-init
 loop-caller-init g c =
