@@ -192,7 +192,7 @@ movie_made {A} before now movie cart inputs receipt r whole few first edit is =
 
 -- ---- refused edits
 
--- where nothing but memory can refuse an edit at the seat's own edits, another refusal tells that there are more
+-- where nothing but memory can refuse an edit at the seat's own edits, another refusal means that there are more
 making_fault : {A : Type 0} (seat : SeatContent A) (edit : Edit A) (error : EditError) → IsEditError (refusal_at seat.front seat.number seat.made edit) error
     → (length seat.front ≤ seat.made → refusal_at seat.front seat.number seat.made edit ≡ None) → IsMakingFault seat (edit_fault error)
 making_fault {A} seat edit error found none = go error found

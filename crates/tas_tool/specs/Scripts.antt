@@ -15,7 +15,7 @@ use Rattle.byte_text.specs.Splitting.{NoByte}
 use Rattle.tas_language.specs.Replies.{reply_text}
 use Rattle.tas_seat.specs.Turns.{Unforeseen, Standing, reply_to, standing_after}
 
--- a line, the command that it is, and what no session of cartridge and inputs alone can tell of its reply
+-- a line, the command that it is, and what no session of cartridge and inputs alone can say of its reply
 pub record Turn : Type 0 where
   pub said : List ℕ
   pub command : Command
@@ -67,7 +67,7 @@ Answers start bytes text (Err fault) = (turns : List Turn) × (rest : List ℕ) 
 abbrev pub standing_at_start : Standing
 standing_at_start = record { movie = blank_movie; made = 0 }
 
--- the replies to a script stand written, and the script ended so
+-- the replies to a script are written, and the script ended so
 abbrev pub WritesReplies : (List ℕ → Result (Unit {0}) RunFault → Type 0) → Option (List ℕ) → Option (List ℕ) → Result (Unit {0}) RunFault → Type 0
 WritesReplies answers old new end = (text : List ℕ) × answers text end × Appends old new text
 

@@ -64,7 +64,7 @@ fn film_movie<A: Allocator + Copy, W: Write>(
 
 /// Reads a cartridge and a movie text, and writes the pictures of the movie's frames from `from` to the one before `to`,
 /// counted from 0, as binary portable pixmaps, one after the other, each as soon as it is drawn: any number of them. `from` is 0
-/// and `to` the movie's length where they aren't given. The movie is played once. Beside its inputs the call holds the movie,
+/// and `to` the movie's length where they aren't given. The movie is played once. Besides its inputs the call holds the movie,
 /// one picture and its pixmap.
 ///
 /// Faults, in order: those of [`read_two`], those of [`movie_of`], then `Range` where the movie doesn't have these frames, each with

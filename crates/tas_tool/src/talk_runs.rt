@@ -110,7 +110,7 @@ fn read_blank_movie<A: Allocator + Copy, C: Read>(
     Ok(blank_movie_of(alloc, image.as_slice())?)
 }
 
-/// Reads lines and answers each of them, from a blank cartridge with no inputs on: an answer is handed out whole before more
+/// Reads lines and answers each of them, from a blank cartridge with no inputs on: an answer is written whole before more
 /// is read. The lines are those of a [`Request`](tas_language::Request): a script's, edits that depend on the movie's frames, looks,
 /// `share`, `history`, those about drafts, and `quit`. Another line, or one of more than [`MAX_LINE`](tas_language::MAX_LINE) bytes, is
 /// answered `unknown` and changes nothing, and so is what comes after the last newline. It runs on a desk of one seat, and ends with

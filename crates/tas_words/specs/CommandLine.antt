@@ -47,7 +47,7 @@ cart_rule = file_rule (codes "CART")
 abbrev pub frame_rule : Text → Rule
 frame_rule name = number_rule name 0 most_number
 
--- a word that may stand there
+-- a word that may be left out
 abbrev pub may_word_rule : Text → Rule
 may_word_rule name = record (new_rule name) { action = Some Set }
 
@@ -55,11 +55,11 @@ may_word_rule name = record (new_rule name) { action = Some Set }
 abbrev pub paired_word_rule : Text → Rule
 paired_word_rule name = record (may_word_rule name) { is_free = false }
 
--- a number in a range that may stand there
+-- a number in a range that may be left out
 abbrev pub may_number_rule : Text → ℕ → ℕ → Rule
 may_number_rule name least most = record (may_word_rule name) { parser = Some (numbers least most) }
 
--- the number of a frame that may stand there
+-- the number of a frame, which may be left out
 abbrev pub may_frame_rule : Text → Rule
 may_frame_rule name = may_number_rule name 0 most_number
 
@@ -167,7 +167,7 @@ IsCommandLine command = app_of command ≡ command_line
 
 -- ---- which command some words name
 
--- names that no other names stand beside
+-- names without aliases
 abbrev pub labels : List Text → Names
 labels names = map (λ name. (name, [])) names
 
