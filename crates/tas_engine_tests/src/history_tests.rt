@@ -82,7 +82,12 @@ fn make_lines<R: Abort>(
         let Some((line, after)) = split_once(rest, b'\n') else {
             break;
         };
-        make_line(rt, alloc, movie, expect_some(rt, after_prefix(line, prefix)));
+        make_line(
+            rt,
+            alloc,
+            movie,
+            expect_some(rt, after_prefix(line, prefix)),
+        );
         count = count.saturating_add(1);
         rest = after;
     }
