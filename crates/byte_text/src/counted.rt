@@ -6,7 +6,7 @@ ghost use Rattle.byte_text.specs.CutOff.{IsCutOff};
 
 use std::io::{Error, ErrorKind, Write};
 
-/// A write failed, or took no byte, after so many bytes.
+/// A write failed, or took no byte, after `written` bytes, counting earlier ones.
 #[derive(Drop)]
 pub struct WriteFault {
     /// How many bytes had gone out: fewer than all.
@@ -15,7 +15,7 @@ pub struct WriteFault {
     pub error: Error,
 }
 
-/// Writes until all is written or a write fails, and answers how many bytes have gone out with the `before` ones that went out earlier.
+/// Writes until all is written or a write fails, and returns how many bytes have gone out with the `before` ones that went out earlier.
 ///
 /// An error of the writer, of any kind, or an `Ok(0)` ends it, and no write is tried again. The fault counts the bytes before, too.
 /// A caller shows that all of them together can be counted: they are fewer than 2^64.

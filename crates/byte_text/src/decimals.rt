@@ -5,7 +5,7 @@ ghost use Rattle.std.specs.Prelude.{◌≡◌, ◌≢◌, ◌<◌, ◌^◌, ℕ,
 use itoa::Buffer;
 use std::str;
 
-/// The number that these decimal digits write without leading zeros; nothing where they write none
+/// The number that these decimal digits write without leading zeros; `None` where they write none
 /// below 2^64.
 pub fn read_decimal(word: &[u8]) -> Option<usize>
     ensures some { IfSome result (λ n. word.now ≡ decimal n) }

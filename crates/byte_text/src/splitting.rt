@@ -3,7 +3,7 @@
 ghost use Rattle.std.specs.Prelude.{◌≡◌, ◌∷◌, ◌++◌, IfSome, IfNone};
 ghost use Rattle.byte_text.specs.Splitting.{NoByte};
 
-/// The bytes before the first such byte and those after it; nothing where there is no such byte.
+/// The bytes before the first `mark` and those after it; `None` where there is no `mark`.
 pub fn split_once(bytes: &[u8], mark: u8) -> Option<(&[u8], &[u8])>
     ensures some { IfSome result
         (λ parts. (bytes.now ≡ parts.0.now ++ mark ∷ parts.1.now) × NoByte mark parts.0.now) }
