@@ -1,5 +1,5 @@
 -- Whether an instruction reads at one of some addresses.
-use Rattle.std.proofs.Common.{◌≡◌, ℕ, ◌∙◌, Bool, ◌||◌, false, ap, refl, Option, Some, None, unwrap_or}
+use Rattle.std.proofs.Common.{◌≡◌, ℕ, ◌∙◌, Bool, ◌||◌, ap, Option, Some, None, unwrap_or}
 use Rattle.std.specs.List.{list_any}
 use Rattle.std.specs.Option.{option_map}
 use Rattle.std.proofs.lemmas.List.Folds.{list_any-append}

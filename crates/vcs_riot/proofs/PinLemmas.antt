@@ -1,5 +1,5 @@
 -- A read that shows no pin gives the same whatever the pins show.
-use Rattle.std.proofs.Common.{◌≡◌, ℕ, zero, suc, ◌%◌, ◌==◌, Bool, true, false, not, ◌∙◌, ap, sym, refl, List, [], ◌∷◌, slice_index, slice_index_or, if◌then◌else◌}
+use Rattle.std.proofs.Common.{◌≡◌, ℕ, zero, suc, ◌%◌, ◌==◌, Bool, true, false, not, ◌∙◌, ap, sym, refl, [], ◌∷◌, slice_index, slice_index_or, if◌then◌else◌}
 use Rattle.std.proofs.lemmas.Bool.{eqb-true, false≢true}
 use Rattle.vcs_riot.specs.declared.chip.Riot.{Riot}
 use Rattle.vcs_riot.specs.declared.chip.Pins.{Pins}

@@ -1,4 +1,4 @@
-use Rattle.std.proofs.Common.{◌≡◌, ℕ, ◌∷◌, [], ◌∙◌, ap, arith}
+use Rattle.std.proofs.Common.{ℕ, ◌∷◌, [], ◌∙◌, ap, arith}
 use Rattle.std.specs.List.{list_any}
 use Rattle.vcs_cpu.proofs.Addresses.{jump_pointer_bits}
 use Rattle.vcs_cpu.proofs.reads.is_jump_pointer_watched.Goals as goal

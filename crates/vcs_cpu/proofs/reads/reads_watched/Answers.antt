@@ -1,4 +1,4 @@
-use Rattle.std.proofs.Common.{◌≡◌, Bool, ◌||◌, ◌∙◌, ap, sym}
+use Rattle.std.proofs.Common.{Bool, ◌||◌, ◌∙◌, ap, sym}
 use Rattle.std.specs.List.{list_any}
 use Rattle.vcs_cpu.specs.declared.addressing.Operand.{Operand}
 use Rattle.vcs_cpu.specs.Effects.{read_addresses}

@@ -1,4 +1,4 @@
-use Rattle.std.proofs.Common.{◌≡◌, ◌<◌, ℕ, ◌+◌, ◌-◌, ◌*◌, false, true≢false, ◌∙◌, ap, sym, refl, arith}
+use Rattle.std.proofs.Common.{◌+◌, ◌-◌, ◌*◌, true≢false, ◌∙◌, ap, sym, refl, arith}
 use Rattle.vcs_riot.specs.declared.timer.Timer.{Timer}
 use Rattle.vcs_riot.specs.Timer.{after_ticks}
 use Rattle.vcs_riot.proofs.TimerLemmas.{counting, as_counting, above_zero-counting, zero-then}
