@@ -29,8 +29,8 @@ pub(crate) fn is_in_cartridge(pc: u16) -> bool
     4096 <= place && place <= 8187
 }
 
-/// How many polls of `period` cycles can pass within `cycles`, where each reads in its fifth cycle and all reads come in the
-/// first `above_zero` cycles; `most` at most.
+/// How many polls of `period` cycles can pass within `cycles`: each reads after its first four cycles, and fewer than
+/// `above_zero` cycles have passed at each read. At most `most`.
 pub(crate) fn polls_within(above_zero: u32, cycles: u16, period: u16, most: u32) -> u16
     requires { 4 ≤ period }
     ensures most { result ≤ most }
