@@ -25,13 +25,13 @@ const BNE_BACK: u32 = 0xfbd0;
 const BNE: u32 = 0xd0;
 
 /// Whether an LDA's code may be a poll's: its highest byte, which a bus need not fill in, is the next opcode where
-/// the bus took four bytes at once. Both answers say nothing; what follows is looked at before polls pass.
+/// the bus took four bytes at once. It is only a hint: the code after the LDA is looked at before polls pass.
 #[inline(always)]
 fn may_begin_poll(code: u32) -> bool {
     code / 16777216 == BNE
 }
 
-/// Whether a code is that of a BNE which ends a poll: it goes back to three bytes before itself. `false` says nothing.
+/// Whether a code is that of a BNE which ends a poll: it goes back to three bytes before itself. `false` proves nothing.
 fn ends_poll(code: u32) -> bool
     ensures { result ≡ true → code % 65536 ≡ 0xfbd0 }
 {
@@ -47,8 +47,8 @@ fn branch_cycles(pc: u16) -> u8
     3 + (pc / 256 != pc.wrapping_add(5) / 256) as u8
 }
 
-/// Lets the polls pass at once that begin with the LDA at `pc`, whose code is given, if some do, and returns their
-/// number and the byte that the last one read. No other register matters to them.
+/// Lets polls pass at once: those that begin with the LDA at `pc`, whose code is given. Returns their number, which may
+/// be 0, and the byte that the last one read. No other register matters to them.
 #[inline(always)]
 fn pass_polls<B: Settle>(code: u32, pc: u16, bus: &mut B) -> (u32, u8)
     requires code { IsCode code pc (B.device.byte_at (B.content bus.old)) }
@@ -96,7 +96,7 @@ fn pass_polls_at<B: Settle>(code: u32, pc: u16, bus: &mut B) -> (u32, u8)
     bus.pass_polls(poll, u32::MAX)
 }
 
-/// Goes on by an LDA of an absolute address, or past the polls that begin with it, and answers whether the run is over
+/// Goes on by an LDA of an absolute address, or past the polls that begin with it, and returns whether the run is over
 /// once the bus has settled.
 #[inline(always)]
 pub(crate) fn go_on_by_load<B: Settle>(

@@ -14,7 +14,7 @@ use crate::op::{Mode, Op};
 use crate::opcode::look_up;
 use crate::regs::Regs;
 
-/// A bus some of whose addresses are watched for reads (own).
+/// A bus some of whose addresses are watched for reads.
 pub trait Watch: Bus {
     /// Whether an address of a bus is watched.
     ghost is_watched: { Self → ℕ → Bool };
@@ -124,7 +124,7 @@ fn is_load_watched<B: Watch>(op: Op, operand: Operand, regs: &Regs, bus: &B) -> 
 }
 
 /// Whether the instruction at the program counter reads at a watched address: its opcode, its operand and
-/// pointer bytes, its operand, or what it pulls. An undocumented opcode is read alone. Nothing changes. (own)
+/// pointer bytes, its operand, or what it pulls. An undocumented opcode is read alone. Nothing changes.
 pub fn reads_watched<B: Watch>(regs: &Regs, bus: &B) -> bool
     ensures { result
         ≡ list_any (B.is_watched bus.now)

@@ -18,7 +18,7 @@ use crate::polls::go_on_by_load;
 use crate::regs::Regs;
 use crate::{mode, operation};
 
-/// Executes the instruction at the program counter, whose opcode, code and row are given, and answers
+/// Executes the instruction at the program counter, whose opcode, code and row are given, and returns
 /// whether the run is over once the bus has settled. No halt has ended it, as `halt` says.
 #[inline(always)]
 pub(crate) fn perform_and_settle<O: Operation, M: Addressing, B: Settle>(
@@ -42,7 +42,7 @@ pub(crate) fn perform_and_settle<O: Operation, M: Addressing, B: Settle>(
     bus.settle()
 }
 
-/// Executes the instruction of any opcode, and answers whether the run is over: it is where the opcode is undocumented,
+/// Executes the instruction of any opcode, and returns whether the run is over: it is where the opcode is undocumented,
 /// and then `halt` says so.
 #[inline(never)]
 fn perform_any<B: Settle>(
@@ -73,31 +73,31 @@ fn perform_any<B: Settle>(
 }
 
 /// Goes on by the instruction of an opcode: by a row of its own, which says opcode, operation, mode, cycles and whether a
-/// crossed page adds one, or by the last arms. Returns the registers where the run is over.
+/// crossed page adds one, or by a block: the one before the rows is for LDA absolute, which may begin polls, and the one
+/// after them for all other opcodes. Returns the registers where the run is over.
 macro_rules! go_on_by_row {
     ($opcode:ident, $code:ident, $regs:ident, $bus:ident, $halt:ident;
+     $polled:literal => $load:block
      $($number:literal => $op:expr, $mode:expr, $cycles:literal, $crossing:literal;)*
-     _ => $rest:block
-     $last:literal => $load:block) => {
+     _ => $rest:block) => {
         match $opcode {
             $($number => {
                 if perform_and_settle($opcode, $code, $op, $mode, $cycles, $crossing, &mut $regs, $bus, $halt) {
                     return $regs;
                 }
             })*
-            $last => $load
+            $polled => $load
             _ => $rest
         }
     };
 }
 
-/// Executes instructions until the run is over, and answers the halt that ended it if one did.
+/// Executes instructions until the run is over, and returns the halt that ended it if one did.
 ///
 /// After each instruction the bus [settles](Settle::settle) what it does by itself, and says whether
 /// the run is over. A halt leaves registers and bus as they were before the undocumented opcode.
 /// The caller shows that the run ends within `most` instructions (`ends`), that the bus is ready for
 /// the first one (`ready`), and that the bus settles as `settling` says (`settles`).
-/// (own)
 pub fn run_until_over<B: Settle>(regs: &mut Regs, bus: &mut B, most: u32) -> Option<Halt>
     ghost settling: { Settling B.Content }
     requires settles { SettlesBy B.content B.Settles settling }
@@ -114,8 +114,9 @@ pub fn run_until_over<B: Settle>(regs: &mut Regs, bus: &mut B, most: u32) -> Opt
 }
 
 /// As [`run_until_over`], with the registers in a local variable. An arm borrows it only for calls that are marked to be
-/// inlined, so that the compiler can keep it in the processor's own registers. The opcodes that programs use have an
-/// arm of their own; an arm says what the opcode's row says. No instructions are counted, since the run ends.
+/// inlined, so that the compiler can keep it in the processor's own registers. 106 frequent opcodes have an arm of their
+/// own, the other 45 go by the table; an arm says what the opcode's row says. No instructions are counted, since the run
+/// ends.
 /// A halt, which comes once in a run at most, goes out by `halt`: the result is the registers alone.
 #[tactic(auto, unfolding(crate::specs::Rows::instruction_of, crate::specs::Rows::row_of))]
 fn run_by_value<B: Settle>(first: Regs, bus: &mut B, most: u32, halt: &mut Option<Halt>) -> Regs
@@ -136,6 +137,11 @@ fn run_by_value<B: Settle>(first: Regs, bus: &mut B, most: u32, halt: &mut Optio
         let opcode = opcode_of(code, regs.pc, bus);
         go_on_by_row! {
             opcode, code, regs, bus, halt;
+            0xad => {
+                if go_on_by_load(opcode, code, &mut regs, bus, halt) {
+                    return regs;
+                }
+            }
             0x05 => Read::Ora, mode::ZeroPage, 3, false;
             0x06 => Modify::Asl, mode::ZeroPage, 5, false;
             0x09 => Read::Ora, mode::Immediate, 2, false;
@@ -247,11 +253,6 @@ fn run_by_value<B: Settle>(first: Regs, bus: &mut B, most: u32, halt: &mut Optio
                 let over = perform_any(opcode, code, &mut copy, bus, halt);
                 regs = copy;
                 if over {
-                    return regs;
-                }
-            }
-            0xad => {
-                if go_on_by_load(opcode, code, &mut regs, bus, halt) {
                     return regs;
                 }
             }

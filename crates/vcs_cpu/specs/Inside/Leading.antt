@@ -25,7 +25,7 @@ module _ {Content : Type 0} (d : Device Content) (s : Settling Content) where
   length_within zero regs content = zero
   length_within (suc n) regs content = one_more (step_of d regs content) (length_within n)
 
-  -- a run that ends within so many instructions from the first place ends as well from the second, and sooner
+  -- a run that ends within n instructions from the first place ends as well from the second, and sooner
   unfoldable pub Leads : ℕ → Regs → Content → Regs → Content → Type 0
   Leads most regs content regs' content' = (e : RunEnd Content) → run_within d s most regs content ≡ Some e →
       (run_within d s most regs' content' ≡ Some e) × (length_within most regs' content' < length_within most regs content)
