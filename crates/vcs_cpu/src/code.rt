@@ -1,4 +1,6 @@
 //! The code of an instruction: its opcode and the two bytes after it, in one word.
+//!
+//! `pc` and `bus` are for the contracts alone: they say whose bytes a code has.
 #![tactic(auto)]
 
 ghost use Rattle.std.specs.Prelude.{◌≡◌, ◌+◌, ◌*◌};

@@ -68,8 +68,7 @@ fn pass_polls<B: Settle>(code: u32, pc: u16, bus: &mut B) -> (u32, u8)
     (0, 0)
 }
 
-/// The same, with a look at the code after the LDA. All polls may pass that the bus lets pass: a run that ends comes
-/// to its end past them.
+/// The same, with a look at the code after the LDA.
 #[inline(never)]
 fn pass_polls_at<B: Settle>(code: u32, pc: u16, bus: &mut B) -> (u32, u8)
     requires code { IsCode code pc (B.device.byte_at (B.content bus.old)) }
@@ -93,11 +92,11 @@ fn pass_polls_at<B: Settle>(code: u32, pc: u16, bus: &mut B) -> (u32, u8)
         address,
         branch: branch_cycles(pc),
     };
-    bus.pass_polls(poll, u32::MAX)
+    bus.pass_polls(poll)
 }
 
 /// Goes on by an LDA of an absolute address, or past the polls that begin with it, and returns whether the run is over
-/// once the bus has settled.
+/// once the bus has settled. `opcode` and `halt` are for the contract alone.
 #[inline(always)]
 pub(crate) fn go_on_by_load<B: Settle>(
     opcode: u8,

@@ -19,7 +19,8 @@ use crate::regs::Regs;
 use crate::{mode, operation};
 
 /// Executes the instruction at the program counter, whose opcode, code and row are given, and returns
-/// whether the run is over once the bus has settled. No halt has ended it, as `halt` says.
+/// whether the run is over once the bus has settled. `opcode` and `halt` are for the contract alone: no halt has ended the
+/// run.
 #[inline(always)]
 pub(crate) fn perform_and_settle<O: Operation, M: Addressing, B: Settle>(
     opcode: u8,
@@ -97,7 +98,7 @@ macro_rules! go_on_by_row {
 /// After each instruction the bus [settles](Settle::settle) what it does by itself, and says whether
 /// the run is over. A halt leaves registers and bus as they were before the undocumented opcode.
 /// The caller shows that the run ends within `most` instructions (`ends`), that the bus is ready for
-/// the first one (`ready`), and that the bus settles as `settling` says (`settles`).
+/// the first one (`ready`), and that the bus settles as `settling` says (`settles`). `most` is for the contract alone.
 pub fn run_until_over<B: Settle>(regs: &mut Regs, bus: &mut B, most: u32) -> Option<Halt>
     ghost settling: { Settling B.Content }
     requires settles { SettlesBy B.content B.Settles settling }

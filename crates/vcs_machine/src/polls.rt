@@ -30,10 +30,9 @@ pub(crate) fn is_in_cartridge(pc: u16) -> bool
 }
 
 /// How many polls of `period` cycles can pass within `cycles`: each reads after its first four cycles, and fewer than
-/// `above_zero` cycles have passed at each read. At most `most`.
-pub(crate) fn polls_within(above_zero: u32, cycles: u16, period: u16, most: u32) -> u16
+/// `above_zero` cycles have passed at each read.
+pub(crate) fn polls_within(above_zero: u32, cycles: u16, period: u16) -> u16
     requires { 4 ≤ period }
-    ensures most { result ≤ most }
     ensures reads { (i : ℕ) → i < result → i * period + 4 < above_zero }
     ensures fit { result * period ≤ cycles }
 {
@@ -42,5 +41,5 @@ pub(crate) fn polls_within(above_zero: u32, cycles: u16, period: u16, most: u32)
     }
     let reads = (above_zero - 5) / period as u32 + 1;
     let whole = (cycles / period) as u32;
-    whole.min(reads).min(most) as u16
+    whole.min(reads) as u16
 }
