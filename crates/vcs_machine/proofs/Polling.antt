@@ -7,7 +7,6 @@ use Rattle.vcs_cpu.specs.Polls.{Rests, IsPoll, polled_byte, after_poll_read, aft
 use Rattle.vcs_cpu.specs.Runs.{IsSettled}
 use Rattle.vcs_riot.specs.declared.chip.Pins.{Pins}
 use Rattle.vcs_riot.specs.declared.chip.Riot.{Riot}
-use Rattle.vcs_riot.specs.declared.timer.Timer.{Timer}
 use Rattle.vcs_riot.specs.Address.{is_high}
 use Rattle.vcs_riot.specs.Chip.{riot_after_ticks, riot_after_load, byte_at}
 use Rattle.vcs_riot.specs.Timer.{IsAboveZero, after_count_loaded}
@@ -60,7 +59,7 @@ intim-load b addr is above =
     let l = lines_of addr is in
     let same : riot_after_load addr b.riot ≡ record b.riot { timer = after_count_loaded b.riot.timer } = rw ((lines_of_ports addr l.selects).upper, l.timer, l.status) refl in
     ap (λ s. loaded s b addr) l.selects ∙ ap (λ (r : Riot). record b { riot = r }) same
-    ∙ ap (λ (t : Timer). record b { riot = record b.riot { timer = t } }) above.1
+    ∙ ap (λ (f : Bool). record b { riot = record b.riot { timer = record b.riot.timer { flag = f } } }) (sym above.1.1)
 
 add-one : (i period : ℕ) → suc i * period ≡ i * period + period
 add-one i period = grind arith
