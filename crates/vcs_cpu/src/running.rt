@@ -19,8 +19,7 @@ use crate::regs::Regs;
 use crate::{mode, operation};
 
 /// Executes the instruction at the program counter, whose opcode, code and row are given, and returns
-/// whether the run is over once the bus has settled. `opcode` and `halt` are for the contract alone: no halt has ended the
-/// run.
+/// whether the run is over once the bus has settled. No halt has ended it. `opcode` and `halt` are for the contract alone.
 #[inline(always)]
 pub(crate) fn perform_and_settle<O: Operation, M: Addressing, B: Settle>(
     opcode: u8,
@@ -117,8 +116,7 @@ pub fn run_until_over<B: Settle>(regs: &mut Regs, bus: &mut B, most: u32) -> Opt
 /// As [`run_until_over`], with the registers in a local variable. An arm borrows it only for calls that are marked to be
 /// inlined, so that the compiler can keep it in the processor's own registers. 106 frequent opcodes have an arm of their
 /// own, the other 45 go by the table; an arm says what the opcode's row says. No instructions are counted, since the run
-/// ends.
-/// A halt, which comes once in a run at most, goes out by `halt`: the result is the registers alone.
+/// ends. A halt, which comes once in a run at most, goes out by `halt`: the result is the registers alone.
 #[tactic(auto, unfolding(crate::specs::Rows::instruction_of, crate::specs::Rows::row_of))]
 fn run_by_value<B: Settle>(first: Regs, bus: &mut B, most: u32, halt: &mut Option<Halt>) -> Regs
     ghost settling: { Settling B.Content }
