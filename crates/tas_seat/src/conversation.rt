@@ -40,7 +40,7 @@ enum Subject {
 }
 
 /// The subject of a request.
-fn subject(request: Request) -> Subject
+fn request_subject(request: Request) -> Subject
     ensures { result ≡ subject_of request }
 {
     match request {
@@ -254,7 +254,7 @@ pub fn answer_talk<N: Name, W: CloseOnDrop, A: Allocator + Copy, R: Wait>(
         bytes.items))
         (HasNoTalkAnswer (talking seat.old draft.old) (talking seat.new draft.new) request) }
 {
-    match subject(request) {
+    match request_subject(request) {
         Subject::End => Ok(None),
         Subject::Begin => Ok(Some(answer_begin(rt, alloc, desk, seat, draft)?)),
         Subject::Commit => Ok(Some(answer_commit(rt, alloc, desk, seat, draft)?)),
