@@ -2,6 +2,7 @@ pub mod SeatLemmas
 pub mod EditLemmas
 pub mod LookLemmas
 pub mod TextLemmas
+pub mod EntryLemmas
 pub mod AnswerLemmas
 pub mod ReachLemmas
 pub mod KeptLemmas

@@ -18,7 +18,8 @@ use Rattle.tas_engines.specs.declared.fault.RunFault.TheVariants.{NoEntry, Forei
 use Rattle.tas_language.specs.declared.reply.Reply.{Reply}
 use Rattle.tas_language.specs.declared.reply.Reply.TheVariants.{Full, Place, Long, NoFrame, OutOfMemory}
 use Rattle.tas_language.specs.declared.request.Request.{Request}
-use Rattle.tas_language.specs.declared.request.Request.TheVariants.{Begin, Commit, Drop, Quit}
+use Rattle.tas_language.specs.declared.command.Command.TheVariants.{Length, InputAt, Shot}
+use Rattle.tas_language.specs.declared.request.Request.TheVariants.{Do, Picture, Pictures, Ram, Digest, Lag, Begin, Commit, Drop, Quit}
 use Rattle.tas_seat.specs.declared.edit_requests.EditRequest.{EditRequest}
 use Rattle.tas_seat.specs.Edits.{made_between}
 use Rattle.tas_seat.specs.Turns.{Standing, standing_of, refused_reply, edit_reply, standing_unless, halted_reply}
@@ -97,6 +98,18 @@ IsAboutTalk Commit = Unit {0}
 IsAboutTalk Drop = Unit {0}
 IsAboutTalk Quit = Unit {0}
 IsAboutTalk _ = ⊥
+
+-- requests that the desk answers through the seat's reader; it answers the others under its lock
+abbrev pub IsLook : Request → Type 0
+IsLook (Do Length) = Unit {0}
+IsLook (Do (InputAt k)) = Unit {0}
+IsLook (Do (Shot k)) = Unit {0}
+IsLook (Picture k) = Unit {0}
+IsLook (Pictures from to) = Unit {0}
+IsLook (Ram k) = Unit {0}
+IsLook (Digest k) = Unit {0}
+IsLook (Lag from to) = Unit {0}
+IsLook _ = ⊥
 
 -- a request of a conversation is answered, and makes some edits
 abbrev pub HasTalkAnswer : (A : Type 0) → TalkingSeat A → TalkingSeat A → Request → List ℕ → Type 0

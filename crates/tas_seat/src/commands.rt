@@ -1,11 +1,13 @@
 //! Answering a command.
 
-ghost use Rattle.std.specs.Prelude.{◌≡◌, MatchResult};
+ghost use Rattle.std.specs.Prelude.{◌≡◌, IfErr, MatchResult};
 ghost use Rattle.tas_language.specs.declared.command.Command.TheVariants.{Length as LengthLine, InputAt as InputLine, Shot as ShotLine, Work as WorkLine};
 ghost use Rattle.tas_language.specs.declared.reply.Reply.TheVariants.{Worked as WorkedReply};
+ghost use Rattle.tas_language.specs.declared.request.Request.TheVariants.{Do as ScriptLine};
+ghost use Rattle.tas_engines.specs.declared.fault.RunFault.TheVariants.{NoEntry};
 ghost use Rattle.tas_seat.specs.Turns.{halted_reply};
 ghost use Rattle.tas_seat.specs.Seats.{IsAnswered};
-ghost use Rattle.tas_seat.specs.Outcomes.{unshown_as, IsUnanswered};
+ghost use Rattle.tas_seat.specs.Outcomes.{unshown_as, IsUnanswered, IsLook};
 
 use crate::edit_requests::{EditRequest, make_edit};
 use std::alloc::Allocator;
@@ -135,8 +137,8 @@ fn work<N: Name, W: CloseOnDrop, A: Allocator + Copy, R: Wait>(
 /// Does what a command asks for, and answers it: at some history that begins with what the seat had seen. The seat has then
 /// seen this history, and after it the edit that the command made. `OutOfMemory` changes nothing of the movie.
 ///
-/// Faults: `NoEntry`, which leaves the seat as it was; `Foreign` where the history has another number of the seat's edits than it
-/// made.
+/// Faults: `NoEntry`, of `len`, `input` and `shot` alone, which leaves the seat as it was; `Foreign` where the history has another number
+/// of the seat's edits than it made.
 pub fn reply_to_command<N: Name, W: CloseOnDrop, A: Allocator + Copy, R: Wait>(
     rt: &R,
     alloc: A,
@@ -144,8 +146,9 @@ pub fn reply_to_command<N: Name, W: CloseOnDrop, A: Allocator + Copy, R: Wait>(
     seat: &mut Seat<N, A>,
     command: Command,
 ) -> Result<Reply, RunFault>
-    ensures { MatchResult result (IsAnswered A seat.old seat.new command)
+    ensures answer { MatchResult result (IsAnswered A seat.old seat.new command)
         (IsUnanswered seat.old seat.new) }
+    ensures entry { IfErr result (λ fault. fault ≡ NoEntry → IsLook (ScriptLine command)) }
 {
     match command {
         Command::Load { image } => make_edit(rt, desk, seat, EditRequest::Load(image)),

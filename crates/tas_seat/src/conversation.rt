@@ -1,17 +1,17 @@
 //! Answering a request of a conversation, in a draft or outside one.
 
-ghost use Rattle.std.specs.Prelude.{◌≡◌, ◌≤◌, length, Some, IfOk, MatchOption, MatchResult};
+ghost use Rattle.std.specs.Prelude.{◌≡◌, ◌≢◌, ◌≤◌, length, Some, None, Ok, IfOk, IfErr, MatchOption, MatchResult};
 ghost use Rattle.tas_green.specs.Green.{IsLawful};
 ghost use Rattle.tas_session.specs.History.{most_edits};
 ghost use Rattle.tas_desk.specs.Seats.{SeatContent, KeepsZone};
-ghost use Rattle.tas_engines.specs.declared.fault.RunFault.TheVariants.{Memory};
+ghost use Rattle.tas_engines.specs.declared.fault.RunFault.TheVariants.{NoEntry, Memory};
 ghost use Rattle.tas_language.specs.Drafts.{draft_reply_text};
 ghost use Rattle.tas_language.specs.declared.request.Request.TheVariants.{Begin as BeginLine, Commit as CommitLine, Drop as DropLine, Quit as QuitLine};
 ghost use Rattle.tas_seat.specs.Conversations.{talking};
 ghost use Rattle.tas_seat.specs.Drafts.{fresh_draft};
 ghost use Rattle.tas_seat.specs.Inside.Conversing.{subject_of, HasMoved, HasOutcome, HasNoOutcome};
 ghost use Rattle.tas_seat.specs.declared.conversation.Subject.TheVariants.{Movie as AboutMovie};
-ghost use Rattle.tas_seat.specs.Outcomes.{HasTalkAnswer, HasNoTalkAnswer};
+ghost use Rattle.tas_seat.specs.Outcomes.{HasTalkAnswer, HasNoTalkAnswer, IsLook};
 
 use crate::Draft;
 use crate::edit_requests::refused_as;
@@ -87,10 +87,11 @@ fn answer_begin<N: Name, W: CloseOnDrop, A: Allocator + Copy, R: Wait>(
     seat: &mut Seat<N, A>,
     draft: &mut Option<Draft<A>>,
 ) -> Result<Vec<u8, A>, RunFault>
-    ensures { MatchResult result
+    ensures answer { MatchResult result
         (λ bytes. HasTalkAnswer A (talking seat.old draft.old) (talking seat.new draft.new)
         BeginLine bytes.items)
         (HasNoTalkAnswer (talking seat.old draft.old) (talking seat.new draft.new) BeginLine) }
+    ensures entry { IfErr result (λ fault. fault ≢ NoEntry) }
 {
     if draft.is_some() {
         return answer_about_draft(alloc, DraftReply::InDraft);
@@ -187,10 +188,11 @@ fn answer_commit<N: Name, W: CloseOnDrop, A: Allocator + Copy, R: Wait>(
     seat: &mut Seat<N, A>,
     draft: &mut Option<Draft<A>>,
 ) -> Result<Vec<u8, A>, RunFault>
-    ensures { MatchResult result
+    ensures answer { MatchResult result
         (λ bytes. HasTalkAnswer A (talking seat.old draft.old) (talking seat.new draft.new)
         CommitLine bytes.items)
         (HasNoTalkAnswer (talking seat.old draft.old) (talking seat.new draft.new) CommitLine) }
+    ensures entry { IfErr result (λ fault. fault ≢ NoEntry) }
 {
     let Some(opened) = draft else {
         return answer_about_draft(alloc, DraftReply::NoDraft);
@@ -207,10 +209,11 @@ fn answer_commit<N: Name, W: CloseOnDrop, A: Allocator + Copy, R: Wait>(
 
 /// A `drop` line.
 fn answer_drop<A: Allocator>(alloc: A, draft: &mut Option<Draft<A>>) -> Result<Vec<u8, A>, RunFault>
-    ensures { (seat : SeatContent A) → MatchResult result
+    ensures answer { (seat : SeatContent A) → MatchResult result
         (λ bytes. HasTalkAnswer A (talking seat draft.old) (talking seat draft.new) DropLine
         bytes.items)
         (HasNoTalkAnswer (talking seat draft.old) (talking seat draft.new) DropLine) }
+    ensures entry { IfErr result (λ fault. fault ≢ NoEntry) }
 {
     if draft.take().is_none() {
         return answer_about_draft(alloc, DraftReply::NoDraft);
@@ -225,12 +228,13 @@ fn answer_in_draft<A: Allocator + Copy>(
     request: Request,
 ) -> Result<Option<Vec<u8, A>>, RunFault>
     requires { subject_of request ≡ AboutMovie }
-    ensures { (seat : SeatContent A) → MatchResult result
+    ensures answer { (seat : SeatContent A) → MatchResult result
         (λ found. MatchOption found ⊥
         (λ bytes. HasTalkAnswer A (talking seat (Some opened.old)) (talking seat (Some opened.new))
         request bytes.items))
         (HasNoTalkAnswer (talking seat (Some opened.old)) (talking seat (Some opened.new))
         request) }
+    ensures entry { IfErr result (λ fault. fault ≢ NoEntry) }
 {
     opened.answer(alloc, request)
 }
@@ -238,7 +242,7 @@ fn answer_in_draft<A: Allocator + Copy>(
 /// Answers a request of a conversation. Where a draft is open, a line about the movie is answered at the draft; `quit` alone gets no
 /// answer.
 ///
-/// Faults: those of [`answer_request`](crate::answer_request).
+/// Faults: those of [`answer_request`](crate::answer_request), `NoEntry` only where no draft is open. `quit` has none.
 pub fn answer_talk<N: Name, W: CloseOnDrop, A: Allocator + Copy, R: Wait>(
     rt: &R,
     alloc: A,
@@ -247,12 +251,15 @@ pub fn answer_talk<N: Name, W: CloseOnDrop, A: Allocator + Copy, R: Wait>(
     draft: &mut Option<Draft<A>>,
     request: Request,
 ) -> Result<Option<Vec<u8, A>>, RunFault>
-    ensures { MatchResult result
+    ensures answer { MatchResult result
         (λ found. MatchOption found
         ((request ≡ QuitLine) × (talking seat.new draft.new ≡ talking seat.old draft.old))
         (λ bytes. HasTalkAnswer A (talking seat.old draft.old) (talking seat.new draft.new) request
         bytes.items))
         (HasNoTalkAnswer (talking seat.old draft.old) (talking seat.new draft.new) request) }
+    ensures quit { request ≡ QuitLine → result ≡ Ok None }
+    ensures entry { IfErr result
+        (λ fault. fault ≡ NoEntry → IsLook request × (draft.old ≡ None)) }
 {
     match request_subject(request) {
         Subject::End => Ok(None),

@@ -1,6 +1,6 @@
 //! Answering a request at a draft.
 
-ghost use Rattle.std.specs.Prelude.{◌≡◌, MatchOption, MatchResult};
+ghost use Rattle.std.specs.Prelude.{◌≡◌, Ok, None, MatchOption, MatchResult};
 ghost use Rattle.tas_engines.specs.declared.fault.RunFault.TheVariants.{Memory};
 ghost use Rattle.tas_language.specs.declared.command.Command.TheVariants.{Edit as EditLine, Length as LengthLine, InputAt as InputLine, Shot as ShotLine, Work as WorkLine};
 ghost use Rattle.tas_language.specs.declared.request.Request.TheVariants.{Do as ScriptLine, Retouch as RetouchLine, Pictures as PicturesLine};
@@ -144,10 +144,11 @@ impl<A: Allocator + Copy> Draft<A> {
         alloc: A,
         request: Request,
     ) -> Result<Option<Vec<u8, A>>, RunFault>
-        ensures { MatchResult result
+        ensures answer { MatchResult result
             (λ found. MatchOption found (IsAboutDesk request × (self.new ≡ self.old))
             (λ bytes. IsDraftAnswered self.old request bytes.items self.new))
             (HasNoDraftAnswer self.old self.new request) }
+        ensures desk { IsAboutDesk request → result ≡ Ok None }
     {
         match request {
             Request::Do(command) => Ok(Some(self.answer_script_line(alloc, command)?)),
@@ -180,6 +181,7 @@ impl<A: Allocator + Copy> Draft<A> {
             (λ bytes. IsDraftAnswered self.old request bytes.items self.new))
             (λ fault. (fault ≡ Memory) × IsDraftUnanswered self.old request self.new) }
         ensures kept { IsDraft self.new }
+        ensures desk { IsAboutDesk request → result ≡ Ok None }
     {
         let answer = self.answer_about_movie(alloc, request);
         // Called for its clause `kept`.

@@ -1,6 +1,7 @@
 //! The line `history` of a conversation: entries of the history, as lines of a script.
 
-ghost use Rattle.std.specs.Prelude.{◌≡◌, ◌+◌, ◌<◌, ◌≤◌, ◌^◌, length, max, IfOk, MatchResult};
+ghost use Rattle.std.specs.Prelude.{◌≡◌, ◌≢◌, ◌+◌, ◌<◌, ◌≤◌, ◌^◌, length, max, IfOk, IfErr, MatchResult};
+ghost use Rattle.tas_engines.specs.declared.fault.RunFault.TheVariants.{NoEntry};
 ghost use Rattle.tas_language.specs.declared.request.Request.TheVariants.{History as HistoryLine};
 ghost use Rattle.tas_seat.specs.HistoryText.{entry_lines, history_reply_text};
 ghost use Rattle.tas_seat.specs.Outcomes.{HasAnswer, HasNoAnswer};
@@ -55,9 +56,10 @@ pub fn answer_history<N: Name, W: CloseOnDrop, A: Allocator + Copy, R: Wait>(
     seat: &mut Seat<N, A>,
     from: usize,
 ) -> Result<Vec<u8, A>, RunFault>
-    ensures { MatchResult result
+    ensures answer { MatchResult result
         (λ bytes. HasAnswer A seat.old seat.new (HistoryLine from) bytes.items)
         (HasNoAnswer seat.old seat.new (HistoryLine from)) }
+    ensures entry { IfErr result (λ fault. fault ≢ NoEntry) }
 {
     let Ok(history) = desk.history(rt, alloc, seat, from, MAX_ENTRIES) else {
         return answer_of_reply(alloc, Reply::OutOfMemory);

@@ -1,15 +1,15 @@
 //! Answering a request.
 
-ghost use Rattle.std.specs.Prelude.{◌≡◌, ◌++◌, ◌∷◌, [], length, is_some, if◌then◌else◌, Ok, Err, IfOk, OnOk, MatchOption, MatchResult};
+ghost use Rattle.std.specs.Prelude.{◌≡◌, ◌≢◌, ◌++◌, ◌∷◌, [], length, is_some, if◌then◌else◌, Ok, Err, None, IfOk, IfErr, OnOk, MatchOption, MatchResult};
 ghost use Rattle.tas_green.specs.Green.{IsLawful};
 ghost use Rattle.tas_green.specs.Zone.{state_at};
-ghost use Rattle.tas_engines.specs.declared.fault.RunFault.TheVariants.{Memory};
+ghost use Rattle.tas_engines.specs.declared.fault.RunFault.TheVariants.{NoEntry, Memory};
 ghost use Rattle.tas_language.specs.declared.reply.Reply.TheVariants.{OutOfMemory};
 ghost use Rattle.tas_language.specs.Answers.{states_text};
 ghost use Rattle.tas_language.specs.Replies.{reply_text};
 ghost use Rattle.tas_language.specs.declared.request.Request.TheVariants.{Do as ScriptLine, Retouch as RetouchLine, Picture as PictureLine, Pictures as PicturesLine, Movie as MovieLine, States as StatesLine, Share as ShareLine};
 ghost use Rattle.tas_seat.specs.Requests.{kept_frames};
-ghost use Rattle.tas_seat.specs.Outcomes.{unshown_as, HasAnswer, HasNoAnswer, IsAboutTalk};
+ghost use Rattle.tas_seat.specs.Outcomes.{unshown_as, HasAnswer, HasNoAnswer, IsAboutTalk, IsLook};
 
 use crate::commands::{reply_to_command, unshown_as};
 use crate::edit_requests::{EditRequest, make_edit};
@@ -69,9 +69,10 @@ fn answer_script_line<N: Name, W: CloseOnDrop, A: Allocator + Copy, R: Wait>(
     seat: &mut Seat<N, A>,
     command: Command,
 ) -> Result<Vec<u8, A>, RunFault>
-    ensures { MatchResult result
+    ensures answer { MatchResult result
         (λ bytes. HasAnswer A seat.old seat.new (ScriptLine command) bytes.items)
         (HasNoAnswer seat.old seat.new (ScriptLine command)) }
+    ensures entry { IfErr result (λ fault. fault ≡ NoEntry → IsLook (ScriptLine command)) }
 {
     let reply = reply_to_command(rt, alloc, desk, seat, command)?;
     answer_of_reply(alloc, reply)
@@ -85,9 +86,10 @@ fn answer_retouch<N: Name, W: CloseOnDrop, A: Allocator + Copy, R: Wait>(
     seat: &mut Seat<N, A>,
     retouch: Retouch,
 ) -> Result<Vec<u8, A>, RunFault>
-    ensures { MatchResult result
+    ensures answer { MatchResult result
         (λ bytes. HasAnswer A seat.old seat.new (RetouchLine retouch) bytes.items)
         (HasNoAnswer seat.old seat.new (RetouchLine retouch)) }
+    ensures entry { IfErr result (λ fault. fault ≢ NoEntry) }
 {
     let reply = make_edit(rt, desk, seat, EditRequest::Retouch(retouch))?;
     answer_of_reply(alloc, reply)
@@ -139,9 +141,10 @@ fn answer_movie<N: Name, W: CloseOnDrop, A: Allocator + Copy, R: Wait>(
     desk: &Desk<N, W, A>,
     seat: &mut Seat<N, A>,
 ) -> Result<Vec<u8, A>, RunFault>
-    ensures { MatchResult result
+    ensures answer { MatchResult result
         (λ bytes. HasAnswer A seat.old seat.new MovieLine bytes.items)
         (HasNoAnswer seat.old seat.new MovieLine) }
+    ensures entry { IfErr result (λ fault. fault ≢ NoEntry) }
 {
     let Ok(brought) = desk.bring(rt, seat) else {
         return answer_of_reply(alloc, Reply::OutOfMemory);
@@ -211,9 +214,10 @@ fn answer_states<N: Name, W: CloseOnDrop, A: Allocator + Copy, R: Wait>(
     desk: &Desk<N, W, A>,
     seat: &mut Seat<N, A>,
 ) -> Result<Vec<u8, A>, RunFault>
-    ensures { MatchResult result
+    ensures answer { MatchResult result
         (λ bytes. HasAnswer A seat.old seat.new StatesLine bytes.items)
         (HasNoAnswer seat.old seat.new StatesLine) }
+    ensures entry { IfErr result (λ fault. fault ≢ NoEntry) }
 {
     let Ok(shared) = desk.bring(rt, seat) else {
         return answer_of_reply(alloc, Reply::OutOfMemory);
@@ -229,9 +233,10 @@ fn answer_share<N: Name, W: CloseOnDrop, A: Allocator + Copy, R: Wait>(
     desk: &Desk<N, W, A>,
     seat: &mut Seat<N, A>,
 ) -> Result<Vec<u8, A>, RunFault>
-    ensures { MatchResult result
+    ensures answer { MatchResult result
         (λ bytes. HasAnswer A seat.old seat.new ShareLine bytes.items)
         (HasNoAnswer seat.old seat.new ShareLine) }
+    ensures entry { IfErr result (λ fault. fault ≢ NoEntry) }
 {
     let Ok(shared) = desk.bring(rt, seat) else {
         return answer_of_reply(alloc, Reply::OutOfMemory);
@@ -244,8 +249,9 @@ fn answer_share<N: Name, W: CloseOnDrop, A: Allocator + Copy, R: Wait>(
 /// `quit` are about a conversation, and get no answer here. Where memory is refused for a picture, a text or a list, the answer is
 /// `out of memory`.
 ///
-/// Faults: those of [`reply_to_command`](crate::reply_to_command), after which the seat may have seen pictures of a strip; and `Memory`,
-/// where it is refused for an answer of one short line, once the request is carried out, or for a strip.
+/// Faults: those of [`reply_to_command`](crate::reply_to_command), `NoEntry` also of `picture`, `pictures`, `ram`, `digest` and `lag`, after
+/// which the seat may have seen pictures of a strip; and `Memory`, where it is refused for an answer of one short line, once the request
+/// is carried out, or for a strip.
 pub fn answer_request<N: Name, W: CloseOnDrop, A: Allocator + Copy, R: Wait>(
     rt: &R,
     alloc: A,
@@ -253,10 +259,12 @@ pub fn answer_request<N: Name, W: CloseOnDrop, A: Allocator + Copy, R: Wait>(
     seat: &mut Seat<N, A>,
     request: Request,
 ) -> Result<Option<Vec<u8, A>>, RunFault>
-    ensures { MatchResult result
+    ensures answer { MatchResult result
         (λ found. MatchOption found (IsAboutTalk request × (seat.new ≡ seat.old))
         (λ bytes. HasAnswer A seat.old seat.new request bytes.items))
         (HasNoAnswer seat.old seat.new request) }
+    ensures talk { IsAboutTalk request → result ≡ Ok None }
+    ensures entry { IfErr result (λ fault. fault ≡ NoEntry → IsLook request) }
 {
     match request {
         Request::Do(command) => Ok(Some(answer_script_line(rt, alloc, desk, seat, command)?)),

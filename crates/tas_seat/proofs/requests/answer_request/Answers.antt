@@ -1,34 +1,156 @@
+use Rattle.std.proofs.lemmas.Result.{err_from_is_err_and}
 use Rattle.tas_seat.proofs.requests.answer_request.Goals as goal
 
-pub returns-in_ok-answer_script_line-in-Do : goal.returns-in_ok-answer_script_line-in-Do
-returns-in_ok-answer_script_line-in-Do g c = rw c.in-Do.is c.in_ok-answer_script_line-in-Do.ensures
+pub returns-in_ok-answer_script_line-in-Do-clause-answer : goal.returns-in_ok-answer_script_line-in-Do-clause-answer
+returns-in_ok-answer_script_line-in-Do-clause-answer g c = rw c.in-Do.is c.in_ok-answer_script_line-in-Do.ensures.answer
 
-pub returns-in_ok-answer_retouch-in-Retouch : goal.returns-in_ok-answer_retouch-in-Retouch
-returns-in_ok-answer_retouch-in-Retouch g c = rw c.in-Retouch.is c.in_ok-answer_retouch-in-Retouch.ensures
+pub returns-in_ok-answer_retouch-in-Retouch-clause-answer : goal.returns-in_ok-answer_retouch-in-Retouch-clause-answer
+returns-in_ok-answer_retouch-in-Retouch-clause-answer g c = rw c.in-Retouch.is c.in_ok-answer_retouch-in-Retouch.ensures.answer
 
-pub returns-in_ok-answer_picture-in-Picture : goal.returns-in_ok-answer_picture-in-Picture
-returns-in_ok-answer_picture-in-Picture g c = rw c.in-Picture.is c.in_ok-answer_picture-in-Picture.ensures
+pub returns-in_ok-answer_picture-in-Picture-clause-answer : goal.returns-in_ok-answer_picture-in-Picture-clause-answer
+returns-in_ok-answer_picture-in-Picture-clause-answer g c = rw c.in-Picture.is c.in_ok-answer_picture-in-Picture.ensures
 
-pub returns-in_ok-answer_pictures-in-Pictures : goal.returns-in_ok-answer_pictures-in-Pictures
-returns-in_ok-answer_pictures-in-Pictures g c = rw c.in-Pictures.is c.in_ok-answer_pictures-in-Pictures.ensures
+pub returns-in_ok-answer_pictures-in-Pictures-clause-answer : goal.returns-in_ok-answer_pictures-in-Pictures-clause-answer
+returns-in_ok-answer_pictures-in-Pictures-clause-answer g c = rw c.in-Pictures.is c.in_ok-answer_pictures-in-Pictures.ensures
 
-pub returns-in_ok-answer_ram-in-Ram : goal.returns-in_ok-answer_ram-in-Ram
-returns-in_ok-answer_ram-in-Ram g c = rw c.in-Ram.is c.in_ok-answer_ram-in-Ram.ensures
+pub returns-in_ok-answer_ram-in-Ram-clause-answer : goal.returns-in_ok-answer_ram-in-Ram-clause-answer
+returns-in_ok-answer_ram-in-Ram-clause-answer g c = rw c.in-Ram.is c.in_ok-answer_ram-in-Ram.ensures
 
-pub returns-in_ok-answer_digest-in-Digest : goal.returns-in_ok-answer_digest-in-Digest
-returns-in_ok-answer_digest-in-Digest g c = rw c.in-Digest.is c.in_ok-answer_digest-in-Digest.ensures
+pub returns-in_ok-answer_digest-in-Digest-clause-answer : goal.returns-in_ok-answer_digest-in-Digest-clause-answer
+returns-in_ok-answer_digest-in-Digest-clause-answer g c = rw c.in-Digest.is c.in_ok-answer_digest-in-Digest.ensures
 
-pub returns-in_ok-answer_lag-in-Lag : goal.returns-in_ok-answer_lag-in-Lag
-returns-in_ok-answer_lag-in-Lag g c = rw c.in-Lag.is c.in_ok-answer_lag-in-Lag.ensures
+pub returns-in_ok-answer_lag-in-Lag-clause-answer : goal.returns-in_ok-answer_lag-in-Lag-clause-answer
+returns-in_ok-answer_lag-in-Lag-clause-answer g c = rw c.in-Lag.is c.in_ok-answer_lag-in-Lag.ensures
 
-pub returns-in_ok-answer_movie-in-Movie : goal.returns-in_ok-answer_movie-in-Movie
-returns-in_ok-answer_movie-in-Movie g c = rw c.in-Movie.is c.in_ok-answer_movie-in-Movie.ensures
+pub returns-in_ok-answer_movie-in-Movie-clause-answer : goal.returns-in_ok-answer_movie-in-Movie-clause-answer
+returns-in_ok-answer_movie-in-Movie-clause-answer g c = rw c.in-Movie.is c.in_ok-answer_movie-in-Movie.ensures.answer
 
-pub returns-in_ok-answer_states-in-States : goal.returns-in_ok-answer_states-in-States
-returns-in_ok-answer_states-in-States g c = rw c.in-States.is c.in_ok-answer_states-in-States.ensures
+pub returns-in_ok-answer_states-in-States-clause-answer : goal.returns-in_ok-answer_states-in-States-clause-answer
+returns-in_ok-answer_states-in-States-clause-answer g c = rw c.in-States.is c.in_ok-answer_states-in-States.ensures.answer
 
-pub returns-in_ok-answer_share-in-Share : goal.returns-in_ok-answer_share-in-Share
-returns-in_ok-answer_share-in-Share g c = rw c.in-Share.is c.in_ok-answer_share-in-Share.ensures
+pub returns-in_ok-answer_share-in-Share-clause-answer : goal.returns-in_ok-answer_share-in-Share-clause-answer
+returns-in_ok-answer_share-in-Share-clause-answer g c = rw c.in-Share.is c.in_ok-answer_share-in-Share.ensures.answer
 
-pub returns-in_ok-answer_history-in-History : goal.returns-in_ok-answer_history-in-History
-returns-in_ok-answer_history-in-History g c = rw c.in-History.is c.in_ok-answer_history-in-History.ensures
+pub returns-in_ok-answer_history-in-History-clause-answer : goal.returns-in_ok-answer_history-in-History-clause-answer
+returns-in_ok-answer_history-in-History-clause-answer g c = rw c.in-History.is c.in_ok-answer_history-in-History.ensures.answer
+
+pub returns-in_ok-answer_script_line-in-Do-clause-talk : goal.returns-in_ok-answer_script_line-in-Do-clause-talk
+returns-in_ok-answer_script_line-in-Do-clause-talk g c = λ talk. absurd (rw c.in-Do.is at talk)
+
+pub returns-in_err-answer_script_line-in-Do-clause-talk : goal.returns-in_err-answer_script_line-in-Do-clause-talk
+returns-in_err-answer_script_line-in-Do-clause-talk g c = λ talk. absurd (rw c.in-Do.is at talk)
+
+pub returns-in_ok-answer_retouch-in-Retouch-clause-talk : goal.returns-in_ok-answer_retouch-in-Retouch-clause-talk
+returns-in_ok-answer_retouch-in-Retouch-clause-talk g c = λ talk. absurd (rw c.in-Retouch.is at talk)
+
+pub returns-in_err-answer_retouch-in-Retouch-clause-talk : goal.returns-in_err-answer_retouch-in-Retouch-clause-talk
+returns-in_err-answer_retouch-in-Retouch-clause-talk g c = λ talk. absurd (rw c.in-Retouch.is at talk)
+
+pub returns-in_ok-answer_picture-in-Picture-clause-talk : goal.returns-in_ok-answer_picture-in-Picture-clause-talk
+returns-in_ok-answer_picture-in-Picture-clause-talk g c = λ talk. absurd (rw c.in-Picture.is at talk)
+
+pub returns-in_err-answer_picture-in-Picture-clause-talk : goal.returns-in_err-answer_picture-in-Picture-clause-talk
+returns-in_err-answer_picture-in-Picture-clause-talk g c = λ talk. absurd (rw c.in-Picture.is at talk)
+
+pub returns-in_ok-answer_pictures-in-Pictures-clause-talk : goal.returns-in_ok-answer_pictures-in-Pictures-clause-talk
+returns-in_ok-answer_pictures-in-Pictures-clause-talk g c = λ talk. absurd (rw c.in-Pictures.is at talk)
+
+pub returns-in_err-answer_pictures-in-Pictures-clause-talk : goal.returns-in_err-answer_pictures-in-Pictures-clause-talk
+returns-in_err-answer_pictures-in-Pictures-clause-talk g c = λ talk. absurd (rw c.in-Pictures.is at talk)
+
+pub returns-in_ok-answer_ram-in-Ram-clause-talk : goal.returns-in_ok-answer_ram-in-Ram-clause-talk
+returns-in_ok-answer_ram-in-Ram-clause-talk g c = λ talk. absurd (rw c.in-Ram.is at talk)
+
+pub returns-in_err-answer_ram-in-Ram-clause-talk : goal.returns-in_err-answer_ram-in-Ram-clause-talk
+returns-in_err-answer_ram-in-Ram-clause-talk g c = λ talk. absurd (rw c.in-Ram.is at talk)
+
+pub returns-in_ok-answer_digest-in-Digest-clause-talk : goal.returns-in_ok-answer_digest-in-Digest-clause-talk
+returns-in_ok-answer_digest-in-Digest-clause-talk g c = λ talk. absurd (rw c.in-Digest.is at talk)
+
+pub returns-in_err-answer_digest-in-Digest-clause-talk : goal.returns-in_err-answer_digest-in-Digest-clause-talk
+returns-in_err-answer_digest-in-Digest-clause-talk g c = λ talk. absurd (rw c.in-Digest.is at talk)
+
+pub returns-in_ok-answer_lag-in-Lag-clause-talk : goal.returns-in_ok-answer_lag-in-Lag-clause-talk
+returns-in_ok-answer_lag-in-Lag-clause-talk g c = λ talk. absurd (rw c.in-Lag.is at talk)
+
+pub returns-in_err-answer_lag-in-Lag-clause-talk : goal.returns-in_err-answer_lag-in-Lag-clause-talk
+returns-in_err-answer_lag-in-Lag-clause-talk g c = λ talk. absurd (rw c.in-Lag.is at talk)
+
+pub returns-in_ok-answer_movie-in-Movie-clause-talk : goal.returns-in_ok-answer_movie-in-Movie-clause-talk
+returns-in_ok-answer_movie-in-Movie-clause-talk g c = λ talk. absurd (rw c.in-Movie.is at talk)
+
+pub returns-in_err-answer_movie-in-Movie-clause-talk : goal.returns-in_err-answer_movie-in-Movie-clause-talk
+returns-in_err-answer_movie-in-Movie-clause-talk g c = λ talk. absurd (rw c.in-Movie.is at talk)
+
+pub returns-in_ok-answer_states-in-States-clause-talk : goal.returns-in_ok-answer_states-in-States-clause-talk
+returns-in_ok-answer_states-in-States-clause-talk g c = λ talk. absurd (rw c.in-States.is at talk)
+
+pub returns-in_err-answer_states-in-States-clause-talk : goal.returns-in_err-answer_states-in-States-clause-talk
+returns-in_err-answer_states-in-States-clause-talk g c = λ talk. absurd (rw c.in-States.is at talk)
+
+pub returns-in_ok-answer_share-in-Share-clause-talk : goal.returns-in_ok-answer_share-in-Share-clause-talk
+returns-in_ok-answer_share-in-Share-clause-talk g c = λ talk. absurd (rw c.in-Share.is at talk)
+
+pub returns-in_err-answer_share-in-Share-clause-talk : goal.returns-in_err-answer_share-in-Share-clause-talk
+returns-in_err-answer_share-in-Share-clause-talk g c = λ talk. absurd (rw c.in-Share.is at talk)
+
+pub returns-in_ok-answer_history-in-History-clause-talk : goal.returns-in_ok-answer_history-in-History-clause-talk
+returns-in_ok-answer_history-in-History-clause-talk g c = λ talk. absurd (rw c.in-History.is at talk)
+
+pub returns-in_err-answer_history-in-History-clause-talk : goal.returns-in_err-answer_history-in-History-clause-talk
+returns-in_err-answer_history-in-History-clause-talk g c = λ talk. absurd (rw c.in-History.is at talk)
+
+pub returns-in_err-answer_script_line-in-Do-clause-entry : goal.returns-in_err-answer_script_line-in-Do-clause-entry
+returns-in_err-answer_script_line-in-Do-clause-entry g c =
+    let p = err_from_is_err_and c.from_residual.result c.from_residual.ensures.1 in
+    rw (p.1, p.2) (λ e. rw c.in-Do.is (c.in_err-answer_script_line-in-Do.ensures.entry e))
+
+pub returns-in_err-answer_retouch-in-Retouch-clause-entry : goal.returns-in_err-answer_retouch-in-Retouch-clause-entry
+returns-in_err-answer_retouch-in-Retouch-clause-entry g c =
+    let p = err_from_is_err_and c.from_residual-in_err-answer_retouch-in-Retouch.result c.from_residual-in_err-answer_retouch-in-Retouch.ensures.1 in
+    rw (p.1, p.2) (λ e. absurd (c.in_err-answer_retouch-in-Retouch.ensures.entry e))
+
+pub returns-in_err-answer_picture-in-Picture-clause-entry : goal.returns-in_err-answer_picture-in-Picture-clause-entry
+returns-in_err-answer_picture-in-Picture-clause-entry g c =
+    let p = err_from_is_err_and c.from_residual-in_err-answer_picture-in-Picture.result c.from_residual-in_err-answer_picture-in-Picture.ensures.1 in
+    rw (p.1, p.2) (λ e. rw c.in-Picture.is tt)
+
+pub returns-in_err-answer_pictures-in-Pictures-clause-entry : goal.returns-in_err-answer_pictures-in-Pictures-clause-entry
+returns-in_err-answer_pictures-in-Pictures-clause-entry g c =
+    let p = err_from_is_err_and c.from_residual-in_err-answer_pictures-in-Pictures.result c.from_residual-in_err-answer_pictures-in-Pictures.ensures.1 in
+    rw (p.1, p.2) (λ e. rw c.in-Pictures.is tt)
+
+pub returns-in_err-answer_ram-in-Ram-clause-entry : goal.returns-in_err-answer_ram-in-Ram-clause-entry
+returns-in_err-answer_ram-in-Ram-clause-entry g c =
+    let p = err_from_is_err_and c.from_residual-in_err-answer_ram-in-Ram.result c.from_residual-in_err-answer_ram-in-Ram.ensures.1 in
+    rw (p.1, p.2) (λ e. rw c.in-Ram.is tt)
+
+pub returns-in_err-answer_digest-in-Digest-clause-entry : goal.returns-in_err-answer_digest-in-Digest-clause-entry
+returns-in_err-answer_digest-in-Digest-clause-entry g c =
+    let p = err_from_is_err_and c.from_residual-in_err-answer_digest-in-Digest.result c.from_residual-in_err-answer_digest-in-Digest.ensures.1 in
+    rw (p.1, p.2) (λ e. rw c.in-Digest.is tt)
+
+pub returns-in_err-answer_lag-in-Lag-clause-entry : goal.returns-in_err-answer_lag-in-Lag-clause-entry
+returns-in_err-answer_lag-in-Lag-clause-entry g c =
+    let p = err_from_is_err_and c.from_residual-in_err-answer_lag-in-Lag.result c.from_residual-in_err-answer_lag-in-Lag.ensures.1 in
+    rw (p.1, p.2) (λ e. rw c.in-Lag.is tt)
+
+pub returns-in_err-answer_movie-in-Movie-clause-entry : goal.returns-in_err-answer_movie-in-Movie-clause-entry
+returns-in_err-answer_movie-in-Movie-clause-entry g c =
+    let p = err_from_is_err_and c.from_residual-in_err-answer_movie-in-Movie.result c.from_residual-in_err-answer_movie-in-Movie.ensures.1 in
+    rw (p.1, p.2) (λ e. absurd (c.in_err-answer_movie-in-Movie.ensures.entry e))
+
+pub returns-in_err-answer_states-in-States-clause-entry : goal.returns-in_err-answer_states-in-States-clause-entry
+returns-in_err-answer_states-in-States-clause-entry g c =
+    let p = err_from_is_err_and c.from_residual-in_err-answer_states-in-States.result c.from_residual-in_err-answer_states-in-States.ensures.1 in
+    rw (p.1, p.2) (λ e. absurd (c.in_err-answer_states-in-States.ensures.entry e))
+
+pub returns-in_err-answer_share-in-Share-clause-entry : goal.returns-in_err-answer_share-in-Share-clause-entry
+returns-in_err-answer_share-in-Share-clause-entry g c =
+    let p = err_from_is_err_and c.from_residual-in_err-answer_share-in-Share.result c.from_residual-in_err-answer_share-in-Share.ensures.1 in
+    rw (p.1, p.2) (λ e. absurd (c.in_err-answer_share-in-Share.ensures.entry e))
+
+pub returns-in_err-answer_history-in-History-clause-entry : goal.returns-in_err-answer_history-in-History-clause-entry
+returns-in_err-answer_history-in-History-clause-entry g c =
+    let p = err_from_is_err_and c.from_residual-in_err-answer_history-in-History.result c.from_residual-in_err-answer_history-in-History.ensures.1 in
+    rw (p.1, p.2) (λ e. absurd (c.in_err-answer_history-in-History.ensures.entry e))

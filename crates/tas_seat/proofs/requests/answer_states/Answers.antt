@@ -8,15 +8,16 @@ use Rattle.tas_language.specs.declared.request.Request.TheVariants.{States}
 use Rattle.tas_seat.specs.Requests.{kept_frames}
 use Rattle.tas_seat.specs.Outcomes.{HasAnswer}
 use Rattle.tas_seat.proofs.AnswerLemmas.{told_text, answered_or, states_answered, unshared_states, unwritten_states}
+use Rattle.tas_seat.proofs.EntryLemmas.{memory_alone, answer_alone}
 use Rattle.tas_seat.proofs.requests.answer_states.Goals as goal
 
-pub returns-in_default : goal.returns-in_default
-returns-in_default g c =
+pub returns-in_default-clause-answer : goal.returns-in_default-clause-answer
+returns-in_default-clause-answer g c =
     told_text c.args.seat.now c.bring.new.seat States (reply_text OutOfMemory) c.answer_of_reply.result (λ bytes. bytes.items) c.answer_of_reply.ensures
     (unshared_states g.row.A.Denot c.args.seat.now c.bring.new.seat c.bring.ensures.seat c.in_default.ensures.zone)
 
-pub returns : goal.returns
-returns g c =
+pub returns-clause-answer : goal.returns-clause-answer
+returns-clause-answer g c =
     let told = states_answered g.row.A.Denot c.args.seat.now c.bring.new.seat c.in-Ok.shared.at c.in-Ok.shared.gained c.bring.ensures.seat c.in-Ok.ensures.at c.in-Ok.ensures.zone in
     answered_or c.args.seat.now c.bring.new.seat States c.list_states-bytes.result c.answer_or_refusal.result (λ bytes. bytes.items) c.answer_or_refusal.ensures
     (IfOk-weaker c.list_states-bytes.result _ _ (λ bytes is. subst (HasAnswer g.row.A.Denot c.args.seat.now c.bring.new.seat States)
@@ -25,3 +26,9 @@ returns g c =
 
 pub list_states-bytes-requires : goal.list_states-bytes-requires
 list_states-bytes-requires g c = rw c.zone_movie.ensures c.in-Ok.ensures.zone.made.lawful
+
+pub returns-in_default-clause-entry : goal.returns-in_default-clause-entry
+returns-in_default-clause-entry g c = memory_alone _ _ c.answer_of_reply.result c.answer_of_reply.ensures
+
+pub returns-clause-entry : goal.returns-clause-entry
+returns-clause-entry g c = answer_alone _ _ c.list_states-bytes.result c.answer_or_refusal.result c.answer_or_refusal.ensures

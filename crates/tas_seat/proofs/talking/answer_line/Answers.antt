@@ -18,21 +18,21 @@ returns-in_err-answer_unknown g c = λ said holds none.
 
 pub returns-in_default-2 : goal.returns-in_default-2
 returns-in_default-2 g c = λ said holds none.
-    let quits = rw c.in_default-2.is at c.in_ok-bytes.ensures in (subst (λ (r : Request). IsHeard said (Some r)) quits.0 (c.in-Some.ensures said holds), quits.1, Appends-nil _)
+    let quits = rw c.in_default-2.is at c.in_ok-bytes.ensures.answer in (subst (λ (r : Request). IsHeard said (Some r)) quits.0 (c.in-Some.ensures said holds), quits.1, Appends-nil _)
 
 pub returns-in_err-bytes : goal.returns-in_err-bytes
 returns-in_err-bytes g c = λ said holds none.
     let p = err_from_is_err_and c.from_residual-in_err-bytes.result c.from_residual-in_err-bytes.ensures.1 in
-    rw (p.1, p.2) (line_fault (talking c.args.seat.now c.args.draft.now) (talking c.answer_talk.new.seat c.answer_talk.new.draft) said c.in-Some.request c.args.written _ c.in_err-bytes.field-0.0 none (c.in-Some.ensures said holds) c.in_err-bytes.ensures)
+    rw (p.1, p.2) (line_fault (talking c.args.seat.now c.args.draft.now) (talking c.answer_talk.new.seat c.answer_talk.new.draft) said c.in-Some.request c.args.written _ c.in_err-bytes.field-0.0 none (c.in-Some.ensures said holds) c.in_err-bytes.ensures.answer)
 
 pub returns : goal.returns
 returns g c = λ said holds none.
-    known_line (talking c.args.seat.now c.args.draft.now) (talking c.answer_talk.new.seat c.answer_talk.new.draft) said c.in-Some-2.bytes.items c.as_slice.result.now c.in-Some.request c.args.written _ _ _ none (c.in-Some.ensures said holds) (rw c.in-Some-2.is at c.in_ok-bytes.ensures) c.as_slice.ensures.value
+    known_line (talking c.args.seat.now c.args.draft.now) (talking c.answer_talk.new.seat c.answer_talk.new.draft) said c.in-Some-2.bytes.items c.as_slice.result.now c.in-Some.request c.args.written _ _ _ none (c.in-Some.ensures said holds) (rw c.in-Some-2.is at c.in_ok-bytes.ensures.answer) c.as_slice.ensures.value
     c.in_ok-hand_out.ensures.out c.in_ok-hand_out.ensures.count
 
 pub returns-in_err-hand_out : goal.returns-in_err-hand_out
 returns-in_err-hand_out g c = λ said holds none.
     let p = err_from_is_err_and c.from_residual-in_err-hand_out.result c.from_residual-in_err-hand_out.ensures.1 in
     rw (p.1, p.2)
-    (known_cut (talking c.args.seat.now c.args.draft.now) (talking c.answer_talk.new.seat c.answer_talk.new.draft) said c.in-Some-2.bytes.items c.as_slice.result.now c.in-Some.request c.args.written _ _ _ none (c.in-Some.ensures said holds) (rw c.in-Some-2.is at c.in_ok-bytes.ensures) c.as_slice.ensures.value
+    (known_cut (talking c.args.seat.now c.args.draft.now) (talking c.answer_talk.new.seat c.answer_talk.new.draft) said c.in-Some-2.bytes.items c.as_slice.result.now c.in-Some.request c.args.written _ _ _ none (c.in-Some.ensures said holds) (rw c.in-Some-2.is at c.in_ok-bytes.ensures.answer) c.as_slice.ensures.value
     c.in_err-hand_out.ensures.fault)

@@ -40,40 +40,40 @@ returns-in_default-parse_line-clause-answers g c = λ own.
     )
 
 pub returns-in_err-reply-clause-number : goal.returns-in_err-reply-clause-number
-returns-in_err-reply-clause-number g c = (unanswered_leaves c.loop-rest.seat c.reply_to_command.new.seat c.in_err-reply.field-0.0 c.in_err-reply.ensures).number ∙ c.loop-rest.invariant.left.1.number
+returns-in_err-reply-clause-number g c = (unanswered_leaves c.loop-rest.seat c.reply_to_command.new.seat c.in_err-reply.field-0.0 c.in_err-reply.ensures.answer).number ∙ c.loop-rest.invariant.left.1.number
 
 pub returns-in_err-reply-clause-answers : goal.returns-in_err-reply-clause-answers
 returns-in_err-reply-clause-answers g c = λ own.
     let i = c.loop-rest.invariant in
     let some : 0 < length c.loop-rest.rest.now = omega (arith, eqb-false _ _ (sym c.is_empty.ensures ∙ c.loop-rest-test.true)) in
-    let mid = sees_before c.loop-rest.seat c.reply_to_command.new.seat [] (unanswered_leaves c.loop-rest.seat c.reply_to_command.new.seat c.in_err-reply.field-0.0 c.in_err-reply.ensures) own in
+    let mid = sees_before c.loop-rest.seat c.reply_to_command.new.seat [] (unanswered_leaves c.loop-rest.seat c.reply_to_command.new.seat c.in_err-reply.field-0.0 c.in_err-reply.ensures.answer) own in
     let seen = seen_after c.args.seat.now c.loop-rest.seat i.left.0 i.left.1 c.requires.seen in
     let (turns, a) = i.answered mid in
     let p = err_from_is_err_and c.from_residual.result c.from_residual.ensures.1 in
     rw (p.1, p.2) (
       sees_before c.args.seat.now c.loop-rest.seat i.left.0 i.left.1 mid,
-      (turns, c.loop-rest.rest.now, a.reads, a.replies, desk_stop c.loop-rest.seat c.reply_to_command.new.seat c.in_err-reply.field-0.0 turns c.loop-rest.rest.now some c.in_err-reply.ensures seen own),
+      (turns, c.loop-rest.rest.now, a.reads, a.replies, desk_stop c.loop-rest.seat c.reply_to_command.new.seat c.in_err-reply.field-0.0 turns c.loop-rest.rest.now some c.in_err-reply.ensures.answer seen own),
     )
 
 pub returns-in_err-words-clause-number : goal.returns-in_err-words-clause-number
-returns-in_err-words-clause-number g c = (command_leaves _ c.loop-rest.seat c.reply_to_command.new.seat c.in-Some-parse_line.command c.in_ok-reply.reply c.in_ok-reply.ensures).1.number ∙ c.loop-rest.invariant.left.1.number
+returns-in_err-words-clause-number g c = (command_leaves _ c.loop-rest.seat c.reply_to_command.new.seat c.in-Some-parse_line.command c.in_ok-reply.reply c.in_ok-reply.ensures.answer).1.number ∙ c.loop-rest.invariant.left.1.number
 
 pub returns-in_err-words-clause-answers : goal.returns-in_err-words-clause-answers
 returns-in_err-words-clause-answers g c = λ own.
     let i = c.loop-rest.invariant in
-    let after = command_leaves _ c.loop-rest.seat c.reply_to_command.new.seat c.in-Some-parse_line.command c.in_ok-reply.reply c.in_ok-reply.ensures in
+    let after = command_leaves _ c.loop-rest.seat c.reply_to_command.new.seat c.in-Some-parse_line.command c.in_ok-reply.reply c.in_ok-reply.ensures.answer in
     let mid = sees_before c.loop-rest.seat c.reply_to_command.new.seat after.0 after.1 own in
     let (turns, a) = i.answered mid in
     let p = err_from_is_err_and c.from_residual-in_err-words.result c.from_residual-in_err-words.ensures.1 in
     rw (p.1, p.2) (sees_before c.args.seat.now c.loop-rest.seat i.left.0 i.left.1 mid, (turns, c.loop-rest.rest.now, a.reads, a.replies, tt))
 
 pub returns-in_err-extend_from_slice-clause-number : goal.returns-in_err-extend_from_slice-clause-number
-returns-in_err-extend_from_slice-clause-number g c = (command_leaves _ c.loop-rest.seat c.reply_to_command.new.seat c.in-Some-parse_line.command c.in_ok-reply.reply c.in_ok-reply.ensures).1.number ∙ c.loop-rest.invariant.left.1.number
+returns-in_err-extend_from_slice-clause-number g c = (command_leaves _ c.loop-rest.seat c.reply_to_command.new.seat c.in-Some-parse_line.command c.in_ok-reply.reply c.in_ok-reply.ensures.answer).1.number ∙ c.loop-rest.invariant.left.1.number
 
 pub returns-in_err-extend_from_slice-clause-answers : goal.returns-in_err-extend_from_slice-clause-answers
 returns-in_err-extend_from_slice-clause-answers g c = λ own.
     let i = c.loop-rest.invariant in
-    let after = command_leaves _ c.loop-rest.seat c.reply_to_command.new.seat c.in-Some-parse_line.command c.in_ok-reply.reply c.in_ok-reply.ensures in
+    let after = command_leaves _ c.loop-rest.seat c.reply_to_command.new.seat c.in-Some-parse_line.command c.in_ok-reply.reply c.in_ok-reply.ensures.answer in
     let mid = sees_before c.loop-rest.seat c.reply_to_command.new.seat after.0 after.1 own in
     let (turns, a) = i.answered mid in
     let same : c.extend_from_slice.new.self.items ≡ c.loop-rest.text.items = search rules in
@@ -86,7 +86,7 @@ loop-rest-smaller g c = omega (arith, split_length c.loop-rest.rest.now c.in-Som
 pub loop-rest-preserved : goal.loop-rest-preserved
 loop-rest-preserved g c =
     let i = c.loop-rest.invariant in
-    let after = command_leaves _ c.loop-rest.seat c.reply_to_command.new.seat c.in-Some-parse_line.command c.in_ok-reply.reply c.in_ok-reply.ensures in
+    let after = command_leaves _ c.loop-rest.seat c.reply_to_command.new.seat c.in-Some-parse_line.command c.in_ok-reply.reply c.in_ok-reply.ensures.answer in
     let shorter = split_length c.loop-rest.rest.now c.in-Some.line.now c.in-Some.after.now c.in-Some.ensures.some.0 in
     let put : c.extend_from_slice.new.self.items ≡ c.loop-rest.text.items ++ c.in_ok-words.words.items = search rules in
     record {
@@ -96,7 +96,7 @@ loop-rest-preserved g c =
           let start : Standing = standing_of c.args.seat.now.front in
           let seen = seen_after c.args.seat.now c.loop-rest.seat i.left.0 i.left.1 c.requires.seen in
           let (turns, a) = i.answered (sees_before c.loop-rest.seat c.reply_to_command.new.seat after.0 after.1 own) in
-          let t = command_turn _ c.loop-rest.seat c.reply_to_command.new.seat c.in-Some-parse_line.command c.in_ok-reply.reply c.in_ok-reply.ensures seen own in
+          let t = command_turn _ c.loop-rest.seat c.reply_to_command.new.seat c.in-Some-parse_line.command c.in_ok-reply.reply c.in_ok-reply.ensures.answer seen own in
           let turn : Turn = record { said = c.in-Some.line.now; command = c.in-Some-parse_line.command; unforeseen = t.0 } in (
             turns ++ turn ∷ [],
             record {
