@@ -20,7 +20,7 @@ use Rattle.tas_language.specs.Requests.{IsHeard}
 use Rattle.tas_language.specs.Held.{HoldsLine}
 use Rattle.tas_language.specs.Answers.{unknown_text}
 use Rattle.tas_seat.specs.Conversations.{TalkingSeat, talking, IsTalkAnswered}
-use Rattle.tas_seat.specs.Outcomes.{KeepsTalk, HasNoTalkAnswer}
+use Rattle.tas_seat.specs.Outcomes.{KeepsTalk, HasNoTalkAnswer, IsLook}
 use Rattle.tas_seat.specs.Talk.{Exchange, IsExchange, AreExchanges, IsLeft, HasLooked, IsCarriedOut, IsAnswerCutOff, TalkEnds, IsTalk, lines_of, answers_of, last_answer, most_counted}
 use Rattle.tas_seat.specs.Inside.Talking.{CutsOff, HasAnswered, Breaks, StopsAfter, IsLineTurn, IsPartTurn}
 use Rattle.tas_seat.proofs.SeatLemmas.{seen_same}
@@ -159,21 +159,21 @@ unanswered_line before now said request told old more none heard (inr (answer, (
 
 -- a request wasn't answered
 pub line_fault : {A : Type 0} (before now : TalkingSeat A) (said : List ℕ) (request : Request) (told : ℕ) (old : Option (List ℕ)) (fault : RunFault) → NoByte 10 said → IsHeard said (Some request) → HasNoTalkAnswer before now request fault
-    → IsLineTurn before now said told old old (Err fault)
-line_fault before now said request told old NoEntry none heard is = λ more. ([], (looked before now (kept_talk before now request is), omega (arith, length-append (said ++ 10 ∷ []) more, length-append said (10 ∷ [])), Appends-nil old))
-line_fault before now said request told old Memory none heard is = λ more. unanswered_line before now said request told old more none heard is
-line_fault before now said request told old Foreign none heard is = λ more. ([], is.0)
-line_fault before now said request told old (Write written) none heard is = absurd is
-line_fault before now said request told old (Size n) none heard is = absurd is
-line_fault before now said request told old (Text error) none heard is = absurd is
-line_fault before now said request told old (OffMovie frame len) none heard is = absurd is
-line_fault before now said request told old (OffRange from to len) none heard is = absurd is
-line_fault before now said request told old (Stopped at opcode) none heard is = absurd is
-line_fault before now said request told old (StoppedFrame frame at opcode) none heard is = absurd is
-line_fault before now said request told old (Script number) none heard is = absurd is
-line_fault before now said request told old (Place number) none heard is = absurd is
-line_fault before now said request told old (Long number) none heard is = absurd is
-line_fault before now said request told old NoPlace none heard is = absurd is
+    → (fault ≡ NoEntry → IsLook request × (before.draft ≡ None)) → IsLineTurn before now said told old old (Err fault)
+line_fault before now said request told old NoEntry none heard is entry = λ more. ([], (looked before now (kept_talk before now request is), record { said = said; more = more; request = request; is = refl; whole = none; heard = heard; look = (entry refl).0; no_draft = (entry refl).1 }, Appends-nil old))
+line_fault before now said request told old Memory none heard is entry = λ more. unanswered_line before now said request told old more none heard is
+line_fault before now said request told old Foreign none heard is entry = λ more. ([], is.0)
+line_fault before now said request told old (Write written) none heard is entry = absurd is
+line_fault before now said request told old (Size n) none heard is entry = absurd is
+line_fault before now said request told old (Text error) none heard is entry = absurd is
+line_fault before now said request told old (OffMovie frame len) none heard is entry = absurd is
+line_fault before now said request told old (OffRange from to len) none heard is entry = absurd is
+line_fault before now said request told old (Stopped at opcode) none heard is entry = absurd is
+line_fault before now said request told old (StoppedFrame frame at opcode) none heard is entry = absurd is
+line_fault before now said request told old (Script number) none heard is entry = absurd is
+line_fault before now said request told old (Place number) none heard is entry = absurd is
+line_fault before now said request told old (Long number) none heard is entry = absurd is
+line_fault before now said request told old NoPlace none heard is entry = absurd is
 
 -- ---- lines of a part of the input
 

@@ -1,5 +1,5 @@
 -- A seat's conversation: outside a draft each line is answered at a beginning of the desk's history, and these never get shorter.
-use Rattle.std.specs.Prelude.{◌≡◌, ℕ, ◌<◌, ◌≤◌, min, List, [], ◌∷◌, ◌++◌, length, Option, Some, None, Result, Ok, Err, ◌⊎◌}
+use Rattle.std.specs.Prelude.{◌≡◌, ℕ, ◌≤◌, min, List, [], ◌∷◌, ◌++◌, length, Option, Some, None, Result, Ok, Err, ◌⊎◌}
 use Rattle.std.specs.List.{flat_map}
 use Rattle.std.specs.Io.KnownBytes.{Appends, Consumes, IsAtEnd}
 use Rattle.byte_text.specs.CutOff.{IsCutOff}
@@ -16,8 +16,9 @@ use Rattle.tas_language.specs.declared.request.Request.{Request}
 use Rattle.tas_language.specs.declared.request.Request.TheVariants.{Quit}
 use Rattle.tas_language.specs.Requests.{IsHeard}
 use Rattle.tas_language.specs.Answers.{unknown_text}
+use Rattle.tas_seat.specs.Drafts.{DraftContent}
 use Rattle.tas_seat.specs.Conversations.{TalkingSeat, talking, IsLineAnswered}
-use Rattle.tas_seat.specs.Outcomes.{IsMiscounted}
+use Rattle.tas_seat.specs.Outcomes.{IsMiscounted, IsLook}
 
 -- ---- lines, one after the other
 
@@ -86,6 +87,17 @@ pub record HasLooked {A : Type 0} (seat : TalkingSeat A) (last : SeatContent A) 
   pub seen : HasSeen seat.seat last
   pub none : edits ≡ []
 
+-- the first line of the rest looks through the seat's reader, and no draft is open
+pub record AsksToLook (draft : Option DraftContent) (rest : List ℕ) : Type 0 where
+  pub said : List ℕ
+  pub more : List ℕ
+  pub request : Request
+  pub is : rest ≡ line said ++ more
+  pub whole : NoByte 10 said
+  pub heard : IsHeard said (Some request)
+  pub look : IsLook request
+  pub no_draft : draft ≡ None
+
 -- a write of an answer failed: it was cut off with the answers before it, but these went out whole; the fault reports how many bytes went out
 pub record IsAnswerCutOff (told answer : List ℕ) (old new : Option (List ℕ)) (written : ℕ) : Type 0 where
   pub sent : ℕ
@@ -104,7 +116,7 @@ TalkEnds seat last rest told edits input output output' (Err (Read Failed)) = Is
 TalkEnds seat last rest told edits input output output' (Err (Run (Write written))) =
     (answer : List ℕ) × (IsCarriedOut seat last rest edits answer ⊎ (IsLeft seat last edits × NoByte 10 rest × IsAtEnd input × (answer ≡ last_answer rest))) × IsAnswerCutOff told answer output output' written
 TalkEnds seat last rest told edits input output output' (Err (Run Memory)) = (HasLooked seat last edits ⊎ ((answer : List ℕ) × IsCarriedOut seat last rest edits answer)) × Appends output output' told
-TalkEnds seat last rest told edits input output output' (Err (Run NoEntry)) = HasLooked seat last edits × (0 < length rest) × Appends output output' told
+TalkEnds seat last rest told edits input output output' (Err (Run NoEntry)) = HasLooked seat last edits × AsksToLook seat.draft rest × Appends output output' told
 TalkEnds seat last rest told edits input output output' (Err (Run Foreign)) = IsMiscounted seat.seat last
 TalkEnds seat last rest told edits input output output' (Err _) = ⊥
 

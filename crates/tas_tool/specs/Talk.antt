@@ -1,5 +1,5 @@
 -- Conversations on a desk of one seat: each line is answered at what the lines before it made.
-use Rattle.std.specs.Prelude.{◌≡◌, ℕ, ◌+◌, ◌-◌, ◌<◌, List, [], ◌∷◌, ◌++◌, length, take, drop, Bool, true, if◌then◌else◌, Option, Some, None, Result, Ok, Err, ◌⊎◌}
+use Rattle.std.specs.Prelude.{◌≡◌, ℕ, ◌+◌, ◌-◌, List, [], ◌∷◌, ◌++◌, length, take, drop, Bool, true, if◌then◌else◌, Option, Some, None, Result, Ok, Err, ◌⊎◌}
 use Rattle.std.specs.List.{flat_map}
 use Rattle.std.specs.Io.KnownBytes.{Appends, Consumes, IsAtEnd, Keeps}
 use Rattle.byte_text.specs.Splitting.{NoByte}
@@ -33,7 +33,7 @@ use Rattle.tas_engines.specs.Changes.{EditContent}
 use Rattle.tas_seat.specs.Edits.{requested_edits, made_between}
 use Rattle.tas_seat.specs.Seats.{entries_from, most_entries}
 use Rattle.tas_seat.specs.HistoryText.{history_reply_text}
-use Rattle.tas_seat.specs.Talk.{IsQuit, IsAnswerCutOff, last_answer}
+use Rattle.tas_seat.specs.Talk.{IsQuit, AsksToLook, IsAnswerCutOff, last_answer}
 use Rattle.tas_tool.specs.Scripts.{standing_at_start}
 use Rattle.tas_tool.specs.MovieScripts.{edits_of_movie, standing_of_movie}
 
@@ -167,7 +167,7 @@ TalkEnds state rest told input output output' (Ok _) = (IsQuit rest × Appends o
 TalkEnds state rest told input output output' (Err (Read Failed)) = NoByte 10 rest × Appends output output' told
 TalkEnds state rest told input output output' (Err (Run (Write written))) = (answer : List ℕ) × IsNextAnswer state rest input answer × IsAnswerCutOff told answer output output' written
 TalkEnds state rest told input output output' (Err (Run Memory)) = Appends output output' told
-TalkEnds state rest told input output output' (Err (Run NoEntry)) = (0 < length rest) × Appends output output' told
+TalkEnds state rest told input output output' (Err (Run NoEntry)) = AsksToLook state.draft rest × Appends output output' told
 TalkEnds state rest told input output output' (Err (Run NoPlace)) = (rest ≡ []) × (told ≡ []) × Appends output output' told
 TalkEnds state rest told input output output' (Err _) = ⊥
 

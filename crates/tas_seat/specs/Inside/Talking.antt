@@ -1,5 +1,5 @@
 -- A conversation on its way. Private functions cite this file.
-use Rattle.std.specs.Prelude.{◌≡◌, ℕ, ◌+◌, ◌<◌, min, List, [], ◌∷◌, ◌++◌, length, Bool, Option, Some, None, Result, Ok, Err, ◌⊎◌}
+use Rattle.std.specs.Prelude.{◌≡◌, ℕ, ◌+◌, min, List, [], ◌∷◌, ◌++◌, length, Bool, Option, Some, None, Result, Ok, Err, ◌⊎◌}
 use Rattle.std.specs.Io.KnownBytes.{Appends}
 use Rattle.byte_text.specs.CutOff.{IsCutOff}
 use Rattle.tas_movie.specs.Text.{line}
@@ -13,7 +13,7 @@ use Rattle.tas_language.specs.Requests.{IsHeard}
 use Rattle.tas_language.specs.Held.{HoldsLine}
 use Rattle.tas_seat.specs.Conversations.{TalkingSeat}
 use Rattle.tas_seat.specs.Outcomes.{IsMiscounted}
-use Rattle.tas_seat.specs.Talk.{Exchange, AreExchanges, IsQuit, HasLooked, IsCarriedOut, lines_of, answers_of, most_counted}
+use Rattle.tas_seat.specs.Talk.{Exchange, AreExchanges, IsQuit, HasLooked, AsksToLook, IsCarriedOut, lines_of, answers_of, most_counted}
 
 -- a write of an answer failed, after this many bytes: its first bytes went out
 abbrev pub CutsOff : ℕ → List ℕ → Option (List ℕ) → Option (List ℕ) → RunFault → Type 0
@@ -28,7 +28,7 @@ pub record HasAnswered {A : Type 0} (before now : TalkingSeat A) (exchanges : Li
 -- why the rest isn't answered, and what was made of it
 abbrev pub Breaks : {A : Type 0} → TalkingSeat A → (now : SeatContent A) → List ℕ → List (Edit A) → ℕ → Option (List ℕ) → Option (List ℕ) → RunFault → Type 0
 Breaks seat now rest edits told old new (Write written) = (answer : List ℕ) × IsCarriedOut seat now rest edits answer × CutsOff told answer old new (Write written)
-Breaks seat now rest edits told old new NoEntry = HasLooked seat now edits × (0 < length rest) × Appends old new []
+Breaks seat now rest edits told old new NoEntry = HasLooked seat now edits × AsksToLook seat.draft rest × Appends old new []
 Breaks seat now rest edits told old new Memory = (HasLooked seat now edits ⊎ ((answer : List ℕ) × IsCarriedOut seat now rest edits answer)) × Appends old new []
 Breaks seat now rest edits told old new Foreign = IsMiscounted seat.seat now
 Breaks seat now rest edits told old new _ = ⊥

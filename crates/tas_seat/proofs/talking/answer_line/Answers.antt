@@ -23,7 +23,7 @@ returns-in_default-2 g c = λ said holds none.
 pub returns-in_err-bytes : goal.returns-in_err-bytes
 returns-in_err-bytes g c = λ said holds none.
     let p = err_from_is_err_and c.from_residual-in_err-bytes.result c.from_residual-in_err-bytes.ensures.1 in
-    rw (p.1, p.2) (line_fault (talking c.args.seat.now c.args.draft.now) (talking c.answer_talk.new.seat c.answer_talk.new.draft) said c.in-Some.request c.args.written _ c.in_err-bytes.field-0.0 none (c.in-Some.ensures said holds) c.in_err-bytes.ensures.answer)
+    rw (p.1, p.2) (line_fault (talking c.args.seat.now c.args.draft.now) (talking c.answer_talk.new.seat c.answer_talk.new.draft) said c.in-Some.request c.args.written _ c.in_err-bytes.field-0.0 none (c.in-Some.ensures said holds) c.in_err-bytes.ensures.answer c.in_err-bytes.ensures.entry)
 
 pub returns : goal.returns
 returns g c = λ said holds none.
