@@ -42,15 +42,15 @@ pub record IsSeatAfter {A : Type 0} (before : SeatContent A) (at : List (Entry A
 abbrev pub KeepsWindow : {A : Type 0} → ZoneContent A → ZoneContent A → Type 0
 KeepsWindow before now = (now ≡ before) ⊎ CutsWindow before now
 
--- what a command leaves of the seat's zone and its window: both as they were; but `shot` and `work`, whose frames and states change the zone,
--- cut the window for the movie
+-- what a command leaves of the seat's zone and its window: both as they were, but that a `shot` or a `work` may change the zone, and cut the
+-- window for the movie
 abbrev pub CommandLeavesZone : {A : Type 0} → ZoneContent A → ZoneContent A → Command → Type 0
 CommandLeavesZone before now (Shot k) = KeepsWindow before now
 CommandLeavesZone before now (Work k) = KeepsWindow before now
 CommandLeavesZone before now _ = now ≡ before
 
--- what `picture K` leaves of both, where the definition answers this: a frame is viewed from them; where the movie has no such frame, and where memory
--- was refused, they are as they were
+-- what `picture K` leaves of both, where the definition answers this: the frame was viewed from them, or memory was refused and they are as they
+-- were; so they are where the movie has no such frame
 abbrev pub PictureLeavesZone : {A : Type 0} → SeatContent A → SeatContent A → ℕ → List ℕ → Option (Result (List ℕ) Halt) → Type 0
 PictureLeavesZone before now k answer None = now.zone ≡ before.zone
 PictureLeavesZone before now k answer (Some shown) = ((ran : ℕ) × IsViewed before.zone now.zone now.front k ran) ⊎ ((answer ≡ reply_text OutOfMemory) × (now.zone ≡ before.zone))
