@@ -29,7 +29,7 @@ use Rattle.tas_seat.specs.declared.edit_requests.EditRequest.TheVariants.{Retouc
 use Rattle.tas_seat.specs.Turns.{standing_of, halted_reply}
 use Rattle.tas_seat.specs.Requests.{PictureLeaves, Gains, GainsUnless, answer_to_picture, kept_frames}
 use Rattle.tas_seat.specs.HistoryText.{history_reply_text}
-use Rattle.tas_seat.specs.Seats.{talk_state_at, most_entries, IsAnswered}
+use Rattle.tas_seat.specs.Seats.{talk_state_at, most_entries, KeepsWindow, PictureLeavesZone, IsAnswered}
 use Rattle.tas_seat.specs.Outcomes.{unshown_as, IsEditAnswered, IsMiscounted, IsUnanswered, HasAnswer, HasNoAnswer}
 use Rattle.tas_seat.proofs.SeatLemmas.{looked_at, rests, green_at, views_at, gains_at, answered_here}
 use Rattle.tas_seat.proofs.TextLemmas.{text_or_memory, made_or_memory, reply_or_fault}
@@ -78,34 +78,35 @@ miscounted_unanswered before now request fault is = subst (HasNoAnswer before no
 -- ---- commands and edits
 
 pub command_answered : (A : Type 0) (before now : SeatContent A) (command : Command) (reply : Reply) → IsAnswered A before now command reply → HasAnswer A before now (Do command) (reply_text reply)
-command_answered A before now command reply is = (_, record { at = is.at; answered = (reply, is.turn, refl, is.leaves); made = refl; seat = is.seat })
+command_answered A before now command reply is = (_, record { at = is.at; answered = (reply, is.turn, refl, is.leaves); made = refl; seat = is.seat; zone = is.zone; counts = (reply, refl, is.counts) })
 
 pub retouch_answered : (A : Type 0) (before now : SeatContent A) (retouch : RetouchLine) (reply : Reply) → IsEditAnswered A before now (RetouchAsked retouch) reply → HasAnswer A before now (Retouch retouch) (reply_text reply)
-retouch_answered A before now retouch reply is = (_, record { at = is.at; answered = (reply, is.turn, refl, rests before now is.at now.front is.zone); made = refl; seat = is.seat })
+retouch_answered A before now retouch reply is = (_, record { at = is.at; answered = (reply, is.turn, refl, rests before now is.at now.front is.zone); made = refl; seat = is.seat; zone = is.zone; counts = tt })
 
 -- ---- pictures
 
 told_frame : (A : Type 0) (before now : SeatContent A) (k : ℕ) (no_memory : Bool) (found : Option (Result (List ℕ) Halt)) (answer : List ℕ) → HasSeen before now → answer_shot (movie_of now.front) k ≡ found
-    → answer ≡ answer_to_picture no_memory (standing_of now.front) k found → PictureLeaves no_memory (talk_state_at now.front before.zone) (talk_state_at now.front now.zone) k found → HasAnswer A before now (Picture k) answer
-told_frame A before now k no_memory found answer seen there is leaves = (
+    → answer ≡ answer_to_picture no_memory (standing_of now.front) k found → PictureLeaves no_memory (talk_state_at now.front before.zone) (talk_state_at now.front now.zone) k found → PictureLeavesZone before now k answer found
+    → HasAnswer A before now (Picture k) answer
+told_frame A before now k no_memory found answer seen there is leaves zone = (
   [],
   answered_here A before now (Picture k) answer seen (
     no_memory,
     is ∙ ap (answer_to_picture no_memory (standing_of now.front) k) (sym there),
     refl,
     subst (PictureLeaves no_memory (talk_state_at now.front before.zone) (talk_state_at now.front now.zone) k) (sym there) leaves,
-  ),
+  ) (subst (PictureLeavesZone before now k answer) (sym there) zone) tt,
 )
 
 pub picture_answered : (A : Type 0) (before now : SeatContent A) (k at ran : ℕ) (picture : List ℕ) → HasSeen before now → answer_shot (movie_of now.front) k ≡ Some (Ok picture) → at ≡ length now.front → IsViewed before.zone now.zone now.front k ran
     → HasAnswer A before now (Picture k) (picture_text at k (ppm_bytes picture))
 picture_answered A before now k at ran picture seen shown here viewed =
-    told_frame A before now k false (Some (Ok picture)) (picture_text at k (ppm_bytes picture)) seen shown (ap (λ (n : ℕ). picture_text n k (ppm_bytes picture)) here) (viewed.view.rose, views_at before now now.front k ran viewed)
+    told_frame A before now k false (Some (Ok picture)) (picture_text at k (ppm_bytes picture)) seen shown (ap (λ (n : ℕ). picture_text n k (ppm_bytes picture)) here) (viewed.view.rose, views_at before now now.front k ran viewed) (inl (ran, viewed))
 
 pub lost_picture : (A : Type 0) (before now : SeatContent A) (k ran : ℕ) (picture : List ℕ) → HasSeen before now → answer_shot (movie_of now.front) k ≡ Some (Ok picture) → IsViewed before.zone now.zone now.front k ran
     → HasAnswer A before now (Picture k) (reply_text OutOfMemory)
 lost_picture A before now k ran picture seen shown viewed =
-    told_frame A before now k true (Some (Ok picture)) (reply_text OutOfMemory) seen shown refl (inr (viewed.view.rose, views_at before now now.front k ran viewed))
+    told_frame A before now k true (Some (Ok picture)) (reply_text OutOfMemory) seen shown refl (inr (viewed.view.rose, views_at before now now.front k ran viewed)) (inl (ran, viewed))
 
 -- what a frame shows that is there
 pub shown_frame : (movie : MovieContent) (k : ℕ) → k < length movie.inputs → answer_shot movie k ≡ Some (shown_of (state_after movie (k + 1)).halt (picture_of movie k))
@@ -117,12 +118,12 @@ pub undrawn : (A : Type 0) (before now : SeatContent A) (k : ℕ) (error : ShotE
 undrawn A before now k NoShotEntry seen shown zone = inl zone
 undrawn A before now k (NoShotFrame at len) seen shown zone =
     told_frame A before now k false None (reply_text (NoFrame at len)) seen shown.0
-    (ap (λ (n : ℕ). reply_text (NoFrame n len)) shown.1 ∙ ap (λ (n : ℕ). reply_text (NoFrame (length now.front) n)) shown.2) (rests before now now.front now.front zone)
+    (ap (λ (n : ℕ). reply_text (NoFrame n len)) shown.1 ∙ ap (λ (n : ℕ). reply_text (NoFrame (length now.front) n)) shown.2) (rests before now now.front now.front zone) zone
 undrawn A before now k NoShotMemory seen shown zone =
-    told_frame A before now k true _ (reply_text OutOfMemory) seen (shown_frame (movie_of now.front) k shown) refl (inl (rests before now now.front now.front zone))
+    told_frame A before now k true _ (reply_text OutOfMemory) seen (shown_frame (movie_of now.front) k shown) refl (inl (rests before now now.front now.front zone)) (inr (refl, zone))
 undrawn A before now k (ShotHalted at halt) seen shown zone =
     told_frame A before now k false (Some (Err halt)) (reply_text (halted_reply at halt)) seen shown.0 (ap (λ (n : ℕ). reply_text (halted_reply n halt)) shown.1)
-    (zone.1.view.rose, views_at before now now.front k zone.0 zone.1)
+    (zone.1.view.rose, views_at before now now.front k zone.0 zone.1) (inl zone)
 
 -- ---- the desk's states
 
@@ -141,47 +142,49 @@ pub movie_answered : (A : Type 0) (before now : SeatContent A) (at gained : ℕ)
     → HasAnswer A before now Movie (movie_text at (text2 movie))
 movie_answered A before now at gained movie seen here is shared =
     let told = text_at (λ n m. movie_text n (text2 m)) at (length now.front) movie (movie_of now.front) here (is ∙ shared.made.movie) in
-    ([], answered_here A before now Movie (movie_text at (text2 movie)) seen (false, told, refl, gains_at before now now.front gained shared))
+    ([], answered_here A before now Movie (movie_text at (text2 movie)) seen (false, told, refl, gains_at before now now.front gained shared) (inr shared.cut) tt)
 
-lost_movie : (A : Type 0) (before now : SeatContent A) → HasSeen before now → GainsUnless true (talk_state_at now.front before.zone) (talk_state_at now.front now.zone) → HasAnswer A before now Movie (reply_text OutOfMemory)
-lost_movie A before now seen leaves = ([], answered_here A before now Movie (reply_text OutOfMemory) seen (true, refl, refl, leaves))
+lost_movie : (A : Type 0) (before now : SeatContent A) → HasSeen before now → GainsUnless true (talk_state_at now.front before.zone) (talk_state_at now.front now.zone) → KeepsWindow before.zone now.zone
+    → HasAnswer A before now Movie (reply_text OutOfMemory)
+lost_movie A before now seen leaves window = ([], answered_here A before now Movie (reply_text OutOfMemory) seen (true, refl, refl, leaves) window tt)
 
 -- memory was refused for the states, or for the answer
 pub unshared_movie : (A : Type 0) (before now : SeatContent A) → HasSeen before now → now.zone ≡ before.zone → HasAnswer A before now Movie (reply_text OutOfMemory)
-unshared_movie A before now seen zone = lost_movie A before now seen (unshared before now zone)
+unshared_movie A before now seen zone = lost_movie A before now seen (unshared before now zone) (inl zone)
 
 pub unwritten_movie : (A : Type 0) (before now : SeatContent A) (gained : ℕ) → HasSeen before now → IsShared before.zone now.zone now.front gained → HasAnswer A before now Movie (reply_text OutOfMemory)
-unwritten_movie A before now gained seen shared = lost_movie A before now seen (shared_still before now gained shared)
+unwritten_movie A before now gained seen shared = lost_movie A before now seen (shared_still before now gained shared) (inr shared.cut)
 
 pub states_answered : (A : Type 0) (before now : SeatContent A) (at gained : ℕ) → HasSeen before now → at ≡ length now.front → IsShared before.zone now.zone now.front gained
     → HasAnswer A before now States (states_text at (kept_frames (length now.zone.movie.inputs) now.zone.states))
 states_answered A before now at gained seen here shared =
     let text : ℕ → MovieContent → List ℕ = λ n m. states_text n (kept_frames (length m.inputs) now.zone.states) in
     let told = text_at text at (length now.front) now.zone.movie (movie_of now.front) here shared.made.movie in
-    ([], answered_here A before now States (text at now.zone.movie) seen (false, told, refl, gains_at before now now.front gained shared))
+    ([], answered_here A before now States (text at now.zone.movie) seen (false, told, refl, gains_at before now now.front gained shared) (inr shared.cut) tt)
 
-lost_states : (A : Type 0) (before now : SeatContent A) → HasSeen before now → GainsUnless true (talk_state_at now.front before.zone) (talk_state_at now.front now.zone) → HasAnswer A before now States (reply_text OutOfMemory)
-lost_states A before now seen leaves = ([], answered_here A before now States (reply_text OutOfMemory) seen (true, refl, refl, leaves))
+lost_states : (A : Type 0) (before now : SeatContent A) → HasSeen before now → GainsUnless true (talk_state_at now.front before.zone) (talk_state_at now.front now.zone) → KeepsWindow before.zone now.zone
+    → HasAnswer A before now States (reply_text OutOfMemory)
+lost_states A before now seen leaves window = ([], answered_here A before now States (reply_text OutOfMemory) seen (true, refl, refl, leaves) window tt)
 
 pub unshared_states : (A : Type 0) (before now : SeatContent A) → HasSeen before now → now.zone ≡ before.zone → HasAnswer A before now States (reply_text OutOfMemory)
-unshared_states A before now seen zone = lost_states A before now seen (unshared before now zone)
+unshared_states A before now seen zone = lost_states A before now seen (unshared before now zone) (inl zone)
 
 pub unwritten_states : (A : Type 0) (before now : SeatContent A) (gained : ℕ) → HasSeen before now → IsShared before.zone now.zone now.front gained → HasAnswer A before now States (reply_text OutOfMemory)
-unwritten_states A before now gained seen shared = lost_states A before now seen (shared_still before now gained shared)
+unwritten_states A before now gained seen shared = lost_states A before now seen (shared_still before now gained shared) (inr shared.cut)
 
 pub share_answered : (A : Type 0) (before now : SeatContent A) (at gained : ℕ) (answer : List ℕ) → HasSeen before now → at ≡ length now.front → IsShared before.zone now.zone now.front gained → answer ≡ share_text at gained
     → HasAnswer A before now Share answer
 share_answered A before now at gained answer seen here shared is =
     let gains : Gains (talk_state_at now.front before.zone) (talk_state_at now.front now.zone) =
     record { green = green_at now.zone now.front shared.made; other = shared.other; others = shared.others; gained = gained; gain = shared.gain } in
-    ([], answered_here A before now Share answer seen (false, (gains, is ∙ ap (λ (n : ℕ). share_text n gained) here), refl))
+    ([], answered_here A before now Share answer seen (false, (gains, is ∙ ap (λ (n : ℕ). share_text n gained) here), refl) (inr shared.cut) tt)
 
 -- memory was refused for the answer
 pub lost_share : (A : Type 0) (before now : SeatContent A) (at gained : ℕ) (fault : RunFault) → fault ≡ Memory → HasSeen before now → at ≡ length now.front → IsShared before.zone now.zone now.front gained → HasNoAnswer before now Share fault
 lost_share A before now at gained fault is seen here shared = subst (HasNoAnswer before now Share) (sym is) (inr (share_text at gained, share_answered A before now at gained (share_text at gained) seen here shared refl))
 
 pub unshared_share : (A : Type 0) (before now : SeatContent A) → HasSeen before now → now.zone ≡ before.zone → HasAnswer A before now Share (reply_text OutOfMemory)
-unshared_share A before now seen zone = ([], answered_here A before now Share (reply_text OutOfMemory) seen (true, (refl, rests before now now.front now.front zone), refl))
+unshared_share A before now seen zone = ([], answered_here A before now Share (reply_text OutOfMemory) seen (true, (refl, rests before now now.front now.front zone), refl) (inl zone) tt)
 
 -- ---- the history
 

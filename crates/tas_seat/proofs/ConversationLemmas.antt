@@ -31,7 +31,7 @@ use Rattle.tas_session.specs.declared.replies.CommitError.{CommitError}
 use Rattle.tas_session.specs.declared.replies.CommitError.TheVariants.{Moved, Refused}
 use Rattle.tas_seat.specs.Turns.{standing_of, refusal_reply}
 use Rattle.tas_seat.specs.Requests.{GainsUnless}
-use Rattle.tas_seat.specs.Seats.{entries_from, talk_state_at, IsSeatAfter}
+use Rattle.tas_seat.specs.Seats.{entries_from, talk_state_at, IsSeatAfter, KeepsWindow}
 use Rattle.tas_seat.specs.Drafts.{DraftContent, fresh_draft, IsStroke, LeadsTo, HasStroke}
 use Rattle.tas_seat.specs.Conversations.{TalkingSeat, talking, text_of, uncommitted_answer, commit_answer, committed_edits, draft_after_commit}
 use Rattle.tas_seat.specs.Inside.Conversing.{HasMoved, HasNoOutcome}
@@ -61,25 +61,26 @@ said_of {X} {A} before now draft left old new request text r bytes_of was is sai
 
 -- memory was refused for the desk's states, or for the draft
 pub begin_refused : (A : Type 0) (before now : SeatContent A) (draft : Option DraftContent) → is_some draft ≡ false → HasSeen before now → GainsUnless true (talk_state_at now.front before.zone) (talk_state_at now.front now.zone)
-    → HasTalkAnswer A (talking before draft) (talking now draft) Begin (reply_text OutOfMemory)
-begin_refused A before now (Some draft) is seen gains = absurd (false≢true (sym is))
-begin_refused A before now None is seen gains = (
+    → KeepsWindow before.zone now.zone → HasTalkAnswer A (talking before draft) (talking now draft) Begin (reply_text OutOfMemory)
+begin_refused A before now (Some draft) is seen gains window = absurd (false≢true (sym is))
+begin_refused A before now None is seen gains window = (
   [],
   (
     record {
       answered = record { no_memory = true; answer_is = refl; stands = refl; gains = gains; draft_is = refl };
       seat = looked_at before now seen;
+      zone = window;
     },
     refl,
   ),
 )
 
 pub begin_unshared : (A : Type 0) (before now : SeatContent A) (draft : Option DraftContent) → is_some draft ≡ false → HasSeen before now → now.zone ≡ before.zone → HasTalkAnswer A (talking before draft) (talking now draft) Begin (reply_text OutOfMemory)
-begin_unshared A before now draft is seen zone = begin_refused A before now draft is seen (unshared before now zone)
+begin_unshared A before now draft is seen zone = begin_refused A before now draft is seen (unshared before now zone) (inl zone)
 
 pub begin_unopened : (A : Type 0) (before now : SeatContent A) (draft : Option DraftContent) (gained : ℕ) → is_some draft ≡ false → HasSeen before now → IsShared before.zone now.zone now.front gained
     → HasTalkAnswer A (talking before draft) (talking now draft) Begin (reply_text OutOfMemory)
-begin_unopened A before now draft gained is seen shared = begin_refused A before now draft is seen (shared_still before now gained shared)
+begin_unopened A before now draft gained is seen shared = begin_refused A before now draft is seen (shared_still before now gained shared) (inr shared.cut)
 
 pub begin_opened : (A : Type 0) (before now : SeatContent A) (draft : Option DraftContent) (opened : DraftContent) (at len gained : ℕ) → is_some draft ≡ false → HasSeen before now → at ≡ length now.front → IsShared before.zone now.zone now.front gained
     → opened ≡ fresh_draft at now.zone.movie now.zone.states → len ≡ length now.zone.movie.inputs → HasTalkAnswer A (talking before draft) (talking now (Some opened)) Begin (draft_reply_text (Began at len))
@@ -97,6 +98,7 @@ begin_opened A before now None opened at len gained is seen here shared fresh lo
             (fresh ∙ ap (λ (n : ℕ). fresh_draft n now.zone.movie now.zone.states) here ∙ ap (λ (m : MovieContent). fresh_draft (length now.front) m now.zone.states) shared.made.movie);
       };
       seat = looked_at before now seen;
+      zone = inr shared.cut;
     },
     refl,
   ),

@@ -218,6 +218,8 @@ load_answered A before now image reply e = record {
   turn = (unforeseen e.turn.0, e.turn.1, e.turn.2);
   leaves = rests before now e.at now.front e.zone;
   seat = e.seat;
+  zone = e.zone;
+  counts = tt;
 }
 
 change_answered : (A : Type 0) (before now : SeatContent A) (change : ChangeLine) (reply : Reply) → IsEditAnswered A before now (Change change) reply → IsAnswered A before now (EditCommand change) reply
@@ -226,6 +228,8 @@ change_answered A before now change reply e = record {
   turn = (unforeseen e.turn.0, e.turn.1, e.turn.2);
   leaves = rests before now e.at now.front e.zone;
   seat = e.seat;
+  zone = e.zone;
+  counts = tt;
 }
 
 -- the history has another number of the seat's edits than it made

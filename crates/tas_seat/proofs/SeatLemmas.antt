@@ -13,7 +13,7 @@ use Rattle.tas_language.specs.declared.request.Request.{Request}
 use Rattle.tas_seat.specs.Edits.{made_between}
 use Rattle.tas_seat.specs.Turns.{Standing, standing_of}
 use Rattle.tas_seat.specs.Requests.{Rests, IsGreen, Plays, Reaches, Gains, IsAnswerTo}
-use Rattle.tas_seat.specs.Seats.{talk_state_at, IsSeatAfter, IsAnsweredAt}
+use Rattle.tas_seat.specs.Seats.{talk_state_at, IsSeatAfter, LeavesZone, AnswerCountsWork, IsAnsweredAt}
 use Rattle.tas_seat.specs.Outcomes.{IsMiscounted}
 
 -- ---- what a seat has seen
@@ -100,10 +100,12 @@ gains_at before now one gained is = record { green = green_at now.zone now.front
 
 -- a request that makes no edit is answered at what the seat has seen then
 pub answered_here : (A : Type 0) (before now : SeatContent A) (request : Request) (answer : List ℕ) → HasSeen before now → IsAnswerTo (talk_state_at now.front before.zone) request answer (talk_state_at now.front now.zone)
-    → IsAnsweredAt A before now request answer []
-answered_here A before now request answer seen is = record {
+    → LeavesZone before now request answer → AnswerCountsWork before.front now.front request answer → IsAnsweredAt A before now request answer []
+answered_here A before now request answer seen is zone counts = record {
   at = now.front;
   answered = is;
   made = made_none (standing_of now.front) (standing_of now.front) _ refl;
   seat = looked_at before now seen;
+  zone = zone;
+  counts = counts;
 }

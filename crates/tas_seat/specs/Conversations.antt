@@ -15,7 +15,7 @@ use Rattle.tas_language.specs.declared.request.Request.TheVariants.{Share, Histo
 use Rattle.tas_session.specs.Strokes.{edited_by, refusal_in}
 use Rattle.tas_seat.specs.Turns.{Standing, standing_of, refusal_reply}
 use Rattle.tas_seat.specs.Requests.{TalkState, GainsUnless}
-use Rattle.tas_seat.specs.Seats.{talk_state_at, IsSeatAfter, IsRequestAnswered}
+use Rattle.tas_seat.specs.Seats.{talk_state_at, IsSeatAfter, KeepsWindow, IsRequestAnswered}
 use Rattle.tas_seat.specs.Drafts.{DraftContent, fresh_draft, IsDraft, IsDraftAnswered, IsStroke, LeadsTo, HasStroke}
 
 -- ---- `begin`
@@ -106,6 +106,7 @@ talking seat draft = record { seat = seat; draft = draft }
 pub record IsBegun {A : Type 0} (before : SeatContent A) (now : TalkingSeat A) (answer : List ℕ) : Type 0 where
   pub answered : IsBeginAnswer (talk_state_at now.seat.front before.zone) answer (talk_state_at now.seat.front now.seat.zone) now.draft
   pub seat : IsSeatAfter before now.seat.front [] now.seat
+  pub zone : KeepsWindow before.zone now.seat.zone
 
 -- `commit` is answered at some history, after which its edits stand, with no other between them
 pub record IsCommitted {A : Type 0} (before : SeatContent A) (draft : DraftContent) (now : TalkingSeat A) (answer : List ℕ) (edits : List (Edit A)) : Type 0 where

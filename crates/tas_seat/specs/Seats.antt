@@ -1,18 +1,22 @@
 -- At which histories a seat is answered, and what the seat is afterwards.
-use Rattle.std.specs.Prelude.{◌≡◌, ℕ, ◌+◌, ◌-◌, List, [], ◌∷◌, ◌++◌, length, take, drop, Bool, if◌then◌else◌}
+use Rattle.std.specs.Prelude.{◌≡◌, ℕ, ◌+◌, ◌-◌, List, [], ◌∷◌, ◌++◌, length, take, drop, Bool, if◌then◌else◌, Option, None, Some, Result, ◌⊎◌}
 use Rattle.std.specs.List.{flat_map}
 use mathlib.Core.List.{IsPrefix}
+use Rattle.vcs_cpu.specs.declared.halt.Halt.{Halt}
 use Rattle.tas_movie.specs.declared.edit.Edit.{Edit}
 use Rattle.tas_session.specs.declared.entry.Entry.{Entry}
+use Rattle.tas_session.specs.Answers.{answer_shot}
 use Rattle.tas_session.specs.History.{movie_of}
 use Rattle.tas_desk.specs.Seats.{SeatContent, entry_of}
-use Rattle.tas_desk.specs.Zones.{ZoneContent}
+use Rattle.tas_desk.specs.Work.{IsTally, KeepsCart}
+use Rattle.tas_desk.specs.Zones.{ZoneContent, CutsWindow, IsViewed}
 use Rattle.tas_language.specs.declared.command.Command.{Command}
+use Rattle.tas_language.specs.declared.command.Command.TheVariants.{Shot, Work}
 use Rattle.tas_language.specs.declared.reply.Reply.{Reply}
-use Rattle.tas_language.specs.declared.reply.Reply.TheVariants.{OutOfMemory}
+use Rattle.tas_language.specs.declared.reply.Reply.TheVariants.{Worked, OutOfMemory}
 use Rattle.tas_language.specs.Replies.{reply_text}
 use Rattle.tas_language.specs.declared.request.Request.{Request}
-use Rattle.tas_language.specs.declared.request.Request.TheVariants.{Picture, Pictures, History}
+use Rattle.tas_language.specs.declared.request.Request.TheVariants.{Do, Retouch, Picture, Pictures, History}
 use Rattle.tas_seat.specs.Edits.{edits_by_command, requested_edits, made_between}
 use Rattle.tas_seat.specs.Turns.{standing_of, IsTurn}
 use Rattle.tas_seat.specs.Requests.{TalkState, CommandLeaves, IsAnswerTo}
@@ -34,12 +38,49 @@ pub record IsSeatAfter {A : Type 0} (before : SeatContent A) (at : List (Entry A
   pub number : now.number ≡ before.number
   pub made : now.made ≡ before.made + length edits
 
+-- the zone is as it was, or its window was only cut for the movie
+abbrev pub KeepsWindow : {A : Type 0} → ZoneContent A → ZoneContent A → Type 0
+KeepsWindow before now = (now ≡ before) ⊎ CutsWindow before now
+
+-- what a command leaves of the seat's zone and its window: both as they were, but that a `shot` or a `work` may change the zone, and cut the
+-- window for the movie
+abbrev pub CommandLeavesZone : {A : Type 0} → ZoneContent A → ZoneContent A → Command → Type 0
+CommandLeavesZone before now (Shot k) = KeepsWindow before now
+CommandLeavesZone before now (Work k) = KeepsWindow before now
+CommandLeavesZone before now _ = now ≡ before
+
+-- what `picture K` leaves of both, where the definition answers this: the frame was viewed from them, or memory was refused and they are as they
+-- were; so they are where the movie has no such frame
+abbrev pub PictureLeavesZone : {A : Type 0} → SeatContent A → SeatContent A → ℕ → List ℕ → Option (Result (List ℕ) Halt) → Type 0
+PictureLeavesZone before now k answer None = now.zone ≡ before.zone
+PictureLeavesZone before now k answer (Some shown) = ((ran : ℕ) × IsViewed before.zone now.zone now.front k ran) ⊎ ((answer ≡ reply_text OutOfMemory) × (now.zone ≡ before.zone))
+
+-- what a request leaves of both
+abbrev pub LeavesZone : {A : Type 0} → SeatContent A → SeatContent A → Request → List ℕ → Type 0
+LeavesZone before now (Do command) answer = CommandLeavesZone before.zone now.zone command
+LeavesZone before now (Retouch retouch) answer = now.zone ≡ before.zone
+LeavesZone before now (Picture k) answer = PictureLeavesZone before now k answer (answer_shot (movie_of now.front) k)
+LeavesZone before now _ answer = KeepsWindow before.zone now.zone
+
+-- what the reply to `work` counts is one job's: it gained no more states than a zone has, or it was stale, which it isn't where no other cartridge is
+-- loaded after what the seat had seen
+abbrev pub CountsWork : {A : Type 0} → List (Entry A) → List (Entry A) → Command → Reply → Type 0
+CountsWork before now (Work k) (Worked jobs kept stale) = IsTally (record { jobs = jobs; kept = kept; stale = stale }) × (KeepsCart before now → stale ≡ 0)
+CountsWork before now _ _ = Unit {0}
+
+-- the same of a request's answer
+abbrev pub AnswerCountsWork : {A : Type 0} → List (Entry A) → List (Entry A) → Request → List ℕ → Type 0
+AnswerCountsWork before now (Do command) answer = (reply : Reply) × (answer ≡ reply_text reply) × CountsWork before now command reply
+AnswerCountsWork before now _ answer = Unit {0}
+
 -- a command is answered at some history, by the definition's reply there
 pub record IsAnswered (A : Type 0) (before now : SeatContent A) (command : Command) (reply : Reply) : Type 0 where
   pub at : List (Entry A)
   pub turn : IsTurn (standing_of at) command reply (standing_of now.front)
   pub leaves : CommandLeaves (talk_state_at at before.zone) (talk_state_at now.front now.zone) command reply
   pub seat : IsSeatAfter before at (made_between (standing_of at) (standing_of now.front) (edits_by_command A command)) now
+  pub zone : CommandLeavesZone before.zone now.zone command
+  pub counts : CountsWork before.front now.front command reply
 
 -- a request is answered at some history, by the definition's answer there; the edits are those that it makes
 pub record IsAnsweredAt (A : Type 0) (before now : SeatContent A) (request : Request) (answer : List ℕ) (edits : List (Edit A)) : Type 0 where
@@ -47,6 +88,8 @@ pub record IsAnsweredAt (A : Type 0) (before now : SeatContent A) (request : Req
   pub answered : IsAnswerTo (talk_state_at at before.zone) request answer (talk_state_at now.front now.zone)
   pub made : edits ≡ made_between (standing_of at) (standing_of now.front) (requested_edits A (movie_of at) request)
   pub seat : IsSeatAfter before at edits now
+  pub zone : LeavesZone before now request answer
+  pub counts : AnswerCountsWork before.front now.front request answer
 
 -- a picture of a strip: its answer, and the seat then
 pub record StripAnswer (A : Type 0) : Type 0 where
