@@ -1,5 +1,5 @@
 -- Drafts: changes of a movie that a conversation gathers before it makes them as one step, and the answers to lines meanwhile.
-use Rattle.std.specs.Prelude.{codes, ◌≡◌, ℕ, ◌+◌, ◌-◌, ◌≤◌, ◌==◌, List, [], ◌∷◌, length, take, drop, reverse, min, if◌then◌else◌, ◌⊎◌}
+use Rattle.std.specs.Prelude.{codes, ◌≡◌, ℕ, ◌+◌, ◌-◌, ◌<◌, ◌≤◌, ◌==◌, List, [], ◌∷◌, length, take, drop, reverse, min, if◌then◌else◌, ◌⊎◌}
 use Rattle.std.specs.List.{flat_map}
 use Rattle.vcs_machine.specs.declared.input.Input.{Input}
 use Rattle.tas_movie.specs.Content.{MovieContent}
@@ -156,6 +156,14 @@ pub record IsStroke {A : Type 0} (base new : MovieContent) (edits : List (Edit A
   pub begins : IsCommonFront base.inputs new.inputs front
   pub ends : IsCommonFront (reverse (drop front base.inputs)) (reverse (drop front new.inputs)) back
   pub edits_are : edits ≡ stroke_of A front (inner_inputs front back base.inputs) (inner_inputs front back new.inputs)
+
+-- making one movie of another puts inputs in: between the inputs with which both begin and those with which the rests end, the new one has some
+pub record PutsIn (base new : MovieContent) : Type 0 where
+  pub front : ℕ
+  pub back : ℕ
+  pub begins : IsCommonFront base.inputs new.inputs front
+  pub ends : IsCommonFront (reverse (drop front base.inputs)) (reverse (drop front new.inputs)) back
+  pub some : 0 < length (inner_inputs front back new.inputs)
 
 -- one movie allows the edits, one after the other, and they make the other movie of it
 abbrev pub LeadsTo : {A : Type 0} → MovieContent → List (Edit A) → MovieContent → Type 0
