@@ -171,7 +171,7 @@ impl<A: Allocator + Copy> Draft<A> {
         ensures { IsDraftChanged self.old self.new asked result }
     {
         let at = self.edits();
-        let Ok(edit) = Plan::<A>::edit(&asked, alloc, self.movie()) else {
+        let Ok(edit) = asked.edit_in(alloc, self.movie()) else {
             return Reply::OutOfMemory;
         };
         self.make(&edit);
