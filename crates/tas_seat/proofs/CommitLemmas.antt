@@ -44,7 +44,7 @@ began_as_pictures draft last from (shown ∷ strip) is =
 
 pub began_as : (draft next : DraftContent) (request : Request) (answer : List ℕ) → IsDraftAnswered draft request answer next → BeganAs draft next
 began_as draft next (Do (Load image)) answer (told, is) = record { at = ap (λ (d : DraftContent). d.at) is; base = ap (λ (d : DraftContent). d.base) is }
-began_as draft next (Do (EditLine change)) answer is = began_as_in draft next (Do (EditLine change)) answer is
+began_as draft next (Do (EditLine change)) answer is = began_as_in draft next (Do (EditLine change)) answer is.0
 began_as draft next (Do Length) answer is = began_as_in draft next (Do Length) answer is
 began_as draft next (Do (InputAt k)) answer is = began_as_in draft next (Do (InputAt k)) answer is
 began_as draft next (Do (Shot k)) answer is = began_as_in draft next (Do (Shot k)) answer is

@@ -1,17 +1,19 @@
 -- Changes of drafts, and lines of a script at drafts.
 use Rattle.std.proofs.Common.{◌≡◌, ℕ, ◌+◌, ◌≤◌, List, [], ◌∷◌, length, min, filter, Bool, true, false, Option, Some, None, inl, inr, refl, sym, ap, subst, ◌∙◌, arith}
-use Rattle.std.specs.Prelude.{◌==◌, if◌then◌else◌, slice_get}
+use Rattle.std.specs.Prelude.{◌==◌, ◌⊎◌, if◌then◌else◌, slice_get}
 use Rattle.std.proofs.lemmas.Bool.{eq-eqb, eqb-true}
 use Rattle.std.proofs.lemmas.Option.{slice_get_past}
 use Rattle.vcs_machine.specs.declared.input.Input.{Input}
 use Rattle.tas_movie.specs.Content.{MovieContent}
 use Rattle.tas_movie.specs.declared.edit.Edit.{Edit}
 use Rattle.tas_movie.specs.declared.edit.EditRefusal.{EditRefusal}
+use Rattle.tas_movie.specs.declared.edit.EditRefusal.TheVariants.{Place, Long}
 use Rattle.tas_movie.specs.Edit.{edited, edited_unless, edited_place, refusal}
 use Rattle.tas_green.specs.declared.savestate.Savestate.{Savestate}
 use Rattle.tas_green.specs.Green.{is_left, IsReachedFrom}
 use Rattle.tas_session.specs.History.{most_edits}
 use Rattle.tas_session.specs.Session.{left_by}
+use Rattle.tas_engines.specs.Changes.{edit_of, BringsCopies}
 use Rattle.tas_engines.specs.Retouching.{taken_by, retouch_with}
 use Rattle.tas_language.specs.declared.change.Change.{Change as ChangeLine}
 use Rattle.tas_language.specs.declared.change.Change.TheVariants.{Insert, Replace, Delete}
@@ -19,15 +21,15 @@ use Rattle.tas_language.specs.declared.retouch.Retouch.{Retouch as RetouchLine}
 use Rattle.tas_language.specs.declared.retouch.Retouch.TheVariants.{Press, Release, Repeat, Copy}
 use Rattle.tas_language.specs.declared.command.Command.TheVariants.{Edit as EditCommand, Length, InputAt, Work}
 use Rattle.tas_language.specs.declared.reply.Reply.{Reply}
-use Rattle.tas_language.specs.declared.reply.Reply.TheVariants.{Edited, Full, Measured, Pressed, NoFrame, Worked, OutOfMemory}
+use Rattle.tas_language.specs.declared.reply.Reply.TheVariants.{Edited, Full, Place as PlaceReply, Long as LongReply, Measured, Pressed, NoFrame, Worked, OutOfMemory}
 use Rattle.tas_language.specs.Replies.{reply_text}
 use Rattle.tas_language.specs.declared.request.Request.TheVariants.{Do, Retouch as RetouchRequest}
 use Rattle.tas_seat.specs.declared.edit_requests.EditRequest.{EditRequest}
 use Rattle.tas_seat.specs.declared.edit_requests.EditRequest.TheVariants.{Load, Change, Retouch}
-use Rattle.tas_seat.specs.Turns.{Standing, refused_reply, refusal_reply, input_reply}
+use Rattle.tas_seat.specs.Turns.{Standing, refused_reply, refusal_reply, edit_reply, standing_unless, input_reply}
 use Rattle.tas_seat.specs.Requests.{Gains}
-use Rattle.tas_seat.specs.Drafts.{DraftContent, draft_standing, draft_state, left_by_edits}
-use Rattle.tas_seat.specs.Inside.EditRequests.{requested_refusal, requested_edit}
+use Rattle.tas_seat.specs.Drafts.{DraftContent, draft_standing, draft_state, left_by_edits, IsDraftEdit}
+use Rattle.tas_seat.specs.Inside.EditRequests.{requested_refusal, requested_edit, TakesMemory}
 use Rattle.tas_seat.specs.Outcomes.{IsTurnOf}
 use Rattle.tas_seat.specs.Inside.Drafting.{with_states, draft_after, KeepsCart, IsDraftChanged, IsDraftReply}
 use Rattle.tas_seat.proofs.SeatLemmas.{made_none, made_all}
@@ -73,9 +75,11 @@ asked_cart A asked movie edit keeps is =
 
 -- nothing was changed
 unchanged : (before : DraftContent) (asked : EditRequest) (reply : Reply)
-    → IsTurnOf (draft_standing before) (requested_refusal asked before.movie) (requested_edit (Unit {0}) asked before.movie) reply (draft_standing before) → IsDraftChanged before before asked reply
-unchanged before asked reply turn = record {
+    → IsTurnOf (draft_standing before) (requested_refusal asked before.movie) (requested_edit (Unit {0}) asked before.movie) reply (draft_standing before) → (reply ≡ OutOfMemory → TakesMemory asked)
+    → IsDraftChanged before before asked reply
+unchanged before asked reply turn memory = record {
   turn = turn;
+  memory = memory;
   at = refl;
   base = refl;
   states = ap (λ (l : List (Edit (Unit {0}))). left_by_edits before.movie l before.states) (made_none (draft_standing before) (draft_standing before) (requested_edit (Unit {0}) asked before.movie ∷ []) refl);
@@ -91,12 +95,17 @@ refused_as_movie made refused room = go (made == most_edits) refl
     go true e = absurd (room (eqb-true made most_edits e))
     go false e = refl
 
+refused_not_memory : (at : ℕ) (refused : EditRefusal) (reply : Reply) → refusal_reply at (Some refused) ≡ Some reply → reply ≡ OutOfMemory → ⊥
+refused_not_memory at (Place place len) reply says e = let no : ◌≡◌ {A = Option Reply} (Some (PlaceReply at len)) (Some OutOfMemory) = says ∙ ap Some e in cc no
+refused_not_memory at (Long len) reply says e = let no : ◌≡◌ {A = Option Reply} (Some (LongReply at len)) (Some OutOfMemory) = says ∙ ap Some e in cc no
+
 pub change_full : (before : DraftContent) (asked : EditRequest) (at : ℕ) → at ≡ before.at + before.made → at ≡ most_edits → IsDraftChanged before before asked (Full at)
 change_full before asked at is full =
     let edit = requested_edit (Unit {0}) asked before.movie in
     unchanged before asked (Full at)
     (turn_refused (draft_standing before) (requested_refusal asked before.movie) (requested_edit (Unit {0}) asked before.movie) (Full at)
     (refused_as_full (before.at + before.made) (requested_refusal asked before.movie) (sym is ∙ full) ∙ ap (λ (n : ℕ). Some (Full n)) (sym is)))
+    (λ e. absurd (cc e))
 
 pub change_refused : (before : DraftContent) (asked : EditRequest) (at : ℕ) (refused : EditRefusal) (reply : Reply) → at ≡ before.at + before.made → (at ≡ most_edits → ⊥) → requested_refusal asked before.movie ≡ Some refused
     → refusal_reply at (Some refused) ≡ Some reply → IsDraftChanged before before asked reply
@@ -105,14 +114,16 @@ change_refused before asked at refused reply is room found says =
     (turn_refused (draft_standing before) (requested_refusal asked before.movie) (requested_edit (Unit {0}) asked before.movie) reply
     (refused_as_movie (before.at + before.made) (requested_refusal asked before.movie) (λ (e : before.at + before.made ≡ most_edits). room (is ∙ e))
     ∙ ap (refusal_reply (before.at + before.made)) found ∙ ap (λ (n : ℕ). refusal_reply n (Some refused)) (sym is) ∙ says))
+    (λ e. absurd (refused_not_memory at refused reply says e))
 
 pub not_refused : (before : DraftContent) (asked : EditRequest) (at : ℕ) → at ≡ before.at + before.made → (at ≡ most_edits → ⊥) → requested_refusal asked before.movie ≡ None → refused_reply (before.at + before.made) (requested_refusal asked before.movie) ≡ None
 not_refused before asked at is room free =
     refused_as_movie (before.at + before.made) (requested_refusal asked before.movie) (λ (e : before.at + before.made ≡ most_edits). room (is ∙ e)) ∙ ap (refusal_reply (before.at + before.made)) free
 
-pub change_without_memory : (before : DraftContent) (asked : EditRequest) (at : ℕ) → at ≡ before.at + before.made → (at ≡ most_edits → ⊥) → requested_refusal asked before.movie ≡ None → IsDraftChanged before before asked OutOfMemory
-change_without_memory before asked at is room free =
+pub change_without_memory : (before : DraftContent) (asked : EditRequest) (at : ℕ) → at ≡ before.at + before.made → (at ≡ most_edits → ⊥) → requested_refusal asked before.movie ≡ None → TakesMemory asked → IsDraftChanged before before asked OutOfMemory
+change_without_memory before asked at is room free takes =
     unchanged before asked OutOfMemory (turn_without_memory (draft_standing before) (requested_refusal asked before.movie) (requested_edit (Unit {0}) asked before.movie) (not_refused before asked at is room free))
+    (λ e. takes)
 
 pub change_made : (A : Type 0) (before now : DraftContent) (asked : EditRequest) (edit : Edit A) (at len : ℕ) → at ≡ before.at + before.made → (at ≡ most_edits → ⊥) → requested_refusal asked before.movie ≡ None → edit ≡ requested_edit A asked before.movie
     → now ≡ draft_after before edit → len ≡ length now.movie.inputs → IsDraftChanged before now asked (Edited (at + 1) len)
@@ -137,6 +148,7 @@ change_made A before now asked edit at len is room free edit_is made long =
         ap (λ (n : ℕ). Edited (n + 1) len) is ∙ ap (Edited (before.at + before.made + 1)) size ∙ turn.1,
         stands ∙ turn.2,
       );
+      memory = λ e. absurd (cc e);
       at = ap (λ (d : DraftContent). d.at) made;
       base = ap (λ (d : DraftContent). d.base) made;
       states =
@@ -147,11 +159,24 @@ change_made A before now asked edit at len is room free edit_is made long =
 
 -- ---- lines
 
+-- a change that isn't answered `out of memory` is answered and made as where none is refused
+change_edit : (before now : DraftContent) (change : ChangeLine) (reply : Reply) → IsDraftChanged before now (Change change) reply → IsDraftEdit before change (reply_text reply) now
+change_edit before now change reply e = go (refused_reply (before.at + before.made) (refusal before.movie (edit_of change))) e.turn.0 e.turn.1 e.turn.2
+  where
+    go : (r : Option Reply) (no_memory : Bool) → reply ≡ edit_reply r no_memory (before.at + before.made) (length (edited before.movie (edit_of change)).inputs) → draft_standing now ≡ standing_unless r no_memory (draft_standing before) (edit_of change)
+        → BringsCopies change ⊎ ((reply_text reply ≡ reply_text (edit_reply r false (before.at + before.made) (length (edited before.movie (edit_of change)).inputs))) × (draft_standing now ≡ standing_unless r false (draft_standing before) (edit_of change)))
+    go None true says stands = inl (e.memory says)
+    go None false says stands = inr (ap reply_text says, stands)
+    go (Some refused) no_memory says stands = inr (ap reply_text says, stands)
+
 pub change_answered : (before now : DraftContent) (change : ChangeLine) (reply : Reply) → IsDraftChanged before now (Change change) reply → IsDraftReply before now (Do (EditCommand change)) reply
 change_answered before now change reply e = (
-  record { stands = draft_standing now; kept_for = before.movie; states = before.states },
-  (reply, (unforeseen e.turn.0, e.turn.1, e.turn.2), refl, record { kept_for = refl; states = refl }),
-  record { at = e.at; base = e.base; stands = refl; states = e.states },
+  (
+    record { stands = draft_standing now; kept_for = before.movie; states = before.states },
+    (reply, (unforeseen e.turn.0, e.turn.1, e.turn.2), refl, record { kept_for = refl; states = refl }),
+    record { at = e.at; base = e.base; stands = refl; states = e.states },
+  ),
+  change_edit before now change reply e,
 )
 
 pub retouch_answered : (before now : DraftContent) (retouch : RetouchLine) (reply : Reply) → IsDraftChanged before now (Retouch retouch) reply → IsDraftReply before now (RetouchRequest retouch) reply

@@ -14,7 +14,7 @@ use Rattle.tas_movie.specs.declared.edit.EditRefusal.{EditRefusal}
 use Rattle.tas_movie.specs.declared.edit.EditRefusal.TheVariants.{Place, Long}
 use Rattle.tas_movie.specs.Edit.{IsAllowed, edited, edited_unless, changed, spliced, place_refusal, length_refusal, insert_refusal, first_refusal}
 use Rattle.tas_session.specs.Strokes.{refusal_in, edited_by}
-use Rattle.tas_seat.specs.Drafts.{inner_inputs, stroke_of, IsStroke, LeadsTo}
+use Rattle.tas_seat.specs.Drafts.{inner_inputs, stroke_of, IsStroke, PutsIn, LeadsTo}
 use Rattle.tas_seat.specs.Inside.Drafting.{Differ}
 
 -- ---- the common end
@@ -222,19 +222,28 @@ differ base new a b front back old now begins ends = record {
   news_are = rw (← now) (inner_part b front back);
 }
 
--- where the one has inputs in the other's place the two aren't the same
-pub differ_apart : (base new : MovieContent) (front : ℕ) (olds news : List Input) → Differ base new front olds news → 0 < length news → new ≢ base
-differ_apart base new front olds news d some = λ same.
+-- something is put in where the new movie has inputs between
+pub differ_puts_in : (base new : MovieContent) (front : ℕ) (olds news : List Input) → Differ base new front olds news → 0 < length news → PutsIn base new
+differ_puts_in base new front olds news d some = record {
+  front = front;
+  back = d.back;
+  begins = d.begins;
+  ends = d.ends;
+  some = subst (λ (l : List Input). 0 < length l) d.news_are some;
+}
+
+-- where something is put in the two aren't the same
+pub puts_in_apart : (base new : MovieContent) → PutsIn base new → new ≢ base
+puts_in_apart base new puts = λ same.
     let inputs : new.inputs ≡ base.inputs = ap (λ (m : MovieContent). m.inputs) same in
     let long : length new.inputs ≡ length base.inputs = ap (λ (l : List Input). length l) inputs in
-    let past : length new.inputs ≤ front = elim (cases_lt front (length new.inputs)) [
-      | inl h ↦ absurd (d.begins.longest (omega (arith, h, long)) h (ap (λ (l : List Input). slice_get l front) (sym inputs)))
+    let past : length new.inputs ≤ puts.front = elim (cases_lt puts.front (length new.inputs)) [
+      | inl h ↦ absurd (puts.begins.longest (omega (arith, h, long)) h (ap (λ (l : List Input). slice_get l puts.front) (sym inputs)))
       | inr h ↦ h
     ] in
-    let none : length new.inputs - front - d.back ≡ 0 = omega (arith, past) in
-    let news_none : length news ≡ 0 =
-    ap (λ (l : List Input). length l) d.news_are ∙ ap (λ (n : ℕ). length (take n (drop front new.inputs))) none in
-    absurd (omega (arith, some, news_none))
+    let none : length new.inputs - puts.front - puts.back ≡ 0 = omega (arith, past) in
+    let news_none : length (inner_inputs puts.front puts.back new.inputs) ≡ 0 = ap (λ (n : ℕ). length (take n (drop puts.front new.inputs))) none in
+    absurd (omega (arith, puts.some, news_none))
 
 -- the edits that they come to
 pub differ_stroke : (A : Type 0) (base new : MovieContent) (front : ℕ) (olds news : List Input) (edits : List (Edit A)) → Differ base new front olds news → edits ≡ stroke_of A front olds news → IsStroke base new edits

@@ -1,5 +1,5 @@
 -- Drafts: changes of a movie that a conversation gathers before it makes them as one step, and the answers to lines meanwhile.
-use Rattle.std.specs.Prelude.{codes, ◌≡◌, ℕ, ◌+◌, ◌-◌, ◌≤◌, ◌==◌, List, [], ◌∷◌, length, take, drop, reverse, min, if◌then◌else◌, ◌⊎◌}
+use Rattle.std.specs.Prelude.{codes, ◌≡◌, ℕ, ◌+◌, ◌-◌, ◌<◌, ◌≤◌, ◌==◌, List, [], ◌∷◌, length, take, drop, reverse, min, false, if◌then◌else◌, ◌⊎◌}
 use Rattle.std.specs.List.{flat_map}
 use Rattle.vcs_machine.specs.declared.input.Input.{Input}
 use Rattle.tas_movie.specs.Content.{MovieContent}
@@ -11,12 +11,14 @@ use Rattle.tas_green.specs.declared.savestate.Savestate.{Savestate}
 use Rattle.tas_green.specs.Green.{IsLawful, IsReachedFrom}
 use Rattle.tas_session.specs.History.{most_edits}
 use Rattle.tas_session.specs.Session.{left_by}
-use Rattle.tas_language.specs.declared.command.Command.TheVariants.{Load, Work}
+use Rattle.tas_language.specs.declared.change.Change.{Change}
+use Rattle.tas_language.specs.declared.command.Command.TheVariants.{Load, Edit as EditLine, Work}
 use Rattle.tas_language.specs.declared.reply.Reply.TheVariants.{Worked, OutOfMemory}
 use Rattle.tas_language.specs.Replies.{reply_text}
 use Rattle.tas_language.specs.declared.request.Request.{Request}
 use Rattle.tas_language.specs.declared.request.Request.TheVariants.{Do, Picture, Pictures, Movie, States, Share, History, Begin, Commit, Drop, Quit}
-use Rattle.tas_seat.specs.Turns.{Standing}
+use Rattle.tas_engines.specs.Changes.{edit_of, BringsCopies}
+use Rattle.tas_seat.specs.Turns.{Standing, reply_to_edit, standing_after_edit}
 use Rattle.tas_seat.specs.Edits.{requested_edits, made_between}
 use Rattle.tas_seat.specs.Requests.{TalkState, IsAnswerTo}
 
@@ -93,12 +95,19 @@ IsDraftWork draft k answer draft' =
     ⊎ ((kept ran : ℕ) × (answer ≡ reply_text (Worked 1 kept 0)) × (length draft'.states ≡ length draft.states + kept)
     × IsReachedFrom draft.movie draft.movie (min k (length draft.movie.inputs)) draft.states draft'.states 0 ran)
 
+-- memory is asked for only where a change brings copies of an input: a deletion is answered and made as where none is refused
+abbrev pub IsDraftEdit : DraftContent → Change → List ℕ → DraftContent → Type 0
+IsDraftEdit draft change answer draft' =
+    BringsCopies change
+    ⊎ ((answer ≡ reply_text (reply_to_edit false (draft_standing draft) (edit_of change))) × (draft_standing draft' ≡ standing_after_edit false (draft_standing draft) (edit_of change)))
+
 -- a request is answered at a draft. A draft has the cartridge of the movie that it began with, so a line that loads one has no place in
 -- it. `movie` and `states` leave its greenzone. `history` and `share` are about the desk, and `begin`, `commit`, `drop` and `quit` about the conversation
 abbrev pub IsDraftAnswered : DraftContent → Request → List ℕ → DraftContent → Type 0
 IsDraftAnswered draft (Do (Load image)) answer draft' = (answer ≡ in_draft_text) × (draft' ≡ draft)
 IsDraftAnswered draft (Pictures from to) answer draft' =
     (strip : List DraftPicture) × (length strip ≡ to - from) × AreDraftPictures draft from strip draft' × (answer ≡ draft_pictures strip)
+IsDraftAnswered draft (Do (EditLine change)) answer draft' = IsAnsweredInDraft draft (Do (EditLine change)) answer draft' × IsDraftEdit draft change answer draft'
 IsDraftAnswered draft (Do (Work k)) answer draft' = IsAnsweredInDraft draft (Do (Work k)) answer draft' × IsDraftWork draft k answer draft'
 IsDraftAnswered draft Movie answer draft' = IsAnsweredInDraft draft Movie answer draft' × (draft'.states ≡ draft.states)
 IsDraftAnswered draft States answer draft' = IsAnsweredInDraft draft States answer draft' × (draft'.states ≡ draft.states)
@@ -156,6 +165,14 @@ pub record IsStroke {A : Type 0} (base new : MovieContent) (edits : List (Edit A
   pub begins : IsCommonFront base.inputs new.inputs front
   pub ends : IsCommonFront (reverse (drop front base.inputs)) (reverse (drop front new.inputs)) back
   pub edits_are : edits ≡ stroke_of A front (inner_inputs front back base.inputs) (inner_inputs front back new.inputs)
+
+-- making one movie of another puts inputs in: between the inputs with which both begin and those with which the rests end, the new one has some
+pub record PutsIn (base new : MovieContent) : Type 0 where
+  pub front : ℕ
+  pub back : ℕ
+  pub begins : IsCommonFront base.inputs new.inputs front
+  pub ends : IsCommonFront (reverse (drop front base.inputs)) (reverse (drop front new.inputs)) back
+  pub some : 0 < length (inner_inputs front back new.inputs)
 
 -- one movie allows the edits, one after the other, and they make the other movie of it
 abbrev pub LeadsTo : {A : Type 0} → MovieContent → List (Edit A) → MovieContent → Type 0

@@ -1,11 +1,11 @@
 //! A draft: changes of a movie that a conversation gathers before it makes them as one step.
 
-ghost use Rattle.std.specs.Prelude.{◌≡◌, ◌≢◌, ◌≤◌, ◌<◌, ◌+◌, Some, None, IfOk, OnErr};
+ghost use Rattle.std.specs.Prelude.{◌≡◌, ◌≤◌, ◌<◌, ◌+◌, Some, None, IfOk, OnErr};
 ghost use Rattle.tas_movie.specs.Edit.{IsAllowed, edited};
 ghost use Rattle.tas_seat.specs.Turns.{refusal_reply};
 ghost use Rattle.tas_green.specs.Green.{IsLawful};
 ghost use Rattle.tas_session.specs.History.{most_edits};
-ghost use Rattle.tas_seat.specs.Drafts.{IsDraft, fresh_draft, draft_standing, IsStroke, LeadsTo, HasStroke};
+ghost use Rattle.tas_seat.specs.Drafts.{IsDraft, fresh_draft, draft_standing, IsStroke, PutsIn, LeadsTo, HasStroke};
 ghost use Rattle.tas_session.specs.Strokes.{edits_of};
 ghost use Rattle.tas_seat.specs.Inside.EditRequests.{requested_refusal};
 ghost use Rattle.tas_seat.specs.Inside.Drafting.{draft_after, KeepsCart, IsDraftChanged};
@@ -143,13 +143,14 @@ impl<A: Allocator> Draft<A> {
 
 impl<A: Allocator + Copy> Draft<A> {
     /// The edits that turn the movie as it was when the draft began into the movie as it would be: the inputs with which both begin, and
-    /// of the rest those with which both end, are left alone. `AllocError` where memory is refused.
+    /// of the rest those with which both end, are left alone. `AllocError` where memory is refused, which is asked for only where inputs
+    /// are put in.
     pub fn stroke(&self, alloc: A) -> Result<Stroke<A>, AllocError>
         ensures stroke { IfOk result
             (λ stroke. IsStroke self.now.base self.now.movie (edits_of stroke)) }
         ensures leads { IfOk result
             (λ stroke. LeadsTo self.now.base (edits_of stroke) self.now.movie) }
-        ensures memory { OnErr result (self.now.movie ≢ self.now.base) }
+        ensures memory { OnErr result (PutsIn self.now.base self.now.movie) }
     {
         stroke_between(alloc, self.base(), self.movie())
     }
@@ -170,7 +171,7 @@ impl<A: Allocator + Copy> Draft<A> {
         ensures { IsDraftChanged self.old self.new asked result }
     {
         let at = self.edits();
-        let Ok(edit) = Plan::<A>::edit(&asked, alloc, self.movie()) else {
+        let Ok(edit) = asked.edit_in(alloc, self.movie()) else {
             return Reply::OutOfMemory;
         };
         self.make(&edit);

@@ -1,10 +1,10 @@
 //! What a draft comes to: the edits that make one movie of another.
 
-ghost use Rattle.std.specs.Prelude.{◌≡◌, ◌≢◌, ◌<◌, ◌≤◌, ℕ, IfOk, OnErr, length, reverse};
+ghost use Rattle.std.specs.Prelude.{◌≡◌, ◌<◌, ◌≤◌, ℕ, IfOk, OnErr, length, reverse};
 ghost use Rattle.tas_movie.specs.Content.{most_inputs};
 ghost use Rattle.tas_movie.specs.Front.{IsCommonFront};
 ghost use Rattle.tas_session.specs.Strokes.{edits_of};
-ghost use Rattle.tas_seat.specs.Drafts.{stroke_of, IsStroke, LeadsTo, HasStroke};
+ghost use Rattle.tas_seat.specs.Drafts.{stroke_of, IsStroke, PutsIn, LeadsTo, HasStroke};
 ghost use Rattle.tas_seat.specs.Inside.Drafting.{Differ};
 
 use std::alloc::{AllocError, Allocator};
@@ -94,7 +94,8 @@ pub(crate) fn stroke_len<A: Allocator>(base: &Movie<A>, movie: &Movie<A>) -> u64
 }
 
 /// The edits that make one movie of another with the same cartridge: the inputs with which both begin, and of the rest those with which
-/// both end, are left alone. `AllocError` where memory is refused, which two equal movies don't ask for.
+/// both end, are left alone. `AllocError` where memory is refused, which is asked for only where inputs are put in: two equal movies don't
+/// ask for it, nor does a deletion.
 pub fn stroke_between<A: Allocator, B: Allocator>(
     alloc: A,
     base: &Movie<B>,
@@ -103,7 +104,7 @@ pub fn stroke_between<A: Allocator, B: Allocator>(
     requires { movie.now.cart ≡ base.now.cart }
     ensures stroke { IfOk result (λ stroke. IsStroke base.now movie.now (edits_of stroke)) }
     ensures leads { IfOk result (λ stroke. LeadsTo base.now (edits_of stroke) movie.now) }
-    ensures memory { OnErr result (movie.now ≢ base.now) }
+    ensures memory { OnErr result (PutsIn base.now movie.now) }
 {
     let (front, olds, news) = differing(base, movie);
     stroke_at(alloc, front, olds, news)

@@ -1,7 +1,9 @@
 //! The edits that lines ask for.
 
-ghost use Rattle.std.specs.Prelude.{◌≡◌, MatchResult};
+ghost use Rattle.std.specs.Prelude.{◌≡◌, None, IfOk, OnErr, MatchResult};
+ghost use Rattle.tas_movie.specs.Edit.{IsAllowed};
 ghost use Rattle.tas_engines.specs.declared.fault.RunFault.TheVariants.{Foreign};
+ghost use Rattle.tas_seat.specs.Inside.EditRequests.{requested_refusal, requested_edit, TakesMemory};
 ghost use Rattle.tas_seat.specs.Outcomes.{refused_as, IsEditAnswered, IsMiscounted};
 
 use std::alloc::{AllocError, Allocator};
@@ -23,6 +25,30 @@ pub enum EditRequest {
     Retouch(Retouch),
 }
 
+impl EditRequest {
+    /// The edit in a movie that allows it. `AllocError` where memory is refused, which a `delete` line doesn't ask for.
+    pub(crate) fn edit_in<A: Allocator>(
+        &self,
+        alloc: A,
+        movie: &Movie<A>,
+    ) -> Result<Edit<A>, AllocError>
+        requires { requested_refusal self.now movie.now ≡ None }
+        ensures edit { IfOk result (λ edit. edit ≡ requested_edit A self.now movie.now) }
+        ensures allowed { IsAllowed movie.now (requested_edit A self.now movie.now) }
+        ensures memory { OnErr result (TakesMemory self.now) }
+    {
+        match self {
+            // An image has the size of a cartridge, so only memory can be refused.
+            EditRequest::Load(image) => match Cart::from_bytes(alloc, image.bytes()) {
+                Ok(cart) => Ok(Edit::Load(cart)),
+                Err(_) => Err(AllocError),
+            },
+            EditRequest::Change(change) => edit_of(alloc, *change),
+            EditRequest::Retouch(retouch) => retouch_edit(alloc, movie.inputs(), *retouch),
+        }
+    }
+}
+
 impl<A: Allocator> Plan<A> for EditRequest {
     ghost use Rattle.tas_seat.specs.Inside.EditRequests.{requested_refusal, requested_edit};
 
@@ -39,15 +65,7 @@ impl<A: Allocator> Plan<A> for EditRequest {
     }
 
     fn edit(&self, alloc: A, movie: &Movie<A>) -> Result<Edit<A>, AllocError> {
-        match self {
-            // An image has the size of a cartridge, so only memory can be refused.
-            EditRequest::Load(image) => match Cart::from_bytes(alloc, image.bytes()) {
-                Ok(cart) => Ok(Edit::Load(cart)),
-                Err(_) => Err(AllocError),
-            },
-            EditRequest::Change(change) => edit_of(alloc, *change),
-            EditRequest::Retouch(retouch) => retouch_edit(alloc, movie.inputs(), *retouch),
-        }
+        self.edit_in(alloc, movie)
     }
 }
 

@@ -19,13 +19,14 @@ use Rattle.tas_session.specs.Answers.{answer_shot}
 use Rattle.tas_engines.specs.declared.fault.RunFault.{RunFault}
 use Rattle.tas_engines.specs.declared.fault.RunFault.TheVariants.{Memory}
 use Rattle.tas_language.specs.declared.reply.Reply.{Reply}
+use Rattle.tas_language.specs.declared.reply.Reply.TheVariants.{OutOfMemory}
 use Rattle.tas_language.specs.Replies.{reply_text}
 use Rattle.tas_language.specs.declared.request.Request.{Request}
 use Rattle.tas_seat.specs.declared.edit_requests.EditRequest.{EditRequest}
 use Rattle.tas_seat.specs.declared.edit_requests.EditRequest.TheVariants.{Load, Change, Retouch}
 use Rattle.tas_seat.specs.Edits.{made_between}
 use Rattle.tas_seat.specs.Drafts.{DraftContent, draft_standing, left_by_edits, inner_inputs, IsDraftAnswered, IsDraftUnanswered}
-use Rattle.tas_seat.specs.Inside.EditRequests.{requested_refusal, requested_edit}
+use Rattle.tas_seat.specs.Inside.EditRequests.{requested_refusal, requested_edit, TakesMemory}
 use Rattle.tas_seat.specs.Outcomes.{IsTurnOf}
 
 -- the draft with other states
@@ -42,9 +43,10 @@ KeepsCart (Load image) = ⊥
 KeepsCart (Change change) = Unit {0}
 KeepsCart (Retouch retouch) = Unit {0}
 
--- an edit that a line asks for is answered at a draft
+-- an edit that a line asks for is answered at a draft, `out of memory` only where it takes memory
 pub record IsDraftChanged (before now : DraftContent) (asked : EditRequest) (reply : Reply) : Type 0 where
   pub turn : IsTurnOf (draft_standing before) (requested_refusal asked before.movie) (requested_edit (Unit {0}) asked before.movie) reply (draft_standing now)
+  pub memory : reply ≡ OutOfMemory → TakesMemory asked
   pub at : now.at ≡ before.at
   pub base : now.base ≡ before.base
   pub states : now.states ≡ left_by_edits before.movie (made_between (draft_standing before) (draft_standing now) (requested_edit (Unit {0}) asked before.movie ∷ [])) before.states

@@ -5,7 +5,7 @@ use Rattle.tas_movie.specs.declared.edit.Edit.{Edit}
 use Rattle.tas_movie.specs.declared.edit.EditRefusal.{EditRefusal}
 use Rattle.tas_movie.specs.Edit.{refusal}
 use Rattle.tas_language.specs.Commands.{image_bytes}
-use Rattle.tas_engines.specs.Changes.{edit_on, edit_of}
+use Rattle.tas_engines.specs.Changes.{edit_on, edit_of, BringsCopies}
 use Rattle.tas_engines.specs.Retouching.{retouch_on, retouch_refusal}
 use Rattle.tas_seat.specs.declared.edit_requests.EditRequest.{EditRequest}
 use Rattle.tas_seat.specs.declared.edit_requests.EditRequest.TheVariants.{Load, Change, Retouch}
@@ -22,3 +22,9 @@ abbrev pub requested_edit : (A : Type 0) → EditRequest → MovieContent → Ed
 requested_edit A (Load image) movie = load_on A (image_bytes image)
 requested_edit A (Change change) movie = edit_on A change
 requested_edit A (Retouch retouch) movie = retouch_on A movie.inputs retouch
+
+-- an edit for which memory is asked: any but a deletion
+abbrev pub TakesMemory : EditRequest → Type 0
+TakesMemory (Load image) = Unit {0}
+TakesMemory (Change change) = BringsCopies change
+TakesMemory (Retouch retouch) = Unit {0}

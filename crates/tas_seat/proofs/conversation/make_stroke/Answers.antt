@@ -1,5 +1,6 @@
 use Rattle.std.proofs.lemmas.Result.{err_from_is_err_and}
 use Rattle.tas_seat.proofs.ConversationLemmas.{still_at, moved_first, full_first, refused_first, made_at, moved_at, refusal_said, refusal_fault}
+use Rattle.tas_seat.proofs.StrokeLemmas.{puts_in_apart}
 use Rattle.tas_seat.proofs.conversation.make_stroke.Goals as goal
 
 pub returns-in-Some : goal.returns-in-Some
@@ -13,7 +14,8 @@ returns-then-at-count-gt-MAX_EDITS g c =
 
 pub returns-in_default-stroke : goal.returns-in_default-stroke
 returns-in_default-stroke g c =
-    refused_first g.row.A.Denot c.args.seat.now c.moved_from.new.seat c.args.opened.now c.stroke_len-count.result c.at-at.result c.in_ok-at.field-0 c.in_ok-at.ensures c.in_default.is c.stroke_len-count.ensures.stroke c.in_default-stroke.ensures.memory
+    refused_first g.row.A.Denot c.args.seat.now c.moved_from.new.seat c.args.opened.now c.stroke_len-count.result c.at-at.result c.in_ok-at.field-0 c.in_ok-at.ensures c.in_default.is c.stroke_len-count.ensures.stroke
+    (puts_in_apart c.args.opened.now.base c.args.opened.now.movie c.in_default-stroke.ensures.memory)
     c.at-at.ensures.at c.if-at-count-gt-MAX_EDITS.false
 
 pub returns-in-Ok-commit : goal.returns-in-Ok-commit

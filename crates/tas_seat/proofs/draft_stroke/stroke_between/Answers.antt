@@ -1,5 +1,5 @@
 use Rattle.std.proofs.lemmas.Result.{IfOk-weaker, on_err_weaker}
-use Rattle.tas_seat.proofs.StrokeLemmas.{differ_stroke, differ_leads, differ_apart}
+use Rattle.tas_seat.proofs.StrokeLemmas.{differ_stroke, differ_leads, differ_puts_in}
 use Rattle.tas_seat.proofs.draft_stroke.stroke_between.Goals as goal
 
 pub returns-clause-stroke : goal.returns-clause-stroke
@@ -12,4 +12,4 @@ returns-clause-leads g c =
 
 pub returns-clause-memory : goal.returns-clause-memory
 returns-clause-memory g c =
-    on_err_weaker c.stroke_at.result (λ some. differ_apart c.args.base.now c.args.movie.now _ _ _ c.differing-front.ensures.differ some) c.stroke_at.ensures.memory
+    on_err_weaker c.stroke_at.result (λ some. differ_puts_in c.args.base.now c.args.movie.now _ _ _ c.differing-front.ensures.differ some) c.stroke_at.ensures.memory
