@@ -40,9 +40,18 @@ replies_to_all stands [] = []
 replies_to_all stands (turn ∷ turns) =
     reply_text (reply_to turn.unforeseen stands turn.command) ++ replies_to_all (standing_after turn.unforeseen stands turn.command) turns
 
+-- the first line says a command
+pub record IsClear (bytes : List ℕ) : Type 0 where
+  pub said : List ℕ
+  pub more : List ℕ
+  pub command : Command
+  pub whole : NoByte 10 said
+  pub text : bytes ≡ said ++ 10 ∷ more
+  pub says : Says said command
+
 -- the first line isn't understood, or no newline ends it
 abbrev pub IsUnclear : List ℕ → Type 0
-IsUnclear bytes = (said more : List ℕ) (command : Command) → NoByte 10 said → bytes ≡ said ++ 10 ∷ more → Says said command → ⊥
+IsUnclear bytes = IsClear bytes → ⊥
 
 -- some lines were read, and the rest wasn't
 pub record Reads (bytes : List ℕ) (turns : List Turn) (rest : List ℕ) : Type 0 where
@@ -50,12 +59,13 @@ pub record Reads (bytes : List ℕ) (turns : List Turn) (rest : List ℕ) : Type
   pub said : AreSaid turns
 
 -- why the lines after some are not answered: the next one isn't understood, and its number is reported; or there was no place on
--- the desk, before the first line; or memory or a reader's entry was refused. That a desk has another's edit is no cause
+-- the desk, before the first line; or memory was refused, before the first line or at one that is understood; or a reader's entry
+-- was refused, at one that is understood. That a desk has another's edit is no cause
 abbrev pub IsStop : List ℕ → List Turn → RunFault → Type 0
 IsStop rest turns (Script number) = (number ≡ length turns + 1) × (0 < length rest) × IsUnclear rest
 IsStop rest turns NoPlace = turns ≡ []
-IsStop rest turns Memory = Unit {0}
-IsStop rest turns NoEntry = 0 < length rest
+IsStop rest turns Memory = (turns ≡ []) ⊎ IsClear rest
+IsStop rest turns NoEntry = IsClear rest
 IsStop rest turns _ = ⊥
 
 -- the replies to a script that goes on from these own edits, and how it ends: all lines are answered, or the first ones up to a fault
