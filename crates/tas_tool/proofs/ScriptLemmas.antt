@@ -23,7 +23,7 @@ use Rattle.tas_seat.specs.Turns.{Standing, standing_of, reply_to, standing_after
 use Rattle.tas_seat.specs.Seats.{IsAnswered}
 use Rattle.tas_seat.specs.Outcomes.{IsUnanswered}
 use Rattle.tas_seat.proofs.HistoryLemmas.{Leaves, leaves_after, leaves_same, leaves_seen}
-use Rattle.tas_tool.specs.Scripts.{Turn, turn_line, AreSaid, standing_after_all, replies_to_all, IsClear, IsUnclear, IsStop, Reads, Answers, standing_at_start, EndsWithReplies, RunsScript, IsScriptRun}
+use Rattle.tas_tool.specs.Scripts.{Turn, turn_line, AreSaid, standing_after_all, replies_to_all, IsClear, IsUnclear, IsStop, Reads, Answers, AnswersFrom, EndsWithReplies, RunsScript, IsScriptRun}
 use Rattle.byte_text.proofs.SplitLemmas.{no_parts, same_front}
 use Rattle.tas_tool.specs.Inside.Alone.{SeesOwn}
 use Rattle.tas_tool.proofs.AloneLemmas.{at_front, seen_after}
@@ -109,16 +109,14 @@ reads_all bytes (b ∷ rest) turns none reads = absurd (omega arith)
 
 -- ---- the engine
 
--- no line is answered
+-- there is no desk for it
 pub nothing_answered : (bytes : List ℕ) (old : Option (List ℕ)) → RunsScript bytes old old (Err Memory)
-nothing_answered bytes old = inl ([], ([], bytes, reads_none bytes, sym (begun standing_at_start).1, inl refl), Appends-nil old)
+nothing_answered bytes old = inl ([], inl (refl, tt), Appends-nil old)
 
--- no line is answered yet
-pub unanswered : (bytes text : List ℕ) → text ≡ [] → Answers standing_at_start bytes text (Err Memory)
-unanswered bytes text is = ([], bytes, reads_none bytes, is ∙ sym (begun standing_at_start).1, inl refl)
-
-pub unplaced : (bytes text : List ℕ) → text ≡ [] → Answers standing_at_start bytes text (Err NoPlace)
-unplaced bytes text is = ([], bytes, reads_none bytes, is ∙ sym (begun standing_at_start).1, refl)
+-- the lines are answered from so much on
+pub answered_from : (start own : Standing) (bytes text : List ℕ) (end : Result (Unit {0}) RunFault) → own ≡ start → Answers own bytes text end → AnswersFrom start bytes text end
+answered_from start own bytes text (Ok u) at answers = subst (λ (f : Standing). Answers f bytes text (Ok u)) at answers
+answered_from start own bytes text (Err fault) at answers = inr (subst (λ (f : Standing). Answers f bytes text (Err fault)) at answers)
 
 -- ---- a command on a desk of one seat
 

@@ -1,4 +1,4 @@
-use Rattle.std.proofs.Common.{◌≡◌, ◌<◌, ◌++◌, ◌∷◌, [], length, inr, refl, sym, ◌∙◌, arith, rules}
+use Rattle.std.proofs.Common.{◌≡◌, ◌<◌, ◌++◌, ◌∷◌, [], length, refl, sym, ◌∙◌, arith, rules}
 use Rattle.std.proofs.lemmas.Bool.{eqb-true, eqb-false}
 use Rattle.std.proofs.lemmas.Result.{err_from_is_err_and}
 use Rattle.tas_seat.specs.Turns.{Standing, standing_of}
@@ -66,7 +66,7 @@ returns-in_err-words-clause-answers g c = λ own.
     let mid = sees_before c.loop-rest.seat c.reply_to_command.new.seat after.0 after.1 own in
     let (turns, a) = i.answered mid in
     let p = err_from_is_err_and c.from_residual-in_err-words.result c.from_residual-in_err-words.ensures.1 in
-    rw (p.1, p.2) (sees_before c.args.seat.now c.loop-rest.seat i.left.0 i.left.1 mid, (turns, c.loop-rest.rest.now, a.reads, a.replies, inr clear))
+    rw (p.1, p.2) (sees_before c.args.seat.now c.loop-rest.seat i.left.0 i.left.1 mid, (turns, c.loop-rest.rest.now, a.reads, a.replies, clear))
 
 pub returns-in_err-extend_from_slice-clause-number : goal.returns-in_err-extend_from_slice-clause-number
 returns-in_err-extend_from_slice-clause-number g c = (command_leaves _ c.loop-rest.seat c.reply_to_command.new.seat c.in-Some-parse_line.command c.in_ok-reply.reply c.in_ok-reply.ensures).1.number ∙ c.loop-rest.invariant.left.1.number
@@ -80,7 +80,7 @@ returns-in_err-extend_from_slice-clause-answers g c = λ own.
     let (turns, a) = i.answered mid in
     let same : c.extend_from_slice.new.self.items ≡ c.loop-rest.text.items = search rules in
     let p = err_from_is_err_and c.from_residual-in_err-extend_from_slice.result c.from_residual-in_err-extend_from_slice.ensures.1 in
-    rw (p.1, p.2) (sees_before c.args.seat.now c.loop-rest.seat i.left.0 i.left.1 mid, (turns, c.loop-rest.rest.now, a.reads, same ∙ a.replies, inr clear))
+    rw (p.1, p.2) (sees_before c.args.seat.now c.loop-rest.seat i.left.0 i.left.1 mid, (turns, c.loop-rest.rest.now, a.reads, same ∙ a.replies, clear))
 
 pub loop-rest-smaller : goal.loop-rest-smaller
 loop-rest-smaller g c = omega (arith, split_length c.loop-rest.rest.now c.in-Some.line.now c.in-Some.after.now c.in-Some.ensures.some.0)
