@@ -1,5 +1,5 @@
 -- Scripts that start from a movie.
-use Rattle.std.proofs.Common.{◌≡◌, ℕ, ◌≤◌, List, [], length, take, Option, Result, Ok, Err, inl, inr, refl, sym, ap, subst, ◌∙◌, arith}
+use Rattle.std.proofs.Common.{◌≡◌, ℕ, ◌≤◌, List, [], length, take, Option, Result, Ok, Err, inl, inr, refl, sym, ap, ◌∙◌, arith}
 use Rattle.std.proofs.KnownBytes.{Appends-nil}
 use Rattle.std.proofs.lemmas.List.{take_all}
 use Rattle.std.specs.Io.KnownBytes.{Appends}
@@ -13,8 +13,8 @@ use Rattle.tas_engines.specs.Movies.{IsMovieOf}
 use Rattle.tas_seat.specs.Turns.{Standing, standing_of}
 use Rattle.tas_tool.specs.Inside.Alone.{SeesOwn}
 use Rattle.tas_tool.specs.Inside.TwoEdits.{HoldsMovie, IsMakingFault}
-use Rattle.tas_tool.specs.Scripts.{Answers}
-use Rattle.tas_tool.specs.MovieScripts.{standing_of_movie, IsUnmade, AnswersOver, RunsOver}
+use Rattle.tas_tool.specs.Scripts.{IsUnmade}
+use Rattle.tas_tool.specs.MovieScripts.{standing_of_movie, AnswersOver, RunsOver}
 use Rattle.tas_tool.proofs.ScriptLemmas.{written}
 
 -- a seat that holds a movie has seen all that it made
@@ -48,11 +48,6 @@ unmade_by seat (Long line) is own = absurd is
 
 pub unmade : (A : Type 0) (movie : MovieContent) (bytes text : List ℕ) (seat : SeatContent A) (fault : RunFault) → text ≡ [] → IsMakingFault seat fault → length seat.front ≤ seat.made → AnswersOver movie bytes text (Err fault)
 unmade A movie bytes text seat fault none is own = inl (none, unmade_by seat fault is own)
-
--- the lines are answered from the movie's two edits on
-pub answered_over : (movie : MovieContent) (own : Standing) (bytes text : List ℕ) (end : Result (Unit {0}) RunFault) → own ≡ standing_of_movie movie → Answers own bytes text end → AnswersOver movie bytes text end
-answered_over movie own bytes text (Ok u) at answers = subst (λ (f : Standing). Answers f bytes text (Ok u)) at answers
-answered_over movie own bytes text (Err fault) at answers = inr (subst (λ (f : Standing). Answers f bytes text (Err fault)) at answers)
 
 -- there is no desk for the movie
 pub unopened_over : (image said bytes : List ℕ) (movie : MovieContent) (old : Option (List ℕ)) → IsMovieOf image said movie → RunsOver image said bytes old old (Err Memory)

@@ -1,5 +1,5 @@
 -- Whole scripts.
-use Rattle.std.proofs.Common.{◌≡◌, ℕ, ◌+◌, ◌<◌, ◌≤◌, List, [], ◌∷◌, ◌++◌, length, Option, Result, Ok, Err, inl, inr, refl, sym, ap, subst, ◌∙◌, arith, append_assoc, length-append}
+use Rattle.std.proofs.Common.{◌≡◌, ℕ, ◌+◌, ◌≤◌, List, [], ◌∷◌, ◌++◌, length, Option, Result, Ok, Err, inl, inr, refl, sym, ap, subst, ◌∙◌, arith, append_assoc, length-append}
 use Rattle.std.proofs.lemmas.List.{append-nil}
 use Rattle.std.specs.List.{flat_map}
 use Rattle.std.specs.Io.KnownBytes.{Appends}
@@ -23,7 +23,7 @@ use Rattle.tas_seat.specs.Turns.{Standing, standing_of, reply_to, standing_after
 use Rattle.tas_seat.specs.Seats.{IsAnswered}
 use Rattle.tas_seat.specs.Outcomes.{IsUnanswered}
 use Rattle.tas_seat.proofs.HistoryLemmas.{Leaves, leaves_after, leaves_same, leaves_seen}
-use Rattle.tas_tool.specs.Scripts.{Turn, turn_line, AreSaid, standing_after_all, replies_to_all, IsUnclear, IsStop, Reads, Answers, standing_at_start, EndsWithReplies, RunsScript, IsScriptRun}
+use Rattle.tas_tool.specs.Scripts.{Turn, turn_line, AreSaid, standing_after_all, replies_to_all, IsClear, IsUnclear, IsStop, Reads, Answers, AnswersFrom, EndsWithReplies, RunsScript, IsScriptRun}
 use Rattle.byte_text.proofs.SplitLemmas.{no_parts, same_front}
 use Rattle.tas_tool.specs.Inside.Alone.{SeesOwn}
 use Rattle.tas_tool.proofs.AloneLemmas.{at_front, seen_after}
@@ -88,14 +88,17 @@ replies_answered start old turns turn reply before words after at is text line p
     ∙ ap (λ (l : List ℕ). replies_to_all start turns ++ l) (line ∙ ap reply_text (is ∙ ap (λ (f : Standing). reply_to turn.unforeseen f turn.command) (sym at)))
     ∙ sym (replies_more start turns turn)
 
--- ---- a line that isn't understood
+-- ---- a line that is understood, and one that isn't
+
+pub clear_line : (rest first after : List ℕ) (command : Command) → rest ≡ first ++ 10 ∷ after → NoByte 10 first → Says first command → IsClear rest
+clear_line rest first after command is none says = record { said = first; more = after; command = command; whole = none; text = is; says = says }
 
 pub unclear_unsplit : (rest : List ℕ) → NoByte 10 rest → IsUnclear rest
-unclear_unsplit rest none = λ said more command n is says. no_parts 10 said more (subst (NoByte 10) is none)
+unclear_unsplit rest none = λ clear. no_parts 10 clear.said clear.more (subst (NoByte 10) clear.text none)
 
 pub unclear_line : (rest first after : List ℕ) → rest ≡ first ++ 10 ∷ after → NoByte 10 first → ((command : Command) → Says first command → ⊥) → IsUnclear rest
-unclear_line rest first after is none never = λ said more command n is' says.
-    never command (subst (λ (s : List ℕ). Says s command) (same_front 10 said first more after n none (sym is' ∙ is)).0 says)
+unclear_line rest first after is none never = λ clear.
+    never clear.command (subst (λ (s : List ℕ). Says s clear.command) (same_front 10 clear.said first clear.more after clear.whole none (sym clear.text ∙ is)).0 clear.says)
 
 pub split_length : (rest a b : List ℕ) → rest ≡ a ++ 10 ∷ b → length b + 1 ≤ length rest
 split_length rest a b is = rw is (omega (arith, length-append a (10 ∷ b)))
@@ -106,16 +109,14 @@ reads_all bytes (b ∷ rest) turns none reads = absurd (omega arith)
 
 -- ---- the engine
 
--- no line is answered
+-- there is no desk for it
 pub nothing_answered : (bytes : List ℕ) (old : Option (List ℕ)) → RunsScript bytes old old (Err Memory)
-nothing_answered bytes old = inl ([], ([], bytes, reads_none bytes, sym (begun standing_at_start).1, tt), Appends-nil old)
+nothing_answered bytes old = inl ([], inl (refl, tt), Appends-nil old)
 
--- no line is answered yet
-pub unanswered : (bytes text : List ℕ) → text ≡ [] → Answers standing_at_start bytes text (Err Memory)
-unanswered bytes text is = ([], bytes, reads_none bytes, is ∙ sym (begun standing_at_start).1, tt)
-
-pub unplaced : (bytes text : List ℕ) → text ≡ [] → Answers standing_at_start bytes text (Err NoPlace)
-unplaced bytes text is = ([], bytes, reads_none bytes, is ∙ sym (begun standing_at_start).1, refl)
+-- the lines are answered from so much on
+pub answered_from : (start own : Standing) (bytes text : List ℕ) (end : Result (Unit {0}) RunFault) → own ≡ start → Answers own bytes text end → AnswersFrom start bytes text end
+answered_from start own bytes text (Ok u) at answers = subst (λ (f : Standing). Answers f bytes text (Ok u)) at answers
+answered_from start own bytes text (Err fault) at answers = inr (subst (λ (f : Standing). Answers f bytes text (Err fault)) at answers)
 
 -- ---- a command on a desk of one seat
 
@@ -146,24 +147,24 @@ unanswered_leaves before now (Long line) is = absurd is
 unanswered_leaves before now NoPlace is = absurd is
 unanswered_leaves before now Memory is = absurd is
 
--- and stops the script, where the seat has seen just its own edits
-pub desk_stop : {A : Type 0} (before now : SeatContent A) (fault : RunFault) (turns : List Turn) (rest : List ℕ) → 0 < length rest → IsUnanswered before now fault → before.made ≤ length before.front → SeesOwn now → IsStop rest turns fault
-desk_stop {A} before now Foreign turns rest some is seen own =
+-- and stops the script at a line that is understood, where the seat has seen just its own edits
+pub desk_stop : {A : Type 0} (before now : SeatContent A) (fault : RunFault) (turns : List Turn) (rest : List ℕ) → IsClear rest → IsUnanswered before now fault → before.made ≤ length before.front → SeesOwn now → IsStop rest turns fault
+desk_stop {A} before now Foreign turns rest clear is seen own =
     let counted : entries_of now.number now.front ≡ length now.front = ap (λ (n : ℕ). entries_of n now.front) own.number ∙ own.alone in
     absurd (is.other (omega (arith, counted, own.few, seen_after before now [] (leaves_seen before now is.seen) seen)))
-desk_stop before now NoEntry turns rest some is seen own = some
-desk_stop before now (Write written) turns rest some is seen own = absurd is
-desk_stop before now (Size n) turns rest some is seen own = absurd is
-desk_stop before now (Text error) turns rest some is seen own = absurd is
-desk_stop before now (OffMovie frame len) turns rest some is seen own = absurd is
-desk_stop before now (OffRange from to len) turns rest some is seen own = absurd is
-desk_stop before now (Stopped at opcode) turns rest some is seen own = absurd is
-desk_stop before now (StoppedFrame frame at opcode) turns rest some is seen own = absurd is
-desk_stop before now (Script line) turns rest some is seen own = absurd is
-desk_stop before now (Place line) turns rest some is seen own = absurd is
-desk_stop before now (Long line) turns rest some is seen own = absurd is
-desk_stop before now NoPlace turns rest some is seen own = absurd is
-desk_stop before now Memory turns rest some is seen own = absurd is
+desk_stop before now NoEntry turns rest clear is seen own = clear
+desk_stop before now (Write written) turns rest clear is seen own = absurd is
+desk_stop before now (Size n) turns rest clear is seen own = absurd is
+desk_stop before now (Text error) turns rest clear is seen own = absurd is
+desk_stop before now (OffMovie frame len) turns rest clear is seen own = absurd is
+desk_stop before now (OffRange from to len) turns rest clear is seen own = absurd is
+desk_stop before now (Stopped at opcode) turns rest clear is seen own = absurd is
+desk_stop before now (StoppedFrame frame at opcode) turns rest clear is seen own = absurd is
+desk_stop before now (Script line) turns rest clear is seen own = absurd is
+desk_stop before now (Place line) turns rest clear is seen own = absurd is
+desk_stop before now (Long line) turns rest clear is seen own = absurd is
+desk_stop before now NoPlace turns rest clear is seen own = absurd is
+desk_stop before now Memory turns rest clear is seen own = absurd is
 
 -- ---- the replies
 

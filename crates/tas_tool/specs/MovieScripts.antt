@@ -1,16 +1,15 @@
 -- Scripts that start from a movie.
-use Rattle.std.specs.Prelude.{◌≡◌, ℕ, List, [], ◌∷◌, Option, Result, Ok, Err, ◌⊎◌}
+use Rattle.std.specs.Prelude.{ℕ, List, [], ◌∷◌, Option, Result, Ok, Err, ◌⊎◌}
 use Rattle.std.specs.Io.KnownBytes.{Keeps}
 use Rattle.tas_movie.specs.Content.{MovieContent}
 use Rattle.tas_movie.specs.declared.edit.Edit.{Edit}
 use Rattle.tas_movie.specs.declared.edit.Edit.TheVariants.{Load, Insert}
 use Rattle.tas_engines.specs.declared.fault.RunFault.{RunFault}
-use Rattle.tas_engines.specs.declared.fault.RunFault.TheVariants.{NoPlace, Memory}
 use Rattle.tas_engines.specs.declared.fault.ToolFault.{ToolFault}
 use Rattle.tas_engines.specs.Movies.{IsMovieOf, IsMovieFault}
 use Rattle.tas_engines.specs.ThreeInputs.{EndsAfterThree}
 use Rattle.tas_seat.specs.Turns.{Standing}
-use Rattle.tas_tool.specs.Scripts.{Answers, EndsWithReplies}
+use Rattle.tas_tool.specs.Scripts.{AnswersFrom, EndsWithReplies}
 
 -- a movie is made by two edits: its cartridge is loaded, then its inputs are put in
 abbrev pub edits_of_movie : (A : Type 0) → MovieContent → List (Edit A)
@@ -20,17 +19,9 @@ edits_of_movie A movie = Load movie.cart ∷ Insert 0 movie.inputs ∷ []
 abbrev pub standing_of_movie : MovieContent → Standing
 standing_of_movie movie = record { movie = movie; made = 2 }
 
--- why a desk wasn't given its movie: there was no place on it, or memory was refused
-abbrev pub IsUnmade : RunFault → Type 0
-IsUnmade NoPlace = Unit {0}
-IsUnmade Memory = Unit {0}
-IsUnmade _ = ⊥
-
--- the replies to a script that starts from a movie, and how it ends: the movie isn't made, and there are none; or they are
--- those from its two edits on
+-- the replies to a script that starts from a movie, and how it ends
 abbrev pub AnswersOver : MovieContent → List ℕ → List ℕ → Result (Unit {0}) RunFault → Type 0
-AnswersOver movie bytes text (Ok u) = Answers (standing_of_movie movie) bytes text (Ok u)
-AnswersOver movie bytes text (Err fault) = ((text ≡ []) × IsUnmade fault) ⊎ Answers (standing_of_movie movie) bytes text (Err fault)
+AnswersOver movie bytes text end = AnswersFrom (standing_of_movie movie) bytes text end
 
 -- how a script ends that was read with a cartridge and a movie's text: there is no such movie, and nothing is written; or it
 -- is answered from the movie on

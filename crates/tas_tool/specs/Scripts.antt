@@ -40,28 +40,48 @@ replies_to_all stands [] = []
 replies_to_all stands (turn ∷ turns) =
     reply_text (reply_to turn.unforeseen stands turn.command) ++ replies_to_all (standing_after turn.unforeseen stands turn.command) turns
 
+-- the first line says a command
+pub record IsClear (bytes : List ℕ) : Type 0 where
+  pub said : List ℕ
+  pub more : List ℕ
+  pub command : Command
+  pub whole : NoByte 10 said
+  pub text : bytes ≡ said ++ 10 ∷ more
+  pub says : Says said command
+
 -- the first line isn't understood, or no newline ends it
 abbrev pub IsUnclear : List ℕ → Type 0
-IsUnclear bytes = (said more : List ℕ) (command : Command) → NoByte 10 said → bytes ≡ said ++ 10 ∷ more → Says said command → ⊥
+IsUnclear bytes = IsClear bytes → ⊥
 
 -- some lines were read, and the rest wasn't
 pub record Reads (bytes : List ℕ) (turns : List Turn) (rest : List ℕ) : Type 0 where
   pub text : bytes ≡ flat_map turn_line turns ++ rest
   pub said : AreSaid turns
 
--- why the lines after some are not answered: the next one isn't understood, and its number is reported; or there was no place on
--- the desk, before the first line; or memory or a reader's entry was refused. That a desk has another's edit is no cause
+-- why the lines after some are not answered: the next one isn't understood, and its number is reported; or it is understood, and
+-- memory or a reader's entry was refused. That a desk has another's edit is no cause
 abbrev pub IsStop : List ℕ → List Turn → RunFault → Type 0
 IsStop rest turns (Script number) = (number ≡ length turns + 1) × (0 < length rest) × IsUnclear rest
-IsStop rest turns NoPlace = turns ≡ []
-IsStop rest turns Memory = Unit {0}
-IsStop rest turns NoEntry = 0 < length rest
+IsStop rest turns Memory = IsClear rest
+IsStop rest turns NoEntry = IsClear rest
 IsStop rest turns _ = ⊥
 
 -- the replies to a script that goes on from these own edits, and how it ends: all lines are answered, or the first ones up to a fault
 abbrev pub Answers : Standing → List ℕ → List ℕ → Result (Unit {0}) RunFault → Type 0
 Answers start bytes text (Ok _) = (turns : List Turn) × Reads bytes turns [] × (text ≡ replies_to_all start turns)
 Answers start bytes text (Err fault) = (turns : List Turn) × (rest : List ℕ) × Reads bytes turns rest × (text ≡ replies_to_all start turns) × IsStop rest turns fault
+
+-- why a script has no desk, or none with its movie: there was no place on it, or memory was refused
+abbrev pub IsUnmade : RunFault → Type 0
+IsUnmade NoPlace = Unit {0}
+IsUnmade Memory = Unit {0}
+IsUnmade _ = ⊥
+
+-- the replies to a script on a desk of its own that begins with this, and how it ends: there is no such desk, and no reply; or the
+-- lines are answered from there on
+abbrev pub AnswersFrom : Standing → List ℕ → List ℕ → Result (Unit {0}) RunFault → Type 0
+AnswersFrom start bytes text (Ok u) = Answers start bytes text (Ok u)
+AnswersFrom start bytes text (Err fault) = ((text ≡ []) × IsUnmade fault) ⊎ Answers start bytes text (Err fault)
 
 -- nothing is made yet
 abbrev pub standing_at_start : Standing
@@ -85,7 +105,7 @@ EndsWithReplies answers old new (Err fault) = WritesReplies answers old new (Err
 
 -- how a script that was read ends
 abbrev pub RunsScript : List ℕ → Option (List ℕ) → Option (List ℕ) → Result (Unit {0}) RunFault → Type 0
-RunsScript bytes old new end = EndsWithReplies (Answers standing_at_start bytes) old new end
+RunsScript bytes old new end = EndsWithReplies (AnswersFrom standing_at_start bytes) old new end
 
 -- `tas script`, from what the reader has and the writer holds before to what they have and hold afterwards
 abbrev pub IsScriptRun : (input input' output output' : Option (List ℕ)) → Result (Unit {0}) ToolFault → Type 0

@@ -3,7 +3,7 @@
 ghost use Rattle.std.specs.Prelude.{◌≡◌, ◌≤◌, [], length};
 ghost use Rattle.tas_desk.specs.Seats.{name_of};
 ghost use Rattle.tas_seat.specs.Turns.{standing_of};
-ghost use Rattle.tas_tool.specs.Scripts.{standing_at_start, Answers, RunsScript, IsScriptRun};
+ghost use Rattle.tas_tool.specs.Scripts.{standing_at_start, Answers, AnswersFrom, RunsScript, IsScriptRun};
 ghost use Rattle.tas_tool.specs.Inside.Alone.{SeesOwn};
 
 use crate::opening::open_alone;
@@ -17,8 +17,8 @@ use tas_engines::{RunFault, ToolFault, read_input, write_all};
 use tas_language::{parse_line, reply_line};
 use tas_seat::reply_to_command;
 
-/// Does what the lines ask for, and puts the replies into the empty text. `Foreign` comes only where the seat has seen more than its own
-/// edits.
+/// Does what the lines ask for, and puts the replies into the empty text. `Memory` and `NoEntry` come only at a line that is understood,
+/// and `Foreign` only where the seat has seen more than its own edits.
 pub fn answer_lines<N: Name, W: CloseOnDrop, A: Allocator + Copy, R: Wait>(
     rt: &R,
     alloc: A,
@@ -64,7 +64,7 @@ fn answer_script<N: Name, A: Allocator + Copy, R: Wait>(
     requires name { unopened ≡ name_of N.registry N.name N.parts }
     requires one { unopened.seats ≡ 1 }
     requires empty { text.old.items ≡ [] }
-    ensures { Answers standing_at_start bytes.now text.new.items result }
+    ensures { AnswersFrom standing_at_start bytes.now text.new.items result }
 {
     let (desk, mut seats) = open_alone::<N, A, R>(rt, alloc, unopened)?;
     let seat = &mut seats.as_mut_slice()[0];
@@ -94,9 +94,9 @@ fn run_script<A: Allocator + Copy, R: Wait, W: Write>(
 /// Reads a script and writes a reply for each of its lines, up to the first line that isn't understood. The script
 /// runs on a desk of one seat.
 ///
-/// Faults: those of [`read_input`] with nothing written; `NoPlace` with nothing written; `Script` with the line's number,
-/// `NoEntry` and `Memory`, with the replies to the lines before written; `Write` with the first bytes of the replies written,
-/// and how many. `Foreign` would report an edit that isn't the script's own, and never comes.
+/// Faults: those of [`read_input`] with nothing written; `NoPlace`, and `Memory` before the first line, with nothing written; `Script`
+/// with the line's number, and `NoEntry` and `Memory` at a line that is understood, with the replies to the lines before written; `Write`
+/// with the first bytes of the replies written, and how many. `Foreign` would report an edit that isn't the script's own, and never comes.
 pub fn script_run<A: Allocator + Copy, T: Wait, R: Read, W: Write>(
     rt: &T,
     alloc: A,

@@ -1,7 +1,7 @@
 use Rattle.std.proofs.Common.{◌≡◌, ◌∙◌, length, refl, sym, ap, inl, arith}
 use Rattle.std.proofs.lemmas.Result.{err_from_is_err_and}
 use Rattle.std.specs.Prelude.{slice_get}
-use Rattle.tas_tool.specs.MovieScripts.{IsUnmade}
+use Rattle.tas_tool.specs.Scripts.{IsUnmade}
 use Rattle.tas_tool.proofs.OneSeatLemmas.{either_fault, first_of, fresh_first, whole_alone, sees_alone, written_back}
 use Rattle.tas_tool.proofs.movie_scripting.answer_over.Goals as goal
 

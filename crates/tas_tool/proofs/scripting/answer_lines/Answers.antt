@@ -5,7 +5,7 @@ use Rattle.tas_seat.specs.Turns.{Standing, standing_of}
 use Rattle.tas_seat.proofs.HistoryLemmas.{leaves_same, leaves_more}
 use Rattle.tas_tool.specs.Scripts.{Turn}
 use Rattle.tas_tool.proofs.AloneLemmas.{sees_before, seen_after}
-use Rattle.tas_tool.proofs.ScriptLemmas.{reads_none, begun, reads_more, standing_answered, replies_answered, count_more, unclear_unsplit, unclear_line, split_length, reads_all, command_leaves, command_turn, unanswered_leaves, desk_stop}
+use Rattle.tas_tool.proofs.ScriptLemmas.{reads_none, begun, reads_more, standing_answered, replies_answered, count_more, clear_line, unclear_unsplit, unclear_line, split_length, reads_all, command_leaves, command_turn, unanswered_leaves, desk_stop}
 use Rattle.tas_tool.proofs.scripting.answer_lines.Goals as goal
 
 pub loop-rest-init : goal.loop-rest-init
@@ -45,14 +45,14 @@ returns-in_err-reply-clause-number g c = (unanswered_leaves c.loop-rest.seat c.r
 pub returns-in_err-reply-clause-answers : goal.returns-in_err-reply-clause-answers
 returns-in_err-reply-clause-answers g c = λ own.
     let i = c.loop-rest.invariant in
-    let some : 0 < length c.loop-rest.rest.now = omega (arith, eqb-false _ _ (sym c.is_empty.ensures ∙ c.loop-rest-test.true)) in
+    let clear = clear_line c.loop-rest.rest.now c.in-Some.line.now c.in-Some.after.now c.in-Some-parse_line.command c.in-Some.ensures.some.0 c.in-Some.ensures.some.1 c.in-Some-parse_line.ensures.some in
     let mid = sees_before c.loop-rest.seat c.reply_to_command.new.seat [] (unanswered_leaves c.loop-rest.seat c.reply_to_command.new.seat c.in_err-reply.field-0.0 c.in_err-reply.ensures.answer) own in
     let seen = seen_after c.args.seat.now c.loop-rest.seat i.left.0 i.left.1 c.requires.seen in
     let (turns, a) = i.answered mid in
     let p = err_from_is_err_and c.from_residual.result c.from_residual.ensures.1 in
     rw (p.1, p.2) (
       sees_before c.args.seat.now c.loop-rest.seat i.left.0 i.left.1 mid,
-      (turns, c.loop-rest.rest.now, a.reads, a.replies, desk_stop c.loop-rest.seat c.reply_to_command.new.seat c.in_err-reply.field-0.0 turns c.loop-rest.rest.now some c.in_err-reply.ensures.answer seen own),
+      (turns, c.loop-rest.rest.now, a.reads, a.replies, desk_stop c.loop-rest.seat c.reply_to_command.new.seat c.in_err-reply.field-0.0 turns c.loop-rest.rest.now clear c.in_err-reply.ensures.answer seen own),
     )
 
 pub returns-in_err-words-clause-number : goal.returns-in_err-words-clause-number
@@ -61,11 +61,12 @@ returns-in_err-words-clause-number g c = (command_leaves _ c.loop-rest.seat c.re
 pub returns-in_err-words-clause-answers : goal.returns-in_err-words-clause-answers
 returns-in_err-words-clause-answers g c = λ own.
     let i = c.loop-rest.invariant in
+    let clear = clear_line c.loop-rest.rest.now c.in-Some.line.now c.in-Some.after.now c.in-Some-parse_line.command c.in-Some.ensures.some.0 c.in-Some.ensures.some.1 c.in-Some-parse_line.ensures.some in
     let after = command_leaves _ c.loop-rest.seat c.reply_to_command.new.seat c.in-Some-parse_line.command c.in_ok-reply.reply c.in_ok-reply.ensures.answer in
     let mid = sees_before c.loop-rest.seat c.reply_to_command.new.seat after.0 after.1 own in
     let (turns, a) = i.answered mid in
     let p = err_from_is_err_and c.from_residual-in_err-words.result c.from_residual-in_err-words.ensures.1 in
-    rw (p.1, p.2) (sees_before c.args.seat.now c.loop-rest.seat i.left.0 i.left.1 mid, (turns, c.loop-rest.rest.now, a.reads, a.replies, tt))
+    rw (p.1, p.2) (sees_before c.args.seat.now c.loop-rest.seat i.left.0 i.left.1 mid, (turns, c.loop-rest.rest.now, a.reads, a.replies, clear))
 
 pub returns-in_err-extend_from_slice-clause-number : goal.returns-in_err-extend_from_slice-clause-number
 returns-in_err-extend_from_slice-clause-number g c = (command_leaves _ c.loop-rest.seat c.reply_to_command.new.seat c.in-Some-parse_line.command c.in_ok-reply.reply c.in_ok-reply.ensures.answer).1.number ∙ c.loop-rest.invariant.left.1.number
@@ -73,12 +74,13 @@ returns-in_err-extend_from_slice-clause-number g c = (command_leaves _ c.loop-re
 pub returns-in_err-extend_from_slice-clause-answers : goal.returns-in_err-extend_from_slice-clause-answers
 returns-in_err-extend_from_slice-clause-answers g c = λ own.
     let i = c.loop-rest.invariant in
+    let clear = clear_line c.loop-rest.rest.now c.in-Some.line.now c.in-Some.after.now c.in-Some-parse_line.command c.in-Some.ensures.some.0 c.in-Some.ensures.some.1 c.in-Some-parse_line.ensures.some in
     let after = command_leaves _ c.loop-rest.seat c.reply_to_command.new.seat c.in-Some-parse_line.command c.in_ok-reply.reply c.in_ok-reply.ensures.answer in
     let mid = sees_before c.loop-rest.seat c.reply_to_command.new.seat after.0 after.1 own in
     let (turns, a) = i.answered mid in
     let same : c.extend_from_slice.new.self.items ≡ c.loop-rest.text.items = search rules in
     let p = err_from_is_err_and c.from_residual-in_err-extend_from_slice.result c.from_residual-in_err-extend_from_slice.ensures.1 in
-    rw (p.1, p.2) (sees_before c.args.seat.now c.loop-rest.seat i.left.0 i.left.1 mid, (turns, c.loop-rest.rest.now, a.reads, same ∙ a.replies, tt))
+    rw (p.1, p.2) (sees_before c.args.seat.now c.loop-rest.seat i.left.0 i.left.1 mid, (turns, c.loop-rest.rest.now, a.reads, same ∙ a.replies, clear))
 
 pub loop-rest-smaller : goal.loop-rest-smaller
 loop-rest-smaller g c = omega (arith, split_length c.loop-rest.rest.now c.in-Some.line.now c.in-Some.after.now c.in-Some.ensures.some.0)

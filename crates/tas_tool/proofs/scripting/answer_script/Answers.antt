@@ -1,9 +1,9 @@
-use Rattle.std.proofs.Common.{◌≡◌, ◌∙◌, length, refl, ap, sym, subst, Err, arith}
+use Rattle.std.proofs.Common.{◌≡◌, ◌∙◌, length, refl, ap, sym, inl, arith}
 use Rattle.std.proofs.lemmas.Result.{err_from_is_err_and}
 use Rattle.std.specs.Prelude.{slice_get}
-use Rattle.tas_tool.specs.Scripts.{standing_at_start, Answers}
+use Rattle.tas_tool.specs.Scripts.{standing_at_start, IsUnmade}
 use Rattle.tas_tool.proofs.OneSeatLemmas.{either_fault, first_of, fresh_seen, fresh_standing, fresh_first, whole_alone, sees_alone, written_back}
-use Rattle.tas_tool.proofs.ScriptLemmas.{unanswered, unplaced}
+use Rattle.tas_tool.proofs.ScriptLemmas.{answered_from}
 use Rattle.tas_tool.proofs.scripting.answer_script.Goals as goal
 
 pub answer_lines-end-requires-clause-seen : goal.answer_lines-end-requires-clause-seen
@@ -23,8 +23,7 @@ pub returns-in_err-desk : goal.returns-in_err-desk
 returns-in_err-desk g c =
     let p = err_from_is_err_and c.from_residual.result c.from_residual.ensures.1 in
     rw (p.1, p.2)
-    (either_fault (λ fault. Answers standing_at_start c.args.bytes.now c.args.text.now.items (Err fault)) _ c.in_err-desk.ensures.fault (unanswered c.args.bytes.now c.args.text.now.items c.requires.empty)
-    (unplaced c.args.bytes.now c.args.text.now.items c.requires.empty))
+    (inl (c.requires.empty, either_fault IsUnmade _ c.in_err-desk.ensures.fault tt tt))
 
 pub returns : goal.returns
 returns g c =
@@ -33,7 +32,7 @@ returns g c =
     let alone = written_back c.as_mut_slice.result.now _ _ c.answer_lines-end.new.seat c.in_ok-desk.seats.len one (sym lent.len ∙ one) refl in
     let is = (first_of c.as_mut_slice.result.now _ c.index-as_mut_slice-0.result (ap (λ l. slice_get l 0) c.as_mut_slice.ensures.value ∙ c.in_ok-desk.ensures.fresh)) in
     let nought = c.answer_lines-end.ensures.number ∙ (fresh_first _ _ is).0 in
-    subst (λ f. Answers f c.args.bytes.now c.answer_lines-end.new.text.items c.answer_lines-end.result) (fresh_standing _ _ is)
+    answered_from standing_at_start _ c.args.bytes.now c.answer_lines-end.new.text.items c.answer_lines-end.result (fresh_standing _ _ is)
     (c.answer_lines-end.ensures.answers (sees_alone _ _ c.answer_lines-end.new.seat alone c.close.ensures.seats c.close.ensures.count nought)).1
 
 pub bounds-as_mut_slice-0 : goal.bounds-as_mut_slice-0
