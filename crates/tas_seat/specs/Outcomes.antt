@@ -1,5 +1,5 @@
 -- What came of a request: an answer, or a fault. What else is here gives names to parts of an answer, for private functions.
-use Rattle.std.specs.Prelude.{◌≡◌, ℕ, ◌-◌, ◌<◌, List, [], ◌∷◌, length, Bool, Option, Some, Result, Ok, Err, ◌⊎◌}
+use Rattle.std.specs.Prelude.{◌≡◌, ℕ, ◌-◌, ◌<◌, List, [], ◌∷◌, length, Bool, Option, Some, None, Result, Ok, Err, ◌⊎◌}
 use Rattle.vcs_cpu.specs.declared.halt.Halt.{Halt}
 use Rattle.tas_movie.specs.Content.{MovieContent}
 use Rattle.tas_movie.specs.declared.edit.Edit.{Edit}
@@ -116,12 +116,13 @@ IsLook _ = ⊥
 abbrev pub HasTalkAnswer : (A : Type 0) → TalkingSeat A → TalkingSeat A → Request → List ℕ → Type 0
 HasTalkAnswer A before now request answer = (edits : List (Edit A)) × IsTalkAnswered A before.seat before.draft now request answer edits
 
--- the draft, where one is open, is as it was, and so is the seat, but that the first pictures of a strip may have been drawn
+-- no draft is open, before or after, and the seat is as it was, but that the first pictures of a strip may have been drawn
 pub record KeepsAtDesk {A : Type 0} (request : Request) (before now : TalkingSeat A) : Type 0 where
   pub seat : KeepsSeat request before.seat now.seat
-  pub draft : now.draft ≡ before.draft
+  pub draft_was : before.draft ≡ None
+  pub draft_is : now.draft ≡ None
 
--- the seat is as it was, and so is the open draft, but that the first pictures of a strip may have been drawn
+-- a draft is open: the seat is as it was, and so is the draft, but that the first pictures of a strip may have been drawn in it
 pub record KeepsInDraft {A : Type 0} (request : Request) (before now : TalkingSeat A) : Type 0 where
   pub old : DraftContent
   pub next : DraftContent
@@ -131,7 +132,7 @@ pub record KeepsInDraft {A : Type 0} (request : Request) (before now : TalkingSe
   pub kept : KeepsDraft request old next
 
 -- what a request of a conversation leaves where it isn't answered: seat and draft as they were, but that the first pictures of a strip may have
--- been drawn, at the desk or in the draft
+-- been drawn, in the draft where one is open, else at the desk
 abbrev pub KeepsTalk : {A : Type 0} → Request → TalkingSeat A → TalkingSeat A → Type 0
 KeepsTalk request before now = KeepsAtDesk request before now ⊎ KeepsInDraft request before now
 
