@@ -6,8 +6,7 @@ use Rattle.tas_movie.specs.declared.edit.Edit.{Edit}
 use Rattle.tas_desk.specs.Seats.{SeatContent, HasSeen}
 use Rattle.tas_engines.specs.declared.fault.RunFault.{RunFault}
 use Rattle.tas_engines.specs.declared.fault.RunFault.TheVariants.{NoEntry, Memory, Foreign, Write, Size, Text, NoFrame as OffMovie, Range as OffRange, Halted as Stopped, HaltedFrame as StoppedFrame, Script, Place, Long, NoPlace}
-use Rattle.tas_language.specs.declared.request.Request.{Request}
-use Rattle.tas_language.specs.declared.request.Request.TheVariants.{Do, Retouch, Picture, Pictures, Ram, Digest, Lag, Movie, States, Share, History, Begin, Commit, Drop, Quit}
+use Rattle.tas_language.specs.declared.request.Request.TheVariants.{Picture, Pictures}
 use Rattle.tas_seat.specs.Turns.{standing_of}
 use Rattle.tas_seat.specs.Seats.{IsAnsweredAt, StripAnswer, AreStrip, strip_answers}
 use Rattle.tas_seat.specs.Outcomes.{KeepsSeat, HasAnswer, HasNoAnswer}
@@ -114,21 +113,3 @@ strip_unanswered A before mid now from to frame bytes (Script line) le few shown
 strip_unanswered A before mid now from to frame bytes (Place line) le few shown is = absurd is
 strip_unanswered A before mid now from to frame bytes (Long line) le few shown is = absurd is
 strip_unanswered A before mid now from to frame bytes NoPlace le few shown is = absurd is
-
--- a request that isn't answered leaves what the seat has seen
-pub kept_seen : {A : Type 0} (before now : SeatContent A) (request : Request) → KeepsSeat request before now → HasSeen before now
-kept_seen before now (Pictures from to) (strip, few, are) = strip_seen before now from strip are
-kept_seen before now (Do command) same = seen_same before now same
-kept_seen before now (Retouch retouch) same = seen_same before now same
-kept_seen before now (Picture k) same = seen_same before now same
-kept_seen before now (Ram k) same = seen_same before now same
-kept_seen before now (Digest k) same = seen_same before now same
-kept_seen before now (Lag a b) same = seen_same before now same
-kept_seen before now Movie same = seen_same before now same
-kept_seen before now States same = seen_same before now same
-kept_seen before now Share same = seen_same before now same
-kept_seen before now (History from) same = seen_same before now same
-kept_seen before now Begin same = seen_same before now same
-kept_seen before now Commit same = seen_same before now same
-kept_seen before now Drop same = seen_same before now same
-kept_seen before now Quit same = seen_same before now same
