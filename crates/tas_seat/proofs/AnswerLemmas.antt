@@ -56,21 +56,21 @@ pub shown_answered : {X A : Type 0} (before now : SeatContent A) (request : Requ
     → MatchResult r (λ bytes. HasAnswer A before now request (bytes_of bytes)) (HasNoAnswer before now request)
 shown_answered {X} {A} before now request shown r bytes_of is told = reply_or_fault (HasAnswer A before now request) (HasNoAnswer before now request) shown r bytes_of is told (λ text has. inr (text, has))
 
-pub unanswered : {A : Type 0} (before now : SeatContent A) (request : Request) (fault : RunFault) → IsUnanswered before now fault → HasNoAnswer before now request fault
-unanswered before now request NoEntry is = inl is
-unanswered before now request Foreign is = is
-unanswered before now request Memory is = absurd is
-unanswered before now request (Write written) is = absurd is
-unanswered before now request (Size n) is = absurd is
-unanswered before now request (Text error) is = absurd is
-unanswered before now request (OffMovie frame len) is = absurd is
-unanswered before now request (OffRange from to len) is = absurd is
-unanswered before now request (Stopped at opcode) is = absurd is
-unanswered before now request (StoppedFrame frame at opcode) is = absurd is
-unanswered before now request (Script line) is = absurd is
-unanswered before now request (Place line) is = absurd is
-unanswered before now request (Long line) is = absurd is
-unanswered before now request NoPlace is = absurd is
+pub unanswered : {A : Type 0} (before now : SeatContent A) (command : Command) (fault : RunFault) → IsUnanswered before now fault → HasNoAnswer before now (Do command) fault
+unanswered before now command NoEntry is = is
+unanswered before now command Foreign is = is
+unanswered before now command Memory is = absurd is
+unanswered before now command (Write written) is = absurd is
+unanswered before now command (Size n) is = absurd is
+unanswered before now command (Text error) is = absurd is
+unanswered before now command (OffMovie frame len) is = absurd is
+unanswered before now command (OffRange from to len) is = absurd is
+unanswered before now command (Stopped at opcode) is = absurd is
+unanswered before now command (StoppedFrame frame at opcode) is = absurd is
+unanswered before now command (Script line) is = absurd is
+unanswered before now command (Place line) is = absurd is
+unanswered before now command (Long line) is = absurd is
+unanswered before now command NoPlace is = absurd is
 
 pub miscounted_unanswered : {A : Type 0} (before now : SeatContent A) (request : Request) (fault : RunFault) → (fault ≡ Foreign) × IsMiscounted before now → HasNoAnswer before now request fault
 miscounted_unanswered before now request fault is = subst (HasNoAnswer before now request) (sym is.0) is.1
@@ -115,7 +115,7 @@ shown_frame movie k within = rw (lt-ltb k (length movie.inputs) within) refl
 -- a view without a picture
 pub undrawn : (A : Type 0) (before now : SeatContent A) (k : ℕ) (error : ShotError) → HasSeen before now → IsShotAt {B = A} now.front k (Err error) → IsZoneViewed {B = A} before now k (Err error)
     → MatchResult (unshown_as error) (λ reply. HasAnswer A before now (Picture k) (reply_text reply)) (HasNoAnswer before now (Picture k))
-undrawn A before now k NoShotEntry seen shown zone = inl zone
+undrawn A before now k NoShotEntry seen shown zone = zone
 undrawn A before now k (NoShotFrame at len) seen shown zone =
     told_frame A before now k false None (reply_text (NoFrame at len)) seen shown.0
     (ap (λ (n : ℕ). reply_text (NoFrame n len)) shown.1 ∙ ap (λ (n : ℕ). reply_text (NoFrame (length now.front) n)) shown.2) (rests before now now.front now.front zone) zone

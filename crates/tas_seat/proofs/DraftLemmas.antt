@@ -37,7 +37,7 @@ use Rattle.tas_language.specs.Answers.{picture_text, ram_text, lag_text, movie_t
 use Rattle.tas_seat.specs.Turns.{Standing, Unforeseen, halted_reply, shot_reply}
 use Rattle.tas_seat.specs.Edits.{requested_edits}
 use Rattle.tas_seat.specs.Requests.{TalkState, Rests, Plays, Reaches, Gains, IsAnswerTo, PictureLeaves, LookLeaves, answer_to_picture, answer_ram, answer_to_ram, answer_to_digest, drawn_digest, answer_lag, answer_to_lag, kept_frames}
-use Rattle.tas_seat.specs.Drafts.{DraftContent, draft_standing, draft_state, left_by_edits, IsAnsweredInDraft, IsDraftAnswered, IsDraftLookedAt}
+use Rattle.tas_seat.specs.Drafts.{DraftContent, draft_standing, draft_state, left_by_edits, IsAnsweredInDraft, IsDraftAnswered}
 use Rattle.tas_seat.specs.Inside.Drafting.{with_states, IsDraftPlayed, IsDraftShot, IsDraftReached, IsDraftStateFor, HasNoDraftAnswer}
 use Rattle.tas_seat.specs.Outcomes.{unshown_as, IsDigest}
 use Rattle.tas_seat.proofs.SeatLemmas.{made_none}
@@ -47,9 +47,6 @@ use Rattle.tas_seat.proofs.AnswerLemmas.{shown_frame}
 use Rattle.tas_seat.proofs.ReachLemmas.{ram_there, ram_none, shot_none, lag_there, lag_none, lag_ignored, next_place, no_next_place}
 
 -- ---- answers and faults
-
-pub looked_same : (draft : DraftContent) → IsDraftLookedAt draft draft
-looked_same draft = record { at = refl; base = refl; stands = refl }
 
 -- memory was refused for the answer of a request that was carried out
 untold : (before now : DraftContent) (request : Request) (answer : List ℕ) → IsDraftAnswered before request answer now → HasNoDraftAnswer before now request Memory

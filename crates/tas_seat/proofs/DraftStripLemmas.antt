@@ -1,18 +1,12 @@
 -- The answers at a draft to the frames of a strip, one after the other.
-use Rattle.std.proofs.Common.{◌≡◌, ℕ, suc, ◌+◌, ◌-◌, ◌≤◌, List, [], ◌∷◌, ◌++◌, length, inl, inr, refl, sym, ap, subst, ◌∙◌, arith, append_assoc}
+use Rattle.std.proofs.Common.{◌≡◌, ℕ, suc, ◌+◌, ◌-◌, ◌<◌, ◌≤◌, List, [], ◌∷◌, ◌++◌, length, inl, inr, refl, sym, ap, subst, ◌∙◌, arith, append_assoc}
+use Rattle.std.proofs.lemmas.Bool.{cases_lt}
 use Rattle.std.proofs.lemmas.List.{append-nil, length-append}
 use Rattle.tas_engines.specs.declared.fault.RunFault.{RunFault}
 use Rattle.tas_engines.specs.declared.fault.RunFault.TheVariants.{Memory}
 use Rattle.tas_language.specs.declared.request.Request.TheVariants.{Picture, Pictures}
-use Rattle.tas_seat.specs.Drafts.{DraftContent, DraftPicture, AreDraftPictures, draft_pictures, IsAnsweredInDraft, IsDraftAnswered, IsDraftLookedAt, KeepsDraft}
+use Rattle.tas_seat.specs.Drafts.{DraftContent, DraftPicture, AreDraftPictures, draft_pictures, IsAnsweredInDraft, IsDraftAnswered, KeepsDraft}
 use Rattle.tas_seat.specs.Inside.Drafting.{HasNoDraftAnswer}
-use Rattle.tas_seat.proofs.DraftLemmas.{looked_same}
-
-looked_more : (a b c : DraftContent) → IsDraftLookedAt a b → IsDraftLookedAt b c → IsDraftLookedAt a c
-looked_more a b c p q = record { at = q.at ∙ p.at; base = q.base ∙ p.base; stands = q.stands ∙ p.stands }
-
-picture_looked : (before now : DraftContent) (k : ℕ) (answer : List ℕ) → IsDraftAnswered before (Picture k) answer now → IsDraftLookedAt before now
-picture_looked before now k answer told = record { at = told.2.at; base = told.2.base; stands = told.2.stands ∙ told.1.2 }
 
 -- ---- frames from one to the one before another were answered, and these are the answers
 
@@ -21,7 +15,6 @@ pub record HasDraftShown (before now : DraftContent) (from frame : ℕ) (bytes :
   pub many : length strip ≡ frame - from
   pub are : AreDraftPictures before from strip now
   pub told : bytes ≡ draft_pictures strip
-  pub seen : IsDraftLookedAt before now
 
 no_strip : (draft : DraftContent) (from : ℕ) → AreDraftPictures draft from [] draft
 unfolding AreDraftPictures
@@ -45,7 +38,7 @@ answers_more [] shown = append-nil shown.answer
 answers_more (first ∷ strip) shown = ap (λ (bytes : List ℕ). first.answer ++ bytes) (answers_more strip shown) ∙ sym (append_assoc first.answer (draft_pictures strip) shown.answer)
 
 pub nothing_shown : (draft : DraftContent) (from : ℕ) (bytes : List ℕ) → bytes ≡ [] → HasDraftShown draft draft from from bytes
-nothing_shown draft from bytes none = record { strip = []; many = omega arith; are = no_strip draft from; told = none; seen = looked_same draft }
+nothing_shown draft from bytes none = record { strip = []; many = omega arith; are = no_strip draft from; told = none }
 
 pub shown_more : (before mid now : DraftContent) (from frame : ℕ) (bytes more next : List ℕ) → from ≤ frame → HasDraftShown before mid from frame bytes → IsDraftAnswered mid (Picture frame) more now → next ≡ bytes ++ more
     → HasDraftShown before now from (frame + 1) next
@@ -58,7 +51,6 @@ shown_more before mid now from frame bytes more next le shown told is =
       many = length-append shown.strip (one ∷ []) ∙ (let up : length shown.strip + 1 ≡ frame + 1 - from = omega (arith, many, le) in up);
       are = strip_more before mid from shown.strip one shown.are (subst (λ (n : ℕ). IsAnsweredInDraft mid (Picture n) more now) (sym at) told);
       told = is ∙ ap (λ (l : List ℕ). l ++ more) shown.told ∙ sym (answers_more shown.strip one);
-      seen = looked_more before mid now shown.seen (picture_looked mid now frame more told);
     }
 
 -- all of a strip was told
@@ -67,16 +59,26 @@ strip_answered before now from to frame bytes shown end = (shown.strip, shown.ma
 
 -- ---- a strip that isn't told
 
--- memory was refused for the strip after a picture
-pub strip_without_memory : (before mid now : DraftContent) (from to frame : ℕ) (more : List ℕ) (fault : RunFault) → fault ≡ Memory → IsDraftLookedAt before mid → IsDraftAnswered mid (Picture frame) more now → HasNoDraftAnswer before now (Pictures from to) fault
-strip_without_memory before mid now from to frame more fault is seen told = (is, inl (inr (tt, looked_more before mid now seen (picture_looked mid now frame more told))))
+-- pictures up to one before the last are the first of a strip
+first_shown : (before now : DraftContent) (from to frame : ℕ) (bytes : List ℕ) → from ≤ frame → frame < to → HasDraftShown before now from frame bytes → KeepsDraft (Pictures from to) before now
+first_shown before now from to frame bytes le few shown =
+    let many = shown.many in
+    let fewer : length shown.strip < to - from = omega (arith, many, le, few) in
+    (shown.strip, fewer, shown.are)
 
--- one picture is no strip
-kept_looked : (before now : DraftContent) (frame : ℕ) → KeepsDraft (Picture frame) before now → IsDraftLookedAt before now
-kept_looked before now frame (inl same) = subst (IsDraftLookedAt before) (sym same) (looked_same before)
-kept_looked before now frame (inr strip) = absurd strip.0
+-- memory was refused after pictures: these are the first of the strip, or all
+pub strip_without_memory : (before now : DraftContent) (from to frame : ℕ) (bytes : List ℕ) (fault : RunFault) → fault ≡ Memory → from ≤ frame → frame ≤ to → HasDraftShown before now from frame bytes → HasNoDraftAnswer before now (Pictures from to) fault
+strip_without_memory before now from to frame bytes fault is le most shown = (
+  is,
+  elim (cases_lt frame to) [
+    | inl few ↦ inl (first_shown before now from to frame bytes le few shown)
+    | inr all ↦ let end : frame - from ≡ to - from = omega (arith, most, all) in inr (bytes, strip_answered before now from to frame bytes shown end)
+  ],
+)
 
 -- a picture of it isn't told
-pub strip_unanswered : (before mid now : DraftContent) (from to frame : ℕ) (fault : RunFault) → IsDraftLookedAt before mid → HasNoDraftAnswer mid now (Picture frame) fault → HasNoDraftAnswer before now (Pictures from to) fault
-strip_unanswered before mid now from to frame fault seen (is, inl kept) = (is, inl (inr (tt, looked_more before mid now seen (kept_looked mid now frame kept))))
-strip_unanswered before mid now from to frame fault seen (is, inr told) = (is, inl (inr (tt, looked_more before mid now seen (picture_looked mid now frame told.0 told.1))))
+pub strip_unanswered : (before mid now : DraftContent) (from to frame : ℕ) (bytes : List ℕ) (fault : RunFault) → from ≤ frame → frame < to → HasDraftShown before mid from frame bytes → HasNoDraftAnswer mid now (Picture frame) fault
+    → HasNoDraftAnswer before now (Pictures from to) fault
+strip_unanswered before mid now from to frame bytes fault le few shown (is, inl same) = (is, inl (subst (KeepsDraft (Pictures from to) before) (sym same) (first_shown before mid from to frame bytes le few shown)))
+strip_unanswered before mid now from to frame bytes fault le few shown (is, inr (answer, told)) =
+    strip_without_memory before now from to (frame + 1) (bytes ++ answer) fault is (omega (arith, le)) (omega (arith, few)) (shown_more before mid now from frame bytes answer (bytes ++ answer) le shown told refl)

@@ -20,7 +20,7 @@ use Rattle.tas_seat.specs.Seats.{entries_from, IsSeatAfter, IsAnsweredAt, StripA
 use Rattle.tas_seat.specs.Conversations.{TalkingSeat, talking, LeavesSeat, IsAnsweredOutside, IsAnsweredInside, IsTalkAnswered, IsLineAnswered}
 use Rattle.tas_seat.specs.Drafts.{DraftContent}
 use Rattle.tas_seat.specs.Outcomes.{IsMiscounted}
-use Rattle.tas_seat.specs.Talk.{Exchange, IsExchange, AreExchanges, IsLeft, HasLooked, IsCarriedOut, TalkEnds, IsTalk, edits_of, all_edits}
+use Rattle.tas_seat.specs.Talk.{Exchange, IsExchange, AreExchanges, IsLeft, HasDrawn, HasLooked, IsCarriedOut, TalkEnds, IsTalk, edits_of, all_edits}
 use Rattle.tas_seat.specs.Histories.{entries_of_seat, IsInHistory}
 
 pub prefix_length : {X : Type 0} (a b : List X) (p : IsPrefix a b) → length b ≡ length a + length p.0
@@ -245,8 +245,12 @@ Rested {A} seat last edits result = IsMiscounted seat.seat last ⊎ (Leaves seat
 left_rest : {A : Type 0} (seat : TalkingSeat A) (last : SeatContent A) (edits : List (Edit A)) (result : Result (Unit {0}) ToolFault) → (result ≡ Err (Run Foreign) → ⊥) → IsLeft seat last edits → Rested seat last edits result
 left_rest {A} seat last edits result other is = inr (leaves_none seat.seat last edits is.none (leaves_same seat.seat last is.same), other)
 
-looked_rest : {A : Type 0} (seat : TalkingSeat A) (last : SeatContent A) (edits : List (Edit A)) (result : Result (Unit {0}) ToolFault) → (result ≡ Err (Run Foreign) → ⊥) → HasLooked seat last edits → Rested seat last edits result
-looked_rest {A} seat last edits result other is = inr (leaves_none seat.seat last edits is.none (leaves_seen seat.seat last is.seen), other)
+kept_leaves : {A : Type 0} (seat : TalkingSeat A) (last : SeatContent A) (rest : List ℕ) → (last ≡ seat.seat) ⊎ HasDrawn seat last rest → Leaves seat.seat last []
+kept_leaves seat last rest (inl same) = leaves_same seat.seat last same
+kept_leaves seat last rest (inr drawn) = strip_leaves seat.seat last drawn.from drawn.kept.0 drawn.kept.2
+
+looked_rest : {A : Type 0} (seat : TalkingSeat A) (last : SeatContent A) (rest : List ℕ) (edits : List (Edit A)) (result : Result (Unit {0}) ToolFault) → (result ≡ Err (Run Foreign) → ⊥) → HasLooked seat last rest edits → Rested seat last edits result
+looked_rest {A} seat last rest edits result other is = inr (leaves_none seat.seat last edits is.none (kept_leaves seat last rest is.kept), other)
 
 carried_rest : {A : Type 0} (seat : TalkingSeat A) (last : SeatContent A) (rest : List ℕ) (edits : List (Edit A)) (answer : List ℕ) (result : Result (Unit {0}) ToolFault) → (result ≡ Err (Run Foreign) → ⊥) → IsCarriedOut seat last rest edits answer
     → Rested seat last edits result
@@ -259,9 +263,9 @@ rested seat last rest told edits input output output' (Ok u) is = left_rest seat
 rested seat last rest told edits input output output' (Err (Read Failed)) is = left_rest seat last edits (Err (Read Failed)) (λ e. absurd (cc e)) is.0
 rested seat last rest told edits input output output' (Err (Run (Write written))) (answer, inl is, cut) = carried_rest seat last rest edits answer (Err (Run (Write written))) (λ e. absurd (cc e)) is
 rested seat last rest told edits input output output' (Err (Run (Write written))) (answer, inr is, cut) = left_rest seat last edits (Err (Run (Write written))) (λ e. absurd (cc e)) is.0
-rested seat last rest told edits input output output' (Err (Run Memory)) (inl is, out) = looked_rest seat last edits (Err (Run Memory)) (λ e. absurd (cc e)) is
+rested seat last rest told edits input output output' (Err (Run Memory)) (inl is, out) = looked_rest seat last rest edits (Err (Run Memory)) (λ e. absurd (cc e)) is
 rested seat last rest told edits input output output' (Err (Run Memory)) (inr is, out) = carried_rest seat last rest edits is.0 (Err (Run Memory)) (λ e. absurd (cc e)) is.1
-rested seat last rest told edits input output output' (Err (Run NoEntry)) is = looked_rest seat last edits (Err (Run NoEntry)) (λ e. absurd (cc e)) is.0
+rested seat last rest told edits input output output' (Err (Run NoEntry)) is = looked_rest seat last rest edits (Err (Run NoEntry)) (λ e. absurd (cc e)) is.0
 rested seat last rest told edits input output output' (Err (Run Foreign)) is = inl is
 rested seat last rest told edits input output output' (Err (Read TooLong)) is = absurd is
 rested seat last rest told edits input output output' (Err (Read NoRoom)) is = absurd is

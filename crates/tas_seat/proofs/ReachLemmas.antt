@@ -39,7 +39,7 @@ use Rattle.tas_language.specs.Answers.{ram_text, lag_text}
 use Rattle.tas_seat.specs.Turns.{standing_of}
 use Rattle.tas_seat.specs.Requests.{LookLeaves, answer_ram, answer_to_ram, answer_to_digest, drawn_digest, has_frames, answer_lag, answer_to_lag}
 use Rattle.tas_seat.specs.Seats.{talk_state_at, KeepsWindow}
-use Rattle.tas_seat.specs.Outcomes.{unshown_as, IsDigest, HasAnswer, HasNoAnswer}
+use Rattle.tas_seat.specs.Outcomes.{unshown_as, IsDigest, HasAnswer, KeepsSeat, HasNoAnswer}
 use Rattle.tas_seat.proofs.SeatLemmas.{rests, reaches_at, answered_here}
 use Rattle.tas_seat.proofs.AnswerLemmas.{shown_frame}
 
@@ -138,15 +138,16 @@ no_next_place k n few never =
 
 -- what a request is answered where the movie hasn't the frames, and where memory was refused
 unreached : (A : Type 0) (before now : SeatContent A) (request : Request) (from to : ℕ) (error : StateError) → HasSeen before now → IsStateFor now.front from to (Err error) → IsZoneReached before now from (Err error)
+    → (now ≡ before → KeepsSeat request before now)
     → ((from ≤ to → to ≤ length (movie_of now.front).inputs → ⊥) → now.zone ≡ before.zone → HasAnswer A before now request (reply_text (NoFrame (length now.front) (length (movie_of now.front).inputs))))
     → (from ≤ to → to ≤ length (movie_of now.front).inputs → now.zone ≡ before.zone → HasAnswer A before now request (reply_text OutOfMemory))
     → MatchResult (unshown_as (shot_error error)) (λ reply. HasAnswer A before now request (reply_text reply)) (HasNoAnswer before now request)
-unreached A before now request from to NoStateEntry seen reply zone few lost = inl zone
-unreached A before now request from to (FewFrames at len) seen reply zone few lost =
+unreached A before now request from to NoStateEntry seen reply zone kept few lost = kept zone
+unreached A before now request from to (FewFrames at len) seen reply zone kept few lost =
     subst (λ (n : ℕ). HasAnswer A before now request (reply_text (NoFrame n len))) (sym reply.0)
     (subst (λ (n : ℕ). HasAnswer A before now request (reply_text (NoFrame (length now.front) n))) (sym reply.1)
     (few (λ (order : from ≤ to) (within : to ≤ length (movie_of now.front).inputs). reply.2 order (subst (λ (n : ℕ). to ≤ n) (sym reply.1) within)) zone))
-unreached A before now request from to NoStateMemory seen reply zone few lost = lost reply.0 reply.1 zone
+unreached A before now request from to NoStateMemory seen reply zone kept few lost = lost reply.0 reply.1 zone
 
 -- another name of the error
 pub shown_as : (shown : ShotError) (error : StateError) (P : Reply → Type 0) (Q : RunFault → Type 0) → shown ≡ shot_error error → MatchResult (unshown_as (shot_error error)) P Q → MatchResult (unshown_as shown) P Q
@@ -170,7 +171,7 @@ ram_answered_as A before now k no_memory found answer seen there is leaves windo
 pub unreached_ram : (A : Type 0) (before now : SeatContent A) (k : ℕ) (error : StateError) → HasSeen before now → IsStateFor now.front k k (Err error) → IsZoneReached before now k (Err error)
     → MatchResult (unshown_as (shot_error error)) (λ reply. HasAnswer A before now (Ram k) (reply_text reply)) (HasNoAnswer before now (Ram k))
 unreached_ram A before now k error seen reply zone =
-    unreached A before now (Ram k) k k error seen reply zone
+    unreached A before now (Ram k) k k error seen reply zone (λ same. same)
     (λ never same. ram_answered_as A before now k false None _ seen (ram_none (movie_of now.front) k (past never)) refl (rests before now now.front now.front same) (inl same))
     (λ order within same. ram_answered_as A before now k true _ _ seen (ram_there (movie_of now.front) k within) refl (inl (rests before now now.front now.front same)) (inl same))
   where
@@ -209,7 +210,7 @@ pub unreached_digest : (A : Type 0) (before now : SeatContent A) (k to : ℕ) (e
     → MatchResult (unshown_as (shot_error error)) (λ reply. HasAnswer A before now (Digest k) (reply_text reply)) (HasNoAnswer before now (Digest k))
 unreached_digest A before now k to error fits next seen reply zone =
     let reply' = subst (λ (n : ℕ). IsStateFor now.front k n (Err error)) next reply in
-    unreached A before now (Digest k) k ((k + 1) % 2 ^ 64) error seen reply' zone
+    unreached A before now (Digest k) k ((k + 1) % 2 ^ 64) error seen reply' zone (λ same. same)
     (λ never same. digest_answered_as A before now k false None _ seen (shot_none (movie_of now.front) k (no_next_place k (length (movie_of now.front).inputs) (few_inputs now.front) never)) refl (rests before now now.front now.front same) (inl same))
     (λ order within same. digest_answered_as A before now k true _ _ seen (shown_frame (movie_of now.front) k (next_place k (length (movie_of now.front).inputs) fits order within)) refl (inl (rests before now now.front now.front same)) (inl same))
 
@@ -258,7 +259,7 @@ lag_answered_as A before now a b no_memory found answer seen there is leaves win
 pub unreached_lag : (A : Type 0) (before now : SeatContent A) (a b : ℕ) (error : StateError) → HasSeen before now → IsStateFor now.front a b (Err error) → IsZoneReached before now a (Err error)
     → MatchResult (unshown_as (shot_error error)) (λ reply. HasAnswer A before now (Lag a b) (reply_text reply)) (HasNoAnswer before now (Lag a b))
 unreached_lag A before now a b error seen reply zone =
-    unreached A before now (Lag a b) a b error seen reply zone
+    unreached A before now (Lag a b) a b error seen reply zone (λ same. same)
     (λ never same. lag_answered_as A before now a b false None _ seen (lag_none (movie_of now.front) a b never) refl (rests before now now.front now.front same) (inl same))
     (λ order within same. lag_answered_as A before now a b true _ _ seen (lag_there (movie_of now.front) a b order within) refl (inl (rests before now now.front now.front same)) (inl same))
 

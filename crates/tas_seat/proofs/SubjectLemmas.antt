@@ -11,7 +11,7 @@ use Rattle.tas_seat.specs.declared.conversation.Subject.TheVariants.{Begin as Ab
 use Rattle.tas_seat.specs.Drafts.{DraftContent, IsDraft, IsDraftAnswered, IsDraftUnanswered, IsAboutDesk}
 use Rattle.tas_seat.specs.Conversations.{TalkingSeat, talking}
 use Rattle.tas_seat.specs.Inside.Conversing.{subject_of}
-use Rattle.tas_seat.specs.Outcomes.{HasAnswer, HasNoAnswer, IsAboutTalk, HasTalkAnswer, HasNoTalkAnswer}
+use Rattle.tas_seat.specs.Outcomes.{HasAnswer, HasNoAnswer, KeepsSeat, KeepsTalk, IsAboutTalk, HasTalkAnswer, HasNoTalkAnswer}
 
 -- ---- what a request's subject says of it
 
@@ -106,24 +106,43 @@ movie_answered_inside A seat draft next Commit answer is told sound = absurd (cc
 movie_answered_inside A seat draft next Drop answer is told sound = absurd (cc is)
 movie_answered_inside A seat draft next Quit answer is told sound = absurd (cc is)
 
+-- what a request about the desk leaves that isn't answered, in a draft or outside one
+desk_kept : {A : Type 0} (before now : SeatContent A) (draft : Option DraftContent) (request : Request) → subject_of request ≡ AboutDesk → KeepsSeat request before now → KeepsTalk request (talking before draft) (talking now draft)
+desk_kept before now None request is kept = inl (record { seat = kept; draft_was = refl; draft_is = refl })
+desk_kept before now (Some draft) Share is same = inr (record { old = draft; next = draft; seat = same; draft_was = refl; draft_is = refl; kept = refl })
+desk_kept before now (Some draft) (History from) is same = inr (record { old = draft; next = draft; seat = same; draft_was = refl; draft_is = refl; kept = refl })
+desk_kept before now (Some draft) (Do command) is kept = absurd (cc is)
+desk_kept before now (Some draft) (Retouch retouch) is kept = absurd (cc is)
+desk_kept before now (Some draft) (Picture k) is kept = absurd (cc is)
+desk_kept before now (Some draft) (Pictures from to) is kept = absurd (cc is)
+desk_kept before now (Some draft) (Ram k) is kept = absurd (cc is)
+desk_kept before now (Some draft) (Digest k) is kept = absurd (cc is)
+desk_kept before now (Some draft) (Lag a b) is kept = absurd (cc is)
+desk_kept before now (Some draft) Movie is kept = absurd (cc is)
+desk_kept before now (Some draft) States is kept = absurd (cc is)
+desk_kept before now (Some draft) Begin is kept = absurd (cc is)
+desk_kept before now (Some draft) Commit is kept = absurd (cc is)
+desk_kept before now (Some draft) Drop is kept = absurd (cc is)
+desk_kept before now (Some draft) Quit is kept = absurd (cc is)
+
 -- why a request isn't answered outside a draft, where one that is answered is one of the conversation
 pub unanswered_talk : (A : Type 0) (before now : TalkingSeat A) (request : Request) (fault : RunFault) → ((answer : List ℕ) → HasAnswer A before.seat now.seat request answer → HasTalkAnswer A before now request answer)
-    → now.draft ≡ before.draft → HasNoAnswer before.seat now.seat request fault → HasNoTalkAnswer before now request fault
-unanswered_talk A before now request NoEntry of same is = inl (record { seat = is; draft = same })
-unanswered_talk A before now request Foreign of same is = (is, same)
-unanswered_talk A before now request Memory of same (inl kept) = inl (inl (record { seat = kept; draft = same }))
-unanswered_talk A before now request Memory of same (inr (answer, told)) = inr (answer, of answer told)
-unanswered_talk A before now request (Write written) of same is = absurd is
-unanswered_talk A before now request (Size n) of same is = absurd is
-unanswered_talk A before now request (Text error) of same is = absurd is
-unanswered_talk A before now request (OffMovie frame len) of same is = absurd is
-unanswered_talk A before now request (OffRange from to len) of same is = absurd is
-unanswered_talk A before now request (Stopped at opcode) of same is = absurd is
-unanswered_talk A before now request (StoppedFrame frame at opcode) of same is = absurd is
-unanswered_talk A before now request (Script number) of same is = absurd is
-unanswered_talk A before now request (Place number) of same is = absurd is
-unanswered_talk A before now request (Long number) of same is = absurd is
-unanswered_talk A before now request NoPlace of same is = absurd is
+    → (KeepsSeat request before.seat now.seat → KeepsTalk request before now) → now.draft ≡ before.draft → HasNoAnswer before.seat now.seat request fault → HasNoTalkAnswer before now request fault
+unanswered_talk A before now request NoEntry of keeps same is = keeps is
+unanswered_talk A before now request Foreign of keeps same is = (is, same)
+unanswered_talk A before now request Memory of keeps same (inl kept) = inl (keeps kept)
+unanswered_talk A before now request Memory of keeps same (inr (answer, told)) = inr (answer, of answer told)
+unanswered_talk A before now request (Write written) of keeps same is = absurd is
+unanswered_talk A before now request (Size n) of keeps same is = absurd is
+unanswered_talk A before now request (Text error) of keeps same is = absurd is
+unanswered_talk A before now request (OffMovie frame len) of keeps same is = absurd is
+unanswered_talk A before now request (OffRange from to len) of keeps same is = absurd is
+unanswered_talk A before now request (Stopped at opcode) of keeps same is = absurd is
+unanswered_talk A before now request (StoppedFrame frame at opcode) of keeps same is = absurd is
+unanswered_talk A before now request (Script number) of keeps same is = absurd is
+unanswered_talk A before now request (Place number) of keeps same is = absurd is
+unanswered_talk A before now request (Long number) of keeps same is = absurd is
+unanswered_talk A before now request NoPlace of keeps same is = absurd is
 
 -- ---- requests and their results
 
@@ -148,7 +167,8 @@ pub outside_said : {X : Type 0} (A : Type 0) (before now : SeatContent A) (reque
 outside_said A before now request (Ok None) bytes_of is told = absurd ((of_subject request AboutMovie is).1 told.0)
 outside_said A before now request (Ok (Some bytes)) bytes_of is told = movie_answered_outside A before now request (bytes_of bytes) is told
 outside_said A before now request (Err fault) bytes_of is told =
-    unanswered_talk A (talking before None) (talking now None) request fault (λ answer has. movie_answered_outside A before now request answer is has) refl told
+    unanswered_talk A (talking before None) (talking now None) request fault (λ answer has. movie_answered_outside A before now request answer is has)
+    (λ kept. inl (record { seat = kept; draft_was = refl; draft_is = refl })) refl told
 
 -- a request about the desk, in a draft or outside one
 pub desk_said : {X : Type 0} (A : Type 0) (before now : SeatContent A) (draft : Option DraftContent) (request : Request) (r : Result (Option X) RunFault) (bytes_of : X → List ℕ) → subject_of request ≡ AboutDesk
@@ -158,7 +178,8 @@ pub desk_said : {X : Type 0} (A : Type 0) (before now : SeatContent A) (draft : 
 desk_said A before now draft request (Ok None) bytes_of is told = absurd (of_subject request AboutDesk is told.0)
 desk_said A before now draft request (Ok (Some bytes)) bytes_of is told = desk_answered A before now draft request (bytes_of bytes) is told
 desk_said A before now draft request (Err fault) bytes_of is told =
-    unanswered_talk A (talking before draft) (talking now draft) request fault (λ answer has. desk_answered A before now draft request answer is has) refl told
+    unanswered_talk A (talking before draft) (talking now draft) request fault (λ answer has. desk_answered A before now draft request answer is has)
+    (desk_kept before now draft request is) refl told
 
 -- a request about the movie is answered something
 pub movie_said : {X A : Type 0} (before now : TalkingSeat A) (request : Request) (r : Result (Option X) RunFault) (bytes_of : X → List ℕ)

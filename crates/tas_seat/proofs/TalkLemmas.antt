@@ -1,5 +1,5 @@
 -- Conversations, line by line.
-use Rattle.std.proofs.Common.{◌≡◌, ℕ, ◌+◌, ◌-◌, ◌<◌, ◌≤◌, List, [], ◌∷◌, ◌++◌, length, take, Bool, Option, Some, None, Result, Ok, Err, inl, inr, refl, sym, ap, subst, ◌∙◌, arith, append_assoc, length-append, append-nil}
+use Rattle.std.proofs.Common.{◌≡◌, ℕ, ◌+◌, ◌-◌, ◌<◌, ◌≤◌, List, [], ◌∷◌, ◌++◌, length, take, Bool, Option, Some, None, Result, Ok, Err, ◌⊎◌, inl, inr, refl, sym, ap, subst, ◌∙◌, arith, append_assoc, length-append, append-nil}
 use Rattle.std.specs.Prelude.{min}
 use Rattle.std.specs.Io.KnownBytes.{Appends, Consumes, Keeps, IsAtEnd}
 use Rattle.std.proofs.KnownBytes.{Appends-nil, Appends-trans, Consumes-nil, Consumes-trans, Consumes-kept}
@@ -9,22 +9,21 @@ use Rattle.byte_text.specs.CutOff.{IsCutOff}
 use Rattle.byte_text.specs.Splitting.{NoByte}
 use Rattle.tas_movie.specs.Text.{line}
 use Rattle.tas_movie.specs.declared.edit.Edit.{Edit}
-use Rattle.tas_desk.specs.Seats.{SeatContent, HasSeen}
+use Rattle.tas_desk.specs.Seats.{SeatContent}
 use Rattle.tas_engines.specs.declared.fault.RunFault.{RunFault}
 use Rattle.tas_engines.specs.declared.fault.RunFault.TheVariants.{Write, Size, Text, NoFrame as OffMovie, Range as OffRange, Halted as Stopped, HaltedFrame as StoppedFrame, Script, Place, Long, NoPlace, NoEntry, Foreign, Memory}
 use Rattle.tas_engines.specs.declared.fault.ToolFault.{ToolFault}
 use Rattle.tas_engines.specs.declared.fault.ToolFault.TheVariants.{Read, Run}
 use Rattle.tas_engines.specs.declared.fault.ReadFault.TheVariants.{Failed}
 use Rattle.tas_language.specs.declared.request.Request.{Request}
+use Rattle.tas_language.specs.declared.request.Request.TheVariants.{Do, Retouch, Picture, Pictures, Ram, Digest, Lag, Movie, States, Share, History, Begin, Commit, Drop, Quit}
 use Rattle.tas_language.specs.Requests.{IsHeard}
 use Rattle.tas_language.specs.Held.{HoldsLine}
 use Rattle.tas_language.specs.Answers.{unknown_text}
 use Rattle.tas_seat.specs.Conversations.{TalkingSeat, talking, IsTalkAnswered}
-use Rattle.tas_seat.specs.Outcomes.{KeepsTalk, HasNoTalkAnswer, IsLook}
-use Rattle.tas_seat.specs.Talk.{Exchange, IsExchange, AreExchanges, IsLeft, HasLooked, IsCarriedOut, IsAnswerCutOff, TalkEnds, IsTalk, lines_of, answers_of, last_answer, most_counted}
+use Rattle.tas_seat.specs.Outcomes.{KeepsSeat, KeepsTalk, HasNoTalkAnswer, IsLook}
+use Rattle.tas_seat.specs.Talk.{Exchange, IsExchange, AreExchanges, IsLeft, HasDrawn, HasLooked, IsCarriedOut, IsAnswerCutOff, TalkEnds, IsTalk, lines_of, answers_of, last_answer, most_counted}
 use Rattle.tas_seat.specs.Inside.Talking.{CutsOff, HasAnswered, Breaks, StopsAfter, IsLineTurn, IsPartTurn}
-use Rattle.tas_seat.proofs.SeatLemmas.{seen_same}
-use Rattle.tas_seat.proofs.StripLemmas.{kept_seen}
 
 -- ---- lists of exchanges
 
@@ -137,22 +136,38 @@ pub left_as : {A : Type 0} (seat : TalkingSeat A) → IsLeft seat seat.seat []
 left_as seat = record { same = refl; none = refl }
 
 -- nothing more was made
-looked : {A : Type 0} (before now : TalkingSeat A) → HasSeen before.seat now.seat → HasLooked before now.seat []
-looked before now seen = record { seen = seen; none = refl }
+pub not_looked : {A : Type 0} (seat : TalkingSeat A) (rest : List ℕ) → HasLooked seat seat.seat rest []
+not_looked seat rest = record { kept = inl refl; none = refl }
 
-pub not_looked : {A : Type 0} (seat : TalkingSeat A) → HasLooked seat seat.seat []
-not_looked seat = looked seat seat (record { number = refl; made = refl; begins = ([], append-nil seat.seat.front) })
+-- a request that isn't answered leaves the seat, but for the first pictures of a strip
+kept_at_desk : {A : Type 0} (seat : TalkingSeat A) (last : SeatContent A) (said more : List ℕ) (request : Request) → NoByte 10 said → IsHeard said (Some request) → seat.draft ≡ None → KeepsSeat request seat.seat last
+    → (last ≡ seat.seat) ⊎ HasDrawn seat last (line said ++ more)
+kept_at_desk seat last said more (Pictures from to) none heard closed kept =
+    inr (record { said = said; more = more; from = from; to = to; is = refl; whole = none; heard = heard; no_draft = closed; kept = kept })
+kept_at_desk seat last said more (Do command) none heard closed same = inl same
+kept_at_desk seat last said more (Retouch retouch) none heard closed same = inl same
+kept_at_desk seat last said more (Picture k) none heard closed same = inl same
+kept_at_desk seat last said more (Ram k) none heard closed same = inl same
+kept_at_desk seat last said more (Digest k) none heard closed same = inl same
+kept_at_desk seat last said more (Lag a b) none heard closed same = inl same
+kept_at_desk seat last said more Movie none heard closed same = inl same
+kept_at_desk seat last said more States none heard closed same = inl same
+kept_at_desk seat last said more Share none heard closed same = inl same
+kept_at_desk seat last said more (History from) none heard closed same = inl same
+kept_at_desk seat last said more Begin none heard closed same = inl same
+kept_at_desk seat last said more Commit none heard closed same = inl same
+kept_at_desk seat last said more Drop none heard closed same = inl same
+kept_at_desk seat last said more Quit none heard closed same = inl same
 
--- a request of a conversation that isn't answered leaves what the seat has seen
-kept_talk : {A : Type 0} (before now : TalkingSeat A) (request : Request) → KeepsTalk request before now → HasSeen before.seat now.seat
-kept_talk before now request (inl outside) = kept_seen before.seat now.seat request outside.seat
-kept_talk before now request (inr inside) = seen_same before.seat now.seat inside.seat
+kept_talk : {A : Type 0} (before now : TalkingSeat A) (said more : List ℕ) (request : Request) → NoByte 10 said → IsHeard said (Some request) → KeepsTalk request before now → HasLooked before now.seat (line said ++ more) []
+kept_talk before now said more request none heard (inl outside) = record { kept = kept_at_desk before now.seat said more request none heard outside.draft_was outside.seat; none = refl }
+kept_talk before now said more request none heard (inr inside) = record { kept = inl inside.seat; none = refl }
 
 -- a line whose answer memory was refused for
 unanswered_line : {A : Type 0} (before now : TalkingSeat A) (said : List ℕ) (request : Request) (told : ℕ) (old : Option (List ℕ)) (more : List ℕ) → NoByte 10 said → IsHeard said (Some request) → HasNoTalkAnswer before now request Memory
     → (edits : List (Edit A)) × Breaks before now.seat (line said ++ more) edits told old old Memory
 unfolding known_exchange
-unanswered_line before now said request told old more none heard (inl kept) = ([], (inl (looked before now (kept_talk before now request kept)), Appends-nil old))
+unanswered_line before now said request told old more none heard (inl kept) = ([], (inl (kept_talk before now said more request none heard kept), Appends-nil old))
 unanswered_line before now said request told old more none heard (inr (answer, (edits, is))) =
     let x = known_exchange now said answer request edits in
     (edits, (inr (answer, carried_out before now x more (is_known before now said answer request edits is none heard) refl), Appends-nil old))
@@ -160,7 +175,7 @@ unanswered_line before now said request told old more none heard (inr (answer, (
 -- a request wasn't answered
 pub line_fault : {A : Type 0} (before now : TalkingSeat A) (said : List ℕ) (request : Request) (told : ℕ) (old : Option (List ℕ)) (fault : RunFault) → NoByte 10 said → IsHeard said (Some request) → HasNoTalkAnswer before now request fault
     → (fault ≡ NoEntry → IsLook request × (before.draft ≡ None)) → IsLineTurn before now said told old old (Err fault)
-line_fault before now said request told old NoEntry none heard is entry = λ more. ([], (looked before now (kept_talk before now request is), record { said = said; more = more; request = request; is = refl; whole = none; heard = heard; look = (entry refl).0; no_draft = (entry refl).1 }, Appends-nil old))
+line_fault before now said request told old NoEntry none heard is entry = λ more. ([], (kept_talk before now said more request none heard is, record { said = said; more = more; request = request; is = refl; whole = none; heard = heard; look = (entry refl).0; no_draft = (entry refl).1 }, Appends-nil old))
 line_fault before now said request told old Memory none heard is entry = λ more. unanswered_line before now said request told old more none heard is
 line_fault before now said request told old Foreign none heard is entry = λ more. ([], is.0)
 line_fault before now said request told old (Write written) none heard is entry = absurd is
@@ -242,7 +257,7 @@ stops_later {A} a b now xs told mid read rest old middle new fault p is s = reco
 -- memory was refused for a part of a line
 pub part_memory : {A : Type 0} (before now : TalkingSeat A) (xs : List (Exchange A)) (told mid : ℕ) (read rest : List ℕ) (held : List ℕ) (long : Bool) (old new : Option (List ℕ)) → HasAnswered before now xs told mid old new
     → read ≡ lines_of xs ++ rest → IsPartTurn before now read told held long old new (Err Memory)
-part_memory before now xs told mid read rest held long old new p is = stops_here before now now.seat xs [] told mid read rest old new new Memory p is (inl (not_looked now), Appends-nil new)
+part_memory before now xs told mid read rest held long old new p is = stops_here before now now.seat xs [] told mid read rest old new new Memory p is (inl (not_looked now rest), Appends-nil new)
 
 -- a line asks for the end
 pub line_quits : {A : Type 0} (before now later : TalkingSeat A) (xs : List (Exchange A)) (told mid : ℕ) (read part first after : List ℕ) (held : List ℕ) (long : Bool) (old middle new : Option (List ℕ))
@@ -437,7 +452,7 @@ breaks_off {A} first now later written held held' long long' input input' input'
 
 pub no_memory_yet : {A : Type 0} (seat : SeatContent A) (input output : Option (List ℕ)) → IsTalk seat seat input input output output (Err (Run Memory))
 no_memory_yet {A} seat input output =
-    record { exchanges = []; seat = talking seat None; rest = []; more = []; answered = no_exchanges (talking seat None); left = Consumes-nil input; ends = (inl (not_looked (talking seat None)), Appends-nil output) }
+    record { exchanges = []; seat = talking seat None; rest = []; more = []; answered = no_exchanges (talking seat None); left = Consumes-nil input; ends = (inl (not_looked (talking seat None) []), Appends-nil output) }
 
 pub split_length : (rest a b : List ℕ) → rest ≡ a ++ 10 ∷ b → length b + 1 ≤ length rest
 split_length rest a b is = rw is (omega (arith, length-append a (10 ∷ b)))

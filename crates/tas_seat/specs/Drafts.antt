@@ -124,20 +124,10 @@ IsAboutDesk Drop = Unit {0}
 IsAboutDesk Quit = Unit {0}
 IsAboutDesk _ = ⊥
 
--- a line that asks for several pictures
-abbrev pub IsStrip : Request → Type 0
-IsStrip (Pictures from to) = Unit {0}
-IsStrip _ = ⊥
-
--- nothing was changed, but some pictures of a strip may have been drawn: the greenzone may have other states of the movie
-pub record IsDraftLookedAt (draft draft' : DraftContent) : Type 0 where
-  pub at : draft'.at ≡ draft.at
-  pub base : draft'.base ≡ draft.base
-  pub stands : draft_standing draft' ≡ draft_standing draft
-
--- what a request that isn't answered leaves: the draft as it was, but that some pictures of a strip may have been drawn
+-- what a request that isn't answered leaves: the draft as it was; or, of a strip, as its first pictures left it, fewer than it asks for
 abbrev pub KeepsDraft : Request → DraftContent → DraftContent → Type 0
-KeepsDraft request draft draft' = (draft' ≡ draft) ⊎ (IsStrip request × IsDraftLookedAt draft draft')
+KeepsDraft (Pictures from to) draft draft' = (strip : List DraftPicture) × (length strip < to - from) × AreDraftPictures draft from strip draft'
+KeepsDraft request draft draft' = draft' ≡ draft
 
 -- memory was refused for an answer: nothing was changed; or the request was carried out
 abbrev pub IsDraftUnanswered : DraftContent → Request → DraftContent → Type 0

@@ -1,5 +1,5 @@
 -- What came of a request: an answer, or a fault. What else is here gives names to parts of an answer, for private functions.
-use Rattle.std.specs.Prelude.{◌≡◌, ℕ, List, [], ◌∷◌, length, Bool, Option, Some, Result, Ok, Err, ◌⊎◌}
+use Rattle.std.specs.Prelude.{◌≡◌, ℕ, ◌-◌, ◌<◌, List, [], ◌∷◌, length, Bool, Option, Some, None, Result, Ok, Err, ◌⊎◌}
 use Rattle.vcs_cpu.specs.declared.halt.Halt.{Halt}
 use Rattle.tas_movie.specs.Content.{MovieContent}
 use Rattle.tas_movie.specs.declared.edit.Edit.{Edit}
@@ -24,8 +24,8 @@ use Rattle.tas_seat.specs.declared.edit_requests.EditRequest.{EditRequest}
 use Rattle.tas_seat.specs.Edits.{made_between}
 use Rattle.tas_seat.specs.Turns.{Standing, standing_of, refused_reply, edit_reply, standing_unless, halted_reply}
 use Rattle.tas_seat.specs.Requests.{drawn_digest}
-use Rattle.tas_seat.specs.Seats.{IsSeatAfter, IsRequestAnswered}
-use Rattle.tas_seat.specs.Drafts.{DraftContent, IsStrip, KeepsDraft}
+use Rattle.tas_seat.specs.Seats.{IsSeatAfter, StripAnswer, AreStrip, IsRequestAnswered}
+use Rattle.tas_seat.specs.Drafts.{DraftContent, KeepsDraft}
 use Rattle.tas_seat.specs.Conversations.{TalkingSeat, IsTalkAnswered}
 use Rattle.tas_seat.specs.Inside.EditRequests.{requested_refusal, requested_edit}
 
@@ -79,12 +79,13 @@ IsUnanswered before now _ = ⊥
 abbrev pub HasAnswer : (A : Type 0) → SeatContent A → SeatContent A → Request → List ℕ → Type 0
 HasAnswer A before now request answer = (edits : List (Edit A)) × IsRequestAnswered A before now request answer edits
 
--- what a request that isn't answered leaves: the seat as it was, but that some pictures of a strip may have been drawn
+-- what a request that isn't answered leaves: the seat as it was; or, of a strip, as its first pictures left it, fewer than it asks for
 abbrev pub KeepsSeat : {A : Type 0} → Request → SeatContent A → SeatContent A → Type 0
-KeepsSeat request before now = (now ≡ before) ⊎ (IsStrip request × HasSeen before now)
+KeepsSeat {A} (Pictures from to) before now = (strip : List (StripAnswer A)) × (length strip < to - from) × AreStrip before from strip now
+KeepsSeat request before now = now ≡ before
 
--- why a request isn't answered: as a command, but that a strip may have been drawn in part; or it was carried out, and memory was refused for its
--- answer
+-- why a request isn't answered: as a command, but that the first pictures of a strip may have been drawn; or it was carried out, and memory was
+-- refused for its answer
 abbrev pub HasNoAnswer : {A : Type 0} → SeatContent A → SeatContent A → Request → RunFault → Type 0
 HasNoAnswer before now request NoEntry = KeepsSeat request before now
 HasNoAnswer before now request Foreign = IsMiscounted before now
@@ -115,12 +116,13 @@ IsLook _ = ⊥
 abbrev pub HasTalkAnswer : (A : Type 0) → TalkingSeat A → TalkingSeat A → Request → List ℕ → Type 0
 HasTalkAnswer A before now request answer = (edits : List (Edit A)) × IsTalkAnswered A before.seat before.draft now request answer edits
 
--- the draft, where one is open, is as it was, and so is the seat, but that some pictures of a strip may have been drawn
+-- no draft is open, before or after, and the seat is as it was, but that the first pictures of a strip may have been drawn
 pub record KeepsAtDesk {A : Type 0} (request : Request) (before now : TalkingSeat A) : Type 0 where
   pub seat : KeepsSeat request before.seat now.seat
-  pub draft : now.draft ≡ before.draft
+  pub draft_was : before.draft ≡ None
+  pub draft_is : now.draft ≡ None
 
--- the seat is as it was, and so is the open draft, but that some pictures of a strip may have been drawn
+-- a draft is open: the seat is as it was, and so is the draft, but that the first pictures of a strip may have been drawn in it
 pub record KeepsInDraft {A : Type 0} (request : Request) (before now : TalkingSeat A) : Type 0 where
   pub old : DraftContent
   pub next : DraftContent
@@ -129,8 +131,8 @@ pub record KeepsInDraft {A : Type 0} (request : Request) (before now : TalkingSe
   pub draft_is : now.draft ≡ Some next
   pub kept : KeepsDraft request old next
 
--- what a request of a conversation leaves where it isn't answered: seat and draft as they were, but that some pictures of a strip may have been
--- drawn, at the desk or in the draft
+-- what a request of a conversation leaves where it isn't answered: seat and draft as they were, but that the first pictures of a strip may have
+-- been drawn, in the draft where one is open, else at the desk
 abbrev pub KeepsTalk : {A : Type 0} → Request → TalkingSeat A → TalkingSeat A → Type 0
 KeepsTalk request before now = KeepsAtDesk request before now ⊎ KeepsInDraft request before now
 

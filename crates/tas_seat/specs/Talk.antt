@@ -6,19 +6,19 @@ use Rattle.byte_text.specs.CutOff.{IsCutOff}
 use Rattle.tas_movie.specs.Text.{line}
 use Rattle.tas_movie.specs.declared.edit.Edit.{Edit}
 pub use Rattle.tas_session.specs.History.{most_counted}
-use Rattle.tas_desk.specs.Seats.{SeatContent, HasSeen}
+use Rattle.tas_desk.specs.Seats.{SeatContent}
 use Rattle.tas_engines.specs.declared.fault.ToolFault.{ToolFault}
 use Rattle.tas_engines.specs.declared.fault.ToolFault.TheVariants.{Read, Run}
 use Rattle.tas_engines.specs.declared.fault.ReadFault.TheVariants.{Failed}
 use Rattle.tas_engines.specs.declared.fault.RunFault.TheVariants.{Write, NoEntry, Foreign, Memory}
 use Rattle.byte_text.specs.Splitting.{NoByte}
 use Rattle.tas_language.specs.declared.request.Request.{Request}
-use Rattle.tas_language.specs.declared.request.Request.TheVariants.{Quit}
+use Rattle.tas_language.specs.declared.request.Request.TheVariants.{Pictures, Quit}
 use Rattle.tas_language.specs.Requests.{IsHeard}
 use Rattle.tas_language.specs.Answers.{unknown_text}
 use Rattle.tas_seat.specs.Drafts.{DraftContent}
 use Rattle.tas_seat.specs.Conversations.{TalkingSeat, talking, IsLineAnswered}
-use Rattle.tas_seat.specs.Outcomes.{IsMiscounted, IsLook}
+use Rattle.tas_seat.specs.Outcomes.{IsMiscounted, KeepsSeat, IsLook}
 
 -- ---- lines, one after the other
 
@@ -82,9 +82,21 @@ pub record IsLeft {A : Type 0} (seat : TalkingSeat A) (last : SeatContent A) (ed
   pub same : last ≡ seat.seat
   pub none : edits ≡ []
 
--- nothing more was made, but some pictures of a strip may have been drawn: the seat may have seen more, and its greenzone may be another one
-pub record HasLooked {A : Type 0} (seat : TalkingSeat A) (last : SeatContent A) (edits : List (Edit A)) : Type 0 where
-  pub seen : HasSeen seat.seat last
+-- the first line of the rest asks for a strip of pictures, and no draft is open: the seat is as its first pictures left it, fewer than it asks for
+pub record HasDrawn {A : Type 0} (seat : TalkingSeat A) (last : SeatContent A) (rest : List ℕ) : Type 0 where
+  pub said : List ℕ
+  pub more : List ℕ
+  pub from : ℕ
+  pub to : ℕ
+  pub is : rest ≡ line said ++ more
+  pub whole : NoByte 10 said
+  pub heard : IsHeard said (Some (Pictures from to))
+  pub no_draft : seat.draft ≡ None
+  pub kept : KeepsSeat (Pictures from to) seat.seat last
+
+-- nothing more was made, and the seat is as it was, but that the first pictures of a strip may have been drawn
+pub record HasLooked {A : Type 0} (seat : TalkingSeat A) (last : SeatContent A) (rest : List ℕ) (edits : List (Edit A)) : Type 0 where
+  pub kept : (last ≡ seat.seat) ⊎ HasDrawn seat last rest
   pub none : edits ≡ []
 
 -- the first line of the rest looks through the seat's reader, and no draft is open
@@ -115,8 +127,8 @@ TalkEnds seat last rest told edits input output output' (Ok _) =
 TalkEnds seat last rest told edits input output output' (Err (Read Failed)) = IsLeft seat last edits × NoByte 10 rest × Appends output output' told
 TalkEnds seat last rest told edits input output output' (Err (Run (Write written))) =
     (answer : List ℕ) × (IsCarriedOut seat last rest edits answer ⊎ (IsLeft seat last edits × NoByte 10 rest × IsAtEnd input × (answer ≡ last_answer rest))) × IsAnswerCutOff told answer output output' written
-TalkEnds seat last rest told edits input output output' (Err (Run Memory)) = (HasLooked seat last edits ⊎ ((answer : List ℕ) × IsCarriedOut seat last rest edits answer)) × Appends output output' told
-TalkEnds seat last rest told edits input output output' (Err (Run NoEntry)) = HasLooked seat last edits × AsksToLook seat.draft rest × Appends output output' told
+TalkEnds seat last rest told edits input output output' (Err (Run Memory)) = (HasLooked seat last rest edits ⊎ ((answer : List ℕ) × IsCarriedOut seat last rest edits answer)) × Appends output output' told
+TalkEnds seat last rest told edits input output output' (Err (Run NoEntry)) = HasLooked seat last rest edits × AsksToLook seat.draft rest × Appends output output' told
 TalkEnds seat last rest told edits input output output' (Err (Run Foreign)) = IsMiscounted seat.seat last
 TalkEnds seat last rest told edits input output output' (Err _) = ⊥
 

@@ -176,7 +176,7 @@ impl<A: Allocator + Copy> Draft<A> {
     /// A `delete` line is never answered `out of memory`: it asks for none but for its answer.
     ///
     /// The one fault is `Memory`, where it is refused for an answer of one short line, once the request is carried out, or for a strip
-    /// of pictures, some of which may be drawn.
+    /// of pictures, the first of which may be drawn then.
     pub fn answer(&mut self, alloc: A, request: Request) -> Result<Option<Vec<u8, A>>, RunFault>
         ensures answer { MatchResult result
             (λ found. MatchOption found (IsAboutDesk request × (self.new ≡ self.old))

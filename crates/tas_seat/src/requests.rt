@@ -250,7 +250,7 @@ fn answer_share<N: Name, W: CloseOnDrop, A: Allocator + Copy, R: Wait>(
 /// `out of memory`.
 ///
 /// Faults: those of [`reply_to_command`](crate::reply_to_command), `NoEntry` also of `picture`, `pictures`, `ram`, `digest` and `lag`, after
-/// which the seat may have seen pictures of a strip; and `Memory`, where it is refused for an answer of one short line, once the request
+/// which the first pictures of a strip may be drawn; and `Memory`, where it is refused for an answer of one short line, once the request
 /// is carried out, or for a strip.
 pub fn answer_request<N: Name, W: CloseOnDrop, A: Allocator + Copy, R: Wait>(
     rt: &R,

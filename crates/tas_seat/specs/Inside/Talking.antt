@@ -28,8 +28,8 @@ pub record HasAnswered {A : Type 0} (before now : TalkingSeat A) (exchanges : Li
 -- why the rest isn't answered, and what was made of it
 abbrev pub Breaks : {A : Type 0} → TalkingSeat A → (now : SeatContent A) → List ℕ → List (Edit A) → ℕ → Option (List ℕ) → Option (List ℕ) → RunFault → Type 0
 Breaks seat now rest edits told old new (Write written) = (answer : List ℕ) × IsCarriedOut seat now rest edits answer × CutsOff told answer old new (Write written)
-Breaks seat now rest edits told old new NoEntry = HasLooked seat now edits × AsksToLook seat.draft rest × Appends old new []
-Breaks seat now rest edits told old new Memory = (HasLooked seat now edits ⊎ ((answer : List ℕ) × IsCarriedOut seat now rest edits answer)) × Appends old new []
+Breaks seat now rest edits told old new NoEntry = HasLooked seat now rest edits × AsksToLook seat.draft rest × Appends old new []
+Breaks seat now rest edits told old new Memory = (HasLooked seat now rest edits ⊎ ((answer : List ℕ) × IsCarriedOut seat now rest edits answer)) × Appends old new []
 Breaks seat now rest edits told old new Foreign = IsMiscounted seat.seat now
 Breaks seat now rest edits told old new _ = ⊥
 

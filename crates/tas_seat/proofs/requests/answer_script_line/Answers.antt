@@ -13,7 +13,7 @@ returns-clause-answer g c =
 pub returns-in_err-reply-clause-answer : goal.returns-in_err-reply-clause-answer
 returns-in_err-reply-clause-answer g c =
     let p = err_from_is_err_and c.from_residual.result c.from_residual.ensures.1 in
-    rw (p.1, p.2) (unanswered c.args.seat.now c.reply_to_command.new.seat (Do c.args.command) c.in_err-reply.field-0.0 c.in_err-reply.ensures.answer)
+    rw (p.1, p.2) (unanswered c.args.seat.now c.reply_to_command.new.seat c.args.command c.in_err-reply.field-0.0 c.in_err-reply.ensures.answer)
 
 pub returns-clause-entry : goal.returns-clause-entry
 returns-clause-entry g c = memory_alone _ _ c.answer_of_reply.result c.answer_of_reply.ensures
