@@ -42,7 +42,7 @@ pub fn close<'a, N: Name, R: Wait + Abort>(
     desk: Desk<N, &R, &'a Heap>,
     seats: Vec<Seat<N, &'a Heap>, &'a Heap>,
 ) -> Closed<&'a Heap> {
-    check_that(rt, "all seats come back", desk.has_all(seats.as_slice()));
+    check_that(rt, "all seats come back", desk.whole(seats.as_slice()));
     desk.close(rt, seats)
 }
 

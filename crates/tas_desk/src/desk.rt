@@ -129,7 +129,7 @@ impl<N: Name, W: CloseOnDrop, A: Allocator> Desk<N, W, A> {
     }
 
     /// Whether these are all seats of the desk: the numbers from 0 on, each once, and no others.
-    pub fn has_all(&self, seats: &[Seat<N, A>]) -> bool
+    pub fn whole(&self, seats: &[Seat<N, A>]) -> bool
         ensures { IsTrue result ↔ IsWhole N.parts seats.now }
     {
         if seats.len() != self.seats as usize || !are_below(seats, self.seats) {
@@ -143,7 +143,7 @@ impl<N: Name, W: CloseOnDrop, A: Allocator> Desk<N, W, A> {
         true
     }
 
-    /// Ends the desk, with all its seats, for which [`Desk::has_all`] is the test. It returns the movie and the history that made it,
+    /// Ends the desk, with all its seats, for which [`Desk::whole`] is the test. It returns the movie and the history that made it,
     /// in which each seat has just as many entries as edits that it made, and nobody else has any.
     pub fn close<R: Wait>(self, rt: &R, seats: Vec<Seat<N, A>, A>) -> Closed<A>
         requires whole { IsWhole N.parts seats.items }
@@ -269,9 +269,9 @@ impl<N: Name, W: CloseOnDrop, A: Allocator + Copy> Desk<N, W, A> {
     }
 
     /// Draws frame `k` as [`Desk::shot`] does, but played from the nearest state of the seat's zone and its window, or from the
-    /// zone's where a place of the grid lies between the two, and fills the window: it then has the states around this frame, so that a
-    /// step to the next frame plays one, and so does a step back to one of the 63 frames before, as far as they were played. The zone
-    /// is left as by a shot. It takes no lock.
+    /// zone's where a place of the grid comes after it, up to the window's. It fills the window, which then has the states around this
+    /// frame, so that a step to the next frame plays one, and so does a step back to one of the 63 frames before, as far as they were
+    /// played. The zone is left as by a shot. It takes no lock.
     ///
     /// `NoEntry` leaves the seat as it was, `NoFrame` and `Memory` its zone and window; after `Halted` both are as after an answer.
     pub fn picture<B: Allocator>(

@@ -233,7 +233,7 @@ fn is_met<N: Name, W: CloseOnDrop, R: Wait>(
     }
 }
 
-/// Whether [`Desk::has_all`] returns this answer for these seats.
+/// Whether [`Desk::whole`] returns this answer for these seats.
 fn is_whole<N: Name, W: CloseOnDrop>(
     desk: &Desk<N, W>,
     seats: &[Seat<N>],
@@ -241,7 +241,7 @@ fn is_whole<N: Name, W: CloseOnDrop>(
     answer: bool,
 ) -> bool {
     match seats.get(from..to) {
-        Some(some) => desk.has_all(some) == answer,
+        Some(some) => desk.whole(some) == answer,
         None => false,
     }
 }

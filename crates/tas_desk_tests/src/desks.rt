@@ -109,7 +109,7 @@ fn play_at<N: Name + Send + Sync, R: Threads + Wait + Abort + Sync>(
 {
     let (desk, mut seats) = expect_ok(rt, Desk::<N, &R>::open(rt, alloc, unopened));
     take(rt, alloc, &desk, &mut seats, task, told);
-    check_that(rt, "all seats come back", desk.has_all(seats.as_slice()));
+    check_that(rt, "all seats come back", desk.whole(seats.as_slice()));
     desk.close(rt, seats)
 }
 

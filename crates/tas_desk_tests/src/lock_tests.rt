@@ -212,7 +212,7 @@ fn run_at<'a, N: Name + Send + Sync, R: Threads + Wait + Abort + Sync>(
     look_beside_an_edit(rt, alloc, heap, &desk, callers.as_mut_slice());
     check_callers(rt, &desk, callers.as_mut_slice());
     let seats = seats_of(rt, heap, callers);
-    check_that(rt, "all seats come back", desk.has_all(seats.as_slice()));
+    check_that(rt, "all seats come back", desk.whole(seats.as_slice()));
     let closed = desk.close(rt, seats);
     check_same(rt, "journal", closed.journal.len(), 3);
 }

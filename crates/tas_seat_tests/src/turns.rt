@@ -53,7 +53,7 @@ fn play_at<N: Name, R: Wait + Abort>(
     let (desk, mut seats) = expect_ok(rt, Desk::<N, &R>::open(rt, alloc, unopened));
     let mut drafts: [Option<Draft>; 2] = [None, None];
     take_turns(rt, alloc, &desk, seats.as_mut_slice(), &mut drafts, turns);
-    check_that(rt, "all seats come back", desk.has_all(seats.as_slice()));
+    check_that(rt, "all seats come back", desk.whole(seats.as_slice()));
     desk.close(rt, seats)
 }
 

@@ -66,7 +66,7 @@ fn share_a_movie<N: Name + Send + Sync, R: Threads + Wait + Print + Sync>(
         report(rt, callers.as_mut_slice(), round)?;
     }
     let seats = seats_of(alloc, callers)?;
-    if !desk.has_all(seats.as_slice()) {
+    if !desk.whole(seats.as_slice()) {
         bail!("a seat is missing");
     }
     Ok(desk.close(rt, seats))

@@ -1,7 +1,7 @@
 use Rattle.std.proofs.lemmas.Grind.{common_steps}
 use Rattle.std.proofs.Common.{refl, arith, rules}
 use Rattle.tas_desk.proofs.SeatLemmas.{once_more, whole_of}
-use Rattle.tas_desk.proofs.desk.Desk.has_all.Goals as goal
+use Rattle.tas_desk.proofs.desk.Desk.whole.Goals as goal
 
 pub returns-then-count_of-gt1 : goal.returns-then-count_of-gt1
 returns-then-count_of-gt1 g c = (λ t. absurd (search rules), λ w. absurd (let o = w.once c.loop-k.k in let t = c.count_of.ensures in let b = c.if-count_of-gt1.true in omega arith))
