@@ -50,7 +50,7 @@ abbrev pub with_job : Worked → Option ℕ → Worked
 with_job worked (Some gained) = record { jobs = worked.jobs + 1; kept = min (worked.kept + gained) most_counted; stale = worked.stale }
 with_job worked None = record { jobs = worked.jobs + 1; kept = worked.kept; stale = worked.stale + 1 }
 
--- no more jobs are stale than were run, and the others gained together at most as many states as that many zones have
+-- no more jobs are stale than were run, and the others gained together at most as many states as that many zones can have
 pub record IsTally (worked : Worked) : Type 0 where
   pub stale : worked.stale ≤ worked.jobs
   pub kept : worked.kept + most_states * worked.stale ≤ most_states * worked.jobs

@@ -155,8 +155,8 @@ impl<A: Allocator + Copy> SeatZone<A> {
     }
 
     /// Shows frame `k` as [`SeatZone::shot`] does, but played from the nearest state of zone and window, or from the zone's where
-    /// a place of the grid lies between the two; the window is then filled around this frame. The zone is left as by a shot. After
-    /// `AllocError` nothing is changed.
+    /// a place of the grid comes after it, up to the window's; the window is then filled around this frame. The zone is left as by a
+    /// shot. After `AllocError` nothing is changed.
     pub fn view<B: Allocator>(
         &mut self,
         copied: Option<MovieCopy<A>>,

@@ -12,7 +12,7 @@ unfoldable pub HaveNumbers : List Change → Type 0
 HaveNumbers [] = Unit {0}
 HaveNumbers (change ∷ changes) = HasNumbers change × HaveNumbers changes
 
--- the change puts copies of an input in, or in the place of others, possibly none: only for such a change is memory asked for
+-- the change puts copies of an input in, or in the place of others, possibly none: only for such a change may memory be refused
 abbrev pub BringsCopies : Change → Type 0
 BringsCopies (Insert at count input) = Unit {0}
 BringsCopies (Replace at count input) = Unit {0}

@@ -62,7 +62,7 @@ line_refusal other movie (asks.Change change) = refusal movie (edit_of change)
 line_refusal other movie (asks.Retouch retouch) = retouch_refusal movie retouch
 line_refusal other movie (asks.CopyOther from count at) = copy_refusal (length (inputs_of other)) from count (length movie.inputs) at
 
--- the line puts frames in or overwrites some, possibly none: only for such a line is memory asked for
+-- the line puts frames in or overwrites some, possibly none: only for such a line may memory be refused
 abbrev pub BringsFrames : EditLine → Type 0
 BringsFrames (asks.Change change) = BringsCopies change
 BringsFrames (asks.Retouch retouch) = Unit {0}
@@ -112,7 +112,7 @@ pub record IsRefused (other : Option MovieContent) (movie : MovieContent) (bytes
   pub first : Begins other bytes asked
   pub is : line_refusal other movie asked ≡ Some refused
 
--- the first line is allowed, and brings frames, possibly none, for which memory is asked
+-- the first line is allowed, and brings frames, possibly none, for which memory may be refused
 pub record AsksForMemory (other : Option MovieContent) (movie : MovieContent) (bytes : List ℕ) : Type 0 where
   pub asked : EditLine
   pub first : Begins other bytes asked

@@ -13,7 +13,7 @@ IsExportFault movie plan old new Memory = new ≡ old
 IsExportFault movie plan old new (Halted halted) = IsLeastHalted movie plan.from plan.to halted × (new ≡ old)
 IsExportFault movie plan old new (Write written error) = AllDrawn movie plan.from plan.to × IsCutOff old new (pixmaps_of movie plan.from (plan.to - plan.from)) written
 
--- why frames weren't written whose room was there: as above, but memory is refused only at a frame up to which none is halted
+-- why frames weren't written for which there was room: as above, but memory is refused only at a frame up to which none is halted
 abbrev pub IsRunsFault : MovieContent → ExportPlan → Option (List ℕ) → Option (List ℕ) → ExportFault → Type 0
 IsRunsFault movie plan old new Memory = IsRefused movie plan.from plan.to × (new ≡ old)
 IsRunsFault movie plan old new (Halted halted) = IsExportFault movie plan old new (Halted halted)

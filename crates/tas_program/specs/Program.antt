@@ -129,7 +129,7 @@ TextEnds text old new Done = Appends old new text
 TextEnds text old new Fault = (fault : RunFault) × StopsWriting old new text fault
 TextEnds text old new Misuse = ⊥
 
--- the program's end after an invocation: where there is no task, nothing is read, and where there is nothing to show, nothing is written
+-- the program's end after an invocation: that of its task; or it shows a text, and reads nothing; else nothing is read and nothing written
 abbrev pub CarriesOut : {A : Type 0} → FileBytes → Invocation A → StreamBytes → StreamBytes → Status → Type 0
 CarriesOut files (Do chosen) old new status = TaskEnds files chosen old new status
 CarriesOut files (Show text) old new status = (new.input ≡ old.input) × TextEnds (string_bytes text) old.output new.output status

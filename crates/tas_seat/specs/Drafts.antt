@@ -95,7 +95,7 @@ IsDraftWork draft k answer draft' =
     ⊎ ((kept ran : ℕ) × (answer ≡ reply_text (Worked 1 kept 0)) × (length draft'.states ≡ length draft.states + kept)
     × IsReachedFrom draft.movie draft.movie (min k (length draft.movie.inputs)) draft.states draft'.states 0 ran)
 
--- memory is asked for only where a change brings copies of an input: a deletion is answered and made as where none is refused
+-- memory may be refused only where a change brings copies of an input: a deletion is answered and made as where none is refused
 abbrev pub IsDraftEdit : DraftContent → Change → List ℕ → DraftContent → Type 0
 IsDraftEdit draft change answer draft' =
     BringsCopies change

@@ -100,7 +100,7 @@ IsAboutTalk Drop = Unit {0}
 IsAboutTalk Quit = Unit {0}
 IsAboutTalk _ = ⊥
 
--- requests that the desk answers through the seat's reader; it answers the others under its lock
+-- requests that are answered through the seat's reader; where the desk is asked for another, it answers under its lock
 abbrev pub IsLook : Request → Type 0
 IsLook (Do Length) = Unit {0}
 IsLook (Do (InputAt k)) = Unit {0}

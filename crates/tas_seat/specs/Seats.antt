@@ -62,8 +62,8 @@ LeavesZone before now (Retouch retouch) answer = now.zone ≡ before.zone
 LeavesZone before now (Picture k) answer = PictureLeavesZone before now k answer (answer_shot (movie_of now.front) k)
 LeavesZone before now _ answer = KeepsWindow before.zone now.zone
 
--- what the reply to `work` counts is one job's: it gained no more states than a zone has, or it was stale, which it isn't where no other cartridge is
--- loaded after what the seat had seen
+-- what the reply to `work` counts is one job's: it gained no more states than a zone can have, or it was stale and gained none; it isn't stale where
+-- no other cartridge is loaded after what the seat had seen
 abbrev pub CountsWork : {A : Type 0} → List (Entry A) → List (Entry A) → Command → Reply → Type 0
 CountsWork before now (Work k) (Worked jobs kept stale) = IsTally (record { jobs = jobs; kept = kept; stale = stale }) × (KeepsCart before now → stale ≡ 0)
 CountsWork before now _ _ = Unit {0}

@@ -143,7 +143,7 @@ impl<A: Allocator> Draft<A> {
 
 impl<A: Allocator + Copy> Draft<A> {
     /// The edits that turn the movie as it was when the draft began into the movie as it would be: the inputs with which both begin, and
-    /// of the rest those with which both end, are left alone. `AllocError` where memory is refused, which is asked for only where inputs
+    /// of the rest those with which both end, are left alone. `AllocError` where memory is refused, which may be only where inputs
     /// are put in.
     pub fn stroke(&self, alloc: A) -> Result<Stroke<A>, AllocError>
         ensures stroke { IfOk result

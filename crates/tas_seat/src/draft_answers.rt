@@ -173,7 +173,7 @@ impl<A: Allocator + Copy> Draft<A> {
     /// is answered `in draft`. `None`, with nothing changed, where the request isn't about the movie: `share`, `history`, `begin`,
     /// `commit`, `drop` and `quit`.
     ///
-    /// A `delete` line is never answered `out of memory`: it asks for none but for its answer.
+    /// A `delete` line is never answered `out of memory`: it takes memory for its answer alone.
     ///
     /// The one fault is `Memory`, where it is refused for an answer of one short line, once the request is carried out, or for a strip
     /// of pictures, the first of which may be drawn then.

@@ -94,8 +94,8 @@ pub(crate) fn stroke_len<A: Allocator>(base: &Movie<A>, movie: &Movie<A>) -> u64
 }
 
 /// The edits that make one movie of another with the same cartridge: the inputs with which both begin, and of the rest those with which
-/// both end, are left alone. `AllocError` where memory is refused, which is asked for only where inputs are put in: two equal movies don't
-/// ask for it, nor does a deletion.
+/// both end, are left alone. `AllocError` where memory is refused, which may be only where inputs are put in: not for two equal movies,
+/// nor for a deletion.
 pub fn stroke_between<A: Allocator, B: Allocator>(
     alloc: A,
     base: &Movie<B>,

@@ -249,9 +249,9 @@ fn answer_share<N: Name, W: CloseOnDrop, A: Allocator + Copy, R: Wait>(
 /// `quit` are about a conversation, and get no answer here. Where memory is refused for a picture, a text or a list, the answer is
 /// `out of memory`.
 ///
-/// Faults: those of [`reply_to_command`](crate::reply_to_command), `NoEntry` also of `picture`, `pictures`, `ram`, `digest` and `lag`, after
-/// which the first pictures of a strip may be drawn; and `Memory`, where it is refused for an answer of one short line, once the request
-/// is carried out, or for a strip.
+/// Faults: those of [`reply_to_command`](crate::reply_to_command), after which the first pictures of a strip may be drawn; `NoEntry` comes
+/// of `picture`, `pictures`, `ram`, `digest` and `lag`, too. And `Memory`, where it is refused for an answer of one short line, once the
+/// request is carried out, or for a strip.
 pub fn answer_request<N: Name, W: CloseOnDrop, A: Allocator + Copy, R: Wait>(
     rt: &R,
     alloc: A,

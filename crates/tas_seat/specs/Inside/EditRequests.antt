@@ -23,7 +23,7 @@ requested_edit A (Load image) movie = load_on A (image_bytes image)
 requested_edit A (Change change) movie = edit_on A change
 requested_edit A (Retouch retouch) movie = retouch_on A movie.inputs retouch
 
--- an edit for which memory is asked: any but a deletion
+-- an edit for which memory may be refused: any but a deletion
 abbrev pub TakesMemory : EditRequest → Type 0
 TakesMemory (Load image) = Unit {0}
 TakesMemory (Change change) = BringsCopies change
