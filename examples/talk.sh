@@ -1,7 +1,7 @@
 #!/bin/bash
 # Talks to the editor through a coprocess of the shell:
 #   examples/talk.sh joystick.bin examples/joystick.movie 60 frame60.ppm
-# It prints the movie's length, shoots FRAME, holds the fire button in frames 30 to 34, shoots FRAME again, writes its picture,
+# It prints the movie's length, shoots FRAME, replaces frames 30 to 34 by fire alone, shoots FRAME again, writes its picture,
 # and lists the kept states.
 top=$(CDPATH='' cd -- "$(dirname -- "$0")/.." && pwd) || exit 1
 [ $# -eq 4 ] || { echo "usage: $0 CART MOVIE FRAME PICTURE" >&2; exit 2; }
