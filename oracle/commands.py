@@ -294,24 +294,28 @@ def broken_promises(old, new, script):
     """What the page promises of the script that makes the new movie of the old one, and this one doesn't keep; nothing if it keeps all."""
     front = drafts.common(old, new)
     back = drafts.common(old[front:][::-1], new[front:][::-1])
-    now, end, last = old, 0, None
+    now, rest, last = [], 0, None  # the movie so far is `now` and then the old one from frame `rest` on: lines go from front to back
     for text in script.split("\n")[:-1]:
         said = hands.understood(text, False)
         if said is None or said[0] not in ("insert", "replace", "delete"):
             return "a line of another kind: " + text
         kind, (place, count), frame = said
         gone = 0 if kind == "insert" else count
-        if count == 0 or place < max(front, end) or place + gone > len(now) - back:
+        end, length = len(now), len(now) + len(old) - rest
+        if count == 0 or place < max(front, end) or place + gone > length - back:
             return "a line that is out of its order, does nothing, or touches what both movies have in common: " + text
-        if kind == "replace" and not is_one_change(now[place:place + count], frame):
+        now += old[rest:rest + place - end]
+        rest += place - end
+        if kind == "replace" and not is_one_change(old[rest:rest + count], frame):
             return "a replacement that doesn't begin and end with a change, or has sixteen frames in a row that stay: " + text
         if last and place == end and not may_touch(last, said):
             return "two lines that could be one: " + text
-        try:
-            now = hands.made(now, [], *said)
-        except hands.Fault as fault:
-            return "a line that is refused as %s: %s" % (fault, text)
-        end, last = place + (0 if kind == "delete" else count), said
+        if kind == "insert" and length + count > MOST:
+            return "a line that is refused as long: " + text
+        now += [] if kind == "delete" else [frame] * count
+        rest += gone
+        last = said
+    now += old[rest:]
     return None if now == new and script[-1:] in ("", "\n") else "another movie"
 
 

@@ -86,10 +86,10 @@ def stroke(old, new):
 
 def common(one, other):
     """How many frames both begin with."""
-    count = 0
-    while count < min(len(one), len(other)) and one[count] == other[count]:
-        count += 1
-    return count
+    for count, (frame, another) in enumerate(zip(one, other)):
+        if frame != another:
+            return count
+    return min(len(one), len(other))
 
 
 def run_lines(word, at, frames):
