@@ -18,6 +18,8 @@ mod program_tests;
 #[cfg(test)]
 mod read_tests;
 #[cfg(test)]
+mod refused_talks;
+#[cfg(test)]
 mod talk_tests;
 #[cfg(test)]
 mod write_tests;

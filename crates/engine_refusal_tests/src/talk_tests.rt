@@ -3,14 +3,12 @@
 ghost use Rattle.std.specs.Prelude.{◌≤◌};
 
 use crate::checks::{check_same, check_that, expect_ok};
+use crate::refused_talks::{Conversation, MOST, Refusal, Row, answers};
 use refusals::Refusing;
 use std::alloc::Global;
 use std::process::Abort;
 use std::sync::Wait;
 use tas_tool::talk_run;
-
-/// No conversation grows so often here.
-const MOST: u64 = 1000;
 
 /// A movie of three frames.
 const MADE: &[u8] = b"load 000=A9028500A90085004C00F0 FFC=00F0\ninsert 0 3 R.... ..... .....\n";
@@ -51,15 +49,6 @@ static REFUSED_DRAFTS: [&[u8]; 5] = [
     b"edit 1 len 0\nedit 2 len 3\nbegin 2 3\nout of memory\ncommit 2 3\nlen 2 3\nno draft\n",
     b"edit 1 len 0\nedit 2 len 3\nbegin 2 3\nedit 3 len 3\nout of memory\nlen 3 3\ndropped\n",
 ];
-
-/// What is answered to lines, where memory is there.
-fn answers<T: Wait + Abort>(rt: &T, alloc: Global, lines: &[u8]) -> Vec<u8> {
-    let mut input = lines;
-    let mut output = Vec::new(alloc);
-    let end = talk_run(rt, alloc, &mut input, &mut output);
-    check_same(rt, "end", end, Ok(()));
-    output
-}
 
 /// The lines that make the movie, and some looks.
 fn looks_of<R: Abort>(rt: &R, alloc: Global, looks: &[&[u8]]) -> Vec<u8> {
@@ -172,4 +161,216 @@ fn edits_without_memory(rt: HostRuntime) {
 #[test]
 fn drafts_without_memory(rt: HostRuntime) {
     check_refused(&rt, rt.alloc(), DRAFT, REFUSED_DRAFTS.as_slice());
+}
+
+/// The ways of a line that takes memory, and more for its short answer.
+const CALL: &[Refusal] = &[Refusal::Undone, Refusal::Ended];
+
+/// Those of a line that takes memory for its short answer alone.
+const BRIEF: &[Refusal] = &[Refusal::Ended];
+
+/// Those of a look that plays frames and keeps states, and then takes memory for what it shows.
+const PLAYED: &[Refusal] = &[Refusal::Undone, Refusal::Done];
+
+/// Those of a look that leaves the kept states as they are, so that it doesn't show how far it came.
+const SHOWN: &[Refusal] = &[Refusal::Undone];
+
+/// Those of `work`: its states may be in its list, and not yet among those for shots.
+const WORKED: &[Refusal] = &[Refusal::Undone, Refusal::Done, Refusal::Ended];
+
+const LOAD: Row = (b"load 000=A9028500A90085004C00F0 FFC=00F0\n", CALL);
+
+/// Frames enough for states after 64, 128 and 192 of them.
+const INSERT: Row = (b"insert 0 200 R.... ..... .....\n", CALL);
+
+const REPLACE: Row = (b"replace 150 1 .L... ..... .....\n", CALL);
+
+const WORK: Row = (b"work 192\n", WORKED);
+
+const BEGIN: Row = (b"begin\n", CALL);
+
+const MOVIE: Row = (b"movie\n", SHOWN);
+
+const STATES: Row = (b"states\n", SHOWN);
+
+const LENGTH: Row = (b"len\n", BRIEF);
+
+/// A movie of 200 frames.
+static LONG: [Row; 2] = [LOAD, INSERT];
+
+/// A draft of this movie, with one change and one kept state.
+static DRAFTED: [Row; 6] = [LOAD, INSERT, (b"work 64\n", WORKED), BEGIN, STATES, REPLACE];
+
+/// A line, its ways, and the last answer of a conversation about it.
+type About = (&'static [u8], &'static [Refusal], &'static [u8]);
+
+/// Lines about the movie. All but the last one pass its first 64 frames.
+static ABOUT_MOVIE: [About; 7] = [
+    (b"shot 63\n", CALL, b"states 2 1 64\n"),
+    (b"picture 63\n", PLAYED, b"states 2 1 64\n"),
+    (b"ram 64\n", PLAYED, b"states 2 1 64\n"),
+    (b"digest 66\n", PLAYED, b"states 2 1 64\n"),
+    (b"lag 66 68\n", PLAYED, b"states 2 1 64\n"),
+    (b"work 70\n", WORKED, b"states 2 1 64\n"),
+    (b"share\n", CALL, b"states 2 0\n"),
+];
+
+/// Lines about the draft.
+static ABOUT_DRAFT: [About; 8] = [
+    (b"shot 127\n", CALL, b"states 3 2 64 128\n"),
+    (b"picture 127\n", PLAYED, b"states 3 2 64 128\n"),
+    (b"ram 128\n", PLAYED, b"states 3 2 64 128\n"),
+    (b"digest 130\n", PLAYED, b"states 3 2 64 128\n"),
+    (b"lag 130 132\n", PLAYED, b"states 3 2 64 128\n"),
+    (b"work 192\n", CALL, b"states 3 3 64 128 192\n"),
+    (b"movie\n", SHOWN, b"states 3 1 64\n"),
+    (b"states\n", SHOWN, b"states 3 1 64\n"),
+];
+
+/// Edits that depend on what the movie has, as its third ones.
+static RETOUCHES: [About; 4] = [
+    (b"press 1 2 ....F ..... .....\n", CALL, b"len 3 200\n"),
+    (b"release 1 2 R.... ..... .....\n", CALL, b"len 3 200\n"),
+    (b"repeat 1 2 3\n", CALL, b"len 3 206\n"),
+    (b"copy 0 3 7\n", CALL, b"len 3 203\n"),
+];
+
+/// Changes of a draft beside these. A deletion takes no memory but that of its answer.
+static CHANGES: [About; 3] = [
+    (b"insert 3 2 .L... ..... .....\n", CALL, b"len 3 202\n"),
+    (b"replace 3 2 .L... ..... .....\n", CALL, b"len 3 200\n"),
+    (b"delete 4 1\n", BRIEF, b"len 3 199\n"),
+];
+
+/// Refuses each growth of the conversations about these lines.
+fn check_all<T: Wait + Abort>(
+    rt: &T,
+    alloc: Global,
+    before: &[Row],
+    lines: &[About],
+    after: &[Row],
+) {
+    for (line, ways, last) in lines {
+        let about = [(*line, *ways)];
+        let conversation = Conversation {
+            before,
+            about: &about,
+            after,
+            last,
+        };
+        conversation.check(rt, alloc);
+    }
+}
+
+/// A line about the movie that is refused its memory leaves the kept states as they were or, where memory is refused for what it shows, as it
+/// leaves them otherwise.
+#[test]
+fn long_looks_without_memory(rt: HostRuntime) {
+    check_all(&rt, rt.alloc(), &LONG, &ABOUT_MOVIE, &[STATES]);
+}
+
+/// So does a line about a draft, and it leaves the draft's movie as it was.
+#[test]
+fn draft_looks_without_memory(rt: HostRuntime) {
+    check_all(&rt, rt.alloc(), &DRAFTED, &ABOUT_DRAFT, &[MOVIE, STATES]);
+}
+
+/// A picture of a strip that is out of memory says so in its place, and those after it are shown as ever. Where memory is refused for the
+/// strip itself the conversation ends, with nothing of it written.
+#[test]
+fn strips_without_memory(rt: HostRuntime) {
+    let conversation = Conversation {
+        before: &LONG,
+        about: &[
+            (b"picture 61\n", CALL),
+            (b"picture 62\n", SHOWN),
+            (b"picture 63\n", PLAYED),
+        ],
+        after: &[STATES],
+        last: b"states 2 1 64\n",
+    };
+    conversation.check_strip(&rt, rt.alloc(), b"pictures 61 64\n");
+}
+
+/// So it is in a draft.
+#[test]
+fn draft_strips_without_memory(rt: HostRuntime) {
+    let conversation = Conversation {
+        before: &DRAFTED,
+        about: &[
+            (b"picture 125\n", CALL),
+            (b"picture 126\n", SHOWN),
+            (b"picture 127\n", PLAYED),
+        ],
+        after: &[MOVIE, STATES],
+        last: b"states 3 2 64 128\n",
+    };
+    conversation.check_strip(&rt, rt.alloc(), b"pictures 125 128\n");
+}
+
+/// A change of a draft that is out of memory is not made.
+#[test]
+fn changes_without_memory(rt: HostRuntime) {
+    let alloc = rt.alloc();
+    let before = [LOAD, INSERT, BEGIN];
+    check_all(&rt, alloc, &before, &RETOUCHES, &[MOVIE, LENGTH]);
+    check_all(&rt, alloc, &before, &CHANGES, &[MOVIE, LENGTH]);
+}
+
+/// Nor is an edit that depends on what the movie has, or a deletion that is the history's fifth edit, for which it takes room.
+#[test]
+fn retouches_without_memory(rt: HostRuntime) {
+    let alloc = rt.alloc();
+    check_all(&rt, alloc, &LONG, &RETOUCHES, &[MOVIE, LENGTH]);
+    let four = [LOAD, INSERT, REPLACE, REPLACE];
+    let deletion: About = (b"delete 4 1\n", CALL, b"len 5 199\n");
+    check_all(&rt, alloc, &four, &[deletion], &[MOVIE, LENGTH]);
+}
+
+/// A `begin` that is out of memory opens no draft, with the states of `work` or of shots to copy.
+#[test]
+fn begins_without_memory(rt: HostRuntime) {
+    let alloc = rt.alloc();
+    let begin: About = (b"begin\n", CALL, b"states 2 3 64 128 192\n");
+    let after = [STATES, (b"drop\n", BRIEF), STATES];
+    check_all(&rt, alloc, &[LOAD, INSERT, WORK], &[begin], &after);
+    let shot: Row = (b"shot 191\n", CALL);
+    check_all(&rt, alloc, &[LOAD, INSERT, shot], &[begin], &after);
+}
+
+/// How many growths of `begin` are refused after a shot.
+fn times_not_begun<T: Wait + Abort>(rt: &T, alloc: Global, shot: &'static [u8]) -> usize {
+    let conversation = Conversation {
+        before: &[LOAD, INSERT, (shot, CALL)],
+        about: &[BEGIN],
+        after: &[STATES],
+        last: b"",
+    };
+    conversation.times_undone(rt, alloc)
+}
+
+/// A `begin` takes two copies of the movie, each with its cartridge and its inputs, and one of the kept states, if there are any.
+#[test]
+fn begins_copy_states(rt: HostRuntime) {
+    let alloc = rt.alloc();
+    check_same(&rt, "no state", times_not_begun(&rt, alloc, b"shot 3\n"), 4);
+    check_same(&rt, "states", times_not_begun(&rt, alloc, b"shot 191\n"), 5);
+}
+
+/// A `share` after an edit copies the movie, and may be out of memory then. In a draft only its answer takes memory, since `begin` has made
+/// room for what it brings.
+#[test]
+fn shares_without_memory(rt: HostRuntime) {
+    let alloc = rt.alloc();
+    let edited: About = (b"share\n", CALL, b"states 3 2 64 128\n");
+    let before = [LOAD, INSERT, WORK, STATES, REPLACE];
+    check_all(&rt, alloc, &before, &[edited], &[STATES]);
+    let drafted: About = (b"share\n", BRIEF, b"states 2 3 64 128 192\n");
+    check_all(
+        &rt,
+        alloc,
+        &[LOAD, INSERT, WORK, BEGIN],
+        &[drafted],
+        &[STATES],
+    );
 }
