@@ -3,7 +3,7 @@
 use crate::checks::{check_same, expect_ok, expect_some};
 use crate::desks::{OpenGate, Place, run_call};
 use crate::edits::{Change, edit_of};
-use crate::fixtures::{has_lacked, right};
+use crate::fixtures::{BRIEF, has_first_two, has_lacked, image, played, right};
 use crate::plans::Append;
 use crate::runs::{Heap, NEVER, NOT_AS_BEFORE, NOT_TOLD, Run, count_growths, is_over, refuse};
 use std::alloc::{AllocError, Global};
@@ -11,9 +11,11 @@ use std::process::Abort;
 use std::sync::Wait;
 use tas_desk::{
     CloseOnDrop, CommitError, EditError, Name, OfferError, Offered, Receipt, Shot, ShotError,
-    Stroke, WorkError, Worked,
+    StateError, Stroke, WorkError, Worked,
 };
 use tas_green::Batch;
+use tas_movie::Inputs;
+use vcs_machine::{Cart, Input, State};
 
 /// A call at a desk.
 #[derive(Clone, Copy)]
@@ -38,6 +40,12 @@ pub enum Call {
     FirstPicture,
     /// Seat 0, whose zone keeps two states of the movie, does.
     Picture,
+    /// Seat 1, whose zone is that of the blank movie, asks for the machine in which frame 384 begins.
+    FirstState,
+    /// Seat 0, whose zone keeps two states of the movie, does.
+    State,
+    /// The zone of seat 0, which keeps two states of the movie, is copied.
+    CopyZone,
     /// Seat 1, whose zone is empty, shares the desk's two states.
     Share,
     /// Seat 1 takes a job for all 400 frames.
@@ -121,6 +129,35 @@ impl<'a, N: Name, W: CloseOnDrop, R: Wait + Abort> Place<'_, 'a, N, W, R> {
         is_shown(answer, ran, self.seat.kept())
     }
 
+    /// The machine after the movie's first 384 frames, played from power-on, in memory that isn't refused.
+    fn end(&self) -> State {
+        let cart = expect_ok(self.rt, Cart::from_bytes(self.heap, &image(BRIEF)));
+        let inputs = expect_ok(self.rt, Inputs::repeated(self.heap, Input::none(), 384));
+        played(&cart, inputs.as_slice(), 384)
+    }
+
+    /// The machine in which frame 384 begins: whether it is right, after this many frames were played, and the seat's zone keeps six
+    /// states then.
+    fn state(&mut self, ran: u64, number: u64) -> Result<bool, AllocError> {
+        let end = self.end();
+        refuse(self.heap, number);
+        match self.desk.state_for(self.seat, 384, 400) {
+            Ok(reached) => {
+                let is_told = reached.at == 4 && reached.ran == ran;
+                Ok(is_told && reached.state == end && self.seat.kept() == 6)
+            }
+            Err(StateError::Memory) => Err(AllocError),
+            Err(_) => Ok(false),
+        }
+    }
+
+    /// A copy of the seat's zone: whether it keeps the two states that the zone keeps, as before.
+    fn copy_zone(&mut self, number: u64) -> Result<bool, AllocError> {
+        refuse(self.heap, number);
+        let copy = self.seat.copy_zone(self.heap)?;
+        Ok(has_first_two(&copy) && self.zone() == (2, 400))
+    }
+
     /// A share: whether the seat's zone gains the desk's two states.
     fn share(&mut self, number: u64) -> Result<bool, AllocError> {
         refuse(self.heap, number);
@@ -153,11 +190,16 @@ impl<'a, N: Name, W: CloseOnDrop, R: Wait + Abort> Place<'_, 'a, N, W, R> {
         }
     }
 
-    /// Whether history and movie are as before the call, and so are the zones: the seat's keeps n states, and the desk's two, so
-    /// that a job starts at the second of them.
-    fn is_as_before(&mut self, alloc: Global, kept: usize) -> bool {
+    /// How many states the seat's zone keeps, and how many inputs its movie has.
+    fn zone(&self) -> (usize, usize) {
+        (self.seat.kept(), self.seat.zone_movie().len())
+    }
+
+    /// Whether history and movie are as before the call, and so are the zones: the seat's is this one, and the desk's keeps two states,
+    /// so that a job starts at the second of them.
+    fn is_as_before(&mut self, alloc: Global, zone: (usize, usize)) -> bool {
         let batch = self.batch(alloc, 400);
-        let is_kept = starts_at_the_second(&batch) && self.seat.kept() == kept;
+        let is_kept = starts_at_the_second(&batch) && self.zone() == zone;
         is_kept && self.desk.len(self.seat) == Ok((4, 400))
     }
 
@@ -177,6 +219,9 @@ impl<'a, N: Name, W: CloseOnDrop, R: Wait + Abort> Place<'_, 'a, N, W, R> {
             Call::Shot => self.shot(256, number),
             Call::FirstPicture => self.picture(384, number),
             Call::Picture => self.picture(256, number),
+            Call::FirstState => self.state(384, number),
+            Call::State => self.state(256, number),
+            Call::CopyZone => self.copy_zone(number),
             Call::Share => self.share(number),
             Call::Job => self.job(number),
             Call::Offer => self.offer(held, number),
@@ -188,14 +233,14 @@ impl<'a, N: Name, W: CloseOnDrop, R: Wait + Abort> Place<'_, 'a, N, W, R> {
     /// all frames is held before it.
     fn take_twice(&mut self, alloc: Global, call: Call, number: u64) -> Run {
         let mut held = Some(self.batch(alloc, 400));
-        let kept = self.seat.kept();
+        let zone = self.zone();
         let mut answer = self.take(&mut held, call, number);
         let has_refused = self.heap.has_refused();
         if has_refused {
             if answer.is_ok() {
                 return NOT_TOLD;
             }
-            if !self.is_as_before(alloc, kept) {
+            if !self.is_as_before(alloc, zone) {
                 return NOT_AS_BEFORE;
             }
             answer = self.take(&mut held, call, NEVER);
@@ -296,10 +341,10 @@ pub fn take_call<N: Name, W: CloseOnDrop, R: Wait + Abort>(
 
 /// Each call, and how many growths it has. An edit has those of its second copy and of the journal, as in a session; one that depends on the movie has that of its inputs,
 /// too, and a step of two those of both second copies and of the journal. The history has its list, and those of a cartridge and of two lists of inputs. A shot has those of its picture and of its zone's list of states; the first one copies a movie before, which has two, and so does a share. A picture has
-/// that of its window's list, too. A job has
+/// that of its window's list, too, a state that of the zone's list alone, and the first one those of the movie's copy. A copy of a zone has that of its list. A job has
 /// those of its cartridge, its inputs and its list of states, an offer that of the desk's list, and work on two targets those of two
 /// jobs and of the list.
-static CALLS: [(Call, &str, u64); 15] = [
+static CALLS: [(Call, &str, u64); 18] = [
     (Call::Edit(Change::Load), "Edit(Load)", 2),
     (
         Call::Edit(Change::Insert(400, 3)),
@@ -323,6 +368,9 @@ static CALLS: [(Call, &str, u64); 15] = [
     (Call::Shot, "Shot", 2),
     (Call::FirstPicture, "FirstPicture", 5),
     (Call::Picture, "Picture", 3),
+    (Call::FirstState, "FirstState", 3),
+    (Call::State, "State", 1),
+    (Call::CopyZone, "CopyZone", 1),
     (Call::Share, "Share", 3),
     (Call::Job, "Job", 3),
     (Call::Offer, "Offer", 1),

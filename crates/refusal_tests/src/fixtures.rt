@@ -3,9 +3,9 @@
 use crate::checks::expect_ok;
 use std::alloc::{Allocator, Global};
 use std::process::Abort;
-use tas_green::Batch;
+use tas_green::{Batch, Green};
 use tas_movie::{Edit, Inputs, Movie, apply, check};
-use vcs_machine::{Cart, Input};
+use vcs_machine::{Cart, Input, Meter, State, play_unseen};
 
 /// `000=A910850DA91E85084C08F0 FFC=00F0`: a playfield of 1,680 lit pixels in each frame.
 pub const PLAYFIELD: &[u8] = b"\xA9\x10\x85\x0D\xA9\x1E\x85\x08\x4C\x08\xF0";
@@ -22,6 +22,11 @@ pub const FOLDING: &[u8] =
 
 /// The places of the grid up to frame 384, after which a movie's states are kept.
 pub static GRID: [usize; 6] = [64, 128, 192, 256, 320, 384];
+
+/// Whether a zone keeps just the first two states of the grid, those after 64 and 128 frames.
+pub fn has_first_two<A: Allocator>(green: &Green<A>) -> bool {
+    green.count() == 2 && green.holds(64) && green.holds(128)
+}
 
 /// Whether a batch of the frames up to 384 has the states that a zone with the first two of the grid lacks, and neither of these two.
 pub fn has_lacked<A: Allocator>(batch: &Batch<A>) -> bool {
@@ -80,6 +85,17 @@ pub fn replaced<R: Abort>(rt: &R, alloc: Global, movie: &Movie, at: usize) -> Mo
     };
     make(rt, &mut other, &replace);
     other
+}
+
+/// The machine after the first frames of these inputs, as many as `frames`, played from power-on.
+pub fn played<A: Allocator>(cart: &Cart<A>, inputs: &[Input], frames: usize) -> State {
+    let mut state = State::power_on(cart);
+    for input in inputs.iter().take(frames) {
+        let mut meter = Meter::new();
+        // A halted machine stays as it is: its state has the halt.
+        let _ = play_unseen(cart, &mut state, *input, &mut meter);
+    }
+    state
 }
 
 /// Whether two movies have the same cartridge and the same inputs.

@@ -4,7 +4,9 @@ ghost use Rattle.std.specs.Prelude.{◌≡◌, ◌≤◌, OnErr, length};
 ghost use Rattle.tas_green.specs.Green.{IsLawful};
 
 use crate::checks::{check_same, check_that, expect_ok};
-use crate::fixtures::{BRIEF, GRID, PLAYFIELD, has_lacked, movie_of, replaced};
+use crate::fixtures::{
+    BRIEF, GRID, PLAYFIELD, has_first_two, has_lacked, movie_of, played, replaced,
+};
 use crate::runs::{
     Heap, NEVER, NOT_AS_BEFORE, NOT_TOLD, Run, count_growths, is_over, refuse, refusing,
 };
@@ -12,7 +14,7 @@ use std::alloc::{AllocError, Allocator, Global};
 use std::process::Abort;
 use tas_green::{Batch, Green, Job, MergeError, Merged, Viewed, Window};
 use tas_movie::Movie;
-use vcs_machine::{Input, Meter};
+use vcs_machine::{Input, Meter, State};
 use vcs_tia::Picture;
 
 /// A call on a greenzone.
@@ -20,6 +22,8 @@ use vcs_tia::Picture;
 enum Seeking {
     Shot,
     ShotFrom,
+    Reach,
+    ReachFrom,
     View,
     ViewFrom,
     Merge,
@@ -31,9 +35,11 @@ enum Seeking {
 
 /// Each such call, its name, and how many growths it has: a zone's list of states has one, a window's another, a job those of its
 /// cartridge, its inputs and its list of states.
-static SEEKINGS: [(Seeking, &str, u64); 9] = [
+static SEEKINGS: [(Seeking, &str, u64); 11] = [
     (Seeking::Shot, "Shot", 1),
     (Seeking::ShotFrom, "ShotFrom", 1),
+    (Seeking::Reach, "Reach", 1),
+    (Seeking::ReachFrom, "ReachFrom", 1),
     (Seeking::View, "View", 2),
     (Seeking::ViewFrom, "ViewFrom", 2),
     (Seeking::Merge, "Merge", 1),
@@ -55,11 +61,10 @@ struct Given {
     full_of_other: Green,
     /// The movie's, to be merged.
     batch: Batch,
-}
-
-/// Whether just the states after 64 and 128 frames are kept, as before each call.
-fn is_as_before<A: Allocator>(green: &Green<A>) -> bool {
-    green.count() == 2 && green.holds(64) && green.holds(128)
+    /// The movie's machine after 384 frames, played from power-on.
+    end: State,
+    /// That of the other movie.
+    end_of_other: State,
 }
 
 /// Whether just the six states up to 384 frames are kept, as after each call that is right.
@@ -119,6 +124,8 @@ fn make_given<R: Abort>(rt: &R, alloc: Global) -> Given
         full: zone_of(rt, alloc, alloc, &movie, 383),
         full_of_other: zone_of(rt, alloc, alloc, &other, 383),
         batch: batch_of(rt, alloc, &movie),
+        end: played(movie.cart(), movie.inputs(), 384),
+        end_of_other: played(other.cart(), other.inputs(), 384),
         movie,
         other,
     }
@@ -198,6 +205,14 @@ fn seek(
             let drawn = green.shot_from(movie, other, 383, picture, meter)?;
             drawn.is_ok() && shows(picture, meter, 320) && is_full(green)
         }
+        Seeking::Reach => {
+            let state = green.reach(movie, 384, meter)?;
+            state == given.end && meter.count() == 256 && is_full(green)
+        }
+        Seeking::ReachFrom => {
+            let state = green.reach_from(movie, other, 384, meter)?;
+            state == given.end_of_other && meter.count() == 320 && is_full(green)
+        }
         Seeking::View => {
             let viewed = Window::new(heap).view(green, movie, 383, picture)?;
             is_viewed(viewed, 256, picture) && is_full(green)
@@ -245,7 +260,7 @@ fn seek_twice(
         if answer.is_ok() {
             return NOT_TOLD;
         }
-        if !is_as_before(green) || !is_untouched(picture, &meter) {
+        if !has_first_two(green) || !is_untouched(picture, &meter) {
             return NOT_AS_BEFORE;
         }
         answer = seek(heap, green, picture, &mut meter, given, seeking);
