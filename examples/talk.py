@@ -10,13 +10,15 @@ from pathlib import Path
 
 
 class Editor:
+    """`tas talk` as a child process."""
+
     def __init__(self, *files):
         tas = Path(__file__).resolve().parent.parent / "tas"
         pipe = subprocess.PIPE
         self.child = subprocess.Popen([tas, "talk", *files], stdin=pipe, stdout=pipe)
 
     def ask(self, line):
-        """The words of the answer to a line, and the bytes that follow it."""
+        """The words of the answer to a line, and the bytes that follow it. `pictures` has several answers, and `quit` none."""
         try:
             self.child.stdin.write(line.encode() + b"\n")
             self.child.stdin.flush()
@@ -28,6 +30,11 @@ class Editor:
         count = int(words[-1]) if words[:1] in (["picture"], ["lag"], ["movie"], ["history"]) else 0
         return words, self.child.stdout.read(count)
 
+    def quit(self):
+        """Ends the conversation, and returns the child's status."""
+        self.child.communicate(b"quit\n")
+        return self.child.returncode
+
 
 def png(pixmap):
     """A pixmap of 160 by 210 pixels as a PNG."""
@@ -38,9 +45,13 @@ def png(pixmap):
 
 
 if __name__ == "__main__":
+    if len(sys.argv) != 6 or not int(sys.argv[3]) <= int(sys.argv[4]):
+        sys.exit("usage: examples/talk.py CART MOVIE FIRST LAST PNG, with - for a film")
     cart, movie, first, last, name = sys.argv[1:]
     editor = Editor(cart, movie)
-    editor.ask("replace 30 5 ....F ..... .....")
+    words, _ = editor.ask("replace 30 5 ....F ..... .....")
+    if words[0] != "edit":
+        sys.exit(" ".join(words))
     for frame in range(int(first), int(last) + 1):
         words, pixmap = editor.ask(f"picture {frame}")
         if words[0] != "picture":
@@ -50,4 +61,4 @@ if __name__ == "__main__":
     if name != "-":
         Path(name).write_bytes(png(pixmap))
     print("kept states:", *(editor.ask("states")[0][3:] or ["none"]), file=sys.stderr)
-    editor.ask("quit")
+    sys.exit(editor.quit())

@@ -8,11 +8,14 @@ top=$(CDPATH='' cd -- "$(dirname -- "$0")/.." && pwd) || exit 1
 "$top/tas" --version > /dev/null || exit 1
 coproc TAS { exec "$top/tas" talk "$1" "$2"; }
 editor=$TAS_PID
+exec 3<&"${TAS[0]}" 4>&"${TAS[1]}"
+# Where the editor has ended, its fault line says why.
+trap '' PIPE
 
 # ask LINE: sends a line and prints the first line of its answer
 ask() {
-    echo "$*" >&"${TAS[1]}"
-    IFS= read -r answer <&"${TAS[0]}" || exit 1
+    echo "$*" >&4 2> /dev/null
+    IFS= read -r answer <&3 || exit 1
     echo "$answer"
 }
 
@@ -22,8 +25,9 @@ ask replace 30 5 ....F ..... .....
 ask shot "$3"
 ask picture "$3"
 case $answer in
-    picture*) head -c "${answer##* }" <&"${TAS[0]}" > "$4" ;;
+    picture*) head -c "${answer##* }" <&3 > "$4" ;;
+    *) exit 1 ;;
 esac
 ask states
-echo quit >&"${TAS[1]}"
+echo quit >&4
 wait "$editor"

@@ -2,7 +2,7 @@
 import os
 import socket
 
-FOLLOWED = ("picture", "lag", "movie", "history")  # bytes follow these answers; the last word says how many
+FOLLOWED = ("picture", "lag", "movie", "history")  # bytes follow these answers; the last word is their number
 
 
 class Seat:
@@ -20,7 +20,7 @@ class Seat:
             self.answers = open(os.path.join(folder, f"out{number}"), "rb")
 
     def ask(self, line):
-        """The words of the answer to a line, and the bytes that follow it."""
+        """The words of the answer to a line, and the bytes that follow it. `pictures` has several answers, and `quit` none."""
         self.lines.write(line.encode() + b"\n")
         words = self.answers.readline().decode().split()
         if not words:

@@ -14,10 +14,16 @@ folder, number, frame, pictures = sys.argv[1:]
 seat = Seat(folder, number)
 copy = Copy(seat)
 shown, drawn, quiet = None, 0, 0
-while quiet < 20:
-    before = copy.at
+
+
+def catch_up():
     for entry, maker, line in copy.follow():
         print(f"viewer: edit {entry + 1} by seat {maker}: {line}", flush=True)
+
+
+while quiet < 20:
+    before = copy.at
+    catch_up()
     quiet = quiet + 1 if copy.at == before else 0
     if copy.at != before or shown is None:
         seat.ask("share")  # the states that others have played: the picture is played from the nearest one
@@ -27,7 +33,9 @@ while quiet < 20:
                 file.write(picture)
             shown, drawn = picture, drawn + 1
     time.sleep(0.1)
-in_step = Copy(seat).frames == copy.frames
+while (fetched := Copy(seat)).at != copy.at:
+    catch_up()
+in_step = fetched.frames == copy.frames
 print(f"viewer: {drawn} pictures of frame {frame}; my copy of {len(copy.frames)} frames is {'the' if in_step else 'NOT the'} desk's", flush=True)
 seat.quit()
 sys.exit(not in_step)
