@@ -43,6 +43,10 @@ def number_of(word, kind):
     return int(match.group(1))
 
 
+def is_flag(word):
+    return word.startswith("-") and word != "-"
+
+
 def apart(command, words):
     """The words without flags, and those with a flag."""
     plain, flagged, words = [], {}, list(words)
@@ -50,11 +54,11 @@ def apart(command, words):
         word = words.pop(0)
         if word == "--":
             return plain + words, flagged
-        if not word.startswith("-"):
+        if not is_flag(word):
             plain.append(word)
         elif word not in FLAGS.get(command, ()) or not words:
             raise Wrong
-        elif word in flagged or words[0].startswith("-"):
+        elif word in flagged or is_flag(words[0]):
             raise Open("a flag that is given twice, or is followed by one")
         else:
             flagged[word] = words.pop(0)
@@ -100,9 +104,10 @@ def sized(cart):
     return cart
 
 
-def within(first, last, count, most=None):
-    if first > last or last > count:
-        raise hands.Fault("range %d to %d of %d" % (first, last, count if most is None else most))
+def within(first, last, most, length):
+    """Raises the fault of a range that doesn't end at `most` or before it, in a movie of that length."""
+    if not first <= last <= most:
+        raise hands.Fault("range %d to %d of %d" % (first, last, length))
 
 
 # ---- commands: each gives its output, or raises its fault
@@ -117,7 +122,7 @@ class Run:
             words = [word.decode() for word in words]
         except UnicodeDecodeError:
             return NOT_TEXT
-        if not words or words[0] == "--" or {"-", "-h", "-V"} & set(words):
+        if not words or words[0] == "--" or {"-h", "-V"} & set(words):
             raise Open("no words, or a flag that the page doesn't name")
         if words[1:] == ["--help"] and words[0] in FORMS or words in (["--help"], ["--version"]):
             return FOR_PEOPLE
@@ -174,7 +179,7 @@ class Run:
 
     def cut(self, cart, first, last):
         cart, frames = self.movie(cart)
-        within(first, last, len(frames))
+        within(first, last, len(frames), len(frames))
         return hands.movie_text(cart, frames[first:last])
 
     def diff(self, cart, old):
@@ -236,10 +241,8 @@ class Run:
     def film(self, cart, first=0, last=None):
         cart, frames = self.movie(cart)
         last = len(frames) if last is None else last
-        within(first, last, len(frames))
-        if 0 < first < last and rest_of(cart).halt is not None:
-            raise Open("the first halted frame of a film that begins behind it")
-        return self.drawn(cart, first, last, "frame 0 halted at ")
+        within(first, last, len(frames), len(frames))
+        return self.drawn(cart, first, last, "frame %d halted at " % first)
 
     def export(self, cart, first, last, _workers):
         cart, frames = self.movie(cart)

@@ -125,7 +125,7 @@ class Side:
         if said.kind == "copy":
             place = said.numbers[2]
         self.movie = answers.made(self.movie, said)
-        self.kept.edited(said.kind, place, count)
+        self.kept.edited(said.kind, place, count, self.length())
         self.at += 1
 
     def length(self):
@@ -153,12 +153,13 @@ class Holder:
         return getattr(self, "of_" + said.kind)(side, *said.numbers)
 
     def edit(self, side, said):
-        if side.at >= MOST_EDITS:
-            if self.draft:
-                raise Open("`full` in a draft")
-            return "full %d" % side.at
+        is_full = side.at >= MOST_EDITS
         if said.kind == "load" and self.draft:
+            if is_full:
+                raise Open("a `load` in a draft that is full")
             return "in draft"
+        if is_full:
+            return "full %d" % side.at
         frames = side.movie.frames
         try:
             side.make(said)
@@ -186,13 +187,10 @@ class Holder:
 
     def of_states(self, side):
         side.kept.share(side.movie)
-        side.kept.sure()
         return " ".join(map(str, ["states", side.at, len(side.kept.shots)] + sorted(side.kept.shots)))
 
     def of_share(self, _side):
-        gained = self.main.kept.share(self.main.movie)
-        self.main.kept.sure()
-        return "share %d %d" % (self.main.at, gained)
+        return "share %d %d" % (self.main.at, self.main.kept.share(self.main.movie))
 
     def of_history(self, _side, first):
         told = self.edits[first:first + answers.TOLD_AT_ONCE]
@@ -210,12 +208,14 @@ class Holder:
         if not self.draft:
             return "no draft"
         edits = drafts.stroke(self.main.movie.frames, self.draft.movie.frames)
-        if self.main.at + len(edits) > MOST_EDITS:
+        at = self.main.at + len(edits)
+        if at > MOST_EDITS:
             return "full %d" % self.main.at
         for lines in edits:
-            self.main.kept.edited("replace", int(lines[0].split(" ")[1]), 0)
+            for line in lines:
+                self.main.make(answers.understood(line))
         self.edits += edits
-        self.main.movie, self.draft, self.main.at = self.draft.movie, None, self.main.at + len(edits)
+        self.draft, self.main.at = None, at
         return "commit %d %d" % (self.main.at, self.main.length())
 
     def of_drop(self, _side):
