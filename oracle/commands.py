@@ -12,7 +12,7 @@ import machine
 import readings
 from answers import hands
 from readings import MOST
-from resting import BLACK, MOST_PLAYED, Open, lag_line, rest_of
+from resting import BLACK, MOST_PLAYED, Open, check_reach, rest_of
 
 MOST_BYTES = 16777216
 MOST_DRAWN = 200
@@ -217,8 +217,7 @@ class Run:
 
     def played(self, cart, count):
         """What each frame comes to, where so many are to be played."""
-        if count > MOST_PLAYED:
-            raise Open("too many frames for this comparison")
+        check_reach(count)
         return rest_of(cart)
 
     def drawn(self, cart, first, last, fault):
@@ -254,8 +253,8 @@ class Run:
         within(first, last, len(frames) + 1, len(frames))
         if first == last:
             return b""
-        ram = self.played(cart, last).ram if last > 1 else bytes(128)
-        return "".join("%d %s\n" % (count, (ram if count else bytes(128)).hex().upper()) for count in range(first, last)).encode()
+        ram_after = self.played(cart, last).ram_after if last > 1 else lambda _: bytes(128)
+        return "".join("%d %s\n" % (count, ram_after(count).hex().upper()) for count in range(first, last)).encode()
 
     def digest(self, cart, every=600):
         cart, frames = self.movie(cart)
@@ -279,9 +278,7 @@ class Run:
 
     def lag(self, cart):
         cart, frames = self.movie(cart)
-        if frames:
-            self.played(cart, len(frames))
-        return lag_line(0, len(frames)).encode()
+        return self.played(cart, len(frames)).lag_lines(0, len(frames)) if frames else b""
 
     def trace(self, count):
         cart, = self.inputs.read([])

@@ -12,7 +12,8 @@ import machine
 
 MOST_PLAYED = 2000  # frames of one run
 UNPLAYED = "4C00F0"  # JMP to itself, at F000
-BLACK = b"P6\n160 210\n255\n" + bytes(3 * 160 * 210)
+HEAD_OF_PIXMAP = b"P6\n160 210\n255\n"
+BLACK = HEAD_OF_PIXMAP + bytes(3 * 160 * 210)
 
 
 class Open(Exception):
@@ -21,7 +22,21 @@ class Open(Exception):
 
 # ---- cartridges that needn't be played
 
-Rest = namedtuple("Rest", "halt ram")  # what each frame comes to: an address and a byte, or nothing where it is black; the RAM
+class Rest(namedtuple("Rest", "halt ram")):
+    """What each frame comes to: an address and a byte, or nothing where it is black; the RAM. Its methods are those of a movie that was played (looks.py)."""
+
+    def halt_in(self, _frame):
+        return self.halt
+
+    def ram_after(self, count):
+        return self.ram if count else bytes(128)
+
+    def pixmap(self, _frame):
+        return BLACK
+
+    def lag_lines(self, first, last):
+        return b"%d %d\n" % (first, last) if first < last else b""
+
 
 IDLE = answers.image_of("load", ["000=" + UNPLAYED, "FFC=00F0"]).frame
 
@@ -40,10 +55,6 @@ def rest_of(cart):
     if model.halt is None or not model.is_lag:
         raise Open("a cartridge that has to be played")
     return Rest("%04X %02X" % (model.halt.address, model.halt.opcode), bytes(model.ram))
-
-
-def lag_line(first, last):
-    return "%d %d\n" % (first, last) if first < last else ""
 
 
 # ---- kept states
