@@ -8,6 +8,8 @@ from collections import Counter
 import drafts
 from answers import EDITS, Answers, Movie, at_of, hands, made, understood
 
+UNHEARD = "edits whose answer nobody heard"
+
 
 class History(Answers):
     """Compares clients' logs, each a list of (line, answer), with the history that their accepted edits make."""
@@ -203,7 +205,7 @@ class History(Answers):
             self.lost[number] += 1
             try:
                 if said and (said.kind in EDITS or said.kind == "load") and made(before, said) == self.now:
-                    self.counts["edits whose answer nobody heard"] += 1
+                    self.counts[UNHEARD] += 1
                     return
             except hands.Fault:
                 pass
