@@ -220,13 +220,17 @@ class Run:
         check_reach(count)
         return rest_of(cart)
 
+    def check_halt(self, cart, count, fault):
+        """Raises the fault of a machine that halts in one of so many frames."""
+        halt = self.played(cart, count).halt
+        if halt is not None:
+            raise hands.Fault(fault + " by ".join(halt.split(" ")))
+
     def drawn(self, cart, first, last, fault):
         """The pictures of these frames."""
         if first >= last:
             return b""
-        halt = self.played(cart, last).halt
-        if halt is not None:
-            raise hands.Fault(fault + " by ".join(halt.split(" ")))
+        self.check_halt(cart, last, fault)
         if last - first > MOST_DRAWN:
             raise Open("too many pictures for this comparison")
         return BLACK * (last - first)
@@ -256,9 +260,12 @@ class Run:
         ram_after = self.played(cart, last).ram_after if last > 1 else lambda _: bytes(128)
         return "".join("%d %s\n" % (count, ram_after(count).hex().upper()) for count in range(first, last)).encode()
 
-    def digest(self, cart, every=600):
+    def digest(self, cart, every=None):
         cart, frames = self.movie(cart)
-        self.drawn(cart, 0, len(frames), "halted at ")
+        if frames:
+            self.check_halt(cart, len(frames), "halted at ")
+        self.seen["digest: more than 600 frames without EVERY"] += every is None and len(frames) > 600
+        every = every or 600
         text = hands.movie_text(cart, frames)
         lines = ["a26digest 1", "profile 2", "cart " + sha256(cart).hexdigest(), "movie " + sha256(text).hexdigest()]
         for first in range(0, len(frames), every):
@@ -317,6 +324,17 @@ def broken_promises(old, new, script):
         last = said
     now += old[rest:]
     return None if now == new and script[-1:] in ("", "\n") else "another movie"
+
+
+def longest_hunk(script):
+    """How many frames the longest hunk of a script removes and adds, where each frame is a run of its own. Four runs stay between two hunks."""
+    longest = frames = end = 0
+    for text in script.split("\n")[:-1]:
+        kind, (place, count), _ = hands.understood(text, False)
+        frames = (frames if place - end < 4 else 0) + count
+        end = place if kind == "delete" else place + count
+        longest = max(longest, frames)
+    return longest
 
 
 def is_one_change(old, frame):
