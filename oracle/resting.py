@@ -44,6 +44,8 @@ IDLE = answers.image_of("load", ["000=" + UNPLAYED, "FFC=00F0"]).frame
 @lru_cache(1000)
 def rest_of(cart):
     """What each frame of a cartridge comes to, where no input changes it."""
+    if len(cart) not in answers.SIZES.values():
+        raise Open("a cartridge of another size")
     start = int.from_bytes(cart[-4:-2], "little")
     code = bytes.fromhex(UNPLAYED)
     if start == 0xF000 and cart[:3] == code:

@@ -96,7 +96,7 @@ def unlike_frames(rng, count):
 
 def blocks_moved(rng, frames):
     """The frames in blocks, some of which are gone, doubled or in another place."""
-    longest, share = rng.choice((2, 5, 40)), rng.choice((0.02, 0.2, 1))
+    longest, share = rng.choice((2, 3, 5, 40)), rng.choice((0.1, 0.5, 1, 1))
     blocks, place = [], 0
     while place < len(frames):
         end = place + rng.randint(1, longest)
@@ -111,6 +111,8 @@ def blocks_moved(rng, frames):
             blocks[place] = blocks[place] * 2
         else:
             blocks[place], blocks[other] = blocks[other], blocks[place]
+    if rng.random() < 0.3:
+        rng.shuffle(blocks)
     return [frame for block in blocks for frame in block]
 
 
