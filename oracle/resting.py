@@ -109,10 +109,13 @@ class KeptOfDraft(Kept):
 
     def __init__(self, kept):
         super().__init__()
-        self.shots, self.movie = set(kept.shots), kept.movie
+        self.shots = set(kept.shots)
 
     def edited(self, *edit):
         self.shots = left(self.shots, *edit)
+
+    def cut(self, movie):
+        """Nothing is left to be cut before a look."""
 
     def work(self, movie, last):
         new = added(self.shots, movie, last)

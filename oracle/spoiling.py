@@ -229,17 +229,30 @@ def some_look(rng, length, is_script):
 
 def keeping_line(rng, length, is_script):
     """A line that keeps states of a movie of three strides or more, cuts them, or tells of them."""
-    if rng.random() < 0.04:
+    way = rng.random()
+    if way < 0.04:
         return line_to_length(rng, length)
     places = (63, 64, 65, 127, 128, 129, 191, 192, 193, length) if length < LENGTHS[0] - 9 else (64, 127, 128, 255, 256, 257, 511, 512, 513, 640)
     place = max(0, min(rng.choice(places), length - rng.randrange(2)))
-    frame = hands.some_frame(rng)
-    lines = ["shot %d" % place, "shot %d" % place, "work %d" % place, "replace %d 1 %s" % (place, frame), "insert %d 1 %s" % (place, frame), "delete %d 1" % place]
+    if way < 0.25:
+        return "work %d" % place
+    if way < 0.45:
+        return edit_at(rng, place, is_script)
+    if is_script:
+        return "shot %d" % place
+    if way < 0.65:
+        return rng.choice(("shot %d", "picture %d", "ram %d", "digest %d", "lag %d " + str(place + 1))) % place
+    return rng.choice(("states", "share", "movie", "states", "share", "begin", "begin", "commit", "drop"))
+
+
+def edit_at(rng, place, is_script):
+    """An edit at this place. What is repeated ends there."""
+    frame, count = hands.some_frame(rng), rng.choice((0, 1, 1, 2))
+    lines = ["replace %d %d %s" % (place, count, frame), "insert %d %d %s" % (place, count, frame), "delete %d %d" % (place, count)]
     if not is_script:
-        lines += ["picture %d", "ram %d", "digest %d", "lag %d " + str(place + 1), "press %d 1 " + frame, "copy 0 1 %d", "repeat %d 1 1", "replace %d 0 " + frame]
-        lines += ["states"] * 4 + ["share"] * 3 + ["movie", "begin", "commit", "commit", "drop"]
-    line = rng.choice(lines)
-    return line % place if "%" in line else line
+        back = min(place, rng.choice((0, 1, 64)))
+        lines += ["press %d %d %s" % (place, count, frame), "copy 0 %d %d" % (count, place), "repeat %d %d 1" % (place - back, back), "repeat %d %d 1" % (place - back, back)]
+    return rng.choice(lines)
 
 
 def line_to_length(rng, length):
@@ -280,7 +293,7 @@ def broken_line(rng):
 
 def some_lines(rng, holder, most):
     """Lines that a holder can answer, as text; those that the page leaves open are left out."""
-    lines, tries, keeps = [], 0, rng.random() < 0.25
+    lines, tries, keeps = [], 0, rng.random() < 0.4
     if keeps:
         lines = ["load 000=%s FFC=00F0" % resting.UNPLAYED, "insert 0 %d %s" % (rng.choice(LENGTHS) if rng.random() < 0.3 else rng.randint(130, 210), hands.some_frame(rng))]
     elif rng.random() < 0.7:
