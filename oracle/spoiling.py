@@ -295,7 +295,7 @@ def some_lines(rng, holder, most):
     """Lines that a holder can answer, as text; those that the page leaves open are left out."""
     lines, tries, keeps = [], 0, rng.random() < 0.4
     if keeps:
-        lines = ["load 000=%s FFC=00F0" % resting.UNPLAYED, "insert 0 %d %s" % (rng.choice(LENGTHS) if rng.random() < 0.3 else rng.randint(130, 210), hands.some_frame(rng))]
+        lines = ["load 000=%s FFC=00F0" % rng.choice((resting.UNPLAYED, resting.UNPLAYED, "02")), "insert 0 %d %s" % (rng.choice(LENGTHS) if rng.random() < 0.3 else rng.randint(130, 210), hands.some_frame(rng))]
     elif rng.random() < 0.7:
         lines = [some_load(rng), "insert 0 %d %s" % (rng.choice((1, 9, 63, 64, 65, 130, 200)), hands.some_frame(rng))]
     lines = [line for line in lines if holder.answer(line)]
