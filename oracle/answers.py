@@ -283,4 +283,3 @@ class Answers:
 
     def differ(self, number, line, head, wanted):
         self.report(number, line, head, wanted)
-

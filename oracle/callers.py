@@ -97,7 +97,8 @@ class Lines:
             kind = "delete"
         elif kind == "delete" and self.length < LEAST:
             kind = "insert"
-        return getattr(self, kind, None)() if hasattr(self, kind) else self.look(kind)
+        make = getattr(self, kind, None)
+        return make() if make else self.look(kind)
 
     def place(self):
         """A frame that is there, mostly; often an early one."""
@@ -354,7 +355,7 @@ def run_client(client, count, leaves, gate, held, others, answered, report):
         trouble = "no answer in time; the last line that was answered is %r" % (client.log[-1:],)
     except Gone as gone:
         trouble = "the answers ended in the middle: %r, not answered are %r" % (gone.args[0], client.unanswered[:3])
-    except (OSError, ValueError, IndexError) as error:
+    except Exception as error:  # whatever it is, the others' logs are compared all the same
         trouble = "%s: %s; the last line that was answered is %r" % (type(error).__name__, error, client.log[-1:])
     report({"number": client.number, "log": client.log, "unanswered": client.unanswered, "leaves": leaves, "rest": client.rest,
             "heard": client.heard, "trouble": trouble})

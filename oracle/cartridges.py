@@ -16,11 +16,12 @@ from writer import DOCUMENTED, OPCODE_OF, Writer
 # ---- noise -----------------------------------------------------------------------------------------------------------
 
 def wild_cartridge(rng, size):
-    """Documented opcodes and random bytes; the vectors lead into the cartridge."""
+    """Documented opcodes and random bytes. The vectors lead into the cartridge, but seldom one of them leads elsewhere."""
     share = rng.choice((0.7, 0.97, 1.0))
     image = bytearray(rng.choice(DOCUMENTED) if rng.random() < share else rng.randrange(256) for _ in range(size))
+    elsewhere = rng.choice((size - 4, size - 2)) if rng.random() < 0.1 else None
     for at in (size - 4, size - 2):
-        target = 4096 * rng.randrange(1, 16, 2) + rng.randrange(4096)
+        target = 4096 * rng.randrange(int(at != elsewhere), 16, 2) + rng.randrange(4096)
         image[at], image[at + 1] = target % 256, target // 256
     return bytes(image)
 

@@ -12,7 +12,7 @@ import machine
 import readings
 from answers import hands
 from readings import MOST
-from resting import BLACK, MOST_PLAYED, Open, lag_line, rest_of
+from resting import BLACK, MOST_PLAYED, Open, check_reach, rest_of
 
 MOST_BYTES = 16777216
 MOST_DRAWN = 200
@@ -43,6 +43,10 @@ def number_of(word, kind):
     return int(match.group(1))
 
 
+def is_flag(word):
+    return word.startswith("-") and word != "-"
+
+
 def apart(command, words):
     """The words without flags, and those with a flag."""
     plain, flagged, words = [], {}, list(words)
@@ -50,11 +54,11 @@ def apart(command, words):
         word = words.pop(0)
         if word == "--":
             return plain + words, flagged
-        if not word.startswith("-"):
+        if not is_flag(word):
             plain.append(word)
         elif word not in FLAGS.get(command, ()) or not words:
             raise Wrong
-        elif word in flagged or words[0].startswith("-"):
+        elif word in flagged or is_flag(words[0]):
             raise Open("a flag that is given twice, or is followed by one")
         else:
             flagged[word] = words.pop(0)
@@ -100,9 +104,10 @@ def sized(cart):
     return cart
 
 
-def within(first, last, count, most=None):
-    if first > last or last > count:
-        raise hands.Fault("range %d to %d of %d" % (first, last, count if most is None else most))
+def within(first, last, most, length):
+    """Raises the fault of a range that doesn't end at `most` or before it, in a movie of that length."""
+    if not first <= last <= most:
+        raise hands.Fault("range %d to %d of %d" % (first, last, length))
 
 
 # ---- commands: each gives its output, or raises its fault
@@ -117,7 +122,7 @@ class Run:
             words = [word.decode() for word in words]
         except UnicodeDecodeError:
             return NOT_TEXT
-        if not words or words[0] == "--" or {"-", "-h", "-V"} & set(words):
+        if not words or words[0] == "--" or {"-h", "-V"} & set(words):
             raise Open("no words, or a flag that the page doesn't name")
         if words[1:] == ["--help"] and words[0] in FORMS or words in (["--help"], ["--version"]):
             return FOR_PEOPLE
@@ -174,7 +179,7 @@ class Run:
 
     def cut(self, cart, first, last):
         cart, frames = self.movie(cart)
-        within(first, last, len(frames))
+        within(first, last, len(frames), len(frames))
         return hands.movie_text(cart, frames[first:last])
 
     def diff(self, cart, old):
@@ -212,17 +217,20 @@ class Run:
 
     def played(self, cart, count):
         """What each frame comes to, where so many are to be played."""
-        if count > MOST_PLAYED:
-            raise Open("too many frames for this comparison")
+        check_reach(count)
         return rest_of(cart)
+
+    def check_halt(self, cart, count, fault):
+        """Raises the fault of a machine that halts in one of so many frames."""
+        halt = self.played(cart, count).halt
+        if halt is not None:
+            raise hands.Fault(fault + " by ".join(halt.split(" ")))
 
     def drawn(self, cart, first, last, fault):
         """The pictures of these frames."""
         if first >= last:
             return b""
-        halt = self.played(cart, last).halt
-        if halt is not None:
-            raise hands.Fault(fault + " by ".join(halt.split(" ")))
+        self.check_halt(cart, last, fault)
         if last - first > MOST_DRAWN:
             raise Open("too many pictures for this comparison")
         return BLACK * (last - first)
@@ -236,10 +244,8 @@ class Run:
     def film(self, cart, first=0, last=None):
         cart, frames = self.movie(cart)
         last = len(frames) if last is None else last
-        within(first, last, len(frames))
-        if 0 < first < last and rest_of(cart).halt is not None:
-            raise Open("the first halted frame of a film that begins behind it")
-        return self.drawn(cart, first, last, "frame 0 halted at ")
+        within(first, last, len(frames), len(frames))
+        return self.drawn(cart, first, last, "frame %d halted at " % first)
 
     def export(self, cart, first, last, _workers):
         cart, frames = self.movie(cart)
@@ -251,12 +257,15 @@ class Run:
         within(first, last, len(frames) + 1, len(frames))
         if first == last:
             return b""
-        ram = self.played(cart, last).ram if last > 1 else bytes(128)
-        return "".join("%d %s\n" % (count, (ram if count else bytes(128)).hex().upper()) for count in range(first, last)).encode()
+        ram_after = self.played(cart, last).ram_after if last > 1 else lambda _: bytes(128)
+        return "".join("%d %s\n" % (count, ram_after(count).hex().upper()) for count in range(first, last)).encode()
 
-    def digest(self, cart, every=600):
+    def digest(self, cart, every=None):
         cart, frames = self.movie(cart)
-        self.drawn(cart, 0, len(frames), "halted at ")
+        if frames:
+            self.check_halt(cart, len(frames), "halted at ")
+        self.seen["digest: more than 600 frames without EVERY"] += every is None and len(frames) > 600
+        every = every or 600
         text = hands.movie_text(cart, frames)
         lines = ["a26digest 1", "profile 2", "cart " + sha256(cart).hexdigest(), "movie " + sha256(text).hexdigest()]
         for first in range(0, len(frames), every):
@@ -276,9 +285,7 @@ class Run:
 
     def lag(self, cart):
         cart, frames = self.movie(cart)
-        if frames:
-            self.played(cart, len(frames))
-        return lag_line(0, len(frames)).encode()
+        return self.played(cart, len(frames)).lag_lines(0, len(frames)) if frames else b""
 
     def trace(self, count):
         cart, = self.inputs.read([])
@@ -317,6 +324,17 @@ def broken_promises(old, new, script):
         last = said
     now += old[rest:]
     return None if now == new and script[-1:] in ("", "\n") else "another movie"
+
+
+def longest_hunk(script):
+    """How many frames the longest hunk of a script removes and adds, where each frame is a run of its own. Four runs stay between two hunks."""
+    longest = frames = end = 0
+    for text in script.split("\n")[:-1]:
+        kind, (place, count), _ = hands.understood(text, False)
+        frames = (frames if place - end < 4 else 0) + count
+        end = place if kind == "delete" else place + count
+        longest = max(longest, frames)
+    return longest
 
 
 def is_one_change(old, frame):

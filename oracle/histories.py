@@ -8,6 +8,8 @@ from collections import Counter
 import drafts
 from answers import EDITS, Answers, Movie, at_of, hands, made, understood
 
+UNHEARD = "edits whose answer nobody heard"
+
 
 class History(Answers):
     """Compares clients' logs, each a list of (line, answer), with the history that their accepted edits make."""
@@ -118,7 +120,14 @@ class History(Answers):
         for number, log in self.logs.items():
             for turn in log[places[number]:]:
                 self.differ(number, turn.line, turn.head, "a number of edits up to %d" % self.last)
+        self.compare_end()
         return self.now
+
+    def compare_end(self):
+        """The first client asks for entries at the end until there are none: it was told of all edits then."""
+        asked = [turn for turn in self.logs.get(0, []) if turn.line.startswith("history ") and turn.head.startswith("history ")]
+        line, head = asked[-1][:2] if asked else ("the whole history", "no answer")
+        self.expect(0, line, head, "history %d %d 0 0" % (self.last, self.last))
 
     def make_edit(self, at):
         """The edit of this number."""
@@ -196,7 +205,7 @@ class History(Answers):
             self.lost[number] += 1
             try:
                 if said and (said.kind in EDITS or said.kind == "load") and made(before, said) == self.now:
-                    self.counts["edits whose answer nobody heard"] += 1
+                    self.counts[UNHEARD] += 1
                     return
             except hands.Fault:
                 pass

@@ -1,7 +1,7 @@
 """Random cartridges of the kinds `kernel`, `quick` and `long`: frame loops that draw."""
 
 import tia
-from writer import COUNTER, DATA, INPUTS, INSTAT, INTIM, SWCHA, TIM1T, UNDOCUMENTED, Writer
+from writer import COUNTER, DATA, INPUTS, INSTAT, INTIM, SWBCNT, SWCHA, TIM1T, UNDOCUMENTED, Writer
 
 
 class Kernel(Writer):
@@ -13,6 +13,9 @@ class Kernel(Writer):
         self.is_quick = bool(masks)
         # VBLANK's D6 stays set for many frames, and D1 clear.
         self.latches_buttons = rng.random() < (0.5 if self.is_quick else 0.2)
+        # Some read no input in frames where the counter has one of these bits, and some read ports alone that show no pin, or one.
+        self.idle_mask = rng.choice((0, 1, 2, 3, 6, 7))
+        self.reads_ports_alone = not self.latches_buttons and rng.random() < 0.25
         self.free = "AX"  # Y counts the lines of a band
 
     def write(self):
@@ -45,6 +48,9 @@ class Kernel(Writer):
         if self.rng.random() < 0.3:
             for port in range(4):
                 self.store_value(self.riot_address(port), self.value())
+        if self.reads_ports_alone:
+            for direction in (SWCHA + 1, SWBCNT):
+                self.store_value(self.riot_address(direction), self.rng.choice((0xFF, 0xFF, 0xFE)))
         for register in tia.PLACE_STROBES:
             self.delay()
             self.strobe(register)
@@ -121,14 +127,21 @@ class Kernel(Writer):
         self.land(ahead)
 
     def read_inputs(self):
-        """What the controllers say is folded into RAM."""
+        """What the controllers say is folded into RAM, in all frames or in some."""
+        ahead = None
+        if self.idle_mask:
+            self.op("LDA", "zp", COUNTER)
+            self.load("AND", self.idle_mask)
+            ahead = self.branch_ahead("BNE")
         buttons = (self.tia_address(0x0C), self.tia_address(0x0D))
         for byte in range(6):
             ports = (self.riot_address(SWCHA), self.riot_address(SWCHA + 2))
-            self.op("LDA", "abs", self.rng.choice(buttons if self.latches_buttons else buttons + ports))
+            self.op("LDA", "abs", self.rng.choice(buttons if self.latches_buttons else ports if self.reads_ports_alone else buttons + ports))
             if self.rng.random() < (0.9 if self.latches_buttons else 0.5):
                 self.op(self.rng.choice(("EOR", "ADC")), "zp", INPUTS + byte)
             self.op("STA", "zp", INPUTS + byte)
+        if ahead is not None:
+            self.land(ahead)
 
     def blank_lines(self):
         """Some 30 lines, counted or timed."""

@@ -39,8 +39,25 @@ class Played:
         self.pictures.append(picture)
         return Frame(bytes(model.ram), b"" if picture is None else machine.ppm_bytes(picture), model.is_lag)
 
+    # -- what readings.Holder asks of a movie
+
+    def halt_in(self, frame):
+        return None if self.frames[frame].pixmap else "%04X %02X" % (self.halt.address, self.halt.opcode)
+
     def ram_after(self, count):
         return self.frames[count - 1].ram if count else self.start
+
+    def pixmap(self, frame):
+        return self.frames[frame].pixmap
+
+    def lag_lines(self, first, last):
+        """A line for each stretch of lag frames, as long as it goes from one frame to the one before another."""
+        lines = []
+        for is_lag, stretch in groupby(range(first, last), key=lambda number: self.frames[number].is_lag):
+            numbers = list(stretch)
+            if is_lag:
+                lines.append("%d %d\n" % (numbers[0], numbers[-1] + 1))
+        return "".join(lines).encode()
 
 
 # ---- the lines, as bytes ---------------------------------------------------------------------------------------------
@@ -76,13 +93,3 @@ def first_difference(one, other):
         if a != b:
             return place
     return "none"
-
-
-def lag_lines(played):
-    """A line for each stretch of lag frames, as long as it goes."""
-    lines = []
-    for is_lag, stretch in groupby(enumerate(played.frames), key=lambda numbered: numbered[1].is_lag):
-        numbers = [number for number, _ in stretch]
-        if is_lag:
-            lines.append("%d %d\n" % (numbers[0], numbers[-1] + 1))
-    return "".join(lines).encode()

@@ -1,6 +1,6 @@
 """What texts mean: movie texts of both kinds, scripts, and the lines of a conversation with their answers.
 
-Written from docs/FORMATS.md alone. The model of edits is that of `hands`, understood lines are those of answers.py. What is shown and kept is that of resting.py.
+Written from docs/FORMATS.md alone. The model of edits is that of `hands`, understood lines are those of answers.py. Which states are kept is that of resting.py, and so is what is shown.
 """
 
 import re
@@ -10,7 +10,7 @@ from hashlib import sha256
 import answers
 import drafts
 from answers import Movie, Said, hands
-from resting import BLACK, Kept, KeptOfDraft, Open, lag_line, rest_of
+from resting import BLACK, HEAD_OF_PIXMAP, Kept, KeptOfDraft, Open, check_reach, rest_of
 
 MOST = hands.MOST
 HEADS = {"a26movie 1": 65536, "a26movie 2": MOST}
@@ -125,7 +125,7 @@ class Side:
         if said.kind == "copy":
             place = said.numbers[2]
         self.movie = answers.made(self.movie, said)
-        self.kept.edited(said.kind, place, count)
+        self.kept.edited(said.kind, place, count, self.length())
         self.at += 1
 
     def length(self):
@@ -153,12 +153,13 @@ class Holder:
         return getattr(self, "of_" + said.kind)(side, *said.numbers)
 
     def edit(self, side, said):
-        if side.at >= MOST_EDITS:
-            if self.draft:
-                raise Open("`full` in a draft")
-            return "full %d" % side.at
+        is_full = side.at >= MOST_EDITS
         if said.kind == "load" and self.draft:
+            if is_full:
+                raise Open("a `load` in a draft that is full")
             return "in draft"
+        if is_full:
+            return "full %d" % side.at
         frames = side.movie.frames
         try:
             side.make(said)
@@ -186,13 +187,10 @@ class Holder:
 
     def of_states(self, side):
         side.kept.share(side.movie)
-        side.kept.sure()
         return " ".join(map(str, ["states", side.at, len(side.kept.shots)] + sorted(side.kept.shots)))
 
     def of_share(self, _side):
-        gained = self.main.kept.share(self.main.movie)
-        self.main.kept.sure()
-        return "share %d %d" % (self.main.at, gained)
+        return "share %d %d" % (self.main.at, self.main.kept.share(self.main.movie))
 
     def of_history(self, _side, first):
         told = self.edits[first:first + answers.TOLD_AT_ONCE]
@@ -210,58 +208,75 @@ class Holder:
         if not self.draft:
             return "no draft"
         edits = drafts.stroke(self.main.movie.frames, self.draft.movie.frames)
-        if self.main.at + len(edits) > MOST_EDITS:
+        at = self.main.at + len(edits)
+        if at > MOST_EDITS:
             return "full %d" % self.main.at
         for lines in edits:
-            self.main.kept.edited("replace", int(lines[0].split(" ")[1]), 0)
+            for line in lines:
+                self.main.make(answers.understood(line))
         self.edits += edits
-        self.main.movie, self.draft, self.main.at = self.draft.movie, None, self.main.at + len(edits)
+        self.draft, self.main.at = None, at
         return "commit %d %d" % (self.main.at, self.main.length())
 
     def of_drop(self, _side):
         dropped, self.draft = self.draft, None
         return "dropped" if dropped else "no draft"
 
-    # -- what a cartridge that needn't be played shows
+    # -- what the movie shows
 
-    def shown(self, side, frame, keeps_to, show):
-        """What `show` makes of the first frame that is played, or the refusal."""
+    def shows(self, side):
+        """What its frames come to, where the cartridge needn't be played."""
+        return rest_of(side.movie.cart)
+
+    def shown(self, side, frame, keeps_to, tell):
+        """What `tell` makes of the movie and of the first frame that is played for a look at this one, or the refusal."""
         if frame >= side.length():
             return self.no_frame(side)
-        rest = rest_of(side.movie.cart)
+        movie = self.shows(side)
         first = side.kept.play(side.movie, frame, keeps_to)
-        return show(first) if rest.halt is None else "halted %d %s" % (side.at, rest.halt)
+        halt = movie.halt_in(frame)
+        return "halted %d %s" % (side.at, halt) if halt else tell(movie, first)
 
     def of_shot(self, side, frame):
-        return self.shown(side, frame, frame + 1, lambda first: "shot %d %d ran %d lit 0" % (side.at, frame, frame + 1 - first))
+        return self.shown(side, frame, frame + 1, lambda movie, first: "shot %d %d ran %d lit %d" % (
+            side.at, frame, frame + 1 - first, lit_pixels(movie.pixmap(frame))))
 
     def of_picture(self, side, frame):
-        return self.shown(side, frame, frame + 1, lambda _: "picture %d %d %d\n%s" % (side.at, frame, len(BLACK), BLACK.decode()))
+        return self.shown(side, frame, frame + 1, lambda movie, _: "picture %d %d %d\n%s" % (side.at, frame, len(BLACK), movie.pixmap(frame).decode("latin-1")))
 
     def of_pictures(self, side, first, last):
+        check_reach(min(last, side.length()))
         heads = [self.of_picture(side, frame) for frame in range(first, last)]
         return "".join(head if head.startswith("picture ") else head + "\n" for head in heads)
 
     def of_digest(self, side, frame):
-        hexes = sha256(bytes(128)).hexdigest(), sha256(BLACK).hexdigest()
-        return self.shown(side, frame, frame, lambda _: "digest %d %d ram %s picture %s" % (side.at, frame, *hexes))
+        return self.shown(side, frame, frame, lambda movie, _: "digest %d %d ram %s picture %s" % (
+            side.at, frame, sha256(movie.ram_after(frame + 1)).hexdigest(), sha256(movie.pixmap(frame)).hexdigest()))
 
     def of_ram(self, side, count):
         if count > side.length():
             return self.no_frame(side)
-        ram = rest_of(side.movie.cart).ram if count else bytes(128)
+        ram = self.shows(side).ram_after(count) if count else bytes(128)
         side.kept.play(side.movie, count, count)
         return "ram %d %d %s" % (side.at, count, ram.hex().upper())
 
     def of_lag(self, side, first, last):
         if not first <= last <= side.length():
             return self.no_frame(side)
-        rest_of(side.movie.cart)
+        check_reach(last)
+        lines = self.shows(side).lag_lines(first, last).decode()
         side.kept.play(side.movie, first, first)
-        return "lag %d %d %d %d\n%s" % (side.at, first, last, len(lag_line(first, last)), lag_line(first, last))
+        return "lag %d %d %d %d\n%s" % (side.at, first, last, len(lines), lines)
 
     def of_work(self, side, frame):
         return "work jobs 1 kept %d stale 0" % side.kept.work(side.movie, frame)
+
+
+@lru_cache(1000)
+def lit_pixels(pixmap):
+    """How many pixels aren't black."""
+    pixels = pixmap[len(HEAD_OF_PIXMAP):]
+    return sum(pixels[at:at + 3] != bytes(3) for at in range(0, len(pixels), 3))
 
 
 def whole(answer):

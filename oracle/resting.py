@@ -1,7 +1,6 @@
-"""What two kinds of cartridges show without being played: one that halts in its first frame whatever is pressed, and one that does nothing for ever. And which states are
-kept, as far as the page says it.
+"""What two kinds of cartridges show without being played: one that halts in its first frame whatever is pressed, and one that does nothing for ever. And which states are kept.
 
-Written from docs/FORMATS.md, "Kept states", "Conversation" and "Drafts", and from docs/MACHINE.md. Where the page leaves it open, or only another machine could tell it, Open is raised.
+Written from docs/FORMATS.md, "Kept states", "Conversation" and "Drafts", and from docs/MACHINE.md. Where a machine would have to play, or to play too long, Open is raised.
 """
 
 from collections import namedtuple
@@ -13,8 +12,8 @@ import machine
 
 MOST_PLAYED = 2000  # frames of one run
 UNPLAYED = "4C00F0"  # JMP to itself, at F000
-BLACK = b"P6\n160 210\n255\n" + bytes(3 * 160 * 210)
-FIRST_STRIDE = 64
+HEAD_OF_PIXMAP = b"P6\n160 210\n255\n"
+BLACK = HEAD_OF_PIXMAP + bytes(3 * 160 * 210)
 
 
 class Open(Exception):
@@ -23,7 +22,21 @@ class Open(Exception):
 
 # ---- cartridges that needn't be played
 
-Rest = namedtuple("Rest", "halt ram")  # what each frame comes to: an address and a byte, or nothing where it is black; the RAM
+class Rest(namedtuple("Rest", "halt ram")):
+    """What each frame comes to: an address and a byte, or nothing where it is black; the RAM. Its methods are those of a movie that was played (looks.py)."""
+
+    def halt_in(self, _frame):
+        return self.halt
+
+    def ram_after(self, count):
+        return self.ram if count else bytes(128)
+
+    def pixmap(self, _frame):
+        return BLACK
+
+    def lag_lines(self, first, last):
+        return b"%d %d\n" % (first, last) if first < last else b""
+
 
 IDLE = answers.image_of("load", ["000=" + UNPLAYED, "FFC=00F0"]).frame
 
@@ -31,6 +44,8 @@ IDLE = answers.image_of("load", ["000=" + UNPLAYED, "FFC=00F0"]).frame
 @lru_cache(1000)
 def rest_of(cart):
     """What each frame of a cartridge comes to, where no input changes it."""
+    if len(cart) not in answers.SIZES.values():
+        raise Open("a cartridge of another size")
     start = int.from_bytes(cart[-4:-2], "little")
     code = bytes.fromhex(UNPLAYED)
     if start == 0xF000 and cart[:3] == code:
@@ -44,28 +59,17 @@ def rest_of(cart):
     return Rest("%04X %02X" % (model.halt.address, model.halt.opcode), bytes(model.ram))
 
 
-def lag_line(first, last):
-    return "%d %d\n" % (first, last) if first < last else ""
-
-
 # ---- kept states
 
 class Kept:
-    """After how many frames states are kept, those for shots and those of the list of `work`."""
+    """After how many frames states are kept, those for shots and those of the list of `work`. A halted machine's are kept, too."""
 
     def __init__(self):
-        self.shots, self.listed, self.movie, self.is_sure = set(), set(), answers.BLANK, True
+        self.shots, self.listed, self.movie = set(), set(), answers.BLANK
 
-    def edited(self, said_kind, place, count):
-        """An edit cuts the list at once."""
-        self.listed = self.left(self.listed, said_kind, place, count)
-
-    def left(self, states, kind, place, count):
-        if kind == "load":
-            return set()
-        if kind == "repeat" and any(place < f <= place + count for f in states):
-            raise Open("the place at which a `repeat` cuts")
-        return {f for f in states if f <= place}
+    def edited(self, *edit):
+        """An edit cuts the list at once. Its kind, place and count, and the movie's length after it, are those of `left`."""
+        self.listed = left(self.listed, *edit)
 
     def cut(self, movie):
         """Step 1 of a shot."""
@@ -79,15 +83,8 @@ class Kept:
 
     def play(self, movie, last, keeps_to):
         """The frame from which frames up to `last` are played; states up to `keeps_to` are kept on the way."""
+        check_reach(last)
         self.cut(movie)
-        if len(movie.frames) < FIRST_STRIDE:
-            return 0
-        if last > MOST_PLAYED:
-            raise Open("too many frames for this comparison")
-        if rest_of(movie.cart).halt is not None:
-            self.is_sure = False
-            return 0
-        self.sure()
         start = max((f for f in self.shots if f <= last), default=0)
         self.shots |= set(grid(movie, start, keeps_to))
         return start
@@ -95,27 +92,16 @@ class Kept:
     def share(self, movie):
         """The states for shots gain those of the list; how many they gain."""
         self.cut(movie)
-        if any(f % answers.stride(len(movie.frames)) for f in self.listed):
-            raise Open("states of `work` that aren't multiples of the stride any more")
         gained = self.listed - self.shots
         self.shots |= gained
         return len(gained)
 
     def work(self, movie, last):
-        if len(movie.frames) >= FIRST_STRIDE and rest_of(movie.cart).halt is not None:
-            raise Open("which states of a halted machine `work` keeps")
-        end = min(last, len(movie.frames))
-        if end > MOST_PLAYED:
-            raise Open("too many frames for this comparison")
-        start = max((f for f in self.listed if f <= end), default=0)
-        new = set(grid(movie, start, end)) - self.listed
+        """How many states the list gains."""
+        new = added(self.listed, movie, last)
         self.listed |= new
         self.share(movie)
         return len(new)
-
-    def sure(self):
-        if not self.is_sure:
-            raise Open("which states the frames before a halt leave")
 
 
 class KeptOfDraft(Kept):
@@ -123,15 +109,38 @@ class KeptOfDraft(Kept):
 
     def __init__(self, kept):
         super().__init__()
-        self.shots, self.movie, self.is_sure = set(kept.shots), kept.movie, kept.is_sure
+        self.shots = set(kept.shots)
 
-    def edited(self, said_kind, place, count):
-        self.shots = self.left(self.shots, said_kind, place, count)
+    def edited(self, *edit):
+        self.shots = left(self.shots, *edit)
+
+    def cut(self, movie):
+        """Nothing is left to be cut before a look."""
 
     def work(self, movie, last):
-        if len(movie.frames) >= FIRST_STRIDE:
-            raise Open("`work` in a draft")
-        return 0
+        new = added(self.shots, movie, last)
+        self.shots |= new
+        return len(new)
+
+
+def check_reach(last):
+    if last > MOST_PLAYED:
+        raise Open("too many frames for this comparison")
+
+
+def left(states, kind, place, count, length):
+    """The states that an edit leaves of a list, where the movie has that length then."""
+    if kind == "load":
+        return set()
+    last, step = place + count if kind == "repeat" else place, answers.stride(length)
+    return {f for f in states if f <= last and f % step == 0}
+
+
+def added(states, movie, last):
+    """The states that `work` adds to these."""
+    last = min(last, len(movie.frames))
+    check_reach(last)
+    return set(grid(movie, max((f for f in states if f <= last), default=0), last))
 
 
 def grid(movie, after, last):

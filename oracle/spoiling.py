@@ -8,6 +8,7 @@ import resting
 from answers import hands
 from readings import MOST
 
+LENGTHS = (32831, 32832, 65663, 65664, 131327, 131328)  # the last one of each stride, and the first one of the next
 ODD_BYTES = b" \0\t\r\n0129x+-.RF=A\x7f\x80\xc3\xff"
 NUMBER = re.compile(rb"[0-9]+")
 
@@ -82,6 +83,37 @@ def some_frames(rng, most=40):
     if rng.random() < 0.1:
         frames = frames + [hands.some_frame(rng)] * rng.choice((60, 64, 100, 130)) + frames
     return frames
+
+
+def unlike_frames(rng, count):
+    """So many frames, each unlike the one before."""
+    frames = [hands.some_frame(rng)]
+    while len(frames) < count:
+        frame = hands.some_frame(rng)
+        frames += [frame] if frame != frames[-1] else []
+    return frames
+
+
+def blocks_moved(rng, frames):
+    """The frames in blocks, some of which are gone, doubled or in another place."""
+    longest, share = rng.choice((2, 3, 5, 40)), rng.choice((0.1, 0.5, 1, 1))
+    blocks, place = [], 0
+    while place < len(frames):
+        end = place + rng.randint(1, longest)
+        blocks.append(frames[place:end])
+        place = end
+    for place in rng.sample(range(len(blocks)), int(share * len(blocks))):
+        other = rng.randrange(len(blocks))
+        way = rng.randrange(4)
+        if way == 0:
+            blocks[place] = []
+        elif way == 1:
+            blocks[place] = blocks[place] * 2
+        else:
+            blocks[place], blocks[other] = blocks[other], blocks[place]
+    if rng.random() < 0.3:
+        rng.shuffle(blocks)
+    return [frame for block in blocks for frame in block]
 
 
 def older_text(cart, frames):
@@ -196,15 +228,38 @@ def some_look(rng, length, is_script):
 
 
 def keeping_line(rng, length, is_script):
-    """A line that keeps states of a movie of about three strides, cuts them, or tells of them."""
-    place = max(0, min(rng.choice((63, 64, 65, 127, 128, 129, 191, 192, 193, length)), length - rng.randrange(2)))
-    frame = hands.some_frame(rng)
-    lines = ["shot %d" % place, "shot %d" % place, "work %d" % place, "replace %d 1 %s" % (place, frame), "insert %d 1 %s" % (place, frame), "delete %d 1" % place]
+    """A line that keeps states of a movie of three strides or more, cuts them, or tells of them."""
+    way = rng.random()
+    if way < 0.04:
+        return line_to_length(rng, length)
+    places = (63, 64, 65, 127, 128, 129, 191, 192, 193, length) if length < LENGTHS[0] - 9 else (64, 127, 128, 255, 256, 257, 511, 512, 513, 640)
+    place = max(0, min(rng.choice(places), length - rng.randrange(2)))
+    if way < 0.25:
+        return "work %d" % place
+    if way < 0.45:
+        return edit_at(rng, place, is_script)
+    if is_script:
+        return "shot %d" % place
+    if way < 0.65:
+        return rng.choice(("shot %d", "picture %d", "ram %d", "digest %d", "lag %d " + str(place + 1))) % place
+    return rng.choice(("states", "share", "movie", "states", "share", "begin", "begin", "commit", "drop"))
+
+
+def edit_at(rng, place, is_script):
+    """An edit at this place. What is repeated ends there."""
+    frame, count = hands.some_frame(rng), rng.choice((0, 1, 1, 2))
+    lines = ["replace %d %d %s" % (place, count, frame), "insert %d %d %s" % (place, count, frame), "delete %d %d" % (place, count)]
     if not is_script:
-        lines += ["picture %d", "ram %d", "digest %d", "lag %d " + str(place + 1), "press %d 1 " + frame, "copy 0 1 %d", "repeat %d 1 1", "replace %d 0 " + frame]
-        lines += ["states"] * 4 + ["share"] * 3 + ["movie", "begin", "commit", "commit", "drop"]
-    line = rng.choice(lines)
-    return line % place if "%" in line else line
+        back = min(place, rng.choice((0, 1, 64)))
+        lines += ["press %d %d %s" % (place, count, frame), "copy 0 %d %d" % (count, place), "repeat %d %d 1" % (place - back, back), "repeat %d %d 1" % (place - back, back)]
+    return rng.choice(lines)
+
+
+def line_to_length(rng, length):
+    """A line after which the movie has one of the lengths at which the stride changes, or is short again."""
+    new = rng.choice(LENGTHS + (200,))
+    place = rng.choice((64, 128, 192, 256, 512, 1024, min(length, new)))
+    return "insert %d %d %s" % (min(place, length), new - length, hands.some_frame(rng)) if new > length else "delete %d %d" % (min(place, new), length - new)
 
 
 def some_line(rng, length, at, is_script):
@@ -238,9 +293,9 @@ def broken_line(rng):
 
 def some_lines(rng, holder, most):
     """Lines that a holder can answer, as text; those that the page leaves open are left out."""
-    lines, tries, keeps = [], 0, rng.random() < 0.25
+    lines, tries, keeps = [], 0, rng.random() < 0.4
     if keeps:
-        lines = ["load 000=%s FFC=00F0" % resting.UNPLAYED, "insert 0 %d %s" % (rng.randint(130, 210), hands.some_frame(rng))]
+        lines = ["load 000=%s FFC=00F0" % rng.choice((resting.UNPLAYED, resting.UNPLAYED, "02")), "insert 0 %d %s" % (rng.choice(LENGTHS) if rng.random() < 0.3 else rng.randint(130, 210), hands.some_frame(rng))]
     elif rng.random() < 0.7:
         lines = [some_load(rng), "insert 0 %d %s" % (rng.choice((1, 9, 63, 64, 65, 130, 200)), hands.some_frame(rng))]
     lines = [line for line in lines if holder.answer(line)]
@@ -258,7 +313,7 @@ def some_lines(rng, holder, most):
             continue
         if answer is not None or not holder.is_script:
             lines.append(line)
-    return "".join(line + "\n" for line in lines).encode("latin-1")
+    return spelled(lines)
 
 
 def numbers_spoilt(rng, text):
@@ -281,8 +336,19 @@ def end_of_talk(rng):
 
 
 def full_lines(rng, holder):
-    """So many edits that no more are made after them, and some lines."""
+    """So many edits that no more are made after them, and some lines; of a conversation also drafts."""
     many = b"delete 0 0\n" * (readings.MOST_EDITS - holder.main.at - rng.randrange(3))
-    some = ["insert 0 1 ..... ..... .....", "len", "load 000=00", "replace 9 9 ..... ..... .....", "delete 0 0", "input 0"]
-    some += [] if holder.is_script else ["press 0 1 R.... ..... .....", "copy 0 0 0", "repeat 0 0 0", "history 0", "history 999998", "history 1000000"]
-    return many + "".join(rng.choice(some) + "\n" for _ in range(9)).encode()
+    edits = ["insert 0 1 ..... ..... .....", "replace 9 9 ..... ..... .....", "delete 0 0"]
+    some = edits + ["len", "load 000=00", "input 0"]
+    if holder.is_script:
+        return many + spelled(rng.choices(some, k=9))
+    edits += ["press 0 1 R.... ..... .....", "copy 0 0 0", "repeat 0 0 0"]
+    some += edits + ["history 0", "history 999998", "history 1000000"]
+    lines = []
+    for _ in range(3):
+        lines += ["begin"] + rng.choices(edits, k=rng.randrange(5)) + rng.choice((["commit"], ["commit", "drop"], ["drop"])) + rng.choices(some, k=rng.randrange(4))
+    return many + spelled(lines)
+
+
+def spelled(lines):
+    return "".join(line + "\n" for line in lines).encode("latin-1")
