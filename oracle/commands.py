@@ -221,7 +221,7 @@ class Run:
         return rest_of(cart)
 
     def check_halt(self, cart, count, fault):
-        """Raises the fault of a machine that halts in one of so many frames."""
+        """Raises the fault of a machine that halts in one of this number of frames."""
         halt = self.played(cart, count).halt
         if halt is not None:
             raise hands.Fault(fault + " by ".join(halt.split(" ")))

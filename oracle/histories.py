@@ -124,7 +124,7 @@ class History(Answers):
         return self.now
 
     def compare_end(self):
-        """The first client asks for entries at the end until there are none: it was told of all edits then."""
+        """The first client asks for entries at the end until there are none: it has all edits then."""
         asked = [turn for turn in self.logs.get(0, []) if turn.line.startswith("history ") and turn.head.startswith("history ")]
         line, head = asked[-1][:2] if asked else ("the whole history", "no answer")
         self.expect(0, line, head, "history %d %d 0 0" % (self.last, self.last))

@@ -1,4 +1,4 @@
-"""What two kinds of cartridges show without being played: one that halts in its first frame whatever is pressed, and one that does nothing for ever. And which states are kept.
+"""What two kinds of cartridges show without being played: one that halts in its first frame whatever is pressed, and one that does nothing forever. And which states are kept.
 
 Written from docs/FORMATS.md, "Kept states", "Conversation" and "Drafts", and from docs/MACHINE.md. Where a machine would have to play, or to play too long, Open is raised.
 """

@@ -228,7 +228,7 @@ def some_look(rng, length, is_script):
 
 
 def keeping_line(rng, length, is_script):
-    """A line that keeps states of a movie of three strides or more, cuts them, or tells of them."""
+    """A line that keeps states of a movie of three strides or more, cuts them, or asks for them."""
     way = rng.random()
     if way < 0.04:
         return line_to_length(rng, length)
