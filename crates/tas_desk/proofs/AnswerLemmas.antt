@@ -5,8 +5,8 @@ use Rattle.tas_movie.specs.declared.edit.Edit.{Edit}
 use Rattle.tas_movie.specs.declared.edit.EditRefusal.{EditRefusal}
 use Rattle.tas_movie.specs.declared.edit.EditRefusal.TheVariants.{Place as PlaceRefusal, Long as LongRefusal}
 use Rattle.tas_movie.specs.Edit.{edited, refusal}
-use Rattle.tas_session.specs.declared.entry.Entry.{Entry}
-use Rattle.tas_session.specs.History.{most_edits, movie_of, entries_of}
+use Rattle.tas_published.specs.declared.entry.Entry.{Entry}
+use Rattle.tas_published.specs.History.{most_edits, movie_of, entries_of}
 use Rattle.tas_session.specs.Session.{SessionContent, IsEditError, error_at, edit_refusal, refusal_at}
 use Rattle.std.specs.Prelude.{Option, Some, None, Ok, Err, if◌then◌else◌}
 use Rattle.tas_session.specs.declared.replies.Receipt.{Receipt}

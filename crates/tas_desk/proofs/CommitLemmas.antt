@@ -9,15 +9,16 @@ use Rattle.tas_movie.specs.declared.edit.Edit.{Edit}
 use Rattle.tas_movie.specs.Edit.{edited}
 use Rattle.tas_movie.specs.declared.edit.EditRefusal.{EditRefusal}
 use Rattle.tas_movie.specs.declared.edit.EditRefusal.TheVariants.{Place as PlaceRefusal, Long as LongRefusal}
-use Rattle.tas_session.specs.declared.entry.Entry.{Entry}
+use Rattle.tas_published.specs.declared.entry.Entry.{Entry}
 use Rattle.tas_session.specs.declared.replies.Receipt.{Receipt}
 use Rattle.tas_session.specs.declared.replies.EditError.TheVariants.{Serial, Full, Memory}
 use Rattle.tas_session.specs.declared.replies.CommitError.{CommitError}
 use Rattle.tas_session.specs.declared.replies.CommitError.TheVariants.{Moved, Refused}
-use Rattle.tas_session.specs.History.{most_edits, movie_of, entries_of}
+use Rattle.tas_published.specs.History.{most_edits, movie_of, entries_of}
 use Rattle.tas_session.specs.Session.{SessionContent, left_by, after_entry, error_at}
-use Rattle.tas_session.specs.Strokes.{entries_by, edited_by, refusal_in, refused_as, after_entries, commit_refusal, commit_refusal_at, IsCommitError}
-use Rattle.tas_session.proofs.HistoryLemmas.{movie_of-push}
+use Rattle.tas_published.specs.Strokes.{entries_by, edited_by, refusal_in}
+use Rattle.tas_session.specs.Commits.{refused_as, after_entries, commit_refusal, commit_refusal_at, IsCommitError}
+use Rattle.tas_published.proofs.HistoryLemmas.{movie_of-push}
 use Rattle.tas_desk.specs.Inside.Counting.{IsCounted}
 use Rattle.tas_desk.specs.Locked.{LockedContent, locked_of, locked_after, locked_after_all}
 use Rattle.tas_desk.specs.Seats.{SeatContent, seat_of}

@@ -6,10 +6,10 @@ use Rattle.tas_movie.specs.Content.{MovieContent}
 use Rattle.tas_movie.specs.declared.edit.Edit.{Edit}
 use Rattle.tas_movie.specs.declared.edit.EditRefusal.{EditRefusal}
 use Rattle.tas_movie.specs.Edit.{edited, IsAllowed}
-use Rattle.tas_session.specs.declared.entry.Entry.{Entry}
+use Rattle.tas_published.specs.declared.entry.Entry.{Entry}
 use Rattle.tas_session.specs.declared.replies.Receipt.{Receipt}
 use Rattle.tas_session.specs.declared.replies.EditError.{EditError}
-use Rattle.tas_session.specs.History.{movie_of}
+use Rattle.tas_published.specs.History.{movie_of}
 use Rattle.tas_session.specs.Session.{SessionContent, left_by, after_entry, refusal_at, refusal_by, IsEditError}
 use Rattle.tas_desk.specs.Inside.Counting.{IsCounted}
 use Rattle.tas_desk.specs.Locked.{LockedContent, locked_of, locked_after}

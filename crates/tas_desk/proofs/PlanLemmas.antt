@@ -6,10 +6,10 @@ use Rattle.tas_movie.specs.declared.edit.EditRefusal.TheVariants.{Place as Place
 use Rattle.tas_movie.specs.Content.{MovieContent}
 use Rattle.tas_movie.specs.declared.edit.Edit.{Edit}
 use Rattle.tas_movie.specs.Edit.{check_answer, refusal, IsAllowed}
-use Rattle.tas_session.specs.declared.entry.Entry.{Entry}
+use Rattle.tas_published.specs.declared.entry.Entry.{Entry}
 use Rattle.tas_session.specs.declared.replies.EditError.{EditError}
 use Rattle.tas_session.specs.declared.replies.EditError.TheVariants.{Serial, Full, Place, Long, Memory}
-use Rattle.tas_session.specs.History.{most_edits, entries_of, movie_of}
+use Rattle.tas_published.specs.History.{most_edits, entries_of, movie_of}
 use Rattle.tas_session.specs.Session.{error_at, refusal_at, refusal_by, IsEditError}
 use Rattle.tas_desk.proofs.AnswerLemmas.{no_error}
 

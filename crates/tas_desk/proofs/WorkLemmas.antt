@@ -9,16 +9,16 @@ use Rattle.tas_movie.specs.Front.{IsCommonFront}
 use Rattle.tas_green.specs.Green.{IsLawful}
 use Rattle.tas_green.specs.Grid.{stride}
 use Rattle.tas_green.specs.Zone.{state_at, nearest, first_of, where_true, is_on_grid}
-use Rattle.tas_session.specs.declared.entry.Entry.{Entry}
+use Rattle.tas_published.specs.declared.entry.Entry.{Entry}
 use Rattle.tas_session.specs.declared.replies.Offered.{Offered}
 use Rattle.tas_desk.specs.declared.shared.Shared.{Shared}
 use Rattle.tas_desk.specs.declared.work.Worked.{Worked}
-use Rattle.tas_session.specs.History.{movie_of}
+use Rattle.tas_published.specs.History.{movie_of}
 use Rattle.tas_session.specs.Session.{SessionContent}
 use Rattle.tas_desk.specs.Locked.{LockedContent, locked_of}
 use Rattle.tas_desk.specs.Work.{IsJobFrom, IsJobOf, Takes, IsTaken, with_job, KeepsCart}
 use Rattle.tas_desk.specs.Zones.{ZoneContent, CutsWindow, IsMadeFor, IsShared, Shares}
-use Rattle.tas_session.proofs.PrefixLemmas.{prefix_self, prefix_trans}
+use Rattle.tas_published.proofs.PrefixLemmas.{prefix_self, prefix_trans}
 
 -- a session's job is one from the states under the lock
 pub job_from : {A E : Type 0} (session : SessionContent A) (locked : LockedContent A) (near : ℕ) (r : Result JobContent E) → session.movie ≡ movie_of session.journal → locked_of session.journal session.zone ≡ locked

@@ -10,15 +10,15 @@ use Rattle.tas_green.specs.Grid.{stride}
 use Rattle.tas_green.specs.Green.{IsLawful, IsMoved, IsPlayedFrom}
 use Rattle.tas_green.specs.Window.{AreMovieStates}
 use Rattle.tas_green.proofs.MovingLemmas.{moved_same}
-use Rattle.tas_session.specs.declared.movie_copy.MovieCopy.{MovieCopy}
-use Rattle.tas_session.specs.declared.entry.Entry.{Entry}
-use Rattle.tas_session.specs.declared.reader_view.ReaderView.{ReaderView}
-use Rattle.tas_session.specs.Version.{VersionContent, version_of}
-use Rattle.tas_session.specs.History.{movie_of}
-use Rattle.tas_session.specs.Published.{HasSeenMore}
+use Rattle.tas_published.specs.declared.movie_copy.MovieCopy.{MovieCopy}
+use Rattle.tas_published.specs.declared.entry.Entry.{Entry}
+use Rattle.tas_published.specs.declared.reader_view.ReaderView.{ReaderView}
+use Rattle.tas_published.specs.Version.{VersionContent, version_of}
+use Rattle.tas_published.specs.History.{movie_of}
+use Rattle.tas_published.specs.Published.{HasSeenMore}
 use Rattle.tas_desk.specs.Seats.{SeatContent, seat_of, IsSeated, HasSeen}
 use Rattle.tas_desk.specs.Zones.{ZoneContent, Shares, IsMadeFor}
-use Rattle.tas_session.specs.Readings.{version_after}
+use Rattle.tas_published.specs.Readings.{version_after}
 use Rattle.tas_desk.proofs.SeatLemmas.{entries_of-prefix}
 
 pub seated_on : {A : Type 0} (v w : ReaderView A) (b : Book) (cut sum number made : ℕ) (z y : ZoneContent A) → IsSeated v b cut sum number made z → HasSeenMore v w → y.made_for.registry ≡ z.made_for.registry → IsSeated w b cut sum number made y

@@ -3,8 +3,8 @@ use Rattle.std.proofs.Common.{◌≡◌, ℕ, List, sym, subst, Result, Ok, Err}
 use Rattle.std.specs.Prelude.{IfErr, OnOk}
 use Rattle.vcs_cpu.specs.declared.halt.Halt.{Halt}
 use Rattle.tas_session.specs.declared.replies.Shot.{Shot}
-use Rattle.tas_session.specs.declared.replies.ShotError.{ShotError}
-use Rattle.tas_session.specs.declared.replies.ShotError.TheVariants.{Halted}
+use Rattle.tas_published.specs.declared.errors.ShotError.{ShotError}
+use Rattle.tas_published.specs.declared.errors.ShotError.TheVariants.{Halted}
 use Rattle.tas_desk.specs.Seats.{SeatContent, IsZoneDrawn}
 
 -- the frames were played, whether the picture or a halt is the answer

@@ -2,13 +2,14 @@
 use Rattle.std.specs.Prelude.{◌≡◌, ◌≢◌, ℕ, ◌+◌, ◌<◌, List, ◌++◌, length, Result, Ok, Err, None, MatchResult, OnOk, IfErr}
 use mathlib.Core.List.{IsPrefix}
 use Rattle.tas_movie.specs.declared.edit.Edit.{Edit}
-use Rattle.tas_session.specs.declared.entry.Entry.{Entry}
+use Rattle.tas_published.specs.declared.entry.Entry.{Entry}
 use Rattle.tas_session.specs.declared.replies.Receipt.{Receipt}
 use Rattle.tas_session.specs.declared.replies.CommitError.{CommitError}
 use Rattle.tas_session.specs.declared.replies.CommitError.TheVariants.{Moved, Refused}
 use Rattle.tas_session.specs.declared.replies.EditError.TheVariants.{Memory}
-use Rattle.tas_session.specs.History.{movie_of}
-use Rattle.tas_session.specs.Strokes.{entries_by, edited_by, refusal_in, commit_refusal_at, IsCommitError}
+use Rattle.tas_published.specs.History.{movie_of}
+use Rattle.tas_published.specs.Strokes.{entries_by, edited_by, refusal_in}
+use Rattle.tas_session.specs.Commits.{commit_refusal_at, IsCommitError}
 use Rattle.tas_desk.specs.Seats.{SeatContent, seat_of}
 
 -- what an answer says of the length of the history at which it is given, where the caller says that there are `at` edits: a receipt says

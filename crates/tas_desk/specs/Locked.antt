@@ -1,8 +1,8 @@
 -- What lies under the lock of a desk.
 use Rattle.std.specs.Prelude.{List, [], ◌∷◌, ◌++◌, fold}
 use Rattle.tas_green.specs.declared.savestate.Savestate.{Savestate}
-use Rattle.tas_session.specs.declared.entry.Entry.{Entry}
-use Rattle.tas_session.specs.History.{movie_of}
+use Rattle.tas_published.specs.declared.entry.Entry.{Entry}
+use Rattle.tas_published.specs.History.{movie_of}
 use Rattle.tas_session.specs.Session.{left_by}
 
 -- the history, and the kept states

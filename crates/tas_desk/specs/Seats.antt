@@ -2,26 +2,27 @@
 use Rattle.std.specs.Prelude.{◌≡◌, ℕ, ◌+◌, ◌<◌, ◌≤◌, ◌==◌, List, [], ◌∷◌, ◌++◌, length, count_by, Result, Ok, Err, Option, Some, None, MatchResult, OnOk, All}
 use mathlib.Core.List.{IsPrefix}
 use Rattle.logbook.specs.Pages.{Book}
-use Rattle.vcs_machine.specs.declared.input.Input.{Input}
+use Rattle.vcs_inputs.specs.declared.input.Input.{Input}
 use Rattle.tas_movie.specs.declared.edit.Edit.{Edit}
 use Rattle.tas_movie.specs.Content.{MovieContent}
 use Rattle.tas_movie.specs.declared.edit.EditRefusal.{EditRefusal}
 use Rattle.tas_movie.specs.declared.edit.EditRefusal.TheVariants.{Place as PlaceRefusal, Long as LongRefusal}
 use Rattle.tas_movie.specs.Edit.{edited, IsAllowed}
-use Rattle.tas_session.specs.declared.entry.Entry.{Entry}
-use Rattle.tas_session.specs.declared.reader_view.ReaderView.{ReaderView}
+use Rattle.tas_published.specs.declared.entry.Entry.{Entry}
+use Rattle.tas_published.specs.declared.reader_view.ReaderView.{ReaderView}
 use Rattle.tas_session.specs.declared.replies.Receipt.{Receipt}
 use Rattle.tas_session.specs.declared.replies.EditError.{EditError}
 use Rattle.tas_session.specs.declared.replies.EditError.TheVariants.{Serial, Full, Place, Long, Memory}
-use Rattle.tas_session.specs.declared.replies.InputError.{InputError}
-use Rattle.tas_session.specs.declared.replies.InputError.TheVariants.{NoEntry, NoFrame}
-use Rattle.tas_session.specs.History.{movie_of, entries_of}
-use Rattle.tas_session.specs.Answers.{answer_edit, answer_input}
+use Rattle.tas_published.specs.declared.errors.InputError.{InputError}
+use Rattle.tas_published.specs.declared.errors.InputError.TheVariants.{NoEntry, NoFrame}
+use Rattle.tas_published.specs.History.{movie_of, entries_of}
+use Rattle.tas_session.specs.Answers.{answer_edit}
+use Rattle.tas_published.specs.Looks.{answer_input}
 use Rattle.tas_session.specs.Session.{refusal_at, refusal_by, IsEditError}
-use Rattle.tas_session.specs.Published.{KnowsRegistry}
+use Rattle.tas_published.specs.Published.{KnowsRegistry}
 use Rattle.tas_session.specs.declared.replies.Shot.{Shot}
-use Rattle.tas_session.specs.declared.replies.ShotError.{ShotError}
-use Rattle.tas_session.specs.declared.replies.ShotError.TheVariants.{NoEntry as NoShotEntry, NoFrame as NoShotFrame, Memory as NoShotMemory, Halted as ShotHalted}
+use Rattle.tas_published.specs.declared.errors.ShotError.{ShotError}
+use Rattle.tas_published.specs.declared.errors.ShotError.TheVariants.{NoEntry as NoShotEntry, NoFrame as NoShotFrame, Memory as NoShotMemory, Halted as ShotHalted}
 use Rattle.tas_desk.specs.Zones.{ZoneContent, IsPlayed, IsViewed}
 
 -- how many seats a desk has at most

@@ -2,11 +2,11 @@
 use Rattle.std.specs.Prelude.{◌≡◌, ℕ, ◌≤◌, List, length, Result, Ok, Err}
 use Rattle.tas_green.specs.Run.{state_after}
 use Rattle.tas_green.specs.Green.{IsReachedFrom}
-use Rattle.tas_session.specs.declared.entry.Entry.{Entry}
+use Rattle.tas_published.specs.declared.entry.Entry.{Entry}
 use Rattle.tas_session.specs.declared.replies.Reached.{Reached}
-use Rattle.tas_session.specs.declared.replies.StateError.{StateError}
-use Rattle.tas_session.specs.declared.replies.StateError.TheVariants.{NoEntry, NoFrame, Memory}
-use Rattle.tas_session.specs.History.{movie_of}
+use Rattle.tas_published.specs.declared.errors.StateError.{StateError}
+use Rattle.tas_published.specs.declared.errors.StateError.TheVariants.{NoEntry, NoFrame, Memory}
+use Rattle.tas_published.specs.History.{movie_of}
 use Rattle.tas_desk.specs.Zones.{ZoneContent, IsMadeFor}
 use Rattle.tas_desk.specs.Seats.{SeatContent}
 

@@ -8,12 +8,12 @@ use Rattle.tas_movie.specs.Front.{IsCommonFront}
 use Rattle.tas_green.specs.Green.{IsLawful}
 use Rattle.tas_green.specs.Grid.{most_states, stride}
 use Rattle.tas_green.specs.Zone.{state_at, nearest, first_of, where_true, is_on_grid}
-use Rattle.tas_session.specs.declared.entry.Entry.{Entry}
+use Rattle.tas_published.specs.declared.entry.Entry.{Entry}
 use Rattle.tas_session.specs.declared.replies.Offered.{Offered}
 use Rattle.tas_desk.specs.declared.work.Worked.{Worked}
 use Rattle.tas_desk.specs.declared.work.WorkError.{WorkError}
 use Rattle.tas_desk.specs.declared.work.WorkError.TheVariants.{Memory}
-use Rattle.tas_session.specs.History.{most_counted, movie_of}
+use Rattle.tas_published.specs.History.{most_counted, movie_of}
 
 -- a job for the first `near` frames of a movie: it has the cartridge, these inputs and the movie's stride, and starts from the
 -- nearest of these states among them

@@ -7,9 +7,9 @@ use Rattle.tas_green.specs.Zone.{state_at, first_of}
 use Rattle.tas_green.specs.Green.{IsLawful, IsMoved, IsShotFrom, HoldsGrid}
 use Rattle.tas_green.specs.Grid.{stride}
 use Rattle.tas_green.specs.Window.{AreMovieStates, IsWindowMoved, IsViewFrom, IsOneAway, both}
-use Rattle.tas_session.specs.declared.entry.Entry.{Entry}
-use Rattle.tas_session.specs.Version.{VersionContent, version_of}
-use Rattle.tas_session.specs.History.{movie_of}
+use Rattle.tas_published.specs.declared.entry.Entry.{Entry}
+use Rattle.tas_published.specs.Version.{VersionContent, version_of}
+use Rattle.tas_published.specs.History.{movie_of}
 
 -- the history that it was made for, with its movie, the states that are kept, and those of the window beside them
 pub record ZoneContent (A : Type 0) : Type 0 where

@@ -9,13 +9,13 @@
 ghost use Rattle.std.specs.Prelude.{◌≡◌, ◌≢◌, ◌↔◌, ◌⊎◌, ℕ, ◌+◌, ◌<◌, ◌≤◌, ◌==◌, [], length, take, drop, slice_get, Some, count_by, IsTrue, IfOk, IfErr, OnOk, Err, MatchResult, All};
 ghost use Rattle.tas_session.specs.declared.replies.OfferError.TheVariants.{Cartridge, Memory};
 ghost use Rattle.tas_session.specs.declared.replies.OpenError.TheVariants.{Memory as OutOfMemory};
-ghost use Rattle.tas_session.specs.Answers.{answer_len};
-ghost use Rattle.tas_session.specs.History.{most_edits, movie_of, IsLegal};
+ghost use Rattle.tas_published.specs.Looks.{answer_len};
+ghost use Rattle.tas_published.specs.History.{most_edits, movie_of, IsLegal};
 ghost use Rattle.tas_session.specs.Shots.{IsShotAt, MatchPlayed};
 ghost use Rattle.tas_desk.specs.States.{IsStateFor, IsZoneReached};
 ghost use Rattle.tas_desk.specs.Zones.{CutsWindow, IsShared, IsShort, IsZoneAway, blank_zone};
 ghost use Rattle.tas_green.specs.Grid.{most_states};
-ghost use Rattle.tas_session.specs.Strokes.{edits_of};
+ghost use Rattle.tas_published.specs.Strokes.{edits_of};
 ghost use Rattle.tas_desk.specs.Commits.{IsCommitted};
 ghost use Rattle.tas_desk.specs.Closing.{made_by};
 ghost use Rattle.tas_desk.specs.Seats.{most_seats, name_of, seat_of, HasSeen, KeepsZone, IsZoneShot, IsZoneViewed, IsEdited, IsEditedBy, IsWhole, IsSettled, IsInput};

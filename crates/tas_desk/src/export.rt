@@ -1,7 +1,7 @@
 //! Exports of pictures.
 
 ghost use Rattle.std.specs.Prelude.{◌≡◌, ◌↔◌, ◌≤◌, IsTrue, IfOk, IfErr, length};
-ghost use Rattle.tas_session.specs.History.{movie_of};
+ghost use Rattle.tas_published.specs.History.{movie_of};
 ghost use Rattle.tas_desk.specs.Seats.{KeepsZone};
 ghost use Rattle.tas_film.specs.Runs.{most_workers, IsPlan};
 ghost use Rattle.tas_desk.specs.Inside.Exporting.{end_at as end_of};

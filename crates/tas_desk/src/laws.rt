@@ -5,7 +5,7 @@ ghost use Rattle.tas_session.specs.declared.session.TheConstants.{MAX_EDITS};
 ghost use Rattle.tas_desk.specs.declared.desk.TheConstants.{MAX_SEATS};
 ghost use Rattle.tas_desk.specs.declared.export.TheConstants.{MAX_EXPORT};
 ghost use Rattle.tas_film.specs.declared.runs.TheConstants.{MAX_WORKERS};
-ghost use Rattle.tas_session.specs.History.{most_edits};
+ghost use Rattle.tas_published.specs.History.{most_edits};
 ghost use Rattle.tas_desk.specs.Seats.{most_seats};
 ghost use Rattle.tas_desk.specs.Exports.{most_exported};
 ghost use Rattle.tas_film.specs.Runs.{most_workers};

@@ -5,7 +5,7 @@ ghost use Rattle.tas_movie.specs.Content.{MovieContent};
 ghost use Rattle.tas_movie.specs.declared.edit.Edit.{Edit as EditValue};
 ghost use Rattle.tas_movie.specs.declared.edit.EditRefusal.{EditRefusal as RefusalValue};
 ghost use Rattle.tas_movie.specs.Edit.{IsAllowed, check_answer};
-ghost use Rattle.tas_session.specs.History.{movie_of};
+ghost use Rattle.tas_published.specs.History.{movie_of};
 ghost use Rattle.tas_session.specs.Session.{refusal_by, IsEditError};
 
 use crate::{EditError, Session};

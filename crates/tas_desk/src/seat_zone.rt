@@ -6,9 +6,9 @@ ghost use Rattle.tas_green.specs.Run.{state_after, picture_of, answer_of};
 ghost use Rattle.tas_green.specs.Green.{IsLawful, IsMoved, IsShotFrom, IsReachedFrom};
 ghost use Rattle.tas_green.specs.Zone.{state_at};
 ghost use Rattle.tas_green.specs.Window.{AreMovieStates, IsViewFrom, both};
-ghost use Rattle.tas_session.specs.History.{movie_of};
+ghost use Rattle.tas_published.specs.History.{movie_of};
 ghost use Rattle.tas_desk.specs.Zones.{CutsWindow, IsZoneAway, Shares, blank_zone};
-ghost use Rattle.tas_session.specs.Readings.{version_after};
+ghost use Rattle.tas_published.specs.Readings.{version_after};
 
 use crate::Entry;
 use logbook::Rule;

@@ -5,9 +5,9 @@ use Rattle.std.proofs.lemmas.Bool.{cases_eq, cases_lt, lt-ltb, le-ltb}
 use Rattle.std.proofs.lemmas.List.{get_or-take}
 use Rattle.std.proofs.lemmas.Option.{slice_get-get_or, slice_get_past}
 use Rattle.vcs_tia.specs.Image.{ppm_bytes}
-use Rattle.vcs_machine.specs.declared.input.Input.{Input}
+use Rattle.vcs_inputs.specs.declared.input.Input.{Input}
 use Rattle.vcs_machine.specs.declared.state.State.{State}
-use Rattle.vcs_machine.specs.Input.{no_input}
+use Rattle.vcs_inputs.specs.Input.{no_input}
 use Rattle.vcs_machine.specs.Machine.{after, frame_picture}
 use Rattle.tas_movie.specs.Content.{MovieContent}
 use Rattle.tas_green.specs.Run.{state_after, picture_of}

@@ -3,7 +3,7 @@ use Rattle.std.proofs.Common.{◌≡◌, ℕ, ◌+◌, ◌-◌, ◌<◌, ◌≤�
 use Rattle.std.specs.Prelude.{slice_get}
 use Rattle.std.proofs.lemmas.List.{length-drop, take-append-drop, take_rest}
 use lib.Seq.{drop-drop}
-use Rattle.vcs_machine.specs.declared.input.Input.{Input}
+use Rattle.vcs_inputs.specs.declared.input.Input.{Input}
 use Rattle.tas_movie.specs.Content.{MovieContent, most_inputs}
 use Rattle.tas_movie.specs.Runs.{runs_of}
 use Rattle.tas_movie.specs.Front.{IsCommonFront}

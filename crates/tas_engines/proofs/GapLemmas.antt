@@ -2,7 +2,7 @@
 use Rattle.std.proofs.Common.{◌≡◌, ℕ, ◌+◌, ◌-◌, ◌<◌, ◌≤◌, List, [], ◌++◌, length, take, drop, refl, sym, ap, subst, ◌∙◌, arith, append_assoc}
 use Rattle.std.proofs.lemmas.List.{length-drop, length-take-le, take-take, drop-take, append-nil}
 use lib.Seq.{drop-drop}
-use Rattle.vcs_machine.specs.declared.input.Input.{Input}
+use Rattle.vcs_inputs.specs.declared.input.Input.{Input}
 use Rattle.tas_movie.specs.Runs.{runs_of}
 use Rattle.tas_movie.specs.Front.{IsCommonFront}
 use Rattle.tas_language.specs.declared.change.Change.{Change}

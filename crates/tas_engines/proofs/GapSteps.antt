@@ -5,8 +5,8 @@ use Rattle.std.specs.List.{flat_map}
 use Rattle.std.proofs.lemmas.Bool.{eq-eqb}
 use Rattle.std.proofs.lemmas.List.{length-replicate, length-drop, length-take-le, take-take, drop_more, drop-take, append-nil, get_or-take, get_or-drop}
 use lib.Seq.{take-append_seam, drop-append-add, drop-drop}
-use Rattle.vcs_machine.specs.Input.{no_input}
-use Rattle.vcs_machine.specs.declared.input.Input.{Input}
+use Rattle.vcs_inputs.specs.Input.{no_input}
+use Rattle.vcs_inputs.specs.declared.input.Input.{Input}
 use Rattle.tas_movie.specs.Content.{most_inputs}
 use Rattle.tas_movie.specs.declared.run.FrameRun.{FrameRun}
 use Rattle.tas_movie.specs.Runs.{run_inputs, runs_of, BeginOtherwise, AreLongest}

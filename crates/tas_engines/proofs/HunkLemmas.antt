@@ -5,8 +5,8 @@ use Rattle.std.proofs.lemmas.Bool.{ne_eqb}
 use Rattle.std.proofs.lemmas.Option.{get_or_from_slice_get}
 use Rattle.std.proofs.lemmas.List.{length-append, length-replicate, length-drop, length-take-le, take-append-drop, append-nil, get_or-append_right, get_or-drop}
 use lib.Seq.{take-add, drop-drop}
-use Rattle.vcs_machine.specs.Input.{no_input}
-use Rattle.vcs_machine.specs.declared.input.Input.{Input}
+use Rattle.vcs_inputs.specs.Input.{no_input}
+use Rattle.vcs_inputs.specs.declared.input.Input.{Input}
 use Rattle.tas_movie.specs.Content.{MovieContent, most_inputs}
 use Rattle.tas_movie.specs.Edit.{edited, IsAllowed, spliced}
 use Rattle.tas_language.specs.Commands.{HasNumbers}

@@ -1,7 +1,7 @@
 -- What a cartridge and a text make.
 use Rattle.std.proofs.Common.{◌≡◌, ℕ, List, refl, sym, ap, ◌∙◌}
 use Rattle.std.proofs.lemmas.Bool.{both_ways}
-use Rattle.vcs_machine.specs.Cart.{is_cart_size}
+use Rattle.vcs_inputs.specs.Cart.{is_cart_size}
 use Rattle.tas_movie.specs.Content.{MovieContent}
 use Rattle.tas_movie.proofs.TwoTexts.{one_movie, read_no_error}
 use Rattle.tas_engines.specs.declared.fault.RunFault.{RunFault}

@@ -5,8 +5,8 @@ use Rattle.std.specs.List.{flat_map}
 use Rattle.std.proofs.lemmas.Grind.{flat_map-append}
 use Rattle.std.proofs.lemmas.List.{length-append, take-append-drop, take_more, take_rest, drop_more, drop_all}
 use lib.Seq.{take-append_seam, drop-append_seam, drop-drop}
-use Rattle.vcs_machine.specs.Input.{no_input}
-use Rattle.vcs_machine.specs.declared.input.Input.{Input}
+use Rattle.vcs_inputs.specs.Input.{no_input}
+use Rattle.vcs_inputs.specs.declared.input.Input.{Input}
 use Rattle.tas_movie.specs.Runs.{run_inputs, runs_of}
 use Rattle.tas_movie.specs.declared.run.FrameRun.{FrameRun}
 use Rattle.tas_movie.proofs.RunLemmas.{length-runs, runs_split}

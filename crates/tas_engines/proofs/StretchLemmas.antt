@@ -6,8 +6,8 @@ use Rattle.std.proofs.lemmas.Bool.{eq-eqb, ne_eqb, cases_lt}
 use Rattle.std.proofs.lemmas.Bool.Decides.{nat_tests}
 use Rattle.std.specs.Prelude.{nat_lt}
 use Rattle.std.proofs.lemmas.List.{append-nil, get_or_default}
-use Rattle.vcs_machine.specs.declared.input.Input.{Input}
-use Rattle.vcs_machine.specs.Input.{no_input}
+use Rattle.vcs_inputs.specs.declared.input.Input.{Input}
+use Rattle.vcs_inputs.specs.Input.{no_input}
 use Rattle.vcs_machine.specs.Machine.{Machine}
 use Rattle.vcs_machine.specs.Lag.{is_lag_frame}
 use Rattle.tas_movie.specs.Content.{MovieContent}

@@ -2,7 +2,7 @@
 use Rattle.std.specs.Prelude.{◌≡◌, ◌≢◌, ℕ, ◌+◌, ◌<◌, nat_lt, if◌then◌else◌, List, [], length, slice_get, ◌++◌, codes, decimal, Bool, true, false, Option, Some, None, Result, Ok, Err}
 use Rattle.vcs_cpu.specs.declared.halt.Halt.{Halt}
 use Rattle.vcs_tia.specs.Image.{ppm_bytes}
-use Rattle.vcs_machine.specs.declared.input.Input.{Input}
+use Rattle.vcs_inputs.specs.declared.input.Input.{Input}
 use Rattle.tas_movie.specs.Content.{MovieContent}
 use Rattle.tas_green.specs.Run.{state_after, picture_of}
 use Rattle.tas_engines.specs.declared.compare.Differences.{Differences}

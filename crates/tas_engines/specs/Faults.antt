@@ -1,7 +1,7 @@
 -- How an engine passes on the faults of its second part, and of what it calls.
 use Rattle.std.specs.Prelude.{Result, Ok, Err}
-use Rattle.vcs_machine.specs.declared.cart.CartError.{CartError}
-use Rattle.vcs_machine.specs.declared.cart.CartError.TheVariants as cart
+use Rattle.vcs_inputs.specs.declared.cart.CartError.{CartError}
+use Rattle.vcs_inputs.specs.declared.cart.CartError.TheVariants as cart
 use Rattle.tas_movie.specs.declared.error.ReadError.{ReadError}
 use Rattle.tas_movie.specs.declared.error.ReadError.TheVariants as text
 use Rattle.tas_engines.specs.declared.fault.RunFault.{RunFault}

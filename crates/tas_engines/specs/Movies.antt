@@ -1,6 +1,6 @@
 -- The movie of a cartridge and a text, and engines of these two inputs.
 use Rattle.std.specs.Prelude.{◌≡◌, ℕ, ◌≤◌, true, false, List, length, ◌⊎◌, Option, Some, Result}
-use Rattle.vcs_machine.specs.Cart.{is_cart_size}
+use Rattle.vcs_inputs.specs.Cart.{is_cart_size}
 use Rattle.tas_movie.specs.Content.{MovieContent, most_inputs}
 use Rattle.tas_movie.specs.Text.{IsText}
 use Rattle.tas_movie.specs.Fault.{fault}

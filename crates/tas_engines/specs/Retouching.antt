@@ -1,8 +1,8 @@
 -- Changes that depend on a movie's frames: the edits that they are, and why one is refused.
 use Rattle.std.specs.Prelude.{◌≡◌, ℕ, ◌+◌, ◌*◌, Bool, not, ◌&&◌, ◌||◌, List, map, length, take, drop, replicate, Option, None}
 use Rattle.std.specs.List.{flat_map}
-use Rattle.vcs_machine.specs.declared.input.Input.{Input}
-use Rattle.vcs_machine.specs.declared.input.Stick.{Stick}
+use Rattle.vcs_inputs.specs.declared.input.Input.{Input}
+use Rattle.vcs_inputs.specs.declared.input.Stick.{Stick}
 use Rattle.tas_movie.specs.Content.{MovieContent}
 use Rattle.tas_movie.specs.declared.edit.Edit.{Edit}
 use Rattle.tas_movie.specs.declared.edit.Edit.TheVariants as edit

@@ -1,6 +1,6 @@
 -- What `tas trace` answers.
 use Rattle.std.specs.Prelude.{◌≡◌, ℕ, true, false, List, length, Option, Result, Ok, Err}
-use Rattle.vcs_machine.specs.Cart.{is_cart_size}
+use Rattle.vcs_inputs.specs.Cart.{is_cart_size}
 use Rattle.vcs_machine.specs.TraceText.{trace_text}
 use Rattle.tas_engines.specs.declared.fault.RunFault.{RunFault}
 use Rattle.tas_engines.specs.declared.fault.RunFault.TheVariants.{Size, Memory}

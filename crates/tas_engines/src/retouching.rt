@@ -1,7 +1,7 @@
 //! Changes that depend on a movie's frames: the edits that they are.
 
 ghost use Rattle.std.specs.Prelude.{◌≡◌, ◌+◌, ◌<◌, ◌^◌, map, length, IfOk};
-ghost use Rattle.vcs_machine.specs.declared.input.Input.{Input};
+ghost use Rattle.vcs_inputs.specs.declared.input.Input.{Input};
 ghost use Rattle.tas_movie.specs.Content.{MovieContent};
 ghost use Rattle.tas_language.specs.declared.retouch.Retouch.TheVariants.{Repeat};
 ghost use Rattle.tas_movie.specs.Edit.{check_answer};

@@ -6,7 +6,7 @@ use Rattle.std.proofs.lemmas.Bool.{eqb-true, eq-eqb, ne_eqb}
 use Rattle.std.proofs.lemmas.Fmt.{length-decimal-le}
 use Rattle.std.proofs.lemmas.List.{append-nil, take-append-drop, length-append, length-replicate, length-drop, length-take-le, get_or-drop, drop-drop, drop_all}
 use Rattle.byte_text.specs.Digits.{hex_byte}
-use Rattle.vcs_machine.specs.declared.input.Input.{Input}
+use Rattle.vcs_inputs.specs.declared.input.Input.{Input}
 use Rattle.tas_movie.specs.Content.{MovieContent, most_inputs}
 use Rattle.tas_movie.specs.Edit.{edited, IsAllowed, spliced, length_refusal, insert_refusal, place_refusal}
 use Rattle.tas_movie.specs.Runs.{run_inputs, runs_of}

@@ -4,7 +4,7 @@ use Rattle.std.specs.Prelude.{replicate, nat_lt, if◌then◌else◌, Option, So
 use Rattle.std.proofs.lemmas.Bool.{cases_lt, le-ltb, lt-ltb}
 use Rattle.std.proofs.lemmas.List.{length-replicate}
 use lib.Seq.{take-append_seam, drop-append-add}
-use Rattle.vcs_machine.specs.declared.input.Input.{Input}
+use Rattle.vcs_inputs.specs.declared.input.Input.{Input}
 use Rattle.tas_movie.specs.Content.{MovieContent, most_inputs}
 use Rattle.tas_movie.specs.Edit.{edited, IsAllowed, length_refusal, first_refusal, spliced}
 use Rattle.tas_movie.specs.declared.edit.EditRefusal.{EditRefusal}

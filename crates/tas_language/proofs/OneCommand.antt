@@ -3,7 +3,7 @@ use Rattle.std.proofs.Common.{◌≡◌, ℕ, suc, ◌+◌, ◌*◌, ◌/◌, �
 use Rattle.std.proofs.lemmas.Fmt.{decimal_injective}
 use Rattle.std.specs.Prelude.{codes, decimal, replicate}
 use Rattle.std.specs.List.{flat_map}
-use Rattle.vcs_machine.specs.declared.input.Input.{Input}
+use Rattle.vcs_inputs.specs.declared.input.Input.{Input}
 use Rattle.tas_movie.specs.Text.{frame_text}
 use Rattle.tas_movie.proofs.TextLemmas.{shown_input-frame}
 use Rattle.tas_language.specs.declared.command.Command.{Command}

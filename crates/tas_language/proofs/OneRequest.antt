@@ -5,8 +5,8 @@ use Rattle.std.proofs.lemmas.List.{append-nil}
 use Rattle.std.proofs.lemmas.Fmt.{decimal_by_steps}
 use Rattle.std.proofs.lemmas.Bool.{false≢true, eq-eqb}
 use Rattle.std.specs.Prelude.{codes, decimal, ◌==◌, if◌then◌else◌}
-use Rattle.vcs_machine.specs.Input.{no_input}
-use Rattle.vcs_machine.specs.declared.input.Input.{Input}
+use Rattle.vcs_inputs.specs.Input.{no_input}
+use Rattle.vcs_inputs.specs.declared.input.Input.{Input}
 use Rattle.tas_movie.specs.Text.{frame_text, mark}
 use Rattle.tas_language.specs.declared.command.Command.{Command}
 use Rattle.tas_language.specs.declared.command.Command.TheVariants.{Load, Edit, Length, InputAt, Shot, Work}

@@ -1,9 +1,9 @@
 -- The lines of a history: each edit as the lines of a script that make it.
 use Rattle.std.specs.Prelude.{◌≡◌, ℕ, ◌+◌, ◌==◌, List, [], ◌∷◌, ◌++◌, length, true, if◌then◌else◌, codes, decimal, Some}
 use Rattle.std.specs.List.{flat_map}
-use Rattle.vcs_machine.specs.Cart.{is_cart_size}
-use Rattle.vcs_machine.specs.Input.{no_input}
-use Rattle.vcs_machine.specs.declared.input.Input.{Input}
+use Rattle.vcs_inputs.specs.Cart.{is_cart_size}
+use Rattle.vcs_inputs.specs.Input.{no_input}
+use Rattle.vcs_inputs.specs.declared.input.Input.{Input}
 use Rattle.tas_movie.specs.declared.edit.Edit.{Edit}
 use Rattle.tas_movie.specs.declared.edit.Edit.TheVariants as edit
 use Rattle.tas_movie.specs.declared.run.FrameRun.{FrameRun}

@@ -9,7 +9,7 @@ ghost use Rattle.tas_language.specs.Commands.{change_text, frames_text, IsChange
 use crate::{Command, one_command_per_line, parse_line};
 use std::alloc::{AllocError, Allocator};
 use tas_movie::print_frame;
-use vcs_machine::Input;
+use vcs_inputs::Input;
 
 /// A change of a movie's inputs, as one line of a script says it.
 #[derive(Clone, Copy, Debug, PartialEq, Eq)]

@@ -12,7 +12,7 @@ use crate::looks::push_digits;
 use itoa::Buffer;
 use std::alloc::{AllocError, Allocator};
 use tas_movie::{Edit, FrameRun, print_frame, run_length};
-use vcs_machine::{Input, SMALL_CART_SIZE};
+use vcs_inputs::{Input, SMALL_CART_SIZE};
 
 /// Appends a number. The place of a run may be past 64 bits, in an edit that no movie allows.
 fn push_number<A: Allocator>(text: &mut Vec<u8, A>, n: u128) -> Result<(), AllocError>

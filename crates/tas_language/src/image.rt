@@ -2,7 +2,7 @@
 
 ghost use Rattle.std.specs.Prelude.{◌≡◌};
 
-use vcs_machine::{CART_SIZE, SMALL_CART_SIZE};
+use vcs_inputs::{CART_SIZE, SMALL_CART_SIZE};
 
 /// A cartridge's bytes, as a line of a script writes them.
 #[derive(Clone, Copy, Debug, PartialEq, Eq)]

@@ -7,7 +7,7 @@ ghost use Rattle.std.specs.List.{flat_map};
 ghost use Rattle.tas_language.specs.Parts.{Part, IsPart, AreParts, IsBytes, IsWordEnd, IsImageOf, AreWritten, hex_text, offset_text, word_text, part_text, overwritten};
 
 use byte_text::split_once;
-use vcs_machine::CART_SIZE;
+use vcs_inputs::CART_SIZE;
 
 /// The value of an upper case hexadecimal digit.
 fn digit(byte: u8) -> Option<u8>

@@ -9,7 +9,7 @@ use crate::Reply;
 use byte_text::hex_digits;
 use std::alloc::{AllocError, Allocator};
 use tas_movie::print_frame;
-use vcs_machine::Input;
+use vcs_inputs::Input;
 
 /// An address as four upper case hexadecimal digits.
 fn address_digits(address: u16) -> [u8; 4]

@@ -1,6 +1,6 @@
 //! What is answered to a line of a script.
 
-use vcs_machine::Input;
+use vcs_inputs::Input;
 
 /// What is answered to a line of a script. `at` is the number of edits that were made before the reply, an
 /// accepted edit of this line included.

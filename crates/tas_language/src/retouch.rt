@@ -5,7 +5,7 @@ ghost use Rattle.tas_language.specs.declared.retouch.Retouch.{Retouch as Asked};
 ghost use Rattle.tas_language.specs.Retouches.{IsRetouchLine};
 
 use crate::words::{after_prefix, place_count_frame, triple};
-use vcs_machine::Input;
+use vcs_inputs::Input;
 
 /// A change that depends on the movie's frames, as one line says it.
 #[derive(Clone, Copy, Debug, PartialEq, Eq)]

@@ -1,13 +1,13 @@
 //! The words of a line.
 
 ghost use Rattle.std.specs.Prelude.{◌≡◌, ◌≢◌, ◌++◌, ◌∷◌, ℕ, List, decimal, IfSome, IfNone};
-ghost use Rattle.vcs_machine.specs.declared.input.Input.{Input as Pressed};
+ghost use Rattle.vcs_inputs.specs.declared.input.Input.{Input as Pressed};
 ghost use Rattle.tas_movie.specs.Text.{frame_text};
 ghost use Rattle.tas_language.specs.Commands.{IsNumber, pair_text, triple_text, frames_text};
 
 use byte_text::{read_decimal, split_once};
 use tas_movie::read_frame;
-use vcs_machine::Input;
+use vcs_inputs::Input;
 
 /// The greatest number of a script: seven digits.
 pub const MAX_NUMBER: usize = 9_999_999;

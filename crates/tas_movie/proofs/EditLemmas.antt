@@ -3,7 +3,7 @@ use Rattle.std.proofs.Common.{◌≡◌, ℕ, ◌+◌, ◌≤◌, Bool, cond, Li
 use Rattle.std.specs.Prelude.{nat_lt}
 use Rattle.std.proofs.lemmas.Bool.{cases_lt, lt-ltb}
 use Rattle.std.proofs.lemmas.List.{take_at, length-take-le}
-use Rattle.vcs_machine.specs.declared.input.Input.{Input}
+use Rattle.vcs_inputs.specs.declared.input.Input.{Input}
 use Rattle.tas_movie.specs.declared.edit.EditRefusal.{EditRefusal}
 use Rattle.tas_movie.specs.declared.edit.EditRefusal.TheVariants.{Place, Long}
 use Rattle.tas_movie.specs.Content.{most_inputs}

@@ -7,9 +7,9 @@ use mathlib.Core.Bool.{beq}
 use Rattle.std.proofs.lemmas.Bool.{cases_Bool, false≢true}
 use Rattle.std.proofs.lemmas.List.{append-nil, take-append-drop, length-append, length-replicate}
 use Rattle.std.proofs.lemmas.Slice.Eq.{slice_eq-Decides}
-use Rattle.vcs_machine.specs.declared.input.Input.{Input}
-use Rattle.vcs_machine.specs.Input.{switches_of, are_same_inputs}
-use Rattle.vcs_machine.proofs.InputLemmas.{input_by_switches}
+use Rattle.vcs_inputs.specs.declared.input.Input.{Input}
+use Rattle.vcs_inputs.specs.Input.{switches_of, are_same_inputs}
+use Rattle.vcs_inputs.proofs.InputLemmas.{input_by_switches}
 use Rattle.tas_movie.specs.declared.run.FrameRun.{FrameRun}
 use Rattle.tas_movie.specs.Runs.{run_inputs, run_of_one, in_front, runs_of, BeginOtherwise, AreLongest}
 

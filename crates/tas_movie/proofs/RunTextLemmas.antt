@@ -8,8 +8,8 @@ use Rattle.std.proofs.lemmas.Bool.{both_ways, cases_Bool, cases_eq, eqb-true, eq
 use Rattle.std.proofs.lemmas.Fmt.{decimal-digits_value, digits_decimal, digits_value-decimal, first_decimal, decimal_by_steps, decimal_injective, decimal_is_IsNumeral}
 use Rattle.std.proofs.lemmas.List.{append-nil, length-append, length-replicate, take-append-drop, take_all, flat_map_more}
 use Rattle.std.proofs.lemmas.Str.Parse.{IsNumeralModel, numerals_by_value, tells_all_ascii_digits}
-use Rattle.vcs_machine.specs.declared.input.Input.{Input}
-use Rattle.vcs_machine.specs.Input.{are_same_inputs}
+use Rattle.vcs_inputs.specs.declared.input.Input.{Input}
+use Rattle.vcs_inputs.specs.Input.{are_same_inputs}
 use Rattle.tas_movie.specs.declared.error.TextErrorKind.{TextErrorKind}
 use Rattle.tas_movie.specs.declared.error.TextErrorKind.TheVariants.{Frame, End, TooMany, Run}
 use Rattle.tas_movie.specs.declared.run.FrameRun.{FrameRun}

@@ -4,7 +4,7 @@ use Rattle.std.proofs.lemmas.List.{append_cancel_left}
 use Rattle.std.specs.List.{flat_map}
 use Rattle.std.specs.Str.{bytes_eq}
 use Rattle.std.proofs.lemmas.Slice.Eq.{bytes_eq-Decides}
-use Rattle.vcs_machine.specs.declared.input.Input.{Input}
+use Rattle.vcs_inputs.specs.declared.input.Input.{Input}
 use Rattle.tas_movie.specs.declared.error.TextError.{TextError}
 use Rattle.tas_movie.specs.declared.error.TextErrorKind.TheVariants.{Head, Digest}
 use Rattle.tas_movie.specs.Content.{MovieContent, most_inputs}

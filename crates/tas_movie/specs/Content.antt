@@ -1,7 +1,7 @@
 -- A movie as contracts see it: the cartridge's bytes, and one input for each frame.
 use Rattle.std.specs.Prelude.{ℕ, List, [], replicate}
-use Rattle.vcs_machine.specs.Cart.{cart_size}
-use Rattle.vcs_machine.specs.declared.input.Input.{Input}
+use Rattle.vcs_inputs.specs.Cart.{cart_size}
+use Rattle.vcs_inputs.specs.declared.input.Input.{Input}
 
 -- how many inputs a movie has at most
 abbrev pub most_inputs : ℕ

@@ -1,6 +1,6 @@
 -- What an edit makes of a movie, by cutting and joining lists.
 use Rattle.std.specs.Prelude.{◌≡◌, ℕ, ◌+◌, List, [], ◌++◌, length, take, drop, Option, Some, None, nat_lt, if◌then◌else◌, Result, Ok, Err}
-use Rattle.vcs_machine.specs.declared.input.Input.{Input}
+use Rattle.vcs_inputs.specs.declared.input.Input.{Input}
 use Rattle.tas_movie.specs.declared.edit.Edit.{Edit}
 use Rattle.tas_movie.specs.declared.edit.Edit.TheVariants.{Load, Insert, Replace, Delete}
 use Rattle.tas_movie.specs.declared.edit.EditRefusal.{EditRefusal}

@@ -2,14 +2,14 @@
 use Rattle.std.specs.Prelude.{◌≡◌, ℕ, ◌+◌, ◌-◌, ◌≤◌, ◌==◌, nat_le, nat_lt, List, [], ◌∷◌, ◌++◌, length, take, drop, Bool, true, false, not, ◌&&◌, ◌||◌, codes, Option, Some, None, if◌then◌else◌, slice_index, slice_get}
 use Rattle.std.specs.Str.{all_ascii_digits, bytes_eq}
 use Rattle.std.specs.Str.Parse.{digits_value}
-use Rattle.vcs_machine.specs.declared.input.Input.{Input}
-use Rattle.vcs_machine.specs.declared.input.Stick.{Stick}
+use Rattle.vcs_inputs.specs.declared.input.Input.{Input}
+use Rattle.vcs_inputs.specs.declared.input.Stick.{Stick}
 use Rattle.tas_movie.specs.declared.error.TextError.{TextError}
 use Rattle.tas_movie.specs.declared.error.TextErrorKind.{TextErrorKind}
 use Rattle.tas_movie.specs.declared.error.TextErrorKind.TheVariants.{Head, Digest, Frame, End, TooMany, Run}
 use Rattle.tas_movie.specs.declared.error.ReadError.{ReadError}
 use Rattle.tas_movie.specs.declared.error.ReadError.TheVariants.{Memory, Text}
-use Rattle.vcs_machine.specs.Input.{are_same_inputs}
+use Rattle.vcs_inputs.specs.Input.{are_same_inputs}
 use Rattle.tas_movie.specs.declared.run.FrameRun.{FrameRun}
 use Rattle.tas_movie.specs.Content.{most_inputs}
 use Rattle.tas_movie.specs.Runs.{run_inputs}

@@ -1,7 +1,7 @@
 -- Runs of equal frames.
 use Rattle.std.specs.Prelude.{◌≢◌, ◌+◌, ◌≤◌, List, [], ◌∷◌, replicate, if◌then◌else◌}
-use Rattle.vcs_machine.specs.declared.input.Input.{Input}
-use Rattle.vcs_machine.specs.Input.{are_same_inputs}
+use Rattle.vcs_inputs.specs.declared.input.Input.{Input}
+use Rattle.vcs_inputs.specs.Input.{are_same_inputs}
 use Rattle.tas_movie.specs.declared.run.FrameRun.{FrameRun}
 
 -- the inputs of a run's frames

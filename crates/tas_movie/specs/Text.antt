@@ -3,8 +3,8 @@ use Rattle.std.specs.Prelude.{◌≡◌, ℕ, ◌≤◌, ◌==◌, ◌⊎◌, Li
 use Rattle.std.specs.List.{flat_map}
 use Rattle.sha2.specs.Sha256.{sha256}
 use Rattle.hex.specs.Hex.{encode_lower}
-use Rattle.vcs_machine.specs.declared.input.Input.{Input}
-use Rattle.vcs_machine.specs.declared.input.Stick.{Stick}
+use Rattle.vcs_inputs.specs.declared.input.Input.{Input}
+use Rattle.vcs_inputs.specs.declared.input.Stick.{Stick}
 use Rattle.tas_movie.specs.declared.run.FrameRun.{FrameRun}
 use Rattle.tas_movie.specs.Content.{MovieContent}
 use Rattle.tas_movie.specs.Runs.{runs_of}

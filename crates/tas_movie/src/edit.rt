@@ -5,7 +5,7 @@ ghost use Rattle.std.specs.Prelude.{◌≡◌, IfOk};
 use crate::Inputs;
 use std::alloc::{AllocError, Allocator, Global};
 use thiserror::Error;
-use vcs_machine::Cart;
+use vcs_inputs::Cart;
 
 /// A change of a movie.
 #[derive(Drop)]

@@ -2,7 +2,7 @@
 
 ghost use Rattle.tas_movie.specs.Front.{IsCommonFront};
 
-use vcs_machine::Input;
+use vcs_inputs::Input;
 
 /// The length of the longest common beginning of two lists of inputs, in frames.
 pub fn common_front(a: &[Input], b: &[Input]) -> usize

@@ -4,7 +4,7 @@ ghost use Rattle.std.specs.Prelude.{◌≡◌, IfOk, replicate};
 
 use std::alloc::{AllocError, Allocator, Global};
 use std::marker::Model;
-use vcs_machine::Input;
+use vcs_inputs::Input;
 
 /// A list of inputs, one for each frame. It is made from a `Vec` and gives it back, without
 /// memory.
@@ -15,7 +15,7 @@ pub struct Inputs<A: Allocator = Global> {
 
 impl<A: Allocator> Model for Inputs<A> {
     ghost use Rattle.std.specs.Prelude.{List};
-    ghost use Rattle.vcs_machine.specs.declared.input.Input.{Input};
+    ghost use Rattle.vcs_inputs.specs.declared.input.Input.{Input};
 
     ghost Value = { List Input };
 

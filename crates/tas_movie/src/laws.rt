@@ -2,7 +2,7 @@
 
 ghost use Rattle.std.specs.Prelude.{◌≡◌, ◌≤◌, ℕ, List, length, None};
 ghost use Rattle.std.specs.List.{flat_map};
-ghost use Rattle.vcs_machine.specs.declared.input.Input.{Input};
+ghost use Rattle.vcs_inputs.specs.declared.input.Input.{Input};
 ghost use Rattle.tas_movie.specs.declared.movie.TheConstants.{MAX_FRAMES};
 ghost use Rattle.tas_movie.specs.declared.reading.TheConstants.{MAX_FRAMES1};
 ghost use Rattle.tas_movie.specs.declared.run.FrameRun.{FrameRun};

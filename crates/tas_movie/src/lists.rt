@@ -3,7 +3,7 @@
 ghost use Rattle.std.specs.Prelude.{◌≡◌, ◌+◌, ◌≤◌, ◌++◌, length, take, drop, vec_len, vec_capacity};
 
 use std::alloc::Allocator;
-use vcs_machine::Input;
+use vcs_inputs::Input;
 
 /// Puts `new` before the place `at`. There is room for it.
 pub fn insert_at<A: Allocator>(list: &mut Vec<Input, A>, at: usize, new: &[Input])

@@ -5,7 +5,7 @@ ghost use Rattle.tas_movie.specs.Content.{most_inputs, blank_movie};
 
 use std::alloc::{AllocError, Allocator, Global};
 use std::marker::Model;
-use vcs_machine::{Cart, Input};
+use vcs_inputs::{Cart, Input};
 
 /// How many inputs a movie has at most.
 pub const MAX_FRAMES: usize = 262_144;

@@ -11,7 +11,7 @@ use crate::run::{FrameRun, run_length};
 use itoa::Buffer;
 use sha2::{Digest, Sha256};
 use std::alloc::{AllocError, Allocator};
-use vcs_machine::{Cart, Input};
+use vcs_inputs::{Cart, Input};
 
 /// How many characters a frame has.
 pub const FRAME_TEXT_SIZE: usize = 17;

@@ -2,7 +2,7 @@
 
 ghost use Rattle.std.specs.Prelude.{◌≡◌, ◌++◌, ◌∷◌, [], ℕ, List, Option, ◌≤◌, length, MatchResult, OnOk, OnSome, IfOk, IfNone, IfSome, None, Some, true, false, vec_len, vec_capacity};
 ghost use Rattle.std.specs.List.{flat_map};
-ghost use Rattle.vcs_machine.specs.declared.input.Input.{Input};
+ghost use Rattle.vcs_inputs.specs.declared.input.Input.{Input};
 ghost use Rattle.tas_movie.specs.declared.error.TextError.{TextError as FirstFault};
 ghost use Rattle.tas_movie.specs.Content.{MovieContent, most_inputs};
 ghost use Rattle.tas_movie.specs.Text.{line, frame_text, frame_line, digest_text, most_frames1, IsText};
@@ -12,7 +12,7 @@ use crate::printing::{FRAME_TEXT_SIZE, print_digest, print_frame};
 use crate::run_reading::read_runs;
 use crate::{Movie, ReadError, TextError, TextErrorKind};
 use std::alloc::Allocator;
-use vcs_machine::{Cart, Input, Stick};
+use vcs_inputs::{Cart, Input, Stick};
 
 /// How many frames the older text has at most.
 pub const MAX_FRAMES1: usize = 65_536;

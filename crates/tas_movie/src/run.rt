@@ -2,7 +2,7 @@
 
 ghost use Rattle.std.specs.Prelude.{◌≡◌, ◌≢◌, ◌<◌, ◌≤◌, length, take, replicate, slice_get, Some};
 
-use vcs_machine::Input;
+use vcs_inputs::Input;
 
 /// Consecutive frames with one input.
 #[derive(Clone, Copy)]

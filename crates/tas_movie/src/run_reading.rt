@@ -14,7 +14,7 @@ use crate::run::FrameRun;
 use crate::{MAX_FRAMES, TextError, TextErrorKind};
 use byte_text::read_decimal;
 use std::alloc::Allocator;
-use vcs_machine::Input;
+use vcs_inputs::Input;
 
 /// The least number of frames that a line counts; one frame has no count.
 const LEAST_COUNT: usize = 2;

@@ -5,7 +5,7 @@ use Rattle.std.proofs.lemmas.List.{length-map}
 use Rattle.std.proofs.lemmas.Option.{slice_get-get_or, slice_get-map, slice_get_within}
 use Rattle.tas_movie.specs.Content.{MovieContent}
 use Rattle.tas_movie.specs.declared.edit.Edit.{Edit}
-use Rattle.tas_session.specs.declared.entry.Entry.{Entry}
+use Rattle.tas_published.specs.declared.entry.Entry.{Entry}
 use Rattle.tas_desk.specs.Seats.{SeatContent}
 use Rattle.tas_engines.specs.declared.fault.SeatFault.{SeatFault}
 use Rattle.tas_engines.specs.declared.fault.ToolFault.{ToolFault}

@@ -8,11 +8,11 @@ use Rattle.tas_movie.specs.Content.{MovieContent}
 use Rattle.tas_movie.specs.Text.{text2}
 use Rattle.tas_green.specs.Run.{state_after, picture_of}
 use Rattle.tas_session.specs.Answers.{answer_shot, shown_of}
-use Rattle.tas_session.specs.History.{movie_of}
+use Rattle.tas_published.specs.History.{movie_of}
 use Rattle.tas_session.specs.Shots.{IsShotAt}
-use Rattle.tas_session.specs.declared.entry.Entry.{Entry}
-use Rattle.tas_session.specs.declared.replies.ShotError.{ShotError}
-use Rattle.tas_session.specs.declared.replies.ShotError.TheVariants.{NoEntry as NoShotEntry, NoFrame as NoShotFrame, Memory as NoShotMemory, Halted as ShotHalted}
+use Rattle.tas_published.specs.declared.entry.Entry.{Entry}
+use Rattle.tas_published.specs.declared.errors.ShotError.{ShotError}
+use Rattle.tas_published.specs.declared.errors.ShotError.TheVariants.{NoEntry as NoShotEntry, NoFrame as NoShotFrame, Memory as NoShotMemory, Halted as ShotHalted}
 use Rattle.tas_desk.specs.Seats.{SeatContent, HasSeen, KeepsZone, IsZoneViewed}
 use Rattle.tas_desk.specs.Zones.{IsViewed, IsShared}
 use Rattle.tas_engines.specs.declared.fault.RunFault.{RunFault}

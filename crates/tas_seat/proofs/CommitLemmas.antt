@@ -6,8 +6,8 @@ use mathlib.Core.List.{IsPrefix}
 use Rattle.tas_movie.specs.Content.{MovieContent, blank_movie}
 use Rattle.tas_movie.specs.declared.edit.Edit.{Edit}
 use Rattle.tas_movie.specs.Edit.{edited}
-use Rattle.tas_session.specs.declared.entry.Entry.{Entry}
-use Rattle.tas_session.specs.History.{most_edits, movie_of, movie_from}
+use Rattle.tas_published.specs.declared.entry.Entry.{Entry}
+use Rattle.tas_published.specs.History.{most_edits, movie_of, movie_from}
 use Rattle.tas_desk.specs.Seats.{SeatContent}
 use Rattle.tas_language.specs.declared.command.Command.TheVariants.{Load, Edit as EditLine, Length, InputAt, Shot, Work}
 use Rattle.tas_language.specs.declared.reply.Reply.TheVariants.{Full}
@@ -15,13 +15,13 @@ use Rattle.tas_language.specs.declared.draft_reply.DraftReply.TheVariants.{Moved
 use Rattle.tas_language.specs.Drafts.{draft_reply_text}
 use Rattle.tas_language.specs.declared.request.Request.{Request}
 use Rattle.tas_language.specs.declared.request.Request.TheVariants.{Do, Retouch, Picture, Pictures, Ram, Digest, Lag, Movie, States, Share, History, Begin, Commit, Drop, Quit}
-use Rattle.tas_session.specs.Strokes.{edited_by, refusal_in}
+use Rattle.tas_published.specs.Strokes.{edited_by, refusal_in}
 use Rattle.tas_seat.specs.Turns.{standing_of, refusal_reply}
 use Rattle.tas_seat.specs.Seats.{entries_from, talk_state_at}
 use Rattle.tas_seat.specs.Drafts.{DraftContent, IsDraftAnswered, IsAnsweredInDraft, DraftPicture, AreDraftPictures, LeadsTo}
 use Rattle.tas_seat.specs.Conversations.{TalkingSeat, talking, begun_draft, IsCommitted, IsCommitAnswer, IsAnsweredOutside, IsAnsweredInside, IsTalkAnswered, IsLineAnswered, text_of, uncommitted_answer, committed_edits, draft_after_commit}
 use Rattle.tas_seat.specs.Talk.{Exchange, IsExchange, AreExchanges}
-use Rattle.tas_session.proofs.PrefixLemmas.{prefix_trans, prefix_whole}
+use Rattle.tas_published.proofs.PrefixLemmas.{prefix_trans, prefix_whole}
 use Rattle.tas_seat.proofs.HistoryLemmas.{line_leaves}
 
 -- ---- what a draft keeps

@@ -8,11 +8,11 @@ use Rattle.tas_movie.specs.Content.{MovieContent}
 use Rattle.tas_movie.specs.declared.edit.Edit.{Edit}
 use Rattle.tas_movie.specs.declared.edit.EditRefusal.{EditRefusal}
 use Rattle.tas_movie.specs.declared.edit.EditRefusal.TheVariants.{Place as PlaceRefusal, Long as LongRefusal}
-use Rattle.tas_session.specs.declared.entry.Entry.{Entry}
+use Rattle.tas_published.specs.declared.entry.Entry.{Entry}
 use Rattle.tas_session.specs.declared.replies.EditError.{EditError}
 use Rattle.tas_session.specs.declared.replies.EditError.TheVariants.{Serial, Full as AllMade, Place as OutOfPlace, Long as OverLong, Memory as NoRoom}
 use Rattle.tas_session.specs.declared.replies.Receipt.{Receipt}
-use Rattle.tas_session.specs.History.{most_edits, movie_of, entries_of}
+use Rattle.tas_published.specs.History.{most_edits, movie_of, entries_of}
 use Rattle.tas_session.specs.Session.{error_at}
 use Rattle.tas_desk.specs.Seats.{SeatContent, HasSeen, KeepsZone, seat_of}
 use Rattle.tas_desk.specs.Zones.{IsShared}
@@ -25,7 +25,8 @@ use Rattle.tas_language.specs.declared.draft_reply.DraftReply.TheVariants.{Began
 use Rattle.tas_language.specs.Drafts.{draft_reply_text}
 use Rattle.tas_language.specs.declared.request.Request.{Request}
 use Rattle.tas_language.specs.declared.request.Request.TheVariants.{Begin, Commit, Drop}
-use Rattle.tas_session.specs.Strokes.{entries_by, refusal_in, refused_as as refused_stroke, commit_refusal_at}
+use Rattle.tas_published.specs.Strokes.{entries_by, refusal_in}
+use Rattle.tas_session.specs.Commits.{refused_as as refused_stroke, commit_refusal_at}
 use Rattle.tas_desk.specs.Commits.{IsCommitted as IsDeskCommit}
 use Rattle.tas_session.specs.declared.replies.CommitError.{CommitError}
 use Rattle.tas_session.specs.declared.replies.CommitError.TheVariants.{Moved, Refused}
@@ -36,7 +37,7 @@ use Rattle.tas_seat.specs.Drafts.{DraftContent, fresh_draft, IsStroke, LeadsTo, 
 use Rattle.tas_seat.specs.Conversations.{TalkingSeat, talking, text_of, uncommitted_answer, commit_answer, committed_edits, draft_after_commit}
 use Rattle.tas_seat.specs.Inside.Conversing.{HasMoved, HasNoOutcome}
 use Rattle.tas_seat.specs.Outcomes.{refused_as, IsMiscounted, HasTalkAnswer, HasNoTalkAnswer}
-use Rattle.tas_session.proofs.PrefixLemmas.{prefix_trans}
+use Rattle.tas_published.proofs.PrefixLemmas.{prefix_trans}
 use Rattle.tas_seat.proofs.SeatLemmas.{looked_at, stood, strange_later}
 use Rattle.tas_seat.proofs.TextLemmas.{text_or_memory}
 use Rattle.tas_seat.proofs.AnswerLemmas.{unshared, shared_still}

@@ -3,7 +3,7 @@ use Rattle.std.proofs.Common.{◌≡◌, ℕ, ◌+◌, ◌≤◌, List, [], ◌�
 use Rattle.std.specs.Prelude.{◌==◌, ◌⊎◌, if◌then◌else◌, slice_get}
 use Rattle.std.proofs.lemmas.Bool.{eq-eqb, eqb-true}
 use Rattle.std.proofs.lemmas.Option.{slice_get_past}
-use Rattle.vcs_machine.specs.declared.input.Input.{Input}
+use Rattle.vcs_inputs.specs.declared.input.Input.{Input}
 use Rattle.tas_movie.specs.Content.{MovieContent}
 use Rattle.tas_movie.specs.declared.edit.Edit.{Edit}
 use Rattle.tas_movie.specs.declared.edit.EditRefusal.{EditRefusal}
@@ -11,7 +11,7 @@ use Rattle.tas_movie.specs.declared.edit.EditRefusal.TheVariants.{Place, Long}
 use Rattle.tas_movie.specs.Edit.{edited, edited_unless, edited_place, refusal}
 use Rattle.tas_green.specs.declared.savestate.Savestate.{Savestate}
 use Rattle.tas_green.specs.Green.{is_left, IsReachedFrom}
-use Rattle.tas_session.specs.History.{most_edits}
+use Rattle.tas_published.specs.History.{most_edits}
 use Rattle.tas_session.specs.Session.{left_by}
 use Rattle.tas_engines.specs.Changes.{edit_of, BringsCopies}
 use Rattle.tas_engines.specs.Retouching.{taken_by, retouch_with}

@@ -19,11 +19,11 @@ use Rattle.tas_green.specs.Zone.{state_at, nearest, first_of, where_true, is_pas
 use Rattle.tas_green.proofs.MovingLemmas.{moved_same}
 use Rattle.tas_session.specs.Answers.{answer_shot, shown_of}
 use Rattle.tas_session.specs.declared.replies.Shot.{Shot as ShotOf}
-use Rattle.tas_session.specs.declared.replies.ShotError.{ShotError}
-use Rattle.tas_session.specs.declared.replies.ShotError.TheVariants.{NoEntry as NoShotEntry, NoFrame as NoShotFrame, Memory as NoShotMemory, Halted as ShotHalted}
-use Rattle.tas_session.specs.declared.replies.StateError.{StateError}
-use Rattle.tas_session.specs.declared.replies.StateError.TheVariants.{NoEntry as NoStateEntry, NoFrame as FewFrames, Memory as NoStateMemory}
-use Rattle.tas_session.specs.Shots.{shot_error}
+use Rattle.tas_published.specs.declared.errors.ShotError.{ShotError}
+use Rattle.tas_published.specs.declared.errors.ShotError.TheVariants.{NoEntry as NoShotEntry, NoFrame as NoShotFrame, Memory as NoShotMemory, Halted as ShotHalted}
+use Rattle.tas_published.specs.declared.errors.StateError.{StateError}
+use Rattle.tas_published.specs.declared.errors.StateError.TheVariants.{NoEntry as NoStateEntry, NoFrame as FewFrames, Memory as NoStateMemory}
+use Rattle.tas_published.specs.Errors.{shot_error}
 use Rattle.tas_engines.specs.Lag.{lag_lines_between}
 use Rattle.tas_engines.specs.declared.fault.RunFault.{RunFault}
 use Rattle.tas_engines.specs.declared.fault.RunFault.TheVariants.{Memory}

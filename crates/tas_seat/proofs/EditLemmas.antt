@@ -4,20 +4,20 @@ use Rattle.std.specs.Prelude.{◌==◌, if◌then◌else◌, MatchResult}
 use Rattle.std.proofs.lemmas.Bool.{eq-eqb}
 use Rattle.std.proofs.lemmas.Result.{MatchResult-weaker}
 use mathlib.Core.List.{IsPrefix}
-use Rattle.vcs_machine.specs.declared.input.Input.{Input}
+use Rattle.vcs_inputs.specs.declared.input.Input.{Input}
 use Rattle.tas_movie.specs.Content.{MovieContent}
 use Rattle.tas_movie.specs.declared.edit.Edit.{Edit}
 use Rattle.tas_movie.specs.declared.edit.EditRefusal.{EditRefusal}
 use Rattle.tas_movie.specs.declared.edit.EditRefusal.TheVariants.{Place as PlaceRefusal, Long as LongRefusal}
 use Rattle.tas_movie.specs.Edit.{refusal, edited, edited_unless, IsAllowed}
-use Rattle.tas_session.specs.declared.entry.Entry.{Entry}
+use Rattle.tas_published.specs.declared.entry.Entry.{Entry}
 use Rattle.tas_session.specs.declared.replies.Receipt.{Receipt}
 use Rattle.tas_session.specs.declared.replies.EditError.{EditError}
 use Rattle.tas_session.specs.declared.replies.EditError.TheVariants.{Serial, Full as AllMade, Place as OutOfPlace, Long as OverLong, Memory as NoRoom}
-use Rattle.tas_session.specs.History.{most_edits, movie_of, entries_of}
+use Rattle.tas_published.specs.History.{most_edits, movie_of, entries_of}
 use Rattle.tas_session.specs.Session.{refusal_by, error_at}
 use Rattle.tas_desk.specs.Seats.{SeatContent, seat_of, entry_of, IsEditedBy}
-use Rattle.tas_session.proofs.HistoryLemmas.{movie_of-push}
+use Rattle.tas_published.proofs.HistoryLemmas.{movie_of-push}
 use Rattle.tas_engines.specs.declared.fault.RunFault.{RunFault}
 use Rattle.tas_engines.specs.declared.fault.RunFault.TheVariants.{Foreign}
 use Rattle.tas_engines.specs.Changes.{EditContent}

@@ -6,9 +6,9 @@ use Rattle.std.proofs.lemmas.List.Elements.{filter-append}
 use Rattle.std.proofs.lemmas.List.Sums.{length-filter}
 use mathlib.Core.List.{IsPrefix}
 use Rattle.tas_movie.specs.declared.edit.Edit.{Edit}
-use Rattle.tas_session.specs.declared.entry.Entry.{Entry}
-use Rattle.tas_session.proofs.PrefixLemmas.{prefix_trans}
-use Rattle.tas_session.specs.History.{entries_of}
+use Rattle.tas_published.specs.declared.entry.Entry.{Entry}
+use Rattle.tas_published.proofs.PrefixLemmas.{prefix_trans}
+use Rattle.tas_published.specs.History.{entries_of}
 use Rattle.tas_desk.specs.Seats.{SeatContent, entry_of, HasSeen, IsSettled}
 use Rattle.tas_engines.specs.declared.fault.ToolFault.{ToolFault}
 use Rattle.tas_engines.specs.declared.fault.ToolFault.TheVariants.{Read, Run, Seat}

@@ -6,14 +6,15 @@ use Rattle.std.proofs.lemmas.Option.{slice_get_past}
 use Rattle.vcs_cpu.specs.declared.halt.Halt.{Halt}
 use Rattle.vcs_cpu.specs.declared.halt.Halt.TheVariants.{Undocumented}
 use Rattle.vcs_tia.specs.Picture.{lit_count}
-use Rattle.vcs_machine.specs.declared.input.Input.{Input}
-use Rattle.tas_session.specs.History.{movie_of}
-use Rattle.tas_session.specs.declared.replies.ShotError.{ShotError}
-use Rattle.tas_session.specs.declared.replies.ShotError.TheVariants.{NoEntry as NoShotEntry, NoFrame as NoShotFrame, Memory as NoShotMemory, Halted as ShotHalted}
+use Rattle.vcs_inputs.specs.declared.input.Input.{Input}
+use Rattle.tas_published.specs.History.{movie_of}
+use Rattle.tas_published.specs.declared.errors.ShotError.{ShotError}
+use Rattle.tas_published.specs.declared.errors.ShotError.TheVariants.{NoEntry as NoShotEntry, NoFrame as NoShotFrame, Memory as NoShotMemory, Halted as ShotHalted}
 use Rattle.tas_session.specs.Shots.{IsShotAt, MatchPlayed}
-use Rattle.tas_session.proofs.PrefixLemmas.{prefix_trans}
-use Rattle.tas_session.specs.Answers.{answer_input, answer_shot}
-use Rattle.tas_session.specs.declared.replies.InputError.{InputError}
+use Rattle.tas_published.proofs.PrefixLemmas.{prefix_trans}
+use Rattle.tas_session.specs.Answers.{answer_shot}
+use Rattle.tas_published.specs.Looks.{answer_input}
+use Rattle.tas_published.specs.declared.errors.InputError.{InputError}
 use Rattle.tas_desk.specs.Seats.{SeatContent, HasSeen, KeepsZone, IsInput, IsZoneShot}
 use Rattle.tas_desk.specs.Work.{IsTally, KeepsCart}
 use Rattle.tas_desk.specs.Zones.{ZoneContent, CutsWindow, IsPlayed, IsShared}

@@ -6,9 +6,9 @@ use Rattle.std.proofs.lemmas.Bool.{cases_lt, lt-ltb}
 use Rattle.std.proofs.lemmas.Bool.Decides.{nat_tests}
 use Rattle.std.proofs.lemmas.List.{length-append, length-take-le, length-drop}
 use Rattle.vcs_cpu.specs.declared.halt.Halt.{Halt}
-use Rattle.vcs_machine.specs.declared.input.Input.{Input}
+use Rattle.vcs_inputs.specs.declared.input.Input.{Input}
 use Rattle.vcs_machine.specs.declared.state.State.{State}
-use Rattle.vcs_machine.specs.Input.{no_input}
+use Rattle.vcs_inputs.specs.Input.{no_input}
 use Rattle.vcs_machine.proofs.LagFrames.{lag_law}
 use Rattle.tas_movie.specs.Content.{MovieContent, most_inputs, blank_movie}
 use Rattle.tas_movie.specs.declared.edit.Edit.{Edit}
@@ -18,13 +18,13 @@ use Rattle.tas_movie.specs.declared.edit.EditRefusal.TheVariants.{Long}
 use Rattle.tas_movie.specs.Edit.{refusal, edited, edited_unless, spliced, place_refusal, length_refusal}
 use Rattle.tas_movie.proofs.EditLemmas.{place_within, insert_within, unrefused}
 use Rattle.tas_green.specs.Run.{state_after, picture_of}
-use Rattle.tas_session.specs.declared.entry.Entry.{Entry}
-use Rattle.tas_session.specs.declared.replies.ShotError.{ShotError}
-use Rattle.tas_session.specs.declared.replies.StateError.{StateError}
-use Rattle.tas_session.specs.declared.replies.StateError.TheVariants.{NoEntry as NoStateEntry, NoFrame as FewFrames, Memory as NoStateMemory}
+use Rattle.tas_published.specs.declared.entry.Entry.{Entry}
+use Rattle.tas_published.specs.declared.errors.ShotError.{ShotError}
+use Rattle.tas_published.specs.declared.errors.StateError.{StateError}
+use Rattle.tas_published.specs.declared.errors.StateError.TheVariants.{NoEntry as NoStateEntry, NoFrame as FewFrames, Memory as NoStateMemory}
 use Rattle.tas_session.specs.Answers.{answer_shot, shown_of}
-use Rattle.tas_session.specs.History.{movie_from, movie_of}
-use Rattle.tas_session.specs.Shots.{shot_error}
+use Rattle.tas_published.specs.History.{movie_from, movie_of}
+use Rattle.tas_published.specs.Errors.{shot_error}
 use Rattle.tas_desk.specs.Seats.{SeatContent, HasSeen}
 use Rattle.tas_desk.specs.States.{IsStateFor, IsReached, IsZoneReached}
 use Rattle.tas_desk.specs.Zones.{CutsWindow}

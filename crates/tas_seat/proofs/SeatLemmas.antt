@@ -4,8 +4,8 @@ use Rattle.std.specs.Prelude.{◌==◌, if◌then◌else◌}
 use Rattle.std.proofs.lemmas.Bool.{eq-eqb, eqb-true}
 use mathlib.Core.List.{IsPrefix}
 use Rattle.tas_movie.specs.declared.edit.Edit.{Edit}
-use Rattle.tas_session.specs.declared.entry.Entry.{Entry}
-use Rattle.tas_session.proofs.PrefixLemmas.{prefix_trans, prefix_self}
+use Rattle.tas_published.specs.declared.entry.Entry.{Entry}
+use Rattle.tas_published.proofs.PrefixLemmas.{prefix_trans, prefix_self}
 use Rattle.tas_desk.specs.Seats.{SeatContent, seat_of, HasSeen}
 use Rattle.tas_desk.specs.States.{IsReached}
 use Rattle.tas_desk.specs.Zones.{ZoneContent, IsMadeFor, IsPlayed, IsShared, IsViewed}

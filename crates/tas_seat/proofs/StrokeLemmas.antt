@@ -5,7 +5,7 @@ use Rattle.std.proofs.lemmas.Bool.{both_ways, eqb-true, cases_lt}
 use Rattle.std.proofs.lemmas.Bool.Decides.{nat_tests}
 use Rattle.std.proofs.lemmas.List.{take_more, take_at, drop_at, take-append-drop, take_rest, length-append, length-take-le, length-drop, length-reverse, reverse-append, reverse-reverse, get_or-reverse}
 use Rattle.std.proofs.lemmas.Option.{get_or_from_slice_get, slice_get-get_or}
-use Rattle.vcs_machine.specs.declared.input.Input.{Input}
+use Rattle.vcs_inputs.specs.declared.input.Input.{Input}
 use Rattle.tas_movie.specs.Content.{MovieContent, most_inputs}
 use Rattle.tas_movie.specs.Front.{IsCommonFront}
 use Rattle.tas_movie.specs.declared.edit.Edit.{Edit}
@@ -13,7 +13,7 @@ use Rattle.tas_movie.specs.declared.edit.Edit.TheVariants.{Insert, Replace, Dele
 use Rattle.tas_movie.specs.declared.edit.EditRefusal.{EditRefusal}
 use Rattle.tas_movie.specs.declared.edit.EditRefusal.TheVariants.{Place, Long}
 use Rattle.tas_movie.specs.Edit.{IsAllowed, edited, edited_unless, changed, spliced, place_refusal, length_refusal, insert_refusal, first_refusal}
-use Rattle.tas_session.specs.Strokes.{refusal_in, edited_by}
+use Rattle.tas_published.specs.Strokes.{refusal_in, edited_by}
 use Rattle.tas_seat.specs.Drafts.{inner_inputs, stroke_of, IsStroke, PutsIn, LeadsTo}
 use Rattle.tas_seat.specs.Inside.Drafting.{Differ}
 

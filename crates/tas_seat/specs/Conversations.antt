@@ -1,8 +1,8 @@
 -- Drafts of conversations: `begin`, `commit` and `drop`, and what the other lines are answered outside a draft and in one.
 use Rattle.std.specs.Prelude.{◌≡◌, ℕ, ◌+◌, ◌<◌, ◌≤◌, ◌==◌, nat_lt, List, [], length, Bool, if◌then◌else◌, Option, Some, None, ◌⊎◌}
 use Rattle.tas_movie.specs.declared.edit.Edit.{Edit}
-use Rattle.tas_session.specs.declared.entry.Entry.{Entry}
-use Rattle.tas_session.specs.History.{most_edits}
+use Rattle.tas_published.specs.declared.entry.Entry.{Entry}
+use Rattle.tas_published.specs.History.{most_edits}
 use Rattle.tas_desk.specs.Seats.{SeatContent}
 use Rattle.tas_language.specs.declared.reply.Reply.{Reply}
 use Rattle.tas_language.specs.declared.reply.Reply.TheVariants.{Full, OutOfMemory}
@@ -12,7 +12,7 @@ use Rattle.tas_language.specs.Drafts.{draft_reply_text}
 use Rattle.tas_language.specs.Answers.{unknown_text}
 use Rattle.tas_language.specs.declared.request.Request.{Request}
 use Rattle.tas_language.specs.declared.request.Request.TheVariants.{Share, History, Begin, Commit, Drop}
-use Rattle.tas_session.specs.Strokes.{edited_by, refusal_in}
+use Rattle.tas_published.specs.Strokes.{edited_by, refusal_in}
 use Rattle.tas_seat.specs.Turns.{Standing, standing_of, refusal_reply}
 use Rattle.tas_seat.specs.Requests.{TalkState, GainsUnless}
 use Rattle.tas_seat.specs.Seats.{talk_state_at, IsSeatAfter, KeepsWindow, IsRequestAnswered}

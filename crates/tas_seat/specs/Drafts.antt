@@ -1,7 +1,7 @@
 -- Drafts: changes of a movie that a conversation gathers before it makes them as one step, and the answers to lines meanwhile.
 use Rattle.std.specs.Prelude.{codes, ◌≡◌, ℕ, ◌+◌, ◌-◌, ◌<◌, ◌≤◌, ◌==◌, List, [], ◌∷◌, length, take, drop, reverse, min, false, if◌then◌else◌, ◌⊎◌}
 use Rattle.std.specs.List.{flat_map}
-use Rattle.vcs_machine.specs.declared.input.Input.{Input}
+use Rattle.vcs_inputs.specs.declared.input.Input.{Input}
 use Rattle.tas_movie.specs.Content.{MovieContent}
 use Rattle.tas_movie.specs.declared.edit.Edit.{Edit}
 use Rattle.tas_movie.specs.declared.edit.Edit.TheVariants.{Insert, Replace, Delete}
@@ -9,7 +9,7 @@ use Rattle.tas_movie.specs.Edit.{IsAllowed, edited}
 use Rattle.tas_movie.specs.Front.{IsCommonFront}
 use Rattle.tas_green.specs.declared.savestate.Savestate.{Savestate}
 use Rattle.tas_green.specs.Green.{IsLawful, IsReachedFrom}
-use Rattle.tas_session.specs.History.{most_edits}
+use Rattle.tas_published.specs.History.{most_edits}
 use Rattle.tas_session.specs.Session.{left_by}
 use Rattle.tas_language.specs.declared.change.Change.{Change}
 use Rattle.tas_language.specs.declared.command.Command.TheVariants.{Load, Edit as EditLine, Work}

@@ -1,6 +1,6 @@
 -- The text of some entries of a history.
 use Rattle.std.specs.Prelude.{ℕ, ◌+◌, List, [], ◌∷◌, ◌++◌, length}
-use Rattle.tas_session.specs.declared.entry.Entry.{Entry}
+use Rattle.tas_published.specs.declared.entry.Entry.{Entry}
 use Rattle.tas_language.specs.Answers.{history_text}
 use Rattle.tas_language.specs.History.{entry_text}
 

@@ -3,16 +3,17 @@ use Rattle.std.specs.Prelude.{◌≡◌, ℕ, ◌+◌, ◌==◌, List, length, B
 use Rattle.vcs_cpu.specs.declared.halt.Halt.{Halt}
 use Rattle.vcs_cpu.specs.declared.halt.Halt.TheVariants.{Undocumented}
 use Rattle.vcs_tia.specs.Picture.{lit_count}
-use Rattle.vcs_machine.specs.declared.input.Input.{Input}
+use Rattle.vcs_inputs.specs.declared.input.Input.{Input}
 use Rattle.tas_movie.specs.Content.{MovieContent}
 use Rattle.tas_movie.specs.declared.edit.Edit.{Edit}
 use Rattle.tas_movie.specs.declared.edit.Edit.TheVariants.{Load as LoadEdit}
 use Rattle.tas_movie.specs.declared.edit.EditRefusal.{EditRefusal}
 use Rattle.tas_movie.specs.declared.edit.EditRefusal.TheVariants.{Place, Long}
 use Rattle.tas_movie.specs.Edit.{refusal, edited}
-use Rattle.tas_session.specs.declared.entry.Entry.{Entry}
-use Rattle.tas_session.specs.History.{most_edits, movie_of}
-use Rattle.tas_session.specs.Answers.{answer_input, answer_shot}
+use Rattle.tas_published.specs.declared.entry.Entry.{Entry}
+use Rattle.tas_published.specs.History.{most_edits, movie_of}
+use Rattle.tas_session.specs.Answers.{answer_shot}
+use Rattle.tas_published.specs.Looks.{answer_input}
 use Rattle.tas_language.specs.declared.command.Command.{Command}
 use Rattle.tas_language.specs.declared.command.Command.TheVariants.{Load, Edit as EditLine, Length, InputAt, Shot, Work}
 use Rattle.tas_language.specs.declared.retouch.Retouch.{Retouch}

@@ -2,7 +2,7 @@
 
 ghost use Rattle.std.specs.Prelude.{◌≡◌, ◌≢◌, ◌≤◌, length, Some, None, Ok, IfOk, IfErr, MatchOption, MatchResult};
 ghost use Rattle.tas_green.specs.Green.{IsLawful};
-ghost use Rattle.tas_session.specs.History.{most_edits};
+ghost use Rattle.tas_published.specs.History.{most_edits};
 ghost use Rattle.tas_desk.specs.Seats.{SeatContent, KeepsZone};
 ghost use Rattle.tas_engines.specs.declared.fault.RunFault.TheVariants.{NoEntry, Memory};
 ghost use Rattle.tas_language.specs.Drafts.{draft_reply_text};

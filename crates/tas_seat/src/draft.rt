@@ -4,9 +4,9 @@ ghost use Rattle.std.specs.Prelude.{◌≡◌, ◌≤◌, ◌<◌, ◌+◌, Some
 ghost use Rattle.tas_movie.specs.Edit.{IsAllowed, edited};
 ghost use Rattle.tas_seat.specs.Turns.{refusal_reply};
 ghost use Rattle.tas_green.specs.Green.{IsLawful};
-ghost use Rattle.tas_session.specs.History.{most_edits};
+ghost use Rattle.tas_published.specs.History.{most_edits};
 ghost use Rattle.tas_seat.specs.Drafts.{IsDraft, fresh_draft, draft_standing, IsStroke, PutsIn, LeadsTo, HasStroke};
-ghost use Rattle.tas_session.specs.Strokes.{edits_of};
+ghost use Rattle.tas_published.specs.Strokes.{edits_of};
 ghost use Rattle.tas_seat.specs.Inside.EditRequests.{requested_refusal};
 ghost use Rattle.tas_seat.specs.Inside.Drafting.{draft_after, KeepsCart, IsDraftChanged};
 

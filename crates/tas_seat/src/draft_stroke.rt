@@ -3,7 +3,7 @@
 ghost use Rattle.std.specs.Prelude.{◌≡◌, ◌<◌, ◌≤◌, ℕ, IfOk, OnErr, length, reverse};
 ghost use Rattle.tas_movie.specs.Content.{most_inputs};
 ghost use Rattle.tas_movie.specs.Front.{IsCommonFront};
-ghost use Rattle.tas_session.specs.Strokes.{edits_of};
+ghost use Rattle.tas_published.specs.Strokes.{edits_of};
 ghost use Rattle.tas_seat.specs.Drafts.{stroke_of, IsStroke, PutsIn, LeadsTo, HasStroke};
 ghost use Rattle.tas_seat.specs.Inside.Drafting.{Differ};
 

@@ -3,8 +3,8 @@
 ghost use Rattle.std.specs.Prelude.{◌≡◌, ◌≤◌, ◌++◌, ◌∷◌, ℕ, List, length, Option, Some, None, Result, Err};
 ghost use mathlib.Core.List.{IsPrefix};
 ghost use Rattle.tas_movie.specs.declared.edit.Edit.{Edit};
-ghost use Rattle.tas_session.specs.declared.entry.Entry.{Entry};
-ghost use Rattle.tas_session.specs.History.{entries_of, movie_of};
+ghost use Rattle.tas_published.specs.declared.entry.Entry.{Entry};
+ghost use Rattle.tas_published.specs.History.{entries_of, movie_of};
 ghost use Rattle.tas_desk.specs.Seats.{SeatContent, IsSettled};
 ghost use Rattle.tas_engines.specs.declared.fault.ToolFault.{ToolFault};
 ghost use Rattle.tas_engines.specs.declared.fault.ToolFault.TheVariants.{Run};

@@ -1,10 +1,5 @@
 pub mod EditLemmas
-pub mod EntryLemmas
-pub mod HistoryLemmas
-pub mod PrefixLemmas
-pub mod PublishLemmas
-pub mod PublishedRule
-pub mod ReaderLemmas
-pub mod RegistryLemmas
+pub mod RefusalLemmas
 pub mod ShotLemmas
+pub mod SoundLemmas
 pub mod StepLemmas

@@ -6,12 +6,12 @@ use Rattle.vcs_cpu.specs.declared.halt.Halt.{Halt}
 use Rattle.tas_movie.specs.Content.{MovieContent}
 use Rattle.tas_green.specs.Run.{state_after, picture_of, answer_of}
 use Rattle.tas_green.specs.Zone.{nearest}
-use Rattle.tas_session.specs.declared.entry.Entry.{Entry}
+use Rattle.tas_published.specs.declared.entry.Entry.{Entry}
 use Rattle.tas_session.specs.declared.replies.Shot.{Shot}
-use Rattle.tas_session.specs.declared.replies.ShotError.{ShotError}
-use Rattle.tas_session.specs.declared.replies.ShotError.TheVariants.{Halted}
+use Rattle.tas_published.specs.declared.errors.ShotError.{ShotError}
+use Rattle.tas_published.specs.declared.errors.ShotError.TheVariants.{Halted}
 use Rattle.tas_session.specs.Answers.{answer_shot, shown_of}
-use Rattle.tas_session.specs.History.{movie_of}
+use Rattle.tas_published.specs.History.{movie_of}
 use Rattle.tas_session.specs.Session.{SessionContent}
 use Rattle.tas_session.specs.Shots.{IsShot, IsShotError, IsShotAt, MatchPlayed}
 

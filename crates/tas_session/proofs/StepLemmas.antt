@@ -8,15 +8,16 @@ use Rattle.tas_movie.specs.Content.{MovieContent}
 use Rattle.tas_movie.specs.declared.edit.Edit.{Edit}
 use Rattle.tas_movie.specs.declared.edit.EditRefusal.{EditRefusal}
 use Rattle.tas_movie.specs.Edit.{edited, refusal, first_refusal, check_answer}
-use Rattle.tas_session.specs.declared.entry.Entry.{Entry}
-use Rattle.tas_session.specs.History.{most_edits, movie_of, entries_of}
+use Rattle.tas_published.specs.declared.entry.Entry.{Entry}
+use Rattle.tas_published.specs.History.{most_edits, movie_of, entries_of}
 use Rattle.tas_session.specs.Session.{SessionContent, error_at, after_entry}
-use Rattle.tas_session.specs.Strokes.{entries_by, refusal_in, refused_as, commit_refusal, AreNext, after_entries}
+use Rattle.tas_published.specs.Strokes.{entries_by, refusal_in, AreNext}
+use Rattle.tas_session.specs.Commits.{refused_as, commit_refusal, after_entries}
 use Rattle.tas_session.specs.declared.replies.CommitError.{CommitError}
 use Rattle.tas_session.specs.declared.replies.CommitError.TheVariants.{Moved, Refused}
 use Rattle.tas_session.specs.declared.replies.EditError.TheVariants.{Serial, Full, Memory}
 use Rattle.tas_movie.specs.declared.edit.EditRefusal.TheVariants.{Place as PlaceRefusal, Long as LongRefusal}
-use Rattle.tas_session.proofs.HistoryLemmas.{movie_of-push}
+use Rattle.tas_published.proofs.HistoryLemmas.{movie_of-push}
 
 abbrev one_if : Bool → ℕ
 one_if b = cond b 1 0

@@ -1,9 +1,5 @@
 pub mod Answers
-pub mod History
+pub mod Commits
 pub mod Inside
-pub mod Published
-pub mod Readings
 pub mod Session
 pub mod Shots
-pub mod Strokes
-pub mod Version

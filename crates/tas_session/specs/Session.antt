@@ -8,10 +8,10 @@ use Rattle.tas_movie.specs.declared.edit.EditRefusal.TheVariants.{Place as Place
 use Rattle.tas_movie.specs.Edit.{refusal, edited, edited_place}
 use Rattle.tas_green.specs.declared.savestate.Savestate.{Savestate}
 use Rattle.tas_green.specs.Green.{IsLawful, is_left}
-use Rattle.tas_session.specs.declared.entry.Entry.{Entry}
+use Rattle.tas_published.specs.declared.entry.Entry.{Entry}
 use Rattle.tas_session.specs.declared.replies.EditError.{EditError}
 use Rattle.tas_session.specs.declared.replies.EditError.TheVariants.{Serial, Full, Place, Long, Memory}
-use Rattle.tas_session.specs.History.{most_edits, IsLegal, IsLegalEntry, movie_of, entries_of}
+use Rattle.tas_published.specs.History.{most_edits, IsLegal, IsLegalEntry, movie_of, entries_of}
 
 -- the registry of the histories that were published, the history, the movie, and the kept states
 pub record SessionContent (A : Type 0) : Type 0 where
@@ -27,11 +27,6 @@ pub record IsSound {A : Type 0} (history : List (Entry A)) (content : MovieConte
   pub most : length history ≤ most_edits
   pub movie_is : content ≡ movie_of history
   pub lawful : IsLawful content kept
-
--- an entry can come next
-pub record IsNextEntry {A : Type 0} (history : List (Entry A)) (entry : Entry A) : Type 0 where
-  pub legal : IsLegalEntry history entry
-  pub room : length history < most_edits
 
 -- a refusal of an edit, with the number of edits before it
 abbrev pub error_at : ℕ → Option EditRefusal → Option EditError

@@ -2,13 +2,13 @@
 use Rattle.std.specs.Prelude.{◌≡◌, ℕ, ◌+◌, ◌<◌, List, length, Some, None, Result, Ok, Err}
 use Rattle.tas_green.specs.Zone.{nearest}
 use Rattle.tas_session.specs.declared.replies.Shot.{Shot}
-use Rattle.tas_session.specs.declared.replies.ShotError.{ShotError}
-use Rattle.tas_session.specs.declared.replies.ShotError.TheVariants.{NoEntry, NoFrame, Memory, Halted}
-use Rattle.tas_session.specs.declared.replies.StateError.{StateError}
-use Rattle.tas_session.specs.declared.replies.StateError.TheVariants.{NoEntry as NoStateEntry, NoFrame as FewFrames, Memory as NoStateMemory}
+use Rattle.tas_published.specs.declared.errors.ShotError.{ShotError}
+use Rattle.tas_published.specs.declared.errors.ShotError.TheVariants.{NoEntry, NoFrame, Memory, Halted}
+use Rattle.tas_published.specs.declared.errors.StateError.{StateError}
+use Rattle.tas_published.specs.declared.errors.StateError.TheVariants.{NoEntry as NoStateEntry, NoFrame as FewFrames, Memory as NoStateMemory}
 use Rattle.tas_session.specs.Session.{SessionContent}
-use Rattle.tas_session.specs.declared.entry.Entry.{Entry}
-use Rattle.tas_session.specs.History.{movie_of}
+use Rattle.tas_published.specs.declared.entry.Entry.{Entry}
+use Rattle.tas_published.specs.History.{movie_of}
 use Rattle.tas_session.specs.Answers.{answer_shot}
 
 -- a shot shows the frame, and reports how many frames were played for it: those after the nearest kept state
@@ -41,9 +41,3 @@ IsShotAt history k (Err NoEntry) = Unit {0}
 IsShotAt history k (Err (NoFrame at len)) = (answer_shot (movie_of history) k ≡ None) × (at ≡ length history) × (len ≡ length (movie_of history).inputs)
 IsShotAt history k (Err Memory) = k < length (movie_of history).inputs
 IsShotAt history k (Err (Halted at halt)) = (answer_shot (movie_of history) k ≡ Some (Err halt)) × (at ≡ length history)
-
--- a shot's error that says the same as a look's at the state
-abbrev pub shot_error : StateError → ShotError
-shot_error NoStateEntry = NoEntry
-shot_error (FewFrames at len) = NoFrame at len
-shot_error NoStateMemory = Memory

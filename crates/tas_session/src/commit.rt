@@ -3,14 +3,14 @@
 ghost use Rattle.std.specs.Prelude.{◌≡◌, ◌+◌, ◌<◌, [], ◌∷◌, length, None, Some, IfOk, IfErr, OnOk, OnErr, MatchResult};
 ghost use Rattle.tas_session.specs.declared.replies.CommitError.TheVariants.{Refused};
 ghost use Rattle.tas_session.specs.declared.replies.EditError.TheVariants.{Memory};
-ghost use Rattle.tas_session.specs.Strokes.{edits_of, entries_by, edited_by, AreNext, after_entries, commit_refusal, IsCommitError};
+ghost use Rattle.tas_published.specs.Strokes.{edits_of, entries_by, edited_by, AreNext};
+ghost use Rattle.tas_session.specs.Commits.{after_entries, commit_refusal, IsCommitError};
 
-use crate::journal::Step;
 use crate::session::{MAX_EDITS, Session};
-use crate::stroke::len_after;
 use crate::{CommitError, EditError, Entry, Receipt, Stroke};
 use std::alloc::{AllocError, Allocator};
 use std::sync::Wait;
+use tas_published::{Step, len_after};
 
 impl<A: Allocator + Copy> Session<A> {
     /// Makes the edits of a stroke as one step, as `seat`, which says that it has made `made` edits before, and that the history has

@@ -1,13 +1,13 @@
 //! The replies of a session or a desk. In every reply `at` is the number of edits of the history that the reply is about.
 
 ghost use Rattle.std.specs.Prelude.{◌≡◌, Some, Ok, Err, OnOk, IfErr};
-ghost use Rattle.tas_session.specs.declared.replies.ShotError.TheVariants.{Halted};
+ghost use Rattle.tas_published.specs.declared.errors.ShotError.TheVariants.{Halted};
 ghost use Rattle.tas_session.specs.Session.{error_at};
-ghost use Rattle.tas_session.specs.Shots.{shot_error};
 
 use std::alloc::{Allocator, Global};
 use tas_green::Batch;
 use tas_movie::EditRefusal;
+use tas_published::ShotError;
 use thiserror::Error;
 use vcs_cpu::Halt;
 use vcs_machine::State;
@@ -22,28 +22,6 @@ pub enum OpenError {
     /// A seat's reader got no place to read from. A session never returns it.
     #[error("no place")]
     NoPlace,
-}
-
-/// The seat's reader found its writer gone; the seat is as it was. A desk that isn't closed has its writer, so this
-/// never comes, but no clause says so.
-#[derive(Clone, Copy, Debug, PartialEq, Eq, Error)]
-#[error("no entry")]
-pub struct NoEntry;
-
-/// Why there is no input.
-#[derive(Clone, Copy, Debug, PartialEq, Eq, Error)]
-pub enum InputError {
-    /// The seat's reader found its writer gone, as in [`NoEntry`](crate::NoEntry); the seat is as it was.
-    #[error("no entry")]
-    NoEntry,
-    /// The movie has no such frame.
-    #[error("no such frame: {len} frames at edit {at}")]
-    NoFrame {
-        /// How many edits the history has.
-        at: u64,
-        /// The movie's length in frames.
-        len: usize,
-    },
 }
 
 /// An edit was made.
@@ -135,34 +113,6 @@ pub struct Shot<A: Allocator = Global> {
     pub picture: Picture<A>,
 }
 
-/// Why a frame wasn't drawn.
-#[derive(Clone, Copy, Debug, PartialEq, Eq, Error)]
-pub enum ShotError {
-    /// The seat's reader found its writer gone, as in [`NoEntry`](crate::NoEntry); the seat is as it was. A session never
-    /// returns it.
-    #[error("no entry")]
-    NoEntry,
-    /// The movie has no such frame.
-    #[error("no such frame: {len} frames at edit {at}")]
-    NoFrame {
-        /// How many edits the history has.
-        at: u64,
-        /// The movie's length in frames.
-        len: usize,
-    },
-    /// Memory was refused; the greenzone is as it was.
-    #[error("out of memory")]
-    Memory,
-    /// The machine has halted in the frame or before it.
-    #[error("halted at {at}")]
-    Halted {
-        /// How many edits the history has.
-        at: u64,
-        /// Where and why it halted.
-        halt: Halt,
-    },
-}
-
 /// The machine after some frames.
 #[derive(Clone, Copy)]
 pub struct Reached {
@@ -172,37 +122,6 @@ pub struct Reached {
     pub ran: u64,
     /// Its state, halted or not.
     pub state: State,
-}
-
-/// Why a state wasn't reached.
-#[derive(Clone, Copy, Debug, PartialEq, Eq, Error)]
-pub enum StateError {
-    /// The seat's reader found its writer gone, as in [`NoEntry`](crate::NoEntry); the seat is as it was.
-    #[error("no entry")]
-    NoEntry,
-    /// The movie doesn't have these frames: it ends before, or the first one is past the last.
-    #[error("no such frame: {len} frames at edit {at}")]
-    NoFrame {
-        /// How many edits the history has.
-        at: u64,
-        /// The movie's length in frames.
-        len: usize,
-    },
-    /// Memory was refused; the greenzone is as it was.
-    #[error("out of memory")]
-    Memory,
-}
-
-impl From<StateError> for ShotError {
-    ghost from_gives = { λ error shot. shot ≡ shot_error error };
-
-    fn from(error: StateError) -> ShotError {
-        match error {
-            StateError::NoEntry => ShotError::NoEntry,
-            StateError::NoFrame { at, len } => ShotError::NoFrame { at, len },
-            StateError::Memory => ShotError::Memory,
-        }
-    }
 }
 
 /// The answer to a shot of a frame that this many frames were played for: the picture, or the halt that they ended at.

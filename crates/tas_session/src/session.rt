@@ -12,23 +12,22 @@ ghost use Rattle.tas_movie.specs.Front.{IsCommonFront};
 ghost use Rattle.tas_green.specs.Green.{IsLawful, HoldsGrid};
 ghost use Rattle.tas_session.specs.declared.replies.OfferError.TheVariants.{Cartridge, Memory};
 ghost use Rattle.tas_session.specs.declared.replies.OpenError.TheVariants.{Memory as OutOfMemory};
-ghost use Rattle.tas_session.specs.History.{most_edits, entries_of, IsLegal, movie_of};
-ghost use Rattle.tas_session.specs.Session.{IsNextEntry, edit_refusal, refusal_by, error_at, IsEditError, after_entry};
-ghost use Rattle.tas_session.specs.Version.{version_of};
-ghost use Rattle.tas_session.specs.Published.{view_of, KnowsRegistry};
+ghost use Rattle.tas_published.specs.History.{most_edits, entries_of, IsLegal, movie_of};
+ghost use Rattle.tas_session.specs.Session.{edit_refusal, refusal_by, error_at, IsEditError, after_entry};
+ghost use Rattle.tas_published.specs.History.{IsNextEntry};
+ghost use Rattle.tas_published.specs.Version.{version_of};
+ghost use Rattle.tas_published.specs.Published.{view_of, KnowsRegistry};
 ghost use Rattle.tas_session.specs.Shots.{IsShot, IsShotError, MatchPlayed};
 
 use crate::counts::EntryCounts;
-use crate::movie_reader::MovieReader;
-use crate::publisher::{Closed, Publisher};
 use crate::replies::shown;
-use crate::version::Version;
-use crate::{EditError, Entry, OfferError, Offered, OpenError, Receipt, Shot, ShotError};
+use crate::{EditError, OfferError, Offered, OpenError, Receipt, Shot};
 use std::alloc::{AllocError, Allocator, Global};
 use std::marker::Model;
 use std::sync::Wait;
 use tas_green::{Batch, Green, Job, MergeError};
 use tas_movie::{Edit, Movie, check};
+use tas_published::{Closed, Entry, MovieReader, Publisher, ShotError, Version};
 use vcs_machine::Meter;
 use vcs_tia::Picture;
 
@@ -48,7 +47,7 @@ pub struct Session<A: Allocator = Global> {
 impl<A: Allocator> Model for Session<A> {
     ghost use Rattle.std.specs.Prelude.{◌≡◌, ℕ};
     ghost use Rattle.tas_session.specs.Inside.Counts.{count_in};
-    ghost use Rattle.tas_session.specs.History.{entries_of};
+    ghost use Rattle.tas_published.specs.History.{entries_of};
     ghost use Rattle.tas_session.specs.Session.{SessionContent, IsSound};
 
     ghost Value = { SessionContent A };

@@ -6,7 +6,7 @@ use Rattle.std.proofs.lemmas.List.{length-map, map-append, take-map, drop-map}
 use Rattle.std.specs.Io.KnownBytes.{Consumes}
 use mathlib.Core.List.{IsPrefix}
 use Rattle.tas_movie.specs.Text.{line}
-use Rattle.vcs_machine.specs.declared.input.Input.{Input}
+use Rattle.vcs_inputs.specs.declared.input.Input.{Input}
 use Rattle.tas_movie.specs.Content.{MovieContent, blank_movie}
 use Rattle.tas_movie.specs.declared.edit.Edit.{Edit}
 use Rattle.tas_movie.specs.declared.edit.Edit.TheVariants.{Load, Insert, Replace, Delete}
@@ -18,8 +18,8 @@ use Rattle.tas_language.specs.declared.command.Command.{Command}
 use Rattle.tas_language.specs.declared.command.Command.TheVariants as command
 use Rattle.tas_language.specs.declared.retouch.Retouch.{Retouch as Retouching}
 use Rattle.tas_language.specs.declared.retouch.Retouch.TheVariants as retouch
-use Rattle.tas_session.specs.declared.entry.Entry.{Entry}
-use Rattle.tas_session.specs.History.{most_edits, movie_of, entries_of}
+use Rattle.tas_published.specs.declared.entry.Entry.{Entry}
+use Rattle.tas_published.specs.History.{most_edits, movie_of, entries_of}
 use Rattle.tas_desk.specs.Seats.{SeatContent}
 use Rattle.tas_desk.specs.Zones.{ZoneContent}
 use Rattle.tas_desk.proofs.SeatLemmas.{count_by-cons}
@@ -43,7 +43,7 @@ use Rattle.tas_seat.specs.Requests.{TalkState, IsAnswerTo as IsAnswerAt}
 use Rattle.tas_seat.specs.Seats.{most_entries, talk_state_at, IsSeatAfter, IsAnsweredAt, StripAnswer as SeatAnswer, AreStrip as AreSeatStrip, strip_answers as seat_answers, entries_from, IsHistoryAnswered, IsRequestAnswered}
 use Rattle.tas_seat.specs.Drafts.{DraftContent, inner_inputs, stroke_of, IsStroke, LeadsTo, HasStroke}
 use Rattle.tas_seat.specs.Conversations.{TalkingSeat, talking, text_of, uncommitted_answer, commit_answer, committed_edits, draft_after_commit, IsBeginAnswer, IsCommitAnswer, IsCommitted, IsAnsweredOutside, IsAnsweredInside, IsTalkAnswered, IsLineAnswered}
-use Rattle.tas_session.specs.Strokes.{edited_by, refusal_in}
+use Rattle.tas_published.specs.Strokes.{edited_by, refusal_in}
 use Rattle.tas_seat.specs.Turns.{Standing, standing_of, refusal_reply}
 use Rattle.tas_seat.proofs.CommitLemmas.{made_after, made_by_entries}
 use Rattle.tas_seat.specs.Talk.{Exchange as SeatExchange, IsExchange as IsSeatExchange, AreExchanges as AreSeatExchanges, TalkEnds as SeatEnds, IsTalk as IsSeatTalk, lines_of as seat_lines, answers_of as seat_texts, edits_of}

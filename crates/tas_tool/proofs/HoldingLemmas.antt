@@ -10,10 +10,10 @@ use mathlib.Core.List.{IsPrefix}
 use Rattle.logbook.specs.Pages.{Book}
 use Rattle.tas_movie.specs.Content.{MovieContent}
 use Rattle.tas_movie.specs.Text.{text2}
-use Rattle.tas_session.specs.declared.entry.Entry.{Entry}
-use Rattle.tas_session.specs.History.{movie_of, entries_of, IsLegal}
-use Rattle.tas_session.specs.Strokes.{edits_in}
-use Rattle.tas_session.proofs.PrefixLemmas.{prefix_trans}
+use Rattle.tas_published.specs.declared.entry.Entry.{Entry}
+use Rattle.tas_published.specs.History.{movie_of, entries_of, IsLegal}
+use Rattle.tas_published.specs.Strokes.{edits_in}
+use Rattle.tas_published.proofs.PrefixLemmas.{prefix_trans}
 use Rattle.tas_desk.specs.Seats.{SeatContent, seat_of, HasSeen, KeepsZone, IsWhole, IsSettled}
 use Rattle.tas_desk.specs.Zones.{ZoneContent, blank_zone}
 use Rattle.tas_desk.specs.Closing.{made_by}

@@ -4,22 +4,22 @@ use Rattle.std.specs.Prelude.{OnOk, IfErr}
 use Rattle.std.proofs.lemmas.Bool.{le-ltb, cases_lt}
 use Rattle.std.proofs.lemmas.List.{take_all, map-append}
 use mathlib.Core.List.{IsPrefix}
-use Rattle.vcs_machine.specs.declared.input.Input.{Input}
+use Rattle.vcs_inputs.specs.declared.input.Input.{Input}
 use Rattle.tas_movie.specs.Content.{MovieContent, most_inputs}
 use Rattle.tas_movie.specs.declared.edit.Edit.{Edit}
 use Rattle.tas_movie.specs.declared.edit.Edit.TheVariants.{Load, Insert}
 use Rattle.tas_movie.specs.declared.edit.EditRefusal.{EditRefusal}
 use Rattle.tas_movie.specs.Edit.{refusal, edited, edited_unless}
-use Rattle.tas_session.specs.declared.entry.Entry.{Entry}
+use Rattle.tas_published.specs.declared.entry.Entry.{Entry}
 use Rattle.tas_session.specs.declared.replies.Receipt.{Receipt}
 use Rattle.tas_session.specs.declared.replies.EditError.{EditError}
 use Rattle.tas_session.specs.declared.replies.EditError.TheVariants.{Serial, Full, Place, Long, Memory as NoRoom}
-use Rattle.tas_session.specs.History.{movie_of, entries_of}
+use Rattle.tas_published.specs.History.{movie_of, entries_of}
 use Rattle.tas_session.specs.Session.{refusal_at, IsEditError}
-use Rattle.tas_session.specs.Strokes.{edits_in}
+use Rattle.tas_published.specs.Strokes.{edits_in}
 use Rattle.tas_desk.specs.Seats.{SeatContent, seat_of, entry_of, IsEdited}
 use Rattle.tas_desk.specs.Zones.{ZoneContent}
-use Rattle.tas_session.proofs.HistoryLemmas.{movie_of-push, movie_of-none}
+use Rattle.tas_published.proofs.HistoryLemmas.{movie_of-push, movie_of-none}
 use Rattle.tas_engines.specs.declared.fault.RunFault.{RunFault}
 use Rattle.tas_engines.specs.declared.fault.RunFault.TheVariants.{Foreign, Memory}
 use Rattle.tas_tool.specs.Inside.TwoEdits.{HasForeign, edit_fault, HoldsMovie, IsMakingFault, next_edit, IsUnrefused, unless_foreign}

@@ -16,8 +16,8 @@ use Rattle.tas_language.specs.Commands.{Says}
 use Rattle.byte_text.specs.Splitting.{NoByte}
 use Rattle.tas_language.specs.Replies.{reply_text}
 use Rattle.tas_movie.specs.declared.edit.Edit.{Edit}
-use Rattle.tas_session.specs.declared.entry.Entry.{Entry}
-use Rattle.tas_session.specs.History.{entries_of}
+use Rattle.tas_published.specs.declared.entry.Entry.{Entry}
+use Rattle.tas_published.specs.History.{entries_of}
 use Rattle.tas_desk.specs.Seats.{SeatContent}
 use Rattle.tas_seat.specs.Turns.{Standing, standing_of, reply_to, standing_after, IsTurn}
 use Rattle.tas_seat.specs.Seats.{IsAnswered}

@@ -2,13 +2,13 @@
 use Rattle.std.proofs.Common.{◌≡◌, ℕ, List, [], ◌∷◌, ◌++◌, length, take, true, Option, Some, None, Result, Ok, Err, inl, inr, refl, sym, ap, subst, ◌∙◌, arith}
 use Rattle.std.proofs.KnownBytes.{Appends-nil, Consumes-nil, Keeps-refl}
 use Rattle.std.proofs.lemmas.List.{take_all}
-use Rattle.vcs_machine.specs.Cart.{is_cart_size}
+use Rattle.vcs_inputs.specs.Cart.{is_cart_size}
 use Rattle.tas_movie.specs.Content.{MovieContent, blank_movie}
 use Rattle.tas_movie.specs.declared.edit.Edit.{Edit}
 use Rattle.tas_green.specs.declared.savestate.Savestate.{Savestate}
-use Rattle.tas_session.specs.declared.entry.Entry.{Entry}
-use Rattle.tas_session.specs.Strokes.{edits_in}
-use Rattle.tas_session.proofs.HistoryLemmas.{movie_of-none}
+use Rattle.tas_published.specs.declared.entry.Entry.{Entry}
+use Rattle.tas_published.specs.Strokes.{edits_in}
+use Rattle.tas_published.proofs.HistoryLemmas.{movie_of-none}
 use Rattle.tas_desk.specs.Seats.{SeatContent}
 use Rattle.tas_desk.specs.Zones.{ZoneContent}
 use Rattle.tas_engines.specs.Changes.{EditContent}

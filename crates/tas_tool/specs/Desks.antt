@@ -5,9 +5,9 @@ use mathlib.Core.List.{IsPrefix}
 use Rattle.tas_movie.specs.Content.{MovieContent, blank_movie}
 use Rattle.tas_movie.specs.Text.{text2}
 use Rattle.tas_movie.specs.declared.edit.Edit.{Edit}
-use Rattle.tas_session.specs.declared.entry.Entry.{Entry}
-use Rattle.tas_session.specs.History.{movie_of, entries_of, IsLegal}
-use Rattle.tas_session.specs.Strokes.{edits_in}
+use Rattle.tas_published.specs.declared.entry.Entry.{Entry}
+use Rattle.tas_published.specs.History.{movie_of, entries_of, IsLegal}
+use Rattle.tas_published.specs.Strokes.{edits_in}
 use Rattle.tas_desk.specs.Seats.{SeatContent}
 use Rattle.tas_desk.specs.Zones.{ZoneContent}
 use Rattle.tas_engines.specs.declared.fault.ReadFault.{ReadFault}

@@ -3,10 +3,10 @@ use Rattle.std.specs.Prelude.{◌≡◌, ℕ, ◌+◌, ◌-◌, List, [], ◌∷
 use Rattle.std.specs.List.{flat_map}
 use Rattle.std.specs.Io.KnownBytes.{Appends, Consumes, IsAtEnd, Keeps}
 use Rattle.byte_text.specs.Splitting.{NoByte}
-use Rattle.vcs_machine.specs.Cart.{is_cart_size}
+use Rattle.vcs_inputs.specs.Cart.{is_cart_size}
 use Rattle.tas_movie.specs.Content.{MovieContent, blank_movie}
 use Rattle.tas_movie.specs.Text.{line}
-use Rattle.tas_session.specs.declared.entry.Entry.{Entry}
+use Rattle.tas_published.specs.declared.entry.Entry.{Entry}
 use Rattle.tas_engines.specs.declared.fault.ReadFault.{ReadFault}
 use Rattle.tas_engines.specs.declared.fault.ReadFault.TheVariants.{Failed}
 use Rattle.tas_engines.specs.declared.fault.RunFault.{RunFault}
@@ -28,7 +28,7 @@ use Rattle.tas_seat.specs.Turns.{Standing}
 use Rattle.tas_seat.specs.Requests.{TalkState, Rests, IsPictureAnswer, IsAnswerTo as IsAnswerAt}
 use Rattle.tas_seat.specs.Drafts.{DraftContent, IsDraft, IsDraftAnswered}
 use Rattle.tas_seat.specs.Conversations.{IsBeginAnswer, IsCommitAnswer}
-use Rattle.tas_session.specs.Strokes.{edited_by}
+use Rattle.tas_published.specs.Strokes.{edited_by}
 use Rattle.tas_engines.specs.Changes.{EditContent}
 use Rattle.tas_seat.specs.Edits.{requested_edits, made_between}
 use Rattle.tas_seat.specs.Seats.{entries_from, most_entries}

@@ -3,7 +3,7 @@
 ghost use Rattle.std.specs.Prelude.{◌≡◌, ◌≤◌, ◌⊎◌, length, IfOk, IfErr, OnErr, MatchResult};
 ghost use Rattle.std.specs.Io.KnownBytes.{Appends};
 ghost use Rattle.tas_movie.specs.Text.{text2};
-ghost use Rattle.tas_session.specs.History.{movie_of};
+ghost use Rattle.tas_published.specs.History.{movie_of};
 ghost use Rattle.tas_desk.specs.Seats.{most_seats, name_of};
 ghost use Rattle.tas_engines.specs.declared.fault.RunFault.TheVariants.{Memory, NoPlace};
 ghost use Rattle.tas_tool.specs.Desks.{first_fault, IsDeskHistory, IsDeskOn, IsDeskRun, IsUnwritten};

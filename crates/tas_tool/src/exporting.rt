@@ -3,7 +3,7 @@
 ghost use Rattle.std.specs.Prelude.{◌≡◌, ◌≤◌, [], length, IfErr};
 ghost use Rattle.tas_film.specs.Runs.{most_workers};
 ghost use Rattle.tas_desk.specs.Exports.{IsInRange};
-ghost use Rattle.tas_session.specs.History.{movie_of};
+ghost use Rattle.tas_published.specs.History.{movie_of};
 ghost use Rattle.tas_desk.specs.Seats.{name_of, HasSeen};
 ghost use Rattle.tas_engines.specs.declared.fault.RunFault.TheVariants.{Memory};
 ghost use Rattle.tas_engines.specs.Movies.{IsMovieRun};

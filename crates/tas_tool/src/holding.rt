@@ -2,7 +2,7 @@
 
 ghost use Rattle.std.specs.Prelude.{◌≡◌, ◌<◌, ℕ, length, map, IfOk, IfErr, OnOk, slice_index_or};
 ghost use mathlib.Core.List.{IsPrefix};
-ghost use Rattle.tas_session.specs.History.{movie_of};
+ghost use Rattle.tas_published.specs.History.{movie_of};
 ghost use Rattle.tas_desk.specs.Seats.{KeepsZone};
 ghost use Rattle.tas_tool.specs.Inside.Holding.{AreFresh, AreNumbered, HaveBlankZones, HaveMadeNone, HaveMovie, IsUnmade, HasRoom, HoldsAll};
 

@@ -1,7 +1,7 @@
 //! `tas talk`.
 
 ghost use Rattle.std.specs.Prelude.{◌≡◌, [], true, length, None, MatchResult};
-ghost use Rattle.vcs_machine.specs.Cart.{is_cart_size};
+ghost use Rattle.vcs_inputs.specs.Cart.{is_cart_size};
 ghost use Rattle.tas_desk.specs.Seats.{name_of};
 ghost use Rattle.tas_engines.specs.Tracing.{IsImageFault};
 ghost use Rattle.tas_movie.specs.Content.{blank_movie};

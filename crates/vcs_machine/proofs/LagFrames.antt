@@ -13,7 +13,7 @@ use Rattle.vcs_tia.specs.Trace.{trace, drawn}
 use Rattle.vcs_tia.specs.Picture.{blank_picture}
 use Rattle.vcs_tia.proofs.Later.{drawn-alike}
 use Rattle.vcs_tia.proofs.Traces.{drawn-append}
-use Rattle.vcs_machine.specs.declared.input.Input.{Input}
+use Rattle.vcs_inputs.specs.declared.input.Input.{Input}
 use Rattle.vcs_machine.specs.Bus.{Observed, board_byte_at, nothing_seen}
 use Rattle.vcs_machine.specs.Step.{console_step}
 use Rattle.vcs_machine.specs.Frame.{FrameEnd, end_within, end_or_next, is_frame_over}

@@ -10,7 +10,7 @@ use Rattle.vcs_tia.specs.declared.chip.Fire.{Fire}
 use Rattle.vcs_tia.specs.Tia.{latches_presses, clocks_passed, clock_of}
 use Rattle.vcs_tia.specs.Trace.{after_clocks}
 use Rattle.vcs_tia.proofs.Later.{fire-after_clocks}
-use Rattle.vcs_machine.specs.declared.input.Input.{Input}
+use Rattle.vcs_inputs.specs.declared.input.Input.{Input}
 use Rattle.vcs_machine.specs.declared.lag.LagStep.{LagStep}
 use Rattle.vcs_machine.specs.Bus.{Observed, nothing_seen}
 use Rattle.vcs_machine.specs.Step.{console_step}

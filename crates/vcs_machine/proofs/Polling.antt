@@ -14,7 +14,7 @@ use Rattle.vcs_tia.specs.declared.chip.Tia.{Tia}
 use Rattle.vcs_tia.specs.declared.chip.Sync.{Sync}
 use Rattle.vcs_tia.specs.Tia.{clocks_passed}
 use Rattle.vcs_tia.proofs.Later.{sync-after_clocks}
-use Rattle.vcs_machine.specs.Cart.{rom_byte}
+use Rattle.vcs_inputs.specs.Cart.{rom_byte}
 use Rattle.vcs_machine.specs.declared.address.Region.{Region}
 use Rattle.vcs_machine.specs.declared.address.Region.TheVariants as region
 use Rattle.vcs_machine.specs.Address.{selected, are_ports_and_timer, is_intim}

@@ -4,7 +4,7 @@ use Rattle.std.specs.Prelude.{bit_and}
 use Rattle.std.proofs.lemmas.Bool.{or_cases, eqb-true, eq-eqb}
 use Rattle.std.proofs.lemmas.Nat.{and_mask}
 use Rattle.vcs_riot.specs.Address.{is_high}
-use Rattle.vcs_machine.specs.Cart.{is_cart_size}
+use Rattle.vcs_inputs.specs.Cart.{is_cart_size}
 
 -- what holds of both sizes
 by_size : (P : ℕ → Type 0) (n : ℕ) → is_cart_size n ≡ true → P 2048 → P 4096 → P n

@@ -2,7 +2,6 @@
 pub mod Chips
 pub mod Console
 pub mod Observing
-pub mod PinBits
 pub mod Sending
 pub mod Times
 pub mod TraceFrames

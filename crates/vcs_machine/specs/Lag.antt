@@ -8,7 +8,7 @@ use Rattle.vcs_cpu.specs.declared.halt.Halt.{Halt}
 use Rattle.vcs_riot.specs.Chip as riot
 use Rattle.vcs_tia.specs.declared.chip.Tia.{Tia}
 use Rattle.vcs_tia.specs.Tia as tia
-use Rattle.vcs_machine.specs.declared.input.Input.{Input}
+use Rattle.vcs_inputs.specs.declared.input.Input.{Input}
 use Rattle.vcs_machine.specs.declared.address.Region.{Region}
 use Rattle.vcs_machine.specs.declared.address.Region.TheVariants as region
 use Rattle.vcs_machine.specs.Address.{selected}

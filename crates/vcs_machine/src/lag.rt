@@ -3,27 +3,26 @@
 
 ghost use Rattle.std.specs.Prelude.{◌≡◌, ◌+◌, ◌%◌, ◌^◌, ◌<◌, true, false, length, Some};
 ghost use Rattle.vcs_machine.specs.Bus.{observed_of, nothing_seen};
-ghost use Rattle.vcs_machine.specs.Cart.{is_cart_size};
+ghost use Rattle.vcs_inputs.specs.Cart.{is_cart_size};
 ghost use Rattle.vcs_machine.specs.Inside.Console.{chips_of, content_of, fixed_of, now_of};
 ghost use Rattle.vcs_machine.specs.Inside.Times.{line_cycles, first_time, end_time};
 ghost use Rattle.vcs_machine.specs.Frame.{most_instructions, end_within};
 ghost use Rattle.vcs_machine.specs.Lag.{ignores_input, is_ignored_within, is_lag_frame, IsSameFrame};
 ghost use Rattle.vcs_machine.specs.Machine.{frame};
 ghost use Rattle.vcs_machine.specs.Inside.Noting.{LeadsTo};
-ghost use Rattle.vcs_machine.specs.declared.input.Input.{Input};
+ghost use Rattle.vcs_inputs.specs.declared.input.Input.{Input};
 ghost use Rattle.vcs_tia.specs.Tia.{clocks_passed, shows_button};
 ghost use Rattle.vcs_tia.specs.Units.{line_clocks};
 
 use crate::address::{Region, selected};
 use crate::bus::ConsoleBus;
-use crate::cart::Cart;
 use crate::frame::{MOST_INSTRUCTIONS, console_step, is_frame_over};
-use crate::input::Input;
 use crate::meter::Meter;
 use crate::observer::{Nobody, Observer};
 use crate::state::State;
 use std::alloc::Allocator;
 use vcs_cpu::{Halt, Regs, Watch, reads_watched};
+use vcs_inputs::{Cart, Input};
 use vcs_riot::{Pins, Riot};
 use vcs_tia::Tia;
 

@@ -1,6 +1,6 @@
 -- A seat that is counted in under the lock.
 use Rattle.std.specs.Prelude.{◌≡◌, ℕ, ◌+◌, List, Result, MatchResult}
-use Rattle.tas_session.specs.declared.entry.Entry.{Entry}
+use Rattle.tas_published.specs.declared.entry.Entry.{Entry}
 use Rattle.tas_desk.specs.Seats.{SeatContent, seat_of}
 
 -- the seat has seen the journal, and has made this many edits more where the answer is no error

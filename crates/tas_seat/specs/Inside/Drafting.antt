@@ -1,6 +1,6 @@
 -- Parts of an answer at a draft. Private functions cite this file.
 use Rattle.std.specs.Prelude.{◌≡◌, ℕ, ◌+◌, ◌<◌, ◌≤◌, List, [], ◌∷◌, length, drop, reverse, Some, None, Result, Ok, Err}
-use Rattle.vcs_machine.specs.declared.input.Input.{Input}
+use Rattle.vcs_inputs.specs.declared.input.Input.{Input}
 use Rattle.tas_movie.specs.declared.edit.Edit.{Edit}
 use Rattle.tas_movie.specs.Content.{MovieContent, most_inputs}
 use Rattle.tas_movie.specs.Front.{IsCommonFront}
@@ -9,11 +9,11 @@ use Rattle.tas_green.specs.declared.savestate.Savestate.{Savestate}
 use Rattle.tas_green.specs.Green.{IsLawful, IsShotFrom, IsReachedFrom}
 use Rattle.tas_green.specs.Run.{state_after}
 use Rattle.tas_session.specs.declared.replies.Shot.{Shot}
-use Rattle.tas_session.specs.declared.replies.ShotError.TheVariants.{NoEntry, NoFrame, Memory as NoShotMemory, Halted}
+use Rattle.tas_published.specs.declared.errors.ShotError.TheVariants.{NoEntry, NoFrame, Memory as NoShotMemory, Halted}
 use Rattle.tas_session.specs.declared.replies.Reached.{Reached}
-use Rattle.tas_session.specs.declared.replies.StateError.{StateError}
-use Rattle.tas_session.specs.declared.replies.StateError.TheVariants.{NoEntry as NoStateEntry, NoFrame as FewFrames, Memory as NoStateMemory}
-use Rattle.tas_session.specs.declared.replies.ShotError.{ShotError}
+use Rattle.tas_published.specs.declared.errors.StateError.{StateError}
+use Rattle.tas_published.specs.declared.errors.StateError.TheVariants.{NoEntry as NoStateEntry, NoFrame as FewFrames, Memory as NoStateMemory}
+use Rattle.tas_published.specs.declared.errors.ShotError.{ShotError}
 use Rattle.tas_session.specs.Session.{left_by}
 use Rattle.tas_session.specs.Answers.{answer_shot}
 use Rattle.tas_engines.specs.declared.fault.RunFault.{RunFault}

@@ -1,7 +1,7 @@
 -- A desk of one seat, and conversations that start from a movie. Private functions cite this file.
 use Rattle.std.specs.Prelude.{◌≡◌, ℕ, ◌≤◌, List, length, Option, Some, Result, Ok, Err}
 use Rattle.tas_movie.specs.Content.{MovieContent}
-use Rattle.tas_session.specs.History.{entries_of}
+use Rattle.tas_published.specs.History.{entries_of}
 use Rattle.tas_desk.specs.Seats.{SeatContent}
 use Rattle.tas_engines.specs.declared.fault.ToolFault.{ToolFault}
 use Rattle.tas_tool.specs.Talk.{IsTalk, talk_state_from}

@@ -7,8 +7,8 @@ use Rattle.tas_desk.specs.declared.export.Exported.{Exported}
 use Rattle.tas_desk.specs.declared.export.ExportError.{ExportError}
 use Rattle.tas_desk.specs.declared.export.ExportError.TheVariants.{Range as OffRange, Memory as OutOfRoom, Halted as HaltedAt, Write as WriteFailed}
 use Rattle.tas_session.specs.Session.{refusal_at}
-use Rattle.tas_session.specs.History.{movie_of, entries_of}
-use Rattle.tas_session.specs.Strokes.{edits_in}
+use Rattle.tas_published.specs.History.{movie_of, entries_of}
+use Rattle.tas_published.specs.Strokes.{edits_in}
 use Rattle.tas_desk.specs.Seats.{SeatContent}
 use Rattle.tas_session.specs.declared.replies.EditError.{EditError}
 use Rattle.tas_session.specs.declared.replies.EditError.TheVariants.{Memory as NoRoom}

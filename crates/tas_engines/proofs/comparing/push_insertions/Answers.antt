@@ -1,6 +1,6 @@
 use Rattle.std.proofs.Common.{◌≤◌, ◌+◌, ◌-◌, ◌++◌, ◌∷◌, [], List, drop, get_or, arith, refl, sym, ap, ◌∙◌, length-take, append_assoc}
 use Rattle.std.proofs.lemmas.List.{append-nil}
-use Rattle.vcs_machine.specs.Input.{no_input}
+use Rattle.vcs_inputs.specs.Input.{no_input}
 use Rattle.tas_movie.specs.Runs.{runs_of}
 use Rattle.tas_language.specs.declared.change.Change.{Change}
 use Rattle.tas_language.specs.declared.change.Change.TheVariants.{Insert}

@@ -1,6 +1,6 @@
 use Rattle.std.proofs.Common.{◌≡◌, ◌<◌, ◌≤◌, ◌-◌, ℕ, length, take, get_or}
 use Rattle.std.specs.Prelude.{replicate, ◌≢◌}
-use Rattle.vcs_machine.specs.Input.{no_input}
+use Rattle.vcs_inputs.specs.Input.{no_input}
 use Rattle.tas_engines.proofs.comparing.replaced_run.Given as goal
 
 abbrev pub invariant-loop-seen : goal.invariant-loop-seen

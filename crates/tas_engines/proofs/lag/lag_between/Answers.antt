@@ -1,5 +1,5 @@
 use Rattle.std.proofs.Common.{◌≡◌, ◌<◌, ◌∙◌, arith, get_or}
-use Rattle.vcs_machine.specs.Input.{no_input}
+use Rattle.vcs_inputs.specs.Input.{no_input}
 use Rattle.vcs_machine.proofs.LagFrames.{lag_law}
 use Rattle.tas_green.specs.Run.{state_after}
 use Rattle.tas_engines.specs.Lag.{is_lag}

@@ -1,5 +1,5 @@
 use Rattle.std.proofs.Common.{◌≡◌, map, take}
-use Rattle.vcs_machine.specs.declared.input.Input.{Input}
+use Rattle.vcs_inputs.specs.declared.input.Input.{Input}
 use Rattle.tas_engines.proofs.retouching.each_changed.Given as goal
 
 abbrev pub invariant-loop-frame : goal.invariant-loop-frame

@@ -1,6 +1,6 @@
 use Rattle.std.proofs.Common.{◌≡◌, ◌++◌, List, ℕ, ap, sym, subst, ◌∙◌}
 use Rattle.std.specs.Prelude.{OnOk, codes}
-use Rattle.vcs_machine.specs.declared.input.Input.{Input}
+use Rattle.vcs_inputs.specs.declared.input.Input.{Input}
 use Rattle.tas_language.specs.History.{run_lines, some_runs_of, IsCartridge, LoadsCartridge}
 use Rattle.tas_language.proofs.HistoryLemmas.{insert_lines, replace_lines}
 use Rattle.tas_language.proofs.history.push_edit_lines.Goals as goal

@@ -1,4 +1,4 @@
-use Rattle.tas_session.proofs.PrefixLemmas.{prefix_trans}
+use Rattle.tas_published.proofs.PrefixLemmas.{prefix_trans}
 use Rattle.tas_seat.proofs.HistoryLemmas.{answer_begins, exchange_begins, exchange_grows}
 use Rattle.tas_seat.proofs.laws.answers_are_at_beginnings.Goals as goal
 

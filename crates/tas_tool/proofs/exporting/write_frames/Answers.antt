@@ -2,7 +2,7 @@ use Rattle.std.proofs.Common.{◌≡◌, length, subst, sym, ◌∙◌, arith}
 use Rattle.std.specs.Prelude.{IfErr}
 use Rattle.tas_film.specs.declared.runs.ExportPlan.{ExportPlan}
 use Rattle.tas_desk.specs.Exports.{IsInRange}
-use Rattle.tas_session.specs.History.{movie_of}
+use Rattle.tas_published.specs.History.{movie_of}
 use Rattle.tas_engines.specs.declared.fault.RunFault.TheVariants.{Memory}
 use Rattle.tas_tool.specs.Inside.TwoEdits.{StandsAtOwn}
 use Rattle.tas_tool.proofs.CheckedLemmas.{longer}

@@ -1,6 +1,6 @@
 use Rattle.std.proofs.Common.{◌<◌, length, get_or, subst, arith}
 use mathlib.Core.List.{IsPrefix}
-use Rattle.tas_session.proofs.PrefixLemmas.{prefix_trans}
+use Rattle.tas_published.proofs.PrefixLemmas.{prefix_trans}
 use Rattle.tas_desk.specs.Seats.{SeatContent, KeepsZone}
 use Rattle.tas_tool.proofs.HoldingLemmas.{seen_twice, set_each, set_past, item_before}
 use Rattle.tas_tool.proofs.holding.meet_all.Goals as goal

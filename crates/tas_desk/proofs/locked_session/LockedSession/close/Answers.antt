@@ -2,7 +2,7 @@ use Rattle.std.proofs.lemmas.Grind.{common_steps}
 use Rattle.std.proofs.Common.{◌≡◌, ap, sym, ◌∙◌, subst, All, length, arith}
 use Rattle.tas_desk.specs.Locked.{LockedContent}
 use Rattle.tas_desk.specs.Seats.{IsSettled}
-use Rattle.tas_session.specs.History.{IsLegal}
+use Rattle.tas_published.specs.History.{IsLegal}
 use Rattle.tas_desk.proofs.SeatLemmas.{joins_as, settles, counts_all, none_left, joined_none}
 use Rattle.tas_desk.proofs.locked_session.LockedSession.close.Goals as goal
 

@@ -1,6 +1,6 @@
 use Rattle.std.proofs.Common.{ap}
 use Rattle.std.proofs.lemmas.Result.{err_from_is_err_and}
-use Rattle.tas_session.specs.Strokes.{edits_of}
+use Rattle.tas_published.specs.Strokes.{edits_of}
 use Rattle.tas_desk.specs.Locked.{LockedContent}
 use Rattle.tas_desk.specs.Seats.{SeatContent}
 use Rattle.tas_desk.proofs.CommitLemmas.{commit_refused, none_refused, locked_committed}

@@ -3,7 +3,7 @@ use Rattle.std.proofs.Common.{ap, rules, arith}
 use Rattle.std.proofs.lemmas.Result.{err_from_is_err_and}
 use Rattle.tas_desk.specs.Locked.{LockedContent}
 use Rattle.tas_desk.specs.Seats.{SeatContent}
-use Rattle.tas_session.proofs.EntryLemmas.{refused_as}
+use Rattle.tas_session.proofs.RefusalLemmas.{refused_as}
 use Rattle.tas_desk.proofs.AnswerLemmas.{refusal_answered, receipt_answered}
 use Rattle.tas_desk.proofs.LockedLemmas.{locked_edited}
 use Rattle.tas_desk.proofs.locked_session.LockedSession.edit.Goals as goal

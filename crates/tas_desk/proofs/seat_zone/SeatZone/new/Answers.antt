@@ -1,9 +1,9 @@
 use Rattle.std.proofs.lemmas.Grind.{common_steps}
 use Rattle.std.proofs.Common.{List, ap, sym, ◌∙◌, arith}
-use Rattle.tas_session.specs.declared.entry.Entry.{Entry}
-use Rattle.tas_session.specs.Version.{VersionContent}
-use Rattle.tas_session.specs.History.{movie_of}
-use Rattle.tas_session.proofs.HistoryLemmas.{movie_of-none}
+use Rattle.tas_published.specs.declared.entry.Entry.{Entry}
+use Rattle.tas_published.specs.Version.{VersionContent}
+use Rattle.tas_published.specs.History.{movie_of}
+use Rattle.tas_published.proofs.HistoryLemmas.{movie_of-none}
 use Rattle.tas_desk.proofs.seat_zone.SeatZone.new.Goals as goal
 
 pub invariant_of-result : goal.invariant_of-result

@@ -1,6 +1,6 @@
 use Rattle.std.proofs.Common.{◌≡◌, length, ap, ◌∙◌, arith}
 use Rattle.tas_movie.specs.Content.{MovieContent}
-use Rattle.tas_session.specs.History.{most_edits}
+use Rattle.tas_published.specs.History.{most_edits}
 use Rattle.tas_seat.specs.Inside.EditRequests.{requested_edit}
 use Rattle.tas_seat.proofs.DraftEditLemmas.{change_made}
 use Rattle.tas_seat.proofs.draft.Draft.make_asked.Goals as goal

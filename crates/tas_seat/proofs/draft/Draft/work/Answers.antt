@@ -1,5 +1,5 @@
 use Rattle.std.proofs.Common.{ℕ, List, length, refl, subst}
-use Rattle.vcs_machine.specs.declared.input.Input.{Input}
+use Rattle.vcs_inputs.specs.declared.input.Input.{Input}
 use Rattle.tas_movie.specs.Front.{IsCommonFront}
 use Rattle.tas_green.specs.Grid.{stride}
 use Rattle.tas_green.specs.Zone.{state_at, where_true, is_on_grid}

@@ -1,8 +1,8 @@
 use Rattle.std.proofs.lemmas.Grind.{common_steps}
 use Rattle.std.proofs.Common.{◌∙◌, ap, length, rules, arith}
-use Rattle.tas_session.specs.Published.{PublisherContent}
+use Rattle.tas_published.specs.Published.{PublisherContent}
 use Rattle.tas_session.specs.Session.{SessionContent}
-use Rattle.tas_session.proofs.HistoryLemmas.{sound_edited, counted_after, same_next}
+use Rattle.tas_session.proofs.SoundLemmas.{sound_edited, counted_after, same_next}
 use Rattle.tas_session.proofs.session.Session.accept.Goals as goal
 
 pub invariant_of-self-2 : goal.invariant_of-self-2

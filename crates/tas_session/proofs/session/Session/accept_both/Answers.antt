@@ -3,10 +3,10 @@ use Rattle.std.specs.Prelude.{if◌then◌else◌}
 use Rattle.tas_movie.specs.Content.{MovieContent}
 use Rattle.tas_movie.specs.Edit.{edited}
 use Rattle.tas_session.specs.Inside.Counts.{count_in}
-use Rattle.tas_session.specs.Published.{PublisherContent}
+use Rattle.tas_published.specs.Published.{PublisherContent}
 use Rattle.tas_session.specs.Session.{SessionContent}
-use Rattle.tas_session.specs.Strokes.{AreNext}
-use Rattle.tas_session.proofs.HistoryLemmas.{sound_edited, counted_after}
+use Rattle.tas_published.specs.Strokes.{AreNext}
+use Rattle.tas_session.proofs.SoundLemmas.{sound_edited, counted_after}
 use Rattle.tas_session.proofs.session.Session.accept_both.Goals as goal
 
 pub invariant_of-self-2 : goal.invariant_of-self-2

@@ -1,5 +1,5 @@
 use Rattle.std.proofs.Common.{◌<◌, length, arith}
-use Rattle.tas_session.specs.Strokes.{edits_of}
+use Rattle.tas_published.specs.Strokes.{edits_of}
 use Rattle.tas_session.proofs.StepLemmas.{on_any_error}
 use Rattle.tas_session.proofs.session.Session.accept_stroke.Goals as goal
 

@@ -1,8 +1,8 @@
 use Rattle.std.proofs.Common.{◌≡◌, ◌+◌, ◌≤◌, length, ap, sym, ◌∙◌, arith}
 use Rattle.tas_movie.specs.Content.{MovieContent}
-use Rattle.tas_session.specs.History.{most_edits, entries_of}
+use Rattle.tas_published.specs.History.{most_edits, entries_of}
 use Rattle.tas_session.specs.Session.{SessionContent}
-use Rattle.tas_session.specs.Strokes.{edits_of, refusal_in}
+use Rattle.tas_published.specs.Strokes.{edits_of, refusal_in}
 use Rattle.tas_session.proofs.StepLemmas.{answer_none, are_next}
 use Rattle.tas_session.proofs.session.Session.check_commit.Goals as goal
 

@@ -1,5 +1,5 @@
 use Rattle.std.proofs.Common.{subst}
-use Rattle.tas_session.specs.History.{IsLegal}
+use Rattle.tas_published.specs.History.{IsLegal}
 use Rattle.tas_session.specs.Session.{SessionContent}
 use Rattle.tas_session.proofs.session.Session.close.Goals as goal
 

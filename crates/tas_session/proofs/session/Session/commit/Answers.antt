@@ -1,5 +1,5 @@
 use Rattle.std.proofs.lemmas.Result.{err_from_is_err_and}
-use Rattle.tas_session.specs.Strokes.{edits_of}
+use Rattle.tas_published.specs.Strokes.{edits_of}
 use Rattle.tas_session.proofs.StepLemmas.{never_memory}
 use Rattle.tas_session.proofs.session.Session.commit.Goals as goal
 

@@ -1,7 +1,7 @@
 use Rattle.std.proofs.lemmas.Grind.{common_steps}
 use Rattle.std.proofs.Common.{ap, arith}
-use Rattle.tas_session.specs.Published.{PublisherContent}
-use Rattle.tas_session.proofs.HistoryLemmas.{sound_opened, counted_none}
+use Rattle.tas_published.specs.Published.{PublisherContent}
+use Rattle.tas_session.proofs.SoundLemmas.{sound_opened, counted_none}
 use Rattle.tas_session.proofs.session.Session.with_places.Goals as goal
 
 pub invariant_of-result : goal.invariant_of-result

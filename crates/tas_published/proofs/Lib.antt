@@ -1,0 +1,7 @@
+pub mod EntryLemmas
+pub mod HistoryLemmas
+pub mod PrefixLemmas
+pub mod PublishLemmas
+pub mod PublishedRule
+pub mod ReaderLemmas
+pub mod RegistryLemmas

@@ -1,5 +1,0 @@
-use Rattle.tas_session.proofs.PublishedRule.{looks}
-use Rattle.tas_session.proofs.movie_reader.look_input.Goals as goal
-
-pub enter_as-requires : goal.enter_as-requires
-enter_as-requires g c = λ x. looks _ _ x

@@ -1,9 +1,0 @@
-use Rattle.std.proofs.Common.{rules}
-use Rattle.tas_session.proofs.PublishedRule.{looks}
-use Rattle.tas_session.proofs.movie_reader.look_len.Goals as goal
-
-pub enter_as-requires : goal.enter_as-requires
-enter_as-requires g c = λ x. looks _ _ x
-
-pub returns-in-Ok : goal.returns-in-Ok
-returns-in-Ok g c = search rules

@@ -1,0 +1,3 @@
+pub mod Cart
+pub mod Input
+pub mod Inside

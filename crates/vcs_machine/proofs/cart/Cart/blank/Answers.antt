@@ -1,5 +1,0 @@
-use Rattle.std.proofs.Common.{rules}
-use Rattle.vcs_machine.proofs.cart.Cart.blank.Goals as goal
-
-pub returns : goal.returns
-returns g c = search rules

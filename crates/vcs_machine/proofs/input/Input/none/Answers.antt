@@ -1,5 +1,0 @@
-use Rattle.std.proofs.Common.{rules}
-use Rattle.vcs_machine.proofs.input.Input.none.Goals as goal
-
-pub returns : goal.returns
-returns c = search rules
