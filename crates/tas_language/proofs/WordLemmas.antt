@@ -1,7 +1,7 @@
 -- Words and numbers.
 use Rattle.std.proofs.Common.{◌≡◌, ℕ, ◌+◌, ◌<◌, ◌≤◌, List, ◌∷◌, ◌++◌, Option, Some, None, sym, ◌∙◌, arith}
-use Rattle.std.proofs.Common.{◌%◌, ◌^◌}
-use Rattle.std.specs.Prelude.{decimal, MatchOption, IfSome, IfNone}
+use Rattle.std.proofs.Common.{◌%◌, ◌^◌, append_assoc}
+use Rattle.std.specs.Prelude.{[], decimal, MatchOption, IfSome, IfNone}
 use Rattle.std.proofs.lemmas.Fmt.{decimal_by_steps, decimal_injective}
 use Rattle.byte_text.specs.Splitting.{NoByte}
 use Rattle.byte_text.proofs.SplitLemmas.{push_no_byte, same_front}
@@ -40,3 +40,9 @@ past_most n m word is lt over le same =
 
 pub none_some : {A : Type 0} (o : Option A) (x : A) → o ≡ None → o ≡ Some x → ⊥
 none_some o x n s = cc
+
+-- ---- a line of a place, a count and a frame, as it is written: its parts one after the other
+
+pub frames_joined : (word place count frame : List ℕ) →
+    ((word ++ 32 ∷ (place ++ 32 ∷ (count ++ 32 ∷ []))) ++ frame) ++ 10 ∷ [] ≡ (word ++ 32 ∷ (place ++ 32 ∷ (count ++ 32 ∷ frame))) ++ 10 ∷ []
+frames_joined word place count frame = simp append_assoc

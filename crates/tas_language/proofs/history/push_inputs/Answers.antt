@@ -1,3 +1,4 @@
+use Rattle.std.proofs.lemmas.Grind.{common_steps}
 use Rattle.std.proofs.Common.{◌++◌, List, length, arith, ap, sym, ◌∙◌, length-drop}
 use Rattle.std.proofs.lemmas.Bool.{eqb-false}
 use Rattle.std.proofs.lemmas.List.{take_rest}
@@ -24,3 +25,6 @@ pub returns : goal.returns
 returns g c =
     all_told c.loop-done.text.items c.args.prefix.now c.args.word.now c.args.inputs.now _ c.loop-done.done _ (omega (arith, c.loop-done-test.false)) c.loop-done.invariant.told
     ∙ ap (λ (runs : List FrameRun). c.args.text.now.items ++ run_lines c.args.prefix.now c.args.word.now c.args.at runs) (runs_some c.args.inputs.now (eqb-false _ _ (sym c.is_empty.ensures ∙ c.if-is_empty.false)))
+
+pub loop-done-smaller : goal.loop-done-smaller
+loop-done-smaller g c = grind (arith, common_steps)

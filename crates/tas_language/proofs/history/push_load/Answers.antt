@@ -1,4 +1,5 @@
-use Rattle.std.proofs.Common.{ap, ◌∙◌}
+use Rattle.std.proofs.lemmas.Grind.{common_steps}
+use Rattle.std.proofs.Common.{ap, ◌∙◌, arith}
 use Rattle.tas_language.proofs.HistoryLemmas.{small_put, large_put}
 use Rattle.tas_language.proofs.history.push_load.Goals.{then-image-eq-SMALL_CART_SIZE+in_ok-push, else-image-eq-SMALL_CART_SIZE}
 use Rattle.tas_language.proofs.history.push_load.Goals as goal
@@ -16,3 +17,6 @@ returns-clause-text g c =
       | else-image-eq-SMALL_CART_SIZE w ↦ large_put c.args.text.now.items _ _ _ _ _ _ c.args.prefix.now c.args.image.now w.if-image-eq-SMALL_CART_SIZE.false begun named
           (ap (λ v. v.items) w.text-is) marked digits ended
     ]
+
+pub returns-clause-bytes : goal.returns-clause-bytes
+returns-clause-bytes g c = grind (arith, common_steps)

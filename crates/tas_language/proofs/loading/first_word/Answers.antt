@@ -1,3 +1,4 @@
+use Rattle.std.proofs.lemmas.Grind.{common_steps}
 use Rattle.std.proofs.Common.{arith}
 use Rattle.tas_language.proofs.PartLemmas.{word_at, word_end_at, word_end_none}
 use Rattle.tas_language.proofs.loading.first_word.Goals as goal
@@ -10,3 +11,6 @@ returns-in-Some-clause-end c = word_end_at c.args.bytes.now c.in-Some.word.now _
 
 pub returns-in-None-clause-end : goal.returns-in-None-clause-end
 returns-in-None-clause-end c = word_end_none c.split_at-in-None.result.1.now (omega (arith, c.split_at-in-None.ensures.back_len))
+
+pub returns-in-None-clause-word : goal.returns-in-None-clause-word
+returns-in-None-clause-word c = grind (arith, common_steps)

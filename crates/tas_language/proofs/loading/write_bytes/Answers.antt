@@ -1,3 +1,4 @@
+use Rattle.std.proofs.lemmas.Grind.{common_steps}
 use Rattle.std.proofs.Common.{◌≡◌, ◌*◌, get_or, length, arith, rules, ap, ◌∙◌, refl}
 use Rattle.tas_language.specs.Parts.{hex_text}
 use Rattle.tas_language.proofs.PartLemmas.{more_bytes, byte_read, length-hex_text, all_bytes, set_bytes}
@@ -21,3 +22,6 @@ returns-clause-written c = all_bytes c.args.digits.now c.loop-k.buffer c.loop-k.
 pub loop-k-init : goal.loop-k-init
 unfolding hex_text
 loop-k-init c = record { len = refl; bytes = λ j. omega (arith, c.type_inv.buffer j); done = refl }
+
+pub returns-in_err-byte-clause-bytes : goal.returns-in_err-byte-clause-bytes
+returns-in_err-byte-clause-bytes c = grind (arith, common_steps)

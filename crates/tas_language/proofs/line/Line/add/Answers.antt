@@ -7,3 +7,9 @@ returns-then-self-clause-added g c = grind (arith, common_steps)
 
 pub returns-then-saturating_add-gt-MAX_LINE-clause-added : goal.returns-then-saturating_add-gt-MAX_LINE-clause-added
 returns-then-saturating_add-gt-MAX_LINE-clause-added g c = grind (arith, common_steps)
+
+pub returns-clause-err : goal.returns-clause-err
+returns-clause-err g c = grind (arith, common_steps)
+
+pub returns-clause-added : goal.returns-clause-added
+returns-clause-added g c = grind (arith, common_steps)
