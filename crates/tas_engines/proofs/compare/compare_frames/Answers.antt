@@ -1,3 +1,4 @@
+use Rattle.std.proofs.lemmas.Grind.{common_steps}
 use Rattle.std.proofs.Common.{◌∙◌, arith}
 use Rattle.tas_engines.proofs.CompareLemmas.{shared_state, nothing_before}
 use Rattle.tas_engines.proofs.compare.compare_frames.Goals as goal
@@ -12,3 +13,15 @@ loop-k-init g c =
       found = nothing_before old new c.args.front c.requires.carts c.requires.front;
       within = c.requires.order;
     }
+
+pub loop-k-preserved : goal.loop-k-preserved
+loop-k-preserved g c = grind (arith, common_steps)
+
+pub compare_frame-requires-clause-old : goal.compare_frame-requires-clause-old
+compare_frame-requires-clause-old g c = grind (arith, common_steps)
+
+pub overflow_add-k : goal.overflow_add-k
+overflow_add-k g c = grind (arith, common_steps)
+
+pub compare_frame-requires-clause-new : goal.compare_frame-requires-clause-new
+compare_frame-requires-clause-new g c = grind (arith, common_steps)

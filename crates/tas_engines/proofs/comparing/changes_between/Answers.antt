@@ -1,3 +1,4 @@
+use Rattle.std.proofs.lemmas.Grind.{common_steps}
 use Rattle.std.proofs.Common.{◌≡◌, ◌≤◌, ◌+◌, ◌-◌, ℕ, List, length, take, drop, Option, Some, None, refl, sym, subst, arith, length-take}
 use Rattle.std.proofs.lemmas.List.{length-drop}
 use Rattle.tas_movie.specs.declared.run.FrameRun.{FrameRun}
@@ -74,3 +75,33 @@ returns g c =
     (plain_end c.args.old.now c.args.new.now c.common_front-front.result c.common_end-end.result c.common_end-end.ensures) c.loop-step.invariant
     (found _ _ _ _ (length c.args.old.now) c.loop-step.stage None c.deref-in-loop-step.ensures.value c.deref-in-loop-step-2.ensures.value c.in_default.ensures)
     c.in_ok-push_hunk-2.ensures
+
+pub slice_bounds-next_step-start : goal.slice_bounds-next_step-start
+slice_bounds-next_step-start g c = grind (arith, common_steps)
+
+pub slice_bounds-next_step-count : goal.slice_bounds-next_step-count
+slice_bounds-next_step-count g c = grind (arith, common_steps)
+
+pub loop-step-smaller : goal.loop-step-smaller
+loop-step-smaller g c = grind (arith, common_steps)
+
+pub offset_bounds-deref-stage : goal.offset_bounds-deref-stage
+offset_bounds-deref-stage g c = grind (arith, common_steps)
+
+pub next_step-requires-clause-len_bound : goal.next_step-requires-clause-len_bound
+next_step-requires-clause-len_bound g c = grind (arith, common_steps)
+
+pub next_step-requires-clause-gap_old : goal.next_step-requires-clause-gap_old
+next_step-requires-clause-gap_old g c = grind (arith, common_steps)
+
+pub slice_bounds-next_step-start-in-loop-step : goal.slice_bounds-next_step-start-in-loop-step
+slice_bounds-next_step-start-in-loop-step g c = grind (arith, common_steps)
+
+pub slice_bounds-next_step-count-in-loop-step : goal.slice_bounds-next_step-count-in-loop-step
+slice_bounds-next_step-count-in-loop-step g c = grind (arith, common_steps)
+
+pub push_hunk-requires-2 : goal.push_hunk-requires-2
+push_hunk-requires-2 g c = grind (arith, common_steps)
+
+pub offset_bounds-deref-stage-in-loop-step : goal.offset_bounds-deref-stage-in-loop-step
+offset_bounds-deref-stage-in-loop-step g c = grind (arith, common_steps)

@@ -1,3 +1,4 @@
+use Rattle.std.proofs.lemmas.Grind.{common_steps}
 use Rattle.std.proofs.Common.{◌≡◌, ◌+◌, ◌-◌, ℕ, take, drop, subst, arith}
 use Rattle.tas_engines.specs.Hunks.{AddsReplacement}
 use Rattle.tas_engines.proofs.GapSteps.{replacing_none, replacing_next}
@@ -32,3 +33,9 @@ loop-done-preserved g c =
     let next = replacing_next old new gap.old gap.new gap.new_end done left n before now after (left_to_replace old new gap done c.requires.gap as_many here) c.loop-done.invariant.replacing added in
     let fits = next.2 in
     record { within = omega (arith, fits, here, new_forward); replacing = next.0 }
+
+pub returns : goal.returns
+returns g c = grind (arith, common_steps)
+
+pub loop-done-smaller : goal.loop-done-smaller
+loop-done-smaller g c = grind (arith, common_steps)

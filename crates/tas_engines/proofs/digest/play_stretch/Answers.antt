@@ -1,3 +1,4 @@
+use Rattle.std.proofs.lemmas.Grind.{common_steps}
 use Rattle.std.proofs.Common.{◌≡◌, ◌+◌, ◌-◌, ◌++◌, ℕ, List, None, sym, ap, subst, refl, inl, inr, ◌∙◌, arith}
 use Rattle.std.proofs.lemmas.Bool.{cases_eq}
 use Rattle.hex.specs.Hex.{encode_lower}
@@ -39,3 +40,9 @@ returns-clause-ram g c =
     let last = c.ram.ensures ∙ ap (λ (s : State). s.riot.ram) c.draw_frame.ensures.state ∙ ap (λ (n : ℕ). ram_after movie (n + 1)) at in
     let more = ap (λ (r : List ℕ). ram_of_frames movie from k ++ r) last ∙ pieces_more (λ f. ram_after movie (f + 1)) from k (omega (arith, c.loop-k.auto.k)) ∙ ap (ram_of_frames movie from) ended in
     c.digits_of.ensures ∙ ap encode_lower (c.finalize.ensures (ram_of_frames movie from k ++ c.ram.result) (c.update.ensures (ram_of_frames movie from k) c.loop-k.invariant.holds) ∙ ap sha256 more)
+
+pub draw_frame-requires-clause-start : goal.draw_frame-requires-clause-start
+draw_frame-requires-clause-start g c = grind (arith, common_steps)
+
+pub returns-clause-state : goal.returns-clause-state
+returns-clause-state g c = grind (arith, common_steps)

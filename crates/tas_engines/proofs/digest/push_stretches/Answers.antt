@@ -1,3 +1,4 @@
+use Rattle.std.proofs.lemmas.Grind.{common_steps}
 use Rattle.std.proofs.Common.{◌≡◌, ◌+◌, ◌*◌, ◌<◌, ◌++◌, ℕ, List, length, min, sym, ap, inl, inr, ◌∙◌, append-nil, append_assoc, arith}
 use Rattle.std.proofs.lemmas.Bool.{cases_lt}
 use Rattle.vcs_machine.specs.Machine.{power_on}
@@ -52,3 +53,18 @@ returns-clause-drawn g c = λ k lt.
     let ended : c.loop-i.i ≡ c.div_ceil-i-end.result = omega (arith, c.loop-i-test.false, c.loop-i.auto.i-end) in
     let all = covers c.args.every c.len-len.result c.loop-i.i c.requires (ended ∙ c.div_ceil-i-end.ensures) in
     c.loop-i.invariant.drawn k (omega (arith, lt, all, c.len-len.ensures.len))
+
+pub overflow_sub-len : goal.overflow_sub-len
+overflow_sub-len g c = grind (arith, common_steps)
+
+pub overflow_mul-from : goal.overflow_mul-from
+overflow_mul-from g c = grind (arith, common_steps)
+
+pub overflow_add-to : goal.overflow_add-to
+overflow_add-to g c = grind (arith, common_steps)
+
+pub digest_stretch-requires-clause-within : goal.digest_stretch-requires-clause-within
+digest_stretch-requires-clause-within g c = grind (arith, common_steps)
+
+pub digest_stretch-requires-clause-start : goal.digest_stretch-requires-clause-start
+digest_stretch-requires-clause-start g c = grind (arith, common_steps)

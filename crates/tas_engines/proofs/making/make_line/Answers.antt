@@ -1,4 +1,5 @@
-use Rattle.std.proofs.Common.{◌≡◌, None, sym, subst}
+use Rattle.std.proofs.lemmas.Grind.{common_steps}
+use Rattle.std.proofs.Common.{◌≡◌, None, sym, subst, arith}
 use Rattle.tas_movie.specs.Edit.{IsAllowed}
 use Rattle.tas_engines.specs.Scripts.{line_on, line_refusal}
 use Rattle.tas_engines.proofs.RetouchLemmas.{check_allows, mapped_ok, line_allowed}

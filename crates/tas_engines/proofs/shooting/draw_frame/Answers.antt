@@ -1,3 +1,4 @@
+use Rattle.std.proofs.lemmas.Grind.{common_steps}
 use Rattle.std.proofs.Common.{ap, inr, arith}
 use Rattle.vcs_tia.specs.Image.{ppm_bytes}
 use Rattle.tas_engines.proofs.Shots.{no_halt, the_halt, when_ok, stopped_shot}
