@@ -559,7 +559,6 @@ class Machine:
             return None
         self.begin_frame(read_input(text))
         while not self.is_frame_over():
-            self.note_latches()
             step = self.step()
             if step.cycles is None:
                 self.halt = step

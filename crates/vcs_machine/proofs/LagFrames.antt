@@ -1,7 +1,7 @@
 -- Whatever the input of a lag frame, its next machine and its picture are the same.
 use Rattle.std.proofs.Common.{◌≡◌, ℕ, zero, suc, Bool, true, false, not, ◌&&◌, ◌||◌, if◌then◌else◌, List, [], Option, Some, None, Result, Ok, Err, ◌∙◌, ap, sym, refl, subst}
 use Rattle.std.specs.List.{list_any}
-use Rattle.std.proofs.lemmas.Bool.{false≢true, or_parts}
+use Rattle.std.proofs.lemmas.Bool.{false≢true}
 use Rattle.vcs_cpu.specs.Reads.{addresses_read}
 use Rattle.vcs_cpu.specs.Steps.{Step}
 use Rattle.vcs_cpu.specs.declared.regs.Regs.{Regs}
@@ -59,23 +59,19 @@ module _ {Seen : Type 0} (observe : List Tia → Seen → Seen) (looks : (n : �
   if_over-alike false false e f latches next p q same ends on h = on h
 
   end_or_next-alike : (a b : Result (Step (Observed Seen)) Halt) (r : Regs) (x y : Observed Seen) (ignored : Step (Observed Seen) → Bool) (next : Step (Observed Seen) → Option (FrameEnd Seen)) →
-      EndAlike AlikeButInput a b → AlikeButInput x y → latches_presses x.board.tia ≡ false →
+      EndAlike AlikeButInput a b → AlikeButInput x y →
       ((s t : Step (Observed Seen)) → s.regs ≡ t.regs → AlikeButInput s.content t.content → ignored s ≡ true → EndsAlike (next s) (next t)) →
-      last_or_next a ignored ≡ true → EndsAlike (end_or_next a r x next) (end_or_next b r y next)
-  end_or_next-alike (Ok s) (Ok t) r x y ignored next alike h off on ends =
+      last_or_next x a ignored ≡ true → EndsAlike (end_or_next a r x next) (end_or_next b r y next)
+  end_or_next-alike (Ok s) (Ok t) r x y ignored next alike h on ends =
       if_over-alike (is_frame_over s.content.board.tia) (is_frame_over t.content.board.tia) (record { regs = s.regs; observed = s.content; halt = None }) (record { regs = t.regs; observed = t.content; halt = None })
       (latches_presses s.content.board.tia) (ignored s) (next s) (next t)
       (ap (λ (o : Observed Seen). is_frame_over o.board.tia) alike.content)
       (λ off. record { regs = alike.regs; halt = refl; observed = alike.content; off = off })
       (on s t alike.regs alike.content) ends
-  end_or_next-alike (Ok s) (Err halt) r x y ignored next alike h off on ends = absurd alike
-  end_or_next-alike (Err halt) (Ok t) r x y ignored next alike h off on ends = absurd alike
-  end_or_next-alike (Err halt) (Err other) r x y ignored next alike h off on ends =
-      record { regs = refl; halt = ap (λ (e : Halt). Some e) alike; observed = h; off = off }
-
-  ignored-parts : (r : Regs) (x : Observed Seen) → ignores_input r x.board ≡ true →
-      (latches_presses x.board.tia ≡ false) × (list_any (shows_input x.board) (addresses_read r (board_byte_at x.board)) ≡ false)
-  ignored-parts r x h = or_parts (latches_presses x.board.tia) (list_any (shows_input x.board) (addresses_read r (board_byte_at x.board))) (not_true _ h)
+  end_or_next-alike (Ok s) (Err halt) r x y ignored next alike h on ends = absurd alike
+  end_or_next-alike (Err halt) (Ok t) r x y ignored next alike h on ends = absurd alike
+  end_or_next-alike (Err halt) (Err other) r x y ignored next alike h on ends =
+      record { regs = refl; halt = ap (λ (e : Halt). Some e) alike; observed = h; off = not_true _ ends }
 
   -- steps that ignore the input end alike whatever it is
   ends-alike : (n : ℕ) (r s : Regs) (x y : Observed Seen) → r ≡ s → AlikeButInput x y → is_ignored_within observe n r x ≡ true → EndsAlike (end_within observe n r x) (end_within observe n s y)
@@ -83,32 +79,25 @@ module _ {Seen : Type 0} (observe : List Tia → Seen → Seen) (looks : (n : �
   ends-alike zero r s x y same h ignored = absurd (false≢true ignored)
   ends-alike (suc n) r s x y same h ignored =
       let parts = and_parts (ignores_input r x.board) _ ignored in
-      let first = ignored-parts r x parts.0 in
       subst (λ (q : Regs). EndsAlike (end_or_next (console_step observe r x) r x (λ step. end_within observe n step.regs step.content)) (end_or_next (console_step observe q y) q y (λ step. end_within observe n step.regs step.content))) same
       (end_or_next-alike (console_step observe r x) (console_step observe r y) r x y (λ step. is_ignored_within observe n step.regs step.content) (λ step. end_within observe n step.regs step.content)
-      (console_step-alike observe looks r x y h first.1) h first.0 (λ a b. ends-alike n a.regs b.regs a.content b.content) parts.1)
-
-  -- at the first of them no press sets a latch
-  off_at_start : (n : ℕ) (r : Regs) (x : Observed Seen) → is_ignored_within observe n r x ≡ true → latches_presses x.board.tia ≡ false
-  unfolding is_ignored_within
-  off_at_start zero r x ignored = absurd (false≢true ignored)
-  off_at_start (suc n) r x ignored = (ignored-parts r x (and_parts (ignores_input r x.board) _ ignored).0).0
+      (console_step-alike observe looks r x y h (not_true _ parts.0)) h (λ a b. ends-alike n a.regs b.regs a.content b.content) parts.1)
 
 -- ---- whoever observes the steps
 
 module _ {A B : Type 0} (a : List Tia → A → A) (b : List Tia → B → B) (f : A → B) (law : (ts : List Tia) (s : A) → f (a ts s) ≡ b ts (f s)) where
-  last_or_next_seen_by : (x : Result (Step (Observed A)) Halt) (next : Step (Observed A) → Bool) (on : Step (Observed B) → Bool) → ((y : Step (Observed A)) → on (step_seen_by a b f law y) ≡ next y) →
-      last_or_next (result_seen_by a b f law x) on ≡ last_or_next x next
-  last_or_next_seen_by (Ok x) next on h = ap (λ (q : Bool). if is_frame_over x.content.board.tia then not (latches_presses x.content.board.tia) else q) (h x)
-  last_or_next_seen_by (Err halt) next on h = refl
+  last_or_next_seen_by : (o : Observed A) (x : Result (Step (Observed A)) Halt) (next : Step (Observed A) → Bool) (on : Step (Observed B) → Bool) → ((y : Step (Observed A)) → on (step_seen_by a b f law y) ≡ next y) →
+      last_or_next (seen_by a b f law o) (result_seen_by a b f law x) on ≡ last_or_next o x next
+  last_or_next_seen_by o (Ok x) next on h = ap (λ (q : Bool). if is_frame_over x.content.board.tia then not (latches_presses x.content.board.tia) else q) (h x)
+  last_or_next_seen_by o (Err halt) next on h = refl
 
   ignored_seen_by : (n : ℕ) (r : Regs) (o : Observed A) → is_ignored_within b n r (seen_by a b f law o) ≡ is_ignored_within a n r o
   unfolding is_ignored_within
   ignored_seen_by zero r o = refl
   ignored_seen_by (suc n) r o =
-      ap (λ (x : Result (Step (Observed B)) Halt). ignores_input r o.board && last_or_next x (λ (y : Step (Observed B)). is_ignored_within b n y.regs y.content)) (console_step_seen_by a b f law r o)
+      ap (λ (x : Result (Step (Observed B)) Halt). ignores_input r o.board && last_or_next (seen_by a b f law o) x (λ (y : Step (Observed B)). is_ignored_within b n y.regs y.content)) (console_step_seen_by a b f law r o)
       ∙ ap (λ (q : Bool). ignores_input r o.board && q)
-      (last_or_next_seen_by (console_step a r o) (λ y. is_ignored_within a n y.regs y.content) (λ y. is_ignored_within b n y.regs y.content) (λ y. ignored_seen_by n y.regs y.content))
+      (last_or_next_seen_by o (console_step a r o) (λ y. is_ignored_within a n y.regs y.content) (λ y. is_ignored_within b n y.regs y.content) (λ y. ignored_seen_by n y.regs y.content))
 
 -- ---- the machine and the picture
 
@@ -187,16 +176,16 @@ module _ (rom : List ℕ) (m : Machine) where
       ∙ ap (λ (halt : Option Halt). drawn (unless_halted halt (listed_clocks (frame_end rom m input)) []) blank_picture) h
       ∙ sym (picture-listed (frame_end rom m input)) ∙ ap picture_seen (sym (drawn_end-listed rom m input))
 
-  -- where no press sets a latch, the frame starts alike
-  latch_still : (latching latched pressed other : Bool) → latching ≡ false → (not latching && (latched || (latching && pressed))) ≡ (not latching && (latched || (latching && other)))
-  latch_still true latched pressed other off = absurd (false≢true (sym off))
-  latch_still false latched pressed other off = refl
+  -- the frame starts alike, whatever a press latches
+  latch_still : (latching latched pressed other : Bool) → (not latching && (latched || (latching && pressed))) ≡ (not latching && (latched || (latching && other)))
+  latch_still true latched pressed other = refl
+  latch_still false latched pressed other = refl
 
-  starts-alike : {Seen : Type 0} (a b : Input) (s : Seen) → latches_presses m.tia ≡ false → AlikeButInput (frame_start rom m a s) (frame_start rom m b s)
-  starts-alike a b s off =
+  starts-alike : {Seen : Type 0} (a b : Input) (s : Seen) → AlikeButInput (frame_start rom m a s) (frame_start rom m b s)
+  starts-alike a b s =
       let f = m.tia.fire in
-      let left = latch_still f.latching f.left.latched a.left.fire b.left.fire off in
-      let right = latch_still f.latching f.right.latched a.right.fire b.right.fire off in
+      let left = latch_still f.latching f.left.latched a.left.fire b.left.fire in
+      let right = latch_still f.latching f.right.latched a.right.fire b.right.fire in
       λ i. record {
         board = record {
           rom = rom;
@@ -213,7 +202,7 @@ module _ (rom : List ℕ) (m : Machine) where
   unhalted-law : (a b : Input) → m.halt ≡ None → is_ignored_within nothing_seen 12160 m.regs (frame_start rom m a tt) ≡ true → IsSameFrame rom m a b
   unhalted-law a b h ignored =
       let drawn_ignored = sym (ignored_seen_by drawn nothing_seen (λ picture. tt) (λ ts picture. refl) 12160 m.regs (frame_start rom m a blank_picture)) ∙ ignored in
-      let start = starts-alike a b blank_picture (off_at_start drawn drawn-alike 12160 m.regs (frame_start rom m a blank_picture) drawn_ignored) in
+      let start = starts-alike a b blank_picture in
       let ends = ends-alike drawn drawn-alike 12160 m.regs m.regs (frame_start rom m a blank_picture) (frame_start rom m b blank_picture) refl start drawn_ignored in
       record {
         state = frame-drawn_end a h ∙ same_machine m (drawn_end rom m a) (drawn_end rom m b) ends ∙ sym (frame-drawn_end b h);

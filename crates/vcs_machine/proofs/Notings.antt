@@ -31,15 +31,15 @@ module _ {Seen : Type 0} (observe : List Tia → Seen → Seen) where
   end_by n r o x = end_or_next x r o (λ step. end_within observe n step.regs step.content)
 
   abbrev ignored_by : ℕ → Regs → Observed Seen → Result (Step (Observed Seen)) Halt → Bool
-  ignored_by n r o x = ignores_input r o.board && last_or_next x (λ step. is_ignored_within observe n step.regs step.content)
+  ignored_by n r o x = ignores_input r o.board && last_or_next o x (λ step. is_ignored_within observe n step.regs step.content)
 
   -- a halt comes in a step's place
-  pub step-halts : (r s : Regs) (o p : Observed Seen) (halt : Halt) (ignored : Bool) → console_step observe r o ≡ Err halt → s ≡ r → p ≡ o → ignored ≡ ignores_input r o.board →
+  pub step-halts : (r s : Regs) (o p : Observed Seen) (halt : Halt) (ignored : Bool) → console_step observe r o ≡ Err halt → s ≡ r → p ≡ o → ignored ≡ (ignores_input r o.board && not (latches_presses o.board.tia)) →
       LeadsTo observe r o (record { over = true; ignored = ignored; halt = Some halt }) s p
   unfolding end_within is_ignored_within
   step-halts r s o p halt ignored is same_regs same_content noted = record {
     ends = λ over n. ap (end_by n r o) is ∙ ended-same r s o p (Some halt) (sym same_regs) (sym same_content);
-    last = λ over n. ap (ignored_by n r o) is ∙ and-true (ignores_input r o.board) ∙ sym noted;
+    last = λ over n. ap (ignored_by n r o) is ∙ sym noted;
     goes_on = λ over n. absurd (false≢true (sym over));
     next = λ over n. absurd (false≢true (sym over));
   }
@@ -78,7 +78,7 @@ module _ {Seen : Type 0} (observe : List Tia → Seen → Seen) where
       led-by r x.regs o p over ignored latches
       (λ n. ap (end_by n r o) is ∙ ap (after_step n x.regs x.content) (sym is_over) ∙ ap (λ (y : Observed Seen). after_step n x.regs y over) (sym same))
       (λ n. ap (ignored_by n r o) is
-      ∙ ap (λ (b : Bool). b && last_or_next (Ok x) (λ (step : Step (Observed Seen)). is_ignored_within observe n step.regs step.content)) (sym noted)
+      ∙ ap (λ (b : Bool). b && last_or_next o (Ok x) (λ (step : Step (Observed Seen)). is_ignored_within observe n step.regs step.content)) (sym noted)
       ∙ ap (λ (b : Bool). ignored && ignored_after n x.regs x.content b (latches_presses x.content.board.tia)) (sym is_over)
       ∙ ap (λ (b : Bool). ignored && ignored_after n x.regs x.content over b) (sym latching)
       ∙ ap (λ (y : Observed Seen). ignored && ignored_after n x.regs y over latches) (sym same))

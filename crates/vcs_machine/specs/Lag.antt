@@ -1,5 +1,5 @@
 -- Lag frames: frames whose input nothing reads (own).
-use Rattle.std.specs.Prelude.{◌≡◌, ℕ, zero, suc, Bool, true, false, not, ◌&&◌, ◌||◌, if◌then◌else◌, List, Result, Ok, Err}
+use Rattle.std.specs.Prelude.{◌≡◌, ℕ, zero, suc, Bool, true, false, not, ◌&&◌, if◌then◌else◌, List, Result, Ok, Err}
 use Rattle.std.specs.List.{list_any}
 use Rattle.vcs_cpu.specs.Reads.{addresses_read}
 use Rattle.vcs_cpu.specs.Steps.{Step}
@@ -27,22 +27,22 @@ shows_input_of region.Tia b addr = tia.shows_button addr
 abbrev pub shows_input : Board → ℕ → Bool
 shows_input b addr = shows_input_of (selected addr) b addr
 
--- no press sets a latch, and no read of the next instruction shows a pin or a fire button
+-- no read of the next instruction shows a pin or a fire button
 abbrev pub ignores_input : Regs → Board → Bool
-ignores_input regs b = not (tia.latches_presses b.tia || list_any (shows_input b) (addresses_read regs (board_byte_at b)))
+ignores_input regs b = not (list_any (shows_input b) (addresses_read regs (board_byte_at b)))
 
--- after a halt nothing is read; after the frame's last step no press sets a latch; else the steps go on
-abbrev pub last_or_next : {Seen : Type 0} → Result (Step (Observed Seen)) Halt → (Step (Observed Seen) → Bool) → Bool
-last_or_next (Err halt) next = true
-last_or_next (Ok step) next = if is_frame_over step.content.board.tia then not (tia.latches_presses step.content.board.tia) else next step
+-- where the frame ends, by a halt or after its last step, no press sets a latch, so that none is kept; else the steps go on
+abbrev pub last_or_next : {Seen : Type 0} → Observed Seen → Result (Step (Observed Seen)) Halt → (Step (Observed Seen) → Bool) → Bool
+last_or_next o (Err halt) next = not (tia.latches_presses o.board.tia)
+last_or_next o (Ok step) next = if is_frame_over step.content.board.tia then not (tia.latches_presses step.content.board.tia) else next step
 
 module _ {Seen : Type 0} (observe : List Tia → Seen → Seen) where
   -- the frame ends within n steps, and each of them ignores the input
   unfoldable pub is_ignored_within : ℕ → Regs → Observed Seen → Bool
   is_ignored_within zero regs o = false
-  is_ignored_within (suc n) regs o = ignores_input regs o.board && last_or_next (console_step observe regs o) (λ step. is_ignored_within n step.regs step.content)
+  is_ignored_within (suc n) regs o = ignores_input regs o.board && last_or_next o (console_step observe regs o) (λ step. is_ignored_within n step.regs step.content)
 
--- a frame whose steps all ignore the input; a halted machine has none
+-- a frame whose steps all ignore the input, and which keeps no press; a halted machine has no steps
 unfoldable pub is_lag_frame : List ℕ → Machine → Input → Bool
 is_lag_frame rom m input = unless_halted m.halt (is_ignored_within nothing_seen most_instructions m.regs (frame_start rom m input tt)) true
 

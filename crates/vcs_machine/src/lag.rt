@@ -31,7 +31,7 @@ use vcs_tia::Tia;
 pub(crate) struct LagStep {
     /// The frame is over after it.
     pub over: bool,
-    /// It ignored the input and, of a frame's last step, no press sets a latch after it.
+    /// It ignored the input and, of a frame's last step, no press sets a latch where the frame ends.
     pub ignored: bool,
     /// The halt that came in its place, if one did.
     pub halt: Option<Halt>,
@@ -61,11 +61,11 @@ fn shows_button(address: u16) -> bool
     low == 12 || low == 13
 }
 
-/// Whether the next instruction reads nothing that shows the input, and no press sets a fire latch before it.
+/// Whether the next instruction reads nothing that shows the input.
 fn ignores_input<O: Observer>(regs: &Regs, bus: &ConsoleBus<'_, O>) -> bool
     ensures { result ≡ ignores_input regs.now (content_of bus.now).board }
 {
-    !(bus.tia.latches_presses() | reads_watched(regs, bus))
+    !reads_watched(regs, bus)
 }
 
 /// One step of a frame, and whether it ignored the input; of the last one also whether no press sets a latch
@@ -81,7 +81,7 @@ fn lag_step<O: Observer>(regs: &mut Regs, bus: &mut ConsoleBus<'_, O>) -> LagSte
     match console_step(regs, bus) {
         Err(halt) => LagStep {
             over: true,
-            ignored,
+            ignored: ignored & !bus.tia.latches_presses(),
             halt: Some(halt),
         },
         Ok(_cycles) => {
@@ -156,7 +156,7 @@ fn run_chips_noting(
 }
 
 /// Plays one frame without a picture, as [`play_unseen`](crate::play_unseen) does, and returns whether it is a
-/// lag frame: no read in it shows a pin of SWCHA or SWCHB or a fire button, and VBLANK's D6 is off all along.
+/// lag frame: no read in it shows a pin of SWCHA or SWCHB or a fire button, and VBLANK's D6 is off at its end.
 /// Whatever the input of such a frame, the next state and the picture are the same. A halted machine reads
 /// nothing: its frames are lag frames. (own)
 pub fn play_for_lag<C: Allocator>(

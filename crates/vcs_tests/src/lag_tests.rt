@@ -88,6 +88,15 @@ static ROWS: &[Row] = &[
         &[0x4c, 0x7f, 0x02, 0x4c, 0x03, 0xf0],
         LAG,
     ),
+    // LDA #02, STA VSYNC, LDA #0, STA VSYNC, LDA #42, STA VBLANK, LDA #0, STA VBLANK, again and again
+    (
+        "latches on and off in each frame",
+        &[
+            0xa9, 0x02, 0x85, 0x00, 0xa9, 0x00, 0x85, 0x00, 0xa9, 0x42, 0x85, 0x01, 0xa9, 0x00,
+            0x85, 0x01, 0x4c, 0x00, 0xf0,
+        ],
+        LAG,
+    ),
     // LDA #40, STA VBLANK; then with LDA #0, STA VBLANK
     (
         "latches on",
@@ -99,13 +108,102 @@ static ROWS: &[Row] = &[
         &[
             0xa9, 0x40, 0x85, 0x01, 0xa9, 0x00, 0x85, 0x01, 0x4c, 0x08, 0xf0,
         ],
+        LAG,
+    ),
+    // The same with LDA INPT4 between: a latch that is read
+    (
+        "a latch is read",
+        &[
+            0xa9, 0x40, 0x85, 0x01, 0xa5, 0x0c, 0xa9, 0x00, 0x85, 0x01, 0x4c, 0x0a, 0xf0,
+        ],
+        ONCE,
+    ),
+    // LDA #40, STA VBLANK, and a byte that halts: the latch that a press sets is kept
+    (
+        "latches on at a halt",
+        &[0xa9, 0x40, 0x85, 0x01, 0x02],
+        ONCE,
+    ),
+    (
+        "latches on and off before a halt",
+        &[0xa9, 0x40, 0x85, 0x01, 0xa9, 0x00, 0x85, 0x01, 0x02],
+        LAG,
+    ),
+    // To LDX #01, TXS, BRK at F00D, which pushes F0 to VBLANK and 0F to VSYNC: the frame ends with D6 on. The vector leads to
+    // LDA #0, STA VBLANK and a loop, which clear what a press at the second frame's start has latched
+    (
+        "latches on at a frame's end within BRK",
+        &[
+            0x4c, 0x0a, 0xf0, 0xa9, 0x00, 0x85, 0x01, 0x4c, 0x07, 0xf0, 0xa2, 0x01, 0x9a, 0x00,
+        ],
+        ONCE,
+    ),
+    // The vector leads to a loop: D6 stays on
+    (
+        "latches stay on after BRK",
+        &[
+            0x4c, 0x0a, 0xf0, 0x4c, 0x03, 0xf0, 0x00, 0x00, 0x00, 0x00, 0xa2, 0x01, 0x9a, 0x00,
+        ],
+        READS,
+    ),
+    // The same at a mirror: BRK pushes 10 to VBLANK, and D6 stays off
+    (
+        "latches off at a frame's end within BRK",
+        &[
+            0x4c, 0x0a, 0x10, 0x4c, 0x03, 0xf0, 0x00, 0x00, 0x00, 0x00, 0xa2, 0x01, 0x9a, 0x00,
+        ],
+        LAG,
+    ),
+    // JMP to LDX #0A, TXS, RTS, which pulls INPT3 and INPT4 and goes to 8081, where a BRK in RAM leads to F003
+    (
+        "RTS over INPT4",
+        &[0x4c, 0x06, 0xf0, 0x4c, 0x03, 0xf0, 0xa2, 0x0a, 0x9a, 0x60],
+        ONCE,
+    ),
+    // The same with LDX #0D: the bytes at 10E and 10F are pulled
+    (
+        "RTS beside the buttons",
+        &[0x4c, 0x06, 0xf0, 0x4c, 0x03, 0xf0, 0xa2, 0x0d, 0x9a, 0x60],
+        LAG,
+    ),
+    // LDX #09, TXS, RTI pulls INPT2, INPT3 and INPT4 and goes to 8080
+    (
+        "RTI over INPT4",
+        &[0x4c, 0x06, 0xf0, 0x4c, 0x03, 0xf0, 0xa2, 0x09, 0x9a, 0x40],
+        ONCE,
+    ),
+    // LDX #08, TXS, RTI pulls INPT1 to INPT3 and goes to 8080
+    (
+        "RTI beside the buttons",
+        &[0x4c, 0x06, 0xf0, 0x4c, 0x03, 0xf0, 0xa2, 0x08, 0x9a, 0x40],
+        LAG,
+    ),
+    // LDX #0C, TXS, PLP, JMP to itself: the byte at 10D
+    (
+        "PLP of INPT5",
+        &[0xa2, 0x0c, 0x9a, 0x28, 0x4c, 0x04, 0xf0],
+        ONCE,
+    ),
+    // LDX #0A, TXS, PLP: the byte at 10B
+    (
+        "PLP of INPT3",
+        &[0xa2, 0x0a, 0x9a, 0x28, 0x4c, 0x04, 0xf0],
+        LAG,
+    ),
+    // LDA #A9, STA SWACNT, LDA #60, STA SWBCNT, JSR 0281: there LDA # takes its byte of SWCHB, and RTS comes back
+    (
+        "LDA # with its byte in SWCHB",
+        &[
+            0xa9, 0xa9, 0x8d, 0x81, 0x02, 0xa9, 0x60, 0x8d, 0x83, 0x02, 0x20, 0x81, 0x02, 0x4c,
+            0x0d, 0xf0,
+        ],
         ONCE,
     ),
 ];
 
-/// Whether pixels in each part of two pictures are equal.
+/// Whether all pixels of two pictures are equal.
 fn are_same_pictures(a: &Picture, b: &Picture) -> bool {
-    (0..21).all(|row| (0..20).all(|x| a.pixel(10 * row, 8 * x) == b.pixel(10 * row, 8 * x)))
+    (0..210).all(|row| (0..160).all(|x| a.pixel(row, x) == b.pixel(row, x)))
 }
 
 /// Plays a frame of a state with each input and without one, which must come to the same.
