@@ -5,6 +5,7 @@ use Rattle.std.proofs.lemmas.Bool.{or_cases, eqb-true, eq-eqb}
 use Rattle.std.proofs.lemmas.Nat.{and_mask}
 use Rattle.vcs_riot.specs.Address.{is_high}
 use Rattle.vcs_inputs.specs.Cart.{is_cart_size}
+use Rattle.vcs_machine.specs.Inside.Mirror.{IsMirror}
 
 -- what holds of both sizes
 by_size : (P : ℕ → Type 0) (n : ℕ) → is_cart_size n ≡ true → P 2048 → P 4096 → P n
@@ -24,11 +25,14 @@ least_bytes n is = by_size (λ m. 2048 ≤ m) n is (omega arith) (omega arith)
 pub most_bytes : (n : ℕ) → is_cart_size n ≡ true → n ≤ 4096
 most_bytes n is = by_size (λ m. m ≤ 4096) n is (omega arith) (omega arith)
 
--- the last addresses of 8,192 show a cartridge's bytes in order
-pub code_shows : (n start place addr : ℕ) → is_cart_size n ≡ true → start + n ≡ 8192 → place + start ≡ addr % 8192 → addr % n ≡ place
-code_shows n start place addr is last from =
-    by_size (λ m. start + m ≡ 8192 → addr % m ≡ place) n is (λ l. omega (arith, l, from)) (λ l. omega (arith, l, from)) last
+-- a mirror's addresses show a cartridge's bytes in order
+pub code_shows : (n start place addr : ℕ) → is_cart_size n ≡ true → IsMirror start n → place < n → place + start ≡ addr % 8192 → addr % n ≡ place
+code_shows n start place addr is mirror within from =
+    by_size (λ m. start % m ≡ 0 → place < m → addr % m ≡ place) n is (λ w l. omega (arith, w, l, from)) (λ w l. omega (arith, w, l, from)) mirror.whole within
 
 -- and A12 is high there
-pub code_high : (n start place addr : ℕ) → is_cart_size n ≡ true → start + n ≡ 8192 → place + start ≡ addr % 8192 → is_high 12 addr ≡ true
-code_high n start place addr is last from = let most = most_bytes n is in eq-eqb (addr / 4096 % 2) 1 (omega (arith, last, from, most))
+pub code_high : (n start place addr : ℕ) → IsMirror start n → place < n → place + start ≡ addr % 8192 → is_high 12 addr ≡ true
+code_high n start place addr mirror within from =
+    let first = mirror.first in
+    let last = mirror.last in
+    eq-eqb (addr / 4096 % 2) 1 (omega (arith, first, last, within, from))

@@ -151,7 +151,7 @@ fn run_chips_noting(
     ensures thirds { clocks_passed tia.new % 3 ≡ 0 }
 {
     let mut nobody = Nobody;
-    let mut bus = ConsoleBus::new(rom, pins, riot, tia, &mut nobody);
+    let mut bus = ConsoleBus::new(rom, regs.pc, pins, riot, tia, &mut nobody);
     run_for_lag(regs, &mut bus)
 }
 

@@ -17,14 +17,15 @@ returns-then-place-self g c =
     let sides = b.sides_is in
     let side = c.if-place-self.true in
     let most = most_bytes size b.rom_size in
-    let from : place + b.start ≡ pc % 8192 = c.code_place-place.ensures (omega (arith, start)) (omega (arith, side, sides, most)) in
-    let next : (place + 1) + b.start ≡ (pc + 1) % 65536 % 8192 = omega (arith, from, start, side, sides) in
-    let third : (place + 2) + b.start ≡ (pc + 2) % 65536 % 8192 = omega (arith, from, start, side, sides) in
-    let shown = λ (k addr : ℕ) (same : k + b.start ≡ addr % 8192). shown-rom board addr k (code_high size b.start k addr b.rom_size start same) (code_shows size b.start k addr b.rom_size start same) in
+    let last = start.last in
+    let from : place + b.start ≡ pc % 8192 = c.code_place-place.ensures (omega (arith, last)) (omega (arith, side, sides, most)) in
+    let next : (place + 1) + b.start ≡ (pc + 1) % 65536 % 8192 = omega (arith, from, last, side, sides) in
+    let third : (place + 2) + b.start ≡ (pc + 2) % 65536 % 8192 = omega (arith, from, last, side, sides) in
+    let shown = λ (k addr : ℕ) (within : k < size) (same : k + b.start ≡ addr % 8192). shown-rom board addr k (code_high size b.start k addr start within same) (code_shows size b.start k addr b.rom_size start within same) in
     record {
-      opcode = c.code_at.ensures.first ∙ shown place pc from;
-      low = c.code_at.ensures.second ∙ shown (place + 1) ((pc + 1) % 65536) next;
-      high = c.code_at.ensures.third ∙ shown (place + 2) ((pc + 2) % 65536) third;
+      opcode = c.code_at.ensures.first ∙ shown place pc (omega (arith, side, sides)) from;
+      low = c.code_at.ensures.second ∙ shown (place + 1) ((pc + 1) % 65536) (omega (arith, side, sides)) next;
+      high = c.code_at.ensures.third ∙ shown (place + 2) ((pc + 2) % 65536) (omega (arith, side, sides)) third;
     }
 
 pub returns-then-cell-lt125 : goal.returns-then-cell-lt125
