@@ -1,6 +1,6 @@
 -- Steps whose reads are noted.
 use Rattle.std.proofs.Common.{◌≡◌, ℕ, suc, ◌<◌, Bool, true, false, not, ◌&&◌, if◌then◌else◌, List, Option, Some, None, Result, Ok, Err, ◌∙◌, ap, sym, refl, arith}
-use Rattle.std.proofs.Math.Bool.{and_assoc, and-true}
+use Rattle.std.proofs.Math.Bool.{and-true}
 use Rattle.std.proofs.lemmas.Bool.{false≢true}
 use Rattle.vcs_cpu.specs.Steps.{Step}
 use Rattle.vcs_cpu.specs.declared.regs.Regs.{Regs}
@@ -19,7 +19,7 @@ use Rattle.vcs_machine.specs.Machine.{Machine, frame_start, unless_halted}
 use Rattle.vcs_machine.specs.Lag.{ignores_input, last_or_next, is_ignored_within, is_lag_frame}
 use Rattle.vcs_machine.specs.Inside.Noting.{LeadsTo, HasComeNoting}
 use Rattle.vcs_machine.proofs.Endings.{as_frame_end, end_within-run, run_ends}
-use Rattle.vcs_machine.proofs.Frames.{ended, ended-same}
+use Rattle.vcs_machine.proofs.Frames.{ended, ended-same, one_end}
 
 -- clocks leave VBLANK's D6
 pub latches_presses-later : (n : ℕ) (t : Tia) → latches_presses (after_clocks n t) ≡ latches_presses t
@@ -86,36 +86,48 @@ module _ {Seen : Type 0} (observe : List Tia → Seen → Seen) where
   -- ---- the steps so far
 
   module _ (first : Regs) (start : Observed Seen) where
-    pub come-nowhere : HasComeNoting observe first start 12160 first start true
+    pub come-nowhere : HasComeNoting observe first start 12160 first start
     come-nowhere = record { come = refl; noted = refl }
 
-    module _ (r s : Regs) (o p : Observed Seen) (ignored : Bool) (k n : ℕ) (noted : LagStep) (come : HasComeNoting observe first start k r o ignored) (led : LeadsTo observe r o noted s p) (more : k ≡ suc n) where
+    module _ (r s : Regs) (o p : Observed Seen) (k n : ℕ) (noted : LagStep) (come : HasComeNoting observe first start k r o) (led : LeadsTo observe r o noted s p) (more : k ≡ suc n) where
       here : end_within observe (suc n) r o ≡ end_within observe 12160 first start
       here = ap (λ j. end_within observe j r o) (sym more) ∙ come.come
 
-      says : (ignored && is_ignored_within observe (suc n) r o) ≡ is_ignored_within observe 12160 first start
-      says = ap (λ j. ignored && is_ignored_within observe j r o) (sym more) ∙ come.noted
+      says : is_ignored_within observe (suc n) r o ≡ is_ignored_within observe 12160 first start
+      says = ap (λ j. is_ignored_within observe j r o) (sym more) ∙ come.noted
 
-      pub come-further : noted.over ≡ false → HasComeNoting observe first start n s p (ignored && noted.ignored)
-      come-further on = record {
-        come = sym (led.goes_on on n) ∙ here;
-        noted = and_assoc ignored noted.ignored (is_ignored_within observe n s p) ∙ ap (λ (b : Bool). ignored && b) (sym (led.next on n)) ∙ says;
-      }
+      -- where the step ignored the input, the steps to come decide; else the frame is no lag frame whatever they are
+      says_on : (ignored : Bool) → noted.over ≡ false → noted.ignored ≡ ignored → (ignored && is_ignored_within observe n s p) ≡ is_ignored_within observe 12160 first start
+      says_on ignored on is = ap (λ (b : Bool). b && is_ignored_within observe n s p) (sym is) ∙ sym (led.next on n) ∙ says
+
+      pub come-further : noted.over ≡ false → noted.ignored ≡ true → HasComeNoting observe first start n s p
+      come-further on is = record { come = sym (led.goes_on on n) ∙ here; noted = says_on true on is }
+
+      pub come-read : noted.over ≡ false → noted.ignored ≡ false → false ≡ is_ignored_within observe 12160 first start
+      come-read on is = says_on false on is
 
       pub come-end : noted.over ≡ true → end_within observe 12160 first start ≡ ended s p noted.halt
       come-end over = sym here ∙ led.ends over n
 
-      pub come-said : noted.over ≡ true → (ignored && noted.ignored) ≡ is_ignored_within observe 12160 first start
-      come-said over = ap (λ (b : Bool). ignored && b) (sym (led.last over n)) ∙ says
+      pub come-said : noted.over ≡ true → noted.ignored ≡ is_ignored_within observe 12160 first start
+      come-said over = sym (led.last over n) ∙ says
+
+      -- the rest of the frame ends it, as it has one end
+      pub come-rest : noted.over ≡ false → clock_of start.board.tia < 228 → clocks_passed start.board.tia < 228 →
+          (e : FrameEnd Seen) → end_within observe 12160 s p ≡ Some e → end_within observe 12160 first start ≡ Some e
+      come-rest on clock low e rest =
+          let end = run_ends observe 12160 first start clock (omega (arith, low)) (omega arith) in
+          let whole = end_within-run observe 12160 first start ∙ ap (as_frame_end observe) end.1 in
+          whole ∙ ap (λ (f : FrameEnd Seen). Some f) (one_end observe n 12160 s p _ e (sym (led.goes_on on n) ∙ here ∙ whole) rest)
 
   -- a frame doesn't outlast its steps
   none_not_some : (r : Regs) (o : Observed Seen) (e : FrameEnd Seen) → end_within observe 0 r o ≡ Some e → ⊥
   unfolding end_within
   none_not_some r o e h = cc
 
-  pub come-unended : (first r : Regs) (start o : Observed Seen) (ignored : Bool) (k : ℕ) → HasComeNoting observe first start k r o ignored → k ≡ 0 →
+  pub come-unended : (first r : Regs) (start o : Observed Seen) (k : ℕ) → HasComeNoting observe first start k r o → k ≡ 0 →
       clock_of start.board.tia < 228 → clocks_passed start.board.tia < 228 → ⊥
-  come-unended first r start o ignored k come none clock low =
+  come-unended first r start o k come none clock low =
       let end = run_ends observe 12160 first start clock (omega (arith, low)) (omega arith) in
       none_not_some r o _ (ap (λ j. end_within observe j r o) (sym none) ∙ come.come ∙ end_within-run observe 12160 first start ∙ ap (as_frame_end observe) end.1)
 

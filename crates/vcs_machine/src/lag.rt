@@ -16,7 +16,7 @@ ghost use Rattle.vcs_tia.specs.Units.{line_clocks};
 
 use crate::address::{Region, selected};
 use crate::bus::ConsoleBus;
-use crate::frame::{MOST_INSTRUCTIONS, console_step, is_frame_over};
+use crate::frame::{MOST_INSTRUCTIONS, console_step, is_frame_over, run_frame};
 use crate::meter::Meter;
 use crate::observer::{Nobody, Observer};
 use crate::state::State;
@@ -96,7 +96,7 @@ fn lag_step<O: Observer>(regs: &mut Regs, bus: &mut ConsoleBus<'_, O>) -> LagSte
 }
 
 /// Steps until the frame ends, and returns the halt that ended it if one did, and whether all steps ignored the
-/// input. Then the chips don't lag behind any more.
+/// input: once one didn't, the rest is played as in any other frame. Then the chips don't lag behind any more.
 fn run_for_lag<O: Observer>(regs: &mut Regs, bus: &mut ConsoleBus<'_, O>) -> (Option<Halt>, bool)
     requires low { now_of bus.old < first_time + line_cycles }
     ensures ended { end_within O.observe most_instructions regs.old (content_of bus.old)
@@ -110,19 +110,20 @@ fn run_for_lag<O: Observer>(regs: &mut Regs, bus: &mut ConsoleBus<'_, O>) -> (Op
     ensures thirds { clocks_passed bus.new.tia.now % 3 ≡ 0 }
     ensures fixed { fixed_of bus.new ≡ fixed_of bus.old }
 {
-    let mut ignored = true;
     let mut left = MOST_INSTRUCTIONS;
     while left > 0 {
         left -= 1;
         let noted = lag_step(regs, bus);
-        ignored &= noted.ignored;
         if noted.over {
             bus.catch_up();
-            return (noted.halt, ignored);
+            return (noted.halt, noted.ignored);
+        }
+        if !noted.ignored {
+            return (run_frame(regs, bus), false);
         }
     }
     // Not reached: a frame ends within these steps.
-    (None, ignored)
+    (None, true)
 }
 
 /// Runs the chips on a bus of their own until the frame ends, and notes whether the input was ignored.

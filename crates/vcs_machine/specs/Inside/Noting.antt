@@ -14,7 +14,8 @@ pub record LeadsTo {Seen : Type 0} (observe : List Tia → Seen → Seen) (regs 
   pub goes_on : noted.over ≡ false → (n : ℕ) → end_within observe (suc n) regs o ≡ end_within observe n regs' o'
   pub next : noted.over ≡ false → (n : ℕ) → is_ignored_within observe (suc n) regs o ≡ (noted.ignored && is_ignored_within observe n regs' o')
 
--- where steps have come so far with n left: what is to come is what was to come at the first one, and so is what they say of the input
-pub record HasComeNoting {Seen : Type 0} (observe : List Tia → Seen → Seen) (first : Regs) (start : Observed Seen) (n : ℕ) (regs : Regs) (o : Observed Seen) (ignored : Bool) : Type 0 where
+-- where steps that ignored the input have come so far with n left: what is to come is what was to come at the first one, and so is what
+-- they say of the input
+pub record HasComeNoting {Seen : Type 0} (observe : List Tia → Seen → Seen) (first : Regs) (start : Observed Seen) (n : ℕ) (regs : Regs) (o : Observed Seen) : Type 0 where
   pub come : end_within observe n regs o ≡ end_within observe most_instructions first start
-  pub noted : (ignored && is_ignored_within observe n regs o) ≡ is_ignored_within observe most_instructions first start
+  pub noted : is_ignored_within observe n regs o ≡ is_ignored_within observe most_instructions first start

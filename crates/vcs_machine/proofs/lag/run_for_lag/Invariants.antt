@@ -7,7 +7,7 @@ use Rattle.vcs_machine.proofs.lag.run_for_lag.Given as goal
 -- the steps so far have come here
 abbrev pub invariant-loop-left : goal.invariant-loop-left
 invariant-loop-left g l = record {
-  come : HasComeNoting g.O.Observer.observe l.fn.regs (content_of l.fn.bus) l.left l.regs (content_of l.bus) l.ignored;
+  come : HasComeNoting g.O.Observer.observe l.fn.regs (content_of l.fn.bus) l.left l.regs (content_of l.bus);
   low : now_of l.bus < end_time;
   fixed : fixed_of l.bus ≡ fixed_of l.fn.bus;
 }
