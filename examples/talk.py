@@ -3,7 +3,7 @@
 
     examples/talk.py joystick.bin examples/joystick.movie 0 60 frame60.png     the last frame as a PNG
     examples/talk.py joystick.bin examples/joystick.movie 0 60 - |             all of them as a film
-        ffmpeg -y -f ppm_pipe -framerate 60 -i - -pix_fmt yuv420p film.mp4
+        ffmpeg -y -f ppm_pipe -frame_size 100815 -framerate 60 -i - -pix_fmt yuv420p film.mp4
 """
 import struct, subprocess, sys, zlib
 from pathlib import Path
