@@ -1,11 +1,10 @@
-use Rattle.std.proofs.Common.{◌*◌, ◌/◌, ◌∙◌, arith}
-use Rattle.std.proofs.lemmas.List.FromFn.{get_or-map-range_with_len}
+use Rattle.std.proofs.Common.{◌∙◌, ap, List, ℕ, [], ◌∷◌, replicate, get_or}
+use Rattle.std.specs.List.{flat_map}
 use Rattle.vcs_tia.specs.Image.{rgb_of}
-use Rattle.vcs_tia.proofs.Images.{rgb_of-even}
+use Rattle.vcs_tia.proofs.Images.{first_three}
 use Rattle.vcs_tia.proofs.image.rgb.Goals as goal
 
--- the table's rows are those of the even colour bytes
 pub returns : goal.returns
 returns c =
-    let shade = c.args.colour / 2 in
-    get_or-map-range_with_len (λ s. rgb_of (2 * s)) 0 128 shade shade _ (omega arith) (omega arith) ∙ rgb_of-even c.args.colour
+    ap (λ (xs : List ℕ). get_or xs 0 0 ∷ get_or xs 1 0 ∷ get_or xs 2 0 ∷ []) c.eight_alike-eight.ensures
+    ∙ first_three c.args.colour (flat_map rgb_of (replicate 7 c.args.colour))
