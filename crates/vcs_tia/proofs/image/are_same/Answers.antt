@@ -1,4 +1,4 @@
-use Rattle.std.proofs.Common.{◌≡◌, ◌∙◌, sym, refl, take, length, arith, take_all}
+use Rattle.std.proofs.Common.{◌∙◌, sym, refl, take, arith, take_all}
 use Rattle.std.proofs.lemmas.Bool.{ne_eqb}
 use Rattle.std.proofs.lemmas.List.{length-take-le}
 use Rattle.vcs_tia.proofs.Images.{same_lanes}

@@ -1,4 +1,4 @@
-use Rattle.std.proofs.Common.{◌≡◌, ◌∙◌, ◌*◌, ◌+◌, ◌-◌, arith}
+use Rattle.std.proofs.Common.{◌∙◌, ◌*◌, ◌+◌, ◌-◌, arith}
 use Rattle.vcs_tia.proofs.Images.{row_done, row_left, row_above, length-put}
 use Rattle.vcs_tia.proofs.image.put_row.Goals as goal
 

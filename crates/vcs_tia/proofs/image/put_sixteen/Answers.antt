@@ -1,6 +1,6 @@
-use Rattle.std.proofs.Common.{◌≡◌, ◌∙◌, ◌++◌, ◌-◌, ap, arith, List, ℕ, take, drop, length}
+use Rattle.std.proofs.Common.{◌++◌, ◌-◌, arith, drop, length}
 use Rattle.std.proofs.lemmas.List.{length-append, length-drop}
-use Rattle.vcs_tia.proofs.Images.{halves_put, two_parts}
+use Rattle.vcs_tia.proofs.Images.{halves_put}
 use Rattle.vcs_tia.proofs.image.put_sixteen.Goals as goal
 
 pub returns-clause-bytes : goal.returns-clause-bytes
