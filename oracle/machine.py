@@ -258,7 +258,7 @@ class Machine:
     # -- docs/FORMATS.md, "Lag frames"
 
     def note_input(self, is_shown):
-        """Notes whether a read shows the frame's input, or a press could set a latch."""
+        """Notes whether a read shows the frame's input, or a latch may be kept at the frame's end."""
         if is_shown:
             self.is_lag = False
 
