@@ -1,5 +1,5 @@
 #!/usr/bin/env python3
-"""Makes a movie of the inputs of a BizHawk movie of an Atari 2600 game, and says what can't sync:
+"""Makes a movie of the inputs of a BizHawk movie of an Atari 2600 game, and warns where the cartridge is another one:
 
     examples/bizhawk.py game.bin run.bk2 > game.movie
     examples/bizhawk.py game.bin 'Input Log.txt' > game.movie
@@ -43,7 +43,7 @@ def check_header(text, image):
     if header.get("StartsFromSavestate", "False") == "True" or header.get("StartsFromSaveRam", "False") == "True":
         sys.exit("it starts from a savestate: a movie here starts from power-on")
     if header.get("SHA1", "").lower() not in ("", hashlib.sha1(image).hexdigest()):
-        remark(f"can't sync: it was made on the cartridge with SHA-1 {header['SHA1'].lower()}")
+        remark(f"another cartridge: the movie was made on the one with SHA-1 {header['SHA1'].lower()}")
 
 
 def frames_of(log):

@@ -26,12 +26,14 @@ def stamp(frame):
     return f"{hours:02}:{minutes:02}:{rest // 1000:02},{rest % 1000:03}"
 
 
-head, cart, *lines = sys.stdin.read().splitlines()
+if len(sys.argv) not in (1, 3):
+    sys.exit("usage: examples/subtitles.py [FROM TO] < MOVIE")
+head, *lines = sys.stdin.read().splitlines() or [""]
 if head != "a26movie 2":
     sys.exit("no text of runs: write one with tas migrate")
 first, last = map(int, sys.argv[1:] or (0, 262144))
 at = number = 0
-for line in lines:
+for line in lines[1:]:
     frame, _, count = line.partition(" x")
     begin, at = at, at + int(count or 1)
     text = pressed(frame)

@@ -11,16 +11,18 @@ A line is an edit (`insert`, `replace`, `delete`, `press`, `release`, `repeat`, 
     go NAME     makes the movie of that name the present one
     movie       prints the movie's text
 
-Each is answered by the program's own line, or by `nothing to undo`, `nothing to redo` or `no branch`. An undo is an edit, too, so AT
-counts on: nothing is ever taken out of the history that others see.
+Each is answered by the program's own line, or by `nothing to undo`, `nothing to redo`, `no branch` or `no such line`. An undo is an
+edit, too, so AT counts on: nothing is ever taken out of the history that others see.
 """
 import sys
 
 sys.dont_write_bytecode = True
 from talk import Editor
 
+EDITS = "insert replace delete press release repeat copy".split()
 
-class Desk:
+
+class Client:
     """The movie as this client knows it, and the edits that it can take back or make again. Nobody else may edit it meanwhile."""
 
     def __init__(self, editor):
@@ -47,16 +49,17 @@ class Desk:
                 return changes
 
     def put(self, changes):
-        """Makes changes in one step, by a draft: of each, frames go and others come at its place. Returns the answer of `commit`."""
-        self.editor.ask("begin")
+        """Makes changes in one step, by a draft: of each, frames go and others come at its place. Returns the answer of `commit`, or that
+        of the first line that is refused, and then the movie is as it was."""
+        lines = ["begin"]
         for place, gone, come in changes:
-            if gone:
-                self.editor.ask(f"delete {place} {len(gone)}")
-            for frame, count in reversed(runs(come)):
-                self.editor.ask(f"insert {place} {count} {frame}")
-        answer = " ".join(self.editor.ask("commit")[0])
-        if not answer.startswith("commit "):
-            self.editor.ask("drop")
+            lines += [f"delete {place} {len(gone)}"] if gone else []
+            lines += [f"insert {place} {count} {frame}" for frame, count in reversed(runs(come))]
+        for line in [*lines, "commit"]:
+            answer = " ".join(self.editor.ask(line)[0])
+            if not answer.startswith(("begin ", "edit ", "commit ")):
+                self.editor.ask("drop")
+                return answer
         self.follow()
         return answer
 
@@ -71,16 +74,18 @@ class Desk:
     def back(self):
         if not self.done:
             return "nothing to undo"
-        changes = self.done.pop()
-        self.undone.append(changes)
-        return self.put([(place, come, gone) for place, gone, come in reversed(changes)])
+        answer = self.put([(place, come, gone) for place, gone, come in reversed(self.done[-1])])
+        if answer.startswith("commit "):
+            self.undone.append(self.done.pop())
+        return answer
 
     def again(self):
         if not self.undone:
             return "nothing to redo"
-        changes = self.undone.pop()
-        self.done.append(changes)
-        return self.put(changes)
+        answer = self.put(self.undone[-1])
+        if answer.startswith("commit "):
+            self.done.append(self.undone.pop())
+        return answer
 
     def name(self, name):
         self.branches[name] = list(self.frames), list(self.done), list(self.undone)
@@ -91,7 +96,8 @@ class Desk:
             return "no branch"
         frames, done, undone = self.branches[name]
         answer = self.put([(0, list(self.frames), frames)])
-        self.done, self.undone = list(done), list(undone)
+        if answer.startswith("commit "):
+            self.done, self.undone = list(done), list(undone)
         return answer
 
     def answer(self, line):
@@ -99,7 +105,8 @@ class Desk:
         if word == "movie":
             return self.editor.ask(line)[1].decode().rstrip("\n")
         known = {"undo": self.back, "redo": self.again, "branch": lambda: self.name(rest), "go": lambda: self.go(rest)}
-        return known[word]() if word in known else self.edit(line)
+        known |= dict.fromkeys(EDITS, lambda: self.edit(line))
+        return known[word]() if word in known else "no such line"
 
 
 def run(line):
@@ -123,7 +130,7 @@ if __name__ == "__main__":
     if len(sys.argv) != 3:
         sys.exit("usage: examples/undo.py CART MOVIE < LINES")
     editor = Editor(*sys.argv[1:])
-    desk = Desk(editor)
+    client = Client(editor)
     for line in sys.stdin:
-        print(line.rstrip("\n"), "->", desk.answer(line.rstrip("\n")), flush=True)
+        print(line.rstrip("\n"), "->", client.answer(line.rstrip("\n")), flush=True)
     sys.exit(editor.quit())
