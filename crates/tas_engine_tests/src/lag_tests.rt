@@ -54,7 +54,7 @@ static ROWS: [(&[u8], &str, &[u8], &[u8]); 11] = [
     (STOPS, STOPS_DIGEST, b"..R...", b"3 6\n"),
     (HALTING, HALTING_DIGEST, b"......", b"0 6\n"),
     (OUTPUTS, OUTPUTS_DIGEST, b"......", b"0 1\n2 3\n4 5\n"),
-    (LATCHES, LATCHES_DIGEST, b"............", b"0 3\n8 11\n"),
+    (LATCHES, LATCHES_DIGEST, b"............", b"0 3\n7 11\n"),
     (BUTTON, BUTTON_DIGEST, b"...........", b"0 3\n7 11\n"),
 ];
 
