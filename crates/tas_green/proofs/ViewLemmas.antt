@@ -67,7 +67,7 @@ start_le s kept near k le too =
       | inr apart ↦ rw apart.0 le
     ]
 
-start_ge : (s kept near : ℕ) → kept ≤ start_between s kept near
+pub start_ge : (s kept near : ℕ) → kept ≤ start_between s kept near
 start_ge s kept near =
     elim (eqb_tells (near / s) (kept / s)) [
       | inl here ↦ rw here.0 (omega arith)

@@ -149,6 +149,8 @@ fn play_both<A: Allocator, B: Allocator, C: Allocator, D: Allocator>(
     ensures filled { (f : ℕ) → state_at f window.new.items ≡ first_of (state_at f window.old.items)
         (where_true (is_gained span.end span.start.frame span.end f)
         (Some (after cart.now (take f inputs.now)))) }
+    ensures capacity { vec_capacity green.old ≤ vec_capacity green.new }
+    ensures window_capacity { vec_capacity window.old ≤ vec_capacity window.new }
 {
     let mut meter = Meter::new();
     let place = span.end;
@@ -192,7 +194,7 @@ pub fn play_near<A: Allocator, B: Allocator, C: Allocator, D: Allocator>(
     requires lawful { IsLawful movie.now green.old.items }
     requires states { AreMovieStates movie.now window.old.items }
     requires room { vec_len green.old + (k + 1) / stride (length movie.now.inputs)
-        ≤ vec_capacity green.old }
+        ≤ vec_capacity green.old + start.frame / stride (length movie.now.inputs) }
     requires window_room { most_near < vec_capacity window.old }
     ensures ran { result.ran + start.frame ≡ k + 1 }
     ensures answer { result.end ≡ answer_of (state_after movie.now (k + 1)).halt }
@@ -204,6 +206,8 @@ pub fn play_near<A: Allocator, B: Allocator, C: Allocator, D: Allocator>(
     ensures lawful { IsLawful movie.now green.new.items }
     ensures states { AreMovieStates movie.now window.new.items }
     ensures few { vec_len window.new ≤ most_near }
+    ensures capacity { vec_capacity green.old ≤ vec_capacity green.new }
+    ensures window_capacity { vec_capacity window.old ≤ vec_capacity window.new }
 {
     let step = stride(movie.len());
     let span = Span {
