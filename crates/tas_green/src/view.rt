@@ -1,25 +1,23 @@
 //! A movie with its kept states and its window: lawful by its type, with room for all states that it may keep.
 
-ghost use Rattle.std.specs.Prelude.{◌≡◌, ◌+◌, ◌<◌, ◌≤◌, [], length, take, drop, filter, IfOk, OnOk, OnErr};
-ghost use Rattle.vcs_inputs.specs.declared.input.Input.{Input};
-ghost use Rattle.tas_movie.specs.Front.{IsCommonFront};
+ghost use Rattle.std.specs.Prelude.{◌≡◌, ◌⊎◌, ℕ, ◌+◌, ◌<◌, ◌≤◌, [], length, min, nat_le, filter, is_some, true, IsSome, IfOk, OnOk, OnErr};
 ghost use Rattle.tas_green.specs.Run.{state_after, picture_of, answer_of};
 ghost use Rattle.tas_green.specs.Green.{HoldsGrid, IsLawful, IsReachedFrom, IsShotFrom, is_left};
 ghost use Rattle.tas_movie.specs.Edit.{refusal, check_answer, edited, edited_place};
-ghost use Rattle.tas_green.specs.Grid.{stride};
-ghost use Rattle.tas_green.specs.Zone.{nearest};
-ghost use Rattle.tas_green.specs.Window.{AreMovieStates, IsViewFrom, both, view_start};
-ghost use Rattle.tas_green.specs.View.{AgreesOutside, BeginsWith, IsBrought, both_of, view_of};
+ghost use Rattle.tas_green.specs.Grid.{most_states, stride};
+ghost use Rattle.tas_green.specs.Zone.{nearest, state_at};
+ghost use Rattle.tas_green.specs.Window.{AreMovieStates, IsOneAway, IsViewFrom, both, is_near, view_start};
+ghost use Rattle.tas_green.specs.View.{AreOfMovie, IsBrought, both_of, view_of};
 
 use crate::playing::{Span, pass_span, play_span};
 use crate::viewing::{play_near, retain_up_to};
 use crate::window::{MAX_NEAR, Viewed};
-use crate::zone::{nearest_of, retain_on_grid};
-use crate::{MAX_STATES, Savestate, stride};
+use crate::zone::{holds_at, nearest_of, retain_on_grid};
+use crate::{MAX_STATES, Savestate, shared_front, stride};
 use std::alloc::{AllocError, Allocator, Global};
 use std::marker::Model;
 use tas_movie::{Edit, EditRefusal, Movie, apply, check};
-use vcs_machine::{Input, Meter, State};
+use vcs_machine::{Meter, State};
 use vcs_tia::Picture;
 
 /// Room for the kept states, and for one more: that is easier to show than that a state to be put is there already.
@@ -58,37 +56,6 @@ impl<A: Allocator> Model for View<A> {
     ghost view = { λ v. view_of v.movie v.states.items v.near.items };
 
     ghost invariant = { λ v. IsView (view_of v.movie v.states.items v.near.items) (vec_capacity v.states) (vec_capacity v.near) };
-}
-
-/// The length of the longest common beginning of two lists of inputs that are known to begin alike.
-fn common_front_from(a: &[Input], b: &[Input], from: usize) -> usize
-    requires within { from ≤ length a.now }
-    requires within_other { from ≤ length b.now }
-    requires same { take from a.now ≡ take from b.now }
-    ensures { IsCommonFront a.now b.now result }
-{
-    let mut front = from;
-    while front < a.len() && front < b.len() && a[front] == b[front] {
-        front += 1;
-    }
-    front
-}
-
-/// The length of the longest common beginning of two lists of inputs that are known to agree but for those from one place to the one
-/// before another. No others are looked at.
-fn common_front_within(a: &[Input], b: &[Input], from: usize, to: usize) -> usize
-    requires order { from ≤ to }
-    requires within { to ≤ length a.now }
-    requires len { length b.now ≡ length a.now }
-    requires before { take from a.now ≡ take from b.now }
-    requires after { drop to a.now ≡ drop to b.now }
-    ensures { IsCommonFront a.now b.now result }
-{
-    let mut front = from;
-    while front < to && a[front] == b[front] {
-        front += 1;
-    }
-    if front < to { front } else { a.len() }
 }
 
 /// The nearest kept state at `k` or before it; power-on where none is kept.
@@ -150,9 +117,33 @@ impl<A: Allocator> View<A> {
     /// The movie.
     pub fn movie(&self) -> &Movie<A>
         ensures movie { result.now ≡ self.now.movie }
-        ensures lawful { IsLawful self.now.movie self.now.states }
+        ensures lawful { AreOfMovie self.now }
     {
         &self.movie
+    }
+
+    /// How many states are kept.
+    pub fn count(&self) -> usize
+        ensures count { result ≡ length self.now.states }
+        ensures bounded { result ≤ most_states }
+    {
+        self.states.len()
+    }
+
+    /// Whether a state is kept after `frame` frames.
+    pub fn holds(&self, frame: usize) -> bool
+        ensures { result ≡ is_some (state_at frame self.now.states) }
+    {
+        holds_at(self.states.as_slice(), frame)
+    }
+
+    /// The greatest place of a kept state that is at most `k`, in frames from power-on; 0 where
+    /// there is none.
+    pub fn nearest(&self, k: usize) -> usize
+        ensures value { result ≡ nearest k self.now.states }
+        ensures bound { result ≤ k }
+    {
+        kept_at(&self.movie, self.states.as_slice(), k).frame
     }
 
     /// The machine after `frames` frames, played from the nearest kept state. It takes no memory.
@@ -163,6 +154,8 @@ impl<A: Allocator> View<A> {
             × (reached.state ≡ state_after self.new.movie frames)) }
         ensures kept { IfOk result (λ reached. IsReachedFrom self.old.movie self.old.movie frames
             self.old.states self.new.states 0 reached.ran) }
+        ensures lawful { AreOfMovie self.new }
+        ensures past { OnErr result (length self.old.movie.inputs < frames) }
         ensures unchanged { OnErr result (self.new ≡ self.old) }
     {
         if frames > self.movie.len() {
@@ -201,6 +194,7 @@ impl<A: Allocator> View<A> {
             (λ viewed. OnOk viewed.end (picture.new ≡ picture_of self.new.movie k)) }
         ensures kept { IfOk result (λ viewed. IsShotFrom self.old.movie self.old.movie k
             self.old.states self.new.states 0 viewed.ran) }
+        ensures lawful { AreOfMovie self.new }
         // Where all of the grid is kept, no more than a stride's frames are played.
         ensures short { IfOk result (λ viewed.
             HoldsGrid (stride (length self.old.movie.inputs)) k self.old.states
@@ -244,6 +238,21 @@ impl<A: Allocator> View<A> {
             (λ viewed. OnOk viewed.end (picture.new ≡ picture_of self.new.movie k)) }
         ensures kept { IfOk result (λ viewed. IsViewFrom self.old.movie self.new.movie k
             (both_of self.old) (both_of self.new) viewed.ran) }
+        ensures lawful { AreOfMovie self.new }
+        // Where all of the grid is kept, a frame whose state is in the window is played alone, and no more than a stride's
+        // frames are played for any.
+        ensures step { IfOk result
+            (λ viewed. HoldsGrid (stride (length self.old.movie.inputs)) k self.old.states
+            → IsSome (state_at k self.old.near) → viewed.ran ≡ 1) }
+        ensures short { IfOk result
+            (λ viewed. HoldsGrid (stride (length self.old.movie.inputs)) k self.old.states
+            → viewed.ran ≤ stride (length self.old.movie.inputs)) }
+        // A step forward then plays one frame, and so does a view of each near frame whose state was played or was one away.
+        ensures forward { OnOk result (IsOneAway self.new.movie (k + 1) (both_of self.new)) }
+        ensures near { IfOk result
+            (λ viewed. (j : ℕ) → is_near (k + 1) j ≡ true
+            → (k + 1 < j + viewed.ran) ⊎ IsOneAway self.old.movie j (both_of self.old)
+            → IsOneAway self.new.movie j (both_of self.new)) }
         ensures past { OnErr result (length self.old.movie.inputs ≤ k) }
         ensures unchanged { OnErr result ((self.new ≡ self.old) × (picture.new ≡ picture.old)) }
     {
@@ -268,6 +277,9 @@ impl<A: Allocator> View<A> {
         ensures movie { self.new.movie ≡ edited self.old.movie edit.now }
         ensures states { OnOk result (self.new.states
             ≡ filter (is_left (edited_place edit.now) (length self.new.movie.inputs)) self.old.states) }
+        ensures near { OnOk result (self.new.near ≡ filter (λ kept. nat_le kept.frame
+            (min (edited_place edit.now) (length self.new.movie.inputs))) self.old.near) }
+        ensures lawful { AreOfMovie self.new }
         ensures unchanged { OnErr result (self.new ≡ self.old) }
     {
         check(&self.movie, edit)?;
@@ -279,76 +291,16 @@ impl<A: Allocator> View<A> {
         Ok(())
     }
 
-    /// Becomes a view of another movie of the same cartridge, of which it is known that it begins alike: the states up to the end of
-    /// the common beginning are left, which is looked for from there on. It takes no memory.
-    pub fn follow(&mut self, new: Movie<A>, from: usize)
-        requires { BeginsWith from self.old.movie new }
-        ensures movie { self.new.movie ≡ new }
+    /// Becomes a view of another movie: the states up to the end of the common beginning of the two movies' inputs are left, the
+    /// kept ones where they stand on the new one's grid, and none where the bytes of the cartridges differ. It takes no memory.
+    pub fn follow(&mut self, movie: Movie<A>)
+        ensures movie { self.new.movie ≡ movie }
         ensures brought { IsBrought self.old self.new }
-        ensures kept { IsLawful self.new.movie self.new.states × AreMovieStates self.new.movie self.new.near }
+        ensures lawful { AreOfMovie self.new }
     {
-        let front = common_front_from(self.movie.inputs(), new.inputs(), from);
-        retain_on_grid(&mut self.states, front, stride(new.len()));
+        let front = shared_front(&self.movie, &movie);
+        retain_on_grid(&mut self.states, front, stride(movie.len()));
         retain_up_to(&mut self.near, front);
-        self.movie = new;
-    }
-
-    /// As [`View::follow`], of a movie that is known to agree with this one but for the inputs from one place to the one before another: no
-    /// others are looked at.
-    pub fn follow_within(&mut self, new: Movie<A>, from: usize, to: usize)
-        requires { AgreesOutside from to self.old.movie new }
-        ensures movie { self.new.movie ≡ new }
-        ensures brought { IsBrought self.old self.new }
-        ensures kept { IsLawful self.new.movie self.new.states × AreMovieStates self.new.movie self.new.near }
-    {
-        let front = common_front_within(self.movie.inputs(), new.inputs(), from, to);
-        retain_on_grid(&mut self.states, front, stride(new.len()));
-        retain_up_to(&mut self.near, front);
-        self.movie = new;
-    }
-
-    /// Follows another movie, and draws its frame `k` from the kept states: what a shot over the old movie's states does. It takes no
-    /// memory.
-    pub fn shot_in<B: Allocator>(
-        &mut self,
-        new: Movie<A>,
-        from: usize,
-        k: usize,
-        picture: &mut Picture<B>,
-    ) -> Result<Viewed, NoFrame>
-        requires { BeginsWith from self.old.movie new }
-        ensures movie { OnOk result (self.new.movie ≡ new) }
-        ensures picture { IfOk result (λ viewed. OnOk viewed.end (picture.new ≡ picture_of new k)) }
-        ensures kept { IfOk result (λ viewed. IsShotFrom self.old.movie self.new.movie k
-            self.old.states self.new.states 0 viewed.ran) }
-        ensures unchanged { OnErr result (self.new ≡ self.old) }
-    {
-        if k >= new.len() {
-            return Err(NoFrame);
-        }
-        self.follow(new, from);
-        self.shot(k, picture)
-    }
-
-    /// Follows another movie, and draws its frame `k`. It takes no memory.
-    pub fn picture_in<B: Allocator>(
-        &mut self,
-        new: Movie<A>,
-        from: usize,
-        k: usize,
-        picture: &mut Picture<B>,
-    ) -> Result<Viewed, NoFrame>
-        requires { BeginsWith from self.old.movie new }
-        ensures movie { OnOk result (self.new.movie ≡ new) }
-        ensures picture { IfOk result (λ viewed. OnOk viewed.end (picture.new ≡ picture_of new k)) }
-        ensures kept { IfOk result (λ viewed. IsViewFrom self.old.movie self.new.movie k
-            (both_of self.old) (both_of self.new) viewed.ran) }
-        ensures unchanged { OnErr result (self.new ≡ self.old) }
-    {
-        if k >= new.len() {
-            return Err(NoFrame);
-        }
-        self.follow(new, from);
-        self.picture(k, picture)
+        self.movie = movie;
     }
 }
