@@ -5,15 +5,15 @@ ghost use Rattle.tas_green.specs.Run.{state_after, picture_of, answer_of};
 ghost use Rattle.tas_green.specs.Green.{HoldsGrid, IsLawful, IsReachedFrom, IsShotFrom, is_left};
 ghost use Rattle.tas_movie.specs.Edit.{refusal, check_answer, edited, edited_place};
 ghost use Rattle.tas_green.specs.Grid.{most_states, stride};
-ghost use Rattle.tas_green.specs.Zone.{nearest, state_at};
+ghost use Rattle.tas_green.specs.Zone.{first_of, nearest, state_at};
 ghost use Rattle.tas_green.specs.Window.{AreMovieStates, IsOneAway, IsViewFrom, both, is_near, view_start};
 ghost use Rattle.tas_green.specs.View.{AreOfMovie, IsBrought, both_of, view_of};
 
 use crate::playing::{Span, pass_span, play_span};
 use crate::viewing::{play_near, retain_up_to};
 use crate::window::{MAX_NEAR, Viewed};
-use crate::zone::{holds_at, nearest_of, retain_on_grid};
-use crate::{MAX_STATES, Savestate, shared_front, stride};
+use crate::zone::{absorb, holds_at, nearest_of, retain_on_grid};
+use crate::{Green, MAX_STATES, Savestate, shared_front, stride};
 use std::alloc::{AllocError, Allocator, Global};
 use std::marker::Model;
 use tas_movie::{Edit, EditRefusal, Movie, apply, check};
@@ -302,5 +302,28 @@ impl<A: Allocator> View<A> {
         retain_on_grid(&mut self.states, front, stride(movie.len()));
         retain_up_to(&mut self.near, front);
         self.movie = movie;
+    }
+
+    /// Gains exactly the states of a greenzone of the same movie that it lacks, and returns how many. It takes no memory.
+    pub fn gain<B: Allocator>(&mut self, other: &Green<B>) -> usize
+        requires { IsLawful self.old.movie other.now }
+        ensures movie { self.new.movie ≡ self.old.movie }
+        ensures near { self.new.near ≡ self.old.near }
+        ensures states { (f : ℕ) → state_at f self.new.states
+            ≡ first_of (state_at f self.old.states) (state_at f other.now) }
+        ensures count { length self.new.states ≡ length self.old.states + result }
+        ensures lawful { AreOfMovie self.new }
+    {
+        let end = self.movie.len();
+        absorb(&mut self.states, other.states.as_slice(), end, stride(end))
+    }
+
+    /// A greenzone with a copy of the kept states. `AllocError` where memory is refused.
+    pub fn copy_states<B: Allocator>(&self, alloc: B) -> Result<Green<B>, AllocError>
+        ensures same { IfOk result (λ green. green ≡ self.now.states) }
+        ensures lawful { IfOk result (λ green. IsLawful self.now.movie green) }
+    {
+        let states = Vec::from_slice(alloc, self.states.as_slice())?;
+        Ok(Green { states })
     }
 }

@@ -1,4 +1,5 @@
-use Rattle.std.proofs.Common.{◌≡◌, ◌∙◌, ap}
+use Rattle.std.proofs.lemmas.Grind.{common_steps}
+use Rattle.std.proofs.Common.{◌≡◌, ◌∙◌, ap, arith}
 use Rattle.tas_green.specs.Zone.{state_at, first_of}
 use Rattle.tas_green.specs.Grid.{stride}
 use Rattle.tas_green.proofs.MovingLemmas.{all_on_grid, lawful_joined}
@@ -24,3 +25,6 @@ absorb-requires-clause-rising g c = rw c.reserve.ensures.items c.self.invariant
 
 pub absorb-requires-clause-stride : goal.absorb-requires-clause-stride
 absorb-requires-clause-stride g c = c.stride.ensures.positive
+
+pub absorb-requires-clause-room : goal.absorb-requires-clause-room
+absorb-requires-clause-room g c = λ now rising less each. grind (arith, common_steps)
