@@ -1,19 +1,21 @@
 //! A movie with its kept states and its window: lawful by its type, with room for all states that it may keep.
 
-ghost use Rattle.std.specs.Prelude.{◌≡◌, ◌⊎◌, ℕ, ◌+◌, ◌<◌, ◌≤◌, [], length, min, nat_le, filter, is_some, true, IsSome, IfOk, OnOk, OnErr};
+ghost use Rattle.std.specs.Prelude.{◌≡◌, ◌≢◌, ◌↔◌, IsErr, take, ◌⊎◌, ℕ, ◌+◌, ◌<◌, ◌≤◌, [], length, min, nat_le, filter, is_some, true, IsSome, IfOk, OnOk, OnErr};
+ghost use Rattle.tas_movie.specs.Front.{IsCommonFront};
 ghost use Rattle.tas_green.specs.Run.{state_after, picture_of, answer_of};
 ghost use Rattle.tas_green.specs.Green.{HoldsGrid, IsLawful, IsReachedFrom, IsShotFrom, is_left};
 ghost use Rattle.tas_movie.specs.Edit.{refusal, check_answer, edited, edited_place};
 ghost use Rattle.tas_green.specs.Grid.{most_states, stride};
-ghost use Rattle.tas_green.specs.Zone.{first_of, nearest, state_at};
+ghost use Rattle.tas_green.specs.Zone.{first_of, is_on_grid, nearest, state_at, where_true};
 ghost use Rattle.tas_green.specs.Window.{AreMovieStates, IsOneAway, IsViewFrom, both, is_near, view_start};
 ghost use Rattle.tas_green.specs.View.{AreOfMovie, IsBrought, both_of, view_of};
 
-use crate::playing::{Span, pass_span, play_span};
+use crate::green::batch_front;
+use crate::playing::{Span, kept_at, pass_span, play_span};
 use crate::viewing::{play_near, retain_up_to};
 use crate::window::{MAX_NEAR, Viewed};
 use crate::zone::{absorb, holds_at, nearest_of, retain_on_grid};
-use crate::{Green, MAX_STATES, Savestate, shared_front, stride};
+use crate::{Batch, Green, Job, MAX_STATES, Merged, Savestate, shared_front, stride};
 use std::alloc::{AllocError, Allocator, Global};
 use std::marker::Model;
 use tas_movie::{Edit, EditRefusal, Movie, apply, check};
@@ -39,6 +41,10 @@ pub struct ReachedState {
     pub state: State,
 }
 
+/// The batch's cartridge has other bytes than the movie's.
+#[derive(Clone, Copy, Debug, PartialEq, Eq)]
+pub struct OtherCartridge;
+
 /// A movie with its kept states and its window.
 #[derive(Drop)]
 pub struct View<A: Allocator = Global> {
@@ -56,22 +62,6 @@ impl<A: Allocator> Model for View<A> {
     ghost view = { λ v. view_of v.movie v.states.items v.near.items };
 
     ghost invariant = { λ v. IsView (view_of v.movie v.states.items v.near.items) (vec_capacity v.states) (vec_capacity v.near) };
-}
-
-/// The nearest kept state at `k` or before it; power-on where none is kept.
-fn kept_at<A: Allocator>(movie: &Movie<A>, states: &[Savestate], k: usize) -> Savestate
-    requires { IsLawful movie.now states.now }
-    ensures frame { result.frame ≡ nearest k states.now }
-    ensures bound { result.frame ≤ k }
-    ensures state { result.state ≡ state_after movie.now result.frame }
-{
-    match nearest_of(states, k) {
-        Some(kept) => kept,
-        None => Savestate {
-            frame: 0,
-            state: State::power_on(movie.cart()),
-        },
-    }
 }
 
 /// Where frame `k` is played from.
@@ -325,5 +315,44 @@ impl<A: Allocator> View<A> {
     {
         let states = Vec::from_slice(alloc, self.states.as_slice())?;
         Ok(Green { states })
+    }
+
+    /// A job for the movie's first `near` frames, or for all where there are fewer, from the nearest
+    /// kept state among them. `AllocError` where memory is refused.
+    pub fn job<B: Allocator + Copy>(&self, alloc: B, near: usize) -> Result<Job<B>, AllocError>
+        ensures cart { IfOk result (λ job. job.cart ≡ self.now.movie.cart) }
+        ensures inputs { IfOk result (λ job. job.inputs
+            ≡ take (min near (length self.now.movie.inputs)) self.now.movie.inputs) }
+        ensures stride { IfOk result (λ job. job.stride ≡ stride (length self.now.movie.inputs)) }
+        ensures start { IfOk result (λ job. job.start
+            ≡ nearest (min near (length self.now.movie.inputs)) self.now.states) }
+    {
+        Job::from_states(alloc, &self.movie, self.states.as_slice(), near)
+    }
+
+    /// Gains exactly the batch's states on the movie's grid up to the end of the common beginning
+    /// of the batch's inputs and the movie's. `OtherCartridge` comes exactly where the two
+    /// cartridges' bytes differ, and leaves the view unchanged. It takes no memory.
+    pub fn merge<B: Allocator>(&mut self, batch: &Batch<B>) -> Result<Merged, OtherCartridge>
+        ensures movie { self.new.movie ≡ self.old.movie }
+        ensures near { self.new.near ≡ self.old.near }
+        ensures cartridge { IsErr result ↔ (batch.now.cart ≢ self.old.movie.cart) }
+        ensures front { IfOk result (λ merged.
+            IsCommonFront batch.now.inputs self.old.movie.inputs merged.front) }
+        ensures states { IfOk result (λ merged. (f : ℕ) → state_at f self.new.states
+            ≡ first_of (state_at f self.old.states)
+            (where_true (is_on_grid (stride (length self.old.movie.inputs)) merged.front f)
+            (state_at f batch.now.states))) }
+        ensures kept { IfOk result (λ merged.
+            length self.new.states ≡ length self.old.states + merged.kept) }
+        ensures lawful { AreOfMovie self.new }
+        ensures unchanged { OnErr result (self.new ≡ self.old) }
+    {
+        let Some(front) = batch_front(&self.movie, batch) else {
+            return Err(OtherCartridge);
+        };
+        let step = stride(self.movie.len());
+        let kept = absorb(&mut self.states, batch.states(), front, step);
+        Ok(Merged { front, kept })
     }
 }

@@ -1,5 +1,5 @@
-//! What movies and greenzones do when they run: edits, texts and their faults, texts that were made to break their readers, shots, jobs and
-//! merges.
+//! What movies and greenzones do when they run: edits, texts and their faults, texts that were made to break their readers, shots, jobs,
+//! merges and views.
 #![tactic(auto)]
 
 #[cfg(test)]
@@ -18,3 +18,5 @@ mod spoilt_text_tests;
 mod text_tests;
 #[cfg(test)]
 mod texts;
+#[cfg(test)]
+mod view_tests;

@@ -3,7 +3,7 @@ use Rattle.std.proofs.lemmas.List.{length-take-le}
 use Rattle.tas_green.specs.Zone.{nearest}
 use Rattle.tas_green.specs.Grid.{stride}
 use Rattle.tas_green.proofs.JobLemmas.{taken_ready}
-use Rattle.tas_green.proofs.job.Job.take.Goals as goal
+use Rattle.tas_green.proofs.job.Job.from_states.Goals as goal
 
 pub returns-clause-inputs : goal.returns-clause-inputs
 returns-clause-inputs g c =
@@ -11,15 +11,15 @@ returns-clause-inputs g c =
     c.from_vec.ensures ∙ c.in_ok-inputs.ensures.items ∙ ap (take c.min-end.result) c.inputs.ensures.inputs ∙ ap (λ (n : ℕ). take n c.args.movie.now.inputs) end
 
 pub returns-clause-start : goal.returns-clause-start
-returns-clause-start g c = c.start_of.ensures.frame ∙ ap (λ (n : ℕ). nearest n c.args.green.now) (c.min-end.ensures ∙ ap (min c.args.near) c.len.ensures.len)
+returns-clause-start g c = c.kept_at.ensures.frame ∙ ap (λ (n : ℕ). nearest n c.args.states.now) (c.min-end.ensures ∙ ap (min c.args.near) c.len.ensures.len)
 
 pub invariant_of-result : goal.invariant_of-result
 invariant_of-result g c =
     let end = c.min-end.result in
     let within : end ≤ length c.args.movie.now.inputs = omega (arith, c.min-end.ensures, c.len.ensures.len) in
-    taken_ready c.args.movie.now c.in_ok-cart.cart c.from_vec.result c.stride.result c.start_of.result c.in_ok-states.states.items _ end (c.in_ok-cart.ensures ∙ c.cart.ensures)
-    (c.from_vec.ensures ∙ c.in_ok-inputs.ensures.items ∙ ap (take end) c.inputs.ensures.inputs) within c.stride.ensures.positive c.start_of.ensures.bound c.start_of.ensures.state c.in_ok-states.ensures.items
-    (omega (arith, c.room.ensures, c.in_ok-states.ensures.capacity))
+    taken_ready c.args.movie.now c.in_ok-cart.cart c.from_vec.result c.stride.result c.kept_at.result c.in_ok-list.list.items _ end (c.in_ok-cart.ensures ∙ c.cart.ensures)
+    (c.from_vec.ensures ∙ c.in_ok-inputs.ensures.items ∙ ap (take end) c.inputs.ensures.inputs) within c.stride.ensures.positive c.kept_at.ensures.bound c.kept_at.ensures.state c.in_ok-list.ensures.items
+    (omega (arith, c.room.ensures, c.in_ok-list.ensures.capacity))
 
 pub returns-clause-cart : goal.returns-clause-cart
 returns-clause-cart g c = c.in_ok-cart.ensures ∙ c.cart.ensures
