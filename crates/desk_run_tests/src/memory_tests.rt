@@ -253,21 +253,21 @@ fn count_refused<R: Wait + Threads + Sync + Abort>(
     Err(MOST)
 }
 
-/// The growths of one seat: 15 of a desk; two inputs, a cartridge and a movie, 5; the two edits that make it, 7; the room for what
+/// The growths of one seat: 17 of a desk; two inputs, a cartridge and a movie, 5; the two edits that make it, 7; the room for what
 /// comes back, 4. Then a line's room, the answer to the edit, 2, and that to the look. The edit itself has 2, which its answer reports.
 /// Last comes the movie's text.
 #[test]
 fn each_growth_of_a_desk_of_one_seat_is_refused(rt: HostRuntime) {
     let counts = count_refused(&rt, rt.alloc(), 1);
-    check_same(&rt, "one", counts, Ok((31, 2, 4, 1)));
+    check_same(&rt, "one", counts, Ok((33, 2, 4, 1)));
 }
 
-/// A second seat has 2 more for its zone, and as many as the first during its conversation. Which of these are refused to edits depends on
+/// A second seat has 4 more for its zone, and as many as the first during its conversation. Which of these are refused to edits depends on
 /// whose come first.
 #[test]
 fn each_growth_of_a_desk_of_two_seats_is_refused(rt: HostRuntime) {
     let counts = count_refused(&rt, rt.alloc(), 2);
     let (before, told, cut, after) = expect_ok(&rt, counts);
     let during = told.saturating_add(cut);
-    check_same(&rt, "two", (before, during, after), (33, 12, 1));
+    check_same(&rt, "two", (before, during, after), (37, 12, 1));
 }

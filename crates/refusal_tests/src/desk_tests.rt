@@ -340,8 +340,8 @@ pub fn take_call<N: Name, W: CloseOnDrop, R: Wait + Abort>(
 }
 
 /// Each call, and how many growths it has. An edit has those of its second copy and of the journal, as in a session; one that depends on the movie has that of its inputs,
-/// too, and a step of two those of both second copies and of the journal. The history has its list, and those of a cartridge and of two lists of inputs. A shot has those of its picture and of its zone's list of states; the first one copies a movie before, which has two, and so does a share. A picture has
-/// that of its window's list, too, a state that of the zone's list alone, and the first one those of the movie's copy. A copy of a zone has that of its list. A job has
+/// too, and a step of two those of both second copies and of the journal. The history has its list, and those of a cartridge and of two lists of inputs. A shot and a picture have that of the picture; the first one copies a movie before, which has two, and so do the first state and a share. A
+/// state has none else: a zone takes the room of its lists when it is made. A copy of a zone has that of its list. A job has
 /// those of its cartridge, its inputs and its list of states, an offer that of the desk's list, and work on two targets those of two
 /// jobs and of the list.
 static CALLS: [(Call, &str, u64); 18] = [
@@ -364,14 +364,14 @@ static CALLS: [(Call, &str, u64); 18] = [
     (Call::EditBy, "EditBy", 3),
     (Call::Commit, "Commit", 3),
     (Call::History, "History", 4),
-    (Call::FirstShot, "FirstShot", 4),
-    (Call::Shot, "Shot", 2),
-    (Call::FirstPicture, "FirstPicture", 5),
-    (Call::Picture, "Picture", 3),
-    (Call::FirstState, "FirstState", 3),
-    (Call::State, "State", 1),
+    (Call::FirstShot, "FirstShot", 3),
+    (Call::Shot, "Shot", 1),
+    (Call::FirstPicture, "FirstPicture", 3),
+    (Call::Picture, "Picture", 1),
+    (Call::FirstState, "FirstState", 2),
+    (Call::State, "State", 0),
     (Call::CopyZone, "CopyZone", 1),
-    (Call::Share, "Share", 3),
+    (Call::Share, "Share", 2),
     (Call::Job, "Job", 3),
     (Call::Offer, "Offer", 1),
     (Call::Work, "Work", 7),
@@ -398,11 +398,11 @@ fn a_second_job_that_is_refused(rt: HostRuntime) {
     check_same(&rt, "run", run, Run::Refused);
 }
 
-/// The zones of both seats have a blank movie, with two growths, and the list of the seats has one.
+/// The zones of both seats have a blank movie, with two growths, and two lists of states, and the list of the seats has one.
 #[test]
 fn the_opening_of_a_desk(rt: HostRuntime) {
     let refused = growths_of(&rt, rt.alloc(), Call::Open, "Open");
-    check_same(&rt, "refused", refused, 5);
+    check_same(&rt, "refused", refused, 9);
 }
 
 /// Those of a new session: more places for readers are more room, and no more growths.

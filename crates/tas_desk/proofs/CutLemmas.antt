@@ -1,17 +1,16 @@
 -- A cut for another movie leaves one list of states.
 use Rattle.std.proofs.Common.{◌≡◌, ◌≢◌, ℕ, zero, suc, ◌<◌, ◌≤◌, List, [], ◌∷◌, length, take, refl, ap, sym, ◌∙◌, subst, inl, inr, arith}
 use Rattle.std.proofs.lemmas.Bool.{cases_eq, cases_lt}
-use Rattle.std.specs.Prelude.{slice_get, filter, Result, Ok, Err, IfOk}
+use Rattle.std.specs.Prelude.{slice_get, filter}
 use Rattle.vcs_inputs.specs.declared.input.Input.{Input}
 use Rattle.tas_movie.specs.Content.{MovieContent}
 use Rattle.tas_green.specs.declared.savestate.Savestate.{Savestate}
 use Rattle.tas_green.specs.Front.{IsSharedFront}
 use Rattle.tas_movie.specs.Front.{IsCommonFront}
-use Rattle.tas_green.specs.Green.{IsLawful, IsMoved, IsShotFrom, HoldsGrid, is_left}
+use Rattle.tas_green.specs.Green.{IsMoved, IsShotFrom, HoldsGrid, is_left}
 use Rattle.tas_green.specs.Grid.{stride}
 use Rattle.tas_green.specs.Window.{IsViewFrom, both}
 use Rattle.tas_green.proofs.GridLemmas.{stride_rare}
-use Rattle.tas_green.proofs.MovingLemmas.{moved_same}
 use Rattle.tas_green.proofs.BoundLemmas.{nearest_close}
 use Rattle.tas_green.proofs.ViewLemmas.{view_less}
 use Rattle.tas_desk.specs.Zones.{ZoneContent, IsShort}
@@ -43,11 +42,6 @@ shared_once old new n m f g = elim (cases_eq n m) [
 pub moved_once : (old new : MovieContent) (zone left other : List Savestate) → IsMoved old new zone left → IsMoved old new zone other → left ≡ other
 moved_once old new zone left other one two =
     one.2 ∙ ap (λ (at : ℕ). filter (is_left at (length new.inputs)) zone) (shared_once old new one.0 two.0 one.1 two.1) ∙ sym two.2
-
--- a cut for the same movie leaves all states
-pub whole_copy : {E : Type 0} (movie : MovieContent) (zone : List Savestate) (r : Result (List Savestate) E) → IsLawful movie zone → IfOk r (λ left. IsMoved movie movie zone left) → IfOk r (λ left. left ≡ zone)
-whole_copy movie zone (Ok left) lawful moved = moved_once movie movie zone left zone moved (moved_same movie zone lawful)
-whole_copy movie zone (Err error) lawful moved = tt
 
 -- where all of the grid is left, a shot plays at most a stride's frames
 pub short_shot : {A : Type 0} (before now : ZoneContent A) (k ran : ℕ) → IsShotFrom before.movie now.movie k before.states now.states 0 ran → IsShort before now k ran

@@ -20,7 +20,7 @@ use std::sync::ledger::Share;
 use tas_green::Green;
 use tas_movie::Movie;
 use tas_session::{MovieReader, shown};
-use vcs_machine::{Input, Meter};
+use vcs_machine::Input;
 use vcs_tia::Picture;
 
 /// A seat of a desk. Contracts see its number, how many edits it made, what it has seen of the history, and its greenzone with
@@ -141,11 +141,8 @@ impl<N: Name, A: Allocator + Copy> Seat<N, A> {
         let Ok(mut picture) = Picture::blank(alloc) else {
             return Err(ShotError::Memory);
         };
-        let mut meter = Meter::new();
-        let Ok(end) = self.zone.shot(copied, k, &mut picture, &mut meter) else {
-            return Err(ShotError::Memory);
-        };
-        shown(at, k, meter.count(), picture, end)
+        let played = self.zone.shot(copied, k, &mut picture);
+        shown(at, k, played.ran, picture, played.end)
     }
 
     /// Draws frame `k` from the seat's own zone and window.
@@ -162,9 +159,7 @@ impl<N: Name, A: Allocator + Copy> Seat<N, A> {
         let Ok(mut picture) = Picture::blank(alloc) else {
             return Err(ShotError::Memory);
         };
-        let Ok(viewed) = self.zone.view(copied, k, &mut picture) else {
-            return Err(ShotError::Memory);
-        };
+        let viewed = self.zone.picture(copied, k, &mut picture);
         shown(at, k, viewed.ran, picture, viewed.end)
     }
 
@@ -184,14 +179,11 @@ impl<N: Name, A: Allocator + Copy> Seat<N, A> {
         let (at, copied) = self
             .reader
             .copy_of(self.zone.allocator(), self.zone.version(), to)?;
-        let mut meter = Meter::new();
-        let Ok(state) = self.zone.reach(copied, from, &mut meter) else {
-            return Err(StateError::Memory);
-        };
+        let reached = self.zone.reach(copied, from);
         Ok(Reached {
             at,
-            ran: meter.count(),
-            state,
+            ran: reached.ran,
+            state: reached.state,
         })
     }
 }

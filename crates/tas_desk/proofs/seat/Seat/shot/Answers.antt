@@ -1,6 +1,4 @@
-use Rattle.std.proofs.lemmas.Grind.{common_steps}
-use Rattle.std.proofs.Common.{ap, sym, subst, subst₂, refl, arith}
-use Rattle.tas_green.specs.Green.{IsShotFrom}
+use Rattle.std.proofs.Common.{ap, subst, refl}
 use Rattle.tas_desk.specs.Seats.{SeatContent}
 use Rattle.tas_desk.specs.Zones.{ZoneContent, CutsWindow, IsPlayed, IsShort}
 use Rattle.tas_desk.proofs.CutLemmas.{short_shot}
@@ -11,62 +9,34 @@ use Rattle.tas_desk.proofs.seat.Seat.shot.Goals as goal
 
 pub returns-clause-zone : goal.returns-clause-zone
 returns-clause-zone g c =
-    let e = c.in-Ok-shot.ensures in
-    let zone = c.self.inside.zone in
-    let kept = subst₂ (λ meter rose. IsShotFrom zone.movie c.shot.new.self.movie c.args.k zone.states c.shot.new.self.states meter rose) c.new-meter.ensures (sym c.count.ensures) e.kept in
-    let made = brought_to c.version.result.now zone c.shot.new.self c.in_ok-at.copied c.copy.new.self.seen c.version.ensures c.in_ok-at.ensures.3 e.made_for e.movie e.lawful e.near in
-    zone_drawn (IsPlayed c.args.self.now.zone c.shot.new.self c.copy.new.self.seen c.args.k) c.args.self.now _ _ _ c.count.result _ c.in-Ok-shot.end _ c.shown.ensures.shot c.shown.ensures.halted
-    (subst (λ (z : ZoneContent _). IsPlayed z c.shot.new.self c.copy.new.self.seen c.args.k c.count.result) (ap (λ (s : SeatContent _). s.zone) c.self.view_is) (record { made = made; shot = kept }))
+    let e = c.shot-played.ensures in
+    let made = brought_to c.version.result.now c.self.inside.zone c.shot-played.new.self c.in_ok-at.copied c.copy.new.self.seen c.version.ensures c.in_ok-at.ensures.3 e.made_for e.made in
+    zone_drawn (IsPlayed c.args.self.now.zone c.shot-played.new.self c.copy.new.self.seen c.args.k) c.args.self.now _ _ _ c.shot-played.result.ran _ c.shot-played.result.end _ c.shown.ensures.shot c.shown.ensures.halted
+    (subst (λ (z : ZoneContent _). IsPlayed z c.shot-played.new.self c.copy.new.self.seen c.args.k c.shot-played.result.ran) (ap (λ (s : SeatContent _). s.zone) c.self.view_is) (record { made = made; shot = e.kept }))
 
 pub returns-clause-reply : goal.returns-clause-reply
 returns-clause-reply g c =
-    let e = c.in-Ok-shot.ensures in
-    let made = brought_to c.version.result.now c.self.inside.zone c.shot.new.self c.in_ok-at.copied c.copy.new.self.seen c.version.ensures c.in_ok-at.ensures.3 e.made_for e.movie e.lawful e.near in
-    shot_at c.copy.new.self.seen c.shot.new.self.movie _ _ c.count.result _ c.in-Ok-shot.end _ made.movie c.in_ok-at.ensures.1 c.in_ok-at.ensures.2 e.answer e.picture c.shown.ensures.shot c.shown.ensures.halted
+    let e = c.shot-played.ensures in
+    let made = brought_to c.version.result.now c.self.inside.zone c.shot-played.new.self c.in_ok-at.copied c.copy.new.self.seen c.version.ensures c.in_ok-at.ensures.3 e.made_for e.made in
+    shot_at c.copy.new.self.seen c.shot-played.new.self.movie _ _ c.shot-played.result.ran _ c.shot-played.result.end _ made.movie c.in_ok-at.ensures.1 c.in_ok-at.ensures.2 e.answer e.picture c.shown.ensures.shot c.shown.ensures.halted
 
 pub returns-clause-short : goal.returns-clause-short
 returns-clause-short g c =
-    let zone = c.self.inside.zone in
-    let kept = subst₂ (λ meter rose. IsShotFrom zone.movie c.shot.new.self.movie c.args.k zone.states c.shot.new.self.states meter rose) c.new-meter.ensures (sym c.count.ensures) c.in-Ok-shot.ensures.kept in
-    so_many _ _ c.count.result _ c.in-Ok-shot.end _ (IsShort c.args.self.now.zone c.shot.new.self c.args.k) c.shown.ensures.shot c.shown.ensures.halted
-    (subst (λ (z : ZoneContent _). IsShort z c.shot.new.self c.args.k c.count.result) (ap (λ (s : SeatContent _). s.zone) c.self.view_is) (short_shot zone c.shot.new.self c.args.k c.count.result kept))
+    so_many _ _ c.shot-played.result.ran _ c.shot-played.result.end _ (IsShort c.args.self.now.zone c.shot-played.new.self c.args.k) c.shown.ensures.shot c.shown.ensures.halted
+    (subst (λ (z : ZoneContent _). IsShort z c.shot-played.new.self c.args.k c.shot-played.result.ran) (ap (λ (s : SeatContent _). s.zone) c.self.view_is)
+    (short_shot c.self.inside.zone c.shot-played.new.self c.args.k c.shot-played.result.ran c.shot-played.ensures.kept))
+
+pub invariant_of-self-2 : goal.invariant_of-self-2
+invariant_of-self-2 g c =
+    seated_at _ _ _ _ _ _ _ c.version.result.now c.self.inside.zone c.shot-played.new.self c.in_ok-at.copied c.copy.new.self.seen c.self.invariant c.in_ok-at.ensures.0 c.version.ensures c.in_ok-at.ensures.3 c.shot-played.ensures.made_for
+
+pub returns-clause-window : goal.returns-clause-window
+returns-clause-window g c =
+    was_played c.args.k _ c.shot-played.result.ran _ c.shot-played.result.end _ _ _ c.shown.ensures.shot c.shown.ensures.halted
+    (subst (λ (z : ZoneContent _). CutsWindow z c.shot-played.new.self) (ap (λ (s : SeatContent _). s.zone) c.self.view_is) c.shot-played.ensures.cut)
 
 pub invariant_of-self-in_default : goal.invariant_of-self-in_default
 invariant_of-self-in_default g c = seated_on _ _ _ _ _ _ _ c.self.inside.zone c.self.inside.zone c.self.invariant c.in_ok-at.ensures.0 refl
 
-pub invariant_of-self-in_default-shot : goal.invariant_of-self-in_default-shot
-invariant_of-self-in_default-shot g c =
-    seated_on _ _ _ _ _ _ _ c.self.inside.zone c.shot.new.self c.self.invariant c.in_ok-at.ensures.0 (ap (λ (z : ZoneContent _). z.made_for.registry) c.in_default-shot.ensures.memory.0)
-
-pub invariant_of-self-2 : goal.invariant_of-self-2
-invariant_of-self-2 g c =
-    seated_at _ _ _ _ _ _ _ c.version.result.now c.self.inside.zone c.shot.new.self c.in_ok-at.copied c.copy.new.self.seen c.self.invariant c.in_ok-at.ensures.0 c.version.ensures c.in_ok-at.ensures.3 c.in-Ok-shot.ensures.made_for
-
 pub returns-clause-seat : goal.returns-clause-seat
-returns-clause-seat g c = seen_more c.self.inside.reader c.copy.new.self _ _ _ c.self.inside.zone c.shot.new.self c.self.view_is c.in_ok-at.ensures.0
-
-pub returns-in_default-shot-clause-seat : goal.returns-in_default-shot-clause-seat
-returns-in_default-shot-clause-seat g c = seen_more c.self.inside.reader c.copy.new.self _ _ _ c.self.inside.zone c.shot.new.self c.self.view_is c.in_ok-at.ensures.0
-
-pub invariant_of-self : goal.invariant_of-self
-invariant_of-self g c = grind (arith, common_steps)
-
-pub returns-in_err-at-clause-seat : goal.returns-in_err-at-clause-seat
-returns-in_err-at-clause-seat g c = grind (arith, common_steps)
-
-pub returns-in_default-clause-seat : goal.returns-in_default-clause-seat
-returns-in_default-clause-seat g c = grind (arith, common_steps)
-
-pub returns-in_default-shot-clause-zone : goal.returns-in_default-shot-clause-zone
-returns-in_default-shot-clause-zone g c = grind (arith, common_steps)
-
-pub returns-in_default-clause-zone : goal.returns-in_default-clause-zone
-returns-in_default-clause-zone g c = grind (arith, common_steps)
-
-pub shot-requires-clause-within : goal.shot-requires-clause-within
-shot-requires-clause-within g c = grind (arith, common_steps)
-
-pub returns-clause-window : goal.returns-clause-window
-returns-clause-window g c =
-    was_played c.args.k _ c.count.result _ c.in-Ok-shot.end _ _ _ c.shown.ensures.shot c.shown.ensures.halted
-    (subst (λ (z : ZoneContent _). CutsWindow z c.shot.new.self) (ap (λ (s : SeatContent _). s.zone) c.self.view_is) c.in-Ok-shot.ensures.cut)
+returns-clause-seat g c = seen_more c.self.inside.reader c.copy.new.self _ _ _ c.self.inside.zone c.shot-played.new.self c.self.view_is c.in_ok-at.ensures.0

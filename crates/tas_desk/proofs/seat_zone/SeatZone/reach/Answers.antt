@@ -1,42 +1,10 @@
-use Rattle.std.proofs.lemmas.Grind.{common_steps}
-use Rattle.std.specs.Prelude.{OnOk}
-use Rattle.std.proofs.Common.{subst, arith}
-use Rattle.tas_green.specs.Green.{IsReachedFrom}
-use Rattle.tas_desk.specs.Zones.{ZoneContent}
-use Rattle.tas_green.specs.Window.{IsWindowMoved}
-use Rattle.tas_green.proofs.WindowLemmas.{window_moved_same}
-use Rattle.tas_desk.proofs.ZoneLemmas.{played_in_place, on_ok}
+use Rattle.tas_desk.proofs.ZoneLemmas.{if_ok, played_in, cut_in}
 use Rattle.tas_desk.proofs.seat_zone.SeatZone.reach.Goals as goal
 
-pub returns-in-None-clause-kept : goal.returns-in-None-clause-kept
-returns-in-None-clause-kept g c =
-    subst (λ (z : ZoneContent _). OnOk c.reach.result (IsReachedFrom z.movie c.self.inside.made_for.movie c.args.k z.states c.reach.new.self c.args.meter.now c.reach.new.meter)) c.self.view_is
-    (played_in_place c.self.inside.made_for.movie c.args.k c.args.k c.self.inside.green c.reach.new.self c.args.meter.now c.reach.new.meter c.reach.result c.self.invariant.0 c.reach.ensures.meter c.reach.ensures.kept)
+pub returns-clause-kept : goal.returns-clause-kept
+returns-clause-kept g c =
+    played_in c.self.inside.version c.self.inside.view c.follow.new.view c.state.new.self c.args.self.now c.args.k c.args.k c.unwrap.result.ran c.self.view_is c.follow.ensures.brought c.follow.ensures.lawful c.state.ensures.movie
+    (if_ok _ c.state.result c.unwrap.result c.unwrap.ensures c.state.ensures.kept)
 
-pub reach_from-requires-clause-lawful : goal.reach_from-requires-clause-lawful
-reach_from-requires-clause-lawful g c = c.self.invariant.0
-
-pub returns-in_ok-state-in-Some-clause-kept : goal.returns-in_ok-state-in-Some-clause-kept
-returns-in_ok-state-in-Some-clause-kept g c =
-    subst (λ (z : ZoneContent _). IsReachedFrom z.movie c.in-Some.copied.movie c.args.k z.states c.reach_from.new.self c.args.meter.now c.reach_from.new.meter) c.self.view_is c.in_ok-state-in-Some.ensures.kept
-
-pub returns-in_ok-state-in-Some-clause-made_for : goal.returns-in_ok-state-in-Some-clause-made_for
-returns-in_ok-state-in-Some-clause-made_for g c = grind (arith, common_steps)
-
-pub returns-in-None-clause-movie : goal.returns-in-None-clause-movie
-returns-in-None-clause-movie g c = grind (arith, common_steps)
-
-pub returns-in-None-clause-memory : goal.returns-in-None-clause-memory
-returns-in-None-clause-memory g c = grind (arith, common_steps)
-
-pub invariant_of-self-in_err-state-in-Some : goal.invariant_of-self-in_err-state-in-Some
-invariant_of-self-in_err-state-in-Some g c = grind (arith, common_steps)
-
-pub returns-in-None-clause-cut : goal.returns-in-None-clause-cut
-returns-in-None-clause-cut g c =
-    subst (λ (z : ZoneContent _). OnOk c.reach.result (IsWindowMoved z.movie c.self.inside.made_for.movie z.window c.self.inside.window)) c.self.view_is
-    (on_ok c.reach.result (window_moved_same c.self.inside.made_for.movie c.self.inside.window c.self.invariant.1))
-
-pub returns-in_ok-state-in-Some-clause-cut : goal.returns-in_ok-state-in-Some-clause-cut
-returns-in_ok-state-in-Some-clause-cut g c =
-    subst (λ (z : ZoneContent _). IsWindowMoved z.movie c.in-Some.copied.movie z.window c.cut_for.new.self) c.self.view_is c.cut_for.ensures.moved
+pub returns-clause-cut : goal.returns-clause-cut
+returns-clause-cut g c = cut_in c.self.inside.version c.self.inside.view c.follow.new.view c.state.new.self c.args.self.now c.self.view_is c.follow.ensures.brought c.state.ensures.movie c.state.ensures.near
