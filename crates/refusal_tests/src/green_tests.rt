@@ -4,67 +4,50 @@ ghost use Rattle.std.specs.Prelude.{◌≡◌, ◌≤◌, OnErr, length};
 ghost use Rattle.tas_green.specs.Green.{IsLawful};
 
 use crate::checks::{check_same, check_that, expect_ok};
-use crate::fixtures::{
-    BRIEF, GRID, PLAYFIELD, has_first_two, has_lacked, movie_of, played, replaced,
-};
+use crate::fixtures::{BRIEF, GRID, PLAYFIELD, has_first_two, has_lacked, movie_of, played};
 use crate::runs::{
     Heap, NEVER, NOT_AS_BEFORE, NOT_TOLD, Run, count_growths, is_over, refuse, refusing,
 };
 use std::alloc::{AllocError, Allocator, Global};
 use std::process::Abort;
-use tas_green::{Batch, Green, Job, MergeError, Merged, Viewed, Window};
+use tas_green::{Batch, Green, Job, MergeError, Merged, View, Viewed};
 use tas_movie::Movie;
 use vcs_machine::{Input, Meter, State};
 use vcs_tia::Picture;
 
-/// A call on a greenzone.
+/// A call on a greenzone, or what a view does.
 #[derive(Clone, Copy)]
 enum Seeking {
     Shot,
-    ShotFrom,
     Reach,
-    ReachFrom,
-    View,
-    ViewFrom,
     Merge,
     Gain,
-    GainFrom,
-    Moved,
     TakeJob,
+    View,
 }
 
-/// Each such call, its name, and how many growths it has: a zone's list of states has one, a window's another, a job those of its
-/// cartridge, its inputs and its list of states.
-static SEEKINGS: [(Seeking, &str, u64); 11] = [
+/// Each such call, its name, and how many growths it has: a zone's list of states has one, a job those of its cartridge, its inputs
+/// and its list of states. A view has two when it is made, beside the two of its movie, and none later; then a job of it has its
+/// three, and a copy of its states one.
+static SEEKINGS: [(Seeking, &str, u64); 6] = [
     (Seeking::Shot, "Shot", 1),
-    (Seeking::ShotFrom, "ShotFrom", 1),
     (Seeking::Reach, "Reach", 1),
-    (Seeking::ReachFrom, "ReachFrom", 1),
-    (Seeking::View, "View", 2),
-    (Seeking::ViewFrom, "ViewFrom", 2),
     (Seeking::Merge, "Merge", 1),
     (Seeking::Gain, "Gain", 1),
-    (Seeking::GainFrom, "GainFrom", 1),
-    (Seeking::Moved, "Moved", 1),
     (Seeking::TakeJob, "TakeJob", 3),
+    (Seeking::View, "View", 8),
 ];
 
 /// What the calls are given, and don't change.
 #[derive(Drop)]
 struct Given {
     movie: Movie,
-    /// A movie whose inputs differ at frame 100.
-    other: Movie,
     /// The movie's states after 64 frames and so on up to 384.
     full: Green,
-    /// Those of the other movie.
-    full_of_other: Green,
     /// The movie's, to be merged.
     batch: Batch,
     /// The movie's machine after 384 frames, played from power-on.
     end: State,
-    /// That of the other movie.
-    end_of_other: State,
 }
 
 /// Whether just the six states up to 384 frames are kept, as after each call that is right.
@@ -115,19 +98,14 @@ fn batch_of<R: Abort>(rt: &R, alloc: Global, movie: &Movie) -> Batch {
 
 /// What the calls are given.
 fn make_given<R: Abort>(rt: &R, alloc: Global) -> Given
-    ensures movie { IsLawful result.movie result.full }
-    ensures other { IsLawful result.other result.full_of_other }
+    ensures { IsLawful result.movie result.full }
 {
     let movie = movie_of(rt, alloc, BRIEF, Input::none(), 400);
-    let other = replaced(rt, alloc, &movie, 100);
     Given {
         full: zone_of(rt, alloc, alloc, &movie, 383),
-        full_of_other: zone_of(rt, alloc, alloc, &other, 383),
         batch: batch_of(rt, alloc, &movie),
         end: played(movie.cart(), movie.inputs(), 384),
-        end_of_other: played(other.cart(), other.inputs(), 384),
         movie,
-        other,
     }
 }
 
@@ -141,9 +119,37 @@ fn shows(picture: &Picture, meter: &Meter, ran: u64) -> bool {
     picture.lit() == 0 && meter.count() == ran
 }
 
-/// Whether a black frame was viewed, and so many frames were played.
-fn is_viewed(viewed: Viewed, ran: u64, picture: &Picture) -> bool {
-    viewed == Viewed { ran, end: Ok(()) } && picture.lit() == 0
+/// Whether a view of the movie that has all its states draws a black frame, and has the state after it then.
+fn draws(view: &mut View<&Heap>, picture: &mut Picture, given: &Given) -> bool {
+    let Ok(viewed) = view.picture(383, picture) else {
+        return false;
+    };
+    let Ok(reached) = view.state(384) else {
+        return false;
+    };
+    viewed
+        == Viewed {
+            ran: 64,
+            end: Ok(()),
+        }
+        && picture.lit() == 0
+        && reached.ran == 0
+        && reached.state == given.end
+}
+
+/// A view that is made of a copy of the movie, a job of it, a copy of its states, and what it draws: whether they are right.
+fn view(heap: &Heap, picture: &mut Picture, given: &Given) -> Result<bool, AllocError> {
+    let mut view = View::new(heap, given.movie.copy(heap)?)?;
+    let job = view.job(heap, 400)?;
+    let Ok(merged) = view.merge(&given.batch) else {
+        return Ok(false);
+    };
+    let copy = view.copy_states(heap)?;
+    let is_right = is_full(&copy) && draws(&mut view, picture, given);
+    let Ok(again) = view.merge(&job.run()) else {
+        return Ok(false);
+    };
+    Ok(is_right && (merged.kept, again.kept, view.count()) == (6, 0, 6))
 }
 
 /// What a merge of the batch gains.
@@ -171,11 +177,6 @@ fn merge(green: &mut Green<&Heap>, movie: &Movie, batch: &Batch) -> Result<bool,
     }
 }
 
-/// Whether a copy of the full zone for the other movie keeps just the state after 64 frames.
-fn is_moved(moved: &Green<&Heap>) -> bool {
-    moved.count() == 1 && moved.holds(64)
-}
-
 /// The call: whether it is right, where memory isn't refused.
 fn seek(
     heap: &Heap,
@@ -187,56 +188,32 @@ fn seek(
 ) -> Result<bool, AllocError>
     requires lawful { IsLawful given.now.movie green.old }
     requires full { IsLawful given.now.movie given.now.full }
-    requires full_of_other { IsLawful given.now.other given.now.full_of_other }
     requires long { 384 ≤ length given.now.movie.inputs }
-    requires other { 384 ≤ length given.now.other.inputs }
     requires meter { meter.old ≡ 0 }
     ensures zone { OnErr result (green.new ≡ green.old) }
     ensures meter { OnErr result (meter.new ≡ meter.old) }
 {
-    let (movie, other) = (&given.movie, &given.other);
+    let movie = &given.movie;
     let is_right = match seeking {
         Seeking::Shot => {
             let drawn = green.shot(movie, 383, picture, meter)?;
             drawn.is_ok() && shows(picture, meter, 256) && is_full(green)
         }
-        // The zone is cut after frame 100, so that its state after 128 frames goes.
-        Seeking::ShotFrom => {
-            let drawn = green.shot_from(movie, other, 383, picture, meter)?;
-            drawn.is_ok() && shows(picture, meter, 320) && is_full(green)
-        }
         Seeking::Reach => {
             let state = green.reach(movie, 384, meter)?;
             state == given.end && meter.count() == 256 && is_full(green)
         }
-        Seeking::ReachFrom => {
-            let state = green.reach_from(movie, other, 384, meter)?;
-            state == given.end_of_other && meter.count() == 320 && is_full(green)
-        }
-        Seeking::View => {
-            let viewed = Window::new(heap).view(green, movie, 383, picture)?;
-            is_viewed(viewed, 256, picture) && is_full(green)
-        }
-        Seeking::ViewFrom => {
-            let viewed = Window::new(heap).view_from(green, movie, other, 383, picture)?;
-            is_viewed(viewed, 320, picture) && is_full(green)
-        }
         Seeking::Merge => merge(green, movie, &given.batch)?,
         Seeking::Gain => green.gain(movie, &given.full)? == 4 && is_full(green),
-        // So is it here.
-        Seeking::GainFrom => {
-            let gained = green.gain_from(movie, other, &given.full_of_other)?;
-            gained == 5 && is_full(green)
-        }
-        Seeking::Moved => is_moved(&given.full.moved(heap, movie, other)?),
         Seeking::TakeJob => is_batch(&Job::take(heap, movie, green, 400)?.run(), movie),
+        Seeking::View => view(heap, picture, given)?,
     };
     Ok(is_right)
 }
 
 /// Whether what the calls are given is as it was.
 fn is_given(given: &Given) -> bool {
-    given.batch.holds(384) && is_full(&given.full) && is_full(&given.full_of_other)
+    given.batch.holds(384) && is_full(&given.full)
 }
 
 /// The call with one growth refused, and the same call after it.
@@ -249,9 +226,7 @@ fn seek_twice(
 ) -> Run
     requires lawful { IsLawful given.now.movie green.old }
     requires full { IsLawful given.now.movie given.now.full }
-    requires full_of_other { IsLawful given.now.other given.now.full_of_other }
     requires long { 384 ≤ length given.now.movie.inputs }
-    requires other { 384 ≤ length given.now.other.inputs }
 {
     let mut meter = Meter::new();
     let mut answer = seek(heap, green, picture, &mut meter, given, seeking);
@@ -271,9 +246,7 @@ fn seek_twice(
 /// The call on a zone with two states of the movie, with one growth refused, and the same call after it.
 fn run_seeking<R: Abort>(rt: &R, alloc: Global, given: &Given, seeking: Seeking, number: u64) -> Run
     requires full { IsLawful given.now.movie given.now.full }
-    requires full_of_other { IsLawful given.now.other given.now.full_of_other }
     requires long { 384 ≤ length given.now.movie.inputs }
-    requires other { 384 ≤ length given.now.other.inputs }
 {
     let heap = refusing(alloc, NEVER);
     let mut green = zone_of(rt, alloc, &heap, &given.movie, 127);
@@ -285,9 +258,7 @@ fn run_seeking<R: Abort>(rt: &R, alloc: Global, given: &Given, seeking: Seeking,
 /// How many growths the call of this name has, each of which is refused in turn.
 fn growths_of<R: Abort>(rt: &R, alloc: Global, given: &Given, seeking: Seeking, name: &str) -> u64
     requires full { IsLawful given.now.movie given.now.full }
-    requires full_of_other { IsLawful given.now.other given.now.full_of_other }
     requires long { 384 ≤ length given.now.movie.inputs }
-    requires other { 384 ≤ length given.now.other.inputs }
 {
     count_growths(|number| {
         let run = run_seeking(rt, alloc, given, seeking, number);
@@ -298,10 +269,8 @@ fn growths_of<R: Abort>(rt: &R, alloc: Global, given: &Given, seeking: Seeking, 
 /// Compares how many growths each call has.
 fn check_seekings<R: Abort>(rt: &R, alloc: Global, given: &Given)
     requires full { IsLawful given.now.movie given.now.full }
-    requires full_of_other { IsLawful given.now.other given.now.full_of_other }
 {
-    let are_long = given.movie.len() == 400 && given.other.len() == 400;
-    check_that(rt, "movie", are_long);
+    check_that(rt, "movie", given.movie.len() == 400);
     for row in SEEKINGS.iter() {
         let (seeking, name, growths) = *row;
         let found = growths_of(rt, alloc, given, seeking, name);

@@ -252,14 +252,14 @@ fn check_pictures<R: Abort>(rt: &R, sums: &[u64]) {
 
 /// How many growths the callers' turns have at least. Six edits have 6 of their second copies and 2 of the journal, whose room for four entries
 /// doubles at the fifth and at the ninth. Five shots have 5 of their pictures, and six jobs, two in each work and one in each offer, 12 of their
-/// cartridges and inputs. The desk's list of states and those of three zones have 4, and the list of the first job that keeps a state 1. A
+/// cartridges and inputs. The desk's list of states has 1 (the seats' views have their room), and the list of the first job that keeps a state 1. A
 /// movie's copy has 2: a shot or a share makes one where its seat's zone is of another history, so the first one of each seat does, and each one
 /// after an edit of the seat: 7 of them, with 14.
-const LEAST_GROWTHS: u64 = 44;
+const LEAST_GROWTHS: u64 = 41;
 
 /// How many they have at most. It depends on who comes first: up to three jobs may find no state kept, and the last shot of the first seat
 /// makes a copy where another seat's edit came before it.
-const MOST_GROWTHS: u64 = 48;
+const MOST_GROWTHS: u64 = 45;
 
 /// Refuses each growth of the callers' turns.
 fn refuse_each<R: Threads + Wait + Abort + Sync>(rt: &R, alloc: Global, sums: &[u64]) {

@@ -4,9 +4,8 @@ ghost use Rattle.std.specs.Prelude.{◌≡◌, ℕ, ◌+◌, ◌<◌, ◌≤◌,
 ghost use Rattle.tas_green.specs.Run.{state_after};
 ghost use Rattle.tas_green.specs.Zone.{state_at, nearest, first_of, where_true, is_passed};
 ghost use Rattle.tas_green.specs.Grid.{stride};
-ghost use Rattle.tas_green.specs.Green.{IsLawful, IsReachedFrom};
+ghost use Rattle.tas_green.specs.Green.{IsLawful};
 
-use crate::moving::move_states;
 use crate::playing::{Span, pass_span};
 use crate::{Green, stride};
 use std::alloc::{AllocError, Allocator};
@@ -42,37 +41,6 @@ impl<A: Allocator> Green<A> {
             stride: stride(movie.len()),
         };
         self.states.reserve(span.room())?;
-        Ok(pass_span(movie.cart(), movie.inputs(), span, &mut self.states, meter))
-    }
-
-    /// As [`Green::reach`], over a greenzone that was made for another movie: it is cut first, as [`Green::shot_from`] does.
-    /// After `AllocError` greenzone and meter are unchanged, and the greenzone isn't even cut.
-    pub fn reach_from<B: Allocator, C: Allocator>(
-        &mut self,
-        made_for: &Movie<B>,
-        movie: &Movie<C>,
-        k: usize,
-        meter: &mut Meter,
-    ) -> Result<State, AllocError>
-        requires lawful { IsLawful made_for.now self.old }
-        requires within { k ≤ length movie.now.inputs }
-        requires room { meter.old + k < 2 ^ 64 }
-        ensures state { IfOk result (λ state. state ≡ state_after movie.now k) }
-        ensures kept { OnOk result
-            (IsReachedFrom made_for.now movie.now k self.old self.new meter.old meter.new) }
-        ensures lawful { OnOk result (IsLawful movie.now self.new) }
-        ensures memory { OnErr result ((self.new ≡ self.old) × (meter.new ≡ meter.old)) }
-    {
-        let step = stride(movie.len());
-        // Before the cut, so that a refusal leaves all states; the nearest one isn't known yet, so this is room for every
-        // place up to `k`.
-        self.states.reserve(k / step)?;
-        move_states(&mut self.states, made_for, movie);
-        let span = Span {
-            start: self.start_of(movie, k),
-            end: k,
-            stride: step,
-        };
         Ok(pass_span(movie.cart(), movie.inputs(), span, &mut self.states, meter))
     }
 }

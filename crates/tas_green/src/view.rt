@@ -18,6 +18,7 @@ use crate::zone::{absorb, holds_at, nearest_of, retain_on_grid};
 use crate::{Batch, Green, Job, MAX_STATES, Merged, Savestate, shared_front, stride};
 use std::alloc::{AllocError, Allocator, Global};
 use std::marker::Model;
+use std::mem::size_of;
 use tas_movie::{Edit, EditRefusal, Movie, apply, check};
 use vcs_machine::{Meter, State};
 use vcs_tia::Picture;
@@ -27,6 +28,8 @@ const STATES: usize = MAX_STATES + 1;
 
 /// Room for the window's.
 const NEAR: usize = MAX_NEAR + 1;
+
+const _: () = prove!(NEAR * size_of::<Savestate>() < 65_536);
 
 /// The movie has no such frame.
 #[derive(Clone, Copy, Debug, PartialEq, Eq)]

@@ -9,19 +9,13 @@ ghost use Rattle.tas_green.specs.Green.{IsLawful};
 ghost use Rattle.tas_green.specs.Window.{most_near, is_near, is_gained, AreNear, AreMovieStates, IsFilled};
 
 use crate::playing::Span;
-use crate::window::{MARK_DISTANCE, MAX_BEFORE, MAX_MARKED, MAX_NEAR, Viewed};
+use crate::window::{MARK_DISTANCE, MAX_BEFORE, MAX_MARKED, Viewed};
 use crate::zone::{put, put_on_grid};
 use crate::{Savestate, stride};
-use std::alloc::{AllocError, Allocator};
-use std::mem::size_of;
+use std::alloc::Allocator;
 use tas_movie::Movie;
 use vcs_machine::{Cart, Input, Meter, State, play, play_unseen};
 use vcs_tia::Picture;
-
-/// For how many states a window takes memory: room for one more is easier to show than that a state to be put is there already.
-const ROOM: usize = MAX_NEAR + 1;
-
-const _: () = prove!(ROOM * size_of::<Savestate>() < 65_536);
 
 /// Leaves the states up to a place.
 pub fn retain_up_to<A: Allocator>(states: &mut Vec<Savestate, A>, last: usize)
@@ -168,15 +162,6 @@ fn play_both<A: Allocator, B: Allocator, C: Allocator, D: Allocator>(
         ran: meter.count(),
         end,
     }
-}
-
-/// Makes room for all states that a view may leave.
-pub fn make_room<A: Allocator>(states: &mut Vec<Savestate, A>) -> Result<(), AllocError>
-    requires { vec_len states.old ≤ most_near }
-    ensures items { states.new.items ≡ states.old.items }
-    ensures room { OnOk result (most_near < vec_capacity states.new) }
-{
-    states.reserve_exact(ROOM - states.len())
 }
 
 /// Plays a movie from a state on and draws frame `k`. The greenzone's states gain those on the way that are on the grid; of the
