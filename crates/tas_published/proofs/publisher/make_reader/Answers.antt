@@ -1,4 +1,5 @@
-use Rattle.std.proofs.Common.{◌++◌, ap, ◌∙◌}
+use Rattle.std.proofs.lemmas.Grind.{common_steps}
+use Rattle.std.proofs.Common.{◌++◌, ap, ◌∙◌, arith}
 use Rattle.left_right.specs.Sides.{view}
 use Rattle.tas_published.specs.declared.reader_view.ReaderView.{ReaderView}
 use Rattle.tas_published.specs.Published.{learned}
@@ -16,3 +17,9 @@ tell_all-requires-clause-begins g c =
 pub returns-in-Ok-clause-view : goal.returns-in-Ok-clause-view
 returns-in-Ok-clause-view g c =
     c.tell_all.ensures.learned ∙ (λ i. learned (c.in-Ok.ensures.view i) (c.publish_nothing-writer.ensures.view i)) ∙ learned_all c.args.writer.desk.shown.value.version
+
+pub returns-in-Ok-clause-value : goal.returns-in-Ok-clause-value
+returns-in-Ok-clause-value g c = grind (arith, common_steps)
+
+pub returns-in-Ok-clause-none : goal.returns-in-Ok-clause-none
+returns-in-Ok-clause-none g c = grind (arith, common_steps)

@@ -11,3 +11,9 @@ learn-requires-clause-rule g c = merges _ _ _ _
 
 pub learn-requires-clause-own : goal.learn-requires-clause-own
 learn-requires-clause-own g c = grind (arith, common_steps)
+
+pub returns-clause-value : goal.returns-clause-value
+returns-clause-value g c = grind (arith, common_steps)
+
+pub returns-clause-none : goal.returns-clause-none
+returns-clause-none g c = grind (arith, common_steps)

@@ -30,3 +30,6 @@ loop-preserved-else-is_latest g c = grind (arith, common_steps)
 
 pub loop-preserved : goal.loop-preserved
 loop-preserved g c = grind (arith, common_steps)
+
+pub is_same-is_latest-requires : goal.is_same-is_latest-requires
+is_same-is_latest-requires g c = grind (arith, common_steps)

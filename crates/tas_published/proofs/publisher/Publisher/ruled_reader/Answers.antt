@@ -7,3 +7,6 @@ invariant_of-self g c = grind (arith, common_steps)
 
 pub returns-clause-same : goal.returns-clause-same
 returns-clause-same g c = grind (arith, common_steps)
+
+pub returns-clause-view : goal.returns-clause-view
+returns-clause-view g c = grind (arith, common_steps)
