@@ -1,3 +1,4 @@
+use Rattle.std.proofs.lemmas.Grind.{common_steps}
 use Rattle.std.proofs.Common.{◌∙◌, arith}
 use Rattle.tas_film.proofs.DrawingLemmas.{drawn_none, drawn_more, pixmaps_none, pixmaps_more, stopped_at, shown_all}
 use Rattle.tas_film.proofs.drawing.draw_frames.Goals as goal
@@ -26,3 +27,6 @@ loop-frame-preserved g c =
 
 pub returns-clause-shows : goal.returns-clause-shows
 returns-clause-shows g c = shown_all c.args.movie.now c.args.first c.loop-frame.frame c.args.end c.loop-frame.pixmaps (omega arith) c.loop-frame.invariant.all c.loop-frame.invariant.are
+
+pub returns-in-Err-clause-meter : goal.returns-in-Err-clause-meter
+returns-in-Err-clause-meter g c = grind (arith, common_steps)

@@ -14,3 +14,6 @@ loop-frame-preserved g c =
 
 pub returns-clause-state : goal.returns-clause-state
 returns-clause-state g c = grind (arith, common_steps)
+
+pub loop-frame-init : goal.loop-frame-init
+loop-frame-init g c = grind (arith, common_steps)

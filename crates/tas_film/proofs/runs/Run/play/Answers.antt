@@ -14,3 +14,6 @@ play_run-self-requires-clause-few g c = grind (arith, common_steps)
 
 pub play_run-self-requires-clause-order : goal.play_run-self-requires-clause-order
 play_run-self-requires-clause-order g c = grind (arith, common_steps)
+
+pub returns : goal.returns
+returns g c = grind (arith, common_steps)
