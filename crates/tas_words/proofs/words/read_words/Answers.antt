@@ -4,3 +4,6 @@ use Rattle.tas_words.proofs.words.read_words.Goals as goal
 
 pub task_by-requires : goal.task_by-requires
 task_by-requires g c = grind (arith, common_steps)
+
+pub returns : goal.returns
+returns g c = grind (arith, common_steps)
