@@ -1,4 +1,5 @@
-use Rattle.std.proofs.Common.{◌+◌, ◌==◌, [], ◌∷◌, ◌++◌, length, refl, ap, sym, ◌∙◌, subst, append_assoc}
+use Rattle.std.proofs.lemmas.Grind.{common_steps}
+use Rattle.std.proofs.Common.{◌+◌, ◌==◌, [], ◌∷◌, ◌++◌, length, refl, ap, sym, ◌∙◌, subst, append_assoc, arith}
 use Rattle.std.specs.Prelude.{if◌then◌else◌}
 use Rattle.tas_movie.specs.Content.{MovieContent}
 use Rattle.tas_movie.specs.Edit.{edited}
@@ -29,3 +30,21 @@ invariant_of-self-2 g c =
           let step = c.add-2.ensures seat ∙ ap (λ n. count_in c.add.new.self seat + (if n == seat then 1 else 0)) (sym c.requires.seat) in
           counted_after once _ last seat _ _ _ one refl step pushed,
     )
+
+pub add-requires-clause-bound : goal.add-requires-clause-bound
+add-requires-clause-bound g c = grind (arith, common_steps)
+
+pub add-requires-2-clause-bound : goal.add-requires-2-clause-bound
+add-requires-2-clause-bound g c = grind (arith, common_steps)
+
+pub returns-clause-done : goal.returns-clause-done
+returns-clause-done g c = grind (arith, common_steps)
+
+pub add-requires-2-clause-room : goal.add-requires-2-clause-room
+add-requires-2-clause-room g c = grind (arith, common_steps)
+
+pub invariant_of-self-in_err-push_step : goal.invariant_of-self-in_err-push_step
+invariant_of-self-in_err-push_step g c = grind (arith, common_steps)
+
+pub invariant_of-self : goal.invariant_of-self
+invariant_of-self g c = grind (arith, common_steps)

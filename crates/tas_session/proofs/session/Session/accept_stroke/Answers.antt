@@ -1,3 +1,4 @@
+use Rattle.std.proofs.lemmas.Grind.{common_steps}
 use Rattle.std.proofs.Common.{◌<◌, length, arith}
 use Rattle.tas_published.specs.Strokes.{edits_of}
 use Rattle.tas_session.proofs.StepLemmas.{on_any_error}
@@ -12,3 +13,12 @@ pub returns-in-Two-clause-some : goal.returns-in-Two-clause-some
 returns-in-Two-clause-some g c =
     let some : 0 < length (edits_of c.args.stroke) = rw c.in-Two.is (omega arith) in
     on_any_error (0 < length (edits_of c.args.stroke)) _ some
+
+pub overflow_add-last : goal.overflow_add-last
+overflow_add-last g c = grind (arith, common_steps)
+
+pub returns-in-Nothing-clause-done : goal.returns-in-Nothing-clause-done
+returns-in-Nothing-clause-done g c = grind (arith, common_steps)
+
+pub returns-in-Two-clause-done : goal.returns-in-Two-clause-done
+returns-in-Two-clause-done g c = grind (arith, common_steps)

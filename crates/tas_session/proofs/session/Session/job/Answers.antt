@@ -1,4 +1,5 @@
-use Rattle.std.proofs.Common.{◌≡◌, ap, subst, subst₂, min, length, take}
+use Rattle.std.proofs.lemmas.Grind.{common_steps}
+use Rattle.std.proofs.Common.{◌≡◌, ap, subst, subst₂, min, length, take, arith}
 use Rattle.std.specs.Prelude.{IfOk}
 use Rattle.tas_green.specs.Grid.{stride}
 use Rattle.tas_green.specs.Zone.{nearest}
@@ -18,3 +19,6 @@ returns-clause-stride g c = subst (λ movie. IfOk c.take.result (λ job. job.str
 pub returns-clause-start : goal.returns-clause-start
 returns-clause-start g c =
     subst₂ (λ movie zone. IfOk c.take.result (λ job. job.start ≡ nearest (min c.args.near (length movie.inputs)) zone)) c.movie.ensures.movie (ap (λ (s : SessionContent _). s.zone) c.self.view_is) c.take.ensures.start
+
+pub take-requires : goal.take-requires
+take-requires g c = grind (arith, common_steps)
