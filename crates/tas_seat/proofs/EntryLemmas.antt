@@ -10,6 +10,13 @@ use Rattle.tas_seat.specs.declared.conversation.Subject.TheVariants.{Movie as Ab
 use Rattle.tas_seat.specs.Inside.Conversing.{subject_of}
 use Rattle.tas_seat.specs.Outcomes.{IsLook}
 
+-- other faults than `NoEntry`
+pub memory_no_entry : Memory ≡ NoEntry → ⊥
+memory_no_entry is = cc is
+
+pub foreign_no_entry : Foreign ≡ NoEntry → ⊥
+foreign_no_entry is = cc is
+
 -- where `Memory` is the one fault, it isn't `NoEntry`
 pub memory_alone : {X : Type 0} (P : X → Type 0) (B : Type 0) (r : Result X RunFault) → MatchResult r P (λ fault. fault ≡ Memory) → IfErr r (λ fault. fault ≡ NoEntry → B)
 memory_alone P B r is = MatchResult-weaker r is (λ _ _. tt) (λ fault e n. absurd (cc (sym e ∙ n)))

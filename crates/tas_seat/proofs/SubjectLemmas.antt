@@ -45,6 +45,26 @@ is_of Quit = refl
 of_subject : (request : Request) (about : Subject) → subject_of request ≡ about → IsOf request about
 of_subject request about is = subst (IsOf request) is (is_of request)
 
+-- ---- kinds of subjects are different
+
+pub begin_no_end : AboutBegin ≡ AboutEnd → ⊥
+begin_no_end is = cc is
+
+pub commit_no_end : AboutCommit ≡ AboutEnd → ⊥
+commit_no_end is = cc is
+
+pub drop_no_end : AboutDrop ≡ AboutEnd → ⊥
+drop_no_end is = cc is
+
+pub desk_no_end : AboutDesk ≡ AboutEnd → ⊥
+desk_no_end is = cc is
+
+pub movie_no_end : AboutMovie ≡ AboutEnd → ⊥
+movie_no_end is = cc is
+
+pub desk_no_movie : AboutDesk ≡ AboutMovie → ⊥
+desk_no_movie is = cc is
+
 -- ---- the other lines
 
 -- a request about the desk is answered in a draft and outside one

@@ -1,4 +1,5 @@
-use Rattle.std.proofs.Common.{◌∙◌, sym, ap}
+use Rattle.std.proofs.lemmas.Grind.{common_steps}
+use Rattle.std.proofs.Common.{◌∙◌, sym, ap, arith}
 use Rattle.std.specs.Prelude.{length}
 use Rattle.tas_movie.specs.Content.{MovieContent}
 use Rattle.tas_language.specs.declared.reply.Reply.TheVariants.{OutOfMemory}
@@ -39,3 +40,6 @@ returns-in_default-open_draft-clause-entry g c = memory_alone _ _ c.answer_of_re
 
 pub returns-clause-entry : goal.returns-clause-entry
 returns-clause-entry g c = memory_alone _ _ c.answer_about_draft-2.result c.answer_about_draft-2.ensures
+
+pub returns-then-is_some-clause-answer : goal.returns-then-is_some-clause-answer
+returns-then-is_some-clause-answer g c = grind (arith, common_steps)

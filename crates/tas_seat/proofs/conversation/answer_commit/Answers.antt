@@ -1,11 +1,12 @@
-use Rattle.std.proofs.Common.{refl, sym, ◌∙◌, Some, None}
+use Rattle.std.proofs.lemmas.Grind.{common_steps}
+use Rattle.std.proofs.Common.{refl, sym, ◌∙◌, Some, None, arith}
 use Rattle.tas_language.specs.Replies.{reply_text}
 use Rattle.tas_language.specs.Drafts.{draft_reply_text}
 use Rattle.tas_language.specs.declared.request.Request.TheVariants.{Commit}
 use Rattle.std.proofs.lemmas.Result.{err_from_is_err_and}
 use Rattle.tas_seat.specs.Conversations.{talking}
 use Rattle.tas_seat.proofs.ConversationLemmas.{said_of, no_outcome}
-use Rattle.tas_seat.proofs.EntryLemmas.{memory_alone}
+use Rattle.tas_seat.proofs.EntryLemmas.{memory_alone, foreign_no_entry}
 use Rattle.tas_seat.proofs.conversation.answer_commit.Goals as goal
 
 pub returns-in-Made-clause-answer : goal.returns-in-Made-clause-answer
@@ -43,4 +44,7 @@ returns-in-Refused-clause-entry g c = memory_alone _ _ c.answer_of_reply.result 
 pub returns-in_err-reply-clause-entry : goal.returns-in_err-reply-clause-entry
 returns-in_err-reply-clause-entry g c =
     let p = err_from_is_err_and c.from_residual.result c.from_residual.ensures.1 in
-    rw (p.1, p.2) (λ e. absurd (cc (sym c.in_err-reply.ensures.0 ∙ e)))
+    rw (p.1, p.2) (λ e. absurd (foreign_no_entry (sym c.in_err-reply.ensures.0 ∙ e)))
+
+pub returns-in_default-clause-answer : goal.returns-in_default-clause-answer
+returns-in_default-clause-answer g c = grind (arith, common_steps)

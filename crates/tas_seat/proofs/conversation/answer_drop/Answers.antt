@@ -1,4 +1,5 @@
-use Rattle.std.proofs.Common.{◌∙◌, refl, sym, ap, None}
+use Rattle.std.proofs.lemmas.Grind.{common_steps}
+use Rattle.std.proofs.Common.{◌∙◌, refl, sym, ap, None, arith}
 use Rattle.std.specs.Prelude.{is_some}
 use Rattle.tas_language.specs.declared.draft_reply.DraftReply.TheVariants.{Dropped}
 use Rattle.tas_language.specs.Drafts.{draft_reply_text}
@@ -17,3 +18,6 @@ returns-then-is_none-clause-entry g c = memory_alone _ _ c.answer_about_draft.re
 
 pub returns-clause-entry : goal.returns-clause-entry
 returns-clause-entry g c = memory_alone _ _ c.answer_about_draft-2.result c.answer_about_draft-2.ensures
+
+pub returns-then-is_none-clause-answer : goal.returns-then-is_none-clause-answer
+returns-then-is_none-clause-answer g c = grind (arith, common_steps)

@@ -1,3 +1,4 @@
+use Rattle.std.proofs.lemmas.Grind.{common_steps}
 use Rattle.std.proofs.Common.{refl, arith}
 use Rattle.tas_seat.proofs.StrokeLemmas.{back_more, back_ends}
 use Rattle.tas_seat.proofs.draft_stroke.common_back.Goals as goal
@@ -11,3 +12,6 @@ loop-back-preserved c = record {
 
 pub returns-else-eq : goal.returns-else-eq
 returns-else-eq c = back_ends c.args.a.now c.args.b.now c.loop-back.back _ _ _ c.eq.result c.eq.ensures.same c.if-eq.false c.loop-back-test.true c.if-back-b.true refl refl c.loop-back.invariant.same
+
+pub returns-else-back-b : goal.returns-else-back-b
+returns-else-back-b c = grind (arith, common_steps)

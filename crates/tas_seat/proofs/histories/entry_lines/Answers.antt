@@ -1,3 +1,4 @@
+use Rattle.std.proofs.lemmas.Grind.{common_steps}
 use Rattle.std.proofs.Common.{◌∙◌, arith}
 use Rattle.tas_seat.proofs.HistoryTextLemmas.{no_lines, lines_more}
 use Rattle.tas_seat.proofs.histories.entry_lines.Goals as goal
@@ -11,3 +12,6 @@ loop-entry-preserved g c = record {
   text = lines_more c.args.first c.loop-entry.number c.loop-entry.entry-index c.args.entries.now c.entry-item.result c.loop-entry.text.items c.push_entry.new.text.items c.loop-entry-test.true c.entry-item.is
       c.loop-entry.invariant.number c.loop-entry.invariant.text c.in_ok-push_entry.ensures.text;
 }
+
+pub returns : goal.returns
+returns g c = grind (arith, common_steps)

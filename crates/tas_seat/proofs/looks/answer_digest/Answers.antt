@@ -1,4 +1,5 @@
-use Rattle.std.proofs.Common.{◌∙◌, refl}
+use Rattle.std.proofs.lemmas.Grind.{common_steps}
+use Rattle.std.proofs.Common.{◌∙◌, refl, arith}
 use Rattle.std.proofs.lemmas.Result.{IfOk-weaker}
 use Rattle.tas_language.specs.declared.request.Request.TheVariants.{Digest}
 use Rattle.tas_seat.specs.Outcomes.{unshown_as}
@@ -26,3 +27,6 @@ returns g c =
     (IfOk-weaker c.digest_frame-bytes.result _ _
     (λ bytes is. digest_answered g.row.A.Denot c.args.seat.now c.state_for.new.seat c.args.frame reached.at reached.ran c.zone_movie.result.now bytes.items c.state_for.ensures.seat reply.3 movie c.in-Ok.ensures.zone c.in-Ok.ensures.window is) c.digest_frame-bytes.ensures)
     (lost_digest g.row.A.Denot c.args.seat.now c.state_for.new.seat c.args.frame reached.ran c.zone_movie.result.now c.state_for.ensures.seat within movie c.in-Ok.ensures.zone c.in-Ok.ensures.window)
+
+pub digest_frame-bytes-requires-clause-begin : goal.digest_frame-bytes-requires-clause-begin
+digest_frame-bytes-requires-clause-begin g c = grind (arith, common_steps)

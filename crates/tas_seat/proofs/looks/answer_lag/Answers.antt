@@ -1,3 +1,4 @@
+use Rattle.std.proofs.lemmas.Grind.{common_steps}
 use Rattle.std.proofs.Common.{◌∙◌, ap, length, subst, sym, arith}
 use Rattle.std.proofs.lemmas.Result.{IfOk-weaker}
 use Rattle.tas_movie.specs.Content.{MovieContent}
@@ -24,3 +25,6 @@ returns g c =
     answered_or c.args.seat.now c.state_for.new.seat (Lag c.args.from c.args.to) c.find_lag-bytes.result c.answer_or_refusal.result (λ bytes. bytes.items) c.answer_or_refusal.ensures
     (IfOk-weaker c.find_lag-bytes.result _ _ (λ bytes is. subst (HasAnswer g.row.A.Denot c.args.seat.now c.state_for.new.seat (Lag c.args.from c.args.to)) (sym is) told) c.find_lag-bytes.ensures)
     (lost_lag g.row.A.Denot c.args.seat.now c.state_for.new.seat c.args.from c.args.to reached.ran c.state_for.ensures.seat reply.0 reply.1 c.in-Ok.ensures.zone c.in-Ok.ensures.window)
+
+pub find_lag-bytes-requires-clause-begin : goal.find_lag-bytes-requires-clause-begin
+find_lag-bytes-requires-clause-begin g c = grind (arith, common_steps)

@@ -1,4 +1,5 @@
-use Rattle.std.proofs.Common.{◌≡◌, ◌+◌, ◌∙◌, List, ℕ, Option, Some, None, Ok, Err, refl, ap}
+use Rattle.std.proofs.lemmas.Grind.{common_steps}
+use Rattle.std.proofs.Common.{◌≡◌, ◌+◌, ◌∙◌, List, ℕ, Option, Some, None, Ok, Err, refl, ap, arith}
 use Rattle.std.proofs.lemmas.Result.{IfOk-weaker}
 use Rattle.vcs_cpu.specs.declared.halt.Halt.{Halt}
 use Rattle.vcs_machine.specs.declared.state.State.{State}
@@ -47,3 +48,6 @@ returns g c =
           ∙ ap (λ (p : List ℕ). frame_digest_text c.args.at k (state_after movie (k + 1)).riot.ram (ppm_bytes p)) drawn;
     })
     c.digest_answer.ensures
+
+pub bounds-inputs-frame : goal.bounds-inputs-frame
+bounds-inputs-frame g c = grind (arith, common_steps)

@@ -1,3 +1,5 @@
+use Rattle.std.proofs.Common.{arith}
+use Rattle.std.proofs.lemmas.Grind.{common_steps}
 use Rattle.std.proofs.lemmas.Result.{err_from_is_err_and}
 use Rattle.tas_seat.proofs.requests.answer_request.Goals as goal
 
@@ -154,3 +156,6 @@ pub returns-in_err-answer_history-in-History-clause-entry : goal.returns-in_err-
 returns-in_err-answer_history-in-History-clause-entry g c =
     let p = err_from_is_err_and c.from_residual-in_err-answer_history-in-History.result c.from_residual-in_err-answer_history-in-History.ensures.1 in
     rw (p.1, p.2) (λ e. absurd (c.in_err-answer_history-in-History.ensures.entry e))
+
+pub returns-in-Begin-clause-answer : goal.returns-in-Begin-clause-answer
+returns-in-Begin-clause-answer g c = grind (arith, common_steps)

@@ -3,7 +3,7 @@ use Rattle.std.proofs.lemmas.Result.{err_from_is_err_and}
 use Rattle.tas_language.specs.Replies.{reply_text}
 use Rattle.tas_language.specs.declared.request.Request.TheVariants.{Retouch}
 use Rattle.tas_seat.proofs.AnswerLemmas.{told_text, miscounted_unanswered, retouch_answered}
-use Rattle.tas_seat.proofs.EntryLemmas.{memory_alone}
+use Rattle.tas_seat.proofs.EntryLemmas.{memory_alone, foreign_no_entry}
 use Rattle.tas_seat.proofs.requests.answer_retouch.Goals as goal
 
 pub returns-clause-answer : goal.returns-clause-answer
@@ -22,4 +22,4 @@ returns-clause-entry g c = memory_alone _ _ c.answer_of_reply.result c.answer_of
 pub returns-in_err-reply-clause-entry : goal.returns-in_err-reply-clause-entry
 returns-in_err-reply-clause-entry g c =
     let p = err_from_is_err_and c.from_residual.result c.from_residual.ensures.1 in
-    rw (p.1, p.2) (λ e. absurd (cc (sym c.in_err-reply.ensures.0 ∙ e)))
+    rw (p.1, p.2) (λ e. absurd (foreign_no_entry (sym c.in_err-reply.ensures.0 ∙ e)))

@@ -3,7 +3,7 @@ use Rattle.tas_language.specs.declared.reply.Reply.TheVariants.{OutOfMemory}
 use Rattle.tas_language.specs.Replies.{reply_text}
 use Rattle.tas_language.specs.declared.request.Request.TheVariants.{Share}
 use Rattle.tas_seat.proofs.AnswerLemmas.{told_text, share_answered, lost_share, unshared_share}
-use Rattle.tas_seat.proofs.EntryLemmas.{memory_alone}
+use Rattle.tas_seat.proofs.EntryLemmas.{memory_alone, memory_no_entry}
 use Rattle.tas_seat.proofs.requests.answer_share.Goals as goal
 
 pub returns-in_default-clause-answer : goal.returns-in_default-clause-answer
@@ -26,4 +26,4 @@ returns-in_default-clause-entry g c = memory_alone _ _ c.answer_of_reply.result 
 pub returns-in_err-share_answer-clause-entry : goal.returns-in_err-share_answer-clause-entry
 returns-in_err-share_answer-clause-entry g c =
     let p = err_from_is_err_and c.from_residual.result c.from_residual.ensures.1 in
-    rw (p.1, p.2) (λ e. absurd (cc e))
+    rw (p.1, p.2) (λ e. absurd (memory_no_entry e))

@@ -1,3 +1,4 @@
+use Rattle.std.proofs.lemmas.Grind.{common_steps}
 use Rattle.std.proofs.Common.{ℕ, [], take, None, ap, arith, rules}
 use Rattle.std.proofs.lemmas.Result.{err_from_is_err_and}
 use Rattle.tas_seat.specs.Conversations.{talking}
@@ -54,3 +55,18 @@ returns-in_err-next g c =
     rw (p.1, p.2)
     (breaks_off c.args.seat.now (talking c.loop.seat c.loop.draft) (talking c.answer_part.new.seat c.answer_part.new.draft) c.loop.written c.loop.line.bytes.items c.answer_part.new.line.bytes.items c.loop.line.long c.answer_part.new.line.long _ _ _ _ _ _ xs part
     (take c.in-Ok-read.count c.read.new.buf) c.in_err-next.field-0.0 way c.in-Ok-read.ensures.bytes.0 (c.in_err-next.ensures part way.holds way.none))
+
+pub slice_bounds-part-end : goal.slice_bounds-part-end
+slice_bounds-part-end g c = grind (arith, common_steps)
+
+pub unreachable-requires : goal.unreachable-requires
+unreachable-requires g c = grind (arith, common_steps)
+
+pub slice_bounds-read-end : goal.slice_bounds-read-end
+slice_bounds-read-end g c = grind (arith, common_steps)
+
+pub slice_bounds-buffer-end : goal.slice_bounds-buffer-end
+slice_bounds-buffer-end g c = grind (arith, common_steps)
+
+pub loop-init-derived : goal.loop-init-derived
+loop-init-derived g c = grind (arith, common_steps)

@@ -1,3 +1,4 @@
+use Rattle.std.proofs.lemmas.Grind.{common_steps}
 use Rattle.std.proofs.Common.{◌+◌, length, subst, sym, ap, ◌∙◌, arith}
 use Rattle.tas_seat.specs.Drafts.{DraftContent}
 use Rattle.tas_seat.specs.Inside.Drafting.{IsDraftShot, with_states}
@@ -14,3 +15,15 @@ returns g c =
     (draft_shot _ d c.shot.new.self c.args.k c.edits-at.result c.count.result _ c.in-Ok-shot.end c.shown.result at (omega (arith, len, c.if-k-len.false)) e.answer e.picture e.lawful
     (played_over d.movie c.args.k (c.args.k + 1) c.count.result d.states c.shot.new.self c.self.invariant.lawful (omega (arith, e.meter, c.count.ensures, c.new-meter.ensures)) e.kept)
     c.shown.ensures.shot c.shown.ensures.halted)
+
+pub returns-in_default-shot : goal.returns-in_default-shot
+returns-in_default-shot g c = grind (arith, common_steps)
+
+pub returns-in_default : goal.returns-in_default
+returns-in_default g c = grind (arith, common_steps)
+
+pub shot-requires-clause-within : goal.shot-requires-clause-within
+shot-requires-clause-within g c = grind (arith, common_steps)
+
+pub returns-then-k-len : goal.returns-then-k-len
+returns-then-k-len g c = grind (arith, common_steps)
