@@ -1,3 +1,5 @@
+use Rattle.std.proofs.Common.{arith}
+use Rattle.std.proofs.lemmas.Grind.{common_steps}
 use Rattle.std.proofs.lemmas.Result.{err_from_is_err_and}
 use Rattle.tas_tool.proofs.DeskLemmas.{desk_unread, desk_read}
 use Rattle.tas_tool.proofs.desk_runs.desk_run.Goals as goal
@@ -9,3 +11,9 @@ returns-in_err-movie g c =
 
 pub returns : goal.returns
 returns g c = desk_read g.D.Door.facts c.args.doors.now.items c.desk_on.new.doors.items c.in_ok-movie.movie _ _ _ _ _ _ c.desk_on.result c.in_ok-movie.ensures c.desk_on.ensures
+
+pub desk_on-requires-clause-few : goal.desk_on-requires-clause-few
+desk_on-requires-clause-few g c = grind (arith, common_steps)
+
+pub desk_on-requires-clause-some : goal.desk_on-requires-clause-some
+desk_on-requires-clause-some g c = grind (arith, common_steps)

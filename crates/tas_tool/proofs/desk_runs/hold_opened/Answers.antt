@@ -1,4 +1,5 @@
-use Rattle.std.proofs.Common.{List, length, refl, sym, ap, subst, ◌∙◌}
+use Rattle.std.proofs.lemmas.Grind.{common_steps}
+use Rattle.std.proofs.Common.{List, length, refl, sym, ap, subst, ◌∙◌, arith}
 use Rattle.tas_desk.specs.Seats.{SeatContent}
 use Rattle.tas_tool.specs.Inside.Holding.{AreFresh, AreNumbered}
 use Rattle.tas_tool.proofs.HoldingLemmas.{whole_back, whole_lent, unmade_closed, desk_history, held_as}
@@ -33,3 +34,21 @@ returns-clause-history g c =
     desk_history g.D.Door.facts c.args.movie c.args.doors.now.items c.hold_made.new.doors.items c.put_for_all.new.seats _ _
     (c.put_for_all.ensures.count ∙ ap (λ l. length l) c.as_mut_slice.ensures.value ∙ c.requires.count.1 ∙ sym c.requires.count.0) c.in_default.ensures.movie c.put_for_all.ensures.numbers c.put_for_all.ensures.others c.in_default.ensures.zones
     (held_as g.D.Door.facts c.args.doors.now.items _ c.hold_made.new.doors.items c.put_for_all.new.seats _ _ _ refl back c.hold_made.ensures.history)
+
+pub returns-in-Err-clause-unopened : goal.returns-in-Err-clause-unopened
+returns-in-Err-clause-unopened g c = grind (arith, common_steps)
+
+pub returns-clause-movie : goal.returns-clause-movie
+returns-clause-movie g c = grind (arith, common_steps)
+
+pub hold_made-requires-clause-ends : goal.hold_made-requires-clause-ends
+hold_made-requires-clause-ends g c = grind (arith, common_steps)
+
+pub hold_made-requires-clause-doors : goal.hold_made-requires-clause-doors
+hold_made-requires-clause-doors g c = grind (arith, common_steps)
+
+pub hold_made-requires-clause-callers : goal.hold_made-requires-clause-callers
+hold_made-requires-clause-callers g c = grind (arith, common_steps)
+
+pub hold_made-requires-clause-seats : goal.hold_made-requires-clause-seats
+hold_made-requires-clause-seats g c = grind (arith, common_steps)

@@ -1,3 +1,4 @@
+use Rattle.std.proofs.lemmas.Grind.{common_steps}
 use Rattle.std.proofs.Common.{◌<◌, length, get_or, subst, arith}
 use mathlib.Core.List.{IsPrefix}
 use Rattle.tas_published.proofs.PrefixLemmas.{prefix_trans}
@@ -20,3 +21,12 @@ loop-other-preserved g c =
           (prefix_trans c.args.first.now.front c.loop-other.first.front c.meet.new.one.front at.first.seen.begins c.meet.ensures.one.seen.begins));
       rest = set_past c.loop-other.others was i other at.rest;
     }
+
+pub offset_bounds-others-other-index : goal.offset_bounds-others-other-index
+offset_bounds-others-other-index g c = grind (arith, common_steps)
+
+pub loop-other-init : goal.loop-other-init
+loop-other-init g c = grind (arith, common_steps)
+
+pub returns-clause-met : goal.returns-clause-met
+returns-clause-met g c = grind (arith, common_steps)

@@ -1,3 +1,4 @@
+use Rattle.std.proofs.lemmas.Grind.{common_steps}
 use Rattle.std.proofs.Common.{length, inl, inr, sym, ap, ◌∙◌, arith}
 use Rattle.tas_tool.proofs.HoldingLemmas.{none_left, none_moved, one_moved}
 use Rattle.tas_tool.proofs.holding.pair_up.Goals as goal
@@ -47,3 +48,9 @@ returns-clause-doors g c =
       | inl w ↦ omega (arith, l.same, it.a.rest.ok.0, w.1.0)
       | inr w ↦ omega (arith, it.b.rest.ok.0, w.1.0)
     ]) l.doors
+
+pub loop-seat-init-derived : goal.loop-seat-init-derived
+loop-seat-init-derived g c = grind (arith, common_steps)
+
+pub push_reserved-requires : goal.push_reserved-requires
+push_reserved-requires g c = grind (arith, common_steps)

@@ -1,4 +1,5 @@
-use Rattle.std.proofs.Common.{List, refl, subst, ◌∙◌}
+use Rattle.std.proofs.lemmas.Grind.{common_steps}
+use Rattle.std.proofs.Common.{List, refl, subst, ◌∙◌, arith}
 use Rattle.tas_desk.specs.Seats.{SeatContent}
 use Rattle.tas_tool.specs.Inside.Holding.{AreFresh}
 use Rattle.tas_tool.proofs.HoldingLemmas.{fresh_numbered, all_met, not_met, zones_blank}
@@ -38,3 +39,18 @@ pub returns-clause-zones : goal.returns-clause-zones
 returns-clause-zones g c =
     let fresh = subst (λ (l : List (SeatContent _)). AreFresh l) c.in-Some.ensures.cases.0 c.requires.fresh in
     zones_blank c.in-Some.first.now c.meet_all.new.first c.in-Some.others.now c.meet_all.new.others fresh (c.meet_all.ensures.first.zone ∙ c.put_movie.ensures.zone) c.meet_all.auto.others c.meet_all.ensures.others
+
+pub returns-in_err-put_movie-clause-fault : goal.returns-in_err-put_movie-clause-fault
+returns-in_err-put_movie-clause-fault g c = grind (arith, common_steps)
+
+pub returns-in_default-clause-fault : goal.returns-in_default-clause-fault
+returns-in_default-clause-fault g c = grind (arith, common_steps)
+
+pub returns-in_default-clause-others : goal.returns-in_default-clause-others
+returns-in_default-clause-others g c = grind (arith, common_steps)
+
+pub returns-in_default-clause-numbers : goal.returns-in_default-clause-numbers
+returns-in_default-clause-numbers g c = grind (arith, common_steps)
+
+pub returns-clause-count : goal.returns-clause-count
+returns-clause-count g c = grind (arith, common_steps)

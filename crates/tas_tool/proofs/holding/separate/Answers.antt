@@ -1,3 +1,4 @@
+use Rattle.std.proofs.lemmas.Grind.{common_steps}
 use Rattle.std.proofs.Common.{arith}
 use Rattle.std.proofs.lemmas.List.{nil_from_length}
 use Rattle.tas_tool.proofs.HoldingLemmas.{all_moved, room_for_one}
@@ -50,3 +51,9 @@ returns-clause-ends g c =
     let l = c.loop-caller.invariant in
     let rest = c.loop-caller.caller-iterator.rest in
     all_moved _ c.loop-caller.yielded rest.items c.args.callers.items _ l.ends (omega (arith, rest.ok.0, c.in-None.ensures.steps.0)) l.rest
+
+pub loop-caller-preserved : goal.loop-caller-preserved
+loop-caller-preserved g c = grind (arith, common_steps)
+
+pub loop-caller-init-derived : goal.loop-caller-init-derived
+loop-caller-init-derived g c = grind (arith, common_steps)

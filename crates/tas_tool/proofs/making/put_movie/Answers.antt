@@ -1,4 +1,5 @@
-use Rattle.std.proofs.Common.{Ok, Err, subst, sym, ◌∙◌}
+use Rattle.std.proofs.lemmas.Grind.{common_steps}
+use Rattle.std.proofs.Common.{Ok, Err, subst, sym, ◌∙◌, arith}
 use Rattle.std.proofs.lemmas.Result.{err_from_is_err_and}
 use Rattle.tas_tool.specs.Inside.TwoEdits.{IsMakingFault}
 use Rattle.tas_tool.proofs.MakingLemmas.{loaded, movie_made, insert_refused, load_refused, unrefused_at_first, load_unrefused, insert_unrefused, compared}
@@ -63,3 +64,6 @@ returns-in-Err-edit-clause-memory g c = λ e.
 
 pub returns-in-Ok-edit-clause-memory : goal.returns-in-Ok-edit-clause-memory
 returns-in-Ok-edit-clause-memory g c = compared c.edit-2.new.seat c.args.movie.now _ c.unless_foreign.result c.unless_foreign.ensures
+
+pub returns-in-Err-clause-number : goal.returns-in-Err-clause-number
+returns-in-Err-clause-number g c = grind (arith, common_steps)

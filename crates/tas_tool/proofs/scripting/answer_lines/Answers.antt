@@ -1,3 +1,4 @@
+use Rattle.std.proofs.lemmas.Grind.{common_steps}
 use Rattle.std.proofs.Common.{◌≡◌, ◌<◌, ◌++◌, ◌∷◌, [], length, refl, sym, ◌∙◌, arith, rules}
 use Rattle.std.proofs.lemmas.Bool.{eqb-true, eqb-false}
 use Rattle.std.proofs.lemmas.Result.{err_from_is_err_and}
@@ -118,3 +119,6 @@ returns-clause-answers g c = λ own.
     let i = c.loop-rest.invariant in
     let (turns, a) = i.answered own in
     (sees_before c.args.seat.now c.loop-rest.seat i.left.0 i.left.1 own, (turns, reads_all _ _ turns (omega (arith, eqb-true _ _ (sym c.is_empty.ensures ∙ c.loop-rest-test.false))) a.reads, a.replies))
+
+pub overflow_add-number : goal.overflow_add-number
+overflow_add-number g c = grind (arith, common_steps)
