@@ -1,5 +1,5 @@
--- Polls: an LDA of an absolute address and a BNE back to it, again and again until the byte there is 0.
-use Rattle.std.specs.Prelude.{◌≡◌, ◌<◌, ℕ, zero, suc, Bool, false}
+-- Polls: an LDA of an absolute address and a branch back to it, again and again: a BNE until the byte there is 0, or a BEQ while it is.
+use Rattle.std.specs.Prelude.{◌≡◌, ◌<◌, ◌==◌, ℕ, zero, suc, Bool, false}
 use Rattle.vcs_cpu.specs.declared.bus.Poll.{Poll}
 use Rattle.vcs_cpu.specs.Device.{Device}
 use Rattle.vcs_cpu.specs.Operands.{address_after}
@@ -30,10 +30,10 @@ module _ {Bus Content : Type 0} (d : Device Content) (content_of : Bus → Conte
     pub settles : Settles bus bus false
 
   -- a content on which a poll leads back to itself: its five bytes of code are those that another content shows, the byte that it
-  -- reads isn't 0, and the bus rests after each of its two instructions
+  -- reads takes its branch, and the bus rests after each of its two instructions
   pub record IsPoll (poll : Poll) (start c : Content) : Type 0 where
     pub lda : (k : ℕ) → k < 3 → d.byte_at c (address_after poll.pc k) ≡ d.byte_at start (address_after poll.pc k)
-    pub bne : (k : ℕ) → k < 5 → d.byte_at (after_poll_read d poll c) (address_after poll.pc k) ≡ d.byte_at start (address_after poll.pc k)
-    pub some : 0 < polled_byte d poll c
+    pub back : (k : ℕ) → k < 5 → d.byte_at (after_poll_read d poll c) (address_after poll.pc k) ≡ d.byte_at start (address_after poll.pc k)
+    pub taken : (polled_byte d poll c == 0) ≡ poll.while_zero
     pub read : Rests (after_poll_read d poll c)
     pub branch : Rests (after_poll d poll c)

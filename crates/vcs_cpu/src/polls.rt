@@ -1,7 +1,7 @@
-//! Polls: loops of an LDA and a BNE that wait for a byte to become 0.
+//! Polls: loops of an LDA and a BNE that wait for a byte to become 0, or of an LDA and a BEQ that wait for another byte.
 #![tactic(auto)]
 
-ghost use Rattle.std.specs.Prelude.{◌≡◌, ℕ, ◌+◌, ◌/◌, ◌%◌, ◌==◌, ◌<◌, not, true};
+ghost use Rattle.std.specs.Prelude.{◌≡◌, ℕ, ◌+◌, ◌/◌, ◌%◌, ◌==◌, ◌<◌, not, true, if◌then◌else◌};
 ghost use Rattle.vcs_cpu.specs.declared.regs.Regs.{Regs};
 ghost use Rattle.vcs_cpu.specs.Operands.{IsCode, address_after};
 ghost use Rattle.vcs_cpu.specs.Effects.{after_load_a};
@@ -21,21 +21,29 @@ use crate::running::perform_and_settle;
 /// The first two bytes of a code that is a BNE to five bytes before its end, the opcode as the lower one.
 const BNE_BACK: u32 = 0xfbd0;
 
+/// The same of a BEQ.
+const BEQ_BACK: u32 = 0xfbf0;
+
 /// The opcode of a BNE.
 const BNE: u32 = 0xd0;
+
+/// The opcode of a BEQ.
+const BEQ: u32 = 0xf0;
 
 /// Whether an LDA's code may be a poll's: its highest byte, which a bus need not fill in, is the next opcode where
 /// the bus took four bytes at once. It is only a hint: the code after the LDA is looked at before polls pass.
 #[inline(always)]
 fn may_begin_poll(code: u32) -> bool {
-    code / 16777216 == BNE
+    let next = code / 16777216;
+    next == BNE || next == BEQ
 }
 
-/// Whether a code is that of a BNE which ends a poll: it goes back to three bytes before itself. `false` proves nothing.
-fn ends_poll(code: u32) -> bool
-    ensures { result ≡ true → code % 65536 ≡ 0xfbd0 }
+/// Whether a code is that of a BNE, or with `while_zero` of a BEQ, which ends a poll: it goes back to three bytes before
+/// itself. `false` proves nothing.
+fn ends_poll(code: u32, while_zero: bool) -> bool
+    ensures { result ≡ true → code % 65536 ≡ (if while_zero then 0xfbf0 else 0xfbd0) }
 {
-    code % 65536 == BNE_BACK
+    code % 65536 == if while_zero { BEQ_BACK } else { BNE_BACK }
 }
 
 /// The CPU cycles of a poll's branch, whose LDA is at an address: a page that it crosses adds one.
@@ -83,7 +91,8 @@ fn pass_polls_at<B: Settle>(code: u32, pc: u16, bus: &mut B) -> (u32, u8)
     ensures fixed { B.fixed bus.new ≡ B.fixed bus.old }
 {
     let next = bus.fetch(pc.wrapping_add(3));
-    if !ends_poll(next) {
+    let while_zero = next % 256 == BEQ;
+    if !ends_poll(next, while_zero) {
         return (0, 0);
     }
     let address = operand_word(code, pc, bus);
@@ -91,6 +100,7 @@ fn pass_polls_at<B: Settle>(code: u32, pc: u16, bus: &mut B) -> (u32, u8)
         pc,
         address,
         branch: branch_cycles(pc),
+        while_zero,
     };
     bus.pass_polls(poll)
 }

@@ -1,5 +1,6 @@
 -- Polls of the timer while nothing else happens.
-use Rattle.std.proofs.Common.{◌≡◌, ℕ, zero, suc, ◌+◌, ◌*◌, ◌/◌, ◌%◌, ◌==◌, ◌&&◌, ◌<◌, ◌≤◌, ◌∙◌, not, ap, sym, subst, refl, Bool, true, false, true≢false, List, [], ◌++◌, arith}
+use Rattle.std.proofs.Common.{◌≡◌, ℕ, zero, suc, ◌+◌, ◌*◌, ◌/◌, ◌%◌, ◌==◌, ◌&&◌, ◌<◌, ◌≤◌, ◌∙◌, ap, sym, subst, refl, Bool, true, false, true≢false, List, [], ◌++◌, if◌then◌else◌, arith}
+use Rattle.std.proofs.lemmas.Bool.Decides.{nat_tests}
 use Rattle.std.proofs.Math.Nat.{mul-le-mul_right}
 use Rattle.vcs_cpu.specs.declared.bus.Poll.{Poll}
 use Rattle.vcs_cpu.specs.Operands.{address_after}
@@ -7,9 +8,10 @@ use Rattle.vcs_cpu.specs.Polls.{Rests, IsPoll, polled_byte, after_poll_read, aft
 use Rattle.vcs_cpu.specs.Runs.{IsSettled}
 use Rattle.vcs_riot.specs.declared.chip.Pins.{Pins}
 use Rattle.vcs_riot.specs.declared.chip.Riot.{Riot}
+use Rattle.vcs_riot.specs.declared.timer.Timer.{Timer}
 use Rattle.vcs_riot.specs.Address.{is_high}
-use Rattle.vcs_riot.specs.Chip.{riot_after_ticks, riot_after_load, byte_at}
-use Rattle.vcs_riot.specs.Timer.{IsAboveZero, after_count_loaded}
+use Rattle.vcs_riot.specs.Chip.{riot_after_ticks, riot_after_load, byte_at, timer_byte_at, timer_after_load}
+use Rattle.vcs_riot.specs.Timer.{after_count_loaded, status_of}
 use Rattle.vcs_tia.specs.declared.chip.Tia.{Tia}
 use Rattle.vcs_tia.specs.declared.chip.Sync.{Sync}
 use Rattle.vcs_tia.specs.Tia.{clocks_passed}
@@ -17,10 +19,11 @@ use Rattle.vcs_tia.proofs.Later.{sync-after_clocks}
 use Rattle.vcs_inputs.specs.Cart.{rom_byte}
 use Rattle.vcs_machine.specs.declared.address.Region.{Region}
 use Rattle.vcs_machine.specs.declared.address.Region.TheVariants as region
-use Rattle.vcs_machine.specs.Address.{selected, are_ports_and_timer, is_intim}
+use Rattle.vcs_machine.specs.Address.{selected, are_ports_and_timer, is_timer}
 use Rattle.vcs_machine.specs.Bus.{Board, Observed, observed_of, byte_of, loaded, board_byte_at, board_after_load, bus_device, after_time}
 use Rattle.vcs_machine.specs.Inside.Chips.{IsStill}
 use Rattle.vcs_machine.specs.Inside.Times.{end_time}
+use Rattle.vcs_machine.specs.Inside.Waiting.{IsWait, MayWait}
 use Rattle.vcs_machine.specs.Inside.Console.{content_of, ticks_of, clocks_of}
 use Rattle.vcs_machine.specs.Frame.{console_settling}
 use Rattle.vcs_machine.specs.declared.bus.ConsoleBus.{ConsoleBus}
@@ -29,37 +32,48 @@ use Rattle.vcs_machine.proofs.Lagging.{lagging_of, after_time-add, after_wait-no
 use Rattle.vcs_machine.proofs.BusTime.{past}
 use Rattle.vcs_machine.proofs.Selecting.{lines_of_ports}
 
--- what INTIM's addresses select, and their lines A2 and A0
-record AreIntim (s : Region) (d e : Bool) : Type 0 where
+-- what the timer's addresses select, and their line A2
+record AreTimer (s : Region) (d : Bool) : Type 0 where
   pub selects : s ≡ region.PortsAndTimer
   pub timer : d ≡ true
-  pub status : e ≡ false
 
-intim_lines : (s : Region) (timer status : Bool) → (are_ports_and_timer s && (timer && not status)) ≡ true → AreIntim s timer status
-intim_lines region.PortsAndTimer true false e = record { selects = refl; timer = refl; status = refl }
-intim_lines region.PortsAndTimer false status e = absurd (true≢false (sym e))
-intim_lines region.PortsAndTimer true true e = absurd (true≢false (sym e))
-intim_lines region.Cartridge timer status e = absurd (true≢false (sym e))
-intim_lines region.Ram timer status e = absurd (true≢false (sym e))
-intim_lines region.Tia timer status e = absurd (true≢false (sym e))
+timer_lines : (s : Region) (timer : Bool) → (are_ports_and_timer s && timer) ≡ true → AreTimer s timer
+timer_lines region.PortsAndTimer true e = record { selects = refl; timer = refl }
+timer_lines region.PortsAndTimer false e = absurd (true≢false (sym e))
+timer_lines region.Cartridge timer e = absurd (true≢false (sym e))
+timer_lines region.Ram timer e = absurd (true≢false (sym e))
+timer_lines region.Tia timer e = absurd (true≢false (sym e))
 
-lines_of : (addr : ℕ) → is_intim addr ≡ true → AreIntim (selected addr) (is_high 2 addr) (is_high 0 addr)
-lines_of addr = intim_lines (selected addr) (is_high 2 addr) (is_high 0 addr)
+lines_of : (addr : ℕ) → is_timer addr ≡ true → AreTimer (selected addr) (is_high 2 addr)
+lines_of addr = timer_lines (selected addr) (is_high 2 addr)
 
--- a read of INTIM shows the count
-pub intim-riot : (r : Riot) (pins : Pins) (addr : ℕ) → is_intim addr ≡ true → byte_at addr pins r ≡ r.timer.count
-intim-riot r pins addr is = let l = lines_of addr is in rw ((lines_of_ports addr l.selects).upper, l.timer, l.status) refl
+-- what a read of the timer shows
+pub timer-riot : (r : Riot) (pins : Pins) (addr : ℕ) → is_timer addr ≡ true → byte_at addr pins r ≡ timer_byte_at addr r.timer
+timer-riot r pins addr is = let l = lines_of addr is in rw ((lines_of_ports addr l.selects).upper, l.timer) refl
 
-pub intim-byte : (b : Board) (addr : ℕ) → is_intim addr ≡ true → board_byte_at b addr ≡ b.riot.timer.count
-intim-byte b addr is = ap (λ s. byte_of s b addr) (lines_of addr is).selects ∙ intim-riot b.riot b.pins addr is
+pub timer-byte : (b : Board) (addr : ℕ) → is_timer addr ≡ true → board_byte_at b addr ≡ timer_byte_at addr b.riot.timer
+timer-byte b addr is = ap (λ s. byte_of s b addr) (lines_of addr is).selects ∙ timer-riot b.riot b.pins addr is
 
--- above 0 it changes nothing
-intim-load : (b : Board) (addr : ℕ) → is_intim addr ≡ true → IsAboveZero b.riot.timer → board_after_load b addr ≡ b
-intim-load b addr is above =
+-- while polls wait, it takes their branch
+wait-taken : (status while_zero : Bool) (t : Timer) → status ≡ while_zero → MayWait while_zero t → ((if status then status_of t else t.count) == 0) ≡ while_zero
+wait-taken true true t e may = rw may refl
+wait-taken false false t e may = let some = may.0 in grind (arith, nat_tests, some)
+wait-taken true false t e may = absurd (true≢false e)
+wait-taken false true t e may = absurd (true≢false (sym e))
+
+-- and it changes nothing
+wait-load : (status while_zero : Bool) (t : Timer) → status ≡ while_zero → MayWait while_zero t → (if status then t else after_count_loaded t) ≡ t
+wait-load true true t e may = refl
+wait-load false false t e may = ap (λ (f : Bool). record t { flag = f }) (sym may.1.1)
+wait-load true false t e may = absurd (true≢false e)
+wait-load false true t e may = absurd (true≢false (sym e))
+
+timer-load : (b : Board) (addr : ℕ) (while_zero : Bool) → is_timer addr ≡ true → is_high 0 addr ≡ while_zero → MayWait while_zero b.riot.timer → board_after_load b addr ≡ b
+timer-load b addr while_zero is status may =
     let l = lines_of addr is in
-    let same : riot_after_load addr b.riot ≡ record b.riot { timer = after_count_loaded b.riot.timer } = rw ((lines_of_ports addr l.selects).upper, l.timer, l.status) refl in
+    let same : riot_after_load addr b.riot ≡ record b.riot { timer = timer_after_load addr b.riot.timer } = rw ((lines_of_ports addr l.selects).upper, l.timer) refl in
     ap (λ s. loaded s b addr) l.selects ∙ ap (λ (r : Riot). record b { riot = r }) same
-    ∙ ap (λ (f : Bool). record b { riot = record b.riot { timer = record b.riot.timer { flag = f } } }) (sym above.1.1)
+    ∙ ap (λ (t : Timer). record b { riot = record b.riot { timer = t } }) (wait-load (is_high 0 addr) while_zero b.riot.timer status may)
 
 add-one : (i period : ℕ) → suc i * period ≡ i * period + period
 add-one i period = grind arith
@@ -99,50 +113,50 @@ module _ {Seen : Type 0} (observe : List Tia → Seen → Seen) (nil : (s : Seen
       let all : clocks + 3 * (n + k) ≡ clocks + 3 * n + 3 * k = omega arith in
       sym (after_time-add observe nil append n k (n + k) (clocks + 3 * n) (3 * k) (clocks + 3 * (n + k)) (observed_of rom pins riot t seen) refl all)
 
-  -- the count so many cycles later is above 0
-  abbrev pub IsAbove : ℕ → Type 0
-  IsAbove n = IsAboveZero (riot_after_ticks n riot).timer
-
-  module _ (pc address branch : ℕ) (is : is_intim address ≡ true) where
+  module _ (pc address branch : ℕ) (while_zero : Bool) (is : is_timer address ≡ true) (status : is_high 0 address ≡ while_zero) where
     abbrev pub poll : Poll
-    poll = record { pc = pc; address = address; branch = branch }
+    poll = record { pc = pc; address = address; branch = branch; while_zero = while_zero }
 
-    later-read : (n : ℕ) → IsAbove (n + 4) → after_poll_read (bus_device observe) poll (later n) ≡ later (n + 4)
-    later-read n above =
+    -- the polls still wait so many cycles later
+    abbrev pub WaitsAt : ℕ → Type 0
+    WaitsAt n = MayWait while_zero (riot_after_ticks n riot).timer
+
+    later-read : (n : ℕ) → WaitsAt (n + 4) → after_poll_read (bus_device observe) poll (later n) ≡ later (n + 4)
+    later-read n waits =
         ap (λ (o : Observed Seen). record o { board = board_after_load o.board address }) (later-advance n 4)
-        ∙ ap (λ (b : Board). record (later (n + 4)) { board = b }) (intim-load (later (n + 4)).board address is above)
+        ∙ ap (λ (b : Board). record (later (n + 4)) { board = b }) (timer-load (later (n + 4)).board address while_zero is status waits)
 
-    later-poll : (n : ℕ) → IsAbove (n + 4) → after_poll (bus_device observe) poll (later n) ≡ later (n + (4 + branch))
-    later-poll n above =
+    later-poll : (n : ℕ) → WaitsAt (n + 4) → after_poll (bus_device observe) poll (later n) ≡ later (n + (4 + branch))
+    later-poll n waits =
         let all : n + 4 + branch ≡ n + (4 + branch) = omega arith in
-        ap (λ (o : Observed Seen). after_time observe branch (3 * branch) o) (later-read n above) ∙ later-advance (n + 4) branch ∙ ap later all
+        ap (λ (o : Observed Seen). after_time observe branch (3 * branch) o) (later-read n waits) ∙ later-advance (n + 4) branch ∙ ap later all
 
-    -- i polls, each of which reads a count above 0
-    pub later-polls : (i n : ℕ) → ((j : ℕ) → j < i → IsAbove (n + j * (4 + branch) + 4)) → after_polls (bus_device observe) poll i (later n) ≡ later (n + i * (4 + branch))
-    later-polls zero n above = let same : n ≡ n + 0 * (4 + branch) = omega arith in ap later same
-    later-polls (suc i) n above =
+    -- i polls, at each of whose reads they still wait
+    pub later-polls : (i n : ℕ) → ((j : ℕ) → j < i → WaitsAt (n + j * (4 + branch) + 4)) → after_polls (bus_device observe) poll i (later n) ≡ later (n + i * (4 + branch))
+    later-polls zero n waits = let same : n ≡ n + 0 * (4 + branch) = omega arith in ap later same
+    later-polls (suc i) n waits =
         let first : n + 0 * (4 + branch) + 4 ≡ n + 4 = omega arith in
         let all : n + (4 + branch) + i * (4 + branch) ≡ n + suc i * (4 + branch) = grind arith in
-        ap (after_polls (bus_device observe) poll i) (later-poll n (subst IsAbove first (above 0 (omega arith))))
+        ap (after_polls (bus_device observe) poll i) (later-poll n (subst WaitsAt first (waits 0 (omega arith))))
         ∙ later-polls i (n + (4 + branch)) (λ j h.
         let next : n + suc j * (4 + branch) + 4 ≡ n + (4 + branch) + j * (4 + branch) + 4 = grind arith in
-        subst IsAbove next (above (suc j) (omega (arith, h))))
+        subst WaitsAt next (waits (suc j) (omega (arith, h))))
         ∙ ap later all
 
     -- what a poll reads
-    pub later-byte : (n : ℕ) → polled_byte (bus_device observe) poll (later n) ≡ (riot_after_ticks (n + 4) riot).timer.count
-    later-byte n = ap (λ (o : Observed Seen). board_byte_at o.board address) (later-advance n 4) ∙ intim-byte (later (n + 4)).board address is
+    pub later-byte : (n : ℕ) → polled_byte (bus_device observe) poll (later n) ≡ timer_byte_at address (riot_after_ticks (n + 4) riot).timer
+    later-byte n = ap (λ (o : Observed Seen). board_byte_at o.board address) (later-advance n 4) ∙ timer-byte (later (n + 4)).board address is
 
     pub later-is_poll : {Bus : Type 0} (content_of : Bus → Observed Seen) (Settles : Bus → Bus → Bool → Type 0) (start : Observed Seen) (n : ℕ) →
-        start.board.rom ≡ rom → 4096 ≤ pc % 8192 → pc % 8192 ≤ 8187 → pc < 65536 → IsAbove (n + 4) →
+        start.board.rom ≡ rom → 4096 ≤ pc % 8192 → pc % 8192 ≤ 8187 → pc < 65536 → WaitsAt (n + 4) →
         Rests (bus_device observe) content_of Settles (later (n + 4)) → Rests (bus_device observe) content_of Settles (later (n + (4 + branch))) →
         IsPoll (bus_device observe) content_of Settles poll start (later n)
-    later-is_poll content_of Settles start n same first last fits above read end = record {
+    later-is_poll content_of Settles start n same first last fits waits read end = record {
       lda = λ k few. same_code (later n).board start.board pc k (sym same) first last fits (omega (arith, few));
-      bne = λ k few. ap (λ (o : Observed Seen). board_byte_at o.board (address_after pc k)) (later-read n above) ∙ same_code (later (n + 4)).board start.board pc k (sym same) first last fits few;
-      some = subst (λ v. 0 < v) (sym (later-byte n)) above.0;
-      read = subst (Rests (bus_device observe) content_of Settles) (sym (later-read n above)) read;
-      branch = subst (Rests (bus_device observe) content_of Settles) (sym (later-poll n above)) end;
+      back = λ k few. ap (λ (o : Observed Seen). board_byte_at o.board (address_after pc k)) (later-read n waits) ∙ same_code (later (n + 4)).board start.board pc k (sym same) first last fits few;
+      taken = ap (λ v. v == 0) (later-byte n) ∙ wait-taken (is_high 0 address) while_zero (riot_after_ticks (n + 4) riot).timer status waits;
+      read = subst (Rests (bus_device observe) content_of Settles) (sym (later-read n waits)) read;
+      branch = subst (Rests (bus_device observe) content_of Settles) (sym (later-poll n waits)) end;
     }
 
 -- how buses settle
@@ -178,13 +192,13 @@ module _ {O : Type 0} {observer : Ghosts O} (nil : (s : observer.Seen) → obser
             (later-settled observer.observe nil append b.rom.now b.pins b.riot.now b.tia.now (observer.seen b.observer.now) (clocks_of b) n still low);
       }
 
-  module _ (poll : Poll) (is : is_intim poll.address ≡ true) (polls above_zero : ℕ) (above : (n : ℕ) → n < above_zero → IsAboveZero (riot_after_ticks n b.riot.now).timer)
-      (reads : (i : ℕ) → i < polls → i * (4 + poll.branch) + 4 < above_zero) (fit : b.count + polls * (4 + poll.branch) < end_time) where
+  module _ (poll : Poll) (is : IsWait poll) (polls to_wait : ℕ) (waits : (n : ℕ) → n < to_wait → MayWait poll.while_zero (riot_after_ticks n b.riot.now).timer)
+      (reads : (i : ℕ) → i < polls → i * (4 + poll.branch) + 4 < to_wait) (fit : b.count + polls * (4 + poll.branch) < end_time) where
     pub at-polls : (i : ℕ) → i ≤ polls → after_polls (bus_device observer.observe) poll i (content_of b) ≡ at (0 + i * (4 + poll.branch))
     at-polls i few =
         ap (after_polls (bus_device observer.observe) poll i) (sym at-now)
-        ∙ later-polls observer.observe nil append b.rom.now b.pins b.riot.now b.tia.now (observer.seen b.observer.now) (clocks_of b) poll.pc poll.address poll.branch is i 0
-        (λ j h. let read = reads j (omega (arith, h, few)) in above (0 + j * (4 + poll.branch) + 4) (omega (arith, read)))
+        ∙ later-polls observer.observe nil append b.rom.now b.pins b.riot.now b.tia.now (observer.seen b.observer.now) (clocks_of b) poll.pc poll.address poll.branch poll.while_zero is.0 is.1 i 0
+        (λ j h. let read = reads j (omega (arith, h, few)) in waits (0 + j * (4 + poll.branch) + 4) (omega (arith, read)))
 
     at-is_poll : (i : ℕ) → i < polls → 4096 ≤ poll.pc % 8192 → poll.pc % 8192 ≤ 8187 → poll.pc < 65536 →
         IsPoll (bus_device observer.observe) (content_of {O = O} {observer = observer}) settles_of poll (content_of b) (after_polls (bus_device observer.observe) poll i (content_of b))
@@ -192,9 +206,9 @@ module _ {O : Type 0} {observer : Ghosts O} (nil : (s : observer.Seen) → obser
         let read = reads i h in
         let within = polls-before i polls (4 + poll.branch) h in
         subst (IsPoll (bus_device observer.observe) (content_of {O = O} {observer = observer}) settles_of poll (content_of b)) (sym (at-polls i (omega (arith, h))))
-        (later-is_poll observer.observe nil append b.rom.now b.pins b.riot.now b.tia.now (observer.seen b.observer.now) (clocks_of b) poll.pc poll.address poll.branch is
+        (later-is_poll observer.observe nil append b.rom.now b.pins b.riot.now b.tia.now (observer.seen b.observer.now) (clocks_of b) poll.pc poll.address poll.branch poll.while_zero is.0 is.1
         (content_of {O = O} {observer = observer}) settles_of (content_of b) (0 + i * (4 + poll.branch)) refl first last fits
-        (above (0 + i * (4 + poll.branch) + 4) (omega (arith, read)))
+        (waits (0 + i * (4 + poll.branch) + 4) (omega (arith, read)))
         (at-rests (0 + i * (4 + poll.branch) + 4) (omega (arith, within, fit)))
         (at-rests (0 + i * (4 + poll.branch) + (4 + poll.branch)) (omega (arith, within, fit))))
 
@@ -213,6 +227,6 @@ module _ {O : Type 0} {observer : Ghosts O} (nil : (s : observer.Seen) → obser
         let all : polls * (4 + poll.branch) ≡ i * (4 + poll.branch) + (4 + poll.branch) = ap (λ n. n * (4 + poll.branch)) next ∙ add-one i (4 + poll.branch) in
         let same : last ≡ 0 + i * (4 + poll.branch) + 4 = omega (arith, all, end) in
         ap (λ n. byte_at poll.address b.pins (riot_after_ticks n b.riot.now)) same
-        ∙ intim-riot (riot_after_ticks (0 + i * (4 + poll.branch) + 4) b.riot.now) b.pins poll.address is
-        ∙ sym (later-byte observer.observe nil append b.rom.now b.pins b.riot.now b.tia.now (observer.seen b.observer.now) (clocks_of b) poll.pc poll.address poll.branch is (0 + i * (4 + poll.branch)))
+        ∙ timer-riot (riot_after_ticks (0 + i * (4 + poll.branch) + 4) b.riot.now) b.pins poll.address is.0
+        ∙ sym (later-byte observer.observe nil append b.rom.now b.pins b.riot.now b.tia.now (observer.seen b.observer.now) (clocks_of b) poll.pc poll.address poll.branch poll.while_zero is.0 is.1 (0 + i * (4 + poll.branch)))
         ∙ ap (polled_byte (bus_device observer.observe) poll) (sym (at-polls i (omega (arith, more))))

@@ -1,5 +1,5 @@
 -- The address map (Stella Programmer's Guide, "The 2600 Programming Environment", "The PIA (6532)").
-use Rattle.std.specs.Prelude.{ℕ, Bool, true, false, not, ◌&&◌, if◌then◌else◌}
+use Rattle.std.specs.Prelude.{ℕ, Bool, true, false, ◌&&◌, if◌then◌else◌}
 use Rattle.vcs_riot.specs.Address.{is_high}
 use Rattle.vcs_machine.specs.declared.address.Region.{Region}
 use Rattle.vcs_machine.specs.declared.address.Region.TheVariants.{Cartridge, Ram, PortsAndTimer, Tia}
@@ -22,6 +22,6 @@ abbrev pub are_ports_and_timer : Region → Bool
 are_ports_and_timer PortsAndTimer = true
 are_ports_and_timer _ = false
 
--- whether an address is one of INTIM's: of the timer's, which have A2 high, those with A0 low
-abbrev pub is_intim : ℕ → Bool
-is_intim addr = are_ports_and_timer (selected addr) && (is_high 2 addr && not (is_high 0 addr))
+-- whether an address is one of the timer's, which have A2 high: INTIM's with A0 low, INSTAT's with A0 high
+abbrev pub is_timer : ℕ → Bool
+is_timer addr = are_ports_and_timer (selected addr) && is_high 2 addr

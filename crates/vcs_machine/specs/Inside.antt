@@ -7,3 +7,4 @@ pub mod Sending
 pub mod Times
 pub mod TraceFrames
 pub mod Noting
+pub mod Waiting

@@ -2,19 +2,42 @@
 #![tactic(auto)]
 
 ghost use Rattle.std.specs.Prelude.{◌≡◌, ℕ, ◌+◌, ◌*◌, ◌%◌, ◌<◌, ◌≤◌, true};
-ghost use Rattle.vcs_machine.specs.Address.{bus_addresses, is_intim};
+ghost use Rattle.vcs_machine.specs.Address.{bus_addresses, is_timer};
+ghost use Rattle.vcs_machine.specs.Inside.Waiting.{IsWait, MayWait};
+ghost use Rattle.vcs_riot.specs.Chip.{riot_after_ticks};
 
 use crate::address::{Region, selected};
-use vcs_riot::is_high;
+use vcs_cpu::Poll;
+use vcs_riot::{Riot, is_high};
 
-/// Whether an address is one of INTIM's.
+/// Whether an address is one of the timer's: INTIM's, which have A0 low, or INSTAT's, which have it high.
 #[inline(always)]
-pub(crate) fn is_intim(address: u16) -> bool
-    ensures { result ≡ is_intim address }
+fn is_timer(address: u16) -> bool
+    ensures { result ≡ is_timer address }
 {
     match selected(address) {
-        Region::PortsAndTimer => is_high(2, address) && !is_high(0, address),
+        Region::PortsAndTimer => is_high(2, address),
         _ => false,
+    }
+}
+
+/// Whether polls wait for the timer: for INTIM to show 0, or for INSTAT to show the flag.
+#[inline(always)]
+pub(crate) fn is_wait(poll: &Poll) -> bool
+    ensures { result ≡ true → IsWait poll.now }
+{
+    is_timer(poll.address) && is_high(0, poll.address) == poll.while_zero
+}
+
+/// For how many cycles from now a poll that waits for the timer goes on, and its read changes nothing.
+pub(crate) fn cycles_to_wait(riot: &Riot, while_zero: bool) -> u32
+    ensures { (n : ℕ) → n < result
+        → MayWait while_zero (riot_after_ticks n riot.now).timer }
+{
+    if while_zero {
+        riot.cycles_without_flag()
+    } else {
+        riot.cycles_above_zero()
     }
 }
 
@@ -30,16 +53,16 @@ pub(crate) fn is_in_cartridge(pc: u16) -> bool
 }
 
 /// How many polls of `period` cycles can pass within `cycles`: each reads after its first four cycles, and fewer than
-/// `above_zero` cycles have passed at each read.
-pub(crate) fn polls_within(above_zero: u32, cycles: u16, period: u16) -> u16
+/// `to_wait` cycles have passed at each read.
+pub(crate) fn polls_within(to_wait: u32, cycles: u16, period: u16) -> u16
     requires { 4 ≤ period }
-    ensures reads { (i : ℕ) → i < result → i * period + 4 < above_zero }
+    ensures reads { (i : ℕ) → i < result → i * period + 4 < to_wait }
     ensures fit { result * period ≤ cycles }
 {
-    if above_zero <= 4 {
+    if to_wait <= 4 {
         return 0;
     }
-    let reads = (above_zero - 5) / period as u32 + 1;
+    let reads = (to_wait - 5) / period as u32 + 1;
     let whole = (cycles / period) as u32;
     whole.min(reads) as u16
 }

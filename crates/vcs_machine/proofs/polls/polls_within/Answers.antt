@@ -4,9 +4,9 @@ use Rattle.vcs_machine.proofs.polls.polls_within.Goals as goal
 
 pub returns-clause-reads : goal.returns-clause-reads
 returns-clause-reads c = λ i h.
-    let a = c.args.above_zero in
+    let a = c.args.to_wait in
     let p = c.args.period in
-    let some = c.if-above_zero-le4.false in
+    let some = c.if-to_wait-le4.false in
     let few : i ≤ (a - 5) / p = omega (arith, h) in
     let most = at_least_intervals (a - 5) i p few in
     omega (arith, most, some)

@@ -49,13 +49,13 @@ returns-clause-content g c =
     let poll = c.args.poll in
     let polls = c.polls_within-polls.result in
     let fit = c.polls_within-polls.ensures.fit in
-    let is = sym c.is_intim.ensures ∙ c.if-not-is_intim.false in
+    let is = c.is_wait.ensures c.if-not-is_wait.false in
     let first : polls * (4 + poll.branch) ≡ 0 + polls * (4 + poll.branch) = omega arith in
     lagging-same g.O.Observer.observe g.met.O.Observer.observe_nil g.met.O.Observer.observe_append b.rom.now b.pins b.riot.now b.tia.now (g.O.Observer.seen b.observer.now) _ _ (polls * (4 + poll.branch)) (clocks_of b + 3 * (polls * (4 + poll.branch)))
     (omega (arith, c.catch_up_riot.ensures.ticks, b.riot_past)) (omega (arith, b.tia_past))
     ∙ ap (at g.met.O.Observer.observe_nil g.met.O.Observer.observe_append b c.catch_up_riot.ensures.ticks) first
-    ∙ sym (at-polls g.met.O.Observer.observe_nil g.met.O.Observer.observe_append b c.catch_up_riot.ensures.ticks poll is polls c.cycles_above_zero-above_zero.result
-    c.cycles_above_zero-above_zero.ensures.above c.polls_within-polls.ensures.reads (omega (arith, fit, c.if-self-ge-END.false)) polls (omega arith))
+    ∙ sym (at-polls g.met.O.Observer.observe_nil g.met.O.Observer.observe_append b c.catch_up_riot.ensures.ticks poll is polls c.cycles_to_wait-to_wait.result
+    c.cycles_to_wait-to_wait.ensures c.polls_within-polls.ensures.reads (omega (arith, fit, c.if-self-ge-END.false)) polls (omega arith))
     ∙ ap (after_polls (bus_device g.O.Observer.observe) poll polls) c.catch_up_riot.ensures.content
 
 pub returns-clause-polls : goal.returns-clause-polls
@@ -64,9 +64,9 @@ returns-clause-polls g c = λ i h.
     let poll = c.args.poll in
     let polls = c.polls_within-polls.result in
     let fit = c.polls_within-polls.ensures.fit in
-    let is = sym c.is_intim.ensures ∙ c.if-not-is_intim.false in
-    at-is_poll-from g.met.O.Observer.observe_nil g.met.O.Observer.observe_append b c.catch_up_riot.ensures.ticks poll is polls c.cycles_above_zero-above_zero.result
-    c.cycles_above_zero-above_zero.ensures.above c.polls_within-polls.ensures.reads (omega (arith, fit, c.if-self-ge-END.false)) (content_of c.args.self.now) c.catch_up_riot.ensures.content i h
+    let is = c.is_wait.ensures c.if-not-is_wait.false in
+    at-is_poll-from g.met.O.Observer.observe_nil g.met.O.Observer.observe_append b c.catch_up_riot.ensures.ticks poll is polls c.cycles_to_wait-to_wait.result
+    c.cycles_to_wait-to_wait.ensures c.polls_within-polls.ensures.reads (omega (arith, fit, c.if-self-ge-END.false)) (content_of c.args.self.now) c.catch_up_riot.ensures.content i h
     (c.is_in_cartridge.ensures.first c.if-not-is_in_cartridge.false) (c.is_in_cartridge.ensures.last c.if-not-is_in_cartridge.false) c.is_in_cartridge.ensures.fits
 
 pub returns-clause-byte : goal.returns-clause-byte
@@ -75,11 +75,11 @@ returns-clause-byte g c = λ i more.
     let poll = c.args.poll in
     let polls = c.polls_within-polls.result in
     let fit = c.polls_within-polls.ensures.fit in
-    let is = sym c.is_intim.ensures ∙ c.if-not-is_intim.false in
+    let is = c.is_wait.ensures c.if-not-is_wait.false in
     let within = polls-before i polls (4 + poll.branch) (omega (arith, more)) in
     c.read_after-byte.ensures
-    ∙ at-byte g.met.O.Observer.observe_nil g.met.O.Observer.observe_append b c.catch_up_riot.ensures.ticks poll is polls c.cycles_above_zero-above_zero.result
-    c.cycles_above_zero-above_zero.ensures.above c.polls_within-polls.ensures.reads (omega (arith, fit, c.if-self-ge-END.false)) i (polls * (4 + poll.branch) - poll.branch) more (omega (arith, within))
+    ∙ at-byte g.met.O.Observer.observe_nil g.met.O.Observer.observe_append b c.catch_up_riot.ensures.ticks poll is polls c.cycles_to_wait-to_wait.result
+    c.cycles_to_wait-to_wait.ensures c.polls_within-polls.ensures.reads (omega (arith, fit, c.if-self-ge-END.false)) i (polls * (4 + poll.branch) - poll.branch) more (omega (arith, within))
     ∙ ap (λ (o : Observed g.O.Observer.Seen). polled_byte (bus_device g.O.Observer.observe) poll (after_polls (bus_device g.O.Observer.observe) poll i o)) c.catch_up_riot.ensures.content
 
 pub returns-clause-ready : goal.returns-clause-ready
