@@ -1,8 +1,6 @@
 -- Whatever the input of a lag frame, its next machine and its picture are the same.
 use Rattle.std.proofs.Common.{◌≡◌, ℕ, zero, suc, Bool, true, false, not, ◌&&◌, ◌||◌, if◌then◌else◌, List, [], Option, Some, None, Result, Ok, Err, ◌∙◌, ap, sym, refl, subst}
-use Rattle.std.specs.List.{list_any}
 use Rattle.std.proofs.lemmas.Bool.{false≢true}
-use Rattle.vcs_cpu.specs.Reads.{addresses_read}
 use Rattle.vcs_cpu.specs.Steps.{Step}
 use Rattle.vcs_cpu.specs.declared.regs.Regs.{Regs}
 use Rattle.vcs_cpu.specs.declared.halt.Halt.{Halt}
@@ -14,12 +12,12 @@ use Rattle.vcs_tia.specs.Picture.{blank_picture}
 use Rattle.vcs_tia.proofs.Later.{drawn-alike}
 use Rattle.vcs_tia.proofs.Traces.{drawn-append}
 use Rattle.vcs_inputs.specs.declared.input.Input.{Input}
-use Rattle.vcs_machine.specs.Bus.{Observed, board_byte_at, nothing_seen}
+use Rattle.vcs_machine.specs.Bus.{Observed, nothing_seen}
 use Rattle.vcs_machine.specs.Step.{console_step}
 use Rattle.vcs_machine.specs.Frame.{FrameEnd, end_within, end_or_next, is_frame_over}
 use Rattle.vcs_machine.specs.Machine.{Machine, frame_start, machine_at_end, listed, frame_end, frame, frame_trace, frame_picture, unless_halted, listed_clocks}
 use Rattle.vcs_machine.specs.Inside.Observing.{drawn-nil}
-use Rattle.vcs_machine.specs.Lag.{shows_input, ignores_input, last_or_next, is_ignored_within, is_lag_frame, IsSameFrame}
+use Rattle.vcs_machine.specs.Lag.{ignores_input, last_or_next, is_ignored_within, is_lag_frame, IsSameFrame}
 use Rattle.vcs_machine.proofs.AlikeSteps.{EndAlike}
 use Rattle.vcs_machine.proofs.AlikeInputs.{tia_unpressed, AlikeButInput, console_step-alike}
 use Rattle.vcs_machine.proofs.Observers.{seen_by, step_seen_by, result_seen_by, option_seen_by, console_step_seen_by, end_within_seen_by}
