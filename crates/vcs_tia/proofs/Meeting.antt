@@ -99,7 +99,7 @@ unfolding after_clocks
 blank_clocks zero t low = refl
 blank_clocks (suc n) t low = blank_latches n t low
 
-beam_later : (n : ℕ) (t : Tia) → t.beam.clock < 228 → (after_clocks n t).beam ≡ beam_after_clocks n t.beam
+pub beam_later : (n : ℕ) (t : Tia) → t.beam.clock < 228 → (after_clocks n t).beam ≡ beam_after_clocks n t.beam
 unfolding after_clocks after_clock
 beam_later zero t low = beam_none t.beam low
 beam_later (suc n) t low = beam_later n (after_clock t) (beam_low t.beam low) ∙ beam_step n t.beam
