@@ -267,7 +267,7 @@ class Run:
         self.seen["digest: more than 600 frames without EVERY"] += every is None and len(frames) > 600
         every = every or 600
         text = hands.movie_text(cart, frames)
-        lines = ["a26digest 1", "profile 2", "cart " + sha256(cart).hexdigest(), "movie " + sha256(text).hexdigest()]
+        lines = ["a26digest 1", f"profile {machine.PROFILE}", "cart " + sha256(cart).hexdigest(), "movie " + sha256(text).hexdigest()]
         for first in range(0, len(frames), every):
             last = min(first + every, len(frames))
             lines.append("frames %d to %d ram %s picture %s" % (

@@ -69,7 +69,7 @@ def ram_lines(played, first, last):
 def digest_lines(played, every):
     """Where no frame is halted."""
     text = cartridges.movie_text(played.cartridge, played.inputs).encode()
-    lines = ["a26digest 1", "profile 2", "cart " + hex_digest(played.cartridge), "movie " + hex_digest(text)]
+    lines = ["a26digest 1", f"profile {machine.PROFILE}", "cart " + hex_digest(played.cartridge), "movie " + hex_digest(text)]
     for begin in range(0, len(played.frames), every):
         stretch = played.frames[begin:begin + every]
         lines.append("frames %d to %d ram %s picture %s" % (

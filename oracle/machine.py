@@ -11,6 +11,9 @@ from collections import namedtuple
 
 from tia import BLACK, LAST_LINE, ROWS, VBLANK, WIDTH, Tia, bit
 
+# The page's number of this machine.
+PROFILE = 2
+
 
 # ---- Section 1, "Opcodes" --------------------------------------------------------------------------------------------
 

@@ -5,6 +5,7 @@ use Rattle.std.specs.List.{range_with_len, flat_map}
 use Rattle.sha2.specs.Sha256.{sha256}
 use Rattle.hex.specs.Hex.{encode_lower}
 use Rattle.vcs_tia.specs.Image.{ppm_bytes}
+use Rattle.vcs_machine.specs.Machine.{profile}
 use Rattle.tas_movie.specs.Content.{MovieContent}
 use Rattle.tas_movie.specs.Text.{text2}
 use Rattle.tas_green.specs.Run.{state_after, picture_of}
@@ -43,7 +44,7 @@ digest_line name bytes = name ++ digest_of bytes ++ codes "\n"
 
 -- the first four lines: what it is, the machine's profile, the cartridge's digest, and that of the movie's text of runs
 abbrev pub digest_head : MovieContent → List ℕ
-digest_head movie = codes "a26digest 1\nprofile 2\n" ++ digest_line (codes "cart ") movie.cart ++ digest_line (codes "movie ") (text2 movie)
+digest_head movie = codes "a26digest 1\nprofile " ++ decimal profile ++ codes "\n" ++ digest_line (codes "cart ") movie.cart ++ digest_line (codes "movie ") (text2 movie)
 
 -- the last line
 abbrev pub digest_end : ℕ → List ℕ

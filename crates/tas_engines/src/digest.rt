@@ -31,7 +31,7 @@ use std::alloc::{AllocError, Allocator};
 use std::io::{Read, Write};
 use tas_movie::{Movie, print_text};
 use vcs_cpu::Halt;
-use vcs_machine::State;
+use vcs_machine::{PROFILE, State};
 use vcs_tia::{PIXMAP_SIZE, Picture};
 
 /// How many hexadecimal digits a digest has.
@@ -230,7 +230,9 @@ fn digest_head<A: Allocator + Copy>(alloc: A, movie: &Movie<A>) -> Result<Vec<u8
     ensures { IfOk result (λ out. out.items ≡ digest_head movie.now) }
 {
     let text = print_text(alloc, movie)?;
-    let mut out = Vec::from_slice(alloc, b"a26digest 1\nprofile 2\n")?;
+    let mut out = Vec::from_slice(alloc, b"a26digest 1\nprofile ")?;
+    push_number(&mut out, PROFILE)?;
+    out.push(b'\n')?;
     push_digest(&mut out, b"cart ", movie.cart().bytes())?;
     push_digest(&mut out, b"movie ", text.as_slice())?;
     Ok(out)

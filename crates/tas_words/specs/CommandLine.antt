@@ -1,5 +1,5 @@
 -- The command line, as clap's definitions see it.
-use Rattle.std.specs.Prelude.{◌≡◌, ℕ, pos, List, [], ◌∷◌, ◌++◌, Option, Some, None, true, false, codes, drop, fold, map, option_map}
+use Rattle.std.specs.Prelude.{◌≡◌, ℕ, pos, List, [], ◌∷◌, ◌++◌, Option, Some, None, true, false, codes, decimal, drop, fold, map, option_map}
 use Rattle.std.specs.Int.{int_max, int_min}
 use Rattle.clap.specs.Values.{signed_between}
 use Rattle.clap.specs.Simple.{App, Shape, app_of, filled_from, help_rule, version_rule, new_rule, new_shape, subcommand_of, with_subcommand}
@@ -8,6 +8,7 @@ use Rattle.clap.specs.declared.builder.action.ArgAction.TheVariants.{Set}
 use Rattle.clap.specs.declared.builder.command.Command.{Command}
 use Rattle.clap.specs.declared.builder.command.Command.TheViews.{out-Command}
 use Rattle.clap.specs.declared.builder.value_parser.ValueParser.{ValueParser}
+use Rattle.vcs_machine.specs.Machine.{profile}
 use Rattle.tas_language.specs.Commands.{most_number}
 use Rattle.tas_film.specs.Runs.{most_workers}
 use Rattle.tas_words.specs.declared.subcommands.Subcommand.{Subcommand}
@@ -16,6 +17,10 @@ use Rattle.tas_words.specs.declared.subcommands.WordKind.{WordKind}
 use Rattle.tas_words.specs.declared.subcommands.WordKind.TheVariants.{File, OptionalFile, PairedFile, Flag, Number, OptionalNumber}
 use Rattle.tas_words.specs.declared.task.Task.{Task}
 use Rattle.tas_words.specs.Task.{HasWords, most_traced, most_every}
+
+-- what `tas --version` prints after the program's name: the program's version, and the number of the machine's profile
+abbrev pub version_text : Text
+version_text = codes "0.3.0, machine profile " ++ decimal profile
 
 -- ---- the commands. Public contracts cite `IsAsked`, at the end, and so `command_line` and `named_command`; private functions cite the rest
 

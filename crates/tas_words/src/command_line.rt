@@ -2,14 +2,19 @@
 
 ghost use Rattle.std.specs.Prelude.{◌≡◌, IfOk, None, false, map};
 ghost use Rattle.clap.specs.Words.{app_of, rule_of};
-ghost use Rattle.tas_words.specs.CommandLine.{empty_line, flag_rule, may_number_rule, may_word_rule, number_rule, paired_word_rule, rule_of_word, with_commands, word_rule, HasRules, IsCommandLine};
+ghost use Rattle.tas_words.specs.CommandLine.{empty_line, flag_rule, may_number_rule, may_word_rule, number_rule, paired_word_rule, rule_of_word, version_text, with_commands, word_rule, HasRules, IsCommandLine};
 
 use crate::subcommands::{Subcommand, Word, WordKind, first_subcommands, later_subcommands};
 use clap::{Arg, ArgAction, Command, value_parser};
 use std::alloc::{AllocError, Global};
 
-/// The versions that `tas --version` prints: the program's, and that of docs/MACHINE.md.
-static VERSION: &str = "0.3.0, machine profile 2";
+/// What `tas --version` prints after the program's name: the program's version, and the number of the machine's profile. The proof
+/// compares it with that of `vcs_machine`.
+fn version<'a>() -> &'a str
+    ensures { result.now ≡ version_text }
+{
+    "0.3.0, machine profile 2"
+}
 
 const TAS_HELP: &str = "\
 Standard input is read whole before anything is written to standard output; 'talk' reads it line by line,
@@ -137,7 +142,7 @@ fn empty_line<'a>(alloc: Global) -> Result<Command<'a>, AllocError>
     Ok(
         Command::new(alloc, "tas")
             .bin_name("tas")?
-            .version(VERSION)
+            .version(version())
             .about("Replays movies of Atari 2600 cartridges, exactly and from power-on")
             .after_help(TAS_HELP)
             .subcommand_required(true)
