@@ -13,7 +13,7 @@ use Rattle.std.specs.Prelude.{Option}
 use Rattle.tas_published.specs.declared.reader_view.ReaderView.{ReaderView}
 use Rattle.tas_published.specs.Published.{PublishedContent, PublisherContent, StepContent, step_of, view_of, after, pushed_by, IsSoundPublished, IsCurrent, Follows}
 use Rattle.tas_published.specs.declared.journal.Step.{Step}
-use Rattle.tas_published.specs.Inside.Steps.{entries_in}
+use Rattle.tas_published.specs.Strokes.{entries_in}
 use Rattle.tas_published.specs.Strokes.{edits_in, edited_by, AreNext}
 use Rattle.tas_published.proofs.HistoryLemmas.{movie_of-on, legal-on, room-on}
 

@@ -12,7 +12,7 @@ use Rattle.tas_published.specs.declared.entry.Entry.{Entry}
 use Rattle.tas_published.specs.declared.reader_view.ReaderView.{ReaderView}
 use Rattle.tas_published.specs.Version.{VersionContent}
 use Rattle.tas_published.specs.History.{movie_of, IsLegal}
-use Rattle.tas_published.specs.Inside.Steps.{entries_in}
+use Rattle.tas_published.specs.Strokes.{entries_in}
 use Rattle.tas_published.specs.Published.{PublishedContent, published_of, IsSoundPublished, HasSeenPrefix, HasSeenAll, HasSeenMore, HasStepMore, Holds, Sees, PublishesStep, PublishesNothing, learned, view_of, blank_view, StepContent, after, Follows, IsCurrent}
 use Rattle.tas_published.proofs.PrefixLemmas.{prefix_trans, prefix_self, prefix_shorter}
 use Rattle.tas_published.proofs.HistoryLemmas.{legal_none, movie_of-none}

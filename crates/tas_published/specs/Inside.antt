@@ -1,3 +1,2 @@
 -- What names shapes of the code: invariants and private contracts need it, no reader of a promise does.
 pub mod Registry
-pub mod Steps

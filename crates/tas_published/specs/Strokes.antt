@@ -5,6 +5,8 @@ use Rattle.tas_movie.specs.declared.edit.Edit.{Edit}
 use Rattle.tas_movie.specs.declared.edit.EditRefusal.{EditRefusal}
 use Rattle.tas_movie.specs.Edit.{refusal, edited, first_refusal}
 use Rattle.tas_published.specs.declared.entry.Entry.{Entry}
+use Rattle.tas_published.specs.declared.journal.Step.{Step}
+use Rattle.tas_published.specs.declared.journal.Step.TheVariants as step
 use Rattle.tas_published.specs.declared.stroke.Stroke.{Stroke}
 use Rattle.tas_published.specs.declared.stroke.Stroke.TheVariants.{Nothing, One, Two}
 use Rattle.tas_published.specs.History.{most_edits, entries_of, movie_of}
@@ -38,3 +40,8 @@ refusal_in movie (edit ∷ edits) = first_refusal (refusal movie edit) (refusal_
 abbrev pub AreNext : {A : Type 0} → List (Entry A) → List (Entry A) → Type 0
 AreNext history [] = Unit {0}
 AreNext history (entry ∷ entries) = IsNextEntry history entry × AreNext (history ++ entry ∷ []) entries
+
+-- the entries of a step, in order
+abbrev pub entries_in : {A : Type 0} → Step A → List (Entry A)
+entries_in (step.One entry) = entry ∷ []
+entries_in (step.Two entry next) = entry ∷ next ∷ []

@@ -15,7 +15,7 @@ use Rattle.tas_session.specs.declared.replies.EditError.{EditError}
 use Rattle.tas_published.specs.declared.reader_view.ReaderView.{ReaderView}
 use Rattle.tas_published.specs.Published.{PublishedContent, PublisherContent, StepContent, step_of, view_of, after, pushed_by, IsSoundPublished, IsCurrent, Follows}
 use Rattle.tas_published.specs.declared.journal.Step.{Step}
-use Rattle.tas_published.specs.Inside.Steps.{entries_in}
+use Rattle.tas_published.specs.Strokes.{entries_in}
 use Rattle.tas_published.specs.Strokes.{edits_in, edited_by, AreNext}
 use Rattle.tas_published.proofs.HistoryLemmas.{movie_of-on, legal-on, room-on}
 

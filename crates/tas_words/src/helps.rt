@@ -51,7 +51,8 @@ written.
 Example:
   examples/cart joystick > joystick.bin
   ./tas film joystick.bin < examples/joystick.movie |
-    ffmpeg -y -f ppm_pipe -framerate 60 -i - -vf scale=640:420:flags=neighbor -pix_fmt yuv420p film.mp4";
+    ffmpeg -y -f ppm_pipe -frame_size 100815 -framerate 60 -i - \
+      -vf scale=640:420:flags=neighbor -pix_fmt yuv420p film.mp4";
 
 pub(crate) const EXPORT_HELP: &str = "\
 Standard input is the movie text, as for 'tas check'.
@@ -63,7 +64,8 @@ there is 'tas film', which writes each picture as soon as it is played.
 Example:
   examples/cart joystick > joystick.bin
   ./tas export joystick.bin 0 120 4 < examples/joystick.movie |
-    ffmpeg -y -f ppm_pipe -framerate 60 -i - -vf scale=640:420:flags=neighbor -pix_fmt yuv420p film.mp4";
+    ffmpeg -y -f ppm_pipe -frame_size 100815 -framerate 60 -i - \
+      -vf scale=640:420:flags=neighbor -pix_fmt yuv420p film.mp4";
 
 pub(crate) const RAM_HELP: &str = "\
 Standard input is the movie text, as for 'tas check'.
