@@ -9,12 +9,10 @@ use Rattle.std.specs.Prelude.{take}
 use Rattle.tas_published.specs.declared.entry.Entry.{Entry}
 use Rattle.tas_published.specs.Version.{VersionContent, version_of}
 use Rattle.tas_published.specs.History.{most_edits, movie_of, IsLegal}
-use Rattle.std.specs.Prelude.{Option}
 use Rattle.tas_published.specs.declared.reader_view.ReaderView.{ReaderView}
 use Rattle.tas_published.specs.Published.{PublishedContent, PublisherContent, StepContent, step_of, view_of, after, pushed_by, IsSoundPublished, IsCurrent, Follows}
 use Rattle.tas_published.specs.declared.journal.Step.{Step}
-use Rattle.tas_published.specs.Strokes.{entries_in}
-use Rattle.tas_published.specs.Strokes.{edits_in, edited_by, AreNext}
+use Rattle.tas_published.specs.Strokes.{entries_in, edits_in, edited_by, AreNext}
 use Rattle.tas_published.proofs.HistoryLemmas.{movie_of-on, legal-on, room-on}
 
 sound_pushed : {A : Type 0} (x : PublishedContent A) (log es : List (Entry A)) (b : Book) → x.version.history ≡ log → IsSoundPublished x → AreNext log es → IsSoundPublished (after x (step_of (edits_in es) (version_of b (log ++ es))))

@@ -1,14 +1,11 @@
 -- Histories that grow by an entry.
-use Rattle.std.proofs.Common.{◌≡◌, ℕ, ◌+◌, ◌<◌, ◌≤◌, List, [], ◌∷◌, ◌++◌, length, take, refl, ap, sym, ◌∙◌, subst, arith, length-append, append_assoc}
+use Rattle.std.proofs.Common.{◌≡◌, ◌+◌, ◌≤◌, List, [], ◌∷◌, ◌++◌, length, refl, ap, sym, ◌∙◌, subst, arith, length-append, append_assoc}
 use Rattle.std.proofs.lemmas.List.{append-nil}
 use Rattle.tas_movie.specs.Content.{MovieContent, blank_movie}
-use Rattle.std.specs.Prelude.{◌==◌, if◌then◌else◌}
-use Rattle.std.proofs.lemmas.List.Sums.{sum_by-append}
-use Rattle.tas_movie.specs.Edit.{edited, edited_place, IsAllowed}
+use Rattle.tas_movie.specs.Edit.{edited}
 use Rattle.tas_published.specs.declared.entry.Entry.{Entry}
-use Rattle.tas_published.specs.History.{most_edits, movie_from, movie_of, entries_of, IsLegal, IsLegalEntry}
+use Rattle.tas_published.specs.History.{most_edits, movie_from, movie_of, IsLegal, IsLegalEntry}
 use Rattle.tas_published.specs.Strokes.{edits_in, edited_by, AreNext}
-use Rattle.tas_published.specs.History.{IsNextEntry}
 
 movie_from-push : {A : Type 0} (movie : MovieContent) (history : List (Entry A)) (entry : Entry A) → movie_from movie (history ++ entry ∷ []) ≡ edited (movie_from movie history) entry.edit
 unfolding movie_from

@@ -11,8 +11,7 @@ use Rattle.tas_published.specs.declared.reader_view.ReaderView.{ReaderView}
 use Rattle.tas_published.specs.Version.{VersionContent}
 use Rattle.tas_published.specs.History.{most_edits, most_counted, movie_of, IsLegal}
 use Rattle.tas_published.specs.declared.journal.Step.{Step}
-use Rattle.tas_published.specs.Strokes.{entries_in}
-use Rattle.tas_published.specs.Strokes.{edits_in, edited_by}
+use Rattle.tas_published.specs.Strokes.{entries_in, edits_in, edited_by}
 
 -- a movie, the number of edits that made it, and these edits with their registry
 pub record PublishedContent (A : Type 0) : Type 0 where

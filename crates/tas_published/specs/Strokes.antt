@@ -1,5 +1,5 @@
 -- Strokes: edits that become one step of the history.
-use Rattle.std.specs.Prelude.{◌≡◌, ℕ, ◌+◌, ◌==◌, nat_lt, List, [], ◌∷◌, ◌++◌, length, fold, map, if◌then◌else◌, Option, Some, None}
+use Rattle.std.specs.Prelude.{ℕ, ◌+◌, List, [], ◌∷◌, ◌++◌, fold, map, Option, None}
 use Rattle.tas_movie.specs.Content.{MovieContent}
 use Rattle.tas_movie.specs.declared.edit.Edit.{Edit}
 use Rattle.tas_movie.specs.declared.edit.EditRefusal.{EditRefusal}
@@ -9,7 +9,6 @@ use Rattle.tas_published.specs.declared.journal.Step.{Step}
 use Rattle.tas_published.specs.declared.journal.Step.TheVariants as step
 use Rattle.tas_published.specs.declared.stroke.Stroke.{Stroke}
 use Rattle.tas_published.specs.declared.stroke.Stroke.TheVariants.{Nothing, One, Two}
-use Rattle.tas_published.specs.History.{most_edits, entries_of, movie_of}
 use Rattle.tas_published.specs.History.{IsNextEntry}
 
 -- the edits of a stroke, in order

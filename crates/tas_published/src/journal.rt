@@ -2,8 +2,7 @@
 
 ghost use Rattle.std.specs.Prelude.{◌≡◌, List, [], ◌∷◌, ◌++◌, length, IfOk, MatchResult};
 ghost use Rattle.tas_published.specs.declared.entry.Entry.{Entry};
-ghost use Rattle.tas_published.specs.Strokes.{edits_of, edits_in};
-ghost use Rattle.tas_published.specs.Strokes.{entries_in};
+ghost use Rattle.tas_published.specs.Strokes.{edits_of, edits_in, entries_in};
 
 use crate::{Entry, Stroke};
 use std::alloc::{AllocError, Allocator, Global};

@@ -7,8 +7,7 @@ ghost use Rattle.tas_movie.specs.Content.{blank_movie};
 ghost use Rattle.tas_movie.specs.Edit.{edited};
 ghost use Rattle.tas_published.specs.History.{IsNextEntry};
 ghost use Rattle.tas_published.specs.Version.{version_of};
-ghost use Rattle.tas_published.specs.Strokes.{AreNext};
-ghost use Rattle.tas_published.specs.Strokes.{entries_in};
+ghost use Rattle.tas_published.specs.Strokes.{AreNext, entries_in};
 ghost use Rattle.tas_published.specs.Published.{published_of, blank_view, after, HasSeenAll, HasStepMore, Follows, pushed_by, learned, view_of, KnowsRegistry};
 
 use crate::Entry;

@@ -1,8 +1,7 @@
 use Rattle.std.proofs.lemmas.Grind.{common_steps}
 use Rattle.std.proofs.Common.{length, ap, sym, ◌∙◌, subst, arith}
 use Rattle.tas_published.specs.Version.{VersionContent}
-use Rattle.tas_published.specs.Strokes.{AreNext}
-use Rattle.tas_published.specs.Strokes.{entries_in}
+use Rattle.tas_published.specs.Strokes.{AreNext, entries_in}
 use Rattle.tas_published.specs.Published.{PublisherContent}
 use Rattle.tas_published.proofs.EntryLemmas.{follows, accepted_as, change_is, same_current, edited_as, pushed_as, left_as}
 use Rattle.tas_published.proofs.PublishLemmas.{where_ok, where_err, on_ok, on_err, not_ok, not_err}
