@@ -11,3 +11,6 @@ returns-clause-zone g c =
 
 pub returns-clause-seat : goal.returns-clause-seat
 returns-clause-seat g c = grind (arith, common_steps)
+
+pub returns-clause-at : goal.returns-clause-at
+returns-clause-at g c = grind (arith, common_steps)

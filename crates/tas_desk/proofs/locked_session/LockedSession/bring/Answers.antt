@@ -23,3 +23,15 @@ returns-clause-seat g c = grind (arith, common_steps)
 pub returns-clause-cut : goal.returns-clause-cut
 returns-clause-cut g c =
     subst (λ (s : SeatContent _). IsWindowMoved s.zone.movie c.share.new.self.movie s.zone.window c.share.new.self.window) c.seat.view_is c.in_ok-gained.ensures.cut
+
+pub returns-clause-made : goal.returns-clause-made
+returns-clause-made g c = grind (arith, common_steps)
+
+pub returns-clause-gained : goal.returns-clause-gained
+returns-clause-gained g c = grind (arith, common_steps)
+
+pub returns-clause-at : goal.returns-clause-at
+returns-clause-at g c = grind (arith, common_steps)
+
+pub invariant_of-seat-2 : goal.invariant_of-seat-2
+invariant_of-seat-2 g c = grind (arith, common_steps)

@@ -35,3 +35,6 @@ returns-clause-movie g c = grind (arith, common_steps)
 
 pub returns-clause-journal : goal.returns-clause-journal
 returns-clause-journal g c = grind (arith, common_steps)
+
+pub loop-seat-smaller : goal.loop-seat-smaller
+loop-seat-smaller g c = grind (arith, common_steps)

@@ -1,4 +1,5 @@
-use Rattle.std.proofs.Common.{ap}
+use Rattle.std.proofs.lemmas.Grind.{common_steps}
+use Rattle.std.proofs.Common.{ap, arith}
 use Rattle.std.proofs.lemmas.Result.{err_from_is_err_and}
 use Rattle.tas_published.specs.Strokes.{edits_of}
 use Rattle.tas_desk.specs.Locked.{LockedContent}
@@ -27,3 +28,18 @@ pub returns-clause-done : goal.returns-clause-done
 returns-clause-done g c =
     locked_committed c.self.inside.session _ _ _ _ _ _ (edits_of c.args.stroke) c.in_ok-receipt.ensures.done c.show_to.ensures.history c.self.view_is
     (ap (λ (s : SeatContent _). s.number) c.seat.view_is) (ap (λ (s : SeatContent _). s.made) c.seat.view_is)
+
+pub invariant_of-seat : goal.invariant_of-seat
+invariant_of-seat g c = grind (arith, common_steps)
+
+pub returns-clause-seat : goal.returns-clause-seat
+returns-clause-seat g c = grind (arith, common_steps)
+
+pub invariant_of-self-2 : goal.invariant_of-self-2
+invariant_of-self-2 g c = grind (arith, common_steps)
+
+pub overflow_add-seat : goal.overflow_add-seat
+overflow_add-seat g c = grind (arith, common_steps)
+
+pub invariant_of-seat-2 : goal.invariant_of-seat-2
+invariant_of-seat-2 g c = grind (arith, common_steps)

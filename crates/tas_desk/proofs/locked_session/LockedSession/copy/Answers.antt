@@ -22,3 +22,6 @@ returns-clause-seat g c = grind (arith, common_steps)
 
 pub returns-then-not-is_in_range-clause-seat : goal.returns-then-not-is_in_range-clause-seat
 returns-then-not-is_in_range-clause-seat g c = grind (arith, common_steps)
+
+pub returns-then-not-is_in_range-clause-reply : goal.returns-then-not-is_in_range-clause-reply
+returns-then-not-is_in_range-clause-reply g c = grind (arith, common_steps)

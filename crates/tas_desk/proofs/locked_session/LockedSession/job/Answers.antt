@@ -16,3 +16,6 @@ invariant_of-seat g c = grind (arith, common_steps)
 
 pub returns-clause-seat : goal.returns-clause-seat
 returns-clause-seat g c = grind (arith, common_steps)
+
+pub returns-clause-begins : goal.returns-clause-begins
+returns-clause-begins g c = grind (arith, common_steps)
