@@ -99,6 +99,6 @@ fn other_pairs_end_with_status_2(rt: HostRuntime) {
 #[test]
 fn help_of_a_desk_is_shown(rt: HostRuntime) {
     let text =
-        b"Answers the lines of several programs at once, which edit one movie\n\nUsage: tas desk <CART> <MOVIE> <IN0> <OUT0> [IN1] [OUT1]".as_slice();
+        b"Answers the lines of several programs at once, which edit one movie\n\nUsage: tas desk <CART> <MOVIE> <IN0> <OUT0> [IN1 OUT1] .. [IN7 OUT7]\n".as_slice();
     check_shown(&rt, rt.alloc(), 0, b"", &[(&["desk", "--help"], text)]);
 }

@@ -63,4 +63,6 @@ mod talks;
 #[cfg(test)]
 mod tasks;
 #[cfg(test)]
+mod tip_tests;
+#[cfg(test)]
 mod word_tests;

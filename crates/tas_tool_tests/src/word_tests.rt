@@ -279,63 +279,63 @@ static HELPS: [Shown<'static>; 17] = [
     ),
     (
         &["trace", "--help"],
-        b"Writes the first instructions of a cartridge, a line for each\n\nUsage: tas trace <N>\n",
+        b"Writes the first instructions of a cartridge, a line for each\n\nUsage: tas trace <N> < CART\n",
     ),
     (
         &["check", "--help"],
-        b"Checks a movie text and prints its length\n\nUsage: tas check <CART>\n",
+        b"Checks a movie text and prints its length\n\nUsage: tas check <CART> < MOVIE\n",
     ),
     (
         &["migrate", "--help"],
-        b"Writes a movie text, older ones too, as a text of runs ('a26movie 2')\n\nUsage: tas migrate <CART>\n",
+        b"Writes a movie text, older ones too, as a text of runs ('a26movie 2')\n\nUsage: tas migrate <CART> < MOVIE\n",
     ),
     (
         &["shot", "--help"],
-        b"Writes the picture of one frame of a movie\n\nUsage: tas shot <CART> <K>\n",
+        b"Writes the picture of one frame of a movie\n\nUsage: tas shot <CART> <K> < MOVIE\n",
     ),
     (
         &["edit", "--help"],
-        b"Makes the edits of a script on a movie and writes its text\n\nUsage: tas edit [OPTIONS] <CART> <SCRIPT>\n",
+        b"Makes the edits of a script on a movie and writes its text\n\nUsage: tas edit [OPTIONS] <CART> <SCRIPT> < MOVIE\n",
     ),
     (
         &["cut", "--help"],
-        b"Writes the text of the movie of some frames of a movie alone\n\nUsage: tas cut <CART> <FROM> <TO>\n",
+        b"Writes the text of the movie of some frames of a movie alone\n\nUsage: tas cut <CART> <FROM> <TO> < MOVIE\n",
     ),
     (
         &["diff", "--help"],
-        b"Writes the script that turns one movie into another\n\nUsage: tas diff <CART> <OLD>\n",
+        b"Writes the script that turns one movie into another\n\nUsage: tas diff <CART> <OLD> < MOVIE\n",
     ),
     (
         &["script", "--help"],
-        b"Edits a movie by a script and writes the replies\n\nUsage: tas script [OPTIONS]\n",
+        b"Edits a movie by a script and writes the replies\n\nUsage: tas script [OPTIONS] < SCRIPT\n",
     ),
     (
         &["talk", "--help"],
-        b"Answers lines, each before the next one is read\n\nUsage: tas talk [CART] [MOVIE]\n",
+        b"Answers lines, each before the next one is read\n\nUsage: tas talk [CART] [MOVIE] < LINES\n",
     ),
     (
         &["export", "--help"],
-        b"Writes the pictures of some frames of a movie, one after the other\n\nUsage: tas export <CART> <FROM> <TO> <WORKERS>\n",
+        b"Writes the pictures of some frames of a movie, one after the other\n\nUsage: tas export <CART> <FROM> <TO> <WORKERS> < MOVIE\n",
     ),
     (
         &["film", "--help"],
-        b"Writes the pictures of a movie's frames as they are played, any number of them\n\nUsage: tas film <CART> [FROM] [TO]\n",
+        b"Writes the pictures of a movie's frames as they are played, any number of them\n\nUsage: tas film <CART> [FROM] [TO] < MOVIE\n",
     ),
     (
         &["ram", "--help"],
-        b"Writes the RAM after some numbers of frames of a movie, a line for each\n\nUsage: tas ram <CART> <FROM> <TO>\n",
+        b"Writes the RAM after some numbers of frames of a movie, a line for each\n\nUsage: tas ram <CART> <FROM> <TO> < MOVIE\n",
     ),
     (
         &["digest", "--help"],
-        b"Plays a movie and writes digests of its RAM and pictures\n\nUsage: tas digest <CART> [EVERY]\n",
+        b"Plays a movie and writes digests of its RAM and pictures\n\nUsage: tas digest <CART> [EVERY] < MOVIE\n",
     ),
     (
         &["compare", "--help"],
-        b"Writes the first frames at which two movies differ\n\nUsage: tas compare <CART> <OLD>\n",
+        b"Writes the first frames at which two movies differ\n\nUsage: tas compare <CART> <OLD> < MOVIE\n",
     ),
     (
         &["lag", "--help"],
-        b"Writes the frames of a movie whose input nothing reads\n\nUsage: tas lag <CART>\n",
+        b"Writes the frames of a movie whose input nothing reads\n\nUsage: tas lag <CART> < MOVIE\n",
     ),
 ];
 

@@ -156,16 +156,23 @@ later_shapes =
     ∷ shape_with (codes "diff") (cart_rule ∷ file_rule (codes "OLD") ∷ [])
     ∷ shape_with (codes "script") (flag_rule (codes "CART") (codes "cart") ∷ flag_rule (codes "MOVIE") (codes "movie") ∷ [])
     ∷ shape_with (codes "talk") (may_word_rule (codes "CART") ∷ may_word_rule (codes "MOVIE") ∷ [])
-    ∷ shape_with (codes "desk") (cart_rule ∷ file_rule (codes "MOVIE") ∷ pair_rules)
     ∷ []
+
+-- the last one
+abbrev pub last_shapes : List Shape
+last_shapes = shape_with (codes "desk") (cart_rule ∷ file_rule (codes "MOVIE") ∷ pair_rules) ∷ []
 
 -- the first part of the program's command line
 abbrev pub first_line : App
 first_line = line_of first_shapes
 
+-- the first two parts
+abbrev pub later_line : App
+later_line = line_of (first_shapes ++ later_shapes)
+
 -- the program's command line
 abbrev pub command_line : App
-command_line = line_of (first_shapes ++ later_shapes)
+command_line = line_of (first_shapes ++ later_shapes ++ last_shapes)
 
 abbrev pub IsCommandLine : Command → Type 0
 IsCommandLine command = app_of command ≡ command_line

@@ -1,3 +1,4 @@
 pub mod Task
 pub mod CommandLine
 pub mod Invocations
+pub mod Guides

@@ -3,8 +3,11 @@
 ghost use Rattle.std.specs.Prelude.{◌≡◌, IfOk, None, false, map};
 ghost use Rattle.clap.specs.Words.{app_of, rule_of};
 ghost use Rattle.tas_words.specs.CommandLine.{empty_line, flag_rule, may_number_rule, may_word_rule, number_rule, paired_word_rule, rule_of_word, version_text, with_commands, word_rule, HasRules, IsCommandLine};
+ghost use Rattle.tas_words.specs.Guides.{HasUsage};
 
-use crate::subcommands::{Subcommand, Word, WordKind, first_subcommands, later_subcommands};
+use crate::subcommands::{
+    Subcommand, Word, WordKind, first_subcommands, last_subcommands, later_subcommands,
+};
 use clap::{Arg, ArgAction, Command, value_parser};
 use std::alloc::{AllocError, Global};
 
@@ -17,8 +20,8 @@ fn version<'a>() -> &'a str
 }
 
 const TAS_HELP: &str = "\
-Standard input is read whole before anything is written to standard output; 'talk' reads it line by line,
-and 'desk' leaves it alone.
+Standard input is read whole before anything is written to standard output; 'talk' reads it line by
+line, and 'desk' leaves it alone.
 Status: 0 done, 1 a fault (one line on standard error), 2 a wrong command line.";
 
 /// A required word that names a file.
@@ -122,8 +125,8 @@ fn arg_of<'a>(alloc: Global, word: Word) -> Result<Arg<'a>, AllocError>
     }
 }
 
-/// A command, as clap takes it.
-fn command_of<'a>(alloc: Global, subcommand: Subcommand) -> Result<Command<'a>, AllocError>
+/// A command with its words, as clap takes it.
+fn with_words<'a>(alloc: Global, subcommand: Subcommand) -> Result<Command<'a>, AllocError>
     ensures { IfOk result (HasRules subcommand.name.now (map rule_of_word subcommand.words.now)) }
 {
     let mut command = Command::new(alloc, subcommand.name)
@@ -133,6 +136,17 @@ fn command_of<'a>(alloc: Global, subcommand: Subcommand) -> Result<Command<'a>, 
         command = command.arg(arg_of(alloc, *word)?)?;
     }
     Ok(command)
+}
+
+/// A command, as clap takes it.
+fn command_of<'a>(alloc: Global, subcommand: Subcommand) -> Result<Command<'a>, AllocError>
+    ensures rules { IfOk result
+        (HasRules subcommand.name.now (map rule_of_word subcommand.words.now)) }
+    ensures usage { IfOk result (λ command. HasUsage command subcommand.usage.now) }
+{
+    // The usage is given last, since clap's `arg` says nothing of it.
+    let command = with_words(alloc, subcommand)?;
+    Ok(command.override_usage(subcommand.usage))
 }
 
 /// The program's command line before it has commands.
@@ -171,5 +185,6 @@ pub(crate) fn command_line<'a>(alloc: Global) -> Result<Command<'a>, AllocError>
 {
     let empty = empty_line(alloc)?;
     let line = with_commands(alloc, empty, first_subcommands())?;
-    with_commands(alloc, line, later_subcommands())
+    let line = with_commands(alloc, line, later_subcommands())?;
+    with_commands(alloc, line, last_subcommands())
 }

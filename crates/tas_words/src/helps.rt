@@ -13,9 +13,10 @@ pub(crate) const CHECK_HELP: &str = "\
 Standard input is the movie text: a line 'a26movie 2', a line 'cart ' with the SHA-256 of the
 cartridge, and a line for each run of equal frames: 'R.... ..... .....' is one frame, and
 'R.... ..... ..... x60' sixty. An older text, 'a26movie 1' with a line for each frame, is read too.
-A frame is 'RLDUF RLDUF rsbAB': right, left, down, up and fire of the left stick; the same of the right
-stick; reset, select, black and white, left difficulty A, right difficulty A. A dot in a letter's place
-means that it isn't pressed or set: '..D.F ..... .....' pushes the left stick down and fires.
+A frame is 'RLDUF RLDUF rsbAB': right, left, down, up and fire of the left stick; the same of the
+right stick; reset, select, black and white, left difficulty A, right difficulty A. A dot in a
+letter's place means that it isn't pressed or set: '..D.F ..... .....' pushes the left stick down
+and fires.
 Standard output is 'ok F frames', where the text is one of a movie of F frames with this cartridge.
 Otherwise the first line at fault is reported. Only the text is read: no frame is played, so a movie
 that halts is 'ok'. 'tas digest' plays it.
@@ -51,7 +52,7 @@ written.
 Example:
   examples/cart joystick > joystick.bin
   ./tas film joystick.bin < examples/joystick.movie |
-    ffmpeg -y -f ppm_pipe -frame_size 100815 -framerate 60 -i - \
+    ffmpeg -y -f ppm_pipe -frame_size 100815 -framerate 60 -i - \\
       -vf scale=640:420:flags=neighbor -pix_fmt yuv420p film.mp4";
 
 pub(crate) const EXPORT_HELP: &str = "\
@@ -64,7 +65,7 @@ there is 'tas film', which writes each picture as soon as it is played.
 Example:
   examples/cart joystick > joystick.bin
   ./tas export joystick.bin 0 120 4 < examples/joystick.movie |
-    ffmpeg -y -f ppm_pipe -frame_size 100815 -framerate 60 -i - \
+    ffmpeg -y -f ppm_pipe -frame_size 100815 -framerate 60 -i - \\
       -vf scale=640:420:flags=neighbor -pix_fmt yuv420p film.mp4";
 
 pub(crate) const RAM_HELP: &str = "\
@@ -92,11 +93,11 @@ Example:
   ./tas digest joystick.bin 60 < examples/joystick.movie > joystick.digest";
 
 pub(crate) const COMPARE_HELP: &str = "\
-Standard input is a movie text, as for 'tas check', and OLD is the file with the text of an older one.
-Standard output has three lines, 'input I', 'ram R' and 'picture P': the first frame, counted from 0,
-at which the inputs of the two movies differ, RAM after the frame, and the picture; or 'none'. Where
-one movie ends sooner, they differ at its end. Up to the first input that differs they are played as
-one.
+Standard input is a movie text, as for 'tas check', and OLD is the file with the text of an older
+one. Standard output has three lines, 'input I', 'ram R' and 'picture P': the first frame, counted
+from 0, at which the inputs of the two movies differ, RAM after the frame, and the picture; or
+'none'. Where one movie ends sooner, they differ at its end. Up to the first input that differs they
+are played as one.
 
 Example:
   examples/cart joystick > joystick.bin
@@ -105,9 +106,9 @@ Example:
 
 pub(crate) const LAG_HELP: &str = "\
 Standard input is the movie text, as for 'tas check'.
-Standard output is the lag frames of the movie, those whose input nothing reads, as lines 'A B': frames
-A to B - 1, counted from 0. Whatever the input of such a frame, its picture and all that follows are
-the same.
+Standard output is the lag frames of the movie, those whose input nothing reads, as lines 'A B':
+frames A to B - 1, counted from 0. Whatever the input of such a frame, its picture and all that
+follows are the same.
 
 Example:
   examples/cart joystick > joystick.bin
@@ -123,9 +124,10 @@ Standard input is the movie text, as for 'tas check'. The script's file has edit
   repeat PLACE COUNT TIMES     insert COUNT frames TIMES more times, directly after themselves
   copy FROM COUNT PLACE        insert a copy of the COUNT frames from FROM before frame PLACE
   copy other FROM COUNT PLACE  the same, from the movie whose text is in the file OTHER
-A frame is 'RLDUF RLDUF rsbAB': right, left, down, up and fire of the left stick; the same of the right
-stick; reset, select, black and white, left difficulty A, right difficulty A. A dot in a letter's place
-means that it isn't pressed or set: '..D.F ..... .....' pushes the left stick down and fires.
+A frame is 'RLDUF RLDUF rsbAB': right, left, down, up and fire of the left stick; the same of the
+right stick; reset, select, black and white, left difficulty A, right difficulty A. A dot in a
+letter's place means that it isn't pressed or set: '..D.F ..... .....' pushes the left stick down
+and fires.
 Frames are counted from 0. The lines are made in order, each on the movie that those before it made.
 Standard output is the text of the last one. A line that isn't understood, or that reaches past the
 last frame or makes the movie too long, ends the command with its fault and nothing written.
@@ -137,17 +139,17 @@ Examples:
 
 pub(crate) const CUT_HELP: &str = "\
 Standard input is the movie text, as for 'tas check'.
-Standard output is the text of the movie of the frames FROM to TO - 1 alone, which begins at power-on
-as every movie does.
+Standard output is the text of the movie of the frames FROM to TO - 1 alone, which begins at
+power-on as every movie does.
 
 Example, all but the first second:
   examples/cart joystick > joystick.bin
   ./tas cut joystick.bin 60 120 < examples/joystick.movie > end.movie";
 
 pub(crate) const DIFF_HELP: &str = "\
-Standard input is a movie text, as for 'tas check', and OLD is the file with the text of an older one.
-Standard output is a script for 'tas edit' that turns the old movie into the new one: nothing where
-they are equal.
+Standard input is a movie text, as for 'tas check', and OLD is the file with the text of an older
+one. Standard output is a script for 'tas edit' that turns the old movie into the new one: nothing
+where they are equal.
 
 Example:
   ./tas diff joystick.bin examples/joystick.movie < mended.movie";
@@ -179,26 +181,32 @@ next one is read, so that another program can hold the conversation. It has thes
   picture K                  a line 'picture AT K BYTES', then BYTES bytes: the pixmap of frame K
   pictures FROM TO           the answers to 'picture K' for FROM to TO - 1, 1 to 1024 of them
   ram K                      'ram AT K' and 256 hexadecimal digits: RAM after K frames from power-on
-  digest K                   'digest AT K ram HEX picture HEX': SHA-256 of RAM after frame K, and of its pixmap
-  lag A B                    a line 'lag AT A B BYTES', then BYTES bytes: the lag frames of A to B - 1
+  digest K                   'digest AT K ram HEX picture HEX': SHA-256 of RAM after frame K, and of
+                             its pixmap
+  lag A B                    a line 'lag AT A B BYTES', then BYTES bytes: the lag frames of A to
+                             B - 1
   movie                      a line 'movie AT BYTES', then BYTES bytes: the movie's text
   states                     'states AT N' and the N frames after which a machine state is kept
-  share                      'share AT N': shots now use the states that any seat's 'work' kept: N more
-  history FROM               a line 'history AT FROM COUNT BYTES', then BYTES bytes: edits from number FROM on,
-                             lines 'NUMBER SEAT LINE', LINE as of a script; ask on from FROM + COUNT
-  begin                      'begin AT LEN': a draft is opened; until it is committed or dropped, lines change
-                             the draft alone and are answered by it
-  commit                     'commit AT LEN': what the draft has changed is made in one step of at most two edits;
-                             'moved AT' where others have edited the movie since, and nothing is made
+  share                      'share AT N': shots now use the states that any seat's 'work' kept: N
+                             more
+  history FROM               a line 'history AT FROM COUNT BYTES', then BYTES bytes: edits from
+                             number FROM on, lines 'NUMBER SEAT LINE', LINE as of a script; ask on
+                             from FROM + COUNT
+  begin                      'begin AT LEN': a draft is opened; until it is committed or dropped,
+                             lines change the draft alone and are answered by it
+  commit                     'commit AT LEN': what the draft has changed is made in one step of at
+                             most two edits; 'moved AT' where others have edited the movie since,
+                             and nothing is made
   drop                       'dropped': the draft is given up
   quit                       ends the conversation, as the end of standard input does
 AT is the number of edits so far. A line that isn't understood, or longer than 16384 bytes, is
-answered 'unknown' and changes nothing. With CART it starts from this cartridge, with MOVIE from this
-movie. That counts as two edits. Outside a draft a step from a picture to the next one plays one frame.
-Fill a long movie by 'work' in steps, as 'work 4096', 'work 8192': each answer is the progress.
-A frame is 'RLDUF RLDUF rsbAB': right, left, down, up and fire of the left stick; the same of the right
-stick; reset, select, black and white, left difficulty A, right difficulty A. A dot in a letter's place
-means that it isn't pressed or set.
+answered 'unknown' and changes nothing. With CART it starts from this cartridge, with MOVIE from
+this movie. That counts as two edits. Outside a draft a step from a picture to the next one plays
+one frame. Fill a long movie by 'work' in steps, as 'work 4096', 'work 8192': each answer is the
+progress.
+A frame is 'RLDUF RLDUF rsbAB': right, left, down, up and fire of the left stick; the same of the
+right stick; reset, select, black and white, left difficulty A, right difficulty A. A dot in a
+letter's place means that it isn't pressed or set.
 
 Example:
   printf 'len\\nshot 60\\nstates\\nquit\\n' | ./tas talk joystick.bin examples/joystick.movie";
@@ -208,14 +216,14 @@ Up to eight programs edit one movie at the same time. Each has a pair of files, 
 pipes: it writes lines to IN and reads the answers from OUT. Its lines and answers are those of
 'tas talk', but AT counts the edits of all. Each answer is right for the movie of AT edits. CART and
 MOVIE are the movie to start from; they count as the first two edits.
-IN of a pair is opened first, and then OUT. Opening a pipe waits for the other end, so a program must
-open its IN, to write, before its OUT, to read. If it opens OUT first, both wait forever.
-A pair's conversation ends with 'quit' or the end of IN, and both files are closed then. Standard input
-isn't read. Once all conversations have ended, standard output has the text of the movie that all edits
-made.
-Status: 0 if all conversations ended so. 1 if one ended with a fault, 'fault: seat K: ..', where K is 0
-for IN0 and OUT0: all others have gone on, and the movie is written. 1 also if CART or MOVIE is at
-fault: then no pair is opened, and nothing is written.
+IN of a pair is opened first, and then OUT. Opening a pipe waits for the other end, so a program
+must open its IN, to write, before its OUT, to read. If it opens OUT first, both wait forever.
+A pair's conversation ends with 'quit' or the end of IN, and both files are closed then. Standard
+input isn't read. Once all conversations have ended, standard output has the text of the movie that
+all edits made.
+Status: 0 if all conversations ended so. 1 if one ended with a fault, 'fault: seat K: ..', where K
+is 0 for IN0 and OUT0: all others have gone on, and the movie is written. 1 also if CART or MOVIE is
+at fault: then no pair is opened, and nothing is written.
 
 Example, with one pair and the shell as its program:
   mkfifo in0 out0

@@ -1,12 +1,13 @@
 //! What the words ask for.
 
-ghost use Rattle.std.specs.Prelude.{IfOk, IfErr, map, string_bytes};
-ghost use Rattle.tas_words.specs.Invocations.{AreGiven, IsInvocation, IsNoTask};
+ghost use Rattle.std.specs.Prelude.{IfOk, IfErr, Some, map, string_bytes};
+ghost use Rattle.tas_words.specs.Invocations.{AreGiven, HasTip, IsInvocation, IsNoTask};
 
+use crate::tips::tip_of;
 use crate::{Task, read_words};
 use clap::Error;
 use clap::error::ErrorKind;
-use std::alloc::{Allocator, Global};
+use std::alloc::{AllocError, Allocator, Global};
 use std::env::Args;
 use std::io;
 
@@ -23,23 +24,56 @@ pub enum Invocation<'a, A: Allocator = Global> {
     NoMemory,
 }
 
+/// A refusal's text with a tip after its first line.
+fn with_tip<A: Allocator>(alloc: A, text: &str, tip: &str) -> Result<String<A>, AllocError>
+    ensures { IfOk result (λ new. HasTip (Some tip.now) (string_bytes new)) }
+{
+    let (first, rest) = text.split_once('\n').unwrap_or((text, ""));
+    let new = format!(in alloc; "{first}\n\n  tip: {tip}\n{rest}")?;
+    Ok(new)
+}
+
+/// Why the words aren't understood, with the tip for them.
+fn refusal_of<'a, A: Allocator + Copy>(
+    alloc: A,
+    text: String<A>,
+    words: &[String<A>],
+) -> Invocation<'a, A>
+    ensures tip { IsInvocation (map string_bytes words.now) result }
+    ensures none { IsNoTask result }
+{
+    match tip_of(words) {
+        Some(tip) => match with_tip(alloc, text.as_str(), tip) {
+            Ok(text) => Invocation::Refuse(text),
+            Err(_) => Invocation::NoMemory,
+        },
+        None => Invocation::Refuse(text),
+    }
+}
+
 /// The text that was asked for, or why the words aren't understood.
-fn invocation_of<'a, A: Allocator>(alloc: A, error: &Error) -> Invocation<'a, A>
-    ensures { IsNoTask result }
+fn invocation_of<'a, A: Allocator + Copy>(
+    alloc: A,
+    error: &Error,
+    words: &[String<A>],
+) -> Invocation<'a, A>
+    ensures tip { IsInvocation (map string_bytes words.now) result }
+    ensures none { IsNoTask result }
 {
     if error.kind() == ErrorKind::OutOfMemory {
         return Invocation::NoMemory;
     }
     match error.to_string(alloc) {
-        Ok(text) if error.use_stderr() => Invocation::Refuse(text),
+        Ok(text) if error.use_stderr() => refusal_of(alloc, text, words),
         Ok(text) => Invocation::Show(text),
         Err(_) => Invocation::NoMemory,
     }
 }
 
-/// What the words ask for; the first of them is the program's name. A task is that of the command that they name. clap takes its memory
-/// from `global` alone, a text its from `alloc`.
-pub fn read_invocation<'a, A: Allocator>(
+/// What the words ask for; the first of them is the program's name. A task is that of the command that they name. A refusal of words that
+/// have a word too many, or one in a number's place, has the command's tip. clap takes its memory from `global` alone, a text its from
+/// `alloc`.
+pub fn read_invocation<'a, A: Allocator + Copy>(
     global: Global,
     alloc: A,
     words: &'a [String<A>],
@@ -48,7 +82,7 @@ pub fn read_invocation<'a, A: Allocator>(
 {
     match read_words(global, words) {
         Ok(task) => Invocation::Do(task),
-        Err(error) => invocation_of(alloc, &error),
+        Err(error) => invocation_of(alloc, &error, words),
     }
 }
 

@@ -8,6 +8,7 @@ mod helps;
 mod invocation;
 mod subcommands;
 mod task;
+mod tips;
 mod words;
 
 pub use invocation::{Invocation, collect_words, read_invocation};

@@ -1,7 +1,8 @@
 //! The commands, with their help and their words.
 
-ghost use Rattle.std.specs.Prelude.{◌≡◌};
-ghost use Rattle.tas_words.specs.CommandLine.{command_line, empty_line, first_line, with_commands};
+ghost use Rattle.std.specs.Prelude.{◌≡◌, map};
+ghost use Rattle.tas_words.specs.CommandLine.{command_line, empty_line, first_line, later_line, with_commands};
+ghost use Rattle.tas_words.specs.Guides.{first_guides, guide_of, last_guides, later_guides};
 
 use crate::helps::{
     CHECK_HELP, COMPARE_HELP, CUT_HELP, DESK_HELP, DIFF_HELP, DIGEST_HELP, EDIT_HELP, EXPORT_HELP,
@@ -45,10 +46,14 @@ pub(crate) struct Word {
     pub(crate) kind: WordKind,
 }
 
-/// A command, what it does in a line and in a text, and its words.
+/// A command, what it does in a line and in a text, how it is called, and its words.
 #[derive(Clone, Copy)]
 pub(crate) struct Subcommand {
     pub(crate) name: &'static str,
+    /// Its call, with what its standard input is.
+    pub(crate) usage: &'static str,
+    /// What its standard input is, with a call of it, for those who take it for a word; `None` where it reads none.
+    pub(crate) tip: Option<&'static str>,
     pub(crate) about: &'static str,
     pub(crate) help: &'static str,
     pub(crate) words: &'static [Word],
@@ -92,10 +97,12 @@ const LINES: &str = "A file that another program's lines are read from";
 
 const ANSWERS: &str = "The file that their answers are written to; goes with the one before it";
 
-/// The program's first commands. They are two lists, since a proof of one list of all is too large.
+/// The program's first commands. They are three lists, since a proof of one list of all is too large.
 static FIRST_SUBCOMMANDS: [Subcommand; 10] = [
     Subcommand {
         name: "trace",
+        usage: "tas trace <N> < CART",
+        tip: Some("the cartridge is read from standard input: tas trace 3 < game.bin"),
         about: "Writes the first instructions of a cartridge, a line for each",
         help: TRACE_HELP,
         words: &[Word {
@@ -109,18 +116,28 @@ static FIRST_SUBCOMMANDS: [Subcommand; 10] = [
     },
     Subcommand {
         name: "check",
+        usage: "tas check <CART> < MOVIE",
+        tip: Some("the movie is read from standard input: tas check game.bin < game.movie"),
         about: "Checks a movie text and prints its length",
         help: CHECK_HELP,
         words: &[CARTRIDGE],
     },
     Subcommand {
         name: "migrate",
+        usage: "tas migrate <CART> < MOVIE",
+        tip: Some(
+            "the movie is read from standard input: tas migrate game.bin < old.movie > new.movie",
+        ),
         about: "Writes a movie text, older ones too, as a text of runs ('a26movie 2')",
         help: MIGRATE_HELP,
         words: &[CARTRIDGE],
     },
     Subcommand {
         name: "shot",
+        usage: "tas shot <CART> <K> < MOVIE",
+        tip: Some(
+            "the movie is read from standard input: tas shot game.bin 60 < game.movie > frame60.ppm",
+        ),
         about: "Writes the picture of one frame of a movie",
         help: SHOT_HELP,
         words: &[
@@ -134,6 +151,10 @@ static FIRST_SUBCOMMANDS: [Subcommand; 10] = [
     },
     Subcommand {
         name: "film",
+        usage: "tas film <CART> [FROM] [TO] < MOVIE",
+        tip: Some(
+            "the movie is read from standard input: tas film game.bin 0 600 < game.movie > film.ppm",
+        ),
         about: "Writes the pictures of a movie's frames as they are played, any number of them",
         help: FILM_HELP,
         words: &[
@@ -152,6 +173,10 @@ static FIRST_SUBCOMMANDS: [Subcommand; 10] = [
     },
     Subcommand {
         name: "export",
+        usage: "tas export <CART> <FROM> <TO> <WORKERS> < MOVIE",
+        tip: Some(
+            "the movie is read from standard input: tas export game.bin 0 600 4 < game.movie > film.ppm",
+        ),
         about: "Writes the pictures of some frames of a movie, one after the other",
         help: EXPORT_HELP,
         words: &[
@@ -170,6 +195,8 @@ static FIRST_SUBCOMMANDS: [Subcommand; 10] = [
     },
     Subcommand {
         name: "ram",
+        usage: "tas ram <CART> <FROM> <TO> < MOVIE",
+        tip: Some("the movie is read from standard input: tas ram game.bin 1 61 < game.movie"),
         about: "Writes the RAM after some numbers of frames of a movie, a line for each",
         help: RAM_HELP,
         words: &[
@@ -188,6 +215,8 @@ static FIRST_SUBCOMMANDS: [Subcommand; 10] = [
     },
     Subcommand {
         name: "digest",
+        usage: "tas digest <CART> [EVERY] < MOVIE",
+        tip: Some("the movie is read from standard input: tas digest game.bin 600 < game.movie"),
         about: "Plays a movie and writes digests of its RAM and pictures",
         help: DIGEST_HELP,
         words: &[
@@ -204,12 +233,18 @@ static FIRST_SUBCOMMANDS: [Subcommand; 10] = [
     },
     Subcommand {
         name: "compare",
+        usage: "tas compare <CART> <OLD> < MOVIE",
+        tip: Some(
+            "the newer movie is read from standard input: tas compare game.bin old.movie < new.movie",
+        ),
         about: "Writes the first frames at which two movies differ",
         help: COMPARE_HELP,
         words: &[CARTRIDGE, OLD],
     },
     Subcommand {
         name: "lag",
+        usage: "tas lag <CART> < MOVIE",
+        tip: Some("the movie is read from standard input: tas lag game.bin < game.movie"),
         about: "Writes the frames of a movie whose input nothing reads",
         help: LAG_HELP,
         words: &[CARTRIDGE],
@@ -217,9 +252,13 @@ static FIRST_SUBCOMMANDS: [Subcommand; 10] = [
 ];
 
 /// Those after them.
-static LATER_SUBCOMMANDS: [Subcommand; 6] = [
+static LATER_SUBCOMMANDS: [Subcommand; 5] = [
     Subcommand {
         name: "edit",
+        usage: "tas edit [OPTIONS] <CART> <SCRIPT> < MOVIE",
+        tip: Some(
+            "the movie is read from standard input: tas edit game.bin fix.script < game.movie > new.movie",
+        ),
         about: "Makes the edits of a script on a movie and writes its text",
         help: EDIT_HELP,
         words: &[
@@ -241,18 +280,28 @@ static LATER_SUBCOMMANDS: [Subcommand; 6] = [
     },
     Subcommand {
         name: "cut",
+        usage: "tas cut <CART> <FROM> <TO> < MOVIE",
+        tip: Some(
+            "the movie is read from standard input: tas cut game.bin 60 120 < game.movie > new.movie",
+        ),
         about: "Writes the text of the movie of some frames of a movie alone",
         help: CUT_HELP,
         words: &[CARTRIDGE, FROM, TO],
     },
     Subcommand {
         name: "diff",
+        usage: "tas diff <CART> <OLD> < MOVIE",
+        tip: Some(
+            "the newer movie is read from standard input: tas diff game.bin old.movie < new.movie",
+        ),
         about: "Writes the script that turns one movie into another",
         help: DIFF_HELP,
         words: &[CARTRIDGE, OLD],
     },
     Subcommand {
         name: "script",
+        usage: "tas script [OPTIONS] < SCRIPT",
+        tip: Some("the script is read from standard input: tas script < game.script"),
         about: "Edits a movie by a script and writes the replies",
         help: SCRIPT_HELP,
         words: &[
@@ -276,6 +325,10 @@ static LATER_SUBCOMMANDS: [Subcommand; 6] = [
     },
     Subcommand {
         name: "talk",
+        usage: "tas talk [CART] [MOVIE] < LINES",
+        tip: Some(
+            "the conversation is read from standard input: tas talk game.bin game.movie < lines",
+        ),
         about: "Answers lines, each before the next one is read",
         help: TALK_HELP,
         words: &[
@@ -291,111 +344,125 @@ static LATER_SUBCOMMANDS: [Subcommand; 6] = [
             },
         ],
     },
-    Subcommand {
-        name: "desk",
-        about: "Answers the lines of several programs at once, which edit one movie",
-        help: DESK_HELP,
-        words: &[
-            CARTRIDGE,
-            Word {
-                name: "MOVIE",
-                help: "The file with the text of the movie to start from",
-                kind: WordKind::File,
-            },
-            Word {
-                name: "IN0",
-                help: "The file that the first program's lines are read from",
-                kind: WordKind::File,
-            },
-            Word {
-                name: "OUT0",
-                help: "The file that their answers are written to",
-                kind: WordKind::File,
-            },
-            Word {
-                name: "IN1",
-                help: LINES,
-                kind: WordKind::PairedFile { other: "OUT1" },
-            },
-            Word {
-                name: "OUT1",
-                help: ANSWERS,
-                kind: WordKind::PairedFile { other: "IN1" },
-            },
-            Word {
-                name: "IN2",
-                help: LINES,
-                kind: WordKind::PairedFile { other: "OUT2" },
-            },
-            Word {
-                name: "OUT2",
-                help: ANSWERS,
-                kind: WordKind::PairedFile { other: "IN2" },
-            },
-            Word {
-                name: "IN3",
-                help: LINES,
-                kind: WordKind::PairedFile { other: "OUT3" },
-            },
-            Word {
-                name: "OUT3",
-                help: ANSWERS,
-                kind: WordKind::PairedFile { other: "IN3" },
-            },
-            Word {
-                name: "IN4",
-                help: LINES,
-                kind: WordKind::PairedFile { other: "OUT4" },
-            },
-            Word {
-                name: "OUT4",
-                help: ANSWERS,
-                kind: WordKind::PairedFile { other: "IN4" },
-            },
-            Word {
-                name: "IN5",
-                help: LINES,
-                kind: WordKind::PairedFile { other: "OUT5" },
-            },
-            Word {
-                name: "OUT5",
-                help: ANSWERS,
-                kind: WordKind::PairedFile { other: "IN5" },
-            },
-            Word {
-                name: "IN6",
-                help: LINES,
-                kind: WordKind::PairedFile { other: "OUT6" },
-            },
-            Word {
-                name: "OUT6",
-                help: ANSWERS,
-                kind: WordKind::PairedFile { other: "IN6" },
-            },
-            Word {
-                name: "IN7",
-                help: LINES,
-                kind: WordKind::PairedFile { other: "OUT7" },
-            },
-            Word {
-                name: "OUT7",
-                help: ANSWERS,
-                kind: WordKind::PairedFile { other: "IN7" },
-            },
-        ],
-    },
 ];
+
+/// The last one.
+static LAST_SUBCOMMANDS: [Subcommand; 1] = [Subcommand {
+    name: "desk",
+    usage: "tas desk <CART> <MOVIE> <IN0> <OUT0> [IN1 OUT1] .. [IN7 OUT7]",
+    tip: None,
+    about: "Answers the lines of several programs at once, which edit one movie",
+    help: DESK_HELP,
+    words: &[
+        CARTRIDGE,
+        Word {
+            name: "MOVIE",
+            help: "The file with the text of the movie to start from",
+            kind: WordKind::File,
+        },
+        Word {
+            name: "IN0",
+            help: "The file that the first program's lines are read from",
+            kind: WordKind::File,
+        },
+        Word {
+            name: "OUT0",
+            help: "The file that their answers are written to",
+            kind: WordKind::File,
+        },
+        Word {
+            name: "IN1",
+            help: LINES,
+            kind: WordKind::PairedFile { other: "OUT1" },
+        },
+        Word {
+            name: "OUT1",
+            help: ANSWERS,
+            kind: WordKind::PairedFile { other: "IN1" },
+        },
+        Word {
+            name: "IN2",
+            help: LINES,
+            kind: WordKind::PairedFile { other: "OUT2" },
+        },
+        Word {
+            name: "OUT2",
+            help: ANSWERS,
+            kind: WordKind::PairedFile { other: "IN2" },
+        },
+        Word {
+            name: "IN3",
+            help: LINES,
+            kind: WordKind::PairedFile { other: "OUT3" },
+        },
+        Word {
+            name: "OUT3",
+            help: ANSWERS,
+            kind: WordKind::PairedFile { other: "IN3" },
+        },
+        Word {
+            name: "IN4",
+            help: LINES,
+            kind: WordKind::PairedFile { other: "OUT4" },
+        },
+        Word {
+            name: "OUT4",
+            help: ANSWERS,
+            kind: WordKind::PairedFile { other: "IN4" },
+        },
+        Word {
+            name: "IN5",
+            help: LINES,
+            kind: WordKind::PairedFile { other: "OUT5" },
+        },
+        Word {
+            name: "OUT5",
+            help: ANSWERS,
+            kind: WordKind::PairedFile { other: "IN5" },
+        },
+        Word {
+            name: "IN6",
+            help: LINES,
+            kind: WordKind::PairedFile { other: "OUT6" },
+        },
+        Word {
+            name: "OUT6",
+            help: ANSWERS,
+            kind: WordKind::PairedFile { other: "IN6" },
+        },
+        Word {
+            name: "IN7",
+            help: LINES,
+            kind: WordKind::PairedFile { other: "OUT7" },
+        },
+        Word {
+            name: "OUT7",
+            help: ANSWERS,
+            kind: WordKind::PairedFile { other: "IN7" },
+        },
+    ],
+}];
 
 /// The program's first commands, which make the first part of its command line.
 pub(crate) fn first_subcommands() -> &'static [Subcommand]
-    ensures { with_commands empty_line result.now ≡ first_line }
+    ensures line { with_commands empty_line result.now ≡ first_line }
+    ensures guides { map guide_of result.now ≡ first_guides }
 {
     &FIRST_SUBCOMMANDS
 }
 
-/// Those after them, which make the rest of it.
+/// Those after them, which make the next part.
 pub(crate) fn later_subcommands() -> &'static [Subcommand]
-    ensures { with_commands first_line result.now ≡ command_line }
+    ensures line { with_commands first_line result.now ≡ later_line }
+    ensures guides { map guide_of result.now ≡ later_guides }
 {
     &LATER_SUBCOMMANDS
+}
+
+/// The last one, which makes the rest of it.
+pub(crate) fn last_subcommands() -> &'static [Subcommand]
+    ensures line { with_commands later_line result.now ≡ command_line }
+    ensures guides { map guide_of result.now ≡ last_guides }
+{
+    &LAST_SUBCOMMANDS
 }

@@ -1,7 +1,7 @@
 use Rattle.std.proofs.Common.{arith}
 use Rattle.std.proofs.lemmas.Grind.{common_steps}
 use Rattle.tas_words.proofs.CommandLineLemmas.{with_next_word, with_word}
-use Rattle.tas_words.proofs.command_line.command_of.Goals as goal
+use Rattle.tas_words.proofs.command_line.with_words.Goals as goal
 
 pub loop-word-preserved : goal.loop-word-preserved
 loop-word-preserved c =

@@ -1,0 +1,130 @@
+//! What the program says to somebody who doesn't know that a movie is read from standard input; and how wide its helps are.
+
+use crate::checks::{check_same, check_that};
+use crate::programs::{ONE_FRAME, check_run, only_game, run};
+use std::alloc::Global;
+use std::process::Abort;
+use std::sync::Wait;
+use std::thread::Threads;
+
+/// Refused words and the whole text that says why.
+type Refused<'a> = (&'a [&'a str], &'a [u8]);
+
+/// Words of which one is in a number's place, or one too many: each text has a tip, with the right line.
+static TIPS: [Refused<'static>; 9] = [
+    (
+        &["shot", "game.bin", "game.movie"],
+        b"error: invalid value 'game.movie' for '<K>': invalid digit found in string\n\n  tip: the movie is read from standard input: tas shot game.bin 60 < game.movie > frame60.ppm\n\nFor more information, try '--help'.\n",
+    ),
+    (
+        &["check", "game.bin", "game.movie"],
+        b"error: unexpected argument 'game.movie' found\n\n  tip: the movie is read from standard input: tas check game.bin < game.movie\n\nUsage: tas check <CART> < MOVIE\n\nFor more information, try '--help'.\n",
+    ),
+    (
+        &["trace", "game.bin"],
+        b"error: invalid value 'game.bin' for '<N>': invalid digit found in string\n\n  tip: the cartridge is read from standard input: tas trace 3 < game.bin\n\nFor more information, try '--help'.\n",
+    ),
+    (
+        &["shot", "game.bin", "60", "7"],
+        b"error: unexpected argument '7' found\n\n  tip: the movie is read from standard input: tas shot game.bin 60 < game.movie > frame60.ppm\n\nUsage: tas shot <CART> <K> < MOVIE\n\nFor more information, try '--help'.\n",
+    ),
+    (
+        &["digest", "game.bin", "game.movie"],
+        b"error: invalid value 'game.movie' for '[EVERY]': invalid digit found in string\n\n  tip: the movie is read from standard input: tas digest game.bin 600 < game.movie\n\nFor more information, try '--help'.\n",
+    ),
+    (
+        &["compare", "game.bin", "old.movie", "new.movie"],
+        b"error: unexpected argument 'new.movie' found\n\n  tip: the newer movie is read from standard input: tas compare game.bin old.movie < new.movie\n\nUsage: tas compare <CART> <OLD> < MOVIE\n\nFor more information, try '--help'.\n",
+    ),
+    (
+        &["edit", "game.bin", "fix.script", "game.movie"],
+        b"error: unexpected argument 'game.movie' found\n\n  tip: the movie is read from standard input: tas edit game.bin fix.script < game.movie > new.movie\n\nUsage: tas edit [OPTIONS] <CART> <SCRIPT> < MOVIE\n\nFor more information, try '--help'.\n",
+    ),
+    (
+        &["script", "game.script"],
+        b"error: unexpected argument 'game.script' found\n\n  tip: the script is read from standard input: tas script < game.script\n\nUsage: tas script [OPTIONS] < SCRIPT\n\nFor more information, try '--help'.\n",
+    ),
+    (
+        &["talk", "game.bin", "game.movie", "lines"],
+        b"error: unexpected argument 'lines' found\n\n  tip: the conversation is read from standard input: tas talk game.bin game.movie < lines\n\nUsage: tas talk [CART] [MOVIE] < LINES\n\nFor more information, try '--help'.\n",
+    ),
+];
+
+/// Words that are refused for other reasons: these texts have no tip of the program's own.
+static NO_TIPS: [Refused<'static>; 5] = [
+    (
+        &["shot", "game.bin"],
+        b"error: the following required arguments were not provided:\n  <K>\n\nUsage: tas shot <CART> <K> < MOVIE\n\nFor more information, try '--help'.\n",
+    ),
+    (
+        &["shot", "game.bin", "10000000"],
+        b"error: invalid value '10000000' for '<K>': 10000000 is not in 0..=9999999\n\nFor more information, try '--help'.\n",
+    ),
+    (
+        &["check", "--all", "game.bin"],
+        b"error: unexpected argument '--all' found\n\n  tip: to pass '--all' as a value, use '-- --all'\n\nUsage: tas check <CART> < MOVIE\n\nFor more information, try '--help'.\n",
+    ),
+    (
+        &["desk", "game.bin", "game.movie", "in0"],
+        b"error: the following required arguments were not provided:\n  <OUT0>\n\nUsage: tas desk <CART> <MOVIE> <IN0> <OUT0> [IN1 OUT1] .. [IN7 OUT7]\n\nFor more information, try '--help'.\n",
+    ),
+    (
+        &["xyz", "game.bin"],
+        b"error: unrecognized subcommand 'xyz'\n\nUsage: tas <COMMAND>\n\nFor more information, try '--help'.\n",
+    ),
+];
+
+fn check_refused<R: Threads + Wait + Abort + Sync>(rt: &R, alloc: Global, rows: &[Refused<'_>]) {
+    for (words, text) in rows.iter() {
+        let end = (2, b"".as_slice(), *text);
+        check_run(rt, alloc, words, only_game(b""), ONE_FRAME, end);
+    }
+}
+
+#[test]
+fn a_word_in_the_place_of_standard_input_gets_a_tip(rt: HostRuntime) {
+    check_refused(&rt, rt.alloc(), TIPS.as_slice());
+}
+
+#[test]
+fn other_words_get_no_tip(rt: HostRuntime) {
+    check_refused(&rt, rt.alloc(), NO_TIPS.as_slice());
+}
+
+/// The commands.
+static COMMANDS: [&str; 16] = [
+    "trace", "check", "migrate", "shot", "film", "export", "ram", "digest", "compare", "lag",
+    "edit", "cut", "diff", "script", "talk", "desk",
+];
+
+/// Fails where a line of a text has more than 100 bytes.
+fn check_width<R: Abort>(rt: &R, words: &[&str], text: &[u8]) {
+    let mut width = 0_usize;
+    for byte in text {
+        width = if *byte == b'\n' {
+            0
+        } else {
+            width.saturating_add(1)
+        };
+        check_that(rt, (words, width), width <= 100);
+    }
+}
+
+/// Fails where a line of the help of these words has more than 100 bytes.
+fn check_help<R: Threads + Wait + Abort + Sync>(rt: &R, alloc: Global, words: &[&str]) {
+    let mut written = Vec::new(alloc);
+    let mut told = Vec::new(alloc);
+    let folder = only_game(b"");
+    let status = run(rt, alloc, words, folder, b"", &mut written, &mut told);
+    check_same(rt, words, (status, told.len()), (0, 0));
+    check_width(rt, words, written.as_slice());
+}
+
+#[test]
+fn no_line_of_a_help_has_more_than_100_columns(rt: HostRuntime) {
+    let alloc = rt.alloc();
+    check_help(&rt, alloc, ["--help"].as_slice());
+    for command in COMMANDS.iter() {
+        check_help(&rt, alloc, [*command, "--help"].as_slice());
+    }
+}

@@ -1,0 +1,134 @@
+-- How each command is called, and the tip for those who take its standard input for a word.
+use Rattle.std.specs.Prelude.{◌≡◌, ◌&&◌, ◌||◌, ◌==◌, ℕ, List, [], ◌∷◌, Bool, true, false, not, Option, Some, None, codes, option_map, find, if◌then◌else◌}
+use Rattle.std.specs.Char.{is_ascii_digit}
+use Rattle.std.specs.List.{filter_map, list_all}
+use Rattle.std.specs.Str.{bytes_eq}
+use Rattle.clap.specs.Walk.{Text}
+use Rattle.clap.specs.declared.builder.command.Command.{Command}
+use Rattle.clap.specs.declared.builder.command.Command.TheViews.{out-Command}
+use Rattle.tas_words.specs.declared.subcommands.Subcommand.{Subcommand}
+use Rattle.tas_words.specs.declared.subcommands.Word.{Word}
+use Rattle.tas_words.specs.declared.subcommands.WordKind.{WordKind}
+use Rattle.tas_words.specs.declared.subcommands.WordKind.TheVariants.{File, OptionalFile, PairedFile, Flag, Number, OptionalNumber}
+
+-- a command's name, its usage, its tip if it reads standard input, and of each word that stands after no flag whether it is a number
+pub record Guide : Type 0 where
+  pub name : Text
+  pub usage : Text
+  pub tip : Option Text
+  pub numbers : List Bool
+
+abbrev pub guide : Text → Text → Option Text → List Bool → Guide
+guide name usage tip numbers = record { name = name; usage = usage; tip = tip; numbers = numbers }
+
+-- whether a word is a number; none of a word after a flag
+abbrev pub kind_number : WordKind → Option Bool
+kind_number File = Some false
+kind_number OptionalFile = Some false
+kind_number (PairedFile other) = Some false
+kind_number (Flag flag other) = None
+kind_number (Number least most) = Some true
+kind_number (OptionalNumber least most) = Some true
+
+abbrev pub numbers_of : List Word → List Bool
+numbers_of words = filter_map (λ word. kind_number word.kind) words
+
+abbrev pub guide_of : Subcommand → Guide
+guide_of command = guide command.name.now command.usage.now (option_map (λ tip. tip.now) command.tip) (numbers_of command.words.now)
+
+-- the usage that clap shows of a command
+abbrev pub HasUsage : Command → Text → Type 0
+HasUsage command usage = option_map (λ line. line.now) (out-Command command).usage_str ≡ Some usage
+
+-- those of the program's first commands
+abbrev pub first_guides : List Guide
+first_guides =
+    guide (codes "trace") (codes "tas trace <N> < CART")
+    (Some (codes "the cartridge is read from standard input: tas trace 3 < game.bin")) (true ∷ [])
+    ∷ guide (codes "check") (codes "tas check <CART> < MOVIE")
+    (Some (codes "the movie is read from standard input: tas check game.bin < game.movie")) (false ∷ [])
+    ∷ guide (codes "migrate") (codes "tas migrate <CART> < MOVIE")
+    (Some (codes "the movie is read from standard input: tas migrate game.bin < old.movie > new.movie")) (false ∷ [])
+    ∷ guide (codes "shot") (codes "tas shot <CART> <K> < MOVIE")
+    (Some (codes "the movie is read from standard input: tas shot game.bin 60 < game.movie > frame60.ppm")) (false ∷ true ∷ [])
+    ∷ guide (codes "film") (codes "tas film <CART> [FROM] [TO] < MOVIE")
+    (Some (codes "the movie is read from standard input: tas film game.bin 0 600 < game.movie > film.ppm")) (false ∷ true ∷ true ∷ [])
+    ∷ guide (codes "export") (codes "tas export <CART> <FROM> <TO> <WORKERS> < MOVIE")
+    (Some (codes "the movie is read from standard input: tas export game.bin 0 600 4 < game.movie > film.ppm")) (false ∷ true ∷ true ∷ true ∷ [])
+    ∷ guide (codes "ram") (codes "tas ram <CART> <FROM> <TO> < MOVIE")
+    (Some (codes "the movie is read from standard input: tas ram game.bin 1 61 < game.movie")) (false ∷ true ∷ true ∷ [])
+    ∷ guide (codes "digest") (codes "tas digest <CART> [EVERY] < MOVIE")
+    (Some (codes "the movie is read from standard input: tas digest game.bin 600 < game.movie")) (false ∷ true ∷ [])
+    ∷ guide (codes "compare") (codes "tas compare <CART> <OLD> < MOVIE")
+    (Some (codes "the newer movie is read from standard input: tas compare game.bin old.movie < new.movie")) (false ∷ false ∷ [])
+    ∷ guide (codes "lag") (codes "tas lag <CART> < MOVIE")
+    (Some (codes "the movie is read from standard input: tas lag game.bin < game.movie")) (false ∷ [])
+    ∷ []
+
+-- those of the commands after them
+abbrev pub later_guides : List Guide
+later_guides =
+    guide (codes "edit") (codes "tas edit [OPTIONS] <CART> <SCRIPT> < MOVIE")
+    (Some (codes "the movie is read from standard input: tas edit game.bin fix.script < game.movie > new.movie")) (false ∷ false ∷ [])
+    ∷ guide (codes "cut") (codes "tas cut <CART> <FROM> <TO> < MOVIE")
+    (Some (codes "the movie is read from standard input: tas cut game.bin 60 120 < game.movie > new.movie")) (false ∷ true ∷ true ∷ [])
+    ∷ guide (codes "diff") (codes "tas diff <CART> <OLD> < MOVIE")
+    (Some (codes "the newer movie is read from standard input: tas diff game.bin old.movie < new.movie")) (false ∷ false ∷ [])
+    ∷ guide (codes "script") (codes "tas script [OPTIONS] < SCRIPT")
+    (Some (codes "the script is read from standard input: tas script < game.script")) []
+    ∷ guide (codes "talk") (codes "tas talk [CART] [MOVIE] < LINES")
+    (Some (codes "the conversation is read from standard input: tas talk game.bin game.movie < lines")) (false ∷ false ∷ [])
+    ∷ []
+
+-- that of the last one
+abbrev pub last_guides : List Guide
+last_guides =
+    guide (codes "desk") (codes "tas desk <CART> <MOVIE> <IN0> <OUT0> [IN1 OUT1] .. [IN7 OUT7]")
+    None (false ∷ false ∷ false ∷ false ∷ false ∷ false ∷ false ∷ false ∷ false ∷ false ∷ false ∷ false ∷ false ∷ false ∷ false ∷ false ∷ false ∷ false ∷ [])
+    ∷ []
+
+-- ---- which words get a tip
+
+-- a byte that a number on the command line may have: a digit, or a plus
+abbrev pub is_number_byte : ℕ → Bool
+is_number_byte byte = is_ascii_digit byte || byte == 43
+
+-- a text is a flag: it begins with a dash
+abbrev pub is_flag : Text → Bool
+is_flag [] = false
+is_flag (byte ∷ bytes) = byte == 45
+
+-- it is none
+abbrev pub is_plain : Text → Bool
+is_plain text = not (is_flag text)
+
+-- one of the texts stands where there is no word left, or where a number is wanted that it can't be
+abbrev pub has_stray : List Bool → List Text → Bool
+has_stray numbers [] = false
+has_stray [] (text ∷ texts) = true
+has_stray (number ∷ numbers) (text ∷ texts) = (number && not (list_all is_number_byte text)) || has_stray numbers texts
+
+-- the tip of a command for the texts after its name, no flag among them
+abbrev pub tip_for : List Text → Guide → Option Text
+tip_for texts command = if list_all is_plain texts && has_stray command.numbers texts then command.tip else None
+
+-- a command's name is this one
+abbrev pub is_named : Text → Guide → Bool
+is_named name command = bytes_eq command.name name
+
+abbrev pub or_else : {A : Type 0} → Option A → Option A → Option A
+or_else None second = second
+or_else (Some first) second = Some first
+
+-- the command of this name
+abbrev pub guide_named : Text → Option Guide
+guide_named name = or_else (find (is_named name) first_guides) (or_else (find (is_named name) later_guides) (find (is_named name) last_guides))
+
+abbrev pub joined : {A : Type 0} → Option (Option A) → Option A
+joined None = None
+joined (Some inner) = inner
+
+-- the tip for these words, the first of which is the program's name
+abbrev pub tip_of : List Text → Option Text
+tip_of (program ∷ name ∷ texts) = joined (option_map (tip_for texts) (guide_named name))
+tip_of _ = None
