@@ -10,7 +10,7 @@ use std::io::{Error, ErrorKind};
 use std::process::Abort;
 use std::sync::Wait;
 use std::thread::Threads;
-use tas_program::{Folder, Streams, run_program};
+use tas_program::{Folder, OrdinaryFile, Permit, Streams, run_program};
 use test_streams::{Giver, Taker};
 
 /// A folder with one file, `game.bin`.
@@ -24,6 +24,10 @@ impl<'a> Folder for OneFile<'a> {
 
     type Sink = Taker;
 
+    fn look(&self, _name: &str) -> Option<OrdinaryFile> {
+        None
+    }
+
     fn open(&self, name: &str) -> io::Result<Giver<'a>> {
         if name == "game.bin" {
             Ok(Giver::new(self.game, usize::MAX, 0))
@@ -32,7 +36,7 @@ impl<'a> Folder for OneFile<'a> {
         }
     }
 
-    fn open_to_write(&self, _name: &str) -> io::Result<Taker> {
+    fn open_to_write(&self, _permit: Permit, _name: &str) -> io::Result<Taker> {
         Err(Error::from(ErrorKind::NotFound))
     }
 }

@@ -1,3 +1,4 @@
 pub mod DoorEndLemmas
+pub mod FileWordLemmas
 pub mod PairLemmas
 pub mod ProgramLemmas

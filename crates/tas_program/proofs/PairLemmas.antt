@@ -1,5 +1,5 @@
 -- The pairs of a desk, and the ends of their doors.
-use Rattle.std.proofs.Common.{◌≡◌, ℕ, ◌<◌, ◌≤◌, ◌+◌, List, [], ◌∷◌, ◌++◌, Option, Some, None, Result, Err, inl, subst, All, arith, length, map, take, get_or, append-nil, refl, sym, ap, ◌∙◌}
+use Rattle.std.proofs.Common.{◌≡◌, ℕ, ◌<◌, ◌+◌, List, [], ◌∷◌, ◌++◌, Option, Some, None, Result, Err, inl, subst, All, arith, length, map, take, get_or, append-nil, refl, sym, ap, ◌∙◌}
 use Rattle.std.proofs.lemmas.List.{map-append, take_more}
 use Rattle.std.proofs.lemmas.List.Elements.{All-head, All-push, All-tail, filter_map-append}
 use Rattle.std.specs.List.{cons_option, filter_map}
@@ -14,6 +14,7 @@ use Rattle.tas_tool.specs.Desks.{IsDeskRun}
 use Rattle.tas_words.specs.Task.{pairs_in}
 use Rattle.tas_words.specs.declared.task.Pair.{Pair}
 use Rattle.tas_words.specs.declared.task.Pairs.{Pairs}
+use Rattle.tas_program.specs.declared.folder.OrdinaryFile.{OrdinaryFile}
 use Rattle.tas_program.specs.Files.{files_by}
 use Rattle.tas_program.specs.Program.{EndsOverTwo, IsDeskTask, ends_by, ends_of}
 use Rattle.tas_program.specs.Streams.{StreamBytes}
@@ -42,17 +43,17 @@ without_door places i d below none = go (get_or places i d) refl
     go (Some pair) e = absurd (none pair e)
 
 -- the ends of doors to these pairs in one folder are the pairs' ends
-pub ends_are : {D F : Type 0} (read held : F → List ℕ → Option (List ℕ)) (folder_of : D → F) (pair_of : D → Pair) (folder : F) (doors : List D) (pairs : Pairs) → All (λ door. folder_of door ≡ folder) doors
+pub ends_are : {D F : Type 0} (read held : F → List ℕ → Option (List ℕ)) (shown : List ℕ → Option (Option OrdinaryFile)) (folder_of : D → F) (pair_of : D → Pair) (folder : F) (doors : List D) (pairs : Pairs) → All (λ door. folder_of door ≡ folder) doors
     → map pair_of doors ≡ pairs_in pairs
-    → map (λ door. ends_by (files_by (read (folder_of door)) (held (folder_of door))) (pair_of door)) doors ≡ ends_of (files_by (read folder) (held folder)) pairs
-ends_are {D = D} {F = F} read held folder_of pair_of folder doors pairs all is = go doors all ∙ ap (λ l. map (ends_by (files_by (read folder) (held folder))) l) is
+    → map (λ door. ends_by (files_by (read (folder_of door)) (held (folder_of door)) shown) (pair_of door)) doors ≡ ends_of (files_by (read folder) (held folder) shown) pairs
+ends_are {D = D} {F = F} read held shown folder_of pair_of folder doors pairs all is = go doors all ∙ ap (λ l. map (ends_by (files_by (read folder) (held folder) shown)) l) is
   where
     known : D → DoorEnds
-    known door = ends_by (files_by (read (folder_of door)) (held (folder_of door))) (pair_of door)
+    known door = ends_by (files_by (read (folder_of door)) (held (folder_of door)) shown) (pair_of door)
 
-    go : (l : List D) → All (λ door. folder_of door ≡ folder) l → map known l ≡ map (ends_by (files_by (read folder) (held folder))) (map pair_of l)
+    go : (l : List D) → All (λ door. folder_of door ≡ folder) l → map known l ≡ map (ends_by (files_by (read folder) (held folder) shown)) (map pair_of l)
     go [] all = refl
-    go (door ∷ l) all = rw (All-head (λ d. folder_of d ≡ folder) door l all) (ap (λ r. ends_by (files_by (read folder) (held folder)) (pair_of door) ∷ r) (go l (All-tail (λ d. folder_of d ≡ folder) door l all)))
+    go (door ∷ l) all = rw (All-head (λ d. folder_of d ≡ folder) door l all) (ap (λ r. ends_by (files_by (read folder) (held folder) shown) (pair_of door) ∷ r) (go l (All-tail (λ d. folder_of d ≡ folder) door l all)))
 
 -- a desk was run over two files and the ends of these doors
 pub over_ends : {D : Type 0} (facts : DoorFacts D) (doors doors' : List D) (ends : List DoorEnds) (one two file left file' left' : Option (List ℕ)) (old new : StreamBytes) (end : Result (Unit {0}) ToolFault) → file ≡ one → file' ≡ two

@@ -1,5 +1,5 @@
 -- How invocations end.
-use Rattle.std.proofs.Common.{◌≡◌, ℕ, List, Option, Result, Ok, Err, inr, subst}
+use Rattle.std.proofs.Common.{◌≡◌, ℕ, List, Option, Result, Ok, Err, inr, refl, subst}
 use Rattle.tas_engines.specs.declared.fault.ToolFault.{ToolFault}
 use Rattle.std.specs.Prelude.{String}
 use Rattle.std.specs.declared.vec.IntoIter.{IntoIter}
@@ -9,13 +9,24 @@ use Rattle.tas_words.specs.declared.invocation.Invocation.{Invocation}
 use Rattle.tas_words.specs.declared.invocation.Invocation.TheVariants.{Do, Show, Refuse, NoMemory}
 use Rattle.tas_words.specs.declared.task.Task.{Task}
 use Rattle.tas_words.specs.Invocations.{AreGiven, IsInvocation, IsNoTask}
-use Rattle.tas_program.specs.Program.{IsAskedBy, end_status, FileEngine, TwoFilesEngine, ThreeFilesEngine, EndsOver, EndsOverTwo, EndsOverThree, DoesTask, TaskEnds}
+use Rattle.tas_program.specs.Program.{IsAskedBy, end_status, FileEngine, TwoFilesEngine, ThreeFilesEngine, EndsOver, EndsOverTwo, EndsOverThree, IsTaskRun, TaskEnds}
+use Rattle.tas_program.specs.declared.status.TaskFault.{TaskFault}
+use Rattle.tas_program.specs.declared.status.TaskFault.TheVariants.{Word, Tool}
+use Rattle.tas_program.specs.declared.file_words.Permit.{Permit}
+use Rattle.tas_program.specs.declared.file_words.WordFault.{WordFault}
+use Rattle.tas_program.specs.FileWords.{WordsEnd}
 use Rattle.tas_program.specs.Files.{FileBytes}
 use Rattle.tas_program.specs.Streams.{StreamBytes}
 
-pub task_ends : (files : FileBytes) (chosen : Task) (old new : StreamBytes) (end : Result (Unit {0}) ToolFault) → DoesTask files chosen old new end → TaskEnds files chosen old new (end_status end)
-task_ends files chosen old new (Ok u) does = does
-task_ends files chosen old new (Err fault) does = (fault, does)
+-- a task isn't begun, since a word is at fault
+pub not_begun : (files : FileBytes) (chosen : Task) (old : StreamBytes) (end : Result Permit WordFault) (fault : WordFault) → end ≡ Err fault → WordsEnd files.shown chosen end
+    → IsTaskRun files chosen old old (Err (Word fault))
+not_begun files chosen old end fault is (seen, are, first) = (seen, are, rw (first, is) (refl, refl))
+
+pub task_ends : (files : FileBytes) (chosen : Task) (old new : StreamBytes) (end : Result (Unit {0}) TaskFault) → IsTaskRun files chosen old new end → TaskEnds files chosen old new (end_status end)
+task_ends files chosen old new (Ok u) ran = ran
+task_ends files chosen old new (Err (Word fault)) ran = (fault, ran)
+task_ends files chosen old new (Err (Tool fault)) ran = (fault, ran)
 
 -- an engine ran over a file that was opened
 pub over_one : (engine : FileEngine) (one file left : Option (List ℕ)) (old new : StreamBytes) (end : Result (Unit {0}) ToolFault) → file ≡ one

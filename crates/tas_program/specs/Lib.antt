@@ -1,3 +1,4 @@
 pub mod Streams
+pub mod FileWords
 pub mod Files
 pub mod Program

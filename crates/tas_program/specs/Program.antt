@@ -40,6 +40,11 @@ use Rattle.tas_words.specs.declared.task.Task.TheVariants.{Trace, Check, Migrate
 use Rattle.tas_words.specs.declared.task.Start.TheVariants.{Blank, Cart, Movie}
 use Rattle.clap.specs.Walk.{Text}
 use Rattle.tas_words.specs.Invocations.{AreGiven, IsInvocation}
+use Rattle.tas_program.specs.declared.status.TaskFault.{TaskFault}
+use Rattle.tas_program.specs.declared.status.TaskFault.TheVariants.{Word, Tool}
+use Rattle.tas_program.specs.declared.file_words.WordFault.{WordFault}
+use Rattle.tas_program.specs.declared.file_words.SeenWord.{SeenWord}
+use Rattle.tas_program.specs.FileWords.{AreSeen, first_fault}
 use Rattle.tas_program.specs.Files.{FileBytes}
 use Rattle.tas_program.specs.Streams.{StreamBytes}
 
@@ -50,9 +55,10 @@ status_code Fault = 1
 status_code Misuse = 2
 
 -- the status after this end
-abbrev pub end_status : Result (Unit {0}) ToolFault → Status
+abbrev pub end_status : Result (Unit {0}) TaskFault → Status
 end_status (Ok _) = Done
-end_status (Err fault) = Fault
+end_status (Err (Word fault)) = Misuse
+end_status (Err (Tool fault)) = Fault
 
 -- an engine over a file and the streams: what is left of the file, and the bytes of the input and of the output, before and after
 abbrev pub FileEngine : Type 1
@@ -117,11 +123,26 @@ DoesTask files (Talk (Cart cart)) old new end = EndsOver (files.read cart.now) I
 DoesTask files (Talk (Movie start)) old new end = EndsOverTwo (files.read start.cart.now) (files.read start.movie.now) IsMovieTalk old new end
 DoesTask files (Desk cart movie pairs) old new end = EndsOverTwo (files.read cart.now) (files.read movie.now) (IsDeskTask (ends_of files pairs)) old new end
 
--- the program's end after a task: done where the task is, else a fault
+-- the end of a task whose engine was run
+abbrev pub tool_end : Result (Unit {0}) ToolFault → Result (Unit {0}) TaskFault
+tool_end (Ok u) = Ok u
+tool_end (Err fault) = Err (Tool fault)
+
+-- what is done after the words were looked at: where one is at fault, the task ends with that, and no stream is read or written; else its
+-- engine is run
+abbrev pub RunsAfter : FileBytes → Task → Option WordFault → StreamBytes → StreamBytes → Result (Unit {0}) TaskFault → Type 0
+RunsAfter files chosen (Some fault) old new end = (end ≡ Err (Word fault)) × (new ≡ old)
+RunsAfter files chosen None old new end = (done : Result (Unit {0}) ToolFault) × (end ≡ tool_end done) × DoesTask files chosen old new done
+
+-- a task is run: its words are seen as the folder shows their files, and the first one at fault decides
+abbrev pub IsTaskRun : FileBytes → Task → StreamBytes → StreamBytes → Result (Unit {0}) TaskFault → Type 0
+IsTaskRun files chosen old new end = (seen : List SeenWord) × AreSeen files.shown chosen seen × RunsAfter files chosen (first_fault seen) old new end
+
+-- the program's end after a task: done where the task is, else a fault of its engine or of a word
 abbrev pub TaskEnds : FileBytes → Task → StreamBytes → StreamBytes → Status → Type 0
-TaskEnds files chosen old new Done = DoesTask files chosen old new (Ok tt)
-TaskEnds files chosen old new Fault = (fault : ToolFault) × DoesTask files chosen old new (Err fault)
-TaskEnds files chosen old new Misuse = ⊥
+TaskEnds files chosen old new Done = IsTaskRun files chosen old new (Ok tt)
+TaskEnds files chosen old new Fault = (fault : ToolFault) × IsTaskRun files chosen old new (Err (Tool fault))
+TaskEnds files chosen old new Misuse = (fault : WordFault) × IsTaskRun files chosen old new (Err (Word fault))
 
 -- the program's end after a text that was asked for: done where it was written whole, else a fault
 abbrev pub TextEnds : List ℕ → Option (List ℕ) → Option (List ℕ) → Status → Type 0

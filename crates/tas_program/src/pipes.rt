@@ -4,7 +4,7 @@ ghost use Rattle.std.specs.Prelude.{◌≡◌, ◌≤◌, All, length, map, IfOk
 ghost use Rattle.tas_desk.specs.Seats.{most_seats};
 ghost use Rattle.tas_words.specs.Task.{pairs_in};
 
-use crate::Folder;
+use crate::{Folder, Permit};
 use std::alloc::{AllocError, Global};
 use std::io;
 use tas_tool::Door;
@@ -15,6 +15,7 @@ use tas_words::{Pair, Pairs};
 pub(crate) struct Pipes<'a, F> {
     folder: &'a F,
     pair: Pair<'a>,
+    permit: Permit,
 }
 
 impl<F: Folder> Door for Pipes<'_, F> {
@@ -31,7 +32,7 @@ impl<F: Folder> Door for Pipes<'_, F> {
 
     fn open(&mut self) -> io::Result<(F::File, F::Sink)> {
         let input = self.folder.open(self.pair.input)?;
-        let output = self.folder.open_to_write(self.pair.output)?;
+        let output = self.folder.open_to_write(self.permit, self.pair.output)?;
         Ok((input, output))
     }
 
@@ -45,6 +46,7 @@ pub(crate) fn pipes_of<'a, F: Folder>(
     alloc: Global,
     folder: &'a F,
     pairs: Pairs<'a>,
+    permit: Permit,
 ) -> Result<Vec<Pipes<'a, F>>, AllocError>
     ensures pairs { IfOk result (λ doors. map (λ door. door.pair) doors.items
         ≡ pairs_in pairs.entry) }
@@ -64,7 +66,11 @@ pub(crate) fn pipes_of<'a, F: Folder>(
     let mut doors = Vec::new(alloc);
     for place in places {
         if let Some(pair) = place {
-            doors.push(Pipes { folder, pair })?;
+            doors.push(Pipes {
+                folder,
+                pair,
+                permit,
+            })?;
         }
     }
     Ok(doors)

@@ -6,10 +6,10 @@ ghost use Rattle.tas_engines.specs.declared.fault.RunFault.{RunFault};
 ghost use Rattle.tas_engines.specs.Output.{StopsWriting};
 ghost use Rattle.tas_words.specs.declared.task.Task.TheVariants.{Desk, Edit, Script, Talk};
 ghost use Rattle.tas_program.specs.Files.{files_by};
-ghost use Rattle.tas_program.specs.Program.{DoesTask, CarriesOut, ProgramEnds, end_status};
+ghost use Rattle.tas_program.specs.Program.{DoesTask, IsTaskRun, CarriesOut, ProgramEnds, end_status, tool_end};
 
 use crate::pipes::pipes_of;
-use crate::{Folder, Status, Streams};
+use crate::{Folder, Permit, Status, Streams, TaskFault, check_words};
 use std::alloc::{Allocator, Global};
 use std::env::Args;
 use std::io;
@@ -43,7 +43,7 @@ fn run_script<T: Wait, A: Allocator + Copy, F: Folder, R: Read, W: Write>(
     input: &mut R,
     output: &mut W,
 ) -> Result<(), ToolFault>
-    ensures { DoesTask (files_by (F.bytes_of folder.now) (F.held_by folder.now))
+    ensures { DoesTask (files_by (F.bytes_of folder.now) (F.held_by folder.now) (F.shown folder.now))
         (Script start.entry)
         (record { input = R.remaining input.old; output = W.contents output.old })
         (record { input = R.remaining input.new; output = W.contents output.new }) result }
@@ -67,7 +67,7 @@ fn run_edit<A: Allocator + Copy, F: Folder, R: Read, W: Write>(
     input: &mut R,
     output: &mut W,
 ) -> Result<(), ToolFault>
-    ensures { DoesTask (files_by (F.bytes_of folder.now) (F.held_by folder.now))
+    ensures { DoesTask (files_by (F.bytes_of folder.now) (F.held_by folder.now) (F.shown folder.now))
         (Edit cart.entry script.entry other.entry)
         (record { input = R.remaining input.old; output = W.contents output.old })
         (record { input = R.remaining input.new; output = W.contents output.new }) result }
@@ -91,7 +91,7 @@ fn run_talk<T: Wait, A: Allocator + Copy, F: Folder, R: Read, W: Write>(
     input: &mut R,
     output: &mut W,
 ) -> Result<(), ToolFault>
-    ensures { DoesTask (files_by (F.bytes_of folder.now) (F.held_by folder.now))
+    ensures { DoesTask (files_by (F.bytes_of folder.now) (F.held_by folder.now) (F.shown folder.now))
         (Talk start.entry)
         (record { input = R.remaining input.old; output = W.contents output.old })
         (record { input = R.remaining input.new; output = W.contents output.new }) result }
@@ -113,17 +113,18 @@ fn run_desk<T: Wait + Threads + Sync, F: Folder + Sync, W: Write>(
     cart: &str,
     movie: &str,
     pairs: Pairs<'_>,
+    permit: Permit,
     folder: &F,
     output: &mut W,
 ) -> Result<(), ToolFault>
     ensures { (input : Option (List ℕ)) →
-        DoesTask (files_by (F.bytes_of folder.now) (F.held_by folder.now))
+        DoesTask (files_by (F.bytes_of folder.now) (F.held_by folder.now) (F.shown folder.now))
         (Desk cart.entry movie.entry pairs.entry)
         (record { input = input; output = W.contents output.old })
         (record { input = input; output = W.contents output.new }) result }
 {
     let (mut cart, mut movie) = (open(folder, cart)?, open(folder, movie)?);
-    let Ok(mut doors) = pipes_of(alloc, folder, pairs) else {
+    let Ok(mut doors) = pipes_of(alloc, folder, pairs, permit) else {
         return Err(ToolFault::Read(ReadFault::Memory));
     };
     desk_run(rt, alloc, &mut cart, &mut movie, &mut doors, output)
@@ -142,11 +143,12 @@ fn run_engine<
     global: Global,
     alloc: A,
     task: Task<'_>,
+    permit: Permit,
     folder: &F,
     input: &mut R,
     output: &mut W,
 ) -> Result<(), ToolFault>
-    ensures { DoesTask (files_by (F.bytes_of folder.now) (F.held_by folder.now))
+    ensures { DoesTask (files_by (F.bytes_of folder.now) (F.held_by folder.now) (F.shown folder.now))
         task.entry
         (record { input = R.remaining input.old; output = W.contents output.old })
         (record { input = R.remaining input.new; output = W.contents output.new }) result }
@@ -196,13 +198,24 @@ fn run_engine<
         Task::Script(start) => run_script(rt, alloc, start, folder, input, output),
         Task::Talk(start) => run_talk(rt, alloc, start, folder, input, output),
         Task::Desk { cart, movie, pairs } => {
-            run_desk(rt, global, cart, movie, pairs, folder, output)
+            run_desk(rt, global, cart, movie, pairs, permit, folder, output)
         }
     }
 }
 
-/// Does a task by its engine. The files that it names are opened first, a failure being `Read`, but for the pairs of a desk, which its
-/// conversations open. Then the engine reads the files and the input, and writes its answer to the output.
+/// The end of a task whose engine was run.
+fn ended(end: Result<(), ToolFault>) -> Result<(), TaskFault>
+    ensures { result ≡ tool_end end }
+{
+    match end {
+        Ok(()) => Ok(()),
+        Err(fault) => Err(TaskFault::Tool(fault)),
+    }
+}
+
+/// Does a task by its engine. First the files that its words name are looked at ([`check_words`]); where a word is at fault, nothing is
+/// opened. Then the files are opened, a failure being `Read`, but for the pairs of a desk, which its conversations open. Then the engine
+/// reads the files and the input, and writes its answer to the output.
 pub fn run_task<
     T: Wait + Threads + Sync,
     A: Allocator + Copy + Send + Sync,
@@ -217,19 +230,25 @@ pub fn run_task<
     task: Task<'_>,
     folder: &F,
     streams: &mut Streams<R, W, E>,
-) -> Result<(), ToolFault>
-    ensures { DoesTask (files_by (F.bytes_of folder.now) (F.held_by folder.now))
+) -> Result<(), TaskFault>
+    ensures { IsTaskRun (files_by (F.bytes_of folder.now) (F.held_by folder.now) (F.shown folder.now))
         task.entry streams.old streams.new result }
 {
-    run_engine(
+    let permit = match check_words(folder, task) {
+        Ok(permit) => permit,
+        Err(fault) => return Err(TaskFault::Word(fault)),
+    };
+    let end = run_engine(
         rt,
         global,
         alloc,
         task,
+        permit,
         folder,
         &mut streams.input,
         &mut streams.output,
-    )
+    );
+    ended(end)
 }
 
 /// Writes the line of a fault in one write, so that lines of other programs don't come into its middle; piece by piece where memory
@@ -237,7 +256,7 @@ pub fn run_task<
 fn write_line<A: Allocator, E: Write>(
     alloc: A,
     errors: &mut E,
-    fault: ToolFault,
+    fault: TaskFault,
 ) -> io::Result<()> {
     match format!(in alloc; "{fault}\n") {
         Ok(line) => errors.write_all(line.as_bytes()),
@@ -246,7 +265,7 @@ fn write_line<A: Allocator, E: Write>(
 }
 
 /// The status of what was done; the line of a fault is written to `errors`.
-fn report<A: Allocator, E: Write>(alloc: A, errors: &mut E, end: Result<(), ToolFault>) -> Status
+fn report<A: Allocator, E: Write>(alloc: A, errors: &mut E, end: Result<(), TaskFault>) -> Status
     ensures { result ≡ end_status end }
 {
     match end {
@@ -254,7 +273,10 @@ fn report<A: Allocator, E: Write>(alloc: A, errors: &mut E, end: Result<(), Tool
         Err(fault) => {
             // The status reports the fault even where its line can't be written.
             let _ = write_line(alloc, errors, fault);
-            Status::Fault
+            match fault {
+                TaskFault::Word(_) => Status::Misuse,
+                TaskFault::Tool(_) => Status::Fault,
+            }
         }
     }
 }
@@ -269,8 +291,8 @@ fn show<W: Write>(output: &mut W, text: &str) -> Result<(), ToolFault>
     Ok(write_all(output, text.as_bytes())?)
 }
 
-/// Carries an invocation out, and returns the program's status: 0 where it was done, 1 after a fault, whose
-/// line is written to standard error, and 2 where the words weren't understood, whose text goes there too.
+/// Carries an invocation out, and returns the program's status: 0 where it was done, 1 after a fault, whose line is written to standard
+/// error, and 2 where a word of it is at fault, whose line goes there, too, or where the words weren't understood, as does their text.
 pub fn carry_out<
     T: Wait + Threads + Sync,
     A: Allocator + Copy + Send + Sync,
@@ -286,7 +308,7 @@ pub fn carry_out<
     folder: &F,
     streams: &mut Streams<R, W, E>,
 ) -> Status
-    ensures { CarriesOut (files_by (F.bytes_of folder.now) (F.held_by folder.now))
+    ensures { CarriesOut (files_by (F.bytes_of folder.now) (F.held_by folder.now) (F.shown folder.now))
         invocation.entry streams.old streams.new result }
 {
     match invocation {
@@ -296,7 +318,7 @@ pub fn carry_out<
         }
         Invocation::Show(text) => {
             let end = show(&mut streams.output, text.as_str());
-            report(alloc, &mut streams.errors, end)
+            report(alloc, &mut streams.errors, ended(end))
         }
         Invocation::Refuse(text) => {
             let _ = write_all(&mut streams.errors, text.as_bytes());
@@ -305,7 +327,7 @@ pub fn carry_out<
         Invocation::NoMemory => report(
             alloc,
             &mut streams.errors,
-            Err(ToolFault::Run(RunFault::Memory)),
+            Err(TaskFault::Tool(ToolFault::Run(RunFault::Memory))),
         ),
     }
 }
@@ -327,7 +349,7 @@ pub fn run_program<
     folder: &F,
     streams: &mut Streams<R, W, E>,
 ) -> Status
-    ensures { ProgramEnds words (files_by (F.bytes_of folder.now) (F.held_by folder.now))
+    ensures { ProgramEnds words (files_by (F.bytes_of folder.now) (F.held_by folder.now) (F.shown folder.now))
         streams.old streams.new result }
 {
     match collect_words(alloc, words) {

@@ -3,6 +3,21 @@
 ghost use Rattle.std.specs.Prelude.{◌≡◌};
 ghost use Rattle.tas_program.specs.Program.{status_code};
 
+use crate::WordFault;
+use tas_tool::ToolFault;
+use thiserror::Error;
+
+/// Why a task wasn't done. Its text is the line, without the newline, that the program writes to standard error.
+#[derive(Clone, Copy, Debug, PartialEq, Eq, Error)]
+pub enum TaskFault {
+    /// A word of it is at fault, and nothing was opened: the program's status is 2.
+    #[error("{0}")]
+    Word(WordFault),
+    /// Its engine ended with a fault: the status is 1.
+    #[error("{0}")]
+    Tool(ToolFault),
+}
+
 /// How the program ended.
 #[derive(Clone, Copy, Debug, PartialEq, Eq)]
 pub enum Status {
@@ -10,7 +25,7 @@ pub enum Status {
     Done,
     /// A fault, whose line goes to standard error: 1.
     Fault,
-    /// The words aren't understood; a text on standard error says why: 2.
+    /// The words aren't understood, or one of them names a file that it may not; a text on standard error says why: 2.
     Misuse,
 }
 

@@ -9,7 +9,7 @@ use std::process::Abort;
 use std::sync::Wait;
 use std::sync::atomic::{AtomicU8, AtomicUsize, Ordering};
 use std::thread::Threads;
-use tas_program::{Folder, Streams, run_program};
+use tas_program::{Folder, OrdinaryFile, Permit, Streams, run_program};
 use test_streams::Giver;
 
 /// What a program of a pair sends, at which of the reads this fails, counted from 1, and how many bytes it takes of the answers.
@@ -32,13 +32,19 @@ pub fn sends(lines: &[u8]) -> Client<'_> {
     Client { lines, ..SILENT }
 }
 
-/// A folder with the files `game.bin` and `other`, and of each of its pairs K the files `inK` and `outK`.
+/// A name that stands for an ordinary file: its device, its number there and its length.
+pub type Ordinary<'a> = (&'a str, (u64, u64, u64));
+
+/// A folder with the files `game.bin` and `other`, and of each of its pairs K the files `inK` and `outK`. The names of `ordinary` stand for
+/// ordinary files. It counts the files that were opened.
 #[derive(Drop)]
 pub struct DeskFolder<'a> {
     pub game: &'a [u8],
     pub other: &'a [u8],
     pub clients: &'a [Client<'a>],
     pub tapes: &'a [Tape],
+    pub ordinary: &'a [Ordinary<'a>],
+    pub opened: AtomicUsize,
 }
 
 /// What an output has taken, as long as it has room for it. One thread writes it; others read it once that is done.
@@ -110,7 +116,21 @@ impl<'a> Folder for DeskFolder<'a> {
 
     type Sink = Sink<'a>;
 
+    fn look(&self, name: &str) -> Option<OrdinaryFile> {
+        for (known, (device, number, len)) in self.ordinary {
+            if name == *known {
+                return Some(OrdinaryFile {
+                    device: *device,
+                    number: *number,
+                    len: *len,
+                });
+            }
+        }
+        None
+    }
+
     fn open(&self, name: &str) -> io::Result<Giver<'a>> {
+        self.opened.fetch_add(1, Ordering::SeqCst);
         if name == "game.bin" {
             return Ok(Giver::new(self.game, usize::MAX, 0));
         }
@@ -126,7 +146,8 @@ impl<'a> Folder for DeskFolder<'a> {
         }
     }
 
-    fn open_to_write(&self, name: &str) -> io::Result<Sink<'a>> {
+    fn open_to_write(&self, _permit: Permit, name: &str) -> io::Result<Sink<'a>> {
+        self.opened.fetch_add(1, Ordering::SeqCst);
         let Some(number) = digit_of(name, "out") else {
             return Err(Error::from(ErrorKind::NotFound));
         };

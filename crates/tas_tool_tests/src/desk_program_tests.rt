@@ -7,6 +7,7 @@ use crate::programs::{ONE_FRAME, TWO_FRAMES};
 use std::alloc::Global;
 use std::process::Abort;
 use std::sync::Wait;
+use std::sync::atomic::AtomicUsize;
 use std::thread::Threads;
 use test_streams::{Failure, Room, Taker};
 
@@ -174,6 +175,8 @@ fn check_case<R: Threads + Wait + Abort + Sync>(
         other: case.movie,
         clients: case.clients,
         tapes: tapes.as_slice(),
+        ordinary: &[],
+        opened: AtomicUsize::new(0),
     };
     let mut output = Taker::new(alloc, 1000, Room::Bytes(case.room), Failure::Error);
     let mut errors = Vec::new(alloc);
@@ -214,6 +217,8 @@ fn two_pairs_edit_one_movie(rt: HostRuntime) {
         other: TWO_FRAMES,
         clients: clients.as_slice(),
         tapes: tapes.as_slice(),
+        ordinary: &[],
+        opened: AtomicUsize::new(0),
     };
     let (mut output, mut errors) = (Vec::new(alloc), Vec::new(alloc));
     let end = run_desk(&rt, alloc, TWO_PAIRS, &folder, &mut output, &mut errors);

@@ -17,6 +17,8 @@ mod desk_word_tests;
 #[cfg(test)]
 mod export_tests;
 #[cfg(test)]
+mod file_word_tests;
+#[cfg(test)]
 mod film_tests;
 #[cfg(test)]
 mod limit_tests;
@@ -42,6 +44,8 @@ mod program_cases;
 mod program_tests;
 #[cfg(test)]
 mod programs;
+#[cfg(test)]
+mod real_file_tests;
 #[cfg(test)]
 mod script_tests;
 #[cfg(test)]

@@ -12,7 +12,7 @@ use std::io::{Error, ErrorKind, Write};
 use std::process::Abort;
 use std::sync::Wait;
 use std::thread::Threads;
-use tas_program::{Folder, Streams, run_program};
+use tas_program::{Folder, OrdinaryFile, Permit, Streams, run_program};
 use test_streams::Taker;
 
 /// A folder with the files `game.bin` and `other`.
@@ -30,6 +30,10 @@ impl<'a> Folder for TwoFiles<'a> {
     ghost bytes_of = { λ s name. Some
         (if pointwise nat_eq name (codes "game.bin") then s.game.now else s.other.now) };
 
+    fn look(&self, _name: &str) -> Option<OrdinaryFile> {
+        None
+    }
+
     fn open(&self, name: &str) -> io::Result<&'a [u8]> {
         if name == "game.bin" {
             Ok(self.game)
@@ -40,7 +44,7 @@ impl<'a> Folder for TwoFiles<'a> {
         }
     }
 
-    fn open_to_write(&self, _name: &str) -> io::Result<Taker> {
+    fn open_to_write(&self, _permit: Permit, _name: &str) -> io::Result<Taker> {
         Err(Error::from(ErrorKind::NotFound))
     }
 }

@@ -202,8 +202,9 @@ next one is read, so that another program can hold the conversation. It has thes
 AT is the number of edits so far. A line that isn't understood, or longer than 16384 bytes, is
 answered 'unknown' and changes nothing. With CART it starts from this cartridge, with MOVIE from
 this movie. That counts as two edits. Outside a draft a step from a picture to the next one plays
-one frame. Fill a long movie by 'work' in steps, as 'work 4096', 'work 8192': each answer is the
-progress.
+one frame. Two of CART, MOVIE, standard input and standard output that are one ordinary file end it
+with status 2.
+Fill a long movie by 'work' in steps, as 'work 4096', 'work 8192': each answer is the progress.
 A frame is 'RLDUF RLDUF rsbAB': right, left, down, up and fire of the left stick; the same of the
 right stick; reset, select, black and white, left difficulty A, right difficulty A. A dot in a
 letter's place means that it isn't pressed or set.
@@ -216,6 +217,8 @@ Up to eight programs edit one movie at the same time. Each has a pair of files, 
 pipes: it writes lines to IN and reads the answers from OUT. Its lines and answers are those of
 'tas talk', but AT counts the edits of all. Each answer is right for the movie of AT edits. CART and
 MOVIE are the movie to start from; they count as the first two edits.
+No two words may name one ordinary file, and an OUT that is one must be empty: else nothing is
+opened, and the status is 2. Pipes and devices may be named more than once.
 IN of a pair is opened first, and then OUT. Opening a pipe waits for the other end, so a program
 must open its IN, to write, before its OUT, to read. If it opens OUT first, both wait forever.
 A pair's conversation ends with 'quit' or the end of IN, and both files are closed then. Standard

@@ -14,5 +14,5 @@ desk_run-requires-clause-few g c κs within =
 pub returns : goal.returns
 returns g c input =
     over_ends _ c.in-Ok.doors.items _ _ _ _ _ _ _ _ _ _ _ c.in_ok-cart.ensures.file c.in_ok-movie.ensures.file refl
-    (ends_are g.F.Folder.bytes_of g.F.Folder.held_by (λ door. door.folder.now) (λ door. door.pair) c.args.folder.now c.in-Ok.doors.items c.args.pairs c.in-Ok.ensures.folder c.in-Ok.ensures.pairs)
+    (ends_are g.F.Folder.bytes_of g.F.Folder.held_by (g.F.Folder.shown c.args.folder.now) (λ door. door.folder.now) (λ door. door.pair) c.args.folder.now c.in-Ok.doors.items c.args.pairs c.in-Ok.ensures.folder c.in-Ok.ensures.pairs)
     c.desk_run.ensures

@@ -1,0 +1,133 @@
+-- Which of the words that name files are refused, and when.
+use Rattle.std.specs.Prelude.{◌≡◌, ℕ, Bool, true, false, ◌&&◌, if◌then◌else◌, nat_eq, nat_lt, codes, List, [], ◌∷◌, ◌++◌, map, All, Option, Some, None, option_map, slice_get, Result, Ok, Err}
+use Rattle.tas_words.specs.declared.task.Pair.{Pair}
+use Rattle.tas_words.specs.declared.task.Pairs.{Pairs}
+use Rattle.tas_words.specs.declared.task.Task.{Task}
+use Rattle.tas_words.specs.declared.task.Task.TheVariants.{Talk, Desk}
+use Rattle.std.specs.Option.{option_flatten}
+use Rattle.std.specs.Borrow.{Bor}
+use Rattle.tas_words.specs.declared.task.Start.{Start}
+use Rattle.tas_words.specs.declared.task.Start.TheVariants.{Blank, Cart, Movie}
+use Rattle.tas_program.specs.declared.folder.OrdinaryFile.{OrdinaryFile}
+use Rattle.tas_program.specs.declared.file_words.FileWord.{FileWord}
+use Rattle.tas_program.specs.declared.file_words.FileWord.TheVariants.{Cart as CartWord, Movie as MovieWord, In, Out, Input, Output}
+use Rattle.tas_program.specs.declared.file_words.SeenWord.{SeenWord}
+use Rattle.tas_program.specs.declared.file_words.Permit.{Permit}
+use Rattle.tas_program.specs.declared.file_words.WordFault.{WordFault}
+use Rattle.tas_program.specs.declared.file_words.WordFault.TheVariants.{SameFile, NotEmpty}
+
+-- all words in their order: those of the command line, and then the streams
+abbrev pub words : List FileWord
+words = CartWord ∷ MovieWord ∷ In 0 ∷ Out 0 ∷ In 1 ∷ Out 1 ∷ In 2 ∷ Out 2 ∷ In 3 ∷ Out 3 ∷ In 4 ∷ Out 4 ∷ In 5 ∷ Out 5 ∷ In 6 ∷ Out 6 ∷ In 7 ∷ Out 7 ∷ Input ∷ Output ∷ []
+
+-- the pair of this number, if it is there
+abbrev pub pair_at : Pairs → ℕ → Option Pair
+pair_at pairs k =
+    option_flatten (slice_get (Some pairs.first ∷ pairs.second ∷ pairs.third ∷ pairs.fourth ∷ pairs.fifth ∷ pairs.sixth ∷ pairs.seventh ∷ pairs.eighth ∷ []) k)
+
+-- the file's name for which each word of a conversation stands, by what it starts from
+abbrev pub cart_name : Start → Option (List ℕ)
+cart_name Blank = None
+cart_name (Cart cart) = Some cart.now
+cart_name (Movie files) = Some files.cart.now
+
+abbrev pub movie_name : Start → Option (List ℕ)
+movie_name Blank = None
+movie_name (Cart cart) = None
+movie_name (Movie files) = Some files.movie.now
+
+abbrev pub talk_name : Start → FileWord → Option (List ℕ)
+talk_name start CartWord = cart_name start
+talk_name start MovieWord = movie_name start
+talk_name start (In k) = None
+talk_name start (Out k) = None
+talk_name start Input = Some (codes "/dev/stdin")
+talk_name start Output = Some (codes "/dev/stdout")
+
+-- the same of a desk, which doesn't read standard input
+abbrev pub desk_name : Bor (List ℕ) → Bor (List ℕ) → Pairs → FileWord → Option (List ℕ)
+desk_name cart movie pairs CartWord = Some cart.now
+desk_name cart movie pairs MovieWord = Some movie.now
+desk_name cart movie pairs (In k) = option_map (λ pair. pair.input.now) (pair_at pairs k)
+desk_name cart movie pairs (Out k) = option_map (λ pair. pair.output.now) (pair_at pairs k)
+desk_name cart movie pairs Input = None
+desk_name cart movie pairs Output = Some (codes "/dev/stdout")
+
+-- the same of each task; the files of tasks that open none for writing aren't looked at
+abbrev pub name_of : Task → FileWord → Option (List ℕ)
+name_of (Talk start) word = talk_name start word
+name_of (Desk cart movie pairs) word = desk_name cart movie pairs word
+name_of chosen word = None
+
+-- an ordinary file, or none, is what is known to be there, where something is known
+abbrev pub IsShown : Option (Option OrdinaryFile) → Option OrdinaryFile → Type 0
+IsShown None file = Unit {0}
+IsShown (Some there) file = file ≡ there
+
+-- the same by a name, where there is one
+abbrev pub IsSeen : (List ℕ → Option (Option OrdinaryFile)) → Option (List ℕ) → Option OrdinaryFile → Type 0
+IsSeen shown None file = file ≡ None
+IsSeen shown (Some name) file = IsShown (shown name) file
+
+-- each word of a task is seen as the folder shows its file
+abbrev pub AreSeen : (List ℕ → Option (Option OrdinaryFile)) → Task → List SeenWord → Type 0
+AreSeen shown chosen seen =
+    (map (λ s. s.word) seen ≡ words) × All (λ s. IsSeen shown (name_of chosen s.word) s.file) seen
+
+-- two words stand for one ordinary file
+abbrev pub same_file : Option OrdinaryFile → Option OrdinaryFile → Bool
+same_file None other = false
+same_file (Some one) None = false
+same_file (Some one) (Some other) = nat_eq one.device other.device && nat_eq one.number other.number
+
+abbrev pub are_same : SeenWord → SeenWord → Bool
+are_same one other = same_file one.file other.file
+
+-- the first of these words that stands for the same file as another one
+abbrev pub first_same : List SeenWord → SeenWord → Option FileWord
+first_same [] word = None
+first_same (other ∷ others) word = if are_same other word then Some other.word else first_same others word
+
+-- a word is the output of a pair
+abbrev pub is_pair_output : FileWord → Bool
+is_pair_output (Out k) = true
+is_pair_output word = false
+
+-- it is, and its ordinary file has bytes
+abbrev pub holds_bytes : FileWord → Option OrdinaryFile → Bool
+holds_bytes word None = false
+holds_bytes word (Some file) = is_pair_output word && nat_lt 0 file.len
+
+abbrev pub has_bytes : SeenWord → Bool
+has_bytes word = holds_bytes word.word word.file
+
+-- a word's fault after those before it: it is their first one's file that it stands for, else that it isn't empty
+abbrev pub fault_by : FileWord → Option FileWord → Bool → Option WordFault
+fault_by word (Some other) full = Some (SameFile word other)
+fault_by word None true = Some (NotEmpty word)
+fault_by word None false = None
+
+abbrev pub word_fault : List SeenWord → SeenWord → Option WordFault
+word_fault others word = fault_by word.word (first_same others word) (has_bytes word)
+
+-- this fault, or else the other one
+abbrev pub fault_or : Option WordFault → Option WordFault → Option WordFault
+fault_or (Some fault) later = Some fault
+fault_or None later = later
+
+-- the fault of the first word at fault, after some that aren't
+abbrev pub fault_from : (others seen : List SeenWord) → Option WordFault
+fault_from others [] = None
+fault_from others (word ∷ later) = fault_or (word_fault others word) (fault_from (others ++ word ∷ []) later)
+
+-- the fault of the first word at fault
+abbrev pub first_fault : List SeenWord → Option WordFault
+first_fault seen = fault_from [] seen
+
+-- a permit is given where no word is at fault; else the first fault is returned
+abbrev pub fault_in : Result Permit WordFault → Option WordFault
+fault_in (Ok permit) = None
+fault_in (Err fault) = Some fault
+
+abbrev pub WordsEnd : (List ℕ → Option (Option OrdinaryFile)) → Task → Result Permit WordFault → Type 0
+WordsEnd shown chosen end = (seen : List SeenWord) × AreSeen shown chosen seen × (first_fault seen ≡ fault_in end)

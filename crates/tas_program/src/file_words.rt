@@ -1,0 +1,307 @@
+//! The words that name files: which of them a desk or a conversation refuses before it opens any.
+
+ghost use Rattle.std.specs.Prelude.{◌≡◌, option_map};
+ghost use Rattle.tas_program.specs.FileWords.{AreSeen, IsSeen, WordsEnd, are_same, cart_name, desk_name, first_fault, first_same};
+ghost use Rattle.tas_program.specs.FileWords.{has_bytes, is_pair_output, movie_name, name_of, pair_at, talk_name, word_fault};
+
+use crate::{Folder, OrdinaryFile};
+use std::fmt;
+use std::fmt::{Display, Formatter, Write};
+use tas_words::{Pair, Pairs, Start, Task};
+use thiserror::Error;
+
+/// A word that names a file, or a standard stream. Its text is the word's name in the help.
+#[derive(Clone, Copy, Debug, PartialEq, Eq)]
+pub enum FileWord {
+    /// The cartridge.
+    Cart,
+    /// The movie.
+    Movie,
+    /// The lines of the pair of this number, counted from 0.
+    In(usize),
+    /// The answers to the pair of this number.
+    Out(usize),
+    /// Standard input.
+    Input,
+    /// Standard output.
+    Output,
+}
+
+impl Display for FileWord {
+    fn fmt<W: Write>(&self, f: &mut Formatter<W>) -> fmt::Result {
+        match self {
+            FileWord::Cart => f.write_str("CART"),
+            FileWord::Movie => f.write_str("MOVIE"),
+            FileWord::In(pair) => write!(f, "IN{pair}"),
+            FileWord::Out(pair) => write!(f, "OUT{pair}"),
+            FileWord::Input => f.write_str("standard input"),
+            FileWord::Output => f.write_str("standard output"),
+        }
+    }
+}
+
+/// Why a task isn't begun. Its text is the line, without the newline, that the program writes to standard error; the program's status is
+/// then 2. No file is opened.
+#[derive(Clone, Copy, Debug, PartialEq, Eq, Error)]
+pub enum WordFault {
+    /// Two words stand for one ordinary file.
+    #[error("fault: {word}: same file as {other}")]
+    SameFile {
+        /// The later one.
+        word: FileWord,
+        /// The first one of that file.
+        other: FileWord,
+    },
+    /// The answers would go over the bytes of an ordinary file.
+    #[error("fault: {word}: not empty")]
+    NotEmpty {
+        /// The word of that file.
+        word: FileWord,
+    },
+}
+
+/// The permit to open files for writing. [`check_words`] gives one where no word is at fault, and nothing else does.
+#[derive(Clone, Copy)]
+pub struct Permit {
+    _given: (),
+}
+
+/// A word, with the ordinary file that it was seen to stand for.
+#[derive(Clone, Copy)]
+pub struct SeenWord {
+    /// The word.
+    pub word: FileWord,
+    /// Its file; none where the task hasn't the word, or where it stands for no ordinary file.
+    pub file: Option<OrdinaryFile>,
+}
+
+/// How many words there are.
+const WORDS: usize = 20;
+
+/// All words, as they stand on the command line, and then the streams.
+static ALL: [FileWord; WORDS] = [
+    FileWord::Cart,
+    FileWord::Movie,
+    FileWord::In(0),
+    FileWord::Out(0),
+    FileWord::In(1),
+    FileWord::Out(1),
+    FileWord::In(2),
+    FileWord::Out(2),
+    FileWord::In(3),
+    FileWord::Out(3),
+    FileWord::In(4),
+    FileWord::Out(4),
+    FileWord::In(5),
+    FileWord::Out(5),
+    FileWord::In(6),
+    FileWord::Out(6),
+    FileWord::In(7),
+    FileWord::Out(7),
+    FileWord::Input,
+    FileWord::Output,
+];
+
+/// The pair of this number.
+fn pair_of(pairs: Pairs<'_>, number: usize) -> Option<Pair<'_>>
+    ensures { result ≡ pair_at pairs.entry number }
+{
+    let places = [
+        Some(pairs.first),
+        pairs.second,
+        pairs.third,
+        pairs.fourth,
+        pairs.fifth,
+        pairs.sixth,
+        pairs.seventh,
+        pairs.eighth,
+    ];
+    places.get(number).copied().flatten()
+}
+
+/// The cartridge's name of a conversation.
+fn cart_of(start: Start<'_>) -> Option<&str>
+    ensures { option_map (λ name. name.now) result ≡ cart_name start.entry }
+{
+    match start {
+        Start::Blank => None,
+        Start::Cart { cart } => Some(cart),
+        Start::Movie(files) => Some(files.cart),
+    }
+}
+
+/// The movie's name of a conversation.
+fn movie_of(start: Start<'_>) -> Option<&str>
+    ensures { option_map (λ name. name.now) result ≡ movie_name start.entry }
+{
+    match start {
+        Start::Blank => None,
+        Start::Cart { cart: _ } => None,
+        Start::Movie(files) => Some(files.movie),
+    }
+}
+
+/// What a word of a conversation stands for.
+fn in_talk(start: Start<'_>, word: FileWord) -> Option<&str>
+    ensures { option_map (λ name. name.now) result ≡ talk_name start.entry word }
+{
+    match word {
+        FileWord::Cart => cart_of(start),
+        FileWord::Movie => movie_of(start),
+        FileWord::In(_) => None,
+        FileWord::Out(_) => None,
+        FileWord::Input => Some("/dev/stdin"),
+        FileWord::Output => Some("/dev/stdout"),
+    }
+}
+
+/// What a word of a desk stands for.
+fn in_desk<'a>(cart: &'a str, movie: &'a str, pairs: Pairs<'a>, word: FileWord) -> Option<&'a str>
+    ensures { option_map (λ name. name.now) result
+        ≡ desk_name cart.entry movie.entry pairs.entry word }
+{
+    match word {
+        FileWord::Cart => Some(cart),
+        FileWord::Movie => Some(movie),
+        FileWord::In(number) => match pair_of(pairs, number) {
+            Some(pair) => Some(pair.input),
+            None => None,
+        },
+        FileWord::Out(number) => match pair_of(pairs, number) {
+            Some(pair) => Some(pair.output),
+            None => None,
+        },
+        FileWord::Input => None,
+        FileWord::Output => Some("/dev/stdout"),
+    }
+}
+
+/// What a word of a task stands for, where it is looked at.
+fn name_in<'a>(task: Task<'a>, word: FileWord) -> Option<&'a str>
+    ensures { option_map (λ name. name.now) result ≡ name_of task.entry word }
+{
+    match task {
+        Task::Talk(start) => in_talk(start, word),
+        Task::Desk { cart, movie, pairs } => in_desk(cart, movie, pairs, word),
+        _ => None,
+    }
+}
+
+/// A word of a task as the folder shows it.
+fn see<F: Folder>(folder: &F, task: Task<'_>, word: FileWord) -> SeenWord
+    ensures word { result.word ≡ word }
+    ensures file { IsSeen (F.shown folder.now) (name_of task.entry word) result.file }
+{
+    let file = match name_in(task, word) {
+        Some(name) => folder.look(name),
+        None => None,
+    };
+    SeenWord { word, file }
+}
+
+/// All words of a task as the folder shows them.
+fn see_all<F: Folder>(folder: &F, task: Task<'_>) -> [SeenWord; WORDS]
+    ensures { AreSeen (F.shown folder.now) task.entry result }
+{
+    let nothing = SeenWord {
+        word: FileWord::Cart,
+        file: None,
+    };
+    let mut seen = [nothing; WORDS];
+    for i in 0..WORDS {
+        seen[i] = see(folder, task, ALL[i]);
+    }
+    seen
+}
+
+/// Whether two words stand for one ordinary file.
+fn is_same(one: SeenWord, other: SeenWord) -> bool
+    ensures { result ≡ are_same one other }
+{
+    match one.file {
+        None => false,
+        Some(one) => match other.file {
+            None => false,
+            Some(other) => one.device == other.device && one.number == other.number,
+        },
+    }
+}
+
+/// The first of these words that stands for the same file as another one.
+fn same_among(others: &[SeenWord], word: SeenWord) -> Option<FileWord>
+    ensures { result ≡ first_same others.now word }
+{
+    for other in others {
+        if is_same(*other, word) {
+            return Some(other.word);
+        }
+    }
+    None
+}
+
+/// Whether a word is the output of a pair.
+fn is_output(word: FileWord) -> bool
+    ensures { result ≡ is_pair_output word }
+{
+    match word {
+        FileWord::Out(_) => true,
+        FileWord::Cart => false,
+        FileWord::Movie => false,
+        FileWord::In(_) => false,
+        FileWord::Input => false,
+        FileWord::Output => false,
+    }
+}
+
+/// Whether it is, and its ordinary file has bytes.
+fn has_content(word: SeenWord) -> bool
+    ensures { result ≡ has_bytes word }
+{
+    match word.file {
+        None => false,
+        Some(file) => is_output(word.word) && file.len > 0,
+    }
+}
+
+/// What is wrong with a word after others.
+fn fault_after(others: &[SeenWord], word: SeenWord) -> Option<WordFault>
+    ensures { result ≡ word_fault others.now word }
+{
+    match same_among(others, word) {
+        Some(other) => Some(WordFault::SameFile {
+            word: word.word,
+            other,
+        }),
+        None => {
+            if has_content(word) {
+                Some(WordFault::NotEmpty { word: word.word })
+            } else {
+                None
+            }
+        }
+    }
+}
+
+/// What is wrong with the first of these words that is at fault.
+fn fault_among(seen: &[SeenWord; WORDS]) -> Option<WordFault>
+    ensures { result ≡ first_fault seen.now }
+{
+    for i in 0..WORDS {
+        if let Some(fault) = fault_after(&seen[..i], seen[i]) {
+            return Some(fault);
+        }
+    }
+    None
+}
+
+/// Looks at the files that a task's words name, before any is opened. The first word is at fault that names the ordinary file of an earlier
+/// one, or is the OUT of a pair and names an ordinary file that isn't empty. Words that stand for standard input and output follow those of
+/// the command line. Only the words of [`Task::Talk`] and [`Task::Desk`] are looked at: other tasks open no file for writing.
+pub fn check_words<F: Folder>(folder: &F, task: Task<'_>) -> Result<Permit, WordFault>
+    ensures { WordsEnd (F.shown folder.now) task.entry result }
+{
+    match fault_among(&see_all(folder, task)) {
+        Some(fault) => Err(fault),
+        None => Ok(Permit { _given: () }),
+    }
+}
