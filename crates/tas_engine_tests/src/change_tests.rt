@@ -252,7 +252,7 @@ static SCRIPTS: [(&str, Result<(), ScriptFault>); 16] = [
     ("replace 4 0 ..... ..... .....\n", Ok(())),
     ("delete 0 1\ndelete 0 4\n", Err(ScriptFault::Place(2))),
     ("delete 0 1\nlen\n", Err(ScriptFault::Line(2))),
-    ("delete 0 1\ndelete 0 1\n\n", Err(ScriptFault::Line(3))),
+    ("delete 0 1\n\ndelete 0 1 \n", Err(ScriptFault::Line(3))),
     ("delete 0 1\ndelete 0 1", Err(ScriptFault::Line(2))),
 ];
 

@@ -117,8 +117,26 @@ fn older_texts_are_edited_and_compared(rt: HostRuntime) {
 }
 
 /// Scripts for a movie of two frames, and how each ends.
-static FAULTS: [(&[u8], RunFault); 9] = [
-    (b"\n", RunFault::Script { line: 1 }),
+static FAULTS: [(&[u8], RunFault); 18] = [
+    (b" \n", RunFault::Script { line: 1 }),
+    (b"delete 0 1 \n", RunFault::Script { line: 1 }),
+    (b"delete 0 1\t# one\n", RunFault::Script { line: 1 }),
+    (b" delete 0 1 # one\n", RunFault::Script { line: 1 }),
+    (b"# one", RunFault::Script { line: 1 }),
+    (b"\n# one\n\nlen # two\n", RunFault::Script { line: 4 }),
+    (
+        b"# one\ndelete 0 1 # two\n\n#",
+        RunFault::Script { line: 4 },
+    ),
+    (
+        b"# one\ndelete 0 1\n\n#\ndelete 1 1#\n",
+        RunFault::Place { line: 5 },
+    ),
+    (
+        b"delete 0 1\n\ninsert 0 262143 ..... ..... ..... # most\n#\ninsert 0 1 ..... ..... .....\n",
+        RunFault::Long { line: 5 },
+    ),
+    (b"\r\n", RunFault::Script { line: 1 }),
     (b"len\n", RunFault::Script { line: 1 }),
     (b"load 000=A9\n", RunFault::Script { line: 1 }),
     (b"load2 000=A9\n", RunFault::Script { line: 1 }),
@@ -131,6 +149,33 @@ static FAULTS: [(&[u8], RunFault); 9] = [
         RunFault::Long { line: 3 },
     ),
 ];
+
+/// Scripts with remarks and lines without words, and the letters of the movie that each makes of two frames in which nothing is pressed.
+static REMARKS: [(&[u8], &[u8]); 8] = [
+    (b"\n", b".."),
+    (b"#\n", b".."),
+    (b"\n\n# delete 0 1\n   # delete 0 1\n", b".."),
+    (b"delete 0 1# one of two\n", b"."),
+    (b"delete 0 1    # one of two # and more\n", b"."),
+    (b"delete 0 1 #\n\n#\ndelete 0 1\n", b""),
+    (b"# right\ninsert 1 2 R.... ..... ..... # twice\n", b".RR."),
+    (
+        b"insert 2 1 R.... ..... .....#\n\ninsert 0 1 R.... ..... .....\n",
+        b"R..R",
+    ),
+];
+
+#[test]
+fn remarks_and_lines_without_words_ask_for_nothing(rt: HostRuntime) {
+    let alloc = rt.alloc();
+    for (number, (script, letters)) in REMARKS.iter().enumerate() {
+        let before = blank_text(&rt, alloc, b"..");
+        let made = blank_text(&rt, alloc, letters);
+        let before = before.as_slice();
+        let ran = run_beside_on(alloc, FileEngine::Edit, &BLANK, script, before);
+        check_ran(&rt, ("script", number), ran, made.as_slice());
+    }
+}
 
 #[test]
 fn a_line_at_fault_leaves_nothing_written(rt: HostRuntime) {

@@ -17,3 +17,4 @@ pub mod StretchLemmas
 pub mod PassingLemmas
 pub mod CompareLemmas
 pub mod DigestLemmas
+pub mod RemarkLemmas

@@ -19,3 +19,4 @@ pub mod Ram
 pub mod Lag
 pub mod Digests
 pub mod Comparing
+pub mod Remarks

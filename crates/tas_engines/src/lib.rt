@@ -25,6 +25,7 @@ mod movies;
 mod passing;
 mod ram;
 mod reading;
+mod remarks;
 mod retouching;
 mod scripts;
 mod shooting;

@@ -1,10 +1,11 @@
 //! Scripts of `tas edit`, and the scripts of changes that `tas diff` writes.
 
-ghost use Rattle.std.specs.Prelude.{◌≡◌, ◌++◌, ◌↔◌, IsTrue, IfOk, OnOk, IfSome, IfNone};
+ghost use Rattle.std.specs.Prelude.{◌≡◌, ◌++◌, ◌↔◌, Err, Option, IsTrue, IfOk, OnOk, IfSome, IfNone};
 ghost use Rattle.std.specs.List.{flat_map};
-ghost use Rattle.tas_engines.specs.Scripts.{change_line, fault_at, IsClear, IsUnderstood, MakesAll};
+ghost use Rattle.tas_engines.specs.Scripts.{change_line, fault_at, BringsFrames, IsClear, IsUnderstood, MakesAll, MakesSaid, Means};
 ghost use Rattle.tas_language.specs.declared.edit_line.EditLine.{EditLine as Asked};
 
+use crate::remarks::words_of;
 use crate::{ChangeError, make_line};
 use byte_text::split_once;
 use std::alloc::{AllocError, Allocator};
@@ -45,12 +46,12 @@ fn is_clear<A: Allocator>(other: &Option<Movie<A>>, asked: EditLine) -> bool
     }
 }
 
-/// What a line of a script, without its newline, asks for; nothing where it isn't understood.
-fn read_line<A: Allocator>(line: &[u8], other: &Option<Movie<A>>) -> Option<EditLine>
-    ensures some { IfSome result (IsUnderstood other.now line.now) }
-    ensures none { IfNone result ((asked : Asked) → IsUnderstood other.now line.now asked → ⊥) }
+/// What these words ask for; nothing where they aren't understood.
+fn read_words<A: Allocator>(words: &[u8], other: &Option<Movie<A>>) -> Option<EditLine>
+    ensures some { IfSome result (IsUnderstood other.now words.now) }
+    ensures none { IfNone result ((asked : Asked) → IsUnderstood other.now words.now asked → ⊥) }
 {
-    let asked = read_edit_line(line)?;
+    let asked = read_edit_line(words)?;
     // Called for its law: the line asks for nothing else.
     one_edit_line_per_line();
     if is_clear(other, asked) {
@@ -60,9 +61,38 @@ fn read_line<A: Allocator>(line: &[u8], other: &Option<Movie<A>>) -> Option<Edit
     }
 }
 
+/// What a line of a script, without its newline, asks for: `Some(None)` where it has no words, its remark aside, and `None` where it
+/// isn't understood.
+fn read_line<A: Allocator>(line: &[u8], other: &Option<Movie<A>>) -> Option<Option<EditLine>>
+    ensures some { IfSome result (Means other.now line.now) }
+    ensures none { IfNone result ((asked : Option Asked) → Means other.now line.now asked → ⊥) }
+{
+    let words = words_of(line);
+    if words.is_empty() {
+        return Some(None);
+    }
+    Some(Some(read_words(words, other)?))
+}
+
+/// Makes what a line asks for, as [`make_line`] does, or nothing.
+fn make_said<A: Allocator, B: Allocator, C: Allocator>(
+    alloc: C,
+    movie: &mut Movie<A>,
+    other: &Option<Movie<B>>,
+    asked: Option<EditLine>,
+) -> Result<(), ChangeError>
+    ensures made { MakesSaid other.now movie.old asked result movie.new }
+    ensures memory { result ≡ Err ChangeError.Memory → IfSome asked BringsFrames }
+{
+    match asked {
+        Some(asked) => make_line(alloc, movie, other, asked),
+        None => Ok(()),
+    }
+}
+
 /// Makes the lines of a script of `tas edit`, one by one, on a movie beside which there may be a second one. The first
 /// line that isn't understood or is refused ends it with its fault, and so does one for which memory is refused (`Memory`);
-/// the lines before it are made then.
+/// the lines before it are made then. A `#` and all after it is a remark, and a line without words asks for nothing.
 pub fn edit_movie<A: Allocator, B: Allocator, C: Allocator + Copy>(
     alloc: C,
     movie: &mut Movie<A>,
@@ -80,7 +110,7 @@ pub fn edit_movie<A: Allocator, B: Allocator, C: Allocator + Copy>(
         let Some(asked) = read_line(line, other) else {
             return Err(ScriptFault::Line(number));
         };
-        if let Err(error) = make_line(alloc, movie, other, asked) {
+        if let Err(error) = make_said(alloc, movie, other, asked) {
             return Err(fault_at(number, error));
         }
         rest = after;

@@ -128,6 +128,7 @@ A frame is 'RLDUF RLDUF rsbAB': right, left, down, up and fire of the left stick
 right stick; reset, select, black and white, left difficulty A, right difficulty A. A dot in a
 letter's place means that it isn't pressed or set: '..D.F ..... .....' pushes the left stick down
 and fires.
+A '#' and all after it to the end of a line is a remark. A line that has nothing else is left out.
 Frames are counted from 0. The lines are made in order, each on the movie that those before it made.
 Standard output is the text of the last one. A line that isn't understood, or that reaches past the
 last frame or makes the movie too long, ends the command with its fault and nothing written.

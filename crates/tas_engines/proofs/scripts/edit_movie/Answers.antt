@@ -1,7 +1,7 @@
 use Rattle.std.proofs.lemmas.Grind.{common_steps}
 use Rattle.std.proofs.Common.{Err, ◌++◌, ◌∷◌, [], refl, sym, subst, ◌∙◌, ap, arith}
 use Rattle.std.proofs.lemmas.Bool.{eqb-false}
-use Rattle.tas_engines.specs.Scripts.{IsStop, MakesLines}
+use Rattle.tas_engines.specs.Scripts.{IsStop, MakesLines, Said}
 use Rattle.tas_engines.proofs.ScriptLemmas.{makes_none, makes_more, count_more, split_length, unclear_unsplit, unclear_line, stopped, same_movie}
 use Rattle.tas_engines.proofs.scripts.edit_movie.Goals as goal
 
@@ -28,22 +28,21 @@ returns-in-Err g c =
       lines,
       c.loop-rest.rest.now,
       subst (λ m. MakesLines other c.args.movie.now c.args.bytes.now m lines c.loop-rest.rest.now) (sym same) i.makes,
-      subst (λ n. IsStop other c.make_line.new.movie c.loop-rest.rest.now n c.fault_at.result) i.number
-          (stopped other _ _ _ c.in-Some.line.now c.in-Some.after.now _ c.in-Some-read_line.asked c.in-Err.error _ c.in-Some.ensures.some.0 c.in-Some-read_line.ensures.some c.in-Err.ensures.made
+      subst (λ n. IsStop other c.make_said.new.movie c.loop-rest.rest.now n c.fault_at.result) i.number
+          (stopped other _ _ _ c.in-Some.line.now c.in-Some.after.now _ c.in-Some-read_line.asked c.in-Err.error _ c.in-Some.ensures.some.0 c.in-Some.ensures.some.1 c.in-Some-read_line.ensures.some c.in-Err.ensures.made
           (λ e. c.in-Err.ensures.memory (ap Err e)) c.fault_at.ensures),
     )
 
 pub loop-rest-preserved : goal.loop-rest-preserved
 loop-rest-preserved g c =
     let (lines, i) = c.loop-rest.invariant in
-    let asked = c.in-Some-read_line.asked in
-    let makes = c.in_default-make_line.ensures.made in
+    let said : Said = record { text = c.in-Some.line.now; asked = c.in-Some-read_line.asked } in
     let shorter = split_length c.loop-rest.rest.now c.in-Some.line.now c.in-Some.after.now c.in-Some.ensures.some.0 in (
-      lines ++ asked ∷ [],
+      lines ++ said ∷ [],
       record {
-        makes = makes_more c.args.other.now c.args.movie.now _ _ c.args.bytes.now c.loop-rest.rest.now c.in-Some.line.now c.in-Some.after.now lines asked i.makes c.in-Some.ensures.some.0
-            c.in-Some-read_line.ensures.some makes.0 makes.1;
-        number = omega (arith, i.number, count_more lines asked);
+        makes = makes_more c.args.other.now c.args.movie.now _ _ c.args.bytes.now c.loop-rest.rest.now c.in-Some.line.now c.in-Some.after.now lines c.in-Some-read_line.asked tt i.makes c.in-Some.ensures.some.0
+            c.in-Some.ensures.some.1 c.in-Some-read_line.ensures.some c.in_default-make_said.ensures.made;
+        number = omega (arith, i.number, count_more lines said);
         room = omega (arith, i.room, shorter);
       },
     )
