@@ -1,6 +1,6 @@
 //! Engines over readers and writers that give and take as a test says.
 
-use crate::checks::{check_same, check_that};
+use crate::checks::{check_same, check_that, expect_ok};
 use crate::movies::{
     BLANK, HALTING_MOVIE, PLAYFIELD, PLAYFIELD_DIGEST, PLAYFIELD_MOVIE, STORES, image_of,
     older_text_of, text_of,
@@ -208,6 +208,31 @@ fn texts_are_migrated(rt: HostRuntime) {
         let ran = run_on(alloc, Engine::Migrate, image.as_slice(), text.as_slice());
         check_ran(&rt, ("from", text.len()), ran, newer.as_slice());
     }
+}
+
+/// Movies in which nothing is pressed, none of whose frames, one, two and as many as a movie may have are runs.
+#[test]
+fn new_movies_have_nothing_pressed(rt: HostRuntime) {
+    let alloc = rt.alloc();
+    let image = image_of(&rt, alloc, PLAYFIELD);
+    let image = image.as_slice();
+    for frames in [0, 1, 2, 600] {
+        let mut letters = Vec::new(alloc);
+        for _ in 0..frames {
+            expect_ok(&rt, letters.push(b'.'));
+        }
+        let wanted = text_of(&rt, alloc, PLAYFIELD_DIGEST, letters.as_slice());
+        let ran = run_on(alloc, Engine::New(frames), image, b"unread");
+        check_ran(&rt, ("frames", frames), ran, wanted.as_slice());
+    }
+    let (text, end) = run_on(alloc, Engine::New(262_144), image, b"");
+    check_same(&rt, "the longest one", end, Ok(()));
+    let ran = run_on(alloc, Engine::Check, image, text.as_slice());
+    check_ran(&rt, "its length", ran, b"ok 262144 frames\n");
+    let size = (b"1234567".as_slice(), b"".as_slice());
+    let (written, end) = run_on(alloc, Engine::New(1), size.0, size.1);
+    let fault = ToolFault::Run(RunFault::Size(7));
+    check_same(&rt, "seven bytes", (written.len(), end), (0, Err(fault)));
 }
 
 #[test]

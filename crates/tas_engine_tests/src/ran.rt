@@ -7,9 +7,9 @@ use std::io::{Read, Write};
 use std::process::Abort;
 use tas_engines::{
     ReadFault, RunFault, ToolFault, check_run, compare_run, cut_run, diff_run, digest_run,
-    edit_run, lag_run, migrate_run, ram_run, shot_run, trace_run,
+    edit_run, lag_run, migrate_run, new_run, ram_run, shot_run, trace_run,
 };
-use tas_movie::{TextError, TextErrorKind};
+use tas_movie::{MAX_FRAMES, TextError, TextErrorKind};
 use test_streams::{Failure, Taker};
 
 /// An engine that reads a cartridge and then a movie's text.
@@ -19,6 +19,8 @@ pub enum Engine {
     Trace,
     Check,
     Migrate,
+    /// Of so many frames; it reads no movie.
+    New(usize),
     /// Of this frame.
     Shot(usize),
     /// From one number of frames to the one before another.
@@ -55,6 +57,7 @@ pub fn run_to<C: Read, T: Read, W: Write>(
         Engine::Trace => trace_run(alloc, 3, cart, output),
         Engine::Check => check_run(alloc, cart, text, output),
         Engine::Migrate => migrate_run(alloc, cart, text, output),
+        Engine::New(frames) => new_run(alloc, frames.min(MAX_FRAMES), cart, output),
         Engine::Shot(frame) => shot_run(alloc, frame, cart, text, output),
         Engine::Ram(from, to) => ram_run(alloc, from, to, cart, text, output),
         Engine::Digest(every) => digest_run(alloc, every.max(1), cart, text, output),

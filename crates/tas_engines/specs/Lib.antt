@@ -20,3 +20,4 @@ pub mod Lag
 pub mod Digests
 pub mod Comparing
 pub mod Remarks
+pub mod Starting

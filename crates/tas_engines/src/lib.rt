@@ -30,6 +30,7 @@ mod retouching;
 mod scripts;
 mod shooting;
 mod stages;
+mod starting;
 mod tracing;
 mod writing;
 
@@ -51,5 +52,6 @@ pub use reading::{INPUT_LIMIT, ThreeInputs, read_input, read_three, read_two};
 pub use retouching::{check_retouch, pressed_too, released, retouch_edit};
 pub use scripts::{ScriptFault, edit_movie, print_changes};
 pub use shooting::{halt_fault, shot_run};
+pub use starting::new_run;
 pub use tracing::trace_run;
 pub use writing::write_all;
