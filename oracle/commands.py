@@ -19,8 +19,8 @@ MOST_DRAWN = 200
 # The words after each command: a cartridge, a file, a movie's file, a number; those after the bar may be missing. And the most that each number may be.
 FORMS = {
     "check": "c", "migrate": "c", "edit": "cf", "cut": "cnn", "diff": "cm", "script": "", "talk": "|cm", "shot": "cn", "film": "c|nn", "export": "cnnw", "ram": "cnn",
-    "digest": "c|e", "compare": "cm", "lag": "c", "trace": "t", "desk": "cmff|ffffffffffffff"}
-NUMBERS = {"n": (0, 9999999), "w": (1, 16), "e": (1, MOST), "t": (0, 1000000)}
+    "digest": "c|e", "compare": "cm", "lag": "c", "trace": "t", "new": "cl", "desk": "cmff|ffffffffffffff"}
+NUMBERS = {"n": (0, 9999999), "w": (1, 16), "e": (1, MOST), "l": (0, MOST), "t": (0, 1000000)}
 FLAGS = {"edit": ("--with",), "script": ("--cart", "--movie")}
 NUMBER = re.compile(r"\+?0*([0-9]{1,8})")
 
@@ -168,6 +168,10 @@ class Run:
 
     def migrate(self, cart):
         return hands.movie_text(*self.movie(cart))
+
+    def new(self, cart, frames):
+        cart, = self.inputs.read([cart], False)
+        return hands.movie_text(sized(cart), [hands.REST] * frames)
 
     def edit(self, cart, script, **flagged):
         others = [flagged["with"]] if flagged else []

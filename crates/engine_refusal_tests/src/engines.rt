@@ -10,7 +10,7 @@ use std::thread::Threads;
 use tas_tool::{
     ToolFault, cart_talk_run, check_run, compare_run, cut_run, diff_run, digest_run, edit_run,
     edit_with_run, export_run, film_run, lag_run, migrate_run, movie_script_run, movie_talk_run,
-    ram_run, script_run, shot_run, talk_run, trace_run,
+    new_run, ram_run, script_run, shot_run, talk_run, trace_run,
 };
 use test_streams::Giver;
 
@@ -20,6 +20,7 @@ pub enum Engine {
     Trace,
     Check,
     Migrate,
+    New,
     Shot,
     Film,
     Ram,
@@ -43,10 +44,11 @@ pub enum Engine {
 }
 
 /// Those that read their inputs whole before they write anything.
-pub static ENGINES: [Engine; 17] = [
+pub static ENGINES: [Engine; 18] = [
     Engine::Trace,
     Engine::Check,
     Engine::Migrate,
+    Engine::New,
     Engine::Shot,
     Engine::Film,
     Engine::Ram,
@@ -75,7 +77,9 @@ impl Engine {
                 bytes.talk.as_slice()
             }
             (_, 0) => bytes.cart.as_slice(),
-            (Engine::Trace | Engine::Script | Engine::Talk, _) => bytes.none.as_slice(),
+            (Engine::Trace | Engine::New | Engine::Script | Engine::Talk, _) => {
+                bytes.none.as_slice()
+            }
             (Engine::Edit, 1) => bytes.changes.as_slice(),
             (Engine::EditWith, 1) => bytes.changes_with.as_slice(),
             (Engine::Edit, 2) | (Engine::EditWith, 3) | (_, 1) => bytes.old.as_slice(),
@@ -103,7 +107,7 @@ impl Engine {
     /// How many inputs it reads.
     pub fn count(self) -> usize {
         match self {
-            Engine::Trace | Engine::Script | Engine::Talk => 1,
+            Engine::Trace | Engine::New | Engine::Script | Engine::Talk => 1,
             Engine::Check
             | Engine::Migrate
             | Engine::Shot
@@ -167,6 +171,7 @@ pub fn run<T: Wait + Threads + Sync, A: Allocator + Copy + Send + Sync, W: Write
         Engine::Trace => trace_run(alloc, 3, first, output),
         Engine::Check => check_run(alloc, first, second, output),
         Engine::Migrate => migrate_run(alloc, first, second, output),
+        Engine::New => new_run(alloc, 3, first, output),
         Engine::Shot => shot_run(alloc, 1, first, second, output),
         Engine::Film => film_run(alloc, Some(1), Some(3), first, second, output),
         Engine::Ram => ram_run(alloc, 1, 4, first, second, output),

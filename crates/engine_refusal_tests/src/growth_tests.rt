@@ -157,7 +157,7 @@ fn check_engine<T: Wait + Threads + Sync + Abort>(
 /// inputs. A line is written piece by piece: its room is 8 bytes at first, and at least doubles. So:
 ///
 /// - `Trace`: an input and a cartridge. `Check`, `Migrate`, `Shot`: two inputs, a cartridge and a movie, and two of a line, a text
-///   or a picture. `Film`: the same, and the room for a pixmap.
+///   or a picture. `Film`: the same, and the room for a pixmap. `New`: an input, a cartridge, a movie, its frames and a text.
 /// - `Ram`: two inputs, a cartridge and a movie; the lines take none.
 /// - `Digest`: those, the movie's text, 4 of the first lines (room for 22 bytes, then for 44, 91 and 182), a picture, room for its pixmap and 2 of the lines of the two stretches.
 /// - `Compare`: three inputs, a cartridge and a movie twice, two pictures with room for their pixmaps, and 3 of the lines.
@@ -178,10 +178,11 @@ fn check_engine<T: Wait + Threads + Sync + Abort>(
 ///   cartridge, a new movie of it, the 17 and the two edits without inputs to copy, 5.
 /// - `Export`: the first 29 of `MovieScript`; the movie's copy, the list of runs, and for each run a picture, and room for its pixmaps where
 ///   it has frames.
-static GROWTHS: [(Engine, u64, u64); 22] = [
+static GROWTHS: [(Engine, u64, u64); 23] = [
     (Engine::Trace, 2, 0),
     (Engine::Check, 7, 0),
     (Engine::Migrate, 6, 0),
+    (Engine::New, 6, 0),
     (Engine::Shot, 6, 0),
     (Engine::Film, 7, 0),
     (Engine::Ram, 5, 0),

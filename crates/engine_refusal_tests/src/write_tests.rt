@@ -101,10 +101,11 @@ fn fail_so<T: Wait + Threads + Abort + Sync>(
 }
 
 /// Engines that write a text.
-static TEXTS: [Engine; 13] = [
+static TEXTS: [Engine; 14] = [
     Engine::Trace,
     Engine::Check,
     Engine::Migrate,
+    Engine::New,
     Engine::Ram,
     Engine::Compare,
     Engine::Lag,

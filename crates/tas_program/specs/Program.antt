@@ -1,5 +1,5 @@
 -- How the program ends: what it writes, and its status.
-use Rattle.std.specs.Prelude.{◌≡◌, ℕ, max, map, List, ◌⊎◌, Option, Some, None, Result, Ok, Err, String, string_bytes}
+use Rattle.std.specs.Prelude.{◌≡◌, ℕ, max, min, map, List, ◌⊎◌, Option, Some, None, Result, Ok, Err, String, string_bytes}
 use Rattle.std.specs.declared.vec.IntoIter.{IntoIter}
 use Rattle.std.specs.declared.io.Error.{Error}
 use Rattle.std.specs.Io.KnownBytes.{Appends}
@@ -10,6 +10,8 @@ use Rattle.tas_engines.specs.declared.fault.ReadFault.TheVariants.{Failed}
 use Rattle.tas_engines.specs.Movies.{IsMovieRun}
 use Rattle.tas_engines.specs.Checking.{IsCheckAnswer}
 use Rattle.tas_engines.specs.Migrating.{IsMigrateAnswer}
+use Rattle.tas_engines.specs.Starting.{IsNewRun}
+use Rattle.tas_movie.specs.Content.{most_inputs}
 use Rattle.tas_engines.specs.Shooting.{IsShotAnswer}
 use Rattle.tas_engines.specs.Output.{StopsWriting}
 use Rattle.tas_engines.specs.Tracing.{IsTraceRun}
@@ -36,7 +38,7 @@ use Rattle.tas_words.specs.declared.invocation.Invocation.TheVariants.{Do, Show,
 use Rattle.tas_program.specs.declared.status.Status.{Status}
 use Rattle.tas_program.specs.declared.status.Status.TheVariants.{Done, Fault, Misuse}
 use Rattle.tas_words.specs.declared.task.Task.{Task}
-use Rattle.tas_words.specs.declared.task.Task.TheVariants.{Trace, Check, Migrate, Shot, Film, Export, Ram, Digest, Compare, Lag, Edit, Cut, Diff, Script, Talk, Desk}
+use Rattle.tas_words.specs.declared.task.Task.TheVariants.{Trace, Check, Migrate, New, Shot, Film, Export, Ram, Digest, Compare, Lag, Edit, Cut, Diff, Script, Talk, Desk}
 use Rattle.tas_words.specs.declared.task.Start.TheVariants.{Blank, Cart, Movie}
 use Rattle.clap.specs.Walk.{Text}
 use Rattle.tas_words.specs.Invocations.{AreGiven, IsInvocation}
@@ -99,11 +101,16 @@ ends_of files pairs = map (ends_by files) (pairs_in pairs)
 abbrev pub IsDeskTask : List DoorEnds → TwoFilesEngine
 IsDeskTask ends cart cart' movie movie' input input' output output' end = (input' ≡ input) × IsDeskRun GlobalType end_facts ends ends cart cart' movie movie' output output' end
 
+-- a new movie is made of a cartridge alone; nothing of the input is read
+abbrev pub IsNewTask : ℕ → FileEngine
+IsNewTask frames cart cart' input input' output output' end = (input' ≡ input) × IsNewRun frames cart cart' output output' end
+
 -- a task ends as the definition of its command says, over its files and the streams
 abbrev pub DoesTask : FileBytes → Task → StreamBytes → StreamBytes → Result (Unit {0}) ToolFault → Type 0
 DoesTask files (Trace n) old new end = IsTraceRun n old.input new.input old.output new.output end
 DoesTask files (Check cart) old new end = EndsOver (files.read cart.now) (IsMovieRun IsCheckAnswer) old new end
 DoesTask files (Migrate cart) old new end = EndsOver (files.read cart.now) (IsMovieRun IsMigrateAnswer) old new end
+DoesTask files (New cart frames) old new end = EndsOver (files.read cart.now) (IsNewTask (min frames most_inputs)) old new end
 DoesTask files (Shot cart k) old new end = EndsOver (files.read cart.now) (IsMovieRun (IsShotAnswer k)) old new end
 DoesTask files (Film cart from to) old new end = EndsOver (files.read cart.now) (IsFilmRun from to) old new end
 DoesTask files (Export cart from to workers) old new end = EndsOver (files.read cart.now) (IsMovieRun (IsExportAnswer from to)) old new end

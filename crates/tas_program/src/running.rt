@@ -16,10 +16,11 @@ use std::io;
 use std::io::{Read, Write};
 use std::sync::Wait;
 use std::thread::Threads;
+use tas_movie::MAX_FRAMES;
 use tas_tool::{
     ReadFault, RunFault, ToolFault, cart_talk_run, check_run, compare_run, cut_run, desk_run,
     diff_run, digest_run, edit_run, edit_with_run, export_run, film_run, lag_run, migrate_run,
-    movie_script_run, movie_talk_run, ram_run, script_run, shot_run, talk_run, trace_run,
+    movie_script_run, movie_talk_run, new_run, ram_run, script_run, shot_run, talk_run, trace_run,
     write_all,
 };
 use tas_words::{Invocation, MovieFiles, Pairs, Start, Task, collect_words, read_invocation};
@@ -157,6 +158,14 @@ fn run_engine<
         Task::Trace { instructions } => trace_run(alloc, instructions, input, output),
         Task::Check { cart } => check_run(alloc, &mut open(folder, cart)?, input, output),
         Task::Migrate { cart } => migrate_run(alloc, &mut open(folder, cart)?, input, output),
+        Task::New { cart, frames } => {
+            new_run(
+                alloc,
+                frames.min(MAX_FRAMES),
+                &mut open(folder, cart)?,
+                output,
+            )
+        }
         Task::Shot { cart, frame } => {
             shot_run(alloc, frame, &mut open(folder, cart)?, input, output)
         }

@@ -24,7 +24,7 @@ pub use talk_runs::{cart_talk_run, movie_talk_run, talk_run};
 pub use tas_desk::MAX_SEATS;
 pub use tas_engines::{
     INPUT_LIMIT, ReadFault, RunFault, SeatFault, ToolFault, check_run, compare_run, cut_run,
-    diff_run, digest_run, edit_run, edit_with_run, lag_run, migrate_run, ram_run, shot_run,
-    trace_run, write_all,
+    diff_run, digest_run, edit_run, edit_with_run, lag_run, migrate_run, new_run, ram_run,
+    shot_run, trace_run, write_all,
 };
 pub use tas_seat::Door;

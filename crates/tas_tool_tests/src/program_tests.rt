@@ -29,12 +29,18 @@ const SCRIPT: &[u8] =
 const REPLIES: &[u8] =
     b"edit 1 len 0\nedit 2 len 2\nshot 2 1 ran 2 lit 1680\nedit 3 len 2\ninput 3 R.... ..... .....\nno frame 3 len 2\n";
 
+/// A movie of the playfield's cartridge without frames.
+const NO_FRAME: &[u8] =
+    b"a26movie 2\ncart 820c64e9933496de683a000c5e11f0510fb7b1699b2ce86471295236b284906d\n";
+
 /// Commands that write an answer.
-static ANSWERS: [Written<'static>; 8] = [
+static ANSWERS: [Written<'static>; 10] = [
     (&["check", "game.bin"], b"", ONE_FRAME, b"ok 1 frames\n"),
     (&["check", "game.bin"], b"", OLDER_FRAME, b"ok 1 frames\n"),
     (&["migrate", "game.bin"], b"", OLDER_FRAME, ONE_FRAME),
     (&["migrate", "game.bin"], b"", ONE_FRAME, ONE_FRAME),
+    (&["new", "game.bin", "1"], b"", b"unread", ONE_FRAME),
+    (&["new", "game.bin", "0"], b"", b"", NO_FRAME),
     (&["script"], b"", SCRIPT, REPLIES),
     (&["talk"], b"", SCRIPT, REPLIES),
     (
@@ -81,7 +87,7 @@ fn commands_write_their_pictures(rt: HostRuntime) {
 }
 
 /// Faults over the playfield's cartridge.
-static FAULTS: [Refused<'static>; 8] = [
+static FAULTS: [Refused<'static>; 10] = [
     (
         &["trace", "1"],
         b"",
@@ -105,6 +111,18 @@ static FAULTS: [Refused<'static>; 8] = [
         b"",
         b"a26movie 1\n",
         b"fault: movie line 2: end\n",
+    ),
+    (
+        &["new", "other.bin", "1"],
+        b"",
+        b"",
+        b"fault: read failed\n",
+    ),
+    (
+        &["new", "other", "1"],
+        b"1234567",
+        b"",
+        b"fault: cartridge has 7 bytes\n",
     ),
     (
         &["shot", "other.bin", "0"],

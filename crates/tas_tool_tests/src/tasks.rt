@@ -24,6 +24,7 @@ fn command(task: Task<'_>) -> &'static str {
         Task::Trace { .. } => "trace",
         Task::Check { .. } => "check",
         Task::Migrate { .. } => "migrate",
+        Task::New { .. } => "new",
         Task::Shot { .. } => "shot",
         Task::Film { .. } => "film",
         Task::Export { .. } => "export",
@@ -45,6 +46,7 @@ fn files<'a>(task: Task<'a>) -> [Option<&'a str>; 3] {
     match task {
         Task::Check { cart }
         | Task::Migrate { cart }
+        | Task::New { cart, .. }
         | Task::Shot { cart, .. }
         | Task::Film { cart, .. }
         | Task::Export { cart, .. }
@@ -71,6 +73,7 @@ fn files<'a>(task: Task<'a>) -> [Option<&'a str>; 3] {
 fn numbers(task: Task<'_>) -> [Option<usize>; 3] {
     match task {
         Task::Trace { instructions } => [Some(instructions as usize), None, None],
+        Task::New { frames, .. } => [Some(frames), None, None],
         Task::Shot { frame, .. } => [Some(frame), None, None],
         Task::Film { from, to, .. } => [from, to, None],
         Task::Export {

@@ -51,7 +51,7 @@ static TIPS: [Refused<'static>; 9] = [
 ];
 
 /// Words that are refused for other reasons: these texts have no tip of the program's own.
-static NO_TIPS: [Refused<'static>; 5] = [
+static NO_TIPS: [Refused<'static>; 6] = [
     (
         &["shot", "game.bin"],
         b"error: the following required arguments were not provided:\n  <K>\n\nUsage: tas shot <CART> <K> < MOVIE\n\nFor more information, try '--help'.\n",
@@ -63,6 +63,10 @@ static NO_TIPS: [Refused<'static>; 5] = [
     (
         &["check", "--all", "game.bin"],
         b"error: unexpected argument '--all' found\n\n  tip: to pass '--all' as a value, use '-- --all'\n\nUsage: tas check <CART> < MOVIE\n\nFor more information, try '--help'.\n",
+    ),
+    (
+        &["new", "game.bin", "game.movie"],
+        b"error: invalid value 'game.movie' for '<FRAMES>': invalid digit found in string\n\nFor more information, try '--help'.\n",
     ),
     (
         &["desk", "game.bin", "game.movie", "in0"],
@@ -91,10 +95,10 @@ fn other_words_get_no_tip(rt: HostRuntime) {
     check_refused(&rt, rt.alloc(), NO_TIPS.as_slice());
 }
 
-/// The commands.
-static COMMANDS: [&str; 16] = [
-    "trace", "check", "migrate", "shot", "film", "export", "ram", "digest", "compare", "lag",
-    "edit", "cut", "diff", "script", "talk", "desk",
+/// The commands, and no command.
+static COMMANDS: [&str; 17] = [
+    "trace", "check", "migrate", "new", "shot", "film", "export", "ram", "digest", "compare",
+    "lag", "edit", "cut", "diff", "script", "talk", "desk",
 ];
 
 /// Fails where a line of a text has more than 100 bytes.

@@ -11,12 +11,14 @@ use std::sync::Wait;
 use std::thread::Threads;
 
 /// Words that name a task, the first of them its command, and the task's files and numbers.
-static TASKS: [(&[&str], &[&str], &[usize]); 33] = [
+static TASKS: [(&[&str], &[&str], &[usize]); 35] = [
     (&["trace", "0"], &[], &[0]),
     (&["trace", "3"], &[], &[3]),
     (&["trace", "1000000"], &[], &[1_000_000]),
     (&["check", "a.bin"], &["a.bin"], &[]),
     (&["migrate", "a.bin"], &["a.bin"], &[]),
+    (&["new", "a.bin", "0"], &["a.bin"], &[0]),
+    (&["new", "7", "262144"], &["7"], &[262_144]),
     (&["shot", "a.bin", "0"], &["a.bin"], &[0]),
     (&["shot", "7", "1000001"], &["7"], &[1_000_001]),
     (&["shot", "b", "9999999"], &["b"], &[9_999_999]),
@@ -92,7 +94,7 @@ fn each_command_is_its_task(rt: HostRuntime) {
 
 /// Words that are no task: none, an unknown one, too few, too many, numbers past their ranges and
 /// texts that are no numbers, unknown flags.
-static MISUSES: [&[&str]; 77] = [
+static MISUSES: [&[&str]; 83] = [
     &[],
     &[""],
     &["play"],
@@ -110,6 +112,12 @@ static MISUSES: [&[&str]; 77] = [
     &["check", "--all", "game.bin"],
     &["migrate"],
     &["migrate", "game.bin", "0"],
+    &["new"],
+    &["new", "game.bin"],
+    &["new", "game.bin", "262145"],
+    &["new", "game.bin", "-1"],
+    &["new", "game.bin", "x"],
+    &["new", "game.bin", "1", "1"],
     &["shot", "game.bin"],
     &["shot", "game.bin", "10000000"],
     &["shot", "game.bin", "-1"],
@@ -268,7 +276,7 @@ fn a_missing_word_is_named(rt: HostRuntime) {
 }
 
 /// Words that ask for help, and the beginning of the text.
-static HELPS: [Shown<'static>; 17] = [
+static HELPS: [Shown<'static>; 18] = [
     (
         &["--help"],
         b"Replays movies of Atari 2600 cartridges, exactly and from power-on\n\nUsage: tas <COMMAND>\n",
@@ -288,6 +296,10 @@ static HELPS: [Shown<'static>; 17] = [
     (
         &["migrate", "--help"],
         b"Writes a movie text, older ones too, as a text of runs ('a26movie 2')\n\nUsage: tas migrate <CART> < MOVIE\n",
+    ),
+    (
+        &["new", "--help"],
+        b"Writes the text of a movie in which nothing is pressed\n\nUsage: tas new <CART> <FRAMES>\n",
     ),
     (
         &["shot", "--help"],

@@ -10,6 +10,7 @@ use Rattle.clap.specs.declared.builder.command.Command.TheViews.{out-Command}
 use Rattle.clap.specs.declared.builder.value_parser.ValueParser.{ValueParser}
 use Rattle.vcs_machine.specs.Machine.{profile}
 use Rattle.tas_language.specs.Commands.{most_number}
+use Rattle.tas_movie.specs.Content.{most_inputs}
 use Rattle.tas_film.specs.Runs.{most_workers}
 use Rattle.tas_words.specs.declared.subcommands.Subcommand.{Subcommand}
 use Rattle.tas_words.specs.declared.subcommands.Word.{Word}
@@ -151,7 +152,8 @@ first_shapes =
 -- those after them
 abbrev pub later_shapes : List Shape
 later_shapes =
-    shape_with (codes "edit") (cart_rule ∷ file_rule (codes "SCRIPT") ∷ flag_rule (codes "OTHER") (codes "with") ∷ [])
+    shape_with (codes "new") (cart_rule ∷ number_rule (codes "FRAMES") 0 most_inputs ∷ [])
+    ∷ shape_with (codes "edit") (cart_rule ∷ file_rule (codes "SCRIPT") ∷ flag_rule (codes "OTHER") (codes "with") ∷ [])
     ∷ shape_with (codes "cut") (cart_rule ∷ frame_rule (codes "FROM") ∷ frame_rule (codes "TO") ∷ [])
     ∷ shape_with (codes "diff") (cart_rule ∷ file_rule (codes "OLD") ∷ [])
     ∷ shape_with (codes "script") (flag_rule (codes "CART") (codes "cart") ∷ flag_rule (codes "MOVIE") (codes "movie") ∷ [])

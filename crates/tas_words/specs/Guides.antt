@@ -68,7 +68,8 @@ first_guides =
 -- those of the commands after them
 abbrev pub later_guides : List Guide
 later_guides =
-    guide (codes "edit") (codes "tas edit [OPTIONS] <CART> <SCRIPT> < MOVIE")
+    guide (codes "new") (codes "tas new <CART> <FRAMES>") None (false ∷ true ∷ [])
+    ∷ guide (codes "edit") (codes "tas edit [OPTIONS] <CART> <SCRIPT> < MOVIE")
     (Some (codes "the movie is read from standard input: tas edit game.bin fix.script < game.movie > new.movie")) (false ∷ false ∷ [])
     ∷ guide (codes "cut") (codes "tas cut <CART> <FROM> <TO> < MOVIE")
     (Some (codes "the movie is read from standard input: tas cut game.bin 60 120 < game.movie > new.movie")) (false ∷ true ∷ true ∷ [])

@@ -5,13 +5,14 @@ use Rattle.std.specs.Borrow.{Bor}
 use Rattle.std.specs.Str.Parse.{IsNumeral, digits_value, without_leading_plus}
 use Rattle.clap.specs.Walk.{Row, Text, first_of, one_of}
 use Rattle.tas_language.specs.Commands.{most_number}
+use Rattle.tas_movie.specs.Content.{most_inputs}
 use Rattle.tas_film.specs.Runs.{most_workers}
 use Rattle.tas_words.specs.declared.task.Pair.{Pair}
 use Rattle.tas_words.specs.declared.task.Pairs.{Pairs}
 use Rattle.tas_words.specs.declared.task.Start.{Start}
 use Rattle.tas_words.specs.declared.task.Start.TheVariants.{Blank, Cart, Movie}
 use Rattle.tas_words.specs.declared.task.Task.{Task}
-use Rattle.tas_words.specs.declared.task.Task.TheVariants.{Trace, Check, Migrate, Shot, Film, Export, Ram, Digest, Compare, Lag, Edit, Cut, Diff, Script, Talk, Desk}
+use Rattle.tas_words.specs.declared.task.Task.TheVariants.{Trace, Check, Migrate, New, Shot, Film, Export, Ram, Digest, Compare, Lag, Edit, Cut, Diff, Script, Talk, Desk}
 
 -- the word of this name is this text
 abbrev pub IsWord : List Row → Text → Text → Type 0
@@ -100,6 +101,7 @@ abbrev pub HasWords : Text → List Row → Task → Type 0
 HasWords name rows (Trace instructions) = (name ≡ codes "trace") × IsNumberWord rows (codes "N") 0 most_traced instructions
 HasWords name rows (Check cart) = (name ≡ codes "check") × IsWord rows (codes "CART") cart.now
 HasWords name rows (Migrate cart) = (name ≡ codes "migrate") × IsWord rows (codes "CART") cart.now
+HasWords name rows (New cart frames) = (name ≡ codes "new") × IsWord rows (codes "CART") cart.now × IsNumberWord rows (codes "FRAMES") 0 most_inputs frames
 HasWords name rows (Shot cart k) = (name ≡ codes "shot") × IsWord rows (codes "CART") cart.now × IsFrameWord rows (codes "K") k
 HasWords name rows (Film cart from to) =
     (name ≡ codes "film") × IsWord rows (codes "CART") cart.now × IsOptionalFrameWord rows (codes "FROM") from × IsOptionalFrameWord rows (codes "TO") to

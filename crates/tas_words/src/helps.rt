@@ -33,6 +33,15 @@ frames.
 Example:
   ./tas migrate joystick.bin < examples/older.movie > new.movie";
 
+pub(crate) const NEW_HELP: &str = "\
+Standard output is the text of a movie of this cartridge with FRAMES frames in which nothing is
+pressed, 262144 at most, which is 72 minutes. 'tas edit' presses something in it.
+
+Example:
+  ./tas new joystick.bin 600 > first.movie
+  echo press 60 30 R...F ..... ..... > first.script
+  ./tas edit joystick.bin first.script < first.movie > second.movie";
+
 pub(crate) const SHOT_HELP: &str = "\
 Standard input is the movie text, as for 'tas check'.
 Standard output is the picture of frame K, 160 by 210 pixels as a binary portable pixmap (P6),

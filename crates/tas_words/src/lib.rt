@@ -13,7 +13,7 @@ mod words;
 
 pub use invocation::{Invocation, collect_words, read_invocation};
 pub use task::{
-    DEFAULT_EVERY, MAX_EVERY, MAX_FRAME_NUMBER, MAX_INSTRUCTIONS, MAX_WORKERS, MovieFiles, Pair,
-    Pairs, Start, Task,
+    DEFAULT_EVERY, MAX_EVERY, MAX_FRAME_NUMBER, MAX_FRAMES, MAX_INSTRUCTIONS, MAX_WORKERS,
+    MovieFiles, Pair, Pairs, Start, Task,
 };
 pub use words::read_words;

@@ -6,9 +6,10 @@ ghost use Rattle.tas_words.specs.Guides.{first_guides, guide_of, last_guides, la
 
 use crate::helps::{
     CHECK_HELP, COMPARE_HELP, CUT_HELP, DESK_HELP, DIFF_HELP, DIGEST_HELP, EDIT_HELP, EXPORT_HELP,
-    FILM_HELP, LAG_HELP, MIGRATE_HELP, RAM_HELP, SCRIPT_HELP, SHOT_HELP, TALK_HELP, TRACE_HELP,
+    FILM_HELP, LAG_HELP, MIGRATE_HELP, NEW_HELP, RAM_HELP, SCRIPT_HELP, SHOT_HELP, TALK_HELP,
+    TRACE_HELP,
 };
-use crate::{MAX_EVERY, MAX_FRAME_NUMBER, MAX_INSTRUCTIONS, MAX_WORKERS};
+use crate::{MAX_EVERY, MAX_FRAME_NUMBER, MAX_FRAMES, MAX_INSTRUCTIONS, MAX_WORKERS};
 
 /// What a word of a command is.
 #[derive(Clone, Copy)]
@@ -252,7 +253,25 @@ static FIRST_SUBCOMMANDS: [Subcommand; 10] = [
 ];
 
 /// Those after them.
-static LATER_SUBCOMMANDS: [Subcommand; 5] = [
+static LATER_SUBCOMMANDS: [Subcommand; 6] = [
+    Subcommand {
+        name: "new",
+        usage: "tas new <CART> <FRAMES>",
+        tip: None,
+        about: "Writes the text of a movie in which nothing is pressed",
+        help: NEW_HELP,
+        words: &[
+            CARTRIDGE,
+            Word {
+                name: "FRAMES",
+                help: "How many frames it has, 0 to 262144",
+                kind: WordKind::Number {
+                    least: 0,
+                    most: MAX_FRAMES,
+                },
+            },
+        ],
+    },
     Subcommand {
         name: "edit",
         usage: "tas edit [OPTIONS] <CART> <SCRIPT> < MOVIE",

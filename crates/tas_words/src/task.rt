@@ -2,6 +2,9 @@
 
 use tas_language::MAX_NUMBER;
 
+/// The most frames of a movie.
+pub const MAX_FRAMES: u32 = tas_movie::MAX_FRAMES as u32;
+
 /// The most instructions of one trace.
 pub const MAX_INSTRUCTIONS: u32 = 1_000_000;
 
@@ -87,6 +90,13 @@ pub enum Task<'a> {
     Migrate {
         /// The name of the cartridge's file.
         cart: &'a str,
+    },
+    /// Write the text of a movie in which nothing is pressed.
+    New {
+        /// The name of the cartridge's file.
+        cart: &'a str,
+        /// How many frames it has, 0 to [`MAX_FRAMES`]; more count as so many.
+        frames: usize,
     },
     /// Draw a frame of the movie on standard input.
     Shot {

@@ -7,8 +7,8 @@ ghost use Rattle.tas_words.specs.CommandLine.{HasWordsOf, IsAsked, IsCommandLine
 
 use crate::command_line::command_line;
 use crate::{
-    DEFAULT_EVERY, MAX_EVERY, MAX_FRAME_NUMBER, MAX_INSTRUCTIONS, MAX_WORKERS, MovieFiles, Pair,
-    Pairs, Start, Task,
+    DEFAULT_EVERY, MAX_EVERY, MAX_FRAME_NUMBER, MAX_FRAMES, MAX_INSTRUCTIONS, MAX_WORKERS,
+    MovieFiles, Pair, Pairs, Start, Task,
 };
 use clap::error::ErrorKind;
 use clap::{ArgMatches, Command, Error};
@@ -153,6 +153,10 @@ fn text_task<'a>(name: &str, words: &ArgMatches<'a>) -> Option<Task<'a>>
         }),
         "migrate" => Some(Task::Migrate {
             cart: word_of(words, "CART")?,
+        }),
+        "new" => Some(Task::New {
+            cart: word_of(words, "CART")?,
+            frames: number_of(words, "FRAMES", 0, MAX_FRAMES)? as usize,
         }),
         "edit" => Some(Task::Edit {
             cart: word_of(words, "CART")?,

@@ -1,7 +1,10 @@
-use Rattle.std.proofs.Common.{ℕ, max, subst}
+use Rattle.std.proofs.Common.{ℕ, max, min, refl, subst}
 use Rattle.tas_engines.specs.Movies.{IsMovieRun}
 use Rattle.tas_engines.specs.Checking.{IsCheckAnswer}
 use Rattle.tas_engines.specs.Migrating.{IsMigrateAnswer}
+use Rattle.tas_engines.specs.Starting.{IsNewRun}
+use Rattle.tas_movie.specs.Content.{most_inputs}
+use Rattle.tas_program.specs.Program.{IsNewTask}
 use Rattle.tas_engines.specs.Shooting.{IsShotAnswer}
 use Rattle.tas_engines.specs.Comparing.{IsCompareRun}
 use Rattle.tas_engines.specs.Digests.{IsDigestRun}
@@ -23,6 +26,13 @@ pub returns-in_ok-open-in-Migrate : goal.returns-in_ok-open-in-Migrate
 returns-in_ok-open-in-Migrate g c =
     rw c.in-Migrate.is
     (over_one (IsMovieRun IsMigrateAnswer) (g.F.Folder.bytes_of c.args.folder.now c.in-Migrate.cart.now) (g.F.File.Read.remaining c.in_ok-open-in-Migrate.field-0) (g.F.File.Read.remaining c.migrate_run.new.cart) (record { input = g.R.Read.remaining c.args.input.now; output = g.W.Write.contents c.args.output.now }) (record { input = g.R.Read.remaining c.migrate_run.new.input; output = g.W.Write.contents c.migrate_run.new.output }) c.migrate_run.result c.in_ok-open-in-Migrate.ensures.file c.migrate_run.ensures)
+
+pub returns-in_ok-open-in-New : goal.returns-in_ok-open-in-New
+returns-in_ok-open-in-New g c =
+    let frames = min c.in-New.frames most_inputs in
+    rw c.in-New.is
+    (over_one (IsNewTask frames) (g.F.Folder.bytes_of c.args.folder.now c.in-New.cart.now) (g.F.File.Read.remaining c.in_ok-open-in-New.field-0) (g.F.File.Read.remaining c.new_run.new.cart) (record { input = g.R.Read.remaining c.args.input.now; output = g.W.Write.contents c.args.output.now }) (record { input = g.R.Read.remaining c.args.input.now; output = g.W.Write.contents c.new_run.new.output }) c.new_run.result c.in_ok-open-in-New.ensures.file
+    (refl, subst (λ (n : ℕ). IsNewRun n (g.F.File.Read.remaining c.in_ok-open-in-New.field-0) (g.F.File.Read.remaining c.new_run.new.cart) (g.W.Write.contents c.args.output.now) (g.W.Write.contents c.new_run.new.output) c.new_run.result) c.min.ensures c.new_run.ensures))
 
 pub returns-in_ok-open-in-Shot : goal.returns-in_ok-open-in-Shot
 returns-in_ok-open-in-Shot g c =
