@@ -14,7 +14,7 @@ use Rattle.clap.specs.declared.builder.command.Command.TheViews.{out-Command}
 use Rattle.clap.specs.declared.parser.matches.ArgMatches.{ArgMatches}
 use Rattle.clap.proofs.OnLiterals.{clap_on_literals}
 use Rattle.clap.proofs.SimpleLemmas.{label_first}
-use Rattle.tas_words.specs.CommandLine.{command_names, labels, own_flags, rule_of_word, shape_with, HasRules, HasWordsOf, IsAsked, command_line, empty_line}
+use Rattle.tas_words.specs.CommandLine.{command_names, labels, own_flags, rule_of_word, shape_with, HasRules, HasWordsOf, IsAsked, command_line, empty_line, with_version}
 use Rattle.tas_words.specs.Task.{IsNumberText, IsNumberWord}
 use Rattle.tas_words.specs.declared.subcommands.Word.{Word}
 use Rattle.tas_words.specs.declared.task.Task.{Task}
@@ -37,22 +37,23 @@ pub with_next_word : (name : Text) (words : List Word) (i : ℕ) (d : Word) (com
     → HasRules name (map rule_of_word (take i words) ++ rule_of_word (get_or words i d) ∷ []) command → HasRules name (map rule_of_word (take (i + 1) words)) command
 with_next_word name words i d command below has = rw (take_more words i d below, map-append) has
 
-abbrev with_version : Shape → Shape
-with_version s = record s { has_version = true }
-
 abbrev with_required : Shape → Shape
 with_required s = record s { subcommand_required = true }
 
 abbrev without_help : Shape → Shape
 without_help s = record s { disable_help_subcommand = true }
 
-pub line_start : (new named versioned told helped required last : Command) (version : Bor Text) (about after : Option (Bor Text)) → app_of new ≡ new_app (codes "tas")
-    → out-Command named ≡ record (out-Command new) { bin_name = (out-Command named).bin_name } → out-Command versioned ≡ record (out-Command named) { version = Some version }
-    → out-Command told ≡ record (out-Command versioned) { about = about } → out-Command helped ≡ record (out-Command told) { after_help = after }
+pub line_start : (new named told helped required last : Command) (about after : Option (Bor Text)) → app_of new ≡ new_app (codes "tas")
+    → out-Command named ≡ record (out-Command new) { bin_name = (out-Command named).bin_name }
+    → out-Command told ≡ record (out-Command named) { about = about } → out-Command helped ≡ record (out-Command told) { after_help = after }
     → out-Command required ≡ record (out-Command helped) { subcommand_required = true } → out-Command last ≡ record (out-Command required) { disable_help_subcommand = true } → app_of last ≡ empty_line
-line_start new named versioned told helped required last version about after app n v t h r l =
+line_start new named told helped required last about after app n t h r l =
     ap app_of_fields l
-    ∙ ap (on_top without_help) (ap app_of_fields r ∙ ap (on_top with_required) (ap app_of_fields h ∙ ap app_of_fields t ∙ ap app_of_fields v ∙ ap (on_top with_version) (ap app_of_fields n ∙ app)))
+    ∙ ap (on_top without_help) (ap app_of_fields r ∙ ap (on_top with_required) (ap app_of_fields h ∙ ap app_of_fields t ∙ ap app_of_fields n ∙ app))
+
+-- a command line to which clap was given a version
+pub versioned : (old new : Command) (app : App) (version : Bor Text) → app_of old ≡ app → out-Command new ≡ record (out-Command old) { version = Some version } → app_of new ≡ with_version app
+versioned old new app version is v = ap app_of_fields v ∙ ap with_version is
 
 -- a command line with one command more
 pub with_command : (old sub new : Command) (app : App) (name : Text) (rules : List Rule) → app_of old ≡ app → HasRules name rules sub → AddsSubcommand old sub new → app_of new ≡ with_subcommand app (shape_with name rules)

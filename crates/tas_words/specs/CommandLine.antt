@@ -2,7 +2,7 @@
 use Rattle.std.specs.Prelude.{◌≡◌, ℕ, pos, List, [], ◌∷◌, ◌++◌, Option, Some, None, true, false, codes, decimal, drop, fold, map, option_map}
 use Rattle.std.specs.Int.{int_max, int_min}
 use Rattle.clap.specs.Values.{signed_between}
-use Rattle.clap.specs.Simple.{App, Shape, app_of, filled_from, help_rule, version_rule, new_rule, new_shape, subcommand_of, with_subcommand}
+use Rattle.clap.specs.Simple.{App, Shape, app_of, filled_from, help_rule, version_rule, new_rule, new_shape, on_top, subcommand_of, with_subcommand}
 use Rattle.clap.specs.Walk.{Names, Row, Rule, Text, stop_after}
 use Rattle.clap.specs.declared.builder.action.ArgAction.TheVariants.{Set}
 use Rattle.clap.specs.declared.builder.command.Command.{Command}
@@ -98,12 +98,11 @@ pub record HasRules (name : Text) (rules : List Rule) (command : Command) : Type
   pub local : (out-Command command).has_globals ≡ false
   pub app : app_of command ≡ record { top = shape_with name rules; subs = [] }
 
--- the command line before it has commands
+-- the command line before it has commands and a version
 abbrev pub empty_line : App
 empty_line = record {
   top = record (new_shape (codes "tas")) {
     disable_help_subcommand = true;
-    has_version = true;
     subcommand_required = true;
   };
   subs = [];
@@ -113,13 +112,12 @@ empty_line = record {
 abbrev pub with_commands : App → List Subcommand → App
 with_commands line commands = fold (λ l command. with_subcommand l (shape_with command.name.now (map rule_of_word command.words.now))) line commands
 
--- a command line of these commands
+-- a command line of these commands, before it has a version
 abbrev pub line_of : List Shape → App
 line_of shapes = record {
   top = record (new_shape (codes "tas")) {
     is_leaf = false;
     disable_help_subcommand = true;
-    has_version = true;
     subcommand_required = true;
   };
   subs = shapes;
@@ -172,12 +170,24 @@ first_line = line_of first_shapes
 abbrev pub later_line : App
 later_line = line_of (first_shapes ++ later_shapes)
 
+-- all its parts
+abbrev pub last_line : App
+last_line = line_of (first_shapes ++ later_shapes ++ last_shapes)
+
+-- a command line with a version
+abbrev pub with_version : App → App
+with_version line = on_top (λ top. record top { has_version = true }) line
+
 -- the program's command line
 abbrev pub command_line : App
-command_line = line_of (first_shapes ++ later_shapes ++ last_shapes)
+command_line = with_version last_line
 
 abbrev pub IsCommandLine : Command → Type 0
 IsCommandLine command = app_of command ≡ command_line
+
+-- the text that clap is given as a command's version
+abbrev pub HasVersion : Command → Text → Type 0
+HasVersion command text = option_map (λ version. version.now) (out-Command command).version ≡ Some text
 
 -- ---- which command some words name
 

@@ -2,7 +2,7 @@
 
 ghost use Rattle.std.specs.Prelude.{◌≡◌, IfOk, None, false, map};
 ghost use Rattle.clap.specs.Words.{app_of, rule_of};
-ghost use Rattle.tas_words.specs.CommandLine.{empty_line, flag_rule, may_number_rule, may_word_rule, number_rule, paired_word_rule, rule_of_word, version_text, with_commands, word_rule, HasRules, IsCommandLine};
+ghost use Rattle.tas_words.specs.CommandLine.{empty_line, flag_rule, may_number_rule, may_word_rule, number_rule, paired_word_rule, rule_of_word, version_text, with_commands, word_rule, HasRules, HasVersion, IsCommandLine};
 ghost use Rattle.tas_words.specs.Guides.{HasUsage};
 
 use crate::subcommands::{
@@ -149,14 +149,13 @@ fn command_of<'a>(alloc: Global, subcommand: Subcommand) -> Result<Command<'a>, 
     Ok(command.override_usage(subcommand.usage))
 }
 
-/// The program's command line before it has commands.
+/// The program's command line before it has commands and a version.
 fn empty_line<'a>(alloc: Global) -> Result<Command<'a>, AllocError>
     ensures { IfOk result (λ line. app_of line ≡ empty_line) }
 {
     Ok(
         Command::new(alloc, "tas")
             .bin_name("tas")?
-            .version(version())
             .about("Replays movies of Atari 2600 cartridges, exactly and from power-on")
             .after_help(TAS_HELP)
             .subcommand_required(true)
@@ -181,10 +180,13 @@ fn with_commands<'a>(
 
 /// The program's command line.
 pub(crate) fn command_line<'a>(alloc: Global) -> Result<Command<'a>, AllocError>
-    ensures { IfOk result IsCommandLine }
+    ensures line { IfOk result IsCommandLine }
+    ensures version { IfOk result (λ line. HasVersion line version_text) }
 {
     let empty = empty_line(alloc)?;
     let line = with_commands(alloc, empty, first_subcommands())?;
     let line = with_commands(alloc, line, later_subcommands())?;
-    with_commands(alloc, line, last_subcommands())
+    let line = with_commands(alloc, line, last_subcommands())?;
+    // The version is given last, since clap's `subcommand` says nothing of it.
+    Ok(line.version(version()))
 }

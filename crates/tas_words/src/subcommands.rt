@@ -1,7 +1,7 @@
 //! The commands, with their help and their words.
 
 ghost use Rattle.std.specs.Prelude.{◌≡◌, map};
-ghost use Rattle.tas_words.specs.CommandLine.{command_line, empty_line, first_line, later_line, with_commands};
+ghost use Rattle.tas_words.specs.CommandLine.{empty_line, first_line, last_line, later_line, with_commands};
 ghost use Rattle.tas_words.specs.Guides.{first_guides, guide_of, last_guides, later_guides};
 
 use crate::helps::{
@@ -98,7 +98,7 @@ const LINES: &str = "A file that another program's lines are read from";
 
 const ANSWERS: &str = "The file that their answers are written to; goes with the one before it";
 
-/// The program's first commands. They are three lists, since a proof of one list of all is too large.
+/// The first of the three lists of commands: a proof over one list of all is too large.
 static FIRST_SUBCOMMANDS: [Subcommand; 10] = [
     Subcommand {
         name: "trace",
@@ -480,7 +480,7 @@ pub(crate) fn later_subcommands() -> &'static [Subcommand]
 
 /// The last one, which makes the rest of it.
 pub(crate) fn last_subcommands() -> &'static [Subcommand]
-    ensures line { with_commands later_line result.now ≡ command_line }
+    ensures line { with_commands later_line result.now ≡ last_line }
     ensures guides { map guide_of result.now ≡ last_guides }
 {
     &LAST_SUBCOMMANDS
