@@ -1,7 +1,7 @@
 //! What the words ask for.
 
-ghost use Rattle.std.specs.Prelude.{IfOk, IfErr, Some, map, string_bytes};
-ghost use Rattle.tas_words.specs.Invocations.{AreGiven, HasTip, IsInvocation, IsNoTask};
+ghost use Rattle.std.specs.Prelude.{◌≡◌, IfOk, IfErr, map, string_bytes};
+ghost use Rattle.tas_words.specs.Invocations.{AreGiven, IsInvocation, IsNoTask, IsRefusalWith, with_tip};
 
 use crate::tips::tip_of;
 use crate::{Task, read_words};
@@ -24,23 +24,22 @@ pub enum Invocation<'a, A: Allocator = Global> {
     NoMemory,
 }
 
-/// A refusal's text with a tip after its first line.
+/// A refusal's text with a tip between its first line and the rest.
 fn with_tip<A: Allocator>(alloc: A, text: &str, tip: &str) -> Result<String<A>, AllocError>
-    ensures { IfOk result (λ new. HasTip (Some tip.now) (string_bytes new)) }
+    ensures { IfOk result (λ new. string_bytes new ≡ with_tip tip.now text.now) }
 {
     let (first, rest) = text.split_once('\n').unwrap_or((text, ""));
     let new = format!(in alloc; "{first}\n\n  tip: {tip}\n{rest}")?;
     Ok(new)
 }
 
-/// Why the words aren't understood, with the tip for them.
+/// Why the words aren't understood: this text, with the tip for them.
 fn refusal_of<'a, A: Allocator + Copy>(
     alloc: A,
     text: String<A>,
     words: &[String<A>],
 ) -> Invocation<'a, A>
-    ensures tip { IsInvocation (map string_bytes words.now) result }
-    ensures none { IsNoTask result }
+    ensures { IsRefusalWith (map string_bytes words.now) (string_bytes text) result }
 {
     match tip_of(words) {
         Some(tip) => match with_tip(alloc, text.as_str(), tip) {

@@ -1,5 +1,8 @@
-use Rattle.std.proofs.Common.{append_assoc, ◌∙◌}
+use Rattle.std.proofs.Common.{append_assoc, arith, refl, ◌∙◌}
+use Rattle.tas_words.proofs.TipLemmas.{tip_between}
 use Rattle.tas_words.proofs.invocation.with_tip.Goals as goal
 
 pub returns : goal.returns
-returns g c = (c.unwrap_or.result.0.now, c.unwrap_or.result.1.now, c.in_ok-new.ensures.ok ∙ simp append_assoc)
+returns g c =
+    let split = c.split_once.ensures.byte (omega arith) (λ text found is. is) in
+    tip_between c.args.tip.now c.args.text.now _ c.split_once.result _ _ refl refl split c.unwrap_or.ensures (c.in_ok-new.ensures.ok ∙ simp append_assoc)
