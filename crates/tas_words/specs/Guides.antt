@@ -1,7 +1,7 @@
 -- How each command is called, and the tip for those who take its standard input for a word.
-use Rattle.std.specs.Prelude.{◌≡◌, ◌&&◌, ◌||◌, ◌==◌, ℕ, List, [], ◌∷◌, Bool, true, false, not, Option, Some, None, codes, option_map, find, if◌then◌else◌}
+use Rattle.std.specs.Prelude.{◌≡◌, ◌&&◌, ◌||◌, ◌==◌, ◌++◌, ℕ, List, [], ◌∷◌, Bool, eqb, true, false, not, Option, Some, None, codes, is_some, option_map, find, if◌then◌else◌}
 use Rattle.std.specs.Char.{is_ascii_digit}
-use Rattle.std.specs.List.{filter_map, list_all}
+use Rattle.std.specs.List.{filter_map, list_all, list_any, starts_with}
 use Rattle.std.specs.Str.{bytes_eq}
 use Rattle.clap.specs.Walk.{Text}
 use Rattle.clap.specs.declared.builder.command.Command.{Command}
@@ -36,11 +36,38 @@ numbers_of words = filter_map (λ word. kind_number word.kind) words
 abbrev pub guide_of : Subcommand → Guide
 guide_of command = guide command.name.now command.usage.now (option_map (λ tip. tip.now) command.tip) (numbers_of command.words.now)
 
--- the usage that clap shows of a command
+-- the usage that clap is given of a command
 abbrev pub HasUsage : Command → Text → Type 0
 HasUsage command usage = option_map (λ line. line.now) (out-Command command).usage_str ≡ Some usage
 
--- those of the program's first commands
+-- a word in a usage: in angles where it is required, in square brackets where it may be left out; one after a flag, none
+abbrev pub usage_word : Text → WordKind → Text
+usage_word name File = codes " <" ++ name ++ codes ">"
+usage_word name OptionalFile = codes " [" ++ name ++ codes "]"
+usage_word name (PairedFile other) = codes " [" ++ name ++ codes "]"
+usage_word name (Flag flag other) = []
+usage_word name (Number least most) = codes " <" ++ name ++ codes ">"
+usage_word name (OptionalNumber least most) = codes " [" ++ name ++ codes "]"
+
+abbrev pub usage_words : List Word → Text
+usage_words [] = []
+usage_words (word ∷ words) = usage_word word.name.now word.kind ++ usage_words words
+
+-- a word stands after a flag
+abbrev pub is_flagged : WordKind → Bool
+is_flagged (Flag flag other) = true
+is_flagged _ = false
+
+-- what a usage begins with: the command's name, whether it has flags, its words in order, and, where it has a tip, since it reads standard input, the sign of redirection
+abbrev pub usage_start : Subcommand → Text
+usage_start command = codes "tas " ++ command.name.now ++ (if list_any (λ word. is_flagged word.kind) command.words.now then codes " [OPTIONS]" else [])
+    ++ usage_words command.words.now ++ (if is_some command.tip then codes " < " else [])
+
+-- a command's usage has its words
+abbrev pub has_its_words : Subcommand → Bool
+has_its_words command = starts_with eqb command.usage.now (usage_start command)
+
+-- the guides of the program's first commands
 abbrev pub first_guides : List Guide
 first_guides =
     guide (codes "trace") (codes "tas trace <N> < CART")
@@ -65,7 +92,7 @@ first_guides =
     (Some (codes "the movie is read from standard input: tas lag game.bin < game.movie")) (false ∷ [])
     ∷ []
 
--- those of the commands after them
+-- the guides of the commands after them
 abbrev pub later_guides : List Guide
 later_guides =
     guide (codes "new") (codes "tas new <CART> <FRAMES>") None (false ∷ true ∷ [])
@@ -81,7 +108,7 @@ later_guides =
     (Some (codes "the conversation is read from standard input: tas talk game.bin game.movie < lines")) (false ∷ false ∷ [])
     ∷ []
 
--- that of the last one
+-- the guide of the last one
 abbrev pub last_guides : List Guide
 last_guides =
     guide (codes "desk") (codes "tas desk <CART> <MOVIE> <IN0> <OUT0> [IN1 OUT1] .. [IN7 OUT7]")
@@ -99,7 +126,7 @@ abbrev pub is_flag : Text → Bool
 is_flag [] = false
 is_flag (byte ∷ bytes) = byte == 45
 
--- it is none
+-- a text is no flag
 abbrev pub is_plain : Text → Bool
 is_plain text = not (is_flag text)
 

@@ -1,8 +1,9 @@
 //! The commands, with their help and their words.
 
-ghost use Rattle.std.specs.Prelude.{◌≡◌, map};
+ghost use Rattle.std.specs.List.{list_all};
+ghost use Rattle.std.specs.Prelude.{◌≡◌, map, true};
 ghost use Rattle.tas_words.specs.CommandLine.{empty_line, first_line, last_line, later_line, with_commands};
-ghost use Rattle.tas_words.specs.Guides.{first_guides, guide_of, last_guides, later_guides};
+ghost use Rattle.tas_words.specs.Guides.{first_guides, guide_of, has_its_words, last_guides, later_guides};
 
 use crate::helps::{
     CHECK_HELP, COMPARE_HELP, CUT_HELP, DESK_HELP, DIFF_HELP, DIGEST_HELP, EDIT_HELP, EXPORT_HELP,
@@ -466,6 +467,7 @@ static LAST_SUBCOMMANDS: [Subcommand; 1] = [Subcommand {
 pub(crate) fn first_subcommands() -> &'static [Subcommand]
     ensures line { with_commands empty_line result.now ≡ first_line }
     ensures guides { map guide_of result.now ≡ first_guides }
+    ensures usages { list_all has_its_words result.now ≡ true }
 {
     &FIRST_SUBCOMMANDS
 }
@@ -474,6 +476,7 @@ pub(crate) fn first_subcommands() -> &'static [Subcommand]
 pub(crate) fn later_subcommands() -> &'static [Subcommand]
     ensures line { with_commands first_line result.now ≡ later_line }
     ensures guides { map guide_of result.now ≡ later_guides }
+    ensures usages { list_all has_its_words result.now ≡ true }
 {
     &LATER_SUBCOMMANDS
 }
