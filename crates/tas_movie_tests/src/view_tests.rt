@@ -241,7 +241,8 @@ fn a_view_follows_other_movies(rt: HostRuntime) {
     );
 }
 
-/// A view gains what another view of its movie has, by a greenzone and by a job's batch.
+/// A view gains the states of its own job's batch, and of a copy of another view's states just those that it lacks. A batch of another
+/// cartridge is refused.
 #[test]
 fn a_view_gains_states(rt: HostRuntime) {
     let alloc = rt.alloc();
@@ -252,7 +253,9 @@ fn a_view_gains_states(rt: HostRuntime) {
         shot(&rt, alloc, &mut full, 199),
         Ok((200, Ok(1680))),
     );
-    let mut view = view_of(&rt, alloc, PLAYFIELD, 200);
+    let states = expect_ok(&rt, full.copy_states(alloc));
+    let movie = expect_ok(&rt, full.movie().copy(alloc));
+    let mut view = expect_ok(&rt, View::new(alloc, movie));
     let job = expect_ok(&rt, view.job(alloc, 130));
     let merged = Merged {
         front: 130,
@@ -260,6 +263,9 @@ fn a_view_gains_states(rt: HostRuntime) {
     };
     check_same(&rt, "merge", view.merge(&job.run()), Ok(merged));
     check_kept(&rt, "merged", &view, &[64, 128]);
+    check_same(&rt, "gain", view.gain(&states), 1);
+    check_kept(&rt, "gained", &view, &[64, 128, 192]);
+    check_same(&rt, "gain again", view.gain(&states), 0);
     let job = expect_ok(&rt, full.job(alloc, 1000));
     let merged = Merged {
         front: 200,
