@@ -1,0 +1,130 @@
+-- Steps of the loops over choices, arrivals and steps.
+use Rattle.std.proofs.Common.{◌≡◌, ℕ, suc, ◌+◌, ◌-◌, ◌<◌, true, false, List, [], ◌∷◌, ◌++◌, length, take, reverse, get_or, Option, Some, None, refl, sym, ap, ◌∙◌, arith}
+use Rattle.std.specs.Prelude.{is_some, slice_index_or}
+use Rattle.std.proofs.lemmas.List.{take_more, map-append, reverse-append, append_assoc, append-nil, length-take}
+use Rattle.vcs_cpu.specs.declared.halt.Halt.{Halt}
+use Rattle.vcs_machine.specs.Machine.{Machine, unless_halted}
+use Rattle.indexmap.specs.IndexSet.{insert_key, insert_all}
+use Rattle.tas_search.specs.declared.arrival.Arrival.{Arrival}
+use Rattle.tas_search.specs.declared.arrival.Step.{Step}
+use Rattle.tas_search.specs.Space.{SpaceContent, after_choice}
+use Rattle.tas_search.specs.Inside.Arrivals.{are_same_arrivals, arrivals_from, arrivals_of, grown_arrivals, no_step, way, steps_of}
+
+pub halted_none : {A : Type 0} (h : Option Halt) (xs : List A) → is_some h ≡ true → unless_halted h xs [] ≡ []
+halted_none None xs e = absurd cc
+halted_none (Some x) xs e = refl
+
+pub going_on : {A : Type 0} (h : Option Halt) (xs : List A) → is_some h ≡ false → unless_halted h xs [] ≡ xs
+going_on None xs e = refl
+going_on (Some x) xs e = absurd cc
+
+-- what choice number k reaches from a machine
+abbrev pub arrival_at : SpaceContent → Machine → ℕ → ℕ → Arrival
+arrival_at s m place k = record { state = after_choice s m k; step = record { parent = place; choice = k } }
+
+pub choices_more : (s : SpaceContent) (m : Machine) (place k n : ℕ) (next : List Arrival) → k < n
+    → insert_all are_same_arrivals next (arrivals_from s m place k (n - k))
+    ≡ insert_all are_same_arrivals (insert_key are_same_arrivals next (arrival_at s m place k)) (arrivals_from s m place (k + 1) (n - (k + 1)))
+choices_more s m place k n next lt =
+    ap (λ (c : ℕ). insert_all are_same_arrivals next (arrivals_from s m place k c)) left
+    ∙ ap (λ (i : ℕ). insert_all are_same_arrivals (insert_key are_same_arrivals next (arrival_at s m place k)) (arrivals_from s m place i (n - (k + 1)))) after
+  where
+    left : n - k ≡ suc (n - (k + 1))
+    left = omega arith
+
+    after : suc k ≡ k + 1
+    after = omega arith
+
+pub choices_none : (s : SpaceContent) (m : Machine) (place n : ℕ) (next : List Arrival) → insert_all are_same_arrivals next (arrivals_from s m place n (n - n)) ≡ next
+choices_none s m place n next = ap (λ (c : ℕ). insert_all are_same_arrivals next (arrivals_from s m place n c)) left
+  where
+    left : n - n ≡ 0
+    left = omega arith
+
+pub grown_push : (s : SpaceContent) (xs next : List Arrival) (place : ℕ) (a : Arrival)
+    → grown_arrivals s next place (xs ++ a ∷ []) ≡ insert_all are_same_arrivals (grown_arrivals s next place xs) (arrivals_of s a.state (place + length xs))
+grown_push s [] next place a = ap (λ (p : ℕ). insert_all are_same_arrivals next (arrivals_of s a.state p)) here
+  where
+    here : place ≡ place + 0
+    here = omega arith
+grown_push s (x ∷ xs) next place a =
+    grown_push s xs (insert_all are_same_arrivals next (arrivals_of s x.state place)) (suc place) a
+    ∙ ap (λ (p : ℕ). insert_all are_same_arrivals (grown_arrivals s (insert_all are_same_arrivals next (arrivals_of s x.state place)) (suc place) xs) (arrivals_of s a.state p)) here
+  where
+    here : suc place + length xs ≡ place + suc (length xs)
+    here = omega arith
+
+-- one arrival more
+pub grown_more : (s : SpaceContent) (bs now after : List Arrival) (place j : ℕ) (a : Arrival) → j < length bs → a ≡ get_or bs j a → now ≡ grown_arrivals s [] place (take j bs)
+    → after ≡ insert_all are_same_arrivals now (arrivals_of s a.state (place + j)) → after ≡ grown_arrivals s [] place (take (j + 1) bs)
+grown_more s bs now after place j a lt is e f =
+    f
+    ∙ ap (λ (ns : List Arrival). insert_all are_same_arrivals ns (arrivals_of s a.state (place + j))) e
+    ∙ ap (λ (n : ℕ). insert_all are_same_arrivals (grown_arrivals s [] place (take j bs)) (arrivals_of s a.state (place + n))) count
+    ∙ sym (grown_push s (take j bs) [] place a)
+    ∙ ap (grown_arrivals s [] place) (ap (λ (x : Arrival). take j bs ++ x ∷ []) is ∙ sym (take_more bs j a lt))
+  where
+    count : j ≡ length (take j bs)
+    count = omega (arith, length-take j bs)
+
+pub steps_more : (old now after : List Step) (bs : List Arrival) (j : ℕ) (a : Arrival) → j < length bs → a ≡ get_or bs j a → now ≡ old ++ steps_of (take j bs) → after ≡ now ++ a.step ∷ []
+    → after ≡ old ++ steps_of (take (j + 1) bs)
+steps_more old now after bs j a lt is e f =
+    f
+    ∙ ap (λ (xs : List Step). xs ++ a.step ∷ []) e
+    ∙ append_assoc old (steps_of (take j bs)) (a.step ∷ [])
+    ∙ ap (λ (xs : List Step). old ++ xs)
+    (sym (map-append (λ x. x.step) (take j bs) (a ∷ []))
+    ∙ ap steps_of (ap (λ (x : Arrival). take j bs ++ x ∷ []) is ∙ sym (take_more bs j a lt))
+    )
+
+-- one step back
+pub way_back : (trail : List Step) (depth k : ℕ) (step last : Step) (found : List ℕ) → k < depth → way trail (depth - k) step ++ reverse found ≡ way trail depth last
+    → way trail (depth - (k + 1)) (slice_index_or trail step.parent no_step) ++ reverse (found ++ step.choice ∷ []) ≡ way trail depth last
+way_back trail depth k step last found lt e =
+    ap (λ (xs : List ℕ). way trail (depth - (k + 1)) (slice_index_or trail step.parent no_step) ++ xs) (reverse-append found (step.choice ∷ []))
+    ∙ sym (append_assoc (way trail (depth - (k + 1)) (slice_index_or trail step.parent no_step)) (step.choice ∷ []) (reverse found))
+    ∙ ap (λ (n : ℕ). way trail n step ++ reverse found) left
+    ∙ e
+  where
+    left : suc (depth - (k + 1)) ≡ depth - k
+    left = omega arith
+
+pub way_over : (trail : List Step) (depth : ℕ) (step : Step) (found : List ℕ) → way trail (depth - depth) step ++ reverse found ≡ reverse found
+way_over trail depth step found = ap (λ (n : ℕ). way trail n step ++ reverse found) left
+  where
+    left : depth - depth ≡ 0
+    left = omega arith
+
+-- one choice more, by what the code has at hand
+pub choice_added : (s : SpaceContent) (m reached : Machine) (place k n : ℕ) (now next final : List Arrival) → k < n → reached ≡ after_choice s m k
+    → next ≡ insert_key are_same_arrivals now (record { state = reached; step = record { parent = place; choice = k } })
+    → insert_all are_same_arrivals now (arrivals_from s m place k (n - k)) ≡ final → insert_all are_same_arrivals next (arrivals_from s m place (k + 1) (n - (k + 1))) ≡ final
+choice_added s m reached place k n now next final lt at e inv =
+    ap (λ (ks : List Arrival). insert_all are_same_arrivals ks (arrivals_from s m place (k + 1) (n - (k + 1))))
+    (e ∙ ap (λ (x : Machine). insert_key are_same_arrivals now (record { state = x; step = record { parent = place; choice = k } })) at)
+    ∙ sym (choices_more s m place k n now lt)
+    ∙ inv
+
+-- the same by what the code has at hand
+pub way_back_at : (trail : List Step) (depth k : ℕ) (step last next : Step) (found pushed : List ℕ) → k < depth → next ≡ slice_index_or trail step.parent no_step
+    → pushed ≡ found ++ step.choice ∷ [] → way trail (depth - k) step ++ reverse found ≡ way trail depth last
+    → way trail (depth - (k + 1)) next ++ reverse pushed ≡ way trail depth last
+way_back_at trail depth k step last next found pushed lt at is e =
+    ap (λ (x : Step). way trail (depth - (k + 1)) x ++ reverse pushed) at
+    ∙ ap (λ (xs : List ℕ). way trail (depth - (k + 1)) (slice_index_or trail step.parent no_step) ++ reverse xs) is
+    ∙ way_back trail depth k step last found lt e
+
+-- what was found is the whole way
+pub way_found : (trail : List Step) (depth k : ℕ) (step last : Step) (found turned : List ℕ) → k ≡ depth → turned ≡ reverse found
+    → way trail (depth - k) step ++ reverse found ≡ way trail depth last → turned ≡ way trail depth last
+way_found trail depth k step last found turned all is e =
+    is ∙ sym (way_over trail depth step found) ∙ ap (λ (n : ℕ). way trail (depth - n) step ++ reverse found) (sym all) ∙ e
+
+-- before the first step back
+pub way_first : (trail : List Step) (depth : ℕ) (last : Step) (found : List ℕ) → found ≡ [] → way trail (depth - 0) last ++ reverse found ≡ way trail depth last
+way_first trail depth last found empty =
+    ap (λ (xs : List ℕ). way trail (depth - 0) last ++ reverse xs) empty ∙ append-nil (way trail (depth - 0) last) ∙ ap (λ (n : ℕ). way trail n last) same
+  where
+    same : depth - 0 ≡ depth
+    same = omega arith

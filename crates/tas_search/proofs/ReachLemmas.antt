@@ -1,0 +1,193 @@
+-- What the layers show of the soonest sequence.
+use Rattle.std.proofs.Common.{◌≡◌, ℕ, zero, suc, ◌+◌, ◌<◌, ◌≤◌, Bool, true, false, not, List, [], ◌∷◌, ◌++◌, length, map, take, drop, get_or, cond, nat_lt, Option, Some, None, refl, sym, ap, subst, ◌∙◌, inl, inr, arith}
+use Rattle.std.specs.List.{position, position_or_len}
+use Rattle.std.proofs.lemmas.List.{map-append, length-map, take-map, take-append-drop}
+use Rattle.std.proofs.lemmas.List.Quantifiers.{position-Some}
+use Rattle.std.proofs.lemmas.Bool.{cases_eq, ltb-false}
+use Rattle.std.proofs.Math.ListN.{get_or-map}
+use Rattle.vcs_machine.specs.Machine.{Machine}
+use Rattle.tas_search.specs.declared.arrival.Arrival.{Arrival}
+use Rattle.tas_search.specs.declared.arrival.Step.{Step}
+use Rattle.tas_search.specs.Space.{SpaceContent, reached, rank}
+use Rattle.tas_search.specs.Best.{Passes, NeedsAtLeast, IsSoonest, AllReach, IsApart, AreApart, ReachMoreThan}
+use Rattle.tas_search.specs.Inside.Layers.{Reached, grown_from, layer_of}
+use Rattle.tas_search.specs.Inside.Arrivals.{grown_arrivals, no_step, way, with_way, steps_of, IsFront, IsOver}
+use Rattle.tas_search.proofs.LayerLemmas.{Covers, Ascends, covers_from, layer_covers, layer_ascends}
+use Rattle.tas_search.proofs.SoundLemmas.{IsRight, AreRight, IsNew, AreDifferent, right_layer, right_grown, different_grown}
+use Rattle.tas_search.proofs.ArrivalLemmas.{grown_is}
+
+some_is : (x y : Machine) → ◌≡◌ {A = Option Machine} (Some x) (Some y) → x ≡ y
+some_is x y e = cc
+
+false_true : (b : Bool) → b ≡ false → b ≡ true → ⊥
+false_true b f t = cc
+
+pub passes_some : (test : Machine → Bool) (o : Option Machine) → Passes test o → (m : Machine) × (o ≡ Some m) × (test m ≡ true)
+passes_some test None h = absurd h
+passes_some test (Some m) h = (m, refl, h)
+
+pub some_passes : (test : Machine → Bool) (o : Option Machine) (m : Machine) → o ≡ Some m → test m ≡ true → Passes test o
+some_passes test o m e h = subst (Passes test) (sym e) h
+
+-- ---- the first that passes
+
+fails_all : (p : Arrival → Bool) (bs : List Arrival) (k : ℕ) (d : Arrival) → length bs ≤ position_or_len p bs → k < length bs → p (get_or bs k d) ≡ false
+fails_all p [] k d le lt = absurd (omega arith)
+fails_all p (a ∷ bs) k d le lt = split (p a) refl k le lt (λ i. fails_all p bs i d)
+  where
+    split : (b : Bool) → p a ≡ b → (k : ℕ) → suc (length bs) ≤ cond (not b) (1 + position_or_len p bs) 0 → k < suc (length bs)
+        → ((i : ℕ) → length bs ≤ position_or_len p bs → i < length bs → p (get_or bs i d) ≡ false) → p (get_or (a ∷ bs) k d) ≡ false
+    split true e k le lt rest = absurd (omega arith)
+    split false e zero le lt rest = e
+    split false e (suc k) le lt rest = rest k (omega arith) (omega arith)
+
+pub position_none : (p : Arrival → Bool) (bs : List Arrival) (k : ℕ) (d : Arrival) → position p bs ≡ None → k < length bs → p (get_or bs k d) ≡ false
+position_none p bs k d e lt = fails_all p bs k d (past (nat_lt (position_or_len p bs) (length bs)) refl e) lt
+  where
+    past : (b : Bool) → nat_lt (position_or_len p bs) (length bs) ≡ b → cond b (Some (position_or_len p bs)) None ≡ None → length bs ≤ position_or_len p bs
+    past true is none = absurd cc
+    past false is none = omega (arith, ltb-false _ _ is)
+
+module _ (s : SpaceContent) (test : Machine → Bool) where
+  -- the first that passes has the least rank of all that do
+  pub first_least : (rs : List Reached) (a i : ℕ) (d : Reached) (m : Machine) (q : ℕ) → Ascends s a rs → i < length rs
+      → ((k : ℕ) → k < i → test (get_or rs k d).machine ≡ false) → test m ≡ true → Covers s rs m q → rank s (get_or rs i d).sequence ≤ q
+  first_least [] a i d m q h lt fail pass c = absurd (omega arith)
+  first_least (r ∷ rs) a zero d m q h lt fail pass (inl c) = c.1
+  first_least (r ∷ rs) a zero d m q h lt fail pass (inr c) = let le : rank s r.sequence + 1 ≤ q = covers_from s rs m q (rank s r.sequence + 1) h.1 c in omega arith
+  first_least (r ∷ rs) a (suc i) d m q h lt fail pass (inl c) = absurd (false_true (test m) (ap test (sym c.0) ∙ fail 0 (omega arith)) pass)
+  first_least (r ∷ rs) a (suc i) d m q h lt fail pass (inr c) = first_least rs (rank s r.sequence + 1) i d m q h.1 (omega arith) (λ k l. fail (suc k) (omega arith)) pass c
+
+  pub none_covered : (rs : List Reached) (d : Reached) (m : Machine) (q : ℕ) → ((k : ℕ) → k < length rs → test (get_or rs k d).machine ≡ false) → test m ≡ true → Covers s rs m q → ⊥
+  none_covered [] d m q fail pass c = c
+  none_covered (r ∷ rs) d m q fail pass (inl c) = false_true (test m) (ap test (sym c.0) ∙ fail 0 (omega arith)) pass
+  none_covered (r ∷ rs) d m q fail pass (inr c) = none_covered rs d m q (λ k l. fail (suc k) (omega arith)) pass c
+
+  pub right_at : (d i : ℕ) (rs : List Reached) (e : Reached) → AreRight s d rs → i < length rs → IsRight s d (get_or rs i e)
+  right_at d i [] e h lt = absurd (omega arith)
+  right_at d zero (r ∷ rs) e h lt = h.0
+  right_at d (suc i) (r ∷ rs) e h lt = right_at d i rs e h.1 (omega arith)
+
+-- ---- the soonest sequence
+
+-- a member of a front's layer, as the definitions have it
+pub member_is : (s : SpaceContent) (depth place : ℕ) (trail : List Step) (bs : List Arrival) (i : ℕ) (d : Arrival) → IsFront s depth place trail bs
+    → get_or (layer_of s depth) i (with_way trail depth d) ≡ with_way trail depth (get_or bs i d)
+member_is s depth place trail bs i d front =
+    ap (λ (rs : List Reached). get_or rs i (with_way trail depth d)) (sym front.layer) ∙ get_or-map (with_way trail depth) bs i d
+
+pub layer_length : (s : SpaceContent) (depth place : ℕ) (trail : List Step) (bs : List Arrival) → IsFront s depth place trail bs → length (layer_of s depth) ≡ length bs
+layer_length s depth place trail bs front = ap length (sym front.layer) ∙ length-map bs (with_way trail depth)
+
+pub soonest_found : (s : SpaceContent) (test : Machine → Bool) (depth place : ℕ) (trail : List Step) (bs : List Arrival) (i : ℕ) (d : Arrival) → IsFront s depth place trail bs
+    → NeedsAtLeast s test depth → position (λ a. test a.state) bs ≡ Some i → IsSoonest s test (way trail depth (get_or bs i d).step) × (length (way trail depth (get_or bs i d).step) ≡ depth)
+soonest_found s test depth place trail bs i d front least found =
+    let first = position-Some (λ a. test a.state) bs i d found in
+    let size : length (layer_of s depth) ≡ length bs = layer_length s depth place trail bs front in
+    let right : IsRight s depth (with_way trail depth (get_or bs i d)) =
+    subst (IsRight s depth) (member_is s depth place trail bs i d front) (right_at s test depth i (layer_of s depth) (with_way trail depth d) (right_layer s depth) (omega (arith, size, first.0))) in
+    let before : (k : ℕ) → k < i → test (get_or (layer_of s depth) k (with_way trail depth d)).machine ≡ false =
+    λ k l. ap (λ (r : Reached). test r.machine) (member_is s depth place trail bs k d front) ∙ first.2 k l in (
+      record {
+        choices = right.choices;
+        meets = some_passes test _ _ right.machine first.1;
+        soonest = subst (NeedsAtLeast s test) (sym right.count) least;
+        first = λ other are meets same.
+            let there = passes_some test (reached s other) meets in
+            let covered : Covers s (layer_of s depth) there.0 (rank s other) =
+            subst (λ (n : ℕ). Covers s (layer_of s n) there.0 (rank s other)) (same ∙ right.count) (layer_covers s other there.0 are there.1) in
+            subst (λ (r : Reached). rank s r.sequence ≤ rank s other) (member_is s depth place trail bs i d front)
+            (first_least s test (layer_of s depth) 0 i (with_way trail depth d) there.0 (rank s other) (layer_ascends s depth) (omega (arith, size, first.0)) before there.2 covered);
+      },
+      right.count,
+    )
+
+pub none_found : (s : SpaceContent) (test : Machine → Bool) (depth place : ℕ) (trail : List Step) (bs : List Arrival) → IsFront s depth place trail bs
+    → NeedsAtLeast s test depth → position (λ a. test a.state) bs ≡ None → NeedsAtLeast s test (depth + 1)
+none_found s test depth place trail bs front least none = λ ks are meets.
+    let le : depth ≤ length ks = least ks are meets in
+    elim (cases_eq depth (length ks)) [
+      | inl same ↦
+          let there = passes_some test (reached s ks) meets in
+          let d : Arrival = record { state = s.start; step = no_step } in
+          let size : length (layer_of s depth) ≡ length bs = layer_length s depth place trail bs front in
+          let covered : Covers s (layer_of s depth) there.0 (rank s ks) =
+          subst (λ (n : ℕ). Covers s (layer_of s n) there.0 (rank s ks)) (sym same) (layer_covers s ks there.0 are there.1) in
+          let fail : (k : ℕ) → k < length (layer_of s depth) → test (get_or (layer_of s depth) k (with_way trail depth d)).machine ≡ false =
+          λ k l. ap (λ (r : Reached). test r.machine) (member_is s depth place trail bs k d front) ∙ position_none (λ a. test a.state) bs k d none (omega (arith, size)) in
+          absurd (none_covered s test (layer_of s depth) (with_way trail depth d) there.0 (rank s ks) fail there.2 covered)
+      | inr other ↦ omega arith
+    ]
+
+-- ---- more machines than are kept
+
+right_take : (s : SpaceContent) (d n : ℕ) (rs : List Reached) → AreRight s d rs → AreRight s d (take n rs)
+right_take s d zero rs h = tt
+right_take s d (suc n) [] h = tt
+right_take s d (suc n) (r ∷ rs) h = (h.0, right_take s d n rs h.1)
+
+sequences_of : List Reached → List (List ℕ)
+sequences_of rs = map (λ r. r.sequence) rs
+
+all_reach : (s : SpaceContent) (d : ℕ) (rs : List Reached) → AreRight s d rs → AllReach s d (sequences_of rs)
+unfolding sequences_of
+all_reach s d [] h = tt
+all_reach s d (r ∷ rs) h = (h.0.choices, h.0.count, (λ none. none_some (sym none ∙ h.0.machine)), all_reach s d rs h.1)
+  where
+    none_some : ◌≡◌ {A = Option Machine} None (Some r.machine) → ⊥
+    none_some e = cc
+
+is_apart : (s : SpaceContent) (d : ℕ) (r : Reached) (rs : List Reached) → IsRight s d r → AreRight s d rs → IsNew s r.machine rs → IsApart s r.sequence (sequences_of rs)
+unfolding sequences_of
+is_apart s d r [] h hs new = tt
+is_apart s d r (o ∷ rs) h hs new = ((λ same. new.0 (some_is r.machine o.machine (sym h.machine ∙ same ∙ hs.0.machine))), is_apart s d r rs h hs.1 new.1)
+
+are_apart : (s : SpaceContent) (d : ℕ) (rs : List Reached) → AreRight s d rs → AreDifferent s rs → AreApart s (sequences_of rs)
+unfolding sequences_of
+are_apart s d [] h new = tt
+are_apart s d (r ∷ rs) h new = (is_apart s d r rs h.0 h.1 new.0, are_apart s d rs h.1 new.1)
+
+pub crowded : (s : SpaceContent) (depth place most : ℕ) (trail : List Step) (bs : List Arrival) → IsFront s depth place trail bs → IsOver s bs place most → ReachMoreThan s (depth + 1) most
+unfolding sequences_of
+crowded s depth place most trail bs front over =
+    let j = over.0 in
+    let steps : drop place trail ≡ steps_of (take j bs) ++ steps_of (drop j bs) =
+    front.steps ∙ ap steps_of (sym (take-append-drop j bs)) ∙ map-append (λ a. a.step) (take j bs) (drop j bs) in
+    let is : map (with_way trail (suc depth)) (grown_arrivals s [] place (take j bs)) ≡ grown_from s [] (map (with_way trail depth) (take j bs)) =
+    grown_is s trail depth (take j bs) [] place (steps_of (drop j bs)) steps in
+    let layer : AreRight s depth (map (with_way trail depth) (take j bs)) =
+    subst (AreRight s depth) (ap (take j) (sym front.layer) ∙ take-map (with_way trail depth) j bs) (right_take s depth j (layer_of s depth) (right_layer s depth)) in
+    let right : AreRight s (depth + 1) (grown_from s [] (map (with_way trail depth) (take j bs))) = right_grown s (map (with_way trail depth) (take j bs)) [] depth tt layer in
+    let apart : AreDifferent s (grown_from s [] (map (with_way trail depth) (take j bs))) = different_grown s (map (with_way trail depth) (take j bs)) [] tt in
+    let count : length (sequences_of (grown_from s [] (map (with_way trail depth) (take j bs)))) ≡ length (grown_arrivals s [] place (take j bs)) =
+    length-map (grown_from s [] (map (with_way trail depth) (take j bs))) (λ r. r.sequence) ∙ ap length (sym is) ∙ length-map (grown_arrivals s [] place (take j bs)) (with_way trail (suc depth)) in
+    record {
+      sequences = sequences_of (grown_from s [] (map (with_way trail depth) (take j bs)));
+      reach = all_reach s (depth + 1) (grown_from s [] (map (with_way trail depth) (take j bs))) right;
+      apart = are_apart s (depth + 1) (grown_from s [] (map (with_way trail depth) (take j bs))) right apart;
+      more = omega (arith, count, over.1);
+    }
+
+-- ---- the empty sequence
+
+pub start_soonest : (s : SpaceContent) (test : Machine → Bool) → test s.start ≡ true → IsSoonest s test []
+start_soonest s test pass = record {
+  choices = tt;
+  meets = pass;
+  soonest = λ ks are meets. omega arith;
+  first = λ other are meets same. omega arith;
+}
+
+pub start_fails : (s : SpaceContent) (test : Machine → Bool) → test s.start ≡ false → NeedsAtLeast s test 1
+start_fails s test fail [] are meets = absurd (false_true (test s.start) fail meets)
+start_fails s test fail (k ∷ ks) are meets = omega arith
+
+-- ---- the answers
+
+pub best_answer : (s : SpaceContent) (test : Machine → Bool) (most depth place : ℕ) (trail : List Step) (bs : List Arrival) (i : ℕ) (d : Arrival) (last : Step) (ks : List ℕ)
+    → IsFront s depth place trail bs → NeedsAtLeast s test depth → position (λ a. test a.state) bs ≡ Some i → last ≡ (get_or bs i d).step → ks ≡ way trail depth last → depth ≤ most
+    → IsSoonest s test ks × (length ks ≤ most)
+best_answer s test most depth place trail bs i d last ks front least found at is le =
+    let same : ks ≡ way trail depth (get_or bs i d).step = is ∙ ap (way trail depth) at in
+    let both = soonest_found s test depth place trail bs i d front least found in
+    (subst (IsSoonest s test) (sym same) both.0, omega (arith, ap length same, both.1))

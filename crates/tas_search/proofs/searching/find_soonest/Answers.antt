@@ -1,0 +1,48 @@
+use Rattle.std.proofs.Common.{◌≡◌, ◌+◌, ℕ, List, Some, None, length, get_or, ap, sym, subst, ◌∙◌, arith}
+use Rattle.std.specs.List.{position}
+use Rattle.std.proofs.lemmas.List.Quantifiers.{position-Some}
+use Rattle.tas_search.specs.declared.arrival.Arrival.{Arrival}
+use Rattle.tas_search.specs.Best.{NeedsAtLeast}
+use Rattle.tas_search.specs.Goal.{holds_of}
+use Rattle.tas_search.proofs.ArrivalLemmas.{last_within}
+use Rattle.tas_search.proofs.ReachLemmas.{best_answer, none_found}
+use Rattle.tas_search.proofs.searching.find_soonest.Goals as goal
+
+pub way-requires-clause-last : goal.way-requires-clause-last
+way-requires-clause-last g c =
+    let front = c.advance.new.front in
+    let moved = c.in_ok-advance.ensures.moved c.if-not-branch.false in
+    let found : position (λ (a : Arrival). holds_of (g.M.Measure.value c.args.goal.now) a.state) c.as_slice.result.now ≡ Some c.in-Some.i = sym c.first_meeting.ensures ∙ c.in-Some.is in
+    let first = position-Some (λ (a : Arrival). holds_of (g.M.Measure.value c.args.goal.now) a.state) c.as_slice.result.now c.in-Some.i c.index-as_slice-i.result found in
+    rw (c.as_slice-in-Some.ensures.keys, c.deref.ensures.value)
+    (last_within c.args.space.now front.depth front.place front.trail.items front.layer.keys c.in-Some.i c.index-as_slice-i.result moved
+    (omega (arith, first.0, ap length c.as_slice.ensures.keys)))
+
+pub returns-in-Some : goal.returns-in-Some
+returns-in-Some g c =
+    let front = c.advance.new.front in
+    let moved = c.in_ok-advance.ensures.moved c.if-not-branch.false in
+    let deeper : front.depth ≡ c.loop-depth.depth + 1 = omega (arith, c.in_ok-advance.ensures.depth c.if-not-branch.false, c.loop-depth.invariant.depth) in
+    let found : position (λ (a : Arrival). holds_of (g.M.Measure.value c.args.goal.now) a.state) c.as_slice.result.now ≡ Some c.in-Some.i = sym c.first_meeting.ensures ∙ c.in-Some.is in
+    best_answer c.args.space.now (holds_of (g.M.Measure.value c.args.goal.now)) c.args.most front.depth front.place front.trail.items front.layer.keys c.in-Some.i c.index-as_slice-i.result
+    (get_or c.as_slice-in-Some.result.now c.in-Some.i c.index-as_slice-i.result).step c.in_ok-choices.choices.items moved
+    (subst (NeedsAtLeast c.args.space.now (holds_of (g.M.Measure.value c.args.goal.now))) (sym deeper) c.loop-depth.invariant.least)
+    (rw c.as_slice.ensures.keys at found)
+    (ap (λ (bs : List Arrival). (get_or bs c.in-Some.i c.index-as_slice-i.result).step) c.as_slice-in-Some.ensures.keys)
+    (rw c.deref.ensures.value at c.in_ok-choices.ensures) (omega (arith, deeper))
+
+pub loop-depth-preserved : goal.loop-depth-preserved
+loop-depth-preserved g c =
+    let front = c.advance.new.front in
+    let moved = c.in_ok-advance.ensures.moved c.if-not-branch.false in
+    let deeper : front.depth ≡ c.loop-depth.depth + 1 = omega (arith, c.in_ok-advance.ensures.depth c.if-not-branch.false, c.loop-depth.invariant.depth) in
+    let none : position (λ (a : Arrival). holds_of (g.M.Measure.value c.args.goal.now) a.state) c.as_slice.result.now ≡ None = sym c.first_meeting.ensures ∙ c.in_default.is in
+    record {
+      front = moved;
+      depth = deeper;
+      least =
+          subst (λ (n : ℕ). NeedsAtLeast c.args.space.now (holds_of (g.M.Measure.value c.args.goal.now)) (n + 1)) deeper
+          (none_found c.args.space.now (holds_of (g.M.Measure.value c.args.goal.now)) front.depth front.place front.trail.items front.layer.keys moved
+          (subst (NeedsAtLeast c.args.space.now (holds_of (g.M.Measure.value c.args.goal.now))) (sym deeper) c.loop-depth.invariant.least)
+          (rw c.as_slice.ensures.keys at none));
+    }

@@ -1,0 +1,13 @@
+use Rattle.std.proofs.Common.{◌≡◌, ◌+◌}
+use Rattle.tas_search.specs.Best.{NeedsAtLeast}
+use Rattle.tas_search.specs.Goal.{holds_of}
+use Rattle.tas_search.specs.Inside.Arrivals.{IsFront}
+use Rattle.tas_search.proofs.searching.find_soonest.Given as goal
+
+-- no sequence of at most so many choices meets the goal
+abbrev pub invariant-loop-depth : goal.invariant-loop-depth
+invariant-loop-depth g l = record {
+  front : IsFront l.space l.front.depth l.front.place l.front.trail.items l.front.layer.keys;
+  depth : l.front.depth ≡ l.depth;
+  least : NeedsAtLeast l.space (holds_of (g.M.Measure.value l.goal)) (l.depth + 1);
+}

@@ -1,0 +1,55 @@
+-- Which sequence of a space is the best, and what else a search answers. Sequences are lists here; there are no layers.
+use Rattle.std.specs.Prelude.{◌≡◌, ℕ, ◌+◌, ◌<◌, ◌≤◌, List, [], ◌∷◌, length, Bool, true, Option, Some, None}
+use Rattle.vcs_machine.specs.Machine.{Machine}
+use Rattle.tas_search.specs.declared.searching.Found.{Found}
+use Rattle.tas_search.specs.declared.searching.Found.TheVariants.{Best, Nothing, Stopped}
+use Rattle.tas_search.specs.Space.{SpaceContent, AreChoices, reached, rank}
+
+-- there is a machine, and it passes the test
+abbrev pub Passes : (Machine → Bool) → Option Machine → Type 0
+Passes test None = ⊥
+Passes test (Some m) = test m ≡ true
+
+-- the machine after the sequence passes the test
+abbrev pub Meets : SpaceContent → (Machine → Bool) → List ℕ → Type 0
+Meets s goal ks = Passes goal (reached s ks)
+
+-- no sequence of fewer than n choices meets the goal
+abbrev pub NeedsAtLeast : SpaceContent → (Machine → Bool) → ℕ → Type 0
+NeedsAtLeast s goal n = (ks : List ℕ) → AreChoices s ks → Meets s goal ks → n ≤ length ks
+
+-- the sequence meets the goal, none does so with fewer choices, and of those with as many it is the first
+pub record IsSoonest (s : SpaceContent) (goal : Machine → Bool) (ks : List ℕ) : Type 0 where
+  pub choices : AreChoices s ks
+  pub meets : Meets s goal ks
+  pub soonest : NeedsAtLeast s goal (length ks)
+  pub first : (other : List ℕ) → AreChoices s other → Meets s goal other → length other ≡ length ks → rank s ks ≤ rank s other
+
+-- the sequences have k choices, and each reaches a machine
+abbrev pub AllReach : SpaceContent → ℕ → List (List ℕ) → Type 0
+AllReach s k [] = Unit {0}
+AllReach s k (ks ∷ rest) = AreChoices s ks × (length ks ≡ k) × (reached s ks ≡ None → ⊥) × AllReach s k rest
+
+-- none of the others reaches what the sequence reaches
+abbrev pub IsApart : SpaceContent → List ℕ → List (List ℕ) → Type 0
+IsApart s ks [] = Unit {0}
+IsApart s ks (other ∷ rest) = (reached s ks ≡ reached s other → ⊥) × IsApart s ks rest
+
+-- no two of the sequences reach the same
+abbrev pub AreApart : SpaceContent → List (List ℕ) → Type 0
+AreApart s [] = Unit {0}
+AreApart s (ks ∷ rest) = IsApart s ks rest × AreApart s rest
+
+-- sequences of k choices reach more than n different machines
+pub record ReachMoreThan (s : SpaceContent) (k n : ℕ) : Type 0 where
+  pub sequences : List (List ℕ)
+  pub reach : AllReach s k sequences
+  pub apart : AreApart s sequences
+  pub more : n < length sequences
+
+-- the answer to a search for the soonest sequence of at most `most` choices, which keeps at most `states` machines of one length: the soonest
+-- one; that there is none; or that sequences of this many choices reach more machines than that, and no shorter one meets the goal
+abbrev pub IsReachAnswer : {Z : Type 0} → SpaceContent → (Machine → Bool) → ℕ → ℕ → Found Z → Type 0
+IsReachAnswer s goal most states (Best ks) = IsSoonest s goal ks.items × (length ks.items ≤ most)
+IsReachAnswer s goal most states Nothing = NeedsAtLeast s goal (most + 1)
+IsReachAnswer s goal most states (Stopped k) = NeedsAtLeast s goal k × (k ≤ most) × ReachMoreThan s k states

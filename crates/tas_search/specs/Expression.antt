@@ -1,0 +1,55 @@
+-- Expressions over RAM, and what they mean: whole numbers without a limit.
+use Rattle.std.specs.Prelude.{ℕ, ◌+◌, ◌*◌, ◌/◌, ◌%◌, ℤ, pos, ◌+ℤ◌, ◌-ℤ◌, ◌*ℤ◌, List, slice_index, Bool, not, ◌&&◌, ◌||◌, if◌then◌else◌, int_lt}
+use Rattle.std.specs.Ordering.{int_eq}
+use Rattle.tas_search.specs.Goal.{is_true}
+use Rattle.tas_search.specs.declared.expression.Operator.{Operator}
+use Rattle.tas_search.specs.declared.expression.Operator.TheVariants.{Or, And, Equal, Unequal, Less, AtMost, Greater, AtLeast, Plus, Minus, Times}
+use Rattle.tas_search.specs.declared.expression.Expression.{Expression, Number, Byte, Bcd, Pair, Not', Both'}
+
+-- the byte of RAM at an address, of which the low seven bits count
+abbrev pub byte_at : List ℕ → ℕ → ℕ
+byte_at ram address = slice_index ram (address % 128)
+
+-- a byte as two decimal digits, the high half first
+abbrev pub bcd : ℕ → ℤ
+bcd byte = pos (byte / 16 * 10 + byte % 16)
+
+-- 1 for true, 0 for false
+abbrev pub truth : Bool → ℤ
+truth holds = if holds then pos 1 else pos 0
+
+-- two numbers, joined
+abbrev pub applied : Operator → ℤ → ℤ → ℤ
+applied Or a b = truth (is_true a || is_true b)
+applied And a b = truth (is_true a && is_true b)
+applied Equal a b = truth (int_eq a b)
+applied Unequal a b = truth (not (int_eq a b))
+applied Less a b = truth (int_lt a b)
+applied AtMost a b = truth (not (int_lt b a))
+applied Greater a b = truth (int_lt b a)
+applied AtLeast a b = truth (not (int_lt a b))
+applied Plus a b = a +ℤ b
+applied Minus a b = a -ℤ b
+applied Times a b = a *ℤ b
+
+-- what an expression makes of RAM
+abbrev pub value_of : Expression → List ℕ → ℤ
+value_of (Number n) ram = pos n
+value_of (Byte at) ram = pos (byte_at ram at)
+value_of (Bcd at) ram = bcd (byte_at ram at)
+value_of (Pair at) ram = pos (byte_at ram at + 256 * byte_at ram ((at + 1) % 256))
+value_of (Not' p e) ram = truth (not (is_true (value_of e ram)))
+value_of (Both' op p a q b) ram = applied op (value_of a ram) (value_of b ram)
+
+-- a number that is greater than any that an expression makes, but for its sign, and no less than that of any part of it
+abbrev pub joined_weight : Operator → ℕ → ℕ → ℕ
+joined_weight Times a b = a * b
+joined_weight _ a b = a + b
+
+abbrev pub weight : Expression → ℕ
+weight (Number n) = n + 1
+weight (Byte at) = 256
+weight (Bcd at) = 256
+weight (Pair at) = 65536
+weight (Not' p e) = weight e + 1
+weight (Both' op p a q b) = joined_weight op (weight a) (weight b)

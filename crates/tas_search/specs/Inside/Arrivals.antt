@@ -1,0 +1,59 @@
+-- Arrivals: what the code keeps of a layer, and the trail that leads back from each of them.
+use Rattle.std.specs.Prelude.{◌≡◌, ℕ, zero, suc, ◌+◌, ◌<◌, List, [], ◌∷◌, ◌++◌, length, map, take, drop, slice_index_or, Bool}
+use Rattle.vcs_machine.specs.Equality.{are_same_machines}
+use Rattle.vcs_machine.specs.Machine.{Machine, unless_halted}
+use Rattle.indexmap.specs.IndexSet.{insert_all}
+use Rattle.tas_search.specs.declared.arrival.Arrival.{Arrival}
+use Rattle.tas_search.specs.declared.arrival.Step.{Step}
+use Rattle.tas_search.specs.Space.{SpaceContent, after_choice}
+use Rattle.tas_search.specs.Inside.Layers.{Reached, layer_of}
+
+-- whether two arrivals are at one machine
+abbrev pub are_same_arrivals : Arrival → Arrival → Bool
+are_same_arrivals a b = are_same_machines a.state b.state
+
+-- what n choices from number k on reach from a machine, whose step is at this place of the trail
+abbrev pub arrivals_from : SpaceContent → Machine → ℕ → ℕ → ℕ → List Arrival
+arrivals_from s m place k zero = []
+arrivals_from s m place k (suc n) = record { state = after_choice s m k; step = record { parent = place; choice = k } } ∷ arrivals_from s m place (suc k) n
+
+-- the same of all choices; nothing goes on after a halt
+abbrev pub arrivals_of : SpaceContent → Machine → ℕ → List Arrival
+arrivals_of s m place = unless_halted m.halt (arrivals_from s m place 0 (length s.choices)) []
+
+-- a part of the next layer, with what further arrivals reach, of which the first one's step is at this place
+abbrev pub grown_arrivals : SpaceContent → List Arrival → ℕ → List Arrival → List Arrival
+grown_arrivals s next place [] = next
+grown_arrivals s next place (a ∷ bs) = grown_arrivals s (insert_all are_same_arrivals next (arrivals_of s a.state place)) (suc place) bs
+
+-- no step at all
+abbrev pub no_step : Step
+no_step = record { parent = 0; choice = 0 }
+
+-- the choices on the way whose last step this is, after d choices
+abbrev pub way : List Step → ℕ → Step → List ℕ
+way trail zero step = []
+way trail (suc d) step = way trail d (slice_index_or trail step.parent no_step) ++ step.choice ∷ []
+
+-- an arrival with its whole way
+abbrev pub with_way : List Step → ℕ → Arrival → Reached
+with_way trail d a = record { machine = a.state; sequence = way trail d a.step }
+
+-- each step's parent is in the trail
+abbrev pub AreWithin : ℕ → List Step → Type 0
+AreWithin n [] = Unit {0}
+AreWithin n (step ∷ steps) = (step.parent < n) × AreWithin n steps
+
+abbrev pub steps_of : List Arrival → List Step
+steps_of bs = map (λ a. a.step) bs
+
+-- what is known between two layers: arrivals, whose steps are in the trail from `place` on, are the layer after this many choices
+pub record IsFront (s : SpaceContent) (depth place : ℕ) (trail : List Step) (arrivals : List Arrival) : Type 0 where
+  pub layer : map (with_way trail depth) arrivals ≡ layer_of s depth
+  pub within : AreWithin (length trail) trail
+  pub steps : drop place trail ≡ steps_of arrivals
+  pub count : place + length arrivals ≡ length trail
+
+-- what shows that the layer after some arrivals has more than so many members: a part of it has
+abbrev pub IsOver : SpaceContent → List Arrival → ℕ → ℕ → Type 0
+IsOver s bs place most = (j : ℕ) × (most < length (grown_arrivals s [] place (take j bs)))

@@ -1,0 +1,37 @@
+-- What a search goes through: sequences of choices, each of which is held for some frames.
+use Rattle.std.specs.Prelude.{ℕ, ◌+◌, ◌*◌, ◌<◌, List, [], ◌∷◌, length, replicate, slice_index_or, Option, Some, None}
+use Rattle.vcs_inputs.specs.declared.input.Input.{Input}
+use Rattle.vcs_inputs.specs.Input.{no_input}
+use Rattle.vcs_machine.specs.Machine.{Machine, after_from, unless_halted}
+
+-- a cartridge, the machine that is started from, the choices in their order, and for how many frames each is held
+pub record SpaceContent : Type 0 where
+  pub cart : List ℕ
+  pub start : Machine
+  pub choices : List Input
+  pub hold : ℕ
+
+-- the machine after choice number k was held
+abbrev pub after_choice : SpaceContent → Machine → ℕ → Machine
+after_choice s m k = after_from s.cart m (replicate s.hold (slice_index_or s.choices k no_input))
+
+-- a sequence: each of its numbers is that of a choice
+abbrev pub AreChoices : SpaceContent → List ℕ → Type 0
+AreChoices s [] = Unit {0}
+AreChoices s (k ∷ ks) = (k < length s.choices) × AreChoices s ks
+
+-- the machine after a sequence, where there is one: nothing goes on after a halt
+abbrev pub reached_from : SpaceContent → Machine → List ℕ → Option Machine
+reached_from s m [] = Some m
+reached_from s m (k ∷ ks) = unless_halted m.halt (reached_from s (after_choice s m k) ks) None
+
+abbrev pub reached : SpaceContent → List ℕ → Option Machine
+reached s ks = reached_from s s.start ks
+
+-- the place of a sequence among those of its length, in the order of the choices: its numbers are the digits, the first one is the highest
+abbrev pub rank_from : ℕ → ℕ → List ℕ → ℕ
+rank_from base r [] = r
+rank_from base r (k ∷ ks) = rank_from base (r * base + k) ks
+
+abbrev pub rank : SpaceContent → List ℕ → ℕ
+rank s ks = rank_from (length s.choices) 0 ks

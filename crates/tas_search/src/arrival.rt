@@ -1,0 +1,61 @@
+//! A state that a search has reached, and how.
+
+ghost use Rattle.std.specs.Prelude.{◌≡◌};
+
+use std::hash::{Hash, Hasher};
+use vcs_machine::State;
+
+/// One step of a way: the place in the trail of the step before it, and the number of the choice that was made.
+#[derive(Clone, Copy, Debug)]
+pub(crate) struct Step {
+    /// The place in the trail of the step before it.
+    pub parent: usize,
+    /// The number of the choice that was made.
+    pub choice: usize,
+}
+
+/// A state, and the last step of the first way to it. Arrivals are compared by their states alone.
+#[derive(Clone, Copy, Debug)]
+pub(crate) struct Arrival {
+    /// The state that was reached.
+    pub state: State,
+    /// The last step of the way to it.
+    pub step: Step,
+}
+
+impl PartialEq for Arrival {
+    ghost use Rattle.std.specs.Cmp.{on_per, partial_equiv_from_equiv};
+    ghost use Rattle.vcs_machine.specs.Equality.{are_same_machines, machines_equivalence};
+
+    ghost eq = { λ a b. are_same_machines a.state b.state };
+
+    ghost laws = { on_per (λ a. a.state) (partial_equiv_from_equiv machines_equivalence) };
+
+    /// Whether the states are equal.
+    fn eq(&self, other: &Arrival) -> bool {
+        self.state == other.state
+    }
+}
+
+impl Eq for Arrival {
+    ghost use Rattle.std.specs.Cmp.{on_equiv};
+    ghost use Rattle.vcs_machine.specs.Equality.{machines_equivalence};
+
+    ghost laws = { on_equiv (λ a. a.state) machines_equivalence };
+}
+
+impl Hash for Arrival {
+    ghost use Rattle.std.specs.Hash as fed;
+    ghost use Rattle.std.proofs.Common.{ap};
+    ghost use Rattle.vcs_machine.specs.Equality.{machines_decide};
+
+    ghost hash_input = { λ a. fed.slice fed.u8 a.state.riot.ram };
+
+    ghost respects_eq = { λ a b same. ap (λ m. fed.slice fed.u8 m.riot.ram) ((machines_decide a.state b.state).0 same) };
+
+    /// The hash of RAM: states that differ elsewhere alone are told apart by `==`.
+    fn hash<H: Hasher>(&self, state: &mut H) {
+        let ram = self.state.ram();
+        ram.as_slice().hash(state);
+    }
+}

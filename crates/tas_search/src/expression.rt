@@ -1,0 +1,160 @@
+//! Expressions over RAM.
+
+ghost use Rattle.std.specs.Prelude.{◌≡◌, ◌^◌, ◌<◌, ◌≤◌, unsigned_abs, FitsSigned, MatchOption};
+ghost use mir.Syntax.{w64};
+ghost use Rattle.tas_search.specs.Expression.{applied, bcd, byte_at, joined_weight, truth, value_of, weight};
+ghost use Rattle.tas_search.specs.Goal.{is_true};
+
+/// What joins two numbers. Of a comparison the number is 1 where it is true, and else 0; `Or` and `And` take every
+/// number but 0 as true.
+#[derive(Clone, Copy, Debug, PartialEq, Eq)]
+pub enum Operator {
+    /// `or`
+    Or,
+    /// `and`
+    And,
+    /// `==`
+    Equal,
+    /// `!=`
+    Unequal,
+    /// `<`
+    Less,
+    /// `<=`
+    AtMost,
+    /// `>`
+    Greater,
+    /// `>=`
+    AtLeast,
+    /// `+`
+    Plus,
+    /// `-`
+    Minus,
+    /// `*`
+    Times,
+}
+
+/// An expression over the 128 bytes of RAM. An address is one of 80 to FF; of others the low seven bits count.
+#[derive(Drop)]
+pub enum Expression {
+    /// A number.
+    Number(u32),
+    /// The byte at an address.
+    Byte(u8),
+    /// The byte at an address as two decimal digits, the high half first.
+    Bcd(u8),
+    /// The byte at an address, and 256 times the one after it.
+    Pair(u8),
+    /// 1 where a number is 0, and else 0.
+    Not(Box<Expression>),
+    /// Two numbers, joined.
+    Both(Operator, Box<Expression>, Box<Expression>),
+}
+
+/// The byte at an address.
+fn byte_at(ram: &[u8; 128], address: u8) -> u8
+    ensures { result ≡ byte_at ram.now address }
+{
+    ram[(address % 128) as usize]
+}
+
+/// 1 for true and 0 for false.
+fn truth(holds: bool) -> i64
+    ensures { result ≡ truth holds }
+{
+    if holds { 1 } else { 0 }
+}
+
+/// The two decimal digits that a byte has, the high half first, as a number.
+fn bcd(byte: u8) -> i64
+    ensures { result ≡ bcd byte }
+{
+    ((byte / 16) as i64) * 10 + (byte % 16) as i64
+}
+
+/// Two numbers, joined; what comes out fits.
+fn apply(operator: Operator, a: i64, b: i64) -> i64
+    requires { FitsSigned w64 (applied operator a b) }
+    ensures { result ≡ applied operator a b }
+{
+    match operator {
+        Operator::Or => truth(a != 0 || b != 0),
+        Operator::And => truth(a != 0 && b != 0),
+        Operator::Equal => truth(a == b),
+        Operator::Unequal => truth(a != b),
+        Operator::Less => truth(a < b),
+        Operator::AtMost => truth(a <= b),
+        Operator::Greater => truth(a > b),
+        Operator::AtLeast => truth(a >= b),
+        Operator::Plus => a + b,
+        Operator::Minus => a - b,
+        Operator::Times => a * b,
+    }
+}
+
+/// A weight below the limit, which is 2 to the power of 63.
+fn below_limit(weight: u64) -> Option<u64>
+    ensures { MatchOption result (2 ^ 63 ≤ weight) (λ n. (n ≡ weight) × (n < 2 ^ 63)) }
+{
+    if weight < 1 << 63 { Some(weight) } else { None }
+}
+
+/// The weight of two expressions of these weights, joined, where it is below the limit.
+fn joined_weight(operator: Operator, a: u64, b: u64) -> Option<u64>
+    requires a { a < 2 ^ 63 }
+    requires b { b < 2 ^ 63 }
+    ensures { MatchOption result (2 ^ 63 ≤ joined_weight operator a b)
+        (λ n. (n ≡ joined_weight operator a b) × (n < 2 ^ 63)) }
+{
+    match operator {
+        Operator::Times => match a.checked_mul(b) {
+            Some(product) => below_limit(product),
+            None => None,
+        },
+        _ => below_limit(a + b),
+    }
+}
+
+impl Expression {
+    /// Every expression has a weight of 1 or more. Nothing is done here: the call tells the proof.
+    fn weigh_something(&self)
+        ensures { 1 ≤ weight self.now }
+    {}
+
+    /// The number that the expression makes of RAM.
+    pub fn value(&self, ram: &[u8; 128]) -> i64
+        requires { weight self.now < 2 ^ 63 }
+        ensures value { result ≡ value_of self.now ram.now }
+        ensures below { unsigned_abs result < weight self.now }
+    {
+        match self {
+            Expression::Number(n) => i64::from(*n),
+            Expression::Byte(at) => i64::from(byte_at(ram, *at)),
+            Expression::Bcd(at) => bcd(byte_at(ram, *at)),
+            Expression::Pair(at) => {
+                let low = byte_at(ram, *at);
+                let high = byte_at(ram, at.wrapping_add(1));
+                i64::from(low) + 256 * i64::from(high)
+            }
+            Expression::Not(e) => truth(e.value(ram) == 0),
+            Expression::Both(operator, a, b) => {
+                b.weigh_something();
+                apply(*operator, a.value(ram), b.value(ram))
+            }
+        }
+    }
+
+    /// A number that is greater than any that the expression makes, but for its sign, where it is below the
+    /// limit, which is 2 to the power of 63. Only such an expression can be worked out.
+    pub fn weight(&self) -> Option<u64>
+        ensures { MatchOption result (2 ^ 63 ≤ weight self.now)
+            (λ n. (n ≡ weight self.now) × (n < 2 ^ 63)) }
+    {
+        match self {
+            Expression::Number(n) => Some(u64::from(*n) + 1),
+            Expression::Byte(_) | Expression::Bcd(_) => Some(256),
+            Expression::Pair(_) => Some(65536),
+            Expression::Not(e) => below_limit(e.weight()? + 1),
+            Expression::Both(operator, a, b) => joined_weight(*operator, a.weight()?, b.weight()?),
+        }
+    }
+}

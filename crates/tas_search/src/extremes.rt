@@ -1,0 +1,79 @@
+//! The search for the greatest or the least value.
+
+ghost use Rattle.std.specs.Prelude.{◌≡◌, IfOk, MatchOption, length};
+ghost use Rattle.tas_search.specs.Extreme.{IsExtremeAnswer};
+ghost use Rattle.tas_search.specs.Goal.{value_in};
+ghost use Rattle.tas_search.specs.Inside.Extremes.{IsExtremeAt, beats};
+
+use crate::arrival::Arrival;
+use crate::front::{advance, first_front};
+use crate::measure::{Measure, value_in};
+use crate::searching::Found;
+use crate::space::Space;
+use crate::trail::way;
+use std::alloc::{AllocError, Allocator};
+
+/// Which value is the best.
+#[derive(Clone, Copy, Debug, PartialEq, Eq)]
+pub enum Aim {
+    /// The greatest.
+    Most,
+    /// The least.
+    Least,
+}
+
+/// Whether a value is better than another one.
+fn beats(aim: Aim, a: i64, b: i64) -> bool
+    ensures { result ≡ beats aim a b }
+{
+    match aim {
+        Aim::Most => b < a,
+        Aim::Least => a < b,
+    }
+}
+
+/// The place of the first of the arrivals with the best value, if there is an arrival.
+fn best_place<M: Measure>(aim: Aim, measure: &M, layer: &[Arrival]) -> Option<usize>
+    ensures { MatchOption result (length layer.now ≡ 0)
+        (IsExtremeAt aim (value_in (M.value measure.now)) layer.now) }
+{
+    let mut best = 0;
+    let mut value = value_in(measure, &layer.first()?.state);
+    for (i, arrival) in layer.iter().enumerate() {
+        let other = value_in(measure, &arrival.state);
+        if beats(aim, other, value) {
+            best = i;
+            value = other;
+        }
+    }
+    Some(best)
+}
+
+/// Searches a space for the sequence of just `count` choices whose state has the best value: the first of these in
+/// the order of the choices. `Nothing` where each of them halts before, `Stopped` where more than `states` states are
+/// reached by as many choices.
+pub fn find_extreme<M: Measure, A: Allocator + Copy, C: Allocator>(
+    alloc: A,
+    space: &Space<'_, C>,
+    aim: Aim,
+    measure: &M,
+    count: usize,
+    states: usize,
+) -> Result<Found<A>, AllocError>
+    ensures { IfOk result (IsExtremeAnswer space.now aim (value_in (M.value measure.now)) count states) }
+{
+    let mut front = first_front(alloc, space)?;
+    for depth in 0..count {
+        if !advance(alloc, space, &mut front, states)? {
+            return Ok(Found::Stopped(depth + 1));
+        }
+    }
+    match best_place(aim, measure, front.layer.as_slice()) {
+        None => Ok(Found::Nothing),
+        Some(i) => {
+            let last = front.layer.as_slice()[i].step;
+            let choices = way(alloc, &front.trail, front.depth, last)?;
+            Ok(Found::Best(choices))
+        }
+    }
+}

@@ -1,0 +1,68 @@
+//! The next layer.
+
+ghost use Rattle.std.specs.Prelude.{◌≡◌, ◌+◌, ◌^◌, ◌<◌, [], length, OnOk, IfOk, MatchOption};
+ghost use Rattle.indexmap.specs.IndexSet.{insert_all};
+ghost use Rattle.tas_search.specs.Inside.Arrivals.{
+  are_same_arrivals,
+  arrivals_of,
+  grown_arrivals,
+  IsOver,
+};
+
+use crate::arrival::{Arrival, Step};
+use crate::space::Space;
+use indexmap::IndexSet;
+use std::alloc::{AllocError, Allocator};
+use std::hash::{BuildHasherDefault, FoldHasher};
+use vcs_machine::State;
+
+/// The arrivals of a layer, in the order in which they were found, no state twice.
+pub(crate) type Layer<A> = IndexSet<Arrival, BuildHasherDefault<FoldHasher>, A>;
+
+/// Adds what each choice reaches from a state, whose step is at this place of the trail. A halted state reaches nothing.
+fn add_next<A: Allocator + Copy, C: Allocator>(
+    space: &Space<'_, C>,
+    state: &State,
+    place: usize,
+    next: &mut Layer<A>,
+) -> Result<(), AllocError>
+    ensures { OnOk result (next.new.keys
+        ≡ insert_all are_same_arrivals next.old.keys (arrivals_of space.now state.now place)) }
+{
+    if state.halted().is_some() {
+        return Ok(());
+    }
+    for choice in 0..space.choice_count() {
+        let arrival = Arrival {
+            state: space.after_choice(state, choice),
+            step: Step {
+                parent: place,
+                choice,
+            },
+        };
+        next.insert(arrival)?;
+    }
+    Ok(())
+}
+
+/// The layer after a layer, whose steps are in the trail from `place` on, unless it has more than `most` states.
+pub(crate) fn grow<A: Allocator + Copy, C: Allocator>(
+    alloc: A,
+    space: &Space<'_, C>,
+    layer: &[Arrival],
+    place: usize,
+    most: usize,
+) -> Result<Option<Layer<A>>, AllocError>
+    requires { place + length layer.now < 2 ^ 64 }
+    ensures { IfOk result (λ grown. MatchOption grown (IsOver space.now layer.now place most)
+        (λ next. next.keys ≡ grown_arrivals space.now [] place layer.now)) }
+{
+    let mut next = IndexSet::new(alloc);
+    for (j, arrival) in layer.iter().enumerate() {
+        add_next(space, &arrival.state, place + j, &mut next)?;
+        if next.len() > most {
+            return Ok(None);
+        }
+    }
+    Ok(Some(next))
+}

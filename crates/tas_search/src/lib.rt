@@ -1,0 +1,20 @@
+//! The search of a space of inputs for its best sequence.
+#![tactic(auto)]
+
+mod arrival;
+mod expression;
+mod extremes;
+mod formula;
+mod front;
+mod growing;
+mod measure;
+mod searching;
+mod space;
+mod trail;
+
+pub use expression::{Expression, Operator};
+pub use extremes::{Aim, find_extreme};
+pub use formula::Formula;
+pub use measure::Measure;
+pub use searching::{Found, find_soonest};
+pub use space::Space;

@@ -1,0 +1,94 @@
+//! A space of sequences of choices.
+
+ghost use Rattle.std.specs.Prelude.{◌≡◌, length, replicate, slice_index_or};
+ghost use Rattle.vcs_inputs.specs.Input.{no_input};
+ghost use Rattle.vcs_machine.specs.Machine.{after_from};
+ghost use Rattle.tas_search.specs.Space.{after_choice};
+
+use std::alloc::Allocator;
+use std::marker::Model;
+use vcs_inputs::{Cart, Input};
+use vcs_machine::{Meter, State, play_unseen};
+
+/// What a search goes through.
+#[derive(Drop)]
+pub struct Space<'a, C: Allocator> {
+    cart: &'a Cart<C>,
+    start: State,
+    choices: &'a [Input],
+    hold: usize,
+}
+
+impl<'a, C: Allocator> Model for Space<'a, C> {
+    ghost use Rattle.tas_search.specs.Space.{SpaceContent};
+
+    ghost Value = { SpaceContent };
+
+    ghost view = { λ s. record {
+      cart = s.cart.now;
+      start = s.start;
+      choices = s.choices.now;
+      hold = s.hold;
+    } };
+}
+
+impl<'a, C: Allocator> Space<'a, C> {
+    /// The sequences of these choices from a state on, each choice held for `hold` frames.
+    pub fn new(cart: &'a Cart<C>, start: State, choices: &'a [Input], hold: usize) -> Self
+        ensures { result ≡ record {
+          cart = cart.now;
+          start = start;
+          choices = choices.now;
+          hold = hold;
+        } }
+    {
+        Space {
+            cart,
+            start,
+            choices,
+            hold,
+        }
+    }
+
+    /// How many choices there are.
+    pub fn choice_count(&self) -> usize
+        ensures { result ≡ length self.now.choices }
+    {
+        self.choices.len()
+    }
+
+    /// The state that the search starts from.
+    pub fn start(&self) -> State
+        ensures { result ≡ self.now.start }
+    {
+        self.start
+    }
+
+    /// The input of choice number `k`; nothing is pressed where there is no such choice.
+    fn choice(&self, k: usize) -> Input
+        ensures { result ≡ slice_index_or self.now.choices k no_input }
+    {
+        self.choices.get(k).copied().unwrap_or(Input::none())
+    }
+
+    /// The state after choice number `k` was held.
+    pub fn after_choice(&self, state: &State, k: usize) -> State
+        ensures { result ≡ after_choice self.now state.now k }
+    {
+        let input = self.choice(k);
+        after_frames(self.cart, *state, input, self.hold)
+    }
+}
+
+/// The state after some frames of one input.
+fn after_frames<C: Allocator>(cart: &Cart<C>, start: State, input: Input, count: usize) -> State
+    ensures { result ≡ after_from cart.now start (replicate count input) }
+{
+    let mut state = start;
+    for played in 0..count {
+        let mut meter = Meter::new();
+        // A halted machine stays as it is: its state has the halt.
+        let _ = play_unseen(cart, &mut state, input, &mut meter);
+    }
+    state
+}

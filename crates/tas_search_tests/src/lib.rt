@@ -1,0 +1,11 @@
+//! What searches find when they run, compared with a plain search that plays every sequence from its beginning.
+#![tactic(auto)]
+
+#[cfg(test)]
+mod checks;
+#[cfg(test)]
+mod goals;
+#[cfg(test)]
+mod plain;
+#[cfg(test)]
+mod search_tests;

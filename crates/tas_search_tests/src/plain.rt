@@ -1,0 +1,73 @@
+//! A plain search: every sequence is played from its beginning, and nothing is merged.
+
+use crate::checks::expect_ok;
+use std::alloc::Global;
+use std::process::Abort;
+use vcs_machine::{Cart, Input, Meter, State, play_unseen};
+
+/// How many sequences of three choices there are of each length.
+pub const SIZES: [usize; 6] = [1, 3, 9, 27, 81, 243];
+
+/// Number `number` of the sequences of `count` choices, in order.
+pub fn sequence<R: Abort>(rt: &R, alloc: Global, number: usize, count: usize) -> Vec<usize> {
+    let mut choices = Vec::new(alloc);
+    let mut left = number;
+    for _ in 0..count {
+        expect_ok(rt, choices.push(left % 3));
+        left /= 3;
+    }
+    choices.reverse();
+    choices
+}
+
+/// The byte at 80 after a sequence, where nothing halts before its end.
+pub fn counter_after(cart: &Cart, inputs: &[Input; 3], choices: &[usize]) -> Option<u8> {
+    let mut state = State::power_on(cart);
+    for choice in choices {
+        if state.halted().is_some() {
+            return None;
+        }
+        let mut meter = Meter::new();
+        let _ = play_unseen(cart, &mut state, inputs[*choice % 3], &mut meter);
+    }
+    Some(state.ram()[0])
+}
+
+/// The first of the shortest sequences after which the byte at 80 is a number.
+pub fn soonest<R: Abort>(
+    rt: &R,
+    alloc: Global,
+    cart: &Cart,
+    inputs: &[Input; 3],
+    number: u8,
+) -> Option<Vec<usize>> {
+    for (count, size) in SIZES.iter().enumerate() {
+        for k in 0..*size {
+            let choices = sequence(rt, alloc, k, count);
+            if counter_after(cart, inputs, &choices) == Some(number) {
+                return Some(choices);
+            }
+        }
+    }
+    None
+}
+
+/// The first of the sequences of five choices after which the byte at 80 is greatest.
+pub fn greatest<R: Abort>(
+    rt: &R,
+    alloc: Global,
+    cart: &Cart,
+    inputs: &[Input; 3],
+) -> Option<Vec<usize>> {
+    let mut best = None;
+    let mut value = None;
+    for k in 0..243 {
+        let choices = sequence(rt, alloc, k, 5);
+        let other = counter_after(cart, inputs, &choices);
+        if other > value {
+            value = other;
+            best = Some(choices);
+        }
+    }
+    best
+}

@@ -1,0 +1,93 @@
+//! Searches against plain ones.
+
+use crate::checks::{check_same, check_that, expect_ok};
+use crate::goals::{COUNTER, TRAP, cart_of, counter, counter_is, three_choices};
+use crate::plain::{greatest, soonest};
+use std::alloc::Global;
+use std::process::Abort;
+use tas_search::{Aim, Found, Space, find_extreme, find_soonest};
+use vcs_machine::{Cart, State};
+
+/// The choices of an answer, where it is a best one.
+fn choices_of(found: &Found) -> Option<&[usize]> {
+    match found {
+        Found::Best(choices) => Some(choices.as_slice()),
+        _ => None,
+    }
+}
+
+/// Whether two answers have the same choices, or none.
+fn is_same(found: &Found, wanted: &Option<Vec<usize>>) -> bool {
+    match wanted {
+        Some(choices) => choices_of(found) == Some(choices.as_slice()),
+        None => matches!(found, Found::Nothing),
+    }
+}
+
+/// Searches for each number, and compares with the plain search.
+fn check_numbers<R: Abort>(rt: &R, alloc: Global, cart: &Cart) {
+    let inputs = three_choices();
+    let space = Space::new(cart, State::power_on(cart), &inputs, 1);
+    for number in [0u8, 1, 2, 3, 4, 5, 252, 253, 255] {
+        let goal = counter_is(rt, alloc, u32::from(number));
+        let found = expect_ok(rt, find_soonest(alloc, &space, &goal, 5, 100));
+        let wanted = soonest(rt, alloc, cart, &inputs, number);
+        check_that(rt, number, is_same(&found, &wanted));
+    }
+}
+
+#[test]
+fn the_soonest_is_that_of_the_plain_search(rt: HostRuntime) {
+    let alloc = rt.alloc();
+    check_numbers(&rt, alloc, &cart_of(&rt, alloc, COUNTER));
+}
+
+#[test]
+fn a_halt_ends_a_sequence(rt: HostRuntime) {
+    let alloc = rt.alloc();
+    check_numbers(&rt, alloc, &cart_of(&rt, alloc, TRAP));
+}
+
+#[test]
+fn the_greatest_is_that_of_the_plain_search(rt: HostRuntime) {
+    let alloc = rt.alloc();
+    for program in [COUNTER, TRAP] {
+        let cart = cart_of(&rt, alloc, program);
+        let inputs = three_choices();
+        let space = Space::new(&cart, State::power_on(&cart), &inputs, 1);
+        let found = expect_ok(
+            &rt,
+            find_extreme(alloc, &space, Aim::Most, &counter(&rt), 5, 100),
+        );
+        check_that(
+            &rt,
+            program.len(),
+            is_same(&found, &greatest(&rt, alloc, &cart, &inputs)),
+        );
+    }
+}
+
+#[test]
+fn a_search_stops_where_there_are_too_many_states(rt: HostRuntime) {
+    let alloc = rt.alloc();
+    let cart = cart_of(&rt, alloc, COUNTER);
+    let inputs = three_choices();
+    let space = Space::new(&cart, State::power_on(&cart), &inputs, 1);
+    let goal = counter_is(&rt, alloc, 4);
+    // The first frame is a lag frame; after two there are three numbers, and two more after each further one.
+    for (states, layer) in [(2, 2), (3, 3), (4, 3), (5, 4), (7, 5)] {
+        let found = expect_ok(&rt, find_soonest(alloc, &space, &goal, 5, states));
+        check_that(
+            &rt,
+            states,
+            matches!(found, Found::Stopped(at) if at == layer),
+        );
+    }
+    let found = expect_ok(&rt, find_soonest(alloc, &space, &goal, 5, 9));
+    check_same(
+        &rt,
+        9,
+        choices_of(&found).map(|choices| choices.len()),
+        Some(5),
+    );
+}
