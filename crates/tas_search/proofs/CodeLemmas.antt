@@ -1,6 +1,9 @@
 -- Steps of the loops over choices, arrivals and steps.
-use Rattle.std.proofs.Common.{◌≡◌, ℕ, suc, ◌+◌, ◌-◌, ◌<◌, true, false, List, [], ◌∷◌, ◌++◌, length, take, reverse, get_or, Option, Some, None, refl, sym, ap, ◌∙◌, arith}
-use Rattle.std.specs.Prelude.{is_some, slice_index_or}
+use Rattle.std.proofs.Common.{◌≡◌, ℕ, zero, suc, ◌+◌, ◌-◌, ◌<◌, true, false, List, [], ◌∷◌, ◌++◌, length, take, reverse, get_or, Option, Some, None, refl, sym, ap, ◌∙◌, arith, Bool}
+use Rattle.std.specs.Prelude.{is_some, slice_index_or, ◌||◌, if◌then◌else◌}
+use Rattle.std.specs.List.{list_any}
+use Rattle.std.proofs.lemmas.List.Folds.{list_any-append}
+use Rattle.vcs_machine.specs.Equality.{are_same_machines, machines_decide}
 use Rattle.std.proofs.lemmas.List.{take_more, map-append, reverse-append, append_assoc, append-nil, length-take}
 use Rattle.vcs_cpu.specs.declared.halt.Halt.{Halt}
 use Rattle.vcs_machine.specs.Machine.{Machine, unless_halted}
@@ -8,7 +11,7 @@ use Rattle.indexmap.specs.IndexSet.{insert_key, insert_all}
 use Rattle.tas_search.specs.declared.arrival.Arrival.{Arrival}
 use Rattle.tas_search.specs.declared.arrival.Step.{Step}
 use Rattle.tas_search.specs.Space.{SpaceContent, after_choice}
-use Rattle.tas_search.specs.Inside.Arrivals.{are_same_arrivals, arrivals_from, arrivals_of, grown_arrivals, no_step, way, steps_of}
+use Rattle.tas_search.specs.Inside.Arrivals.{are_same_arrivals, arrivals_from, arrivals_of, arrival_at, grown_arrivals, no_step, way, steps_of}
 
 pub halted_none : {A : Type 0} (h : Option Halt) (xs : List A) → is_some h ≡ true → unless_halted h xs [] ≡ []
 halted_none None xs e = absurd cc
@@ -18,16 +21,12 @@ pub going_on : {A : Type 0} (h : Option Halt) (xs : List A) → is_some h ≡ fa
 going_on None xs e = refl
 going_on (Some x) xs e = absurd cc
 
--- what choice number k reaches from a machine
-abbrev pub arrival_at : SpaceContent → Machine → ℕ → ℕ → Arrival
-arrival_at s m place k = record { state = after_choice s m k; step = record { parent = place; choice = k } }
-
 pub choices_more : (s : SpaceContent) (m : Machine) (place k n : ℕ) (next : List Arrival) → k < n
     → insert_all are_same_arrivals next (arrivals_from s m place k (n - k))
-    ≡ insert_all are_same_arrivals (insert_key are_same_arrivals next (arrival_at s m place k)) (arrivals_from s m place (k + 1) (n - (k + 1)))
+    ≡ insert_all are_same_arrivals (insert_key are_same_arrivals next (arrival_at (after_choice s m k) place k)) (arrivals_from s m place (k + 1) (n - (k + 1)))
 choices_more s m place k n next lt =
     ap (λ (c : ℕ). insert_all are_same_arrivals next (arrivals_from s m place k c)) left
-    ∙ ap (λ (i : ℕ). insert_all are_same_arrivals (insert_key are_same_arrivals next (arrival_at s m place k)) (arrivals_from s m place i (n - (k + 1)))) after
+    ∙ ap (λ (i : ℕ). insert_all are_same_arrivals (insert_key are_same_arrivals next (arrival_at (after_choice s m k) place k)) (arrivals_from s m place i (n - (k + 1)))) after
   where
     left : n - k ≡ suc (n - (k + 1))
     left = omega arith
@@ -98,11 +97,11 @@ way_over trail depth step found = ap (λ (n : ℕ). way trail n step ++ reverse 
 
 -- one choice more, by what the code has at hand
 pub choice_added : (s : SpaceContent) (m reached : Machine) (place k n : ℕ) (now next final : List Arrival) → k < n → reached ≡ after_choice s m k
-    → next ≡ insert_key are_same_arrivals now (record { state = reached; step = record { parent = place; choice = k } })
+    → next ≡ insert_key are_same_arrivals now (arrival_at reached place k)
     → insert_all are_same_arrivals now (arrivals_from s m place k (n - k)) ≡ final → insert_all are_same_arrivals next (arrivals_from s m place (k + 1) (n - (k + 1))) ≡ final
 choice_added s m reached place k n now next final lt at e inv =
     ap (λ (ks : List Arrival). insert_all are_same_arrivals ks (arrivals_from s m place (k + 1) (n - (k + 1))))
-    (e ∙ ap (λ (x : Machine). insert_key are_same_arrivals now (record { state = x; step = record { parent = place; choice = k } })) at)
+    (e ∙ ap (λ (x : Machine). insert_key are_same_arrivals now (arrival_at x place k)) at)
     ∙ sym (choices_more s m place k n now lt)
     ∙ inv
 
@@ -128,3 +127,45 @@ way_first trail depth last found empty =
   where
     same : depth - 0 ≡ depth
     same = omega arith
+
+-- ---- choices that reach the same
+
+-- what was added is found
+known_added : (a : Arrival) (b : Bool) (ks : List Arrival) → list_any (are_same_arrivals a) ks ≡ b → list_any (are_same_arrivals a) (if b then ks else ks ++ a ∷ []) ≡ true
+known_added a true ks e = e
+known_added a false ks e =
+    list_any-append (are_same_arrivals a) ks (a ∷ [])
+    ∙ ap (λ (t : Bool). list_any (are_same_arrivals a) ks || (t || false)) ((machines_decide a.state a.state).1 refl)
+    ∙ either (list_any (are_same_arrivals a) ks)
+  where
+    either : (t : Bool) → (t || true) ≡ true
+    either true = refl
+    either false = refl
+
+-- what is there already isn't added
+none_added : (s : SpaceContent) (m same : Machine) (place : ℕ) (n k : ℕ) (ks : List Arrival) → list_any (λ o. are_same_machines same o.state) ks ≡ true
+    → ((j : ℕ) → after_choice s m j ≡ same) → insert_all are_same_arrivals ks (arrivals_from s m place k n) ≡ ks
+none_added s m same place zero k ks there alike = refl
+none_added s m same place (suc n) k ks there alike =
+    ap (λ (xs : List Arrival). insert_all are_same_arrivals xs (arrivals_from s m place (suc k) n))
+    (ap (λ (t : Bool). if t then ks else ks ++ arrival_at (after_choice s m k) place k ∷ [])
+    (ap (λ (x : Machine). list_any (λ o. are_same_machines x o.state) ks) (alike k) ∙ there))
+    ∙ none_added s m same place n (suc k) ks there alike
+
+-- where all choices reach the same, the first adds all
+pub first_adds_all : (s : SpaceContent) (m reached : Machine) (place n : ℕ) (now next : List Arrival) → 0 < n → reached ≡ after_choice s m 0 → next ≡ insert_key are_same_arrivals now (arrival_at reached place 0)
+    → ((j : ℕ) → after_choice s m j ≡ reached) → next ≡ insert_all are_same_arrivals now (arrivals_from s m place 0 n)
+first_adds_all s m reached place n now next lt at e alike =
+    sym (none_added s m reached place (n - (0 + 1)) (0 + 1) next there alike)
+    ∙ choice_added s m reached place 0 n now next (insert_all are_same_arrivals now (arrivals_from s m place 0 n)) lt at e whole
+  where
+    there : list_any (λ o. are_same_machines reached o.state) next ≡ true
+    there =
+        ap (list_any (λ o. are_same_machines reached o.state)) e
+        ∙ known_added (arrival_at reached place 0) (list_any (are_same_arrivals (arrival_at reached place 0)) now) now refl
+
+    whole : insert_all are_same_arrivals now (arrivals_from s m place 0 (n - 0)) ≡ insert_all are_same_arrivals now (arrivals_from s m place 0 n)
+    whole = ap (λ (c : ℕ). insert_all are_same_arrivals now (arrivals_from s m place 0 c)) left
+      where
+        left : n - 0 ≡ n
+        left = omega arith

@@ -1,5 +1,5 @@
 -- Frames of one input, one after the other.
-use Rattle.std.proofs.Common.{◌≡◌, ℕ, suc, ◌+◌, ◌-◌, ◌<◌, List, replicate, ap, arith}
+use Rattle.std.proofs.Common.{◌≡◌, ℕ, suc, ◌+◌, ◌-◌, ◌<◌, List, replicate, ap, arith, sym, ◌∙◌}
 use Rattle.vcs_inputs.specs.declared.input.Input.{Input}
 use Rattle.vcs_machine.specs.Machine.{Machine, frame, after_from}
 
@@ -17,3 +17,9 @@ held_none rom m input n = ap (λ (k : ℕ). after_from rom m (replicate k input)
   where
     left : n - n ≡ 0
     left = omega arith
+
+-- a frame that ignores its input, among frames of another one
+pub ignored_more : (rom : List ℕ) (m next : Machine) (input other : Input) (n i : ℕ) (end : Machine) → i < n → next ≡ frame rom m input → frame rom m input ≡ frame rom m other
+    → after_from rom m (replicate (n - i) other) ≡ end → after_from rom next (replicate (n - (i + 1)) other) ≡ end
+ignored_more rom m next input other n i end lt is same e =
+    ap (λ (x : Machine). after_from rom x (replicate (n - (i + 1)) other)) (is ∙ same) ∙ sym (held_more rom m other n i lt) ∙ e

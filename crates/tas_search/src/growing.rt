@@ -4,6 +4,7 @@ ghost use Rattle.std.specs.Prelude.{◌≡◌, ◌+◌, ◌^◌, ◌<◌, [], le
 ghost use Rattle.indexmap.specs.IndexSet.{insert_all};
 ghost use Rattle.tas_search.specs.Inside.Arrivals.{
   are_same_arrivals,
+  arrival_at,
   arrivals_of,
   grown_arrivals,
   IsOver,
@@ -19,7 +20,8 @@ use vcs_machine::State;
 /// The arrivals of a layer, in the order in which they were found, no state twice.
 pub(crate) type Layer<A> = IndexSet<Arrival, BuildHasherDefault<FoldHasher>, A>;
 
-/// Adds what each choice reaches from a state, whose step is at this place of the trail. A halted state reaches nothing.
+/// Adds what each choice reaches from a state, whose step is at this place of the trail. A halted state reaches nothing;
+/// where all choices reach the same, one of them is played.
 fn add_next<A: Allocator + Copy, C: Allocator>(
     space: &Space<'_, C>,
     state: &State,
@@ -29,20 +31,32 @@ fn add_next<A: Allocator + Copy, C: Allocator>(
     ensures { OnOk result (next.new.keys
         ≡ insert_all are_same_arrivals next.old.keys (arrivals_of space.now state.now place)) }
 {
-    if state.halted().is_some() {
+    let count = space.choice_count();
+    if count == 0 || state.halted().is_some() {
         return Ok(());
     }
-    for choice in 0..space.choice_count() {
-        let arrival = Arrival {
-            state: space.after_choice(state, choice),
-            step: Step {
-                parent: place,
-                choice,
-            },
-        };
-        next.insert(arrival)?;
+    let (first, alike) = space.after_choice_noted(state, 0);
+    next.insert(arrival(first, place, 0))?;
+    if alike {
+        return Ok(());
+    }
+    for choice in 1..count {
+        next.insert(arrival(space.after_choice(state, choice), place, choice))?;
     }
     Ok(())
+}
+
+/// The arrival at a state by a choice, from the step at a place of the trail.
+fn arrival(state: State, place: usize, choice: usize) -> Arrival
+    ensures { result ≡ arrival_at state place choice }
+{
+    Arrival {
+        state,
+        step: Step {
+            parent: place,
+            choice,
+        },
+    }
 }
 
 /// The layer after a layer, whose steps are in the trail from `place` on, unless it has more than `most` states.

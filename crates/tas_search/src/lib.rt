@@ -10,6 +10,7 @@ mod growing;
 mod measure;
 mod searching;
 mod space;
+mod starting;
 mod trail;
 
 pub use expression::{Expression, Operator};
@@ -18,3 +19,4 @@ pub use formula::Formula;
 pub use measure::Measure;
 pub use searching::{Found, find_soonest};
 pub use space::Space;
+pub use starting::state_at;

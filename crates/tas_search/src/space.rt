@@ -1,6 +1,7 @@
 //! A space of sequences of choices.
 
-ghost use Rattle.std.specs.Prelude.{◌≡◌, length, replicate, slice_index_or};
+ghost use Rattle.std.specs.Prelude.{◌≡◌, ℕ, length, replicate, slice_index_or, true};
+ghost use Rattle.vcs_inputs.specs.declared.input.Input.{Input};
 ghost use Rattle.vcs_inputs.specs.Input.{no_input};
 ghost use Rattle.vcs_machine.specs.Machine.{after_from};
 ghost use Rattle.tas_search.specs.Space.{after_choice};
@@ -8,7 +9,7 @@ ghost use Rattle.tas_search.specs.Space.{after_choice};
 use std::alloc::Allocator;
 use std::marker::Model;
 use vcs_inputs::{Cart, Input};
-use vcs_machine::{Meter, State, play_unseen};
+use vcs_machine::{Meter, State, play_for_lag, play_unseen};
 
 /// What a search goes through.
 #[derive(Drop)]
@@ -71,6 +72,17 @@ impl<'a, C: Allocator> Space<'a, C> {
         self.choices.get(k).copied().unwrap_or(Input::none())
     }
 
+    /// The state after choice number `k` was held, and whether it can be seen to be the same after every choice: all
+    /// frames were lag frames.
+    pub fn after_choice_noted(&self, state: &State, k: usize) -> (State, bool)
+        ensures state { result.0 ≡ after_choice self.now state.now k }
+        ensures alike { result.1 ≡ true
+            → (j : ℕ) → after_choice self.now state.now j ≡ result.0 }
+    {
+        let input = self.choice(k);
+        noted_frames(self.cart, *state, input, self.hold)
+    }
+
     /// The state after choice number `k` was held.
     pub fn after_choice(&self, state: &State, k: usize) -> State
         ensures { result ≡ after_choice self.now state.now k }
@@ -78,6 +90,28 @@ impl<'a, C: Allocator> Space<'a, C> {
         let input = self.choice(k);
         after_frames(self.cart, *state, input, self.hold)
     }
+}
+
+/// The state after some frames of one input, and whether they were all lag frames: then it is the same after as many
+/// frames of any other input.
+fn noted_frames<C: Allocator>(
+    cart: &Cart<C>,
+    start: State,
+    input: Input,
+    count: usize,
+) -> (State, bool)
+    ensures state { result.0 ≡ after_from cart.now start (replicate count input) }
+    ensures alike { result.1 ≡ true
+        → (other : Input) → after_from cart.now start (replicate count other) ≡ result.0 }
+{
+    let mut state = start;
+    let mut lag = true;
+    for played in 0..count {
+        let mut meter = Meter::new();
+        let ignored = play_for_lag(cart, &mut state, input, &mut meter);
+        lag = lag && ignored;
+    }
+    (state, lag)
 }
 
 /// The state after some frames of one input.

@@ -5,7 +5,8 @@ use crate::goals::{COUNTER, TRAP, cart_of, counter, counter_is, three_choices};
 use crate::plain::{greatest, soonest};
 use std::alloc::Global;
 use std::process::Abort;
-use tas_search::{Aim, Found, Space, find_extreme, find_soonest};
+use tas_movie::{Edit, Inputs, Movie, apply, check};
+use tas_search::{Aim, Found, Space, find_extreme, find_soonest, state_at};
 use vcs_machine::{Cart, State};
 
 /// The choices of an answer, where it is a best one.
@@ -90,4 +91,69 @@ fn a_search_stops_where_there_are_too_many_states(rt: HostRuntime) {
         choices_of(&found).map(|choices| choices.len()),
         Some(5),
     );
+}
+
+#[test]
+fn the_least_is_the_first_of_its_equals(rt: HostRuntime) {
+    let alloc = rt.alloc();
+    let cart = cart_of(&rt, alloc, COUNTER);
+    let inputs = three_choices();
+    let space = Space::new(&cart, State::power_on(&cart), &inputs, 1);
+    let found = expect_ok(
+        &rt,
+        find_extreme(alloc, &space, Aim::Least, &counter(&rt), 3, 100),
+    );
+    check_that(
+        &rt,
+        "least",
+        choices_of(&found) == Some([0, 0, 0].as_slice()),
+    );
+}
+
+#[test]
+fn a_choice_is_held(rt: HostRuntime) {
+    let alloc = rt.alloc();
+    let cart = cart_of(&rt, alloc, COUNTER);
+    let inputs = three_choices();
+    let space = Space::new(&cart, State::power_on(&cart), &inputs, 3);
+    // Two of the first three frames count, as the first one is a lag frame, and then three of each three.
+    for (number, wanted) in [
+        (2, [1].as_slice()),
+        (5, &[1, 1]),
+        (254, &[2]),
+        (255, &[1, 2]),
+    ] {
+        let goal = counter_is(&rt, alloc, number);
+        let found = expect_ok(&rt, find_soonest(alloc, &space, &goal, 4, 100));
+        check_that(&rt, number, choices_of(&found) == Some(wanted));
+    }
+    let never = expect_ok(
+        &rt,
+        find_soonest(alloc, &space, &counter_is(&rt, alloc, 1), 1, 100),
+    );
+    check_that(&rt, 1, matches!(never, Found::Nothing));
+}
+
+#[test]
+fn a_search_starts_in_a_movie(rt: HostRuntime) {
+    let alloc = rt.alloc();
+    let cart = cart_of(&rt, alloc, COUNTER);
+    let inputs = three_choices();
+    let mut movie = expect_ok(&rt, Movie::new(alloc, &cart));
+    let right = expect_ok(&rt, Inputs::repeated(alloc, inputs[1], 3));
+    let insert = Edit::Insert {
+        at: 0,
+        inputs: right,
+    };
+    expect_ok(&rt, check(&movie, &insert));
+    apply(&mut movie, &insert);
+    for (from, number) in [(0, 0u8), (1, 0), (2, 1), (3, 2), (9, 2)] {
+        check_same(&rt, from, state_at(&movie, from).ram()[0], number);
+    }
+    let space = Space::new(movie.cart(), state_at(&movie, 3), &inputs, 1);
+    let found = expect_ok(
+        &rt,
+        find_soonest(alloc, &space, &counter_is(&rt, alloc, 4), 5, 100),
+    );
+    check_that(&rt, 4, choices_of(&found) == Some([1, 1].as_slice()));
 }

@@ -12,10 +12,14 @@ use Rattle.tas_search.specs.Inside.Layers.{Reached, layer_of}
 abbrev pub are_same_arrivals : Arrival → Arrival → Bool
 are_same_arrivals a b = are_same_machines a.state b.state
 
+-- the arrival at a machine by a choice, from the step at this place of the trail
+abbrev pub arrival_at : Machine → ℕ → ℕ → Arrival
+arrival_at m place k = record { state = m; step = record { parent = place; choice = k } }
+
 -- what n choices from number k on reach from a machine, whose step is at this place of the trail
 abbrev pub arrivals_from : SpaceContent → Machine → ℕ → ℕ → ℕ → List Arrival
 arrivals_from s m place k zero = []
-arrivals_from s m place k (suc n) = record { state = after_choice s m k; step = record { parent = place; choice = k } } ∷ arrivals_from s m place (suc k) n
+arrivals_from s m place k (suc n) = arrival_at (after_choice s m k) place k ∷ arrivals_from s m place (suc k) n
 
 -- the same of all choices; nothing goes on after a halt
 abbrev pub arrivals_of : SpaceContent → Machine → ℕ → List Arrival
