@@ -53,7 +53,7 @@ desk_name cart movie pairs (Out k) = option_map (λ pair. pair.output.now) (pair
 desk_name cart movie pairs Input = None
 desk_name cart movie pairs Output = Some (codes "/dev/stdout")
 
--- the same of each task; the files of tasks that open none for writing aren't looked at
+-- the same of each task; other tasks read their inputs whole before they write, so their files aren't looked at
 abbrev pub name_of : Task → FileWord → Option (List ℕ)
 name_of (Talk start) word = talk_name start word
 name_of (Desk cart movie pairs) word = desk_name cart movie pairs word
@@ -93,7 +93,7 @@ abbrev pub is_pair_output : FileWord → Bool
 is_pair_output (Out k) = true
 is_pair_output word = false
 
--- it is, and its ordinary file has bytes
+-- a word is an OUT whose ordinary file has bytes
 abbrev pub holds_bytes : FileWord → Option OrdinaryFile → Bool
 holds_bytes word None = false
 holds_bytes word (Some file) = is_pair_output word && nat_lt 0 file.len

@@ -60,7 +60,8 @@ pub enum WordFault {
     },
 }
 
-/// The permit to open files for writing. [`check_words`] gives one where no word is at fault, and nothing else does.
+/// The permit to open files for writing. [`check_words`] gives one where no word of a task is at fault, and nothing else does. It is bound
+/// to no task: whoever opens files by it must have asked for the task that names them.
 #[derive(Clone, Copy)]
 pub struct Permit {
     _given: (),
@@ -253,7 +254,7 @@ fn is_output(word: FileWord) -> bool
     }
 }
 
-/// Whether it is, and its ordinary file has bytes.
+/// Whether a word is an OUT whose ordinary file has bytes.
 fn has_content(word: SeenWord) -> bool
     ensures { result ≡ has_bytes word }
 {
@@ -294,9 +295,9 @@ fn fault_among(seen: &[SeenWord; WORDS]) -> Option<WordFault>
     None
 }
 
-/// Looks at the files that a task's words name, before any is opened. The first word is at fault that names the ordinary file of an earlier
-/// one, or is the OUT of a pair and names an ordinary file that isn't empty. Words that stand for standard input and output follow those of
-/// the command line. Only the words of [`Task::Talk`] and [`Task::Desk`] are looked at: other tasks open no file for writing.
+/// Looks at the files that a task's words name, before any is opened. Reports the first word that names the ordinary file of an earlier
+/// word, or that is an OUT and names an ordinary file with bytes. Standard input and output count as words after those of the command
+/// line. Only the words of [`Task::Talk`] and [`Task::Desk`] are looked at: other tasks read their inputs whole before they write.
 pub fn check_words<F: Folder>(folder: &F, task: Task<'_>) -> Result<Permit, WordFault>
     ensures { WordsEnd (F.shown folder.now) task.entry result }
 {

@@ -45,8 +45,9 @@ pub trait Folder {
     fn open(&self, name: &str) -> io::Result<Self::File>
         ensures { IfOk result (λ file. Self.File.remaining file ≡ bytes_of self.now name.now) };
 
-    /// Opens a file for writing, at its first byte, for a caller whose task has passed [`check_words`](crate::check_words). An error where
-    /// that fails, as where there is no such file: none is made. It may wait for somebody who reads from it.
+    /// Opens a file for writing, at its first byte. The caller must have the permit from [`check_words`](crate::check_words) for the task
+    /// that names the file: the permit itself doesn't say whose it is. An error where opening fails, as where there is no such file: none
+    /// is made. It may wait for somebody who reads from it.
     fn open_to_write(&self, permit: Permit, name: &str) -> io::Result<Self::Sink>
         ensures { IfOk result (λ sink. Self.Sink.contents sink ≡ held_by self.now name.now) };
 }

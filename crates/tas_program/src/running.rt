@@ -300,8 +300,8 @@ fn show<W: Write>(output: &mut W, text: &str) -> Result<(), ToolFault>
     Ok(write_all(output, text.as_bytes())?)
 }
 
-/// Carries an invocation out, and returns the program's status: 0 where it was done, 1 after a fault, whose line is written to standard
-/// error, and 2 where a word of it is at fault, whose line goes there, too, or where the words weren't understood, as does their text.
+/// Carries an invocation out, and returns the program's status: 0 where it was done, 1 after a fault, and 2 where a word is at fault or
+/// the words weren't understood. The line of a fault, or the text about the words, goes to standard error.
 pub fn carry_out<
     T: Wait + Threads + Sync,
     A: Allocator + Copy + Send + Sync,

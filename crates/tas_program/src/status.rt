@@ -25,7 +25,7 @@ pub enum Status {
     Done,
     /// A fault, whose line goes to standard error: 1.
     Fault,
-    /// The words aren't understood, or one of them names a file that it may not; a text on standard error says why: 2.
+    /// The words aren't understood, or one of them names a file that it may not name; a text on standard error says why: 2.
     Misuse,
 }
 

@@ -21,8 +21,9 @@ fn version<'a>() -> &'a str
 
 const TAS_HELP: &str = "\
 Standard input is read whole before anything is written to standard output; 'talk' reads it line by
-line, and 'desk' leaves it alone.
-Status: 0 done, 1 a fault (one line on standard error), 2 a wrong command line.";
+line, and 'desk' and 'new' leave it alone.
+Status: 0 done, 1 a fault (one line on standard error), 2 a wrong command line, or a word of 'desk'
+or 'talk' that names a file that it may not name (one line, too).";
 
 /// A required word that names a file.
 fn file<'a>(alloc: Global, name: &'a str, help: &'a str) -> Arg<'a>

@@ -137,7 +137,9 @@ A frame is 'RLDUF RLDUF rsbAB': right, left, down, up and fire of the left stick
 right stick; reset, select, black and white, left difficulty A, right difficulty A. A dot in a
 letter's place means that it isn't pressed or set: '..D.F ..... .....' pushes the left stick down
 and fires.
-A '#' and all after it to the end of a line is a remark. A line that has nothing else is left out.
+A '#' and all after it to the end of a line is a remark. It is left out with the spaces before it; a
+line without one may not end in a space. Lines that are empty or have a remark alone ask for
+nothing, but count in the line numbers of faults.
 Frames are counted from 0. The lines are made in order, each on the movie that those before it made.
 Standard output is the text of the last one. A line that isn't understood, or that reaches past the
 last frame or makes the movie too long, ends the command with its fault and nothing written.
@@ -227,8 +229,9 @@ Up to eight programs edit one movie at the same time. Each has a pair of files, 
 pipes: it writes lines to IN and reads the answers from OUT. Its lines and answers are those of
 'tas talk', but AT counts the edits of all. Each answer is right for the movie of AT edits. CART and
 MOVIE are the movie to start from; they count as the first two edits.
-No two words may name one ordinary file, and an OUT that is one must be empty: else nothing is
-opened, and the status is 2. Pipes and devices may be named more than once.
+No two of the words and standard output may stand for one ordinary file, and an OUT that is one
+must be empty: else nothing is opened, and the status is 2. Pipes and devices may be named more
+than once.
 IN of a pair is opened first, and then OUT. Opening a pipe waits for the other end, so a program
 must open its IN, to write, before its OUT, to read. If it opens OUT first, both wait forever.
 A pair's conversation ends with 'quit' or the end of IN, and both files are closed then. Standard
