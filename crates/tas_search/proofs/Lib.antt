@@ -1,6 +1,7 @@
 pub mod ExpressionLemmas
 pub mod HeldLemmas
 pub mod LayerLemmas
+pub mod OrderLemmas
 pub mod ArrivalLemmas
 pub mod SoundLemmas
 pub mod ReachLemmas
