@@ -5,5 +5,6 @@ pub mod OrderLemmas
 pub mod ArrivalLemmas
 pub mod SoundLemmas
 pub mod ReachLemmas
+pub mod LimitLemmas
 pub mod CodeLemmas
 pub mod ExtremeLemmas

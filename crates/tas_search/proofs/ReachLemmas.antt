@@ -9,7 +9,7 @@ use Rattle.vcs_machine.specs.Machine.{Machine}
 use Rattle.tas_search.specs.declared.arrival.Arrival.{Arrival}
 use Rattle.tas_search.specs.declared.arrival.Step.{Step}
 use Rattle.tas_search.specs.Space.{SpaceContent, reached, rank}
-use Rattle.tas_search.specs.Best.{Passes, NeedsAtLeast, IsSoonest, AllReach, IsApart, AreApart, ReachMoreThan}
+use Rattle.tas_search.specs.Best.{Passes, NeedsAtLeast, IsSoonest, AllReach, IsApart, AreApart, ReachMoreThan, FitsBelow}
 use Rattle.tas_search.specs.Inside.Layers.{Reached, grown_from, layer_of}
 use Rattle.tas_search.specs.Inside.Arrivals.{grown_arrivals, no_step, way, with_way, steps_of, IsFront, IsOver}
 use Rattle.tas_search.proofs.LayerLemmas.{Covers, Ascends, covers_from, layer_covers, layer_ascends}
@@ -184,10 +184,11 @@ start_fails s test fail (k ∷ ks) are meets = omega arith
 
 -- ---- the answers
 
-pub best_answer : (s : SpaceContent) (test : Machine → Bool) (most depth place : ℕ) (trail : List Step) (bs : List Arrival) (i : ℕ) (d : Arrival) (last : Step) (ks : List ℕ)
-    → IsFront s depth place trail bs → NeedsAtLeast s test depth → position (λ a. test a.state) bs ≡ Some i → last ≡ (get_or bs i d).step → ks ≡ way trail depth last → depth ≤ most
-    → IsSoonest s test ks × (length ks ≤ most)
-best_answer s test most depth place trail bs i d last ks front least found at is le =
+pub best_answer : (s : SpaceContent) (test : Machine → Bool) (most states depth place : ℕ) (trail : List Step) (bs : List Arrival) (i : ℕ) (d : Arrival) (last : Step) (ks : List ℕ)
+    → IsFront s depth place trail bs → NeedsAtLeast s test depth → position (λ a. test a.state) bs ≡ Some i → last ≡ (get_or bs i d).step → ks ≡ way trail depth last → depth ≤ most → FitsBelow s states (depth + 1)
+    → IsSoonest s test ks × (length ks ≤ most) × FitsBelow s states (length ks + 1)
+best_answer s test most states depth place trail bs i d last ks front least found at is le fits =
     let same : ks ≡ way trail depth (get_or bs i d).step = is ∙ ap (way trail depth) at in
     let both = soonest_found s test depth place trail bs i d front least found in
-    (subst (IsSoonest s test) (sym same) both.0, omega (arith, ap length same, both.1))
+    let count : length ks ≡ depth = ap length same ∙ both.1 in
+    (subst (IsSoonest s test) (sym same) both.0, omega (arith, count), subst (λ (n : ℕ). FitsBelow s states (n + 1)) (sym count) fits)

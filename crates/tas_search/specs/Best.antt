@@ -47,9 +47,13 @@ pub record ReachMoreThan (s : SpaceContent) (k n : ℕ) : Type 0 where
   pub apart : AreApart s sequences
   pub more : n < length sequences
 
--- the answer to a search for the soonest sequence of at most `most` choices, which keeps at most `states` machines of one length: the soonest
--- one; that there is none; or that sequences of this many choices reach more machines than that, and no shorter one meets the goal
+-- sequences of 1, 2, .. up to n - 1 choices reach at most `states` different machines, those of each length by themselves
+abbrev pub FitsBelow : SpaceContent → ℕ → ℕ → Type 0
+FitsBelow s states n = (k : ℕ) → 1 ≤ k → k < n → ReachMoreThan s k states → ⊥
+
+-- the answer to a search for the shortest sequence of at most `most` choices, which keeps at most `states` machines of one length: the shortest
+-- one; that there is none; or the least number of choices that reach more machines than that, where no shorter sequence meets the goal
 abbrev pub IsReachAnswer : {Z : Type 0} → SpaceContent → (Machine → Bool) → ℕ → ℕ → Found Z → Type 0
-IsReachAnswer s goal most states (Best ks) = IsSoonest s goal ks.items × (length ks.items ≤ most)
-IsReachAnswer s goal most states Nothing = NeedsAtLeast s goal (most + 1)
-IsReachAnswer s goal most states (Stopped k) = NeedsAtLeast s goal k × (k ≤ most) × ReachMoreThan s k states
+IsReachAnswer s goal most states (Best ks) = IsSoonest s goal ks.items × (length ks.items ≤ most) × FitsBelow s states (length ks.items + 1)
+IsReachAnswer s goal most states Nothing = NeedsAtLeast s goal (most + 1) × FitsBelow s states (most + 1)
+IsReachAnswer s goal most states (Stopped k) = NeedsAtLeast s goal k × FitsBelow s states k × (1 ≤ k) × (k ≤ most) × ReachMoreThan s k states

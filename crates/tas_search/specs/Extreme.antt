@@ -1,12 +1,12 @@
--- Which sequence of just so many choices has the greatest or the least value.
-use Rattle.std.specs.Prelude.{◌≡◌, ℕ, ◌≤◌, ℤ, ◌≤ℤ◌, List, length, Some, None}
+-- Which sequence of exactly n choices has the greatest or the least value.
+use Rattle.std.specs.Prelude.{◌≡◌, ℕ, ◌+◌, ◌≤◌, ℤ, ◌≤ℤ◌, List, length, Some, None}
 use Rattle.vcs_machine.specs.Machine.{Machine}
 use Rattle.tas_search.specs.declared.extremes.Aim.{Aim}
 use Rattle.tas_search.specs.declared.extremes.Aim.TheVariants.{Most, Least}
 use Rattle.tas_search.specs.declared.searching.Found.{Found}
 use Rattle.tas_search.specs.declared.searching.Found.TheVariants.{Best, Nothing, Stopped}
 use Rattle.tas_search.specs.Space.{SpaceContent, AreChoices, reached, rank}
-use Rattle.tas_search.specs.Best.{ReachMoreThan}
+use Rattle.tas_search.specs.Best.{FitsBelow, ReachMoreThan}
 
 -- one value is as good as another, or better
 abbrev pub IsAsGood : Aim → ℤ → ℤ → Type 0
@@ -22,9 +22,9 @@ pub record IsExtreme (s : SpaceContent) (aim : Aim) (value : Machine → ℤ) (n
   pub best : (other : List ℕ) (m : Machine) → AreChoices s other → length other ≡ n → reached s other ≡ Some m → IsAsGood aim (value machine) (value m)
   pub first : (other : List ℕ) (m : Machine) → AreChoices s other → length other ≡ n → reached s other ≡ Some m → value m ≡ value machine → rank s ks ≤ rank s other
 
--- the answer to a search for the best sequence of n choices: it; that none of them reaches a machine; or that more machines are reached
--- by this many choices than may be kept
+-- the answer to a search for the best sequence of n choices, which keeps at most `states` machines of one length: it; that none of them
+-- reaches a machine; or the least number of choices that reach more machines than that
 abbrev pub IsExtremeAnswer : {Z : Type 0} → SpaceContent → Aim → (Machine → ℤ) → ℕ → ℕ → Found Z → Type 0
-IsExtremeAnswer s aim value n states (Best ks) = IsExtreme s aim value n ks.items
-IsExtremeAnswer s aim value n states Nothing = (ks : List ℕ) → AreChoices s ks → length ks ≡ n → reached s ks ≡ None
-IsExtremeAnswer s aim value n states (Stopped k) = (k ≤ n) × ReachMoreThan s k states
+IsExtremeAnswer s aim value n states (Best ks) = IsExtreme s aim value n ks.items × FitsBelow s states (n + 1)
+IsExtremeAnswer s aim value n states Nothing = ((ks : List ℕ) → AreChoices s ks → length ks ≡ n → reached s ks ≡ None) × FitsBelow s states (n + 1)
+IsExtremeAnswer s aim value n states (Stopped k) = FitsBelow s states k × (1 ≤ k) × (k ≤ n) × ReachMoreThan s k states

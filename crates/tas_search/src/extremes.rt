@@ -67,6 +67,9 @@ pub fn find_extreme<M: Measure, A: Allocator + Copy, C: Allocator>(
         if !advance(alloc, space, &mut front, states)? {
             return Ok(Found::Stopped(depth + 1));
         }
+        if front.layer.is_empty() {
+            return Ok(Found::Nothing);
+        }
     }
     match best_place(aim, measure, front.layer.as_slice()) {
         None => Ok(Found::Nothing),

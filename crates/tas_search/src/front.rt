@@ -65,6 +65,8 @@ pub(crate) fn advance<A: Allocator + Copy, C: Allocator>(
     ensures moved { IfOk result (λ moved. moved ≡ true → IsFront space.now front.new.depth
         front.new.place front.new.trail.items front.new.layer.keys) }
     ensures depth { IfOk result (λ moved. moved ≡ true → front.new.depth ≡ front.old.depth + 1) }
+    ensures fits { IfOk result
+        (λ moved. moved ≡ true → ReachMoreThan space.now front.new.depth most → ⊥) }
     ensures over { IfOk result
         (λ moved. moved ≡ false → ReachMoreThan space.now (front.old.depth + 1) most) }
 {

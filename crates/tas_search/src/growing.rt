@@ -1,6 +1,6 @@
 //! The next layer.
 
-ghost use Rattle.std.specs.Prelude.{◌≡◌, ◌+◌, ◌^◌, ◌<◌, [], length, OnOk, IfOk, MatchOption};
+ghost use Rattle.std.specs.Prelude.{◌≡◌, ◌+◌, ◌^◌, ◌<◌, ◌≤◌, [], length, OnOk, IfOk, MatchOption};
 ghost use Rattle.indexmap.specs.IndexSet.{insert_all};
 ghost use Rattle.tas_search.specs.Inside.Arrivals.{
   are_same_arrivals,
@@ -69,7 +69,7 @@ pub(crate) fn grow<A: Allocator + Copy, C: Allocator>(
 ) -> Result<Option<Layer<A>>, AllocError>
     requires { place + length layer.now < 2 ^ 64 }
     ensures { IfOk result (λ grown. MatchOption grown (IsOver space.now layer.now place most)
-        (λ next. next.keys ≡ grown_arrivals space.now [] place layer.now)) }
+        (λ next. (next.keys ≡ grown_arrivals space.now [] place layer.now) × (length next.keys ≤ most))) }
 {
     let mut next = IndexSet::new(alloc);
     for (j, arrival) in layer.iter().enumerate() {

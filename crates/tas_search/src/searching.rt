@@ -55,6 +55,9 @@ pub fn find_soonest<M: Measure, A: Allocator + Copy, C: Allocator>(
             let choices = way(alloc, &front.trail, front.depth, last)?;
             return Ok(Found::Best(choices));
         }
+        if front.layer.is_empty() {
+            return Ok(Found::Nothing);
+        }
     }
     Ok(Found::Nothing)
 }

@@ -2,10 +2,12 @@ use Rattle.std.proofs.Common.{◌≡◌, ◌+◌, ℕ, List, Some, None, length,
 use Rattle.std.specs.List.{position}
 use Rattle.std.proofs.lemmas.List.Quantifiers.{position-Some}
 use Rattle.tas_search.specs.declared.arrival.Arrival.{Arrival}
-use Rattle.tas_search.specs.Best.{NeedsAtLeast}
+use Rattle.tas_search.specs.Best.{FitsBelow, NeedsAtLeast}
 use Rattle.tas_search.specs.Goal.{holds_of}
+use Rattle.tas_search.specs.Inside.Layers.{layer_of}
 use Rattle.tas_search.proofs.ArrivalLemmas.{last_within}
-use Rattle.tas_search.proofs.ReachLemmas.{best_answer, none_found}
+use Rattle.tas_search.proofs.ReachLemmas.{best_answer, layer_length, none_found}
+use Rattle.tas_search.proofs.LimitLemmas.{fits_after, fits_here, needs_after}
 use Rattle.tas_search.proofs.searching.find_soonest.Goals as goal
 
 pub way-requires-clause-last : goal.way-requires-clause-last
@@ -24,12 +26,13 @@ returns-in-Some g c =
     let moved = c.in_ok-advance.ensures.moved c.if-not-branch.false in
     let deeper : front.depth ≡ c.loop-depth.depth + 1 = omega (arith, c.in_ok-advance.ensures.depth c.if-not-branch.false, c.loop-depth.invariant.depth) in
     let found : position (λ (a : Arrival). holds_of (g.M.Measure.value c.args.goal.now) a.state) c.as_slice.result.now ≡ Some c.in-Some.i = sym c.first_meeting.ensures ∙ c.in-Some.is in
-    best_answer c.args.space.now (holds_of (g.M.Measure.value c.args.goal.now)) c.args.most front.depth front.place front.trail.items front.layer.keys c.in-Some.i c.index-as_slice-i.result
+    best_answer c.args.space.now (holds_of (g.M.Measure.value c.args.goal.now)) c.args.most c.args.states front.depth front.place front.trail.items front.layer.keys c.in-Some.i c.index-as_slice-i.result
     (get_or c.as_slice-in-Some.result.now c.in-Some.i c.index-as_slice-i.result).step c.in_ok-choices.choices.items moved
     (subst (NeedsAtLeast c.args.space.now (holds_of (g.M.Measure.value c.args.goal.now))) (sym deeper) c.loop-depth.invariant.least)
     (rw c.as_slice.ensures.keys at found)
     (ap (λ (bs : List Arrival). (get_or bs c.in-Some.i c.index-as_slice-i.result).step) c.as_slice-in-Some.ensures.keys)
     (rw c.deref.ensures.value at c.in_ok-choices.ensures) (omega (arith, deeper))
+    (fits_here c.args.space.now c.args.states c.loop-depth.depth front.depth deeper c.loop-depth.invariant.fits (c.in_ok-advance.ensures.fits c.if-not-branch.false))
 
 pub loop-depth-preserved : goal.loop-depth-preserved
 loop-depth-preserved g c =
@@ -45,4 +48,25 @@ loop-depth-preserved g c =
           (none_found c.args.space.now (holds_of (g.M.Measure.value c.args.goal.now)) front.depth front.place front.trail.items front.layer.keys moved
           (subst (NeedsAtLeast c.args.space.now (holds_of (g.M.Measure.value c.args.goal.now))) (sym deeper) c.loop-depth.invariant.least)
           (rw c.as_slice.ensures.keys at none));
+      fits = subst (λ (n : ℕ). FitsBelow c.args.space.now c.args.states (n + 1)) deeper
+          (fits_here c.args.space.now c.args.states c.loop-depth.depth front.depth deeper c.loop-depth.invariant.fits (c.in_ok-advance.ensures.fits c.if-not-branch.false));
     }
+
+pub returns-then-is_empty : goal.returns-then-is_empty
+returns-then-is_empty g c =
+    let front = c.advance.new.front in
+    let moved = c.in_ok-advance.ensures.moved c.if-not-branch.false in
+    let deeper : front.depth ≡ c.loop-depth.depth + 1 = omega (arith, c.in_ok-advance.ensures.depth c.if-not-branch.false, c.loop-depth.invariant.depth) in
+    let empty : length (layer_of c.args.space.now front.depth) ≡ 0 = omega (arith, c.is_empty.ensures.0 c.if-is_empty.true, layer_length c.args.space.now front.depth front.place front.trail.items front.layer.keys moved) in (
+      needs_after c.args.space.now (holds_of (g.M.Measure.value c.args.goal.now)) front.depth (c.args.most + 1) empty
+          (subst (NeedsAtLeast c.args.space.now (holds_of (g.M.Measure.value c.args.goal.now))) (sym deeper) c.loop-depth.invariant.least),
+      fits_after c.args.space.now c.args.states front.depth (c.args.most + 1) empty
+          (subst (FitsBelow c.args.space.now c.args.states) (sym deeper) c.loop-depth.invariant.fits),
+    )
+
+pub returns : goal.returns
+returns g c =
+    let all : c.loop-depth.depth ≡ c.args.most = omega arith in (
+      subst (λ (n : ℕ). NeedsAtLeast c.args.space.now (holds_of (g.M.Measure.value c.args.goal.now)) (n + 1)) all c.loop-depth.invariant.least,
+      subst (λ (n : ℕ). FitsBelow c.args.space.now c.args.states (n + 1)) all c.loop-depth.invariant.fits,
+    )
