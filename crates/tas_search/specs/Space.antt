@@ -1,8 +1,9 @@
 -- What a search goes through: sequences of choices, each of which is held for some frames.
-use Rattle.std.specs.Prelude.{ℕ, ◌+◌, ◌*◌, ◌<◌, List, [], ◌∷◌, length, replicate, slice_index_or, Option, Some, None}
+use Rattle.std.specs.Prelude.{ℕ, zero, suc, ◌+◌, ◌*◌, ◌<◌, Bool, true, ◌&&◌, List, [], ◌∷◌, length, replicate, slice_index_or, Option, Some, None}
 use Rattle.vcs_inputs.specs.declared.input.Input.{Input}
 use Rattle.vcs_inputs.specs.Input.{no_input}
-use Rattle.vcs_machine.specs.Machine.{Machine, after_from, unless_halted}
+use Rattle.vcs_machine.specs.Machine.{Machine, after_from, frame, unless_halted}
+use Rattle.vcs_machine.specs.Lag.{is_lag_frame}
 
 -- a cartridge, the machine that is started from, the choices in their order, and for how many frames each is held
 pub record SpaceContent : Type 0 where
@@ -14,6 +15,11 @@ pub record SpaceContent : Type 0 where
 -- the machine after choice number k was held
 abbrev pub after_choice : SpaceContent → Machine → ℕ → Machine
 after_choice s m k = after_from s.cart m (replicate s.hold (slice_index_or s.choices k no_input))
+
+-- n frames of one input are lag frames, all of them
+abbrev pub are_lag_frames : List ℕ → Machine → Input → ℕ → Bool
+are_lag_frames cart m input zero = true
+are_lag_frames cart m input (suc n) = is_lag_frame cart m input && are_lag_frames cart (frame cart m input) input n
 
 -- a sequence: each of its numbers is that of a choice
 abbrev pub AreChoices : SpaceContent → List ℕ → Type 0

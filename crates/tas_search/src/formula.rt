@@ -1,23 +1,38 @@
-//! Expressions that can be worked out.
+//! Expressions whose numbers fit in 64 bits.
 
 ghost use Rattle.std.specs.Prelude.{◌≡◌, ◌^◌, ◌<◌, ◌≤◌, MatchOption};
 ghost use Rattle.tas_search.specs.Expression.{weight};
 
 use crate::expression::Expression;
 use crate::measure::Measure;
+use std::marker::Model;
 
-/// An expression that can be worked out, whatever RAM has: none of its numbers has more than 63 bits.
+/// An expression whose weight is below 2 to the power of 63. So neither its number nor that of any part of it
+/// overflows an `i64`, whatever is in RAM.
 #[derive(Drop)]
 pub struct Formula {
     expression: Expression,
     ghost fits: { weight expression < 2 ^ 63 },
 }
 
+impl Model for Formula {
+    ghost use Rattle.tas_search.specs.declared.expression.Expression.{Expression};
+    ghost use Rattle.tas_search.specs.contracts.expression.Expression as e;
+    ghost use Rattle.std.specs.Coded.{codes};
+
+    ghost Value = { Expression };
+
+    ghost coded = { Prim.hlevel (codes, e.the_row.coded) };
+
+    ghost view = { λ f. f.expression };
+}
+
 impl Formula {
-    /// An expression that can be worked out; `None` where it is too great.
+    /// The expression as a formula; `None` where its weight, an upper bound of all its values, is 2 to the power of 63
+    /// or more. See [`Expression::weight`].
     pub fn new(expression: Expression) -> Option<Self>
         ensures { MatchOption result (2 ^ 63 ≤ weight expression)
-            (λ formula. formula.expression ≡ expression) }
+            (λ formula. formula ≡ expression) }
     {
         if expression.weight().is_some() {
             Some(Formula { expression })
@@ -30,7 +45,7 @@ impl Formula {
 impl Measure for Formula {
     ghost use Rattle.tas_search.specs.Expression.{value_of};
 
-    ghost value = { λ f ram. value_of f.expression ram };
+    ghost value = { λ f ram. value_of f ram };
 
     fn value(&self, ram: &[u8; 128]) -> i64 {
         self.expression.value(ram)

@@ -4,14 +4,15 @@ ghost use Rattle.std.specs.Prelude.{◌≡◌, ℕ, length, replicate, slice_ind
 ghost use Rattle.vcs_inputs.specs.declared.input.Input.{Input};
 ghost use Rattle.vcs_inputs.specs.Input.{no_input};
 ghost use Rattle.vcs_machine.specs.Machine.{after_from};
-ghost use Rattle.tas_search.specs.Space.{after_choice};
+ghost use Rattle.tas_search.specs.Space.{after_choice, are_lag_frames};
 
 use std::alloc::Allocator;
 use std::marker::Model;
 use vcs_inputs::{Cart, Input};
 use vcs_machine::{Meter, State, play_for_lag, play_unseen};
 
-/// What a search goes through.
+/// What a search goes through: all sequences of some choices from a state on, each choice an input that is held for
+/// the same number of frames.
 #[derive(Drop)]
 pub struct Space<'a, C: Allocator> {
     cart: &'a Cart<C>,
@@ -34,7 +35,8 @@ impl<'a, C: Allocator> Model for Space<'a, C> {
 }
 
 impl<'a, C: Allocator> Space<'a, C> {
-    /// The sequences of these choices from a state on, each choice held for `hold` frames.
+    /// The sequences of these choices from a state on, each choice held for `hold` frames. Where `hold` is 0 every
+    /// sequence leads to the start; where there are no choices there is the empty sequence alone.
     pub fn new(cart: &'a Cart<C>, start: State, choices: &'a [Input], hold: usize) -> Self
         ensures { result ≡ record {
           cart = cart.now;
@@ -72,10 +74,12 @@ impl<'a, C: Allocator> Space<'a, C> {
         self.choices.get(k).copied().unwrap_or(Input::none())
     }
 
-    /// The state after choice number `k` was held, and whether it can be seen to be the same after every choice: all
-    /// frames were lag frames.
-    pub fn after_choice_noted(&self, state: &State, k: usize) -> (State, bool)
+    /// The state after choice number `k` was held, and whether all its frames were lag frames: then every choice leads
+    /// to this state. A halted machine's frames are lag frames.
+    pub(crate) fn after_choice_noted(&self, state: &State, k: usize) -> (State, bool)
         ensures state { result.0 ≡ after_choice self.now state.now k }
+        ensures lag { result.1 ≡ are_lag_frames self.now.cart state.now
+            (slice_index_or self.now.choices k no_input) self.now.hold }
         ensures alike { result.1 ≡ true
             → (j : ℕ) → after_choice self.now state.now j ≡ result.0 }
     {
@@ -92,8 +96,8 @@ impl<'a, C: Allocator> Space<'a, C> {
     }
 }
 
-/// The state after some frames of one input, and whether they were all lag frames: then it is the same after as many
-/// frames of any other input.
+/// The state after `count` frames of one input, and whether they were all lag frames: then it is the same after as
+/// many frames of any other input.
 fn noted_frames<C: Allocator>(
     cart: &Cart<C>,
     start: State,
@@ -101,6 +105,7 @@ fn noted_frames<C: Allocator>(
     count: usize,
 ) -> (State, bool)
     ensures state { result.0 ≡ after_from cart.now start (replicate count input) }
+    ensures lag { result.1 ≡ are_lag_frames cart.now start input count }
     ensures alike { result.1 ≡ true
         → (other : Input) → after_from cart.now start (replicate count other) ≡ result.0 }
 {
@@ -114,7 +119,7 @@ fn noted_frames<C: Allocator>(
     (state, lag)
 }
 
-/// The state after some frames of one input.
+/// The state after `count` frames of one input.
 fn after_frames<C: Allocator>(cart: &Cart<C>, start: State, input: Input, count: usize) -> State
     ensures { result ≡ after_from cart.now start (replicate count input) }
 {

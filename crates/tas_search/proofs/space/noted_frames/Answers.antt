@@ -1,6 +1,7 @@
 use Rattle.std.proofs.Common.{◌≡◌, ℕ, ◌-◌, ◌+◌, ◌∙◌, sym, ap, replicate, arith}
 use Rattle.vcs_machine.specs.Machine.{Machine, after_from}
-use Rattle.tas_search.proofs.HeldLemmas.{held_more, held_none, ignored_more}
+use Rattle.tas_search.specs.Space.{are_lag_frames}
+use Rattle.tas_search.proofs.HeldLemmas.{held_more, held_none, ignored_more, lag_more, lag_none}
 use Rattle.tas_search.proofs.space.noted_frames.Goals as goal
 use Rattle.tas_search.proofs.space.noted_frames.Goals.{then-lag, else-lag}
 
@@ -15,6 +16,12 @@ loop-played-preserved g c =
       state =
           ap (λ (m : Machine). after_from cart m (replicate (count - (played + 1)) input)) frames.ensures.state ∙ sym (held_more cart c.loop-played.state input count played (omega (arith, c.loop-played-test.true)))
           ∙ c.loop-played.invariant.state;
+      lag = lag_more cart c.loop-played.state frames.new.state input count played c.loop-played.lag frames.result _ (are_lag_frames cart c.args.start input count) (omega (arith, c.loop-played-test.true))
+          frames.ensures.state frames.ensures.lag
+          (elim c.if-lag.branch [
+            | then-lag w ↦ cc
+            | else-lag w ↦ cc
+          ]) c.loop-played.invariant.lag;
       alike = λ yes other.
           elim c.if-lag.branch [
             | then-lag w ↦
@@ -37,3 +44,8 @@ returns-clause-alike g c = λ yes other.
     let all : c.loop-played.played ≡ c.args.count = omega arith in
     sym (c.loop-played.invariant.alike yes other) ∙ ap (λ (k : ℕ). after_from cart c.loop-played.state (replicate (c.args.count - k) other)) all
     ∙ held_none cart c.loop-played.state other c.args.count
+
+pub returns-clause-lag : goal.returns-clause-lag
+returns-clause-lag g c =
+    lag_none c.args.cart.now c.loop-played.state c.args.input c.args.count c.loop-played.played c.loop-played.lag (are_lag_frames c.args.cart.now c.args.start c.args.input c.args.count) (omega arith)
+    c.loop-played.invariant.lag
