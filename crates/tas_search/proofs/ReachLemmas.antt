@@ -1,4 +1,4 @@
--- What the layers show of the soonest sequence.
+-- What the layers show of the shortest sequence.
 use Rattle.std.proofs.Common.{◌≡◌, ℕ, zero, suc, ◌+◌, ◌<◌, ◌≤◌, Bool, true, false, not, List, [], ◌∷◌, ◌++◌, length, map, take, drop, get_or, cond, nat_lt, Option, Some, None, refl, sym, ap, subst, ◌∙◌, inl, inr, arith}
 use Rattle.std.specs.List.{position, position_or_len}
 use Rattle.std.proofs.lemmas.List.{map-append, length-map, take-map, take-append-drop}
@@ -9,7 +9,7 @@ use Rattle.vcs_machine.specs.Machine.{Machine}
 use Rattle.tas_search.specs.declared.arrival.Arrival.{Arrival}
 use Rattle.tas_search.specs.declared.arrival.Step.{Step}
 use Rattle.tas_search.specs.Space.{SpaceContent, reached, rank}
-use Rattle.tas_search.specs.Best.{Passes, NeedsAtLeast, IsSoonest, AllReach, IsApart, AreApart, ReachMoreThan, FitsBelow}
+use Rattle.tas_search.specs.Best.{Passes, NeedsAtLeast, IsShortest, AllReach, IsApart, AreApart, ReachMoreThan, FitsBelow}
 use Rattle.tas_search.specs.Inside.Layers.{Reached, grown_from, layer_of}
 use Rattle.tas_search.specs.Inside.Arrivals.{grown_arrivals, no_step, way, with_way, steps_of, IsFront, IsOver}
 use Rattle.tas_search.proofs.LayerLemmas.{Covers, Ascends, covers_from, layer_covers, layer_ascends}
@@ -68,7 +68,7 @@ module _ (s : SpaceContent) (test : Machine → Bool) where
   right_at d zero (r ∷ rs) e h lt = h.0
   right_at d (suc i) (r ∷ rs) e h lt = right_at d i rs e h.1 (omega arith)
 
--- ---- the soonest sequence
+-- ---- the shortest sequence
 
 -- a member of a front's layer, as the definitions have it
 pub member_is : (s : SpaceContent) (depth place : ℕ) (trail : List Step) (bs : List Arrival) (i : ℕ) (d : Arrival) → IsFront s depth place trail bs
@@ -79,9 +79,9 @@ member_is s depth place trail bs i d front =
 pub layer_length : (s : SpaceContent) (depth place : ℕ) (trail : List Step) (bs : List Arrival) → IsFront s depth place trail bs → length (layer_of s depth) ≡ length bs
 layer_length s depth place trail bs front = ap length (sym front.layer) ∙ length-map bs (with_way trail depth)
 
-pub soonest_found : (s : SpaceContent) (test : Machine → Bool) (depth place : ℕ) (trail : List Step) (bs : List Arrival) (i : ℕ) (d : Arrival) → IsFront s depth place trail bs
-    → NeedsAtLeast s test depth → position (λ a. test a.state) bs ≡ Some i → IsSoonest s test (way trail depth (get_or bs i d).step) × (length (way trail depth (get_or bs i d).step) ≡ depth)
-soonest_found s test depth place trail bs i d front least found =
+pub shortest_found : (s : SpaceContent) (test : Machine → Bool) (depth place : ℕ) (trail : List Step) (bs : List Arrival) (i : ℕ) (d : Arrival) → IsFront s depth place trail bs
+    → NeedsAtLeast s test depth → position (λ a. test a.state) bs ≡ Some i → IsShortest s test (way trail depth (get_or bs i d).step) × (length (way trail depth (get_or bs i d).step) ≡ depth)
+shortest_found s test depth place trail bs i d front least found =
     let first = position-Some (λ a. test a.state) bs i d found in
     let size : length (layer_of s depth) ≡ length bs = layer_length s depth place trail bs front in
     let right : IsRight s depth (with_way trail depth (get_or bs i d)) =
@@ -91,7 +91,7 @@ soonest_found s test depth place trail bs i d front least found =
       record {
         choices = right.choices;
         meets = some_passes test _ _ right.machine first.1;
-        soonest = subst (NeedsAtLeast s test) (sym right.count) least;
+        shortest = subst (NeedsAtLeast s test) (sym right.count) least;
         first = λ other are meets same.
             let there = passes_some test (reached s other) meets in
             let covered : Covers s (layer_of s depth) there.0 (rank s other) =
@@ -170,11 +170,11 @@ crowded s depth place most trail bs front over =
 
 -- ---- the empty sequence
 
-pub start_soonest : (s : SpaceContent) (test : Machine → Bool) → test s.start ≡ true → IsSoonest s test []
-start_soonest s test pass = record {
+pub start_shortest : (s : SpaceContent) (test : Machine → Bool) → test s.start ≡ true → IsShortest s test []
+start_shortest s test pass = record {
   choices = tt;
   meets = pass;
-  soonest = λ ks are meets. omega arith;
+  shortest = λ ks are meets. omega arith;
   first = λ other are meets same. omega arith;
 }
 
@@ -186,9 +186,9 @@ start_fails s test fail (k ∷ ks) are meets = omega arith
 
 pub best_answer : (s : SpaceContent) (test : Machine → Bool) (most states depth place : ℕ) (trail : List Step) (bs : List Arrival) (i : ℕ) (d : Arrival) (last : Step) (ks : List ℕ)
     → IsFront s depth place trail bs → NeedsAtLeast s test depth → position (λ a. test a.state) bs ≡ Some i → last ≡ (get_or bs i d).step → ks ≡ way trail depth last → depth ≤ most → FitsBelow s states (depth + 1)
-    → IsSoonest s test ks × (length ks ≤ most) × FitsBelow s states (length ks + 1)
+    → IsShortest s test ks × (length ks ≤ most) × FitsBelow s states (length ks + 1)
 best_answer s test most states depth place trail bs i d last ks front least found at is le fits =
     let same : ks ≡ way trail depth (get_or bs i d).step = is ∙ ap (way trail depth) at in
-    let both = soonest_found s test depth place trail bs i d front least found in
+    let both = shortest_found s test depth place trail bs i d front least found in
     let count : length ks ≡ depth = ap length same ∙ both.1 in
-    (subst (IsSoonest s test) (sym same) both.0, omega (arith, count), subst (λ (n : ℕ). FitsBelow s states (n + 1)) (sym count) fits)
+    (subst (IsShortest s test) (sym same) both.0, omega (arith, count), subst (λ (n : ℕ). FitsBelow s states (n + 1)) (sym count) fits)

@@ -19,10 +19,10 @@ abbrev pub NeedsAtLeast : SpaceContent → (Machine → Bool) → ℕ → Type 0
 NeedsAtLeast s goal n = (ks : List ℕ) → AreChoices s ks → Meets s goal ks → n ≤ length ks
 
 -- the sequence meets the goal, none does so with fewer choices, and of those with as many it is the first
-pub record IsSoonest (s : SpaceContent) (goal : Machine → Bool) (ks : List ℕ) : Type 0 where
+pub record IsShortest (s : SpaceContent) (goal : Machine → Bool) (ks : List ℕ) : Type 0 where
   pub choices : AreChoices s ks
   pub meets : Meets s goal ks
-  pub soonest : NeedsAtLeast s goal (length ks)
+  pub shortest : NeedsAtLeast s goal (length ks)
   pub first : (other : List ℕ) → AreChoices s other → Meets s goal other → length other ≡ length ks → rank s ks ≤ rank s other
 
 -- the sequences have k choices, and each reaches a machine
@@ -54,6 +54,6 @@ FitsBelow s states n = (k : ℕ) → 1 ≤ k → k < n → ReachMoreThan s k sta
 -- the answer to a search for the shortest sequence of at most `most` choices, which keeps at most `states` machines of one length: the shortest
 -- one; that there is none; or the least number of choices that reach more machines than that, where no shorter sequence meets the goal
 abbrev pub IsReachAnswer : {Z : Type 0} → SpaceContent → (Machine → Bool) → ℕ → ℕ → Found Z → Type 0
-IsReachAnswer s goal most states (Best ks) = IsSoonest s goal ks.items × (length ks.items ≤ most) × FitsBelow s states (length ks.items + 1)
+IsReachAnswer s goal most states (Best ks) = IsShortest s goal ks.items × (length ks.items ≤ most) × FitsBelow s states (length ks.items + 1)
 IsReachAnswer s goal most states Nothing = NeedsAtLeast s goal (most + 1) × FitsBelow s states (most + 1)
 IsReachAnswer s goal most states (Stopped k) = NeedsAtLeast s goal k × FitsBelow s states k × (1 ≤ k) × (k ≤ most) × ReachMoreThan s k states

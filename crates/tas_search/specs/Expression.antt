@@ -18,7 +18,7 @@ bcd byte = pos (byte / 16 * 10 + byte % 16)
 abbrev pub truth : Bool → ℤ
 truth holds = if holds then pos 1 else pos 0
 
--- two numbers, joined
+-- an operator's number of two others
 abbrev pub applied : Operator → ℤ → ℤ → ℤ
 applied Or a b = truth (is_true a || is_true b)
 applied And a b = truth (is_true a && is_true b)
@@ -41,11 +41,12 @@ value_of (Pair at) ram = pos (byte_at ram at + 256 * byte_at ram ((at + 1) % 256
 value_of (Not' p e) ram = truth (not (is_true (value_of e ram)))
 value_of (Both' op p a q b) ram = applied op (value_of a ram) (value_of b ram)
 
--- a number that is greater than any that an expression makes, but for its sign, and no less than that of any part of it
+-- the weight of an operator with operands of these weights
 abbrev pub joined_weight : Operator → ℕ → ℕ → ℕ
 joined_weight Times a b = a * b
 joined_weight _ a b = a + b
 
+-- an upper bound: greater than the absolute value of any number that the expression makes, and no less than the weight of any part of it
 abbrev pub weight : Expression → ℕ
 weight (Number n) = n + 1
 weight (Byte at) = 256

@@ -5,7 +5,8 @@ ghost use Rattle.std.specs.Prelude.{◌≡◌};
 use std::hash::{Hash, Hasher};
 use vcs_machine::State;
 
-/// One step of a way: the place in the trail of the step before it, and the number of the choice that was made.
+/// One step of a path, a parent pointer: the place in the trail of the step before it, and the number of the choice
+/// that was made.
 #[derive(Clone, Copy, Debug)]
 pub(crate) struct Step {
     /// The place in the trail of the step before it.
@@ -14,12 +15,12 @@ pub(crate) struct Step {
     pub choice: usize,
 }
 
-/// A state, and the last step of the first way to it. Arrivals are compared by their states alone.
+/// A state, and the last step of the first path to it. Arrivals are compared by their states alone.
 #[derive(Clone, Copy, Debug)]
 pub(crate) struct Arrival {
     /// The state that was reached.
     pub state: State,
-    /// The last step of the way to it.
+    /// The last step of the path to it.
     pub step: Step,
 }
 

@@ -5,8 +5,8 @@ ghost use mir.Syntax.{w64};
 ghost use Rattle.tas_search.specs.Expression.{applied, bcd, byte_at, joined_weight, truth, value_of, weight};
 ghost use Rattle.tas_search.specs.Goal.{is_true};
 
-/// What joins two numbers. Of a comparison the number is 1 where it is true, and else 0; `Or` and `And` take every
-/// number but 0 as true.
+/// An operator of two numbers. A comparison is 1 where it is true, and else 0, and so are `Or` and `And`, which take
+/// every number but 0 as true.
 #[derive(Clone, Copy, Debug, PartialEq, Eq)]
 pub enum Operator {
     /// `or`
@@ -34,6 +34,8 @@ pub enum Operator {
 }
 
 /// An expression over the 128 bytes of RAM. An address is one of 80 to FF; of others the low seven bits count.
+/// Nothing limits its depth, and [`value`](Expression::value), [`weight`](Expression::weight) and its drop recurse: a
+/// caller that builds one from text must limit it.
 #[derive(Drop)]
 pub enum Expression {
     /// A number.
@@ -42,11 +44,11 @@ pub enum Expression {
     Byte(u8),
     /// The byte at an address as two decimal digits, the high half first.
     Bcd(u8),
-    /// The byte at an address, and 256 times the one after it.
+    /// The byte at an address, and 256 times the one at the next address. The next one of FF is 80.
     Pair(u8),
     /// 1 where a number is 0, and else 0.
     Not(Box<Expression>),
-    /// Two numbers, joined.
+    /// An operator and its two operands, the left one first.
     Both(Operator, Box<Expression>, Box<Expression>),
 }
 
@@ -71,7 +73,7 @@ fn bcd(byte: u8) -> i64
     ((byte / 16) as i64) * 10 + (byte % 16) as i64
 }
 
-/// Two numbers, joined; what comes out fits.
+/// The operator's number of two others, where it fits.
 fn apply(operator: Operator, a: i64, b: i64) -> i64
     requires { FitsSigned w64 (applied operator a b) }
     ensures { result ≡ applied operator a b }
@@ -98,7 +100,7 @@ fn below_limit(weight: u64) -> Option<u64>
     if weight < 1 << 63 { Some(weight) } else { None }
 }
 
-/// The weight of two expressions of these weights, joined, where it is below the limit.
+/// The weight of an operator with operands of these weights, where it is below the limit.
 fn joined_weight(operator: Operator, a: u64, b: u64) -> Option<u64>
     requires a { a < 2 ^ 63 }
     requires b { b < 2 ^ 63 }
@@ -115,12 +117,13 @@ fn joined_weight(operator: Operator, a: u64, b: u64) -> Option<u64>
 }
 
 impl Expression {
-    /// Every expression has a weight of 1 or more. Nothing is done here: the call tells the proof.
+    /// Called for its law: every expression has a weight of 1 or more.
     fn weigh_something(&self)
         ensures { 1 ≤ weight self.now }
     {}
 
-    /// The number that the expression makes of RAM.
+    /// The number that the expression makes of RAM. Its weight must be below 2 to the power of 63, so that nothing
+    /// overflows; a [`Formula`](crate::Formula) has such a weight.
     pub fn value(&self, ram: &[u8; 128]) -> i64
         requires { weight self.now < 2 ^ 63 }
         ensures value { result ≡ value_of self.now ram.now }
@@ -143,8 +146,9 @@ impl Expression {
         }
     }
 
-    /// A number that is greater than any that the expression makes, but for its sign, where it is below the
-    /// limit, which is 2 to the power of 63. Only such an expression can be worked out.
+    /// The weight, an upper bound: it is greater than the absolute value of any number that the expression or a part of
+    /// it makes, whatever is in RAM. `None` where it is 2 to the power of 63 or more. That of a product is the product
+    /// of the operands' weights, that of any other operator their sum, also of a comparison.
     pub fn weight(&self) -> Option<u64>
         ensures { MatchOption result (2 ^ 63 ≤ weight self.now)
             (λ n. (n ≡ weight self.now) × (n < 2 ^ 63)) }

@@ -13,7 +13,7 @@ use crate::space::Space;
 use crate::trail::way;
 use std::alloc::{AllocError, Allocator};
 
-/// Which value is the best.
+/// Which value is the best one.
 #[derive(Clone, Copy, Debug, PartialEq, Eq)]
 pub enum Aim {
     /// The greatest.
@@ -49,9 +49,12 @@ fn best_place<M: Measure>(aim: Aim, measure: &M, layer: &[Arrival]) -> Option<us
     Some(best)
 }
 
-/// Searches a space for the sequence of just `count` choices whose state has the best value: the first of these in
-/// the order of the choices. `Nothing` where each of them halts before, `Stopped` where more than `states` states are
-/// reached by as many choices.
+/// Searches a space, breadth first, for the sequence of exactly `count` choices whose state has the best value; of
+/// those with this value, for the first in the order of the choices.
+///
+/// `Nothing`: each sequence of `count` choices halts before its last one, or there are no choices. `Stopped(k)`:
+/// sequences of `k` choices, `count` at most, reach more than `states` different states, and those of fewer don't.
+/// `Err`: out of memory.
 pub fn find_extreme<M: Measure, A: Allocator + Copy, C: Allocator>(
     alloc: A,
     space: &Space<'_, C>,
@@ -60,7 +63,8 @@ pub fn find_extreme<M: Measure, A: Allocator + Copy, C: Allocator>(
     count: usize,
     states: usize,
 ) -> Result<Found<A>, AllocError>
-    ensures { IfOk result (IsExtremeAnswer space.now aim (value_in (M.value measure.now)) count states) }
+    ensures { IfOk result
+        (IsExtremeAnswer space.now aim (value_in (M.value measure.now)) count states) }
 {
     let mut front = first_front(alloc, space)?;
     for depth in 0..count {

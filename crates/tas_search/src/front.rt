@@ -1,4 +1,4 @@
-//! Where a search stands between two layers.
+//! The frontier of a search: its present layer, and the trail to it.
 
 ghost use Rattle.std.specs.Prelude.{◌≡◌, ◌+◌, ◌^◌, ◌<◌, true, false, length, IfOk};
 ghost use Rattle.tas_search.specs.Best.{ReachMoreThan};
@@ -11,7 +11,7 @@ use crate::trail::keep_steps;
 use indexmap::IndexSet;
 use std::alloc::{AllocError, Allocator};
 
-/// A layer, and the trail to it.
+/// The frontier of a search: a layer, and the trail to it.
 #[derive(Drop)]
 pub(crate) struct Front<A: Allocator> {
     /// How many choices lead to the layer.
@@ -52,7 +52,7 @@ pub(crate) fn first_front<A: Allocator + Copy, C: Allocator>(
     })
 }
 
-/// Moves a front on by one choice; `false` where the next layer has more than `most` states.
+/// Moves the front on by one choice; `false` where the next layer has more than `most` states.
 pub(crate) fn advance<A: Allocator + Copy, C: Allocator>(
     alloc: A,
     space: &Space<'_, C>,

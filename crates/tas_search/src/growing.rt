@@ -20,8 +20,8 @@ use vcs_machine::State;
 /// The arrivals of a layer, in the order in which they were found, no state twice.
 pub(crate) type Layer<A> = IndexSet<Arrival, BuildHasherDefault<FoldHasher>, A>;
 
-/// Adds what each choice reaches from a state, whose step is at this place of the trail. A halted state reaches nothing;
-/// where all choices reach the same, one of them is played.
+/// Adds what each choice reaches from a state, whose step is at this place of the trail. A halted state reaches
+/// nothing; where the first choice's frames are lag frames, the others reach the same and aren't played.
 fn add_next<A: Allocator + Copy, C: Allocator>(
     space: &Space<'_, C>,
     state: &State,
@@ -69,7 +69,8 @@ pub(crate) fn grow<A: Allocator + Copy, C: Allocator>(
 ) -> Result<Option<Layer<A>>, AllocError>
     requires { place + length layer.now < 2 ^ 64 }
     ensures { IfOk result (λ grown. MatchOption grown (IsOver space.now layer.now place most)
-        (λ next. (next.keys ≡ grown_arrivals space.now [] place layer.now) × (length next.keys ≤ most))) }
+        (λ next. (next.keys ≡ grown_arrivals space.now [] place layer.now)
+        × (length next.keys ≤ most))) }
 {
     let mut next = IndexSet::new(alloc);
     for (j, arrival) in layer.iter().enumerate() {

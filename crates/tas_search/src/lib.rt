@@ -19,6 +19,6 @@ pub use extremes::{Aim, find_extreme};
 pub use formula::Formula;
 pub use laws::first_difference_decides;
 pub use measure::Measure;
-pub use searching::{Found, find_soonest};
+pub use searching::{Found, find_shortest};
 pub use space::Space;
 pub use starting::state_at;

@@ -1,4 +1,4 @@
-//! The search for the soonest sequence.
+//! The search for the shortest sequence.
 
 ghost use Rattle.std.specs.Prelude.{◌≡◌, IfOk};
 ghost use Rattle.std.specs.List.{position};
@@ -12,14 +12,14 @@ use crate::space::Space;
 use crate::trail::way;
 use std::alloc::{AllocError, Allocator, Global};
 
-/// What a search found.
+/// What a search found. [`find_shortest`] and [`find_extreme`](crate::find_extreme) say what each means for them.
 #[derive(Drop)]
 pub enum Found<A: Allocator = Global> {
-    /// The best sequence: the numbers of its choices, in order.
+    /// The sequence that was sought: the numbers of its choices, in order.
     Best(Vec<usize, A>),
-    /// There is none.
+    /// There is no such sequence.
     Nothing,
-    /// Sequences of this many choices reach more states than may be kept. No shorter one is what was sought.
+    /// The search stopped: sequences of this many choices reach more states than may be kept, and those of fewer don't.
     Stopped(usize),
 }
 
@@ -30,10 +30,12 @@ fn first_meeting<M: Measure>(goal: &M, layer: &[Arrival]) -> Option<usize>
     layer.iter().position(|arrival| holds(goal, &arrival.state))
 }
 
-/// Searches a space for the soonest sequence after which the goal holds: one of at most `most` choices after which
-/// it does, and the first of these in the order of the choices. `Stopped` comes where more than `states` states are
-/// reached by as many choices.
-pub fn find_soonest<M: Measure, A: Allocator + Copy, C: Allocator>(
+/// Searches a space, breadth first, for the shortest sequence of at most `most` choices after which the goal holds,
+/// that is its number isn't 0; of those of its length, for the first in the order of the choices.
+///
+/// `Nothing`: there is none. `Stopped(k)`: sequences of `k` choices reach more than `states` different states, those of
+/// fewer don't, and after none of fewer does the goal hold. `Err`: out of memory.
+pub fn find_shortest<M: Measure, A: Allocator + Copy, C: Allocator>(
     alloc: A,
     space: &Space<'_, C>,
     goal: &M,

@@ -7,7 +7,7 @@ use std::alloc::Allocator;
 use tas_movie::Movie;
 use vcs_machine::{Meter, State, play_unseen};
 
-/// The state after a movie's first `from` frames, or after all of them where it has fewer.
+/// The state after a movie's first `from` frames, from power-on, or after all of them where it has fewer.
 pub fn state_at<A: Allocator>(movie: &Movie<A>, from: usize) -> State
     ensures { result ≡ after movie.now.cart (take from movie.now.inputs) }
 {

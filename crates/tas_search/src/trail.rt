@@ -1,4 +1,4 @@
-//! The trail: the steps of all arrivals, by which a way is found back from any of them.
+//! The trail: the parent pointers of all arrivals, by which the path to any of them is read back.
 
 ghost use Rattle.std.specs.Prelude.{◌≡◌, ◌++◌, ◌<◌, length, OnOk, IfOk};
 ghost use Rattle.tas_search.specs.Inside.Arrivals.{way, AreWithin, steps_of};
@@ -19,7 +19,7 @@ pub(crate) fn keep_steps<A: Allocator>(
     Ok(())
 }
 
-/// The numbers of the `depth` choices on the way whose last step this is, in order.
+/// The numbers of the `depth` choices on the path whose last step this is, in order.
 pub(crate) fn way<A: Allocator>(
     alloc: A,
     trail: &[Step],

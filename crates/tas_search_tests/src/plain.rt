@@ -34,7 +34,7 @@ pub fn counter_after(cart: &Cart, inputs: &[Input; 3], choices: &[usize]) -> Opt
 }
 
 /// The first of the shortest sequences after which the byte at 80 is a number.
-pub fn soonest<R: Abort>(
+pub fn shortest<R: Abort>(
     rt: &R,
     alloc: Global,
     cart: &Cart,

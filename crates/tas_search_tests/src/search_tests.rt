@@ -2,11 +2,11 @@
 
 use crate::checks::{check_same, check_that, expect_ok};
 use crate::goals::{COUNTER, TRAP, cart_of, counter, counter_is, three_choices};
-use crate::plain::{greatest, soonest};
+use crate::plain::{greatest, shortest};
 use std::alloc::Global;
 use std::process::Abort;
 use tas_movie::{Edit, Inputs, Movie, apply, check};
-use tas_search::{Aim, Found, Space, find_extreme, find_soonest, state_at};
+use tas_search::{Aim, Found, Space, find_extreme, find_shortest, state_at};
 use vcs_machine::{Cart, State};
 
 /// The choices of an answer, where it is a best one.
@@ -31,14 +31,14 @@ fn check_numbers<R: Abort>(rt: &R, alloc: Global, cart: &Cart) {
     let space = Space::new(cart, State::power_on(cart), &inputs, 1);
     for number in [0u8, 1, 2, 3, 4, 5, 252, 253, 255] {
         let goal = counter_is(rt, alloc, u32::from(number));
-        let found = expect_ok(rt, find_soonest(alloc, &space, &goal, 5, 100));
-        let wanted = soonest(rt, alloc, cart, &inputs, number);
+        let found = expect_ok(rt, find_shortest(alloc, &space, &goal, 5, 100));
+        let wanted = shortest(rt, alloc, cart, &inputs, number);
         check_that(rt, number, is_same(&found, &wanted));
     }
 }
 
 #[test]
-fn the_soonest_is_that_of_the_plain_search(rt: HostRuntime) {
+fn the_shortest_is_that_of_the_plain_search(rt: HostRuntime) {
     let alloc = rt.alloc();
     check_numbers(&rt, alloc, &cart_of(&rt, alloc, COUNTER));
 }
@@ -77,14 +77,14 @@ fn a_search_stops_where_there_are_too_many_states(rt: HostRuntime) {
     let goal = counter_is(&rt, alloc, 4);
     // The first frame is a lag frame; after two there are three numbers, and two more after each further one.
     for (states, layer) in [(2, 2), (3, 3), (4, 3), (5, 4), (7, 5)] {
-        let found = expect_ok(&rt, find_soonest(alloc, &space, &goal, 5, states));
+        let found = expect_ok(&rt, find_shortest(alloc, &space, &goal, 5, states));
         check_that(
             &rt,
             states,
             matches!(found, Found::Stopped(at) if at == layer),
         );
     }
-    let found = expect_ok(&rt, find_soonest(alloc, &space, &goal, 5, 9));
+    let found = expect_ok(&rt, find_shortest(alloc, &space, &goal, 5, 9));
     check_same(
         &rt,
         9,
@@ -124,12 +124,12 @@ fn a_choice_is_held(rt: HostRuntime) {
         (255, &[1, 2]),
     ] {
         let goal = counter_is(&rt, alloc, number);
-        let found = expect_ok(&rt, find_soonest(alloc, &space, &goal, 4, 100));
+        let found = expect_ok(&rt, find_shortest(alloc, &space, &goal, 4, 100));
         check_that(&rt, number, choices_of(&found) == Some(wanted));
     }
     let never = expect_ok(
         &rt,
-        find_soonest(alloc, &space, &counter_is(&rt, alloc, 1), 1, 100),
+        find_shortest(alloc, &space, &counter_is(&rt, alloc, 1), 1, 100),
     );
     check_that(&rt, 1, matches!(never, Found::Nothing));
 }
@@ -153,7 +153,7 @@ fn a_search_starts_in_a_movie(rt: HostRuntime) {
     let space = Space::new(movie.cart(), state_at(&movie, 3), &inputs, 1);
     let found = expect_ok(
         &rt,
-        find_soonest(alloc, &space, &counter_is(&rt, alloc, 4), 5, 100),
+        find_shortest(alloc, &space, &counter_is(&rt, alloc, 4), 5, 100),
     );
     check_that(&rt, 4, choices_of(&found) == Some([1, 1].as_slice()));
 }

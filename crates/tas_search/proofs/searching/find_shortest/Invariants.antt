@@ -2,7 +2,7 @@ use Rattle.std.proofs.Common.{◌≡◌, ◌+◌}
 use Rattle.tas_search.specs.Best.{FitsBelow, NeedsAtLeast}
 use Rattle.tas_search.specs.Goal.{holds_of}
 use Rattle.tas_search.specs.Inside.Arrivals.{IsFront}
-use Rattle.tas_search.proofs.searching.find_soonest.Given as goal
+use Rattle.tas_search.proofs.searching.find_shortest.Given as goal
 
 -- no sequence of at most as many choices meets the goal, and the layers so far are within the limit
 abbrev pub invariant-loop-depth : goal.invariant-loop-depth

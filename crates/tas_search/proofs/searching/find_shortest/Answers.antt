@@ -8,7 +8,7 @@ use Rattle.tas_search.specs.Inside.Layers.{layer_of}
 use Rattle.tas_search.proofs.ArrivalLemmas.{last_within}
 use Rattle.tas_search.proofs.ReachLemmas.{best_answer, layer_length, none_found}
 use Rattle.tas_search.proofs.LimitLemmas.{fits_after, fits_here, needs_after}
-use Rattle.tas_search.proofs.searching.find_soonest.Goals as goal
+use Rattle.tas_search.proofs.searching.find_shortest.Goals as goal
 
 pub way-requires-clause-last : goal.way-requires-clause-last
 way-requires-clause-last g c =
