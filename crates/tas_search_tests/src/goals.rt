@@ -15,6 +15,10 @@ pub const COUNTER: &[u8] =
 pub const TRAP: &[u8] =
     b"\x18\xa9\x02\x85\x00\xa9\x00\x85\x00\xad\x80\x02\x0a\xb0\x02\xe6\x80\x0a\xb0\x02\xc6\x80\xa5\x80\xc9\x02\xf0\x05\x85\x02\x4c\x00\xf0\x02";
 
+/// The counter, but in register X: all its states have the same RAM.
+pub const HIDDEN: &[u8] =
+    b"\x18\xa9\x02\x85\x00\xa9\x00\x85\x00\xad\x80\x02\x0a\xb0\x01\xe8\x0a\xb0\x01\xca\x85\x02\x4c\x00\xf0";
+
 /// The cartridge with a program at F000, where execution starts too; all other bytes are 0.
 pub fn cart_of<R: Abort>(rt: &R, alloc: Global, program: &[u8]) -> Cart {
     let mut image = [0u8; 4096];
@@ -40,12 +44,25 @@ pub fn counter<R: Abort>(rt: &R) -> Formula {
     expect_some(rt, Formula::new(Expression::Byte(0x80)))
 }
 
+/// Two expressions, joined by an operator.
+pub fn joined<R: Abort>(
+    rt: &R,
+    alloc: Global,
+    operator: Operator,
+    a: Expression,
+    b: Expression,
+) -> Expression {
+    let left = expect_ok(rt, Box::new(alloc, a));
+    let right = expect_ok(rt, Box::new(alloc, b));
+    Expression::Both(operator, left, right)
+}
+
 /// Whether the byte at 80 is a number.
 pub fn counter_is<R: Abort>(rt: &R, alloc: Global, number: u32) -> Formula {
-    let byte = expect_ok(rt, Box::new(alloc, Expression::Byte(0x80)));
-    let wanted = expect_ok(rt, Box::new(alloc, Expression::Number(number)));
+    let byte = Expression::Byte(0x80);
+    let wanted = Expression::Number(number);
     expect_some(
         rt,
-        Formula::new(Expression::Both(Operator::Equal, byte, wanted)),
+        Formula::new(joined(rt, alloc, Operator::Equal, byte, wanted)),
     )
 }

@@ -4,6 +4,8 @@
 #[cfg(test)]
 mod checks;
 #[cfg(test)]
+mod expression_tests;
+#[cfg(test)]
 mod goals;
 #[cfg(test)]
 mod plain;

@@ -20,15 +20,22 @@ pub fn sequence<R: Abort>(rt: &R, alloc: Global, number: usize, count: usize) ->
     choices
 }
 
-/// The byte at 80 after a sequence, where nothing halts before its end.
-pub fn counter_after(cart: &Cart, inputs: &[Input; 3], choices: &[usize]) -> Option<u8> {
+/// The byte at 80 after a sequence of choices that are held for `hold` frames, where nothing halts before its last one.
+pub fn counter_after(
+    cart: &Cart,
+    inputs: &[Input; 3],
+    hold: usize,
+    choices: &[usize],
+) -> Option<u8> {
     let mut state = State::power_on(cart);
     for choice in choices {
         if state.halted().is_some() {
             return None;
         }
-        let mut meter = Meter::new();
-        let _ = play_unseen(cart, &mut state, inputs[*choice % 3], &mut meter);
+        for _ in 0..hold {
+            let mut meter = Meter::new();
+            let _ = play_unseen(cart, &mut state, inputs[*choice % 3], &mut meter);
+        }
     }
     Some(state.ram()[0])
 }
@@ -39,12 +46,13 @@ pub fn shortest<R: Abort>(
     alloc: Global,
     cart: &Cart,
     inputs: &[Input; 3],
+    hold: usize,
     number: u8,
 ) -> Option<Vec<usize>> {
     for (count, size) in SIZES.iter().enumerate() {
         for k in 0..*size {
             let choices = sequence(rt, alloc, k, count);
-            if counter_after(cart, inputs, &choices) == Some(number) {
+            if counter_after(cart, inputs, hold, &choices) == Some(number) {
                 return Some(choices);
             }
         }
@@ -63,7 +71,7 @@ pub fn greatest<R: Abort>(
     let mut value = None;
     for k in 0..243 {
         let choices = sequence(rt, alloc, k, 5);
-        let other = counter_after(cart, inputs, &choices);
+        let other = counter_after(cart, inputs, 1, &choices);
         if other > value {
             value = other;
             best = Some(choices);

@@ -1,7 +1,7 @@
 //! Searches against plain ones.
 
 use crate::checks::{check_same, check_that, expect_ok};
-use crate::goals::{COUNTER, TRAP, cart_of, counter, counter_is, three_choices};
+use crate::goals::{COUNTER, HIDDEN, TRAP, cart_of, counter, counter_is, three_choices};
 use crate::plain::{greatest, shortest};
 use std::alloc::Global;
 use std::process::Abort;
@@ -25,14 +25,14 @@ fn is_same(found: &Found, wanted: &Option<Vec<usize>>) -> bool {
     }
 }
 
-/// Searches for each number, and compares with the plain search.
-fn check_numbers<R: Abort>(rt: &R, alloc: Global, cart: &Cart) {
+/// Searches for each number, each choice held for `hold` frames, and compares with the plain search.
+fn check_numbers<R: Abort>(rt: &R, alloc: Global, cart: &Cart, hold: usize) {
     let inputs = three_choices();
-    let space = Space::new(cart, State::power_on(cart), &inputs, 1);
+    let space = Space::new(cart, State::power_on(cart), &inputs, hold);
     for number in [0u8, 1, 2, 3, 4, 5, 252, 253, 255] {
         let goal = counter_is(rt, alloc, u32::from(number));
         let found = expect_ok(rt, find_shortest(alloc, &space, &goal, 5, 100));
-        let wanted = shortest(rt, alloc, cart, &inputs, number);
+        let wanted = shortest(rt, alloc, cart, &inputs, hold, number);
         check_that(rt, number, is_same(&found, &wanted));
     }
 }
@@ -40,13 +40,17 @@ fn check_numbers<R: Abort>(rt: &R, alloc: Global, cart: &Cart) {
 #[test]
 fn the_shortest_is_that_of_the_plain_search(rt: HostRuntime) {
     let alloc = rt.alloc();
-    check_numbers(&rt, alloc, &cart_of(&rt, alloc, COUNTER));
+    for hold in [1, 2] {
+        check_numbers(&rt, alloc, &cart_of(&rt, alloc, COUNTER), hold);
+    }
 }
 
 #[test]
 fn a_halt_ends_a_sequence(rt: HostRuntime) {
     let alloc = rt.alloc();
-    check_numbers(&rt, alloc, &cart_of(&rt, alloc, TRAP));
+    for hold in [1, 2] {
+        check_numbers(&rt, alloc, &cart_of(&rt, alloc, TRAP), hold);
+    }
 }
 
 #[test]
@@ -156,4 +160,80 @@ fn a_search_starts_in_a_movie(rt: HostRuntime) {
         find_shortest(alloc, &space, &counter_is(&rt, alloc, 4), 5, 100),
     );
     check_that(&rt, 4, choices_of(&found) == Some([1, 1].as_slice()));
+}
+
+#[test]
+fn states_of_equal_ram_are_told_apart(rt: HostRuntime) {
+    let alloc = rt.alloc();
+    let cart = cart_of(&rt, alloc, HIDDEN);
+    let inputs = three_choices();
+    let space = Space::new(&cart, State::power_on(&cart), &inputs, 1);
+    let goal = counter_is(&rt, alloc, 77);
+    // As many states as there are numbers of the counter in RAM.
+    for (states, layer) in [(2, 2), (4, 3), (6, 4), (8, 5)] {
+        let found = expect_ok(&rt, find_shortest(alloc, &space, &goal, 5, states));
+        check_that(
+            &rt,
+            states,
+            matches!(found, Found::Stopped(at) if at == layer),
+        );
+    }
+    let found = expect_ok(&rt, find_shortest(alloc, &space, &goal, 5, 9));
+    check_that(&rt, 9, matches!(found, Found::Nothing));
+}
+
+#[test]
+fn a_search_for_the_greatest_stops_too(rt: HostRuntime) {
+    let alloc = rt.alloc();
+    let cart = cart_of(&rt, alloc, COUNTER);
+    let inputs = three_choices();
+    let space = Space::new(&cart, State::power_on(&cart), &inputs, 1);
+    for (states, layer) in [(0, 1), (2, 2), (4, 3), (8, 5)] {
+        let found = expect_ok(
+            &rt,
+            find_extreme(alloc, &space, Aim::Most, &counter(&rt), 5, states),
+        );
+        check_that(
+            &rt,
+            states,
+            matches!(found, Found::Stopped(at) if at == layer),
+        );
+    }
+    let found = expect_ok(
+        &rt,
+        find_extreme(alloc, &space, Aim::Most, &counter(&rt), 5, 9),
+    );
+    // 255, which is one less than 0.
+    check_that(
+        &rt,
+        9,
+        choices_of(&found) == Some([0, 0, 0, 0, 2].as_slice()),
+    );
+}
+
+#[test]
+fn an_empty_layer_ends_a_search(rt: HostRuntime) {
+    let alloc = rt.alloc();
+    let cart = cart_of(&rt, alloc, TRAP);
+    let inputs = three_choices();
+    // To the right alone: the number is 2 after three frames, and there it halts.
+    let right = Space::new(&cart, State::power_on(&cart), &inputs[1..2], 1);
+    let none = Space::new(&cart, State::power_on(&cart), &[], 1);
+    let last = expect_ok(
+        &rt,
+        find_extreme(alloc, &right, Aim::Least, &counter(&rt), 3, 1),
+    );
+    check_that(&rt, 3, choices_of(&last) == Some([0, 0, 0].as_slice()));
+    for count in [4, usize::MAX] {
+        for space in [&right, &none] {
+            let best = expect_ok(
+                &rt,
+                find_extreme(alloc, space, Aim::Least, &counter(&rt), count, 1),
+            );
+            check_that(&rt, count, matches!(best, Found::Nothing));
+            let goal = counter_is(&rt, alloc, 9);
+            let found = expect_ok(&rt, find_shortest(alloc, space, &goal, count, 1));
+            check_that(&rt, count, matches!(found, Found::Nothing));
+        }
+    }
 }
