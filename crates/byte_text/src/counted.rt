@@ -21,8 +21,14 @@ pub struct WriteFault {
 /// A caller shows that all of them together can be counted: they are fewer than 2^64.
 pub fn write_counted<W: Write>(bytes: &[u8], before: usize, to: &mut W) -> Result<usize, WriteFault>
     requires { before + length bytes.now < 2 ^ 64 }
+    // `count`, `all`: all bytes are written, in order, and counted with those before.
+    // Refused: bytes_before_are_not_counted*, writer_that_takes_nothing_is_done.
     ensures count { IfOk result (λ n. n ≡ before + length bytes.now) }
     ensures all { OnOk result (Appends (W.contents to.old) (W.contents to.new) bytes.now) }
+    // `cut`, `from`: after a failed write, or one that takes no byte, the first n bytes are written, fewer than
+    // all; the fault reports n and those before.
+    // Refused: half_of_the_bytes_taken_are_counted, fault_forgets_the_bytes_before*,
+    // first_write_at_fault_forgets_the_bytes_before*.
     ensures cut { IfErr result
         (λ f. IsCutOff (W.contents to.old) (W.contents to.new) bytes.now (f.written - before)) }
     ensures from { IfErr result (λ f. before ≤ f.written) }

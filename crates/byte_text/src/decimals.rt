@@ -8,6 +8,8 @@ use std::str;
 /// The number that these decimal digits write without leading zeros; `None` where they write none
 /// below 2^64.
 pub fn read_decimal(word: &[u8]) -> Option<usize>
+    // Decimal digits without leading zeros are read as their number, where it is below 2^64, and nothing else is.
+    // Refused: number_with_a_leading_zero_is_read.
     ensures some { IfSome result (λ n. word.now ≡ decimal n) }
     ensures none { IfNone result ((n : ℕ) → n < 2 ^ 64 → word.now ≢ decimal n) }
 {

@@ -13,6 +13,7 @@ fn digit(n: u8) -> u8
 
 /// The digit of a byte's high four bits.
 pub fn high_digit(byte: u8) -> u8
+    // Refused: none, see `hex_digits`.
     ensures { result ≡ digit_of (byte / 16) }
 {
     digit(byte >> 4)
@@ -20,6 +21,7 @@ pub fn high_digit(byte: u8) -> u8
 
 /// The digit of a byte's low four bits.
 pub fn low_digit(byte: u8) -> u8
+    // Refused: none, see `hex_digits`.
     ensures { result ≡ digit_of (byte % 16) }
 {
     digit(byte & 15)
@@ -27,6 +29,8 @@ pub fn low_digit(byte: u8) -> u8
 
 /// A byte as two upper case hexadecimal digits, the high four bits first.
 pub fn hex_digits(byte: u8) -> [u8; 2]
+    // A byte's two hexadecimal digits, and each of them.
+    // Refused: digits_in_lower_case*, digits_of_a_byte_are_swapped.
     ensures { result ≡ hex_byte byte }
 {
     [high_digit(byte), low_digit(byte)]

@@ -4,7 +4,7 @@ use crate::checks::{check_that, expect_ok};
 use crate::doors::{MOVIE, TestDoor, image};
 use std::alloc::Global;
 use std::process::Abort;
-use tas_tool::edit_run;
+use tas_engines::{Whole, commands, run};
 
 /// The first line of a text without its newline, and what comes after it.
 fn first_line(text: &[u8]) -> Option<(&[u8], &[u8])> {
@@ -72,13 +72,18 @@ pub fn check_replay<R: Abort>(
 ) {
     let script = script(rt, alloc, doors, edits);
     let image = image(rt, alloc);
-    let mut cart = image.as_slice();
-    let mut lines = script.as_slice();
+    let mut files = [image.as_slice(), script.as_slice()];
     let mut movie = MOVIE;
     let mut output = Vec::new(alloc);
     expect_ok(
         rt,
-        edit_run(alloc, &mut cart, &mut lines, &mut movie, &mut output),
+        run(
+            alloc,
+            &Whole(commands::Edit),
+            &mut files,
+            &mut movie,
+            &mut output,
+        ),
     );
     check_that(rt, edits, output.as_slice() == written);
 }

@@ -7,10 +7,10 @@ use std::io::{ErrorKind, Write};
 use std::process::Abort;
 use std::sync::Wait;
 use std::thread::Threads;
+use tas_engines::{Whole, commands, run as run_command};
 use tas_tool::{
-    ToolFault, cart_talk_run, check_run, compare_run, cut_run, diff_run, digest_run, edit_run,
-    edit_with_run, export_run, film_run, lag_run, migrate_run, movie_script_run, movie_talk_run,
-    new_run, ram_run, script_run, shot_run, talk_run, trace_run,
+    ToolFault, cart_talk_run, export_run, film_run, movie_script_run, movie_talk_run, script_run,
+    talk_run,
 };
 use test_streams::Giver;
 
@@ -43,89 +43,145 @@ pub enum Engine {
     MovieTalk,
 }
 
-/// Those that read their inputs whole before they write anything.
-pub static ENGINES: [Engine; 18] = [
-    Engine::Trace,
-    Engine::Check,
-    Engine::Migrate,
-    Engine::New,
-    Engine::Shot,
-    Engine::Film,
-    Engine::Ram,
-    Engine::Digest,
-    Engine::Compare,
-    Engine::Lag,
-    Engine::Cut,
-    Engine::Edit,
-    Engine::EditWith,
-    Engine::Diff,
-    Engine::DiffReplaced,
-    Engine::Script,
-    Engine::MovieScript,
-    Engine::Export(2),
+/// What an engine reads as one of its inputs.
+#[derive(Clone, Copy)]
+pub enum Part {
+    Cart,
+    Old,
+    New,
+    Replaced,
+    Changes,
+    ChangesWith,
+    Script,
+    Talk,
+    /// It has no such input.
+    Nothing,
+}
+
+/// What an engine reads, in order.
+type Parts = [Part; 4];
+
+const CART: Parts = [Part::Cart, Part::Nothing, Part::Nothing, Part::Nothing];
+
+const MOVIE: Parts = [Part::Cart, Part::Old, Part::Nothing, Part::Nothing];
+
+const TWO_MOVIES: Parts = [Part::Cart, Part::Old, Part::New, Part::Nothing];
+
+/// An engine, what it reads, and how many of its growths end it and how many an answer tells.
+pub type Row = (Engine, Parts, (u64, u64));
+
+/// All engines. `growth_tests` says where the growths are.
+pub static ENGINES: [Row; 23] = [
+    (Engine::Trace, CART, (3, 0)),
+    (Engine::Check, MOVIE, (8, 0)),
+    (Engine::Migrate, MOVIE, (7, 0)),
+    (Engine::New, CART, (7, 0)),
+    (Engine::Shot, MOVIE, (7, 0)),
+    (Engine::Film, MOVIE, (7, 0)),
+    (Engine::Ram, MOVIE, (6, 0)),
+    (Engine::Digest, MOVIE, (15, 0)),
+    (Engine::Compare, TWO_MOVIES, (17, 0)),
+    (Engine::Lag, MOVIE, (7, 0)),
+    (Engine::Cut, MOVIE, (7, 0)),
+    (
+        Engine::Edit,
+        [Part::Cart, Part::Changes, Part::Old, Part::Nothing],
+        (10, 0),
+    ),
+    (
+        Engine::EditWith,
+        [Part::Cart, Part::ChangesWith, Part::New, Part::Old],
+        (14, 0),
+    ),
+    (Engine::Diff, TWO_MOVIES, (34, 0)),
+    (
+        Engine::DiffReplaced,
+        [Part::Cart, Part::Old, Part::Replaced, Part::Nothing],
+        (31, 0),
+    ),
+    (
+        Engine::Script,
+        [Part::Script, Part::Nothing, Part::Nothing, Part::Nothing],
+        (42, 16),
+    ),
+    (
+        Engine::MovieScript,
+        [Part::Cart, Part::Old, Part::Script, Part::Nothing],
+        (54, 14),
+    ),
+    (
+        Engine::Talk,
+        [Part::Talk, Part::Nothing, Part::Nothing, Part::Nothing],
+        (37, 27),
+    ),
+    (
+        Engine::CartTalk,
+        [Part::Cart, Part::Talk, Part::Nothing, Part::Nothing],
+        (46, 25),
+    ),
+    (
+        Engine::MovieTalk,
+        [Part::Cart, Part::Old, Part::Talk, Part::Nothing],
+        (49, 25),
+    ),
+    (Engine::Export(1), MOVIE, (34, 0)),
+    (Engine::Export(2), MOVIE, (36, 0)),
+    (Engine::Export(4), MOVIE, (38, 0)),
 ];
 
-/// Those that answer the lines of their last input one by one.
-pub static CONVERSATIONS: [Engine; 3] = [Engine::Talk, Engine::CartTalk, Engine::MovieTalk];
-
 impl Engine {
-    /// The input that it reads at this place, counted from 0; an empty one after its last.
-    pub fn input<'a>(self, bytes: &'a Bytes, place: usize) -> &'a [u8] {
-        match (self, place) {
-            (Engine::Script, 0) | (Engine::MovieScript, 2) => bytes.script.as_slice(),
-            (Engine::Talk, 0) | (Engine::CartTalk, 1) | (Engine::MovieTalk, 2) => {
-                bytes.talk.as_slice()
-            }
-            (_, 0) => bytes.cart.as_slice(),
-            (Engine::Trace | Engine::New | Engine::Script | Engine::Talk, _) => {
-                bytes.none.as_slice()
-            }
-            (Engine::Edit, 1) => bytes.changes.as_slice(),
-            (Engine::EditWith, 1) => bytes.changes_with.as_slice(),
-            (Engine::Edit, 2) | (Engine::EditWith, 3) | (_, 1) => bytes.old.as_slice(),
-            (Engine::Diff | Engine::Compare | Engine::EditWith, 2) => bytes.new.as_slice(),
-            (Engine::DiffReplaced, 2) => bytes.replaced.as_slice(),
-            _ => bytes.none.as_slice(),
-        }
+    /// Whether it answers the lines of its last input one by one. The others read their inputs whole before they write anything.
+    pub fn is_conversation(self) -> bool {
+        matches!(self, Engine::Talk | Engine::CartTalk | Engine::MovieTalk)
     }
+}
 
-    /// All of its inputs, each given by as few reads as it takes, of which none fails.
-    pub fn given(self, bytes: &Bytes) -> Given<'_> {
-        Given {
-            inputs: [
-                self.input(bytes, 0),
-                self.input(bytes, 1),
-                self.input(bytes, 2),
-                self.input(bytes, 3),
-            ],
-            at_once: usize::MAX,
-            fails_at: [0; 4],
-            kind: ErrorKind::Other,
-        }
-    }
-
-    /// How many inputs it reads.
-    pub fn count(self) -> usize {
+impl Part {
+    /// Its bytes.
+    fn bytes<'a>(self, all: &'a Bytes) -> &'a [u8] {
         match self {
-            Engine::Trace | Engine::New | Engine::Script | Engine::Talk => 1,
-            Engine::Check
-            | Engine::Migrate
-            | Engine::Shot
-            | Engine::Film
-            | Engine::Ram
-            | Engine::Digest
-            | Engine::Lag
-            | Engine::Cut
-            | Engine::Export(_)
-            | Engine::CartTalk => 2,
-            Engine::Compare
-            | Engine::Edit
-            | Engine::Diff
-            | Engine::DiffReplaced
-            | Engine::MovieScript
-            | Engine::MovieTalk => 3,
-            Engine::EditWith => 4,
+            Part::Cart => all.cart.as_slice(),
+            Part::Old => all.old.as_slice(),
+            Part::New => all.new.as_slice(),
+            Part::Replaced => all.replaced.as_slice(),
+            Part::Changes => all.changes.as_slice(),
+            Part::ChangesWith => all.changes_with.as_slice(),
+            Part::Script => all.script.as_slice(),
+            Part::Talk => all.talk.as_slice(),
+            Part::Nothing => all.none.as_slice(),
         }
+    }
+}
+
+/// The input that an engine reads at this place, counted from 0; an empty one after its last.
+pub fn input<'a>(row: Row, bytes: &'a Bytes, place: usize) -> &'a [u8] {
+    let part = row.1.get(place).copied().unwrap_or(Part::Nothing);
+    part.bytes(bytes)
+}
+
+/// How many inputs an engine reads.
+pub fn count(row: Row) -> usize {
+    let mut count = 0usize;
+    for part in row.1.iter() {
+        if !matches!(part, Part::Nothing) {
+            count = count.saturating_add(1);
+        }
+    }
+    count
+}
+
+/// All inputs of an engine, each given by as few reads as it takes, of which none fails.
+pub fn inputs_of(row: Row, bytes: &Bytes) -> Given<'_> {
+    Given {
+        inputs: [
+            input(row, bytes, 0),
+            input(row, bytes, 1),
+            input(row, bytes, 2),
+            input(row, bytes, 3),
+        ],
+        at_once: usize::MAX,
+        fails_at: [0; 4],
+        kind: ErrorKind::Other,
     }
 }
 
@@ -167,21 +223,76 @@ pub fn run<T: Wait + Threads + Sync, A: Allocator + Copy + Send + Sync, W: Write
     let mut three = given.giver(given.inputs[2], given.fails_at[2]);
     let mut four = given.giver(given.inputs[3], given.fails_at[3]);
     let (first, second, third) = (&mut one, &mut two, &mut three);
+    let mut none: [&[u8]; 0] = [];
     let end = match engine {
-        Engine::Trace => trace_run(alloc, 3, first, output),
-        Engine::Check => check_run(alloc, first, second, output),
-        Engine::Migrate => migrate_run(alloc, first, second, output),
-        Engine::New => new_run(alloc, 3, first, output),
-        Engine::Shot => shot_run(alloc, 1, first, second, output),
+        Engine::Trace => {
+            let command = commands::Trace { instructions: 3 };
+            run_command(alloc, &command, &mut none, first, output)
+        }
+        Engine::Check => run_command(alloc, &commands::Check, &mut [first], second, output),
+        Engine::Migrate => {
+            run_command(
+                alloc,
+                &Whole(commands::Migrate),
+                &mut [first],
+                second,
+                output,
+            )
+        }
+        Engine::New => {
+            run_command(
+                alloc,
+                &Whole(commands::New { frames: 3 }),
+                &mut none,
+                first,
+                output,
+            )
+        }
+        Engine::Shot => {
+            run_command(
+                alloc,
+                &commands::Shot { frame: 1 },
+                &mut [first],
+                second,
+                output,
+            )
+        }
         Engine::Film => film_run(alloc, Some(1), Some(3), first, second, output),
-        Engine::Ram => ram_run(alloc, 1, 4, first, second, output),
-        Engine::Digest => digest_run(alloc, 2, first, second, output),
-        Engine::Compare => compare_run(alloc, first, second, third, output),
-        Engine::Lag => lag_run(alloc, first, second, output),
-        Engine::Cut => cut_run(alloc, 1, 3, first, second, output),
-        Engine::Edit => edit_run(alloc, first, second, third, output),
-        Engine::EditWith => edit_with_run(alloc, first, second, third, &mut four, output),
-        Engine::Diff | Engine::DiffReplaced => diff_run(alloc, first, second, third, output),
+        Engine::Ram => {
+            let command = commands::Ram { from: 1, to: 4 };
+            run_command(alloc, &command, &mut [first], second, output)
+        }
+        Engine::Digest => {
+            let command = Whole(commands::Digest { every: 2 });
+            run_command(alloc, &command, &mut [first], second, output)
+        }
+        Engine::Compare => {
+            let mut files = [first, second];
+            run_command(alloc, &Whole(commands::Compare), &mut files, third, output)
+        }
+        Engine::Lag => run_command(alloc, &Whole(commands::Lag), &mut [first], second, output),
+        Engine::Cut => {
+            let command = Whole(commands::Cut { from: 1, to: 3 });
+            run_command(alloc, &command, &mut [first], second, output)
+        }
+        Engine::Edit => {
+            let mut files = [first, second];
+            run_command(alloc, &Whole(commands::Edit), &mut files, third, output)
+        }
+        Engine::EditWith => {
+            let mut files = [first, second, third];
+            run_command(
+                alloc,
+                &Whole(commands::EditWith),
+                &mut files,
+                &mut four,
+                output,
+            )
+        }
+        Engine::Diff | Engine::DiffReplaced => {
+            let mut files = [first, second];
+            run_command(alloc, &Whole(commands::Diff), &mut files, third, output)
+        }
         Engine::Script => script_run(rt, alloc, first, output),
         Engine::MovieScript => movie_script_run(rt, alloc, first, second, third, output),
         Engine::Export(workers) => export_run(rt, alloc, 1, 3, workers, first, second, output),
@@ -196,11 +307,11 @@ pub fn run<T: Wait + Threads + Sync, A: Allocator + Copy + Send + Sync, W: Write
 pub fn whole_of<T: Wait + Threads + Sync + Abort>(
     rt: &T,
     alloc: Global,
-    engine: Engine,
+    row: Row,
     bytes: &Bytes,
 ) -> Vec<u8> {
     let mut whole = Vec::new(alloc);
-    let (end, _reads) = run(rt, alloc, engine, engine.given(bytes), &mut whole);
-    check_same(rt, engine, end, Ok(()));
+    let (end, _reads) = run(rt, alloc, row.0, inputs_of(row, bytes), &mut whole);
+    check_same(rt, row.0, end, Ok(()));
     whole
 }

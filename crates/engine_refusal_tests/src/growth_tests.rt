@@ -1,7 +1,7 @@
 //! Growths that are refused.
 
 use crate::checks::check_same;
-use crate::engines::{Engine, run, whole_of};
+use crate::engines::{ENGINES, Engine, Row, inputs_of, run, whole_of};
 use crate::heaps::refusing;
 use crate::inputs::{Bytes, make_inputs};
 use std::alloc::Global;
@@ -30,8 +30,7 @@ enum Run {
 fn is_start(engine: Engine, output: &[u8], whole: &[u8]) -> bool {
     let are_answers = match engine {
         Engine::Script | Engine::MovieScript => output.ends_with(b"\n"),
-        Engine::Talk | Engine::CartTalk | Engine::MovieTalk => true,
-        _ => false,
+        _ => engine.is_conversation(),
     };
     output.is_empty() || are_answers && whole.starts_with(output)
 }
@@ -106,15 +105,15 @@ fn run_of(
 fn run_refused<T: Wait + Threads + Sync>(
     rt: &T,
     alloc: Global,
-    engine: Engine,
+    row: Row,
     bytes: &Bytes,
     whole: &[u8],
     number: u64,
 ) -> Run {
     let heap = refusing(alloc, number);
     let mut output = Vec::new(alloc);
-    let (end, _reads) = run(rt, &heap, engine, engine.given(bytes), &mut output);
-    run_of(engine, end, output.as_slice(), whole, heap.has_refused())
+    let (end, _reads) = run(rt, &heap, row.0, inputs_of(row, bytes), &mut output);
+    run_of(row.0, end, output.as_slice(), whole, heap.has_refused())
 }
 
 /// Refuses an engine its growths in turn, until it grows no more: how many of them ended it, and how many an answer told. Else the
@@ -122,13 +121,13 @@ fn run_refused<T: Wait + Threads + Sync>(
 fn count_refused<T: Wait + Threads + Sync>(
     rt: &T,
     alloc: Global,
-    engine: Engine,
+    row: Row,
     bytes: &Bytes,
     whole: &[u8],
 ) -> Result<(u64, u64), (u64, &'static str)> {
     let (mut refused, mut replied) = (0u64, 0u64);
     for number in 1..MOST {
-        match run_refused(rt, alloc, engine, bytes, whole, number) {
+        match run_refused(rt, alloc, row, bytes, whole, number) {
             Run::Done => break,
             Run::Replied => replied = replied.saturating_add(1),
             Run::Refused => refused = refused.saturating_add(1),
@@ -139,21 +138,15 @@ fn count_refused<T: Wait + Threads + Sync>(
 }
 
 /// Fails where another number of an engine's growths end it, or another number is told by an answer.
-fn check_engine<T: Wait + Threads + Sync + Abort>(
-    rt: &T,
-    alloc: Global,
-    engine: Engine,
-    bytes: &Bytes,
-    wanted: (u64, u64),
-) {
-    let whole = whole_of(rt, alloc, engine, bytes);
-    let counts = count_refused(rt, alloc, engine, bytes, whole.as_slice());
-    check_same(rt, engine, counts, Ok(wanted));
+fn check_engine<T: Wait + Threads + Sync + Abort>(rt: &T, alloc: Global, row: Row, bytes: &Bytes) {
+    let whole = whole_of(rt, alloc, row, bytes);
+    let counts = count_refused(rt, alloc, row, bytes, whole.as_slice());
+    check_same(rt, row.0, counts, Ok(row.2));
 }
 
-/// Each engine, how many of its growths end it, and how many an answer tells.
+/// Each engine's growths are refused in turn. `ENGINES` has how many of them end it, and how many an answer tells.
 ///
-/// An input that isn't empty has one for its bytes, here, a cartridge one, and a movie that is read two: a copy of the cartridge, and its
+/// A command that `run` runs has one for the list of its inputs, which isn't counted below. An input that isn't empty has one for its bytes, here, a cartridge one, and a movie that is read two: a copy of the cartridge, and its
 /// inputs. A line is written piece by piece: its room is 8 bytes at first, and at least doubles. So:
 ///
 /// - `Trace`: an input and a cartridge. `Check`, `Migrate`, `Shot`: two inputs, a cartridge and a movie, and two of a line, a text
@@ -178,38 +171,12 @@ fn check_engine<T: Wait + Threads + Sync + Abort>(
 ///   cartridge, a new movie of it, the 17 and the two edits without inputs to copy, 5.
 /// - `Export`: the first 29 of `MovieScript`; the movie's copy, the list of runs, and for each run a picture, and room for its pixmaps where
 ///   it has frames.
-static GROWTHS: [(Engine, u64, u64); 23] = [
-    (Engine::Trace, 2, 0),
-    (Engine::Check, 7, 0),
-    (Engine::Migrate, 6, 0),
-    (Engine::New, 6, 0),
-    (Engine::Shot, 6, 0),
-    (Engine::Film, 7, 0),
-    (Engine::Ram, 5, 0),
-    (Engine::Digest, 14, 0),
-    (Engine::Compare, 16, 0),
-    (Engine::Lag, 6, 0),
-    (Engine::Cut, 6, 0),
-    (Engine::Edit, 9, 0),
-    (Engine::EditWith, 13, 0),
-    (Engine::Diff, 33, 0),
-    (Engine::DiffReplaced, 30, 0),
-    (Engine::Script, 42, 16),
-    (Engine::MovieScript, 54, 14),
-    (Engine::Talk, 37, 27),
-    (Engine::CartTalk, 46, 25),
-    (Engine::MovieTalk, 49, 25),
-    (Engine::Export(1), 34, 0),
-    (Engine::Export(2), 36, 0),
-    (Engine::Export(4), 38, 0),
-];
-
 #[test]
 fn each_growth_refused(rt: HostRuntime) {
     let alloc = rt.alloc();
     let bytes = make_inputs(&rt, alloc);
-    for row in GROWTHS.iter() {
-        let (engine, growths, replies) = *row;
-        check_engine(&rt, alloc, engine, &bytes, (growths, replies));
+    let engines = ENGINES;
+    for row in engines.iter() {
+        check_engine(&rt, alloc, *row, &bytes);
     }
 }

@@ -9,17 +9,23 @@ use std::io;
 use std::io::{Error, ErrorKind};
 use std::process::Abort;
 use std::sync::Wait;
+use std::sync::atomic::{AtomicUsize, Ordering};
 use std::thread::Threads;
 use tas_program::{Folder, OrdinaryFile, Permit, Streams, run_program};
-use test_streams::{Giver, Taker};
+use test_streams::{Failure, Giver, Room, Taker};
 
-/// A folder with one file, `game.bin`.
+/// A folder with the files `game.bin` and `fix.script`, in which a file `new` can be made. It counts how often this is renamed.
 #[derive(Drop)]
-struct OneFile<'a> {
+struct TwoFiles<'a> {
+    alloc: Global,
     game: &'a [u8],
+    renames: AtomicUsize,
 }
 
-impl<'a> Folder for OneFile<'a> {
+/// The script `fix.script`.
+const SCRIPT: &[u8] = b"delete 0 1\n";
+
+impl<'a> Folder for TwoFiles<'a> {
     type File = Giver<'a>;
 
     type Sink = Taker;
@@ -31,6 +37,8 @@ impl<'a> Folder for OneFile<'a> {
     fn open(&self, name: &str) -> io::Result<Giver<'a>> {
         if name == "game.bin" {
             Ok(Giver::new(self.game, usize::MAX, 0))
+        } else if name == "fix.script" {
+            Ok(Giver::new(SCRIPT, usize::MAX, 0))
         } else {
             Err(Error::from(ErrorKind::NotFound))
         }
@@ -39,25 +47,41 @@ impl<'a> Folder for OneFile<'a> {
     fn open_to_write(&self, _permit: Permit, _name: &str) -> io::Result<Taker> {
         Err(Error::from(ErrorKind::NotFound))
     }
+
+    fn create_new(&self, _permit: Permit, _name: &str) -> io::Result<Taker> {
+        Ok(Taker::new(self.alloc, 1000, Room::Bytes(1000), Failure::Error))
+    }
+
+    fn sync(&self, _sink: &mut Taker) -> io::Result<()> {
+        Ok(())
+    }
+
+    fn rename(&self, _permit: Permit, _from: &str, _to: &str) -> io::Result<()> {
+        self.renames.fetch_add(1, Ordering::SeqCst);
+        Ok(())
+    }
 }
 
-/// How the program ended: its status, what it wrote, and what it told of faults.
+/// How the program ended: its status, what it wrote, what it told of faults, and how often it renamed a file.
 #[derive(Drop)]
 struct End {
     status: u8,
     written: Vec<u8>,
     told: Vec<u8>,
+    renames: usize,
 }
 
 /// Whether two ends are alike.
 fn are_alike(one: &End, other: &End) -> bool {
-    one.status == other.status && one.written == other.written && one.told == other.told
+    (one.status, one.renames) == (other.status, other.renames)
+        && one.written == other.written
+        && one.told == other.told
 }
 
-/// Whether it ended out of memory, with nothing written.
+/// Whether it ended out of memory, with nothing written and no file renamed.
 fn is_refused(end: &End) -> bool {
     let line = b"fault: out of memory\n".as_slice();
-    end.status == 1 && end.written.is_empty() && end.told.as_slice() == line
+    (end.status, end.renames) == (1, 0) && end.written.is_empty() && end.told.as_slice() == line
 }
 
 /// These words in memory of the heap; none stand for some that aren't text.
@@ -91,11 +115,17 @@ fn run_refused<T: Wait + Threads + Abort + Sync>(
         output: &mut written,
         errors: &mut told,
     };
-    let status = run_program(rt, alloc, &heap, words, &OneFile { game }, &mut streams).code();
+    let folder = TwoFiles {
+        alloc,
+        game,
+        renames: AtomicUsize::new(0),
+    };
+    let status = run_program(rt, alloc, &heap, words, &folder, &mut streams).code();
     let end = End {
         status,
         written,
         told,
+        renames: folder.renames.load(Ordering::SeqCst),
     };
     (end, heap.has_refused())
 }
@@ -127,16 +157,23 @@ fn count_refused<T: Wait + Threads + Abort + Sync>(
 
 /// Words, whether the input is the cartridge or a movie of three frames, how many growths end the program, and at how many it ends as ever.
 ///
-/// A text of clap's, or that the words aren't text, has one growth, and a task those of its engine: `trace` 2, `check` 7, `shot` 5 before it
-/// misses the frame, `export` by one worker 34 and by two 36. The list of words has one, for all of them, and where it is refused asks for less. A fault's
-/// line of 23 bytes has three, its room and twice more of it; where they are refused it goes out in pieces.
-static RUNS: [(&[&str], bool, u64, u64); 8] = [
+/// A text of clap's, or that the words aren't text, has one growth, and a task those of its engine: `trace` 3, `check` 9 with the list of its files, `shot` 7 before it
+/// misses the frame, `edit` 9, and with `-o` three more for the text that is held and the name of the new file, `export` by one worker 34 and by
+/// two 36. The list of words has one, for all of them, and where it is refused asks for less. A fault's line of 23 bytes has three, its room and twice more of it; where they are refused it goes out in pieces.
+static RUNS: [(&[&str], bool, u64, u64); 10] = [
     (&[], false, 1, 0),
     (&["tas", "play"], false, 1, 1),
     (&["tas", "--version"], false, 1, 1),
-    (&["tas", "trace", "3"], true, 2, 1),
-    (&["tas", "check", "game.bin"], false, 7, 1),
-    (&["tas", "shot", "game.bin", "9"], false, 5, 4),
+    (&["tas", "trace", "3"], true, 3, 1),
+    (&["tas", "check", "game.bin"], false, 9, 1),
+    (&["tas", "shot", "game.bin", "9"], false, 7, 4),
+    (&["tas", "edit", "game.bin", "fix.script"], false, 9, 1),
+    (
+        &["tas", "edit", "game.bin", "fix.script", "-o", "new"],
+        false,
+        12,
+        1,
+    ),
     (&["tas", "export", "game.bin", "1", "3", "1"], false, 34, 1),
     (&["tas", "export", "game.bin", "1", "3", "2"], false, 36, 1),
 ];

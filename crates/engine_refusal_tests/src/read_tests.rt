@@ -1,7 +1,7 @@
 //! Reads that fail, give one byte, or end early.
 
 use crate::checks::{check_same, check_that};
-use crate::engines::{CONVERSATIONS, ENGINES, Engine, Given, Ran, run, whole_of};
+use crate::engines::{ENGINES, Engine, Given, Ran, Row, count, input, inputs_of, run, whole_of};
 use crate::inputs::{Bytes, make_inputs};
 use std::alloc::Global;
 use std::io::ErrorKind;
@@ -44,12 +44,12 @@ fn written_before(engine: Engine, input: usize, read: usize, whole: &[u8]) -> &[
 }
 
 /// How often each input is read where no read fails: n times for its bytes, and once at its end.
-fn whole_reads(engine: Engine, bytes: &Bytes) -> [usize; 4] {
+fn whole_reads(engine: Row, bytes: &Bytes) -> [usize; 4] {
     let mut reads = [0; 4];
-    for input in 0..engine.count() {
-        if input < 4 {
-            let size = engine.input(bytes, input).len();
-            reads[input] = size.div_ceil(AT_ONCE).saturating_add(1);
+    for place in 0..count(engine) {
+        if place < 4 {
+            let size = input(engine, bytes, place).len();
+            reads[place] = size.div_ceil(AT_ONCE).saturating_add(1);
         }
     }
     reads
@@ -77,7 +77,7 @@ static KINDS: [(ErrorKind, &str); 2] = [
 fn failed_reads<T: Wait + Threads + Sync + Abort>(
     rt: &T,
     alloc: Global,
-    (engine, input): (Engine, usize),
+    (engine, input): (Row, usize),
     (kind, name): (ErrorKind, &'static str),
     bytes: &Bytes,
     whole: &[u8],
@@ -89,11 +89,11 @@ fn failed_reads<T: Wait + Threads + Sync + Abort>(
             at_once: AT_ONCE,
             fails_at: reads_up_to([0; 4], input, read),
             kind,
-            ..engine.given(bytes)
+            ..inputs_of(engine, bytes)
         };
         let mut output = Vec::new(alloc);
-        let ran = run(rt, alloc, engine, given, &mut output);
-        let case = (name, engine, input, read);
+        let ran = run(rt, alloc, engine.0, given, &mut output);
+        let case = (name, engine.0, input, read);
         let found = (ran, output.as_slice());
         if ran.0.is_ok() {
             check_ran(rt, case, found, ((Ok(()), reads), whole));
@@ -103,7 +103,7 @@ fn failed_reads<T: Wait + Threads + Sync + Abort>(
             Err(ToolFault::Read(ReadFault::Failed)),
             reads_up_to(reads, input, read),
         );
-        let written = written_before(engine, input, read, whole);
+        let written = written_before(engine.0, input, read, whole);
         check_ran(rt, case, found, (end, written));
         failed = read;
     }
@@ -114,18 +114,18 @@ fn failed_reads<T: Wait + Threads + Sync + Abort>(
 fn check_bytewise<T: Wait + Threads + Sync + Abort>(
     rt: &T,
     alloc: Global,
-    engine: Engine,
+    engine: Row,
     bytes: &Bytes,
     whole: &[u8],
 ) {
     let given = Given {
         at_once: 1,
-        ..engine.given(bytes)
+        ..inputs_of(engine, bytes)
     };
     let mut output = Vec::new(alloc);
-    let (end, _reads) = run(rt, alloc, engine, given, &mut output);
-    check_same(rt, engine, end, Ok(()));
-    check_that(rt, engine, output.as_slice() == whole);
+    let (end, _reads) = run(rt, alloc, engine.0, given, &mut output);
+    check_same(rt, engine.0, end, Ok(()));
+    check_that(rt, engine.0, output.as_slice() == whole);
 }
 
 /// Each read of an engine fails in turn: one that gives the last bytes of an input, and one that gives none, too. An input that an
@@ -133,7 +133,7 @@ fn check_bytewise<T: Wait + Threads + Sync + Abort>(
 fn check_reads<T: Wait + Threads + Sync + Abort>(
     rt: &T,
     alloc: Global,
-    engine: Engine,
+    engine: Row,
     bytes: &Bytes,
 ) {
     let whole = whole_of(rt, alloc, engine, bytes);
@@ -141,7 +141,7 @@ fn check_reads<T: Wait + Threads + Sync + Abort>(
     for (input, wanted) in reads.iter().enumerate() {
         for row in KINDS.iter() {
             let failed = failed_reads(rt, alloc, (engine, input), *row, bytes, &whole);
-            check_same(rt, ("failed reads", engine, input), failed, *wanted);
+            check_same(rt, ("failed reads", engine.0, input), failed, *wanted);
         }
     }
     check_bytewise(rt, alloc, engine, bytes, &whole);
@@ -151,7 +151,8 @@ fn check_reads<T: Wait + Threads + Sync + Abort>(
 fn each_read_failing_and_one_byte_at_each(rt: HostRuntime) {
     let alloc = rt.alloc();
     let bytes = make_inputs(&rt, alloc);
-    for engine in ENGINES.iter().chain(CONVERSATIONS.iter()) {
+    let engines = ENGINES;
+    for engine in engines.iter() {
         check_reads(&rt, alloc, *engine, &bytes);
     }
 }
@@ -180,27 +181,30 @@ fn early_end(engine: Engine, input: usize) -> ToolFault {
 fn check_cut<T: Wait + Threads + Sync + Abort>(
     rt: &T,
     alloc: Global,
-    engine: Engine,
+    engine: Row,
     bytes: &Bytes,
     input: usize,
 ) {
-    let mut given = engine.given(bytes);
+    let mut given = inputs_of(engine, bytes);
     if let Some(cut) = given.inputs.get_mut(input) {
         *cut = cut_short(cut);
     }
     let mut output = Vec::new(alloc);
-    let (end, _reads) = run(rt, alloc, engine, given, &mut output);
-    let fault = early_end(engine, input);
-    check_same(rt, ("cut", engine, input), end, Err(fault));
+    let (end, _reads) = run(rt, alloc, engine.0, given, &mut output);
+    let fault = early_end(engine.0, input);
+    check_same(rt, ("cut", engine.0, input), end, Err(fault));
 }
 
 #[test]
 fn inputs_that_end_early(rt: HostRuntime) {
     let alloc = rt.alloc();
     let bytes = make_inputs(&rt, alloc);
-    for engine in ENGINES.iter() {
-        for input in 0..engine.count() {
-            check_cut(&rt, alloc, *engine, &bytes, input);
+    let engines = ENGINES;
+    for engine in engines.iter() {
+        if !engine.0.is_conversation() {
+            for input in 0..count(*engine) {
+                check_cut(&rt, alloc, *engine, &bytes, input);
+            }
         }
     }
 }

@@ -172,6 +172,9 @@ const BRIEF: &[Refusal] = &[Refusal::Ended];
 /// Those of a look that plays frames and keeps states, and then takes memory for what it shows.
 const PLAYED: &[Refusal] = &[Refusal::Undone, Refusal::Done];
 
+/// Those of a look that takes memory for what it shows alone.
+const TOLD: &[Refusal] = &[Refusal::Done];
+
 /// Those of a look that leaves the kept states as they are, so that it doesn't show how far it came.
 const SHOWN: &[Refusal] = &[Refusal::Undone];
 
@@ -219,9 +222,9 @@ static ABOUT_MOVIE: [About; 7] = [
 static ABOUT_DRAFT: [About; 8] = [
     (b"shot 127\n", CALL, b"states 3 2 64 128\n"),
     (b"picture 127\n", PLAYED, b"states 3 2 64 128\n"),
-    (b"ram 128\n", PLAYED, b"states 3 2 64 128\n"),
-    (b"digest 130\n", PLAYED, b"states 3 2 64 128\n"),
-    (b"lag 130 132\n", PLAYED, b"states 3 2 64 128\n"),
+    (b"ram 128\n", TOLD, b"states 3 2 64 128\n"),
+    (b"digest 130\n", TOLD, b"states 3 2 64 128\n"),
+    (b"lag 130 132\n", TOLD, b"states 3 2 64 128\n"),
     (b"work 192\n", CALL, b"states 3 3 64 128 192\n"),
     (b"movie\n", SHOWN, b"states 3 1 64\n"),
     (b"states\n", SHOWN, b"states 3 1 64\n"),
@@ -349,12 +352,13 @@ fn times_not_begun<T: Wait + Abort>(rt: &T, alloc: Global, shot: &'static [u8]) 
     conversation.times_undone(rt, alloc)
 }
 
-/// A `begin` takes two copies of the movie, each with its cartridge and its inputs, and one of the kept states, if there are any.
+/// A `begin` takes two copies of the movie, each with its cartridge and its inputs, and a view's two lists,
+/// whatever states there are.
 #[test]
 fn begins_copy_states(rt: HostRuntime) {
     let alloc = rt.alloc();
-    check_same(&rt, "no state", times_not_begun(&rt, alloc, b"shot 3\n"), 4);
-    check_same(&rt, "states", times_not_begun(&rt, alloc, b"shot 191\n"), 5);
+    check_same(&rt, "no state", times_not_begun(&rt, alloc, b"shot 3\n"), 6);
+    check_same(&rt, "states", times_not_begun(&rt, alloc, b"shot 191\n"), 6);
 }
 
 /// A `share` after an edit copies the movie, and may be out of memory then. In a draft only its answer takes memory, since `begin` has made

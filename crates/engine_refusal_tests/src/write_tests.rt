@@ -1,7 +1,7 @@
 //! Writes that fail, take a few bytes, or take none.
 
 use crate::checks::{check_same, check_that};
-use crate::engines::{CONVERSATIONS, Engine, Given, run, whole_of};
+use crate::engines::{ENGINES, Engine, Given, Row, inputs_of, run, whole_of};
 use crate::inputs::{Bytes, make_inputs};
 use std::alloc::Global;
 use std::process::Abort;
@@ -61,7 +61,7 @@ fn fail_each<T: Wait + Threads + Abort + Sync>(
     rt: &T,
     alloc: Global,
     bytes: &Bytes,
-    engine: Engine,
+    engine: Row,
     at_once: usize,
 ) {
     let whole = whole_of(rt, alloc, engine, bytes);
@@ -69,7 +69,7 @@ fn fail_each<T: Wait + Threads + Abort + Sync>(
         fail_so(
             rt,
             alloc,
-            (engine, engine.given(bytes)),
+            (engine.0, inputs_of(engine, bytes)),
             whole.as_slice(),
             at_once,
             *row,
@@ -100,67 +100,76 @@ fn fail_so<T: Wait + Threads + Abort + Sync>(
     check_that(rt, ("an end", engine, name), has_ended);
 }
 
-/// Engines that write a text.
-static TEXTS: [Engine; 14] = [
-    Engine::Trace,
-    Engine::Check,
-    Engine::Migrate,
-    Engine::New,
-    Engine::Ram,
-    Engine::Compare,
-    Engine::Lag,
-    Engine::Cut,
-    Engine::Edit,
-    Engine::EditWith,
-    Engine::Diff,
-    Engine::DiffReplaced,
-    Engine::Script,
-    Engine::MovieScript,
-];
+/// What an engine writes, or how much of it a writer takes at once.
+#[derive(Clone, Copy, PartialEq, Eq)]
+enum Written {
+    /// Seven bytes at a time.
+    Text,
+    /// A line or so at a time: each run plays, draws and hashes the movie anew.
+    Digest,
+    /// A row at a time.
+    Shot,
+    Film,
+    Export,
+    /// One of its answers, a picture, takes three writes.
+    Conversation,
+}
 
-/// Each write of each of these engines fails in turn.
-fn fail_all<T: Wait + Threads + Abort + Sync>(
-    rt: &T,
-    alloc: Global,
-    engines: &[Engine],
-    at_once: usize,
-) {
-    let bytes = make_inputs(rt, alloc);
-    for engine in engines {
-        fail_each(rt, alloc, &bytes, *engine, at_once);
+/// What an engine writes; none where its writes are those of another.
+fn kind_of(engine: Engine) -> Option<Written> {
+    match engine {
+        Engine::Digest => Some(Written::Digest),
+        Engine::Shot => Some(Written::Shot),
+        Engine::Film => Some(Written::Film),
+        Engine::Export(2) => Some(Written::Export),
+        Engine::Export(_) => None,
+        _ if engine.is_conversation() => Some(Written::Conversation),
+        _ => Some(Written::Text),
     }
 }
 
-/// Seven bytes at a time.
+/// Each write of each engine that writes this fails in turn.
+fn fail_all<T: Wait + Threads + Abort + Sync>(
+    rt: &T,
+    alloc: Global,
+    wanted: Written,
+    at_once: usize,
+) {
+    let bytes = make_inputs(rt, alloc);
+    let engines = ENGINES;
+    for row in engines.iter() {
+        if kind_of(row.0) == Some(wanted) {
+            fail_each(rt, alloc, &bytes, *row, at_once);
+        }
+    }
+}
+
 #[test]
 fn each_write_of_a_text(rt: HostRuntime) {
-    fail_all(&rt, rt.alloc(), TEXTS.as_slice(), 7);
+    fail_all(&rt, rt.alloc(), Written::Text, 7);
 }
 
-/// A line or so at a time: each run plays, draws and hashes the movie anew.
 #[test]
 fn each_write_of_a_digest(rt: HostRuntime) {
-    fail_all(&rt, rt.alloc(), &[Engine::Digest], 150);
+    fail_all(&rt, rt.alloc(), Written::Digest, 150);
 }
 
-/// A row at a time.
 #[test]
 fn each_write_of_a_shot(rt: HostRuntime) {
-    fail_all(&rt, rt.alloc(), &[Engine::Shot], 1000);
+    fail_all(&rt, rt.alloc(), Written::Shot, 1000);
 }
 
 #[test]
 fn each_write_of_a_film(rt: HostRuntime) {
-    fail_all(&rt, rt.alloc(), &[Engine::Film], 1000);
+    fail_all(&rt, rt.alloc(), Written::Film, 1000);
 }
 
 #[test]
 fn each_write_of_an_export(rt: HostRuntime) {
-    fail_all(&rt, rt.alloc(), &[Engine::Export(2)], 1000);
+    fail_all(&rt, rt.alloc(), Written::Export, 1000);
 }
 
-/// One of a conversation's answers, a picture, takes three writes.
 #[test]
 fn each_write_of_a_conversation(rt: HostRuntime) {
-    fail_all(&rt, rt.alloc(), CONVERSATIONS.as_slice(), 50_000);
+    fail_all(&rt, rt.alloc(), Written::Conversation, 50_000);
 }

@@ -3,7 +3,7 @@
 use crate::checks::{check_same, expect_ok, expect_some};
 use crate::desks::{OpenGate, Place, run_call};
 use crate::edits::{Change, edit_of};
-use crate::fixtures::{BRIEF, has_first_two, has_lacked, image, played, right};
+use crate::fixtures::{BRIEF, has_lacked, image, played, right};
 use crate::plans::Append;
 use crate::runs::{Heap, NEVER, NOT_AS_BEFORE, NOT_TOLD, Run, count_growths, is_over, refuse};
 use std::alloc::{AllocError, Global};
@@ -44,8 +44,8 @@ pub enum Call {
     FirstState,
     /// Seat 0, whose zone keeps two states of the movie, does.
     State,
-    /// The zone of seat 0, which keeps two states of the movie, is copied.
-    CopyZone,
+    /// The view of seat 0, which keeps two states of the movie, is copied.
+    CopyView,
     /// Seat 1, whose zone is empty, shares the desk's two states.
     Share,
     /// Seat 1 takes a job for all 400 frames.
@@ -151,11 +151,12 @@ impl<'a, N: Name, W: CloseOnDrop, R: Wait + Abort> Place<'_, 'a, N, W, R> {
         }
     }
 
-    /// A copy of the seat's zone: whether it keeps the two states that the zone keeps, as before.
-    fn copy_zone(&mut self, number: u64) -> Result<bool, AllocError> {
+    /// A copy of the seat's view: whether it keeps the two states that the zone keeps, as before.
+    fn copy_view(&mut self, number: u64) -> Result<bool, AllocError> {
         refuse(self.heap, number);
-        let copy = self.seat.copy_zone(self.heap)?;
-        Ok(has_first_two(&copy) && self.zone() == (2, 400))
+        let copy = self.seat.view().copy(self.heap)?;
+        let has_both = copy.count() == 2 && copy.holds(64) && copy.holds(128);
+        Ok(has_both && copy.movie().len() == 400 && self.zone() == (2, 400))
     }
 
     /// A share: whether the seat's zone gains the desk's two states.
@@ -221,7 +222,7 @@ impl<'a, N: Name, W: CloseOnDrop, R: Wait + Abort> Place<'_, 'a, N, W, R> {
             Call::Picture => self.picture(256, number),
             Call::FirstState => self.state(384, number),
             Call::State => self.state(256, number),
-            Call::CopyZone => self.copy_zone(number),
+            Call::CopyView => self.copy_view(number),
             Call::Share => self.share(number),
             Call::Job => self.job(number),
             Call::Offer => self.offer(held, number),
@@ -341,8 +342,8 @@ pub fn take_call<N: Name, W: CloseOnDrop, R: Wait + Abort>(
 
 /// Each call, and how many growths it has. An edit has those of its second copy and of the journal, as in a session; one that depends on the movie has that of its inputs,
 /// too, and a step of two those of both second copies and of the journal. The history has its list, and those of a cartridge and of two lists of inputs. A shot and a picture have that of the picture; the first one copies a movie before, which has two, and so do the first state and a share. A
-/// state has none else: a zone takes the room of its lists when it is made. A copy of a zone has that of its list. A job has
-/// those of its cartridge, its inputs and its list of states, an offer that of the desk's list, and work on two targets those of two
+/// state has none else: a zone takes the room of its lists when it is made. A copy of a view has those of its movie, two, and of its two
+/// lists. A job has those of its cartridge, its inputs and its list of states, an offer that of the desk's list, and work on two targets those of two
 /// jobs and of the list.
 static CALLS: [(Call, &str, u64); 18] = [
     (Call::Edit(Change::Load), "Edit(Load)", 2),
@@ -370,7 +371,7 @@ static CALLS: [(Call, &str, u64); 18] = [
     (Call::Picture, "Picture", 1),
     (Call::FirstState, "FirstState", 2),
     (Call::State, "State", 0),
-    (Call::CopyZone, "CopyZone", 1),
+    (Call::CopyView, "CopyView", 4),
     (Call::Share, "Share", 2),
     (Call::Job, "Job", 3),
     (Call::Offer, "Offer", 1),

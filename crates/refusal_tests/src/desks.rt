@@ -133,7 +133,7 @@ fn take_at<'a, N: Name, R: Wait + Abort>(
         }
     }
     let seat = match call {
-        Call::Shot | Call::Picture | Call::State | Call::CopyZone => one,
+        Call::Shot | Call::Picture | Call::State | Call::CopyView => one,
         _ => other,
     };
     let mut place = Place {

@@ -19,7 +19,6 @@ use vcs_tia::Picture;
 #[derive(Clone, Copy)]
 enum Seeking {
     Shot,
-    Reach,
     Merge,
     Gain,
     TakeJob,
@@ -28,14 +27,13 @@ enum Seeking {
 
 /// Each such call, its name, and how many growths it has: a zone's list of states has one, a job those of its cartridge, its inputs
 /// and its list of states. A view has two when it is made, beside the two of its movie, and none later; then a job of it has its
-/// three, and a copy of its states one.
-static SEEKINGS: [(Seeking, &str, u64); 6] = [
+/// three, a copy of its states one, and a copy of all of it as many as the view.
+static SEEKINGS: [(Seeking, &str, u64); 5] = [
     (Seeking::Shot, "Shot", 1),
-    (Seeking::Reach, "Reach", 1),
     (Seeking::Merge, "Merge", 1),
     (Seeking::Gain, "Gain", 1),
     (Seeking::TakeJob, "TakeJob", 3),
-    (Seeking::View, "View", 8),
+    (Seeking::View, "View", 13),
 ];
 
 /// What the calls are given, and don't change.
@@ -120,7 +118,7 @@ fn shows(picture: &Picture, meter: &Meter, ran: u64) -> bool {
 }
 
 /// Whether a view of the movie that has all its states draws a black frame, and has the state after it then.
-fn draws(view: &mut View<&Heap>, picture: &mut Picture, given: &Given) -> bool {
+fn draws<B: Allocator>(view: &mut View<&Heap>, picture: &mut Picture<B>, given: &Given) -> bool {
     let Ok(viewed) = view.picture(383, picture) else {
         return false;
     };
@@ -137,7 +135,16 @@ fn draws(view: &mut View<&Heap>, picture: &mut Picture, given: &Given) -> bool {
         && reached.state == given.end
 }
 
-/// A view that is made of a copy of the movie, a job of it, a copy of its states, and what it draws: whether they are right.
+/// Whether a copy of that view has its six states, and its window, too, and draws the black frame.
+fn is_drawn_again(copy: &mut View<&Heap>, picture: &mut Picture) -> bool {
+    let Ok(viewed) = copy.picture(383, picture) else {
+        return false;
+    };
+    (viewed.ran, copy.count(), picture.lit()) == (1, 6, 0)
+}
+
+/// A view that is made of a copy of the movie, a job of it, copies of its states and of all of it, and what these draw: whether they
+/// are right.
 fn view(heap: &Heap, picture: &mut Picture, given: &Given) -> Result<bool, AllocError> {
     let mut view = View::new(heap, given.movie.copy(heap)?)?;
     let job = view.job(heap, 400)?;
@@ -145,11 +152,15 @@ fn view(heap: &Heap, picture: &mut Picture, given: &Given) -> Result<bool, Alloc
         return Ok(false);
     };
     let copy = view.copy_states(heap)?;
-    let is_right = is_full(&copy) && draws(&mut view, picture, given);
+    // The picture that is looked at after a refusal is drawn only once nothing can be refused any more.
+    let mut other = Picture::blank(heap)?;
+    let is_right = is_full(&copy) && draws(&mut view, &mut other, given);
+    let mut copied = view.copy(heap)?;
+    let draws_again = is_drawn_again(&mut copied, picture);
     let Ok(again) = view.merge(&job.run()) else {
         return Ok(false);
     };
-    Ok(is_right && (merged.kept, again.kept, view.count()) == (6, 0, 6))
+    Ok(is_right && draws_again && (merged.kept, again.kept, view.count()) == (6, 0, 6))
 }
 
 /// What a merge of the batch gains.
@@ -198,10 +209,6 @@ fn seek(
         Seeking::Shot => {
             let drawn = green.shot(movie, 383, picture, meter)?;
             drawn.is_ok() && shows(picture, meter, 256) && is_full(green)
-        }
-        Seeking::Reach => {
-            let state = green.reach(movie, 384, meter)?;
-            state == given.end && meter.count() == 256 && is_full(green)
         }
         Seeking::Merge => merge(green, movie, &given.batch)?,
         Seeking::Gain => green.gain(movie, &given.full)? == 4 && is_full(green),

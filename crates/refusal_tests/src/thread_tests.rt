@@ -1,5 +1,9 @@
 //! Desks whose seats call on threads of their own, with one growth of them all refused: the call that met it reports out of
 //! memory and is right when it is made again, and each other call is right.
+//!
+//! Three seats get their threads by two joins, one in the other: the allocator is lent, so the type of such a seat
+//! names a lifetime, and the toolchain has no closure that is handed a value of such a type, as a loop over threads
+//! would need.
 
 ghost use Rattle.std.specs.Prelude.{◌≡◌};
 ghost use Rattle.tas_desk.specs.Seats.{name_of};

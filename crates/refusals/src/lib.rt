@@ -76,6 +76,8 @@ impl<B: Allocator> Drop for Refusing<B> {
 
 /// Whether no growth up to the one that is refused is still to come.
 fn is_behind(to_come: u64) -> bool
+    // A growth that was to be refused is past exactly where the count is 0.
+    // Refused: refusal_is_reported_before_it_comes.
     ensures { IsTrue result ↔ to_come ≡ 0 }
 {
     to_come == 0
@@ -83,6 +85,8 @@ fn is_behind(to_come: u64) -> bool
 
 /// Whether the next growth is the one that is refused, where so many are to come up to that one.
 fn is_next(to_come: u64) -> bool
+    // A count of 1 says that the next growth is the one to refuse.
+    // Refused: no_growth_is_refused*, each_growth_from_then_on_is_refused*, the_growth_before_is_refused*.
     ensures { IsTrue result ↔ to_come ≡ 1 }
 {
     to_come == 1
@@ -90,6 +94,8 @@ fn is_next(to_come: u64) -> bool
 
 /// How many are to come after the next growth.
 fn after_next(to_come: u64) -> u64
+    // The count to come is one less, and 0 after 0.
+    // Refused: a_growth_is_not_counted.
     ensures { result ≡ to_come - 1 }
 {
     to_come.saturating_sub(1)
@@ -114,6 +120,8 @@ fn refuses_next(gate: &Gate) -> bool {
 unsafe impl<B: Allocator> Allocator for Refusing<B> {
     ghost dealloc_token = { λ heap ty ptr. B.dealloc_token heap.inner ty ptr };
 
+    // A block is the inner allocator's and goes back to it; a refused growth takes none.
+    // Refused: none, each is proved by hand along its steps, so an edit shows nothing.
     fn allocate(&self, size: usize, align: usize) -> Result<*mut u8, AllocError> {
         if refuses_next(&self.gate) {
             return Err(AllocError);

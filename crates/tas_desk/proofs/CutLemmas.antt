@@ -1,5 +1,5 @@
 -- A cut for another movie leaves one list of states.
-use Rattle.std.proofs.Common.{◌≡◌, ◌≢◌, ℕ, zero, suc, ◌<◌, ◌≤◌, List, [], ◌∷◌, length, take, refl, ap, sym, ◌∙◌, subst, inl, inr, arith}
+use Rattle.std.proofs.Common.{◌≡◌, ◌≢◌, ℕ, zero, suc, ◌+◌, ◌<◌, ◌≤◌, List, [], ◌∷◌, length, take, refl, ap, sym, ◌∙◌, subst, inl, inr, arith}
 use Rattle.std.proofs.lemmas.Bool.{cases_eq, cases_lt}
 use Rattle.std.specs.Prelude.{slice_get, filter}
 use Rattle.vcs_inputs.specs.declared.input.Input.{Input}
@@ -57,6 +57,6 @@ short_shot before now k ran shot = record { most = few }
 -- a view plays no more than a shot would
 pub short_view : {A : Type 0} (before now : ZoneContent A) (k ran : ℕ) → IsViewFrom before.movie now.movie k (both before.states before.window) (both now.states now.window) ran → IsShort before now k ran
 short_view before now k ran view =
-    let less = view_less before.movie now.movie k (both before.states before.window) (both now.states now.window) ran view in
-    let short = short_shot before now k view.rose view.shot in
+    let less = view_less before.movie now.movie k (k + 1) (both before.states before.window) (both now.states now.window) ran view in
+    let short = short_shot before now k view.rose view.played in
     record { most = λ left moved all. let few = short.most left moved all in omega (arith, less, few) }

@@ -7,7 +7,7 @@ use Rattle.tas_green.specs.declared.savestate.Savestate.{Savestate}
 use Rattle.tas_green.specs.Zone.{state_at, first_of}
 use Rattle.tas_green.specs.Green.{IsLawful, IsMoved, IsPlayedFrom}
 use Rattle.tas_green.specs.View.{ViewContent, AreOfMovie, IsBrought, both_of, view_of}
-use Rattle.tas_green.specs.Window.{AreMovieStates, IsWindowMoved, IsViewFrom, both}
+use Rattle.tas_green.specs.Window.{AreMovieStates, IsWindowMoved, IsPlayedNear, both}
 use Rattle.tas_green.proofs.BringLemmas.{played_followed, view_followed}
 use Rattle.tas_published.specs.declared.movie_copy.MovieCopy.{MovieCopy}
 use Rattle.tas_published.specs.declared.entry.Entry.{Entry}
@@ -71,12 +71,12 @@ played_in {A} version before brought now zone near end ran is cut lawful movie p
     subst (λ (z : ZoneContent A). IsPlayedFrom z.movie now.movie near end z.states now.states 0 ran) is
     (played_followed before.movie brought.movie now.movie near end ran before.states brought.states now.states movie cut.states lawful.states played)
 
--- a frame is viewed
-pub viewed_in : {A : Type 0} (version : VersionContent A) (before brought now : ViewContent) (zone : ZoneContent A) (k ran : ℕ) → zone_of version before ≡ zone → IsBrought before brought → AreOfMovie brought → now.movie ≡ brought.movie
-    → IsViewFrom brought.movie now.movie k (both_of brought) (both_of now) ran → IsViewFrom zone.movie now.movie k (both zone.states zone.window) (both_of now) ran
-viewed_in {A} version before brought now zone k ran is cut lawful movie viewed =
-    subst (λ (z : ZoneContent A). IsViewFrom z.movie now.movie k (both z.states z.window) (both_of now) ran) is
-    (view_followed before.movie brought.movie now.movie k ran before.states brought.states before.near brought.near (both_of now) movie cut.states cut.near lawful.states lawful.near viewed)
+-- a frame is viewed, or a state is reached
+pub viewed_in : {A : Type 0} (version : VersionContent A) (before brought now : ViewContent) (zone : ZoneContent A) (k end ran : ℕ) → zone_of version before ≡ zone → IsBrought before brought → AreOfMovie brought → now.movie ≡ brought.movie
+    → IsPlayedNear brought.movie now.movie k end (both_of brought) (both_of now) ran → IsPlayedNear zone.movie now.movie k end (both zone.states zone.window) (both_of now) ran
+viewed_in {A} version before brought now zone k end ran is cut lawful movie viewed =
+    subst (λ (z : ZoneContent A). IsPlayedNear z.movie now.movie k end (both z.states z.window) (both_of now) ran) is
+    (view_followed before.movie brought.movie now.movie k end ran before.states brought.states before.near brought.near (both_of now) movie cut.states cut.near lawful.states lawful.near viewed)
 
 -- states are gained
 pub shared_in : {A : Type 0} (version : VersionContent A) (before brought now : ViewContent) (zone : ZoneContent A) (other : List Savestate) (gained : ℕ) → zone_of version before ≡ zone → IsBrought before brought → now.movie ≡ brought.movie

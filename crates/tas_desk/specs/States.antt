@@ -1,7 +1,7 @@
 -- Replies to looks at the machine's state.
 use Rattle.std.specs.Prelude.{◌≡◌, ℕ, ◌≤◌, List, length, Result, Ok, Err}
 use Rattle.tas_green.specs.Run.{state_after}
-use Rattle.tas_green.specs.Green.{IsReachedFrom}
+use Rattle.tas_green.specs.Window.{IsStateFrom, both}
 use Rattle.tas_published.specs.declared.entry.Entry.{Entry}
 use Rattle.tas_session.specs.declared.replies.Reached.{Reached}
 use Rattle.tas_published.specs.declared.errors.StateError.{StateError}
@@ -18,11 +18,11 @@ IsStateFor history from to (Err NoEntry) = Unit {0}
 IsStateFor history from to (Err (NoFrame at len)) = (at ≡ length history) × (len ≡ length (movie_of history).inputs) × (from ≤ to → to ≤ len → ⊥)
 IsStateFor history from to (Err Memory) = (from ≤ to) × (to ≤ length (movie_of history).inputs)
 
--- the state after k frames of a history's movie was reached from a zone: the zone was cut for that movie first, `ran` frames were played from the
--- nearest state that was left, and the zone then has what was left and the states on the way that stand on the grid
+-- the state after k frames of a history's movie was reached: zone and window were cut for that movie, `ran` frames were played from `view_start`, the
+-- zone then has what was left and the states on the way that stand on the grid, and the window is filled
 pub record IsReached {A : Type 0} (before now : ZoneContent A) (front : List (Entry A)) (k ran : ℕ) : Type 0 where
   pub made : IsMadeFor now front
-  pub reach : IsReachedFrom before.movie now.movie k before.states now.states 0 ran
+  pub reach : IsStateFrom before.movie now.movie k (both before.states before.window) (both now.states now.window) ran
 
 -- what this leaves in the seat's zone. Where the reader got no entry the seat is as it was
 abbrev pub IsZoneReached : {A : Type 0} → SeatContent A → SeatContent A → ℕ → Result Reached StateError → Type 0

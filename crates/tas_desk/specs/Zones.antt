@@ -6,7 +6,7 @@ use Rattle.tas_green.specs.declared.savestate.Savestate.{Savestate}
 use Rattle.tas_green.specs.Zone.{state_at, first_of}
 use Rattle.tas_green.specs.Green.{IsLawful, IsMoved, IsShotFrom, HoldsGrid}
 use Rattle.tas_green.specs.Grid.{stride}
-use Rattle.tas_green.specs.View.{ViewContent}
+use Rattle.tas_green.specs.View.{ViewContent, view_of}
 use Rattle.tas_green.specs.Window.{AreMovieStates, IsWindowMoved, IsViewFrom, IsOneAway, both}
 use Rattle.tas_published.specs.declared.entry.Entry.{Entry}
 use Rattle.tas_published.specs.Version.{VersionContent, version_of}
@@ -22,6 +22,10 @@ pub record ZoneContent (A : Type 0) : Type 0 where
 -- a view, made for the history of a version
 abbrev pub zone_of : {A : Type 0} → VersionContent A → ViewContent → ZoneContent A
 zone_of version view = record { made_for = version; movie = view.movie; states = view.states; window = view.near }
+
+-- its view
+abbrev pub view_in : {A : Type 0} → ZoneContent A → ViewContent
+view_in zone = view_of zone.movie zone.states zone.window
 
 -- the zone of a seat that made no call yet
 abbrev pub blank_zone : {A : Type 0} → Book → ZoneContent A

@@ -4,7 +4,12 @@
 //! begins with the one that it had seen before. In every reply `at` is the length of this front.
 //!
 //! A desk's clauses can't name the kept states under the lock; those of the locked session say what each call makes of them. Of gates and
-//! of threads no clause says anything; docs/PROOFS.md lists what is so.
+//! of threads no clause says anything; the crate's README lists what is so.
+//!
+//! `close` adds up a ledger. Each seat holds a part with as many units as it made edits, and the locked session holds
+//! the book, whose total is the journal's length. Each seat's front shows that the journal has at least as many of its
+//! entries, and the total leaves room for no more. `OpenError::NoPlace` can't come with as many places as seats; no
+//! clause says so, since `left_right` may find places in use for a moment.
 
 ghost use Rattle.std.specs.Prelude.{◌≡◌, ◌≢◌, ◌↔◌, ◌⊎◌, ℕ, ◌+◌, ◌<◌, ◌≤◌, ◌==◌, [], length, take, drop, slice_get, Some, count_by, IsTrue, IfOk, IfErr, OnOk, Err, MatchResult, All};
 ghost use Rattle.tas_session.specs.declared.replies.OfferError.TheVariants.{Cartridge, Memory};
@@ -63,6 +68,8 @@ impl<A: Allocator + Copy> Unopened<A> {
     /// A desk with this many seats, 1 to [`MAX_SEATS`]; the caller shows it. `Memory` where memory is refused.
     pub fn new(alloc: A, seats: u32) -> Result<Unopened<A>, OpenError>
         requires { (1 ≤ seats) × (seats ≤ most_seats) }
+        // An unopened desk has as many seats as were asked for; the only error is out of memory.
+        // Refused: ledger_of_one_share_more.
         ensures seats { IfOk result (λ unopened. unopened.seats ≡ seats) }
         ensures error { IfErr result (λ error. error ≡ OutOfMemory) }
     {
@@ -98,6 +105,8 @@ impl<N: Name, W: CloseOnDrop, A: Allocator> Model for Desk<N, W, A> {
 impl<N: Name, W: CloseOnDrop, A: Allocator> Desk<N, W, A> {
     /// Lets two seats see one history, and returns its length: how many edits it has.
     pub fn meet<R: Wait>(&self, rt: &R, one: &mut Seat<N, A>, other: &mut Seat<N, A>) -> u64
+        // After `meet` both seats have one front, of length `at`, that begins with the old front of each.
+        // Refused: meet_leaves_both_seats, meet_shows_one_seat*.
         ensures one { KeepsZone one.old one.new }
         ensures other { KeepsZone other.old other.new }
         ensures same { one.new.front ≡ other.new.front }
@@ -111,6 +120,10 @@ impl<N: Name, W: CloseOnDrop, A: Allocator> Desk<N, W, A> {
     /// How many edits there are, and how many inputs. It takes no lock. `NoEntry`, where the seat's reader got no entry,
     /// leaves the seat as it was.
     pub fn len(&self, seat: &mut Seat<N, A>) -> Result<(u64, usize), NoEntry>
+        // `len` and `input` return the length and an input of the movie of a front that begins with all that the seat
+        // had seen; of an input `NoFrame` exactly where the movie hasn't the frame; or `NoEntry` with the seat as it
+        // was.
+        // Refused: length_is_halved.
         ensures seat { KeepsZone seat.old seat.new }
         ensures reply { MatchResult result
             (λ p. (p.0 ≡ length seat.new.front) × (p.1 ≡ answer_len (movie_of seat.new.front)))
@@ -122,6 +135,7 @@ impl<N: Name, W: CloseOnDrop, A: Allocator> Desk<N, W, A> {
     /// The number of edits, and the input of frame `k`, counted from 0. It takes no lock. `NoFrame` comes exactly where the
     /// movie isn't that long; `NoEntry` leaves the seat as it was.
     pub fn input(&self, seat: &mut Seat<N, A>, k: usize) -> Result<(u64, Input), InputError>
+        // Refused: input_of_the_frame_before.
         ensures seat { KeepsZone seat.old seat.new }
         ensures reply { IsInput seat.old seat.new k result }
     {
@@ -130,6 +144,9 @@ impl<N: Name, W: CloseOnDrop, A: Allocator> Desk<N, W, A> {
 
     /// Whether these are all seats of the desk: the numbers from 0 on, each once, and no others.
     pub fn whole(&self, seats: &[Seat<N, A>]) -> bool
+        // `whole` is exact. That each call keeps a seat's number is a part of `HasSeen`, `IsEdited`, `IsEditedBy` and
+        // `IsCommitted`.
+        // Refused: a_seat_that_stands_there_twice.
         ensures { IsTrue result ↔ IsWhole N.parts seats.now }
     {
         if seats.len() != self.seats as usize || !are_below(seats, self.seats) {
@@ -147,6 +164,9 @@ impl<N: Name, W: CloseOnDrop, A: Allocator> Desk<N, W, A> {
     /// in which each seat has just as many entries as edits that it made, and nobody else has any.
     pub fn close<R: Wait>(self, rt: &R, seats: Vec<Seat<N, A>, A>) -> Closed<A>
         requires whole { IsWhole N.parts seats.items }
+        // Every front begins the journal, the movie is the journal's, and the journal has just as many entries of each
+        // seat as it made, and no others.
+        // Refused: shares_are_not_joined.
         ensures movie { result.movie ≡ movie_of result.journal.items }
         ensures legal { IsLegal result.journal.items }
         ensures count { length result.journal.items ≡ made_by seats.items }
@@ -168,6 +188,8 @@ impl<N: Name, W: CloseOnDrop + Wait, A: Allocator + Copy> Desk<N, W, A> {
         unopened: Unopened<A>,
     ) -> Result<(Desk<N, W, A>, Vec<Seat<N, A>, A>), OpenError>
         requires name { unopened ≡ name_of N.registry N.name N.parts }
+        // `open` gives that many seats, numbered from 0, with empty fronts, nothing made and empty zones.
+        // Refused: seats_are_numbered_from_one.
         ensures seats { IfOk result (λ opened. length opened.1.items ≡ unopened.seats) }
         ensures fresh { IfOk result
             (λ opened. (k : ℕ) → k < unopened.seats
@@ -206,6 +228,11 @@ impl<N: Name, W: CloseOnDrop, A: Allocator + Copy> Desk<N, W, A> {
         seat: &mut Seat<N, A>,
         edit: Edit<A>,
     ) -> Result<Receipt, EditError>
+        // An edit is answered at a history that begins with all that the seat had seen. A receipt: the front is this
+        // history and the entry, at the seat's next serial. A refusal: the front is this history, the seat has made as
+        // many as before; `Serial`, `Full`, `Place` and `Long` come in this order, each exactly where it is due, and
+        // `Memory` only where none of these is.
+        // Refused: made_is_not_counted, edit_is_not_in_the_sum*.
         ensures { IsEdited seat.old seat.new edit result }
     {
         self.locked.lock(rt).edit(rt, seat, edit)
@@ -222,6 +249,12 @@ impl<N: Name, W: CloseOnDrop, A: Allocator + Copy> Desk<N, W, A> {
         seat: &mut Seat<N, A>,
         plan: &P,
     ) -> Result<Receipt, EditError>
+        // An edit that a plan makes is made of the movie under the lock. It is answered at a history that begins with
+        // all that the seat had seen: refused for `Serial` and `Full`, then for what the plan says of this history's
+        // movie, each exactly where it is due, and for `Memory` only where none of these is. A receipt: the movie
+        // allows the edit that the plan is in it, and the front is this history and right after it that edit, at the
+        // seat's next serial.
+        // Refused: plans_refusal_is_ignored.
         ensures { IsEditedBy seat.old seat.new (P.refusal_in plan.now) (P.edit_in plan.now) result }
     {
         self.locked.lock(rt).edit_by(rt, seat, plan)
@@ -241,6 +274,13 @@ impl<N: Name, W: CloseOnDrop, A: Allocator + Copy> Desk<N, W, A> {
         at: u64,
         stroke: Stroke<A>,
     ) -> Result<Receipt, CommitError>
+        // None, one or two edits are made as one step, or none of them. `commit` is answered at a history that begins
+        // with all that the seat had seen: refused for `Serial`, for `Moved`, which reports that this history has
+        // another number of edits than the caller says, and which, then for `Full`, `Place` and `Long`, each exactly
+        // where it is due, and for `Memory` only where none of these is and there is an edit; the seat has then made as
+        // many as before. A receipt: this history has as many edits as the caller said, its movie allows the edits, and
+        // the front is this history and right after it just these edits, at the seat's next serials.
+        // Refused: two_edits_are_counted_as_one.
         ensures { IsCommitted seat.old seat.new at (edits_of stroke) result }
     {
         self.locked.lock(rt).commit(rt, seat, at, stroke)
@@ -258,10 +298,19 @@ impl<N: Name, W: CloseOnDrop, A: Allocator + Copy> Desk<N, W, A> {
         seat: &mut Seat<N, A>,
         k: usize,
     ) -> Result<Shot<B>, ShotError>
+        // `seat`, `reply`, `zone`: `shot` returns picture, halt or `NoFrame` at a front that begins with all that the
+        // seat had seen. The seat's zone is cut for its movie, then gains the states that were passed; `ran` counts the
+        // frames after the nearest state that the cut left; `NoFrame` and `Memory` leave the zone as it was, `NoEntry`
+        // the whole seat.
+        // Refused: shot_of_the_movie_before, frames_of_the_seat_are_not_reported*.
         ensures seat { HasSeen seat.old seat.new }
         ensures reply { IsShotAt seat.new.front k result }
         ensures zone { IsZoneShot seat.old seat.new k result }
+        // Where the cut leaves all of the grid up to the frame, `ran` of a shot that shows it is at most a stride.
+        // Refused: none, it follows from `zone`, by which `ran` is exact.
         ensures short { IfOk result (λ shot. IsShort seat.old.zone seat.new.zone k shot.ran) }
+        // A shot and a share cut the seat's window for the front's movie as they cut the zone, and do no more to it.
+        // Refused: none, the cut is `View::follow`, whose edits are those of tas_green.
         ensures window { MatchPlayed result (CutsWindow seat.old.zone seat.new.zone)
             (seat.new.zone ≡ seat.old.zone) }
     {
@@ -281,6 +330,12 @@ impl<N: Name, W: CloseOnDrop, A: Allocator + Copy> Desk<N, W, A> {
         k: usize,
     ) -> Result<Shot<B>, ShotError>
         ensures seat { HasSeen seat.old seat.new }
+        // `reply`, `zone`, `short`, `forward`: `picture` gives the answer of `shot`, whatever is kept, and leaves the
+        // zone as a shot does. It is played from the nearest state of zone and window, or from the zone's where a place
+        // of the grid comes after it, up to the window's; the window then has the near states of those that it had and
+        // of those that were played, and a picture of the next frame plays one frame. It plays no more than a shot: at
+        // most a stride where all of the grid up to the frame is left.
+        // Refused: picture_of_half_the_frame, half_of_the_viewed_frames_are_reported*, picture_of_the_movie_before*.
         ensures reply { IsShotAt seat.new.front k result }
         ensures zone { IsZoneViewed seat.old seat.new k result }
         ensures short { IfOk result (λ shot. IsShort seat.old.zone seat.new.zone k shot.ran) }
@@ -290,9 +345,9 @@ impl<N: Name, W: CloseOnDrop, A: Allocator + Copy> Desk<N, W, A> {
     }
 
     /// The machine in which frame `from` begins, where the movie has all frames from `from` to the one before `to`: `from` is at most
-    /// `to`, and `to` at most the movie's length. It takes no lock. The frames before `from` are played from the nearest state of the
-    /// seat's own zone at `from` or before it, once the zone is cut as a shot cuts it; it gains the states on the way that are on the
-    /// grid.
+    /// `to`, and `to` at most the movie's length. It takes no lock. The frames before `from` are played as a picture's are: from the
+    /// nearest state of the seat's own zone and window, once both are cut as a shot cuts them. The zone gains the states on the way that
+    /// are on the grid, and the window is filled as by a picture of the frame before `from`.
     ///
     /// `NoFrame` comes exactly where the movie doesn't have these frames. `NoEntry` leaves the seat as it was, `NoFrame` and `Memory` its
     /// zone.
@@ -302,10 +357,17 @@ impl<N: Name, W: CloseOnDrop, A: Allocator + Copy> Desk<N, W, A> {
         from: usize,
         to: usize,
     ) -> Result<Reached, StateError>
+        // `seat`, `reply`, `zone`, `forward`: the machine after `from` frames of the movie of a front that begins with
+        // all that the seat had seen, halted or not, where this movie has all frames from `from` to the one before
+        // `to`; `NoFrame` comes exactly where it hasn't. The seat's zone is cut and gains as by a shot, and its window
+        // is filled as by a picture of the frame before `from`; `ran` counts the frames after the state from which a
+        // picture of frame `from` would be played. The next state then takes one frame. `NoFrame` and `Memory` leave
+        // the zone as it was.
+        // Refused: state_for_looks_at_the_first_frame_alone, half_of_the_frames_to_a_state_are_reported*.
         ensures seat { HasSeen seat.old seat.new }
         ensures reply { IsStateFor seat.new.front from to result }
         ensures zone { IsZoneReached seat.old seat.new from result }
-        ensures window { OnOk result (CutsWindow seat.old.zone seat.new.zone) }
+        ensures forward { OnOk result (IsZoneAway seat.new.zone from) }
     {
         seat.state_for(from, to)
     }
@@ -313,6 +375,9 @@ impl<N: Name, W: CloseOnDrop, A: Allocator + Copy> Desk<N, W, A> {
     /// Lets the seat's zone gain the desk's kept states, once it is cut for the movie as a shot cuts it, and returns how many it
     /// lacked. After `AllocError` the zone is as it was.
     pub fn share<R: Wait>(&self, rt: &R, seat: &mut Seat<N, A>) -> Result<usize, AllocError>
+        // The seat's zone is cut for the front's movie and gains exactly the states of a zone that is lawful for it; it
+        // returns how many. Out of memory leaves the zone as it was.
+        // Refused: share_of_another_movie_leaves_the_zone_uncut.
         ensures seat { HasSeen seat.old seat.new }
         ensures zone { MatchResult result (IsShared seat.old.zone seat.new.zone seat.new.front)
             (λ _. seat.new.zone ≡ seat.old.zone) }
@@ -324,6 +389,8 @@ impl<N: Name, W: CloseOnDrop, A: Allocator + Copy> Desk<N, W, A> {
     /// edits of the history whose states these are: the seat's front. After `AllocError` the zone is as it was.
     pub fn bring<R: Wait>(&self, rt: &R, seat: &mut Seat<N, A>) -> Result<Shared, AllocError>
         ensures seat { HasSeen seat.old seat.new }
+        // `at`, `zone`: `bring` does what `share` does, and its `at` is the number of edits of the front.
+        // Refused: share_is_reported_at_another_history.
         ensures at { IfOk result (λ shared. shared.at ≡ length seat.new.front) }
         ensures most { IfOk result (λ shared. shared.at ≤ most_edits) }
         ensures zone { MatchResult result
@@ -344,6 +411,9 @@ impl<N: Name, W: CloseOnDrop, A: Allocator + Copy> Desk<N, W, A> {
         from: usize,
         most: usize,
     ) -> Result<History<A>, AllocError>
+        // `history` returns exactly the front's entries from a place on, `most` at most, and how many the front
+        // has; the seat's zone stays.
+        // Refused: history_leaves_out_an_entry.
         ensures seat { KeepsZone seat.old seat.new }
         ensures at { IfOk result (λ history. history.at ≡ length seat.new.front) }
         ensures entries { IfOk result
@@ -361,6 +431,9 @@ impl<N: Name, W: CloseOnDrop, A: Allocator + Copy> Desk<N, W, A> {
         seat: &mut Seat<N, A>,
         near: usize,
     ) -> Result<Job<B>, AllocError>
+        // A job has cartridge, first inputs and stride of the front's movie, and starts from the nearest state of a
+        // lawful zone.
+        // Refused: job_stops_one_frame_early.
         ensures seat { KeepsZone seat.old seat.new }
         ensures job { IfOk result (IsJobOf (movie_of seat.new.front) near) }
     {
@@ -378,6 +451,10 @@ impl<N: Name, W: CloseOnDrop, A: Allocator + Copy> Desk<N, W, A> {
         batch: Batch<B>,
     ) -> Result<Offered, OfferError<B>>
         ensures seat { KeepsZone seat.old seat.new }
+        // `Cartridge` exactly where the bytes differ from those at the front; `Memory` hands the same batch back; else
+        // a lawful zone gains exactly the batch's states on the grid up to the common front, and those that it lacked
+        // are counted, 512 at most.
+        // Refused: front_of_a_batch_is_forgotten.
         ensures cartridge { (result ≡ Err (Cartridge (length seat.new.front)))
             ↔ (batch.cart ≢ (movie_of seat.new.front).cart) }
         ensures error { IfErr result

@@ -1,5 +1,10 @@
 //! The lock of a desk. It has one door, for callers that may wait. Nothing here tries the lock, so no call of the desk takes it, or
 //! spins on it, without a part for waiting in its signature.
+//!
+//! A signature without a `Wait` bound keeps a body from `lock`, but `try_lock` needs none, and a guard is dropped
+//! without one: a look that spins would be proved. So the lock is the private field of this type, and docs/check-proofs
+//! checks what the language can't say: that this module shows just `new`, `lock` and `into_inner`, that there is no
+//! other lock, and that no look's signature has a `Wait` bound.
 
 use std::sync::{Mutex, MutexGuard, Wait};
 

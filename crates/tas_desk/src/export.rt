@@ -1,4 +1,11 @@
 //! Exports of pictures.
+//!
+//! An export copies movie and zone, cut for the movie (`moved`), and asks for the room of all pixmaps and for a picture
+//! for each worker before the first frame. The seat's own zone isn't changed, so a later shot finds all that was kept.
+//! A search for the nearest state that a cut would leave isn't there: `start_of` wants a zone that is lawful for the
+//! movie. The copy is at most 512 states. All memory is the caller's, of an allocator that threads may share; it need
+//! not be the desk's. That an export plays no more frames than `played` says is no clause. `ExportError` and
+//! `ExportFault` hold a writer's error, so they are made without `thiserror`.
 
 ghost use Rattle.std.specs.Prelude.{◌≡◌, ◌↔◌, ◌≤◌, IsTrue, IfOk, IfErr, length};
 ghost use Rattle.tas_published.specs.History.{movie_of};
@@ -97,6 +104,12 @@ impl<N: Name, W: CloseOnDrop, A: Allocator + Copy> Desk<N, W, A> {
         out: &mut O,
     ) -> Result<Exported, ExportError>
         requires { (1 ≤ workers) × (workers ≤ most_workers) }
+        // `export` has written the pixmaps of the range, one after the other, of the front that `at` names, whatever
+        // the number of workers; `played` is the sum over the runs of the frames after the nearest state that a cut
+        // would leave. `Range` exactly where the range isn't the movie's or too long; `Halted` names the least halted
+        // frame; after these and `Memory` nothing is written; after `Write` the first `written` bytes, and no frame is
+        // halted.
+        // Refused: export_plays_nothing, at_most_1023_frames*.
         ensures seat { KeepsZone seat.old seat.new }
         ensures reply { IsExport seat.old.zone (movie_of seat.new.front) (length seat.new.front)
             (record { from = from; to = to; workers = workers }) (O.contents out.old)

@@ -1,4 +1,7 @@
 //! Parts of the history.
+//!
+//! Entries are copied under the lock, as many as the caller asks for: readers' copies have the movie and its version,
+//! but not the entries.
 
 ghost use Rattle.std.specs.Prelude.{◌≡◌, take, drop, IfOk};
 

@@ -1,4 +1,8 @@
 //! What lies under the lock of a desk.
+//!
+//! A lock holds no value that can't be dropped, as a session can't. So `LockedSession` has the handle that closes the
+//! session when it is dropped. That handle is bounded by `CloseOnDrop`, a trait without a `Wait` bound, which every
+//! handle for waiting implements: with the bound, every call on the type would be one that may wait, also a look.
 
 ghost use Rattle.std.specs.Prelude.{◌≡◌, ◌≢◌, ◌↔◌, ◌⊎◌, ◌+◌, ◌<◌, ◌≤◌, [], length, take, drop, None, IfOk, IfErr, OnOk, OnErr, Err, MatchResult, All};
 ghost use mathlib.Core.List.{IsPrefix};
@@ -99,6 +103,10 @@ impl<N: Name, W: CloseOnDrop, A: Allocator> LockedSession<N, W, A> {
 
     /// Lets a seat see the history, and returns its length.
     pub fn show<R: Wait>(&self, rt: &R, seat: &mut Seat<N, A>) -> u64
+        // A seat that is shown the history has seen all of it, which begins with what it had seen, and keeps its zone.
+        // That `show`, `copy`, `history`, `job` and `bring` leave history and states as they were is said by their
+        // `&self`.
+        // Refused: none, `Publisher::show_to` of tas_published has the edit.
         ensures seat { seat.new
             ≡ seat_of seat.old.number seat.old.made self.now.journal seat.old.zone }
         ensures begins { IsPrefix seat.old.front self.now.journal }
@@ -174,6 +182,9 @@ impl<N: Name, W: CloseOnDrop, A: Allocator + Copy> LockedSession<N, W, A> {
             (λ _. refusal_at self.old.journal seat.old.number seat.old.made edit ≡ None)
             (IsEditError (refusal_at self.old.journal seat.old.number seat.old.made edit)) }
         ensures answered { AnswersEdit (movie_of self.old.journal) edit result }
+        // `done`, `refused`: an edit that is made leaves exactly the old states up to the edited place on the new
+        // grid; one that is refused leaves history and states as they were.
+        // Refused: an_edit_keeps_more_states.
         ensures done { OnOk result
             (self.new ≡ locked_after self.old (entry_of seat.old.number seat.old.made edit)) }
         ensures refused { OnErr result (self.new ≡ self.old) }
@@ -208,6 +219,9 @@ impl<N: Name, W: CloseOnDrop, A: Allocator + Copy> LockedSession<N, W, A> {
             (P.refusal_in plan.now (movie_of self.old.journal)))) }
         ensures allowed { OnOk result (IsAllowed (movie_of self.old.journal)
             (P.edit_in plan.now (movie_of self.old.journal))) }
+        // `done`, `refused`: an edit that a plan makes leaves exactly the old states up to the edited place on the new
+        // grid; a refusal leaves history and states as they were.
+        // Refused: plan_of_the_seats_own_movie.
         ensures done { OnOk result (self.new ≡ locked_after self.old
             (entry_of seat.old.number seat.old.made
             (P.edit_in plan.now (movie_of self.old.journal)))) }
@@ -241,6 +255,9 @@ impl<N: Name, W: CloseOnDrop, A: Allocator + Copy> LockedSession<N, W, A> {
             (edits_of stroke))) }
         ensures memory { IfErr result
             (λ error. error ≡ Refused NoRoom → 0 < length (edits_of stroke)) }
+        // `done`, `refused`: each edit of a step leaves exactly the old states up to its place on the new grid, in the
+        // movie that those before it leave; a refusal leaves history and states as they were.
+        // Refused: none, the states are those that `Session::commit` leaves, whose edits are those of tas_session.
         ensures done { OnOk result (self.new ≡ locked_after_all self.old
             (entries_by seat.old.number seat.old.made (edits_of stroke))) }
         ensures refused { OnErr result (self.new ≡ self.old) }
@@ -310,6 +327,8 @@ impl<N: Name, W: CloseOnDrop, A: Allocator + Copy> LockedSession<N, W, A> {
         ensures begins { IsPrefix seat.old.front self.now.journal }
         ensures seat { seat.new
             ≡ seat_of seat.old.number seat.old.made self.now.journal seat.new.zone }
+        // `made`, `gained`, `lawful`, `memory`: a share gains exactly the states under the lock.
+        // Refused: a_share_of_no_kept_state.
         ensures made { OnOk result (IsMadeFor seat.new.zone self.now.journal) }
         ensures at { IfOk result (λ shared. shared.at ≡ length self.now.journal) }
         ensures most { IfOk result (λ shared. shared.at ≤ most_edits) }
@@ -342,6 +361,8 @@ impl<N: Name, W: CloseOnDrop, A: Allocator + Copy> LockedSession<N, W, A> {
         ensures begins { IsPrefix seat.old.front self.now.journal }
         ensures seat { seat.new
             ≡ seat_of seat.old.number seat.old.made self.now.journal seat.old.zone }
+        // `job`, `lawful`: a job starts from the nearest of the states under the lock.
+        // Refused: a_job_from_no_kept_state.
         ensures job { IfOk result (IsJobFrom self.now.zone (movie_of self.now.journal) near) }
         ensures lawful { IsLawful (movie_of self.now.journal) self.now.zone }
     {
@@ -357,6 +378,9 @@ impl<N: Name, W: CloseOnDrop, A: Allocator + Copy> LockedSession<N, W, A> {
         batch: Batch<B>,
     ) -> Result<Offered, OfferError<B>>
         ensures begins { IsPrefix seat.old.front self.old.journal }
+        // An offer leaves the history. The states gain exactly the batch's on the grid up to the common front, and
+        // those that they lacked are counted; an error leaves them as they were.
+        // Refused: the_desks_offer_drops_the_batch.
         ensures journal { self.new.journal ≡ self.old.journal }
         ensures seat { seat.new
             ≡ seat_of seat.old.number seat.old.made self.old.journal seat.old.zone }

@@ -1,4 +1,9 @@
 //! Edits that depend on the movie in which they are made.
+//!
+//! A plan is checked by the movie's length alone, and an edit is made only of a movie that allows it: so a refused plan
+//! takes no memory, and the lock is held no longer than a check takes. The edit takes its memory from the allocator of
+//! the seat's zone, the desk's. The other way, to look first and try again where an edit came between, has no bound
+//! that a clause could say.
 
 ghost use Rattle.std.specs.Prelude.{◌≡◌, Option, None, length, IfOk, OnOk, MatchResult};
 ghost use Rattle.tas_movie.specs.Content.{MovieContent};

@@ -2,22 +2,21 @@
 
 ghost use Rattle.std.specs.Prelude.{◌≡◌, ◌+◌, ◌≤◌, length, is_some, MatchResult, IfOk, OnOk};
 ghost use Rattle.tas_green.specs.Grid.{most_states};
-ghost use Rattle.tas_green.specs.Green.{IsLawful};
 ghost use Rattle.tas_green.specs.Zone.{state_at};
 ghost use Rattle.tas_session.specs.Shots.{IsShotAt, MatchPlayed};
 ghost use Rattle.tas_published.specs.Looks.{answer_len};
 ghost use Rattle.tas_published.specs.History.{movie_of};
 ghost use Rattle.tas_published.specs.Published.{KnowsRegistry};
 ghost use Rattle.tas_desk.specs.States.{IsStateFor, IsZoneReached};
-ghost use Rattle.tas_desk.specs.Zones.{CutsWindow, IsShort, IsZoneAway};
+ghost use Rattle.tas_desk.specs.Zones.{CutsWindow, IsShort, IsZoneAway, view_in};
 ghost use Rattle.tas_desk.specs.Seats.{seat_of, HasSeen, KeepsZone, IsInput, IsZoneShot, IsZoneViewed};
 
 use crate::seat_zone::SeatZone;
 use crate::{InputError, Name, NoEntry, Reached, Shot, ShotError, StateError};
-use std::alloc::{AllocError, Allocator, Global};
+use std::alloc::{Allocator, Global};
 use std::marker::Model;
 use std::sync::ledger::Share;
-use tas_green::Green;
+use tas_green::View;
 use tas_movie::Movie;
 use tas_session::{MovieReader, shown};
 use vcs_machine::Input;
@@ -69,6 +68,7 @@ impl<N: Name, A: Allocator> Seat<N, A> {
 
     /// The seat's number, counted from 0.
     pub fn number(&self) -> u32
+        // Refused: seat_numbers_are_halved*.
         ensures { result ≡ self.now.number }
     {
         self.number
@@ -76,6 +76,8 @@ impl<N: Name, A: Allocator> Seat<N, A> {
 
     /// How many states its greenzone has.
     pub fn kept(&self) -> usize
+        // A seat's zone has at most 512 states, and `kept` returns how many.
+        // Refused: half_of_the_kept_states_are_reported.
         ensures count { result ≡ length self.now.zone.states }
         ensures bounded { result ≤ most_states }
     {
@@ -84,6 +86,9 @@ impl<N: Name, A: Allocator> Seat<N, A> {
 
     /// Whether its greenzone has a state after `frame` frames of the movie that it was made for.
     pub fn holds(&self, frame: usize) -> bool
+        // `holds` reports whether the seat's zone has a state after a number of frames, `zone_movie` shows the movie
+        // that it was made for, and `view` this movie with its states and its window.
+        // Refused: state_after_one_frame_less_is_reported*.
         ensures { result ≡ is_some (state_at frame self.now.zone.states) }
     {
         self.zone.holds(frame)
@@ -92,9 +97,19 @@ impl<N: Name, A: Allocator> Seat<N, A> {
     /// The movie that its greenzone was made for: that of the seat's last shot, picture, state or share that was answered or halted, and
     /// before the first the blank cartridge with no inputs.
     pub fn zone_movie(&self) -> &Movie<A>
+        // Refused: none, its result's type leaves nothing else to return.
         ensures { result.now ≡ self.now.zone.movie }
     {
         self.zone.movie()
+    }
+
+    /// Its greenzone and its window with the movie that they were made for, [`Seat::zone_movie`]: for one who plays it, or an edited copy
+    /// of it, elsewhere.
+    pub fn view(&self) -> &View<A>
+        // Refused: none, its result's type leaves nothing else to return.
+        ensures { result.now ≡ view_in self.now.zone }
+    {
+        self.zone.view()
     }
 
     /// How many edits there are, and how many inputs.
@@ -117,15 +132,6 @@ impl<N: Name, A: Allocator> Seat<N, A> {
 }
 
 impl<N: Name, A: Allocator + Copy> Seat<N, A> {
-    /// A copy of its greenzone: a zone of the same movie, [`Seat::zone_movie`], for one who plays it or an edited copy of it elsewhere. It
-    /// takes its memory from `alloc`: `AllocError` where that is refused. The seat isn't changed.
-    pub fn copy_zone<B: Allocator>(&self, alloc: B) -> Result<Green<B>, AllocError>
-        ensures same { IfOk result (λ green. green ≡ self.now.zone.states) }
-        ensures lawful { IfOk result (λ green. IsLawful self.now.zone.movie green) }
-    {
-        self.zone.copy_states(alloc)
-    }
-
     /// Draws frame `k` from the seat's own zone.
     pub(crate) fn shot<B: Allocator>(&mut self, alloc: B, k: usize) -> Result<Shot<B>, ShotError>
         ensures seat { HasSeen self.old self.new }
@@ -163,12 +169,12 @@ impl<N: Name, A: Allocator + Copy> Seat<N, A> {
         shown(at, k, viewed.ran, picture, viewed.end)
     }
 
-    /// The machine after `from` frames, from the seat's own zone, where `from` is at most `to`, and `to` at most the movie's length.
+    /// The machine after `from` frames, from the seat's own zone and window, where `from` is at most `to`, and `to` at most the movie's length.
     pub(crate) fn state_for(&mut self, from: usize, to: usize) -> Result<Reached, StateError>
         ensures seat { HasSeen self.old self.new }
         ensures reply { IsStateFor self.new.front from to result }
         ensures zone { IsZoneReached self.old self.new from result }
-        ensures window { OnOk result (CutsWindow self.old.zone self.new.zone) }
+        ensures forward { OnOk result (IsZoneAway self.new.zone from) }
     {
         if from > to {
             return match self.reader.len() {

@@ -1,15 +1,19 @@
 //! The greenzone of a seat and its window, with the movie that they were made for and the version of its history.
+//!
+//! The zone takes the room for all its states when the desk opens, so `shot`, `picture` and `state_for` ask for no
+//! memory but a copy of a newer movie and a picture, both before the zone is cut for that movie. Where the published
+//! version is that of the zone (`Version::is_same`), the movie isn't copied.
 
 ghost use Rattle.std.specs.Prelude.{◌≡◌, ◌+◌, ◌<◌, ◌≤◌, [], length, is_some, IfOk, OnOk, OnErr};
 ghost use Rattle.tas_green.specs.Grid.{most_states};
 ghost use Rattle.tas_green.specs.Run.{state_after, picture_of, answer_of};
-ghost use Rattle.tas_green.specs.Green.{IsLawful, IsMoved, IsShotFrom, IsReachedFrom};
+ghost use Rattle.tas_green.specs.Green.{IsLawful, IsMoved, IsShotFrom};
 ghost use Rattle.tas_green.specs.Zone.{state_at};
 ghost use Rattle.tas_green.specs.View.{AreOfMovie, IsBrought};
-ghost use Rattle.tas_green.specs.Window.{IsViewFrom, both};
+ghost use Rattle.tas_green.specs.Window.{IsStateFrom, IsViewFrom, both};
 ghost use Rattle.tas_published.specs.History.{movie_of};
 ghost use Rattle.tas_published.specs.Readings.{version_after};
-ghost use Rattle.tas_desk.specs.Zones.{CutsWindow, IsMadeFor, IsZoneAway, Shares, blank_zone};
+ghost use Rattle.tas_desk.specs.Zones.{CutsWindow, IsMadeFor, IsZoneAway, Shares, blank_zone, view_in};
 
 use crate::Entry;
 use logbook::Rule;
@@ -66,6 +70,13 @@ impl<A: Allocator> SeatZone<A> {
         ensures { result.now ≡ self.now.movie }
     {
         self.view.movie()
+    }
+
+    /// The movie with the states and the window.
+    pub fn view(&self) -> &View<A>
+        ensures { result.now ≡ view_in self.now }
+    {
+        &self.view
     }
 }
 
@@ -139,16 +150,18 @@ impl<A: Allocator + Copy> SeatZone<A> {
         self.view.picture(k, picture).unwrap()
     }
 
-    /// The state after `k` frames of the movie that was copied, or of the zone's own where none was: zone and window are cut for it,
-    /// the frames are played from the zone's nearest state that is left, and both are that movie's from then on. It takes no memory.
+    /// The state after `k` frames of the movie that was copied, or of the zone's own where none was, played from where
+    /// [`SeatZone::picture`] plays; the window is then filled as by a picture of the frame before. The zone is left as if the frames were
+    /// played from its nearest state. It takes no memory.
     pub fn reach(&mut self, copied: Option<MovieCopy<A>>, k: usize) -> ReachedState
         requires { k ≤ length (movie_of (version_after self.old.made_for copied).history).inputs }
         ensures state { result.state ≡ state_after self.new.movie k }
         ensures made_for { self.new.made_for ≡ version_after self.old.made_for copied }
         ensures made { IsMadeFor self.new self.new.made_for.history }
-        ensures kept { IsReachedFrom self.old.movie self.new.movie k self.old.states self.new.states
-            0 result.ran }
-        ensures cut { CutsWindow self.old self.new }
+        ensures kept { IsStateFrom self.old.movie self.new.movie k
+            (both self.old.states self.old.window) (both self.new.states self.new.window)
+            result.ran }
+        ensures forward { IsZoneAway self.new k }
     {
         follow(&mut self.view, &mut self.version, copied);
         self.view.state(k).unwrap()
@@ -175,14 +188,6 @@ impl<A: Allocator + Copy> SeatZone<A> {
         let copied = copy_unless_known(self.alloc, &self.version, movie, version)?;
         follow(&mut self.view, &mut self.version, copied);
         Ok(self.view.gain(other))
-    }
-
-    /// A copy of the states; the zone isn't changed.
-    pub fn copy_states<B: Allocator>(&self, alloc: B) -> Result<Green<B>, AllocError>
-        ensures same { IfOk result (λ green. green ≡ self.now.states) }
-        ensures lawful { IfOk result (λ green. IsLawful self.now.movie green) }
-    {
-        self.view.copy_states(alloc)
     }
 
     /// A copy of the states that is cut for a movie, as `shot` cuts; the zone isn't changed.

@@ -73,8 +73,11 @@ impl<N: Name, W: CloseOnDrop, A: Allocator + Copy> Desk<N, W, A> {
         gate: &G,
     ) -> Result<Worked, WorkError>
         ensures seat { KeepsZone seat.old seat.new }
+        // `reply`, `current`: `work` reports as many jobs as there are targets, or, after `Memory`, fewer. At most all
+        // of these are stale, and none where no other cartridge was loaded since what the seat had seen before the
+        // call. The others gained at most 512 states each on average.
+        // Refused: stale_jobs_are_counted_twice, each_job_is_counted_as_stale*.
         ensures reply { IsWorked (length targets.now) result }
-        // Where no other cartridge is loaded meanwhile, no job is stale.
         ensures current { KeepsCart seat.old.front seat.new.front → stale_in result ≡ 0 }
     {
         let mut done = Worked {

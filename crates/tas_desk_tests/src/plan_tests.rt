@@ -141,20 +141,22 @@ fn parts_of_the_history(rt: HostRuntime) {
     play_calls(&rt, rt.alloc(), 2, &TOLD);
 }
 
-static BEGAN: [Call; 13] = [
+static BEGAN: [Call; 14] = [
     Call::Began(1, (0, 0), Ok((0, 0, 0))),
     Call::Began(1, (0, 1), Err(StateError::NoFrame { at: 0, len: 0 })),
     Call::Made(0, Change::Load(COUNTING), 1, 0),
     Call::Made(0, Change::Insert(0, 200), 2, 200),
     Call::Began(1, (150, 200), Ok((2, 150, 150))),
     Call::Keeps(1, 2),
-    Call::Began(1, (130, 130), Ok((2, 2, 130))),
-    Call::Began(1, (200, 200), Ok((2, 72, 200))),
+    // A step plays one frame, and what the window has plays none.
+    Call::Began(1, (151, 151), Ok((2, 1, 151))),
+    Call::Began(1, (130, 130), Ok((2, 0, 130))),
+    Call::Began(1, (200, 200), Ok((2, 70, 200))),
     Call::Began(1, (150, 201), Err(StateError::NoFrame { at: 2, len: 200 })),
     Call::Began(1, (151, 150), Err(StateError::NoFrame { at: 2, len: 200 })),
     Call::Made(0, Change::Delete(0, 100), 3, 100),
     Call::Began(1, (99, 150), Err(StateError::NoFrame { at: 3, len: 100 })),
-    Call::Began(1, (99, 100), Ok((3, 35, 99))),
+    Call::Began(1, (99, 100), Ok((3, 3, 99))),
 ];
 
 /// The machine in which a frame begins, where the movie has all frames up to another.

@@ -6,10 +6,11 @@ use crate::movies::{
 };
 use crate::ran::{
     FAILED, FileEngine, NO_END, TOO_LONG, check_fault, check_ran, run_beside, run_beside_on,
+    run_beside_to,
 };
 use std::alloc::Global;
 use std::process::Abort;
-use tas_engines::{INPUT_LIMIT, RunFault, ToolFault, edit_run};
+use tas_engines::{INPUT_LIMIT, RunFault, ToolFault};
 use test_streams::{Failure, Filler, Room, Taker};
 
 /// The text of a movie of the blank cartridge.
@@ -238,12 +239,14 @@ static READS: [([usize; 3], [usize; 3], ToolFault, [usize; 3]); 6] = [
 fn inputs_are_read_in_order_up_to_a_fault(rt: HostRuntime) {
     let alloc = rt.alloc();
     for (number, (lens, fails, fault, reads)) in READS.iter().enumerate() {
-        let mut first = Filler::new(0, lens[0], fails[0]);
-        let mut second = Filler::new(0, lens[1], fails[1]);
+        let mut files = [
+            Filler::new(0, lens[0], fails[0]),
+            Filler::new(0, lens[1], fails[1]),
+        ];
         let mut third = Filler::new(0, lens[2], fails[2]);
-        let ran = run_beside(alloc, FileEngine::Edit, &mut first, &mut second, &mut third);
+        let ran = run_beside(alloc, FileEngine::Edit, &mut files, &mut third);
         check_fault(&rt, ("case", number), ran, *fault);
-        let found = [first.reads, second.reads, third.reads];
+        let found = [files[0].reads, files[1].reads, third.reads];
         check_same(&rt, ("case", number), found, *reads);
     }
 }
@@ -251,10 +254,9 @@ fn inputs_are_read_in_order_up_to_a_fault(rt: HostRuntime) {
 /// Fails where the text of a movie without its first frame, for which there is so much room, goes out in another way.
 fn check_room<R: Abort>(rt: &R, alloc: Global, room: usize, end: Result<(), ToolFault>) {
     let mut output = Taker::new(alloc, 7, Room::Bytes(room), Failure::Error);
-    let mut cart = BLANK.as_slice();
-    let mut script = b"delete 0 1\n".as_slice();
+    let mut files = [BLANK.as_slice(), b"delete 0 1\n".as_slice()];
     let mut input = TWO_FRAMES;
-    let ended = edit_run(alloc, &mut cart, &mut script, &mut input, &mut output);
+    let ended = run_beside_to(alloc, FileEngine::Edit, &mut files, &mut input, &mut output);
     check_same(rt, ("room", room), ended, end);
     let written = &LAST_FRAME[..room.min(LAST_FRAME.len())];
     check_same(rt, ("room", room), output.taken.as_slice(), written);

@@ -6,10 +6,10 @@ use std::fmt::Debug;
 use std::io::{Read, Write};
 use std::process::Abort;
 use tas_engines::{
-    ReadFault, RunFault, ToolFault, check_run, compare_run, cut_run, diff_run, digest_run,
-    edit_run, lag_run, migrate_run, new_run, ram_run, shot_run, trace_run,
+    ReadFault, RunFault, ToolFault, Whole, check_run, commands, run as run_command, shot_run,
+    trace_run,
 };
-use tas_movie::{MAX_FRAMES, TextError, TextErrorKind};
+use tas_movie::{TextError, TextErrorKind};
 use test_streams::{Failure, Taker};
 
 /// An engine that reads a cartridge and then a movie's text.
@@ -32,11 +32,13 @@ pub enum Engine {
     Cut(usize, usize),
 }
 
-/// An engine that reads a cartridge, another file, and then a movie's text.
+/// A command that reads a cartridge, another file or two, and then a movie's text.
 #[derive(Clone, Copy)]
 pub enum FileEngine {
     /// The file is a script.
     Edit,
+    /// The files are a script and a second movie's text.
+    EditWith,
     /// The file is the older movie's text, here and at the next one.
     Diff,
     Compare,
@@ -56,13 +58,48 @@ pub fn run_to<C: Read, T: Read, W: Write>(
     match engine {
         Engine::Trace => trace_run(alloc, 3, cart, output),
         Engine::Check => check_run(alloc, cart, text, output),
-        Engine::Migrate => migrate_run(alloc, cart, text, output),
-        Engine::New(frames) => new_run(alloc, frames.min(MAX_FRAMES), cart, output),
+        Engine::Migrate => {
+            run_command(alloc, &Whole(commands::Migrate), &mut [cart], text, output)
+        }
+        Engine::New(frames) => {
+            let mut none: [&[u8]; 0] = [];
+            run_command(
+                alloc,
+                &Whole(commands::New { frames }),
+                &mut none,
+                cart,
+                output,
+            )
+        }
         Engine::Shot(frame) => shot_run(alloc, frame, cart, text, output),
-        Engine::Ram(from, to) => ram_run(alloc, from, to, cart, text, output),
-        Engine::Digest(every) => digest_run(alloc, every.max(1), cart, text, output),
-        Engine::Lag => lag_run(alloc, cart, text, output),
-        Engine::Cut(from, to) => cut_run(alloc, from, to, cart, text, output),
+        Engine::Ram(from, to) => {
+            run_command(
+                alloc,
+                &commands::Ram { from, to },
+                &mut [cart],
+                text,
+                output,
+            )
+        }
+        Engine::Digest(every) => {
+            run_command(
+                alloc,
+                &Whole(commands::Digest { every }),
+                &mut [cart],
+                text,
+                output,
+            )
+        }
+        Engine::Lag => run_command(alloc, &Whole(commands::Lag), &mut [cart], text, output),
+        Engine::Cut(from, to) => {
+            run_command(
+                alloc,
+                &Whole(commands::Cut { from, to }),
+                &mut [cart],
+                text,
+                output,
+            )
+        }
     }
 }
 
@@ -78,20 +115,33 @@ pub fn run_on(alloc: Global, engine: Engine, cart: &[u8], text: &[u8]) -> Ran {
     run(alloc, engine, &mut { cart }, &mut { text })
 }
 
-/// Runs an engine that reads a file beside cartridge and movie.
-pub fn run_beside<C: Read, F: Read, T: Read>(
+/// Runs a command that reads files beside the movie, to this writer.
+pub fn run_beside_to<F: Read, T: Read, W: Write>(
     alloc: Global,
     engine: FileEngine,
-    cart: &mut C,
-    file: &mut F,
+    files: &mut [F],
+    text: &mut T,
+    output: &mut W,
+) -> Result<(), ToolFault> {
+    match engine {
+        FileEngine::Edit => run_command(alloc, &Whole(commands::Edit), files, text, output),
+        FileEngine::EditWith => {
+            run_command(alloc, &Whole(commands::EditWith), files, text, output)
+        }
+        FileEngine::Diff => run_command(alloc, &Whole(commands::Diff), files, text, output),
+        FileEngine::Compare => run_command(alloc, &Whole(commands::Compare), files, text, output),
+    }
+}
+
+/// Runs such a command.
+pub fn run_beside<F: Read, T: Read>(
+    alloc: Global,
+    engine: FileEngine,
+    files: &mut [F],
     text: &mut T,
 ) -> Ran {
     let mut output = Vec::new(alloc);
-    let end = match engine {
-        FileEngine::Edit => edit_run(alloc, cart, file, text, &mut output),
-        FileEngine::Diff => diff_run(alloc, cart, file, text, &mut output),
-        FileEngine::Compare => compare_run(alloc, cart, file, text, &mut output),
-    };
+    let end = run_beside_to(alloc, engine, files, text, &mut output);
     (output, end)
 }
 
@@ -103,7 +153,7 @@ pub fn run_beside_on(
     file: &[u8],
     text: &[u8],
 ) -> Ran {
-    run_beside(alloc, engine, &mut { cart }, &mut { file }, &mut { text })
+    run_beside(alloc, engine, &mut [cart, file], &mut { text })
 }
 
 /// Fails where an engine ended in another way than well, or wrote other bytes.

@@ -3,12 +3,13 @@
 use crate::checks::{check_same, check_that, expect_ok, expect_some};
 use crate::movies::{BLANK, BLANK_DIGEST, CUT_OFF, HALTING_MOVIE, NO_FRAMES, TWO_FRAMES, text_of};
 use crate::ran::{
-    Engine, FAILED, NO_END, OTHER_DIGEST, Ran, TOO_LONG, check_fault, check_ran, run_on,
+    Engine, FAILED, FileEngine, NO_END, OTHER_DIGEST, Ran, TOO_LONG, check_fault, check_ran,
+    run_beside, run_on,
 };
 use std::alloc::Global;
 use std::process::Abort;
 use tas_engines::{
-    INPUT_LIMIT, RunFault, ScriptFault, ToolFault, edit_movie, edit_with_run, pressed_too, released,
+    INPUT_LIMIT, RunFault, ScriptFault, ToolFault, edit_movie, pressed_too, released,
 };
 use tas_language::{EditLine, Retouch, read_edit_line};
 use tas_movie::{Edit, Inputs, Movie, apply, check, read_frame};
@@ -268,20 +269,8 @@ fn lines_are_understood_by_their_text(rt: HostRuntime) {
 
 /// `tas edit --with` of these bytes.
 fn edited_with(alloc: Global, cart: &[u8], script: &[u8], more: &[u8], text: &[u8]) -> Ran {
-    let mut cart = cart;
-    let mut script = script;
-    let mut other = more;
-    let mut input = text;
-    let mut output = Vec::new(alloc);
-    let end = edit_with_run(
-        alloc,
-        &mut cart,
-        &mut script,
-        &mut other,
-        &mut input,
-        &mut output,
-    );
-    (output, end)
+    let mut files = [cart, script, more];
+    run_beside(alloc, FileEngine::EditWith, &mut files, &mut { text })
 }
 
 #[test]
@@ -364,21 +353,15 @@ static READS: [([usize; 4], [usize; 4], ToolFault, [usize; 4]); 4] = [
 fn four_inputs_are_read_in_order_up_to_a_fault(rt: HostRuntime) {
     let alloc = rt.alloc();
     for (number, (lens, fails, fault, reads)) in READS.iter().enumerate() {
-        let mut first = Filler::new(0, lens[0], fails[0]);
-        let mut second = Filler::new(0, lens[1], fails[1]);
-        let mut third = Filler::new(0, lens[2], fails[2]);
+        let mut files = [
+            Filler::new(0, lens[0], fails[0]),
+            Filler::new(0, lens[1], fails[1]),
+            Filler::new(0, lens[2], fails[2]),
+        ];
         let mut fourth = Filler::new(0, lens[3], fails[3]);
-        let mut output = Vec::new(alloc);
-        let end = edit_with_run(
-            alloc,
-            &mut first,
-            &mut second,
-            &mut third,
-            &mut fourth,
-            &mut output,
-        );
-        check_fault(&rt, ("case", number), (output, end), *fault);
-        let found = [first.reads, second.reads, third.reads, fourth.reads];
+        let ran = run_beside(alloc, FileEngine::EditWith, &mut files, &mut fourth);
+        check_fault(&rt, ("case", number), ran, *fault);
+        let found = [files[0].reads, files[1].reads, files[2].reads, fourth.reads];
         check_same(&rt, ("case", number), found, *reads);
     }
 }

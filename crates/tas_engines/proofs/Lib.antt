@@ -1,4 +1,5 @@
 pub mod ReadLengths
+pub mod ReadLemmas
 pub mod EngineEnds
 pub mod Shots
 pub mod ReadMovies

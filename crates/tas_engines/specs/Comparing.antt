@@ -8,11 +8,8 @@ use Rattle.tas_green.specs.Run.{state_after, picture_of}
 use Rattle.tas_engines.specs.declared.compare.Differences.{Differences}
 use Rattle.tas_engines.specs.declared.compare.Places.{Places}
 use Rattle.tas_engines.specs.declared.fault.RunFault.{RunFault}
-use Rattle.tas_engines.specs.declared.fault.ToolFault.{ToolFault}
 use Rattle.tas_engines.specs.Movies.{AreMoviesOf, AreMoviesFault}
-use Rattle.tas_engines.specs.Output.{Ends}
 use Rattle.tas_engines.specs.Ram.{ram_after}
-use Rattle.tas_engines.specs.ThreeInputs.{EndsAfterThree}
 
 -- what a movie has at frame k: nothing past its end
 abbrev pub where_played : {A : Type 0} → MovieContent → ℕ → A → Option A
@@ -81,9 +78,3 @@ abbrev pub IsCompareAnswer : List ℕ → List ℕ → List ℕ → Result (List
 IsCompareAnswer image before after (Ok text) =
     (old new : MovieContent) × (found : Differences) × AreMoviesOf image before after old new × AreDifferences old new found × (text ≡ differences_text found)
 IsCompareAnswer image before after (Err e) = AreMoviesFault image before after e
-
--- `tas compare`, from what its readers (a cartridge, the old text and the new one) have and the writer holds before to what they
--- have and hold afterwards
-abbrev pub IsCompareRun : (cart cart' before before' input input' output output' : Option (List ℕ)) → Result (Unit {0}) ToolFault → Type 0
-IsCompareRun cart cart' before before' input input' output output' result =
-    EndsAfterThree (λ image old new end. Ends (IsCompareAnswer image old new) output output' end) cart cart' before before' input input' output output' result

@@ -1,11 +1,10 @@
 -- What `tas cut` answers.
-use Rattle.std.specs.Prelude.{◌≡◌, ℕ, ◌≤◌, List, length, take, drop, ◌⊎◌, Option, Result, Ok, Err}
+use Rattle.std.specs.Prelude.{◌≡◌, ℕ, ◌≤◌, List, length, take, drop, ◌⊎◌, Result, Ok, Err}
 use Rattle.tas_movie.specs.Content.{MovieContent}
 use Rattle.tas_movie.specs.Text.{text2}
 use Rattle.tas_engines.specs.declared.fault.RunFault.{RunFault}
 use Rattle.tas_engines.specs.declared.fault.RunFault.TheVariants.{Range}
-use Rattle.tas_engines.specs.declared.fault.ToolFault.{ToolFault}
-use Rattle.tas_engines.specs.Movies.{IsMovieOf, IsMovieFault, IsMovieRun}
+use Rattle.tas_engines.specs.Movies.{IsMovieOf, IsMovieFault}
 
 -- the frames are the movie's
 pub record IsCutRange (movie : MovieContent) (from to : ℕ) : Type 0 where
@@ -25,8 +24,3 @@ IsCutFault from to movie _ = ⊥
 abbrev pub IsCutAnswer : ℕ → ℕ → List ℕ → List ℕ → Result (List ℕ) RunFault → Type 0
 IsCutAnswer from to image bytes (Ok out) = (movie : MovieContent) × IsMovieOf image bytes movie × IsCutRange movie from to × (out ≡ text2 (cut_out movie from to))
 IsCutAnswer from to image bytes (Err e) = IsMovieFault image bytes e ⊎ ((movie : MovieContent) × IsMovieOf image bytes movie × IsCutFault from to movie e)
-
--- `tas cut`, from what its readers (a cartridge and a movie text) have and the writer holds before to what they have and hold
--- afterwards
-abbrev pub IsCutRun : ℕ → ℕ → (cart cart' input input' output output' : Option (List ℕ)) → Result (Unit {0}) ToolFault → Type 0
-IsCutRun from to cart cart' input input' output output' result = IsMovieRun (IsCutAnswer from to) cart cart' input input' output output' result

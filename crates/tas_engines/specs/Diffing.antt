@@ -1,12 +1,9 @@
 -- What `tas diff` answers.
-use Rattle.std.specs.Prelude.{◌≡◌, ℕ, List, Option, Result, Ok, Err}
+use Rattle.std.specs.Prelude.{◌≡◌, ℕ, List, Result, Ok, Err}
 use Rattle.std.specs.List.{flat_map}
 use Rattle.tas_movie.specs.Content.{MovieContent}
 use Rattle.tas_engines.specs.declared.fault.RunFault.{RunFault}
-use Rattle.tas_engines.specs.declared.fault.ToolFault.{ToolFault}
 use Rattle.tas_engines.specs.Movies.{AreMoviesOf, AreMoviesFault}
-use Rattle.tas_engines.specs.Output.{Ends}
-use Rattle.tas_engines.specs.ThreeInputs.{EndsAfterThree}
 use Rattle.tas_language.specs.declared.change.Change.{Change}
 use Rattle.tas_engines.specs.Differences.{IsDifference}
 use Rattle.tas_engines.specs.Scripts.{change_line}
@@ -16,9 +13,3 @@ abbrev pub IsDiffAnswer : List ℕ → List ℕ → List ℕ → Result (List �
 IsDiffAnswer image before after (Ok out) =
     (old new : MovieContent) × (changes : List Change) × AreMoviesOf image before after old new × IsDifference old.inputs new.inputs changes × (out ≡ flat_map change_line changes)
 IsDiffAnswer image before after (Err e) = AreMoviesFault image before after e
-
--- `tas diff`, from what its readers (a cartridge, the old text and the new one) have and the writer holds before to what they
--- have and hold afterwards
-abbrev pub IsDiffRun : (cart cart' before before' input input' output output' : Option (List ℕ)) → Result (Unit {0}) ToolFault → Type 0
-IsDiffRun cart cart' before before' input input' output output' result =
-    EndsAfterThree (λ image old new end. Ends (IsDiffAnswer image old new) output output' end) cart cart' before before' input input' output output' result

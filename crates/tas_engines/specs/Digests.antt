@@ -1,5 +1,5 @@
 -- What `tas digest` answers.
-use Rattle.std.specs.Prelude.{◌≡◌, ℕ, ◌+◌, ◌-◌, ◌*◌, ◌<◌, min, List, length, ◌++◌, codes, decimal, ◌⊎◌, Option, None, Result, Ok, Err}
+use Rattle.std.specs.Prelude.{◌≡◌, ℕ, ◌+◌, ◌-◌, ◌*◌, ◌<◌, min, List, length, ◌++◌, codes, decimal, ◌⊎◌, None, Result, Ok, Err}
 use Rattle.std.specs.Int.{div_ceil}
 use Rattle.std.specs.List.{range_with_len, flat_map}
 use Rattle.sha2.specs.Sha256.{sha256}
@@ -11,8 +11,7 @@ use Rattle.tas_movie.specs.Text.{text2}
 use Rattle.tas_green.specs.Run.{state_after, picture_of}
 use Rattle.tas_engines.specs.declared.fault.RunFault.{RunFault}
 use Rattle.tas_engines.specs.declared.fault.RunFault.TheVariants.{Halted, Memory}
-use Rattle.tas_engines.specs.declared.fault.ToolFault.{ToolFault}
-use Rattle.tas_engines.specs.Movies.{IsMovieOf, IsMovieFault, IsMovieRun}
+use Rattle.tas_engines.specs.Movies.{IsMovieOf, IsMovieFault}
 use Rattle.tas_engines.specs.Ram.{ram_after}
 use Rattle.tas_engines.specs.Shooting.{IsShotFault}
 
@@ -70,8 +69,3 @@ IsDigestFault movie _ = ⊥
 abbrev pub IsDigestAnswer : ℕ → List ℕ → List ℕ → Result (List ℕ) RunFault → Type 0
 IsDigestAnswer every image bytes (Ok text) = (movie : MovieContent) × IsMovieOf image bytes movie × NoneHalted movie × (text ≡ digest_text every movie)
 IsDigestAnswer every image bytes (Err e) = IsMovieFault image bytes e ⊎ ((movie : MovieContent) × IsMovieOf image bytes movie × IsDigestFault movie e)
-
--- `tas digest`, from what its readers (a cartridge and a movie text) have and the writer holds before to what they have and hold
--- afterwards
-abbrev pub IsDigestRun : ℕ → (cart cart' input input' output output' : Option (List ℕ)) → Result (Unit {0}) ToolFault → Type 0
-IsDigestRun every cart cart' input input' output output' result = IsMovieRun (IsDigestAnswer every) cart cart' input input' output output' result

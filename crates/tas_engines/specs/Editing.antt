@@ -4,10 +4,7 @@ use Rattle.tas_movie.specs.Content.{MovieContent}
 use Rattle.tas_movie.specs.Text.{text2}
 use Rattle.tas_engines.specs.declared.fault.RunFault.{RunFault}
 use Rattle.tas_engines.specs.declared.fault.RunFault.TheVariants.{Script, Place, Long, Memory as OutOfMemory}
-use Rattle.tas_engines.specs.declared.fault.ToolFault.{ToolFault}
 use Rattle.tas_engines.specs.Movies.{IsMovieOf, IsMovieFault, AreMoviesOf, AreMoviesFault}
-use Rattle.tas_engines.specs.Output.{Ends}
-use Rattle.tas_engines.specs.ThreeInputs.{EndsAfterThree, EndsAfterFour}
 use Rattle.tas_engines.specs.declared.scripts.ScriptFault.{ScriptFault}
 use Rattle.tas_engines.specs.declared.scripts.ScriptFault.TheVariants.{Line, Place as PlaceFault, Long as LongFault, Memory}
 use Rattle.tas_engines.specs.Scripts.{MakesAll}
@@ -39,15 +36,3 @@ IsEditWithAnswer image script more bytes (Ok out) =
     (other old : MovieContent) × AreMoviesOf image more bytes other old × IsScriptAnswer (Some other) old script (Ok out)
 IsEditWithAnswer image script more bytes (Err e) =
     AreMoviesFault image more bytes e ⊎ ((other old : MovieContent) × AreMoviesOf image more bytes other old × IsScriptAnswer (Some other) old script (Err e))
-
--- `tas edit`, from what its readers (a cartridge, a script and a movie text) have and the writer holds before to what they
--- have and hold afterwards
-abbrev pub IsEditRun : (cart cart' script script' input input' output output' : Option (List ℕ)) → Result (Unit {0}) ToolFault → Type 0
-IsEditRun cart cart' script script' input input' output output' result =
-    EndsAfterThree (λ image said bytes end. Ends (IsEditAnswer image said bytes) output output' end) cart cart' script script' input input' output output' result
-
--- `tas edit --with`, the same with one reader more: that of the second movie's text, read before the first movie's
-abbrev pub IsEditWithRun : (cart cart' script script' more more' input input' output output' : Option (List ℕ)) → Result (Unit {0}) ToolFault → Type 0
-IsEditWithRun cart cart' script script' more more' input input' output output' result =
-    EndsAfterFour (λ image said second bytes end. Ends (IsEditWithAnswer image said second bytes) output output' end)
-    cart cart' script script' more more' input input' output output' result

@@ -1,5 +1,5 @@
 -- What an engine reads of its inputs.
-use Rattle.std.specs.Prelude.{◌≡◌, ℕ, ◌+◌, List, length, ◌≤◌, Option, Some, ◌⊎◌}
+use Rattle.std.specs.Prelude.{◌≡◌, ℕ, ◌+◌, List, [], ◌∷◌, ◌++◌, length, ◌≤◌, Option, Some, ◌⊎◌}
 use Rattle.std.specs.Io.KnownBytes.{Consumes, IsAtEnd}
 use Rattle.tas_engines.specs.declared.fault.ReadFault.{ReadFault}
 use Rattle.tas_engines.specs.declared.fault.ReadFault.TheVariants.{TooLong, Failed, Memory}
@@ -32,3 +32,18 @@ StopsReading old new Memory = LeftReader old new (λ n. n ≤ most_input_bytes)
 -- reading one input after another stopped: at the first, and the second is untouched; or the first was read whole
 abbrev pub StopsReadingTwo : (old new old' new' : Option (List ℕ)) → ReadFault → Type 0
 StopsReadingTwo old new old' new' fault = (StopsReading old new fault × (new' ≡ old')) ⊎ ((bytes : List ℕ) × IsReadWhole old new bytes × StopsReading old' new' fault)
+
+-- each of some inputs was read to its end, and these are their bytes
+unfoldable pub AreReadWhole : (olds news : List (Option (List ℕ))) → List (List ℕ) → Type 0
+AreReadWhole [] [] [] = Unit {0}
+AreReadWhole (old ∷ olds) (new ∷ news) (bytes ∷ inputs) = IsReadWhole old new bytes × AreReadWhole olds news inputs
+AreReadWhole _ _ _ = ⊥
+
+-- reading some inputs, one after the other, stopped at one: those before it were read whole, and those after it are untouched
+unfoldable pub StopsReadingAll : (olds news : List (Option (List ℕ))) → ReadFault → Type 0
+StopsReadingAll (old ∷ olds) (new ∷ news) fault = (StopsReading old new fault × (news ≡ olds)) ⊎ ((bytes : List ℕ) × IsReadWhole old new bytes × StopsReadingAll olds news fault)
+StopsReadingAll _ _ fault = ⊥
+
+-- one more input was read whole after others, and its bytes come after theirs. Private functions cite it
+abbrev pub IsReadOnto : (old new : Option (List ℕ)) → (before after : List (List ℕ)) → Type 0
+IsReadOnto old new before after = (bytes : List ℕ) × IsReadWhole old new bytes × (after ≡ before ++ bytes ∷ [])

@@ -1,5 +1,5 @@
 -- Stretches of lag frames, and what `tas lag` answers.
-use Rattle.std.specs.Prelude.{◌≡◌, ℕ, zero, suc, ◌+◌, ◌-◌, ◌==◌, nat_lt, Bool, true, not, ◌&&◌, if◌then◌else◌, List, [], ◌++◌, length, codes, decimal, slice_index_or, Option, Result, Ok, Err}
+use Rattle.std.specs.Prelude.{◌≡◌, ℕ, zero, suc, ◌+◌, ◌-◌, ◌==◌, nat_lt, Bool, true, not, ◌&&◌, if◌then◌else◌, List, [], ◌++◌, length, codes, decimal, slice_index_or, Result, Ok, Err}
 use Rattle.std.specs.List.{range_with_len, flat_map}
 use Rattle.vcs_inputs.specs.Input.{no_input}
 use Rattle.vcs_inputs.specs.declared.input.Input.{Input}
@@ -8,8 +8,7 @@ use Rattle.tas_movie.specs.Content.{MovieContent}
 use Rattle.tas_movie.specs.Text.{line}
 use Rattle.tas_green.specs.Run.{state_after}
 use Rattle.tas_engines.specs.declared.fault.RunFault.{RunFault}
-use Rattle.tas_engines.specs.declared.fault.ToolFault.{ToolFault}
-use Rattle.tas_engines.specs.Movies.{IsMovieOf, IsMovieFault, IsMovieRun}
+use Rattle.tas_engines.specs.Movies.{IsMovieOf, IsMovieFault}
 
 -- whether frame k of a movie is a lag frame
 abbrev pub is_lag : MovieContent → ℕ → Bool
@@ -52,8 +51,3 @@ LagFramesIgnoreInput movie = (k : ℕ) (other : Input) → is_lag movie k ≡ tr
 abbrev pub IsLagAnswer : List ℕ → List ℕ → Result (List ℕ) RunFault → Type 0
 IsLagAnswer image bytes (Ok text) = (movie : MovieContent) × IsMovieOf image bytes movie × (text ≡ lag_lines movie) × LagFramesIgnoreInput movie
 IsLagAnswer image bytes (Err e) = IsMovieFault image bytes e
-
--- `tas lag`, from what its readers (a cartridge and a movie text) have and the writer holds before to what they have and hold
--- afterwards
-abbrev pub IsLagRun : (cart cart' input input' output output' : Option (List ℕ)) → Result (Unit {0}) ToolFault → Type 0
-IsLagRun cart cart' input input' output output' result = IsMovieRun IsLagAnswer cart cart' input input' output output' result

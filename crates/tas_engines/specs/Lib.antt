@@ -5,8 +5,8 @@ pub mod Checking
 pub mod Migrating
 pub mod Shooting
 pub mod Output
+pub mod Commands
 pub mod Tracing
-pub mod ThreeInputs
 pub mod Changes
 pub mod Differences
 pub mod Hunks

@@ -26,10 +26,6 @@ abbrev pub Ends : (Result (List ℕ) RunFault → Type 0) → Option (List ℕ) 
 Ends answers old new (Ok _) = (bytes : List ℕ) × answers (Ok bytes) × Appends old new bytes
 Ends answers old new (Err fault) = (answers (Err fault) × Keeps old new) ⊎ BreaksOff answers old new fault
 
--- the same of an engine that reports how it ended
-abbrev pub EndsReported : (Result (List ℕ) RunFault → Type 0) → Option (List ℕ) → Option (List ℕ) → Result (Unit {0}) ToolFault → Type 0
-EndsReported answers old new result = (end : Result (Unit {0}) RunFault) × (result ≡ reported end) × Ends answers old new end
-
 -- how an engine ends: reading stopped, and nothing is written; or it ran on what it had read, and reports how that ended
 abbrev pub EndsAfter : (ReadFault → Type 0) → (Result (Unit {0}) RunFault → Type 0) → Option (List ℕ) → Option (List ℕ) → Result (Unit {0}) ToolFault → Type 0
 EndsAfter stops runs old new result =

@@ -1,13 +1,12 @@
 -- What `tas ram` answers.
-use Rattle.std.specs.Prelude.{◌≡◌, ℕ, ◌+◌, ◌-◌, ◌≤◌, List, length, ◌++◌, codes, decimal, ◌⊎◌, Option, Result, Ok, Err}
+use Rattle.std.specs.Prelude.{◌≡◌, ℕ, ◌+◌, ◌-◌, ◌≤◌, List, length, ◌++◌, codes, decimal, ◌⊎◌, Result, Ok, Err}
 use Rattle.std.specs.List.{range_with_len, flat_map}
 use Rattle.byte_text.specs.Digits.{hex_byte}
 use Rattle.tas_movie.specs.Content.{MovieContent}
 use Rattle.tas_green.specs.Run.{state_after}
 use Rattle.tas_engines.specs.declared.fault.RunFault.{RunFault}
 use Rattle.tas_engines.specs.declared.fault.RunFault.TheVariants.{Range}
-use Rattle.tas_engines.specs.declared.fault.ToolFault.{ToolFault}
-use Rattle.tas_engines.specs.Movies.{IsMovieOf, IsMovieFault, IsMovieRun}
+use Rattle.tas_engines.specs.Movies.{IsMovieOf, IsMovieFault}
 
 -- the 128 bytes of RAM after the movie's first k frames, halted or not
 abbrev pub ram_after : MovieContent → ℕ → List ℕ
@@ -39,8 +38,3 @@ IsRamFault from to movie _ = ⊥
 abbrev pub IsRamAnswer : ℕ → ℕ → List ℕ → List ℕ → Result (List ℕ) RunFault → Type 0
 IsRamAnswer from to image bytes (Ok text) = (movie : MovieContent) × IsMovieOf image bytes movie × IsRamRange movie from to × (text ≡ ram_lines movie from to)
 IsRamAnswer from to image bytes (Err e) = IsMovieFault image bytes e ⊎ ((movie : MovieContent) × IsMovieOf image bytes movie × IsRamFault from to movie e)
-
--- `tas ram`, from what its readers (a cartridge and a movie text) have and the writer holds before to what they have and hold
--- afterwards
-abbrev pub IsRamRun : ℕ → ℕ → (cart cart' input input' output output' : Option (List ℕ)) → Result (Unit {0}) ToolFault → Type 0
-IsRamRun from to cart cart' input input' output output' result = IsMovieRun (IsRamAnswer from to) cart cart' input input' output output' result

@@ -1,5 +1,11 @@
 //! Places from which two lists of inputs seem to go on alike. Nothing is promised of them: whoever takes one compares
 //! the inputs.
+//!
+//! A stretch is looked for by its first one, four and sixteen runs, not by its frames: long pauses have different
+//! lengths, so a run is easier to find again. Runs are looked up by a hash in a table of twice their number, 256 slots
+//! at least, in which a slot with two runs counts as empty: that loses some stretches, and takes no longer whatever the
+//! hashes are. Of the stretches that occur once in both, the longest chain that goes forward in both is taken. Within a
+//! hunk, shorter stretches that occur once in each of its parts are looked for, too.
 
 ghost use Rattle.std.specs.Prelude.{◌≤◌, ◌+◌, length};
 

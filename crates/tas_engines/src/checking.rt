@@ -1,10 +1,12 @@
 //! `tas check`.
 
 ghost use Rattle.std.specs.Prelude.{◌≡◌, Ok, IfOk, IfErr, string_bytes};
+ghost use Rattle.tas_engines.specs.Commands.{OfTwo};
 ghost use Rattle.tas_engines.specs.Output.{Ends};
 ghost use Rattle.tas_engines.specs.Movies.{IsMovieFault, IsMovieRun};
 ghost use Rattle.tas_engines.specs.Checking.{IsCheckAnswer, length_line};
 
+use crate::commands::{Command, bytes_of};
 use crate::{RunFault, ToolFault, movie_of, read_two, write_all};
 use std::alloc::{AllocError, Allocator};
 use std::io::{Read, Write};
@@ -56,10 +58,32 @@ pub fn check_run<A: Allocator + Copy, C: Read, R: Read, W: Write>(
     input: &mut R,
     output: &mut W,
 ) -> Result<(), ToolFault>
+    // `check_run` reads cartridge and text whole and writes the movie's length, or ends with a fault whose cause holds
+    // and nothing written, or with `Write`.
+    // Refused: length_reported_one_more.
     ensures { IsMovieRun IsCheckAnswer (C.remaining cart.old) (C.remaining cart.new)
         (R.remaining input.old) (R.remaining input.new) (W.contents output.old)
         (W.contents output.new) result }
 {
     let (image, bytes) = read_two(alloc, cart, input)?;
     Ok(check_movie(alloc, image.as_slice(), bytes.as_slice(), output)?)
+}
+
+/// `tas check`: `ok F frames`, where F is the movie's length, of a cartridge and a movie's text of either kind.
+///
+/// Faults: those of [`movie_of`]. `Memory` with nothing written.
+#[derive(Clone, Copy)]
+pub struct Check;
+
+impl Command for Check {
+    ghost answers = { λ _. OfTwo IsCheckAnswer };
+
+    fn answer<A: Allocator + Copy, W: Write>(
+        &self,
+        alloc: A,
+        inputs: &[Vec<u8, A>],
+        output: &mut W,
+    ) -> Result<(), RunFault> {
+        check_movie(alloc, bytes_of(inputs, 0), bytes_of(inputs, 1), output)
+    }
 }

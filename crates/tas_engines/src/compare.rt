@@ -1,8 +1,13 @@
 //! `tas compare`.
+//!
+//! It never ends with `halted`, since it is used to find where an edit made a movie halt: a halted frame shows nothing,
+//! so two of them don't differ. Pictures are compared as their files are: two colour bytes of one red, green and blue
+//! are equal. Both texts name the cartridge, so movies of two are a fault of `digest`.
 
 ghost use Rattle.std.specs.Prelude.{◌≡◌, ◌≢◌, ◌+◌, ◌≤◌, ◌<◌, ◌++◌, length, codes, IsTrue, None, Ok, Err, IfOk, IfErr, OnOk};
 ghost use Rattle.tas_green.specs.Run.{state_after};
 ghost use Rattle.tas_movie.specs.Front.{IsCommonFront};
+ghost use Rattle.tas_engines.specs.Commands.{OfThree};
 ghost use Rattle.tas_engines.specs.Comparing.{
   pixmap_of,
   first_of,
@@ -11,16 +16,14 @@ ghost use Rattle.tas_engines.specs.Comparing.{
   place_text,
   differences_text,
   IsCompareAnswer,
-  IsCompareRun,
 };
 
+use crate::RunFault;
+use crate::commands::{Text, bytes_of};
 use crate::movies::movies_of;
 use crate::passing::{draw_frame, fill_pixmap, pass_frames};
-use crate::writing::write_answer;
-use crate::{RunFault, ToolFault, read_three};
 use itoa::Buffer;
 use std::alloc::{AllocError, Allocator};
-use std::io::{Read, Write};
 use tas_movie::{Movie, common_front};
 use vcs_machine::State;
 use vcs_tia::{PIXMAP_SIZE, Picture};
@@ -222,26 +225,32 @@ fn compare_answer<A: Allocator + Copy>(
     Ok(differences_text(alloc, found)?)
 }
 
-/// Reads a cartridge and the texts of two movies with it, the old one and the new one, and writes the first frames at which
-/// their inputs, RAM after the frame and pictures differ: lines `input I`, `ram R` and `picture P`, each with a frame
-/// counted from 0, or `none`. A movie that ends sooner differs at its end. A halted frame shows no picture, and a halted
-/// machine keeps its RAM.
+/// `tas compare`: the first frames at which the inputs of two movies, RAM after the frame and the pictures differ: lines `input I`, `ram R`
+/// and `picture P`, each with a frame counted from 0, or `none`; of a cartridge, the old movie's text and the new one's. A movie that ends
+/// sooner differs at its end. A halted frame shows no picture, and a halted machine keeps its RAM.
 ///
-/// Faults, in order: those of reading the three, then `Size`, then `Text` of the old text and of the new one; each with
-/// nothing written. `Memory` with nothing written at any point; `Write` with the first bytes of the lines written, and how
-/// many.
-pub fn compare_run<A: Allocator + Copy, C: Read, S: Read, R: Read, W: Write>(
-    alloc: A,
-    cart: &mut C,
-    before: &mut S,
-    input: &mut R,
-    output: &mut W,
-) -> Result<(), ToolFault>
-    ensures { IsCompareRun (C.remaining cart.old) (C.remaining cart.new) (S.remaining before.old)
-        (S.remaining before.new) (R.remaining input.old) (R.remaining input.new)
-        (W.contents output.old) (W.contents output.new) result }
-{
-    let read = read_three(alloc, cart, before, input)?;
-    let answer = compare_answer(alloc, &read.first, &read.second, &read.third);
-    write_answer(output, answer)
+/// Faults, in order: `Size`, then `Text` of the old text and of the new one. `Memory` at any point.
+#[derive(Clone, Copy)]
+pub struct Compare;
+
+impl Text for Compare {
+    // `tas compare` writes the first frames at which the two movies' inputs, RAM after the frame and pictures differ:
+    // at each frame before they are the same, and at `none` at every frame; a movie that has ended has nothing there,
+    // and a halted frame shows nothing.
+    // Refused: shorter_movie_has_no_difference, places_are_counted_from_the_front*,
+    // halted_frame_shows_the_picture_before*, first_difference_is_the_last*.
+    ghost answers = { λ _. OfThree IsCompareAnswer };
+
+    fn text<A: Allocator + Copy>(
+        &self,
+        alloc: A,
+        inputs: &[Vec<u8, A>],
+    ) -> Result<Vec<u8, A>, RunFault> {
+        compare_answer(
+            alloc,
+            bytes_of(inputs, 0),
+            bytes_of(inputs, 1),
+            bytes_of(inputs, 2),
+        )
+    }
 }

@@ -1,4 +1,10 @@
 //! The changes that make one list of inputs of another.
+//!
+//! In a gap of as many old frames as new ones the frames are replaced where they are: a changed frame is more likely
+//! than one taken out and another put in. A replacement covers up to 15 equal frames between two that it changes: so
+//! taking out autofire is one line, and two changes far apart are two. A stretch doesn't stay where the movie would be
+//! too long meanwhile, as after an insertion whose deletion comes later: each line of a script must be allowed.
+//! `common_front` and `common_runs` are one loop over two types.
 
 ghost use Rattle.std.specs.Prelude.{◌≡◌, ◌-◌, ◌<◌, ◌≤◌, ◌++◌, length, take, drop, IfOk, OnOk};
 ghost use Rattle.tas_movie.specs.Content.{most_inputs};
@@ -259,6 +265,22 @@ pub fn changes_between<A: Allocator + Copy>(
 ) -> Result<Vec<Change, A>, AllocError>
     requires old_bound { length old.now ≤ most_inputs }
     requires new_bound { length new.now ≤ most_inputs }
+    // A difference turns the old inputs into the new ones, each of its changes allowed. Its lines go from front to
+    // back, none in the common beginning or the common end; they take out and put in no more than lies between
+    // these; equal lists have none. Each is of one input at least; of two that touch both replace or both put in, and
+    // the inputs differ, so they couldn't be one, or the first deletes and the second puts in; after a deletion more or
+    // fewer inputs are put in than it takes out. A replacement changes the first and the last of its inputs.
+    // Refused: difference_forgets_the_end, deletion_in_place_of_a_replacement*,
+    // frames_after_an_anchor_are_not_compared, replacement_covers_frames_that_stay*, movie_is_too_long_for_a_while*,
+    // one_deleted_frame_stays*, line_for_each_frame*, difference_begins_anew*.
+    // A difference falls into hunks: the runs of the inputs between the common beginning and the common end, old and
+    // new, are those of hunks, and at least four runs stay between two of these. The changes of a hunk are within it:
+    // they take out no more than its old runs, and put in no more than its new ones. Its old and its new runs have no
+    // four in a row in common, where fewer than 512 of the two come before them, unless the movie would be too long
+    // there. So one deletion and one insertion between the common beginning and end is no difference, where both movies
+    // have four runs in a row near its first change.
+    // Refused: difference_is_one_hunk, next_runs_are_not_looked_at*, three_runs_end_a_hunk*,
+    // too_long_a_movie_is_gone_on_with*.
     ensures { IfOk result (λ changes. IsDifference old.now new.now changes.items) }
 {
     let front = common_front(old, new);

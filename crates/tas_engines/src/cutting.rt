@@ -1,12 +1,12 @@
 //! `tas cut`.
 
 ghost use Rattle.std.specs.Prelude.{◌≡◌, Ok, Err, IfOk, IfErr};
-ghost use Rattle.tas_engines.specs.Cutting.{cut_out, IsCutRange, IsCutFault, IsCutAnswer, IsCutRun};
+ghost use Rattle.tas_engines.specs.Commands.{OfTwo};
+ghost use Rattle.tas_engines.specs.Cutting.{cut_out, IsCutRange, IsCutFault, IsCutAnswer};
 
-use crate::writing::write_answer;
-use crate::{RunFault, ToolFault, movie_of, read_two};
+use crate::commands::{Text, bytes_of};
+use crate::{RunFault, movie_of};
 use std::alloc::Allocator;
-use std::io::{Read, Write};
 use tas_movie::{Edit, Movie, apply, print_text};
 
 /// Keeps the frames `from` to `to` - 1 and drops all others; `Range` where the movie doesn't have them, and it is as before.
@@ -46,24 +46,35 @@ fn cut_text<A: Allocator + Copy>(
     Ok(print_text(alloc, &movie)?)
 }
 
-/// Reads a cartridge and a movie text, and writes the text of the movie of the frames `from` to `to` - 1 alone, counted from
-/// 0.
+/// `tas cut`: the text of the movie of some frames alone, of a cartridge and a movie's text.
 ///
-/// Faults, in order: those of [`read_two`], those of [`movie_of`], then `Range` where `from` is past `to` or `to` past the
-/// movie's end; each with nothing written. `Memory` with nothing written at any point; `Write` with the first bytes of the
-/// answer written, and how many.
-pub fn cut_run<A: Allocator + Copy, C: Read, R: Read, W: Write>(
-    alloc: A,
-    from: usize,
-    to: usize,
-    cart: &mut C,
-    input: &mut R,
-    output: &mut W,
-) -> Result<(), ToolFault>
-    ensures { IsCutRun from to (C.remaining cart.old) (C.remaining cart.new) (R.remaining input.old)
-        (R.remaining input.new) (W.contents output.old) (W.contents output.new) result }
-{
-    let (image, bytes) = read_two(alloc, cart, input)?;
-    let answer = cut_text(alloc, from, to, &image, &bytes);
-    write_answer(output, answer)
+/// Faults, in order: those of [`movie_of`], then `Range` where `from` is past `to` or `to` past the movie's end. `Memory` at any point.
+#[derive(Clone, Copy)]
+pub struct Cut {
+    /// The first frame, counted from 0.
+    pub from: usize,
+    /// The frame after the last one.
+    pub to: usize,
+}
+
+impl Text for Cut {
+    // `tas cut` reads cartridge and text whole, and writes the text of the movie of the frames FROM to TO - 1; `Range`
+    // only where FROM is past TO or TO past the length, where it is this fault or `Memory`, with nothing
+    // written; `Memory` with nothing written.
+    // Refused: cut_keeps_the_last_frame, range_of_a_cut_has_its_ends_swapped*, cut_of_the_whole_movie_is_refused*.
+    ghost answers = { λ cut. OfTwo (IsCutAnswer cut.from cut.to) };
+
+    fn text<A: Allocator + Copy>(
+        &self,
+        alloc: A,
+        inputs: &[Vec<u8, A>],
+    ) -> Result<Vec<u8, A>, RunFault> {
+        cut_text(
+            alloc,
+            self.from,
+            self.to,
+            bytes_of(inputs, 0),
+            bytes_of(inputs, 1),
+        )
+    }
 }

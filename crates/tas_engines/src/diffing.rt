@@ -5,13 +5,13 @@ ghost use Rattle.std.specs.List.{flat_map};
 ghost use Rattle.tas_language.specs.declared.change.Change.{Change};
 ghost use Rattle.tas_engines.specs.Differences.{IsDifference};
 ghost use Rattle.tas_engines.specs.Scripts.{change_line};
-ghost use Rattle.tas_engines.specs.Diffing.{IsDiffAnswer, IsDiffRun};
+ghost use Rattle.tas_engines.specs.Commands.{OfThree};
+ghost use Rattle.tas_engines.specs.Diffing.{IsDiffAnswer};
 
+use crate::commands::{Text, bytes_of};
 use crate::movies::movies_of;
-use crate::writing::write_answer;
-use crate::{RunFault, ToolFault, changes_between, print_changes, read_three};
+use crate::{RunFault, changes_between, print_changes};
 use std::alloc::{AllocError, Allocator};
-use std::io::{Read, Write};
 use tas_movie::Movie;
 
 /// The script that makes one movie of another.
@@ -44,24 +44,30 @@ fn difference_text<A: Allocator + Copy>(
     Ok(script_between(alloc, &old, &new)?)
 }
 
-/// Reads a cartridge and the texts of two movies with it, the old one and the new one, and writes the
-/// script that makes the new one of the old one: nothing where they are equal.
+/// `tas diff`: the script that makes the new movie of the old one, nothing where they are equal; of a cartridge, the old movie's text and the
+/// new one's.
 ///
-/// Faults, in order: those of reading the three, then `Size`, then `Text` of the old text and of the new
-/// one; each with nothing written. `Memory` with nothing written at any point; `Write` with the first bytes
-/// of the answer written, and how many.
-pub fn diff_run<A: Allocator + Copy, C: Read, S: Read, R: Read, W: Write>(
-    alloc: A,
-    cart: &mut C,
-    before: &mut S,
-    input: &mut R,
-    output: &mut W,
-) -> Result<(), ToolFault>
-    ensures { IsDiffRun (C.remaining cart.old) (C.remaining cart.new) (S.remaining before.old)
-        (S.remaining before.new) (R.remaining input.old) (R.remaining input.new)
-        (W.contents output.old) (W.contents output.new) result }
-{
-    let read = read_three(alloc, cart, before, input)?;
-    let answer = difference_text(alloc, &read.first, &read.second, &read.third);
-    write_answer(output, answer)
+/// Faults, in order: `Size`, then `Text` of the old text and of the new one. `Memory` at any point.
+#[derive(Clone, Copy)]
+pub struct Diff;
+
+impl Text for Diff {
+    // `tas diff` reads the cartridge and both texts whole, and writes the lines of changes that turn the old movie into
+    // the new one by `edited`, in hunks, each allowed, and none where they are equal; or reports the first fault, with
+    // nothing written: reading, size, the old text, the new text; `Memory` and `Write` as there.
+    // Refused: difference_goes_back.
+    ghost answers = { λ _. OfThree IsDiffAnswer };
+
+    fn text<A: Allocator + Copy>(
+        &self,
+        alloc: A,
+        inputs: &[Vec<u8, A>],
+    ) -> Result<Vec<u8, A>, RunFault> {
+        difference_text(
+            alloc,
+            bytes_of(inputs, 0),
+            bytes_of(inputs, 1),
+            bytes_of(inputs, 2),
+        )
+    }
 }

@@ -1,12 +1,18 @@
 //! `tas digest`.
+//!
+//! A digest is held until the last frame is played: so a movie that halts leaves nothing that looks like the beginning
+//! of one. It has one picture for each stretch, since drawing and hashing all would take many times as long; RAM after
+//! each frame shows nearly everything, and `tas compare` finds the first picture that differs. A stretch has the RAM of
+//! its own frames alone: two movies that differ in one and meet again have equal stretches later.
 
-ghost use Rattle.std.specs.Prelude.{◌≡◌, ℕ, ◌+◌, ◌-◌, ◌≤◌, ◌<◌, List, ◌++◌, length, decimal, None, Some, Ok, Err, IfOk, IfErr, OnOk};
+ghost use Rattle.std.specs.Prelude.{◌≡◌, ℕ, ◌+◌, ◌-◌, ◌≤◌, ◌<◌, max, List, ◌++◌, length, decimal, None, Some, Ok, Err, IfOk, IfErr, OnOk};
 ghost use Rattle.std.specs.Int.{div_ceil};
 ghost use Rattle.std.specs.List.{flat_map, range_with_len};
 ghost use Rattle.hex.specs.Hex.{encode_lower};
 ghost use Rattle.sha2.specs.Hashers.{Holds256};
 ghost use Rattle.vcs_tia.specs.Image.{ppm_bytes};
 ghost use Rattle.tas_green.specs.Run.{state_after, picture_of, answer_of};
+ghost use Rattle.tas_engines.specs.Commands.{OfTwo};
 ghost use Rattle.tas_engines.specs.Digests.{
   digest_of,
   ram_of_frames,
@@ -19,16 +25,14 @@ ghost use Rattle.tas_engines.specs.Digests.{
   NoneHalted,
   IsDigestFault,
   IsDigestAnswer,
-  IsDigestRun,
 };
 
+use crate::commands::{Text, bytes_of};
 use crate::passing::{draw_frame, fill_pixmap, pass_frame};
-use crate::writing::write_answer;
-use crate::{RunFault, ToolFault, halt_fault, movie_of, read_two};
+use crate::{RunFault, halt_fault, movie_of};
 use itoa::Buffer;
-use sha2::{Digest, Sha256};
+use sha2::{Digest as Hashing, Sha256};
 use std::alloc::{AllocError, Allocator};
-use std::io::{Read, Write};
 use tas_movie::{Movie, print_text};
 use vcs_cpu::Halt;
 use vcs_machine::{PROFILE, State};
@@ -279,25 +283,34 @@ fn digest_answer<A: Allocator + Copy>(
     digest_movie(alloc, every, &movie)
 }
 
-/// Reads a cartridge and a movie text, plays the movie once, and writes its digest in stretches of `every` frames:
-/// SHA-256 digests of the cartridge, of the movie's text of runs, of RAM after each frame of a stretch and of the pixmap
-/// of its last frame.
+/// `tas digest`: a movie's digest in stretches of `every` frames, of a cartridge and a movie's text: SHA-256 digests of the cartridge, of the
+/// movie's text of runs, of RAM after each frame of a stretch and of the pixmap of its last frame. The movie is played once.
 ///
-/// Faults, in order: those of [`read_two`], those of [`movie_of`], then `Halted` where a frame is halted, each with nothing
-/// written; `Memory` with nothing written at any point; `Write` with the first bytes of the digest written, and how many.
-pub fn digest_run<A: Allocator + Copy, C: Read, R: Read, W: Write>(
-    alloc: A,
-    every: usize,
-    cart: &mut C,
-    input: &mut R,
-    output: &mut W,
-) -> Result<(), ToolFault>
-    requires { 1 ≤ every }
-    ensures { IsDigestRun every (C.remaining cart.old) (C.remaining cart.new)
-        (R.remaining input.old) (R.remaining input.new) (W.contents output.old)
-        (W.contents output.new) result }
-{
-    let (image, bytes) = read_two(alloc, cart, input)?;
-    let answer = digest_answer(alloc, every, &image, &bytes);
-    write_answer(output, answer)
+/// Faults, in order: those of [`movie_of`], then `Halted` where a frame is halted. `Memory` at any point.
+#[derive(Clone, Copy)]
+pub struct Digest {
+    /// How many frames a stretch has; 0 counts as 1.
+    pub every: usize,
+}
+
+impl Text for Digest {
+    // `tas digest` writes the digests of the cartridge, of the movie's text of runs, and for each stretch of EVERY
+    // frames those of RAM after each frame and of the last frame's pixmap; none of the movie's frames is halted then.
+    // `Halted` only with the halt of such a frame, and nothing written; `Memory` with nothing written.
+    // Refused: picture_of_a_stretch_is_its_first, stretch_has_its_last_frame_alone*,
+    // stretch_leaves_its_last_frame_out*, digest_of_the_padded_image*, halted_frames_have_a_digest*.
+    ghost answers = { λ digest. OfTwo (IsDigestAnswer (max digest.every 1)) };
+
+    fn text<A: Allocator + Copy>(
+        &self,
+        alloc: A,
+        inputs: &[Vec<u8, A>],
+    ) -> Result<Vec<u8, A>, RunFault> {
+        digest_answer(
+            alloc,
+            self.every.max(1),
+            bytes_of(inputs, 0),
+            bytes_of(inputs, 1),
+        )
+    }
 }

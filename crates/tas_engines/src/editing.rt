@@ -1,20 +1,17 @@
 //! `tas edit`.
+//!
+//! Where `tas script` replies, `tas edit` ends: a refused line is a fault and nothing is written, since whoever reads
+//! the output can't tell a movie that lacks some changes from the wanted one. The movie's faults come before the
+//! script's, since a change can only be refused on a movie.
 
 ghost use Rattle.std.specs.Prelude.{◌≡◌, Ok, Err, IfOk, IfErr};
-ghost use Rattle.tas_engines.specs.Editing.{
-  script_fault,
-  IsScriptAnswer,
-  IsEditAnswer,
-  IsEditRun,
-  IsEditWithAnswer,
-  IsEditWithRun,
-};
+ghost use Rattle.tas_engines.specs.Commands.{OfThree, OfFour};
+ghost use Rattle.tas_engines.specs.Editing.{script_fault, IsScriptAnswer, IsEditAnswer, IsEditWithAnswer};
 
+use crate::commands::{Text, bytes_of};
 use crate::movies::movies_of;
-use crate::writing::write_answer;
-use crate::{RunFault, ScriptFault, ToolFault, edit_movie, movie_of, read_input, read_three};
+use crate::{RunFault, ScriptFault, edit_movie, movie_of};
 use std::alloc::Allocator;
-use std::io::{Read, Write};
 use tas_movie::{Movie, print_text};
 
 /// How a script's fault is reported.
@@ -37,6 +34,9 @@ fn text_made<A: Allocator + Copy>(
     other: &Option<Movie<A>>,
     script: &[u8],
 ) -> Result<Vec<u8, A>, RunFault>
+    // Once the movie is made, `tas edit` is out of memory only at a script's line that is allowed and brings frames,
+    // possibly none, or for the text of the movie that all lines made: no other fault of a script is given as `Memory`.
+    // Refused: script_fault_is_given_as_memory.
     ensures text { IfOk result
         (λ text. IsScriptAnswer other.now movie.old script.now (Ok text.items)) }
     ensures fault { IfErr result
@@ -79,50 +79,61 @@ fn edited_text_with<A: Allocator + Copy>(
     text_made(alloc, &mut movie, &Some(other), script)
 }
 
-/// Reads a cartridge, a script of changes and a movie text, and writes the text of the movie that the
-/// script makes of it.
+/// `tas edit`: the text of the movie that a script of changes makes of another, of a cartridge, the script and the movie's text.
 ///
-/// Faults, in order: those of reading the three, then `Size` and `Text`, then the script's first line at
-/// fault: `Script` where it isn't understood, `Place` and `Long` where it is refused; each with
-/// nothing written. `Memory` with nothing written at any point; `Write` with the first bytes of the answer
-/// written, and how many.
-pub fn edit_run<A: Allocator + Copy, C: Read, S: Read, R: Read, W: Write>(
-    alloc: A,
-    cart: &mut C,
-    script: &mut S,
-    input: &mut R,
-    output: &mut W,
-) -> Result<(), ToolFault>
-    ensures { IsEditRun (C.remaining cart.old) (C.remaining cart.new) (S.remaining script.old)
-        (S.remaining script.new) (R.remaining input.old) (R.remaining input.new)
-        (W.contents output.old) (W.contents output.new) result }
-{
-    let read = read_three(alloc, cart, script, input)?;
-    let answer = edited_text(alloc, &read.first, &read.second, &read.third);
-    write_answer(output, answer)
+/// Faults, in order: `Size` and `Text`, then the script's first line at fault: `Script` where it isn't understood, `Place` and `Long` where
+/// it is refused. `Memory` at any point.
+#[derive(Clone, Copy)]
+pub struct Edit;
+
+impl Text for Edit {
+    // `tas edit` reads the cartridge, the script and the text whole, and writes the text of the movie that the
+    // definitions' `edited`, folded over the script's lines, makes of the movie that was read; or reports the first
+    // fault, with nothing written: reading, size, text, then the script's first line that isn't understood (`Script`),
+    // reaches past the end (`Place`) or makes the movie too long (`Long`). After the size `Memory` may come at any
+    // point, with nothing written; after `Write` the first bytes are out, as many as it reports.
+    // Refused: cartridge_is_read_as_the_script*, old_text_is_written*, change_past_the_end_is_reported_as_unclear.
+    ghost answers = { λ _. OfThree IsEditAnswer };
+
+    fn text<A: Allocator + Copy>(
+        &self,
+        alloc: A,
+        inputs: &[Vec<u8, A>],
+    ) -> Result<Vec<u8, A>, RunFault> {
+        edited_text(
+            alloc,
+            bytes_of(inputs, 0),
+            bytes_of(inputs, 1),
+            bytes_of(inputs, 2),
+        )
+    }
 }
 
-/// Reads a cartridge, a script and the texts of two movies with it, the second movie's before the first one's, and writes the
-/// text of the movie that the script makes of the first one; `copy other` takes frames from the second one.
+/// `tas edit --with`: the same with a second movie of the cartridge, from which `copy other` takes frames; of a cartridge, the script, the
+/// second movie's text and the first one's.
 ///
-/// Faults, in order: those of reading the four, then `Size`, then `Text` of the second movie and of the first one, then those of
-/// the script as of [`edit_run`]; each with nothing written. `Memory` with nothing written at any point; `Write` with the first
-/// bytes of the answer written, and how many.
-pub fn edit_with_run<A: Allocator + Copy, C: Read, S: Read, O: Read, R: Read, W: Write>(
-    alloc: A,
-    cart: &mut C,
-    script: &mut S,
-    other: &mut O,
-    input: &mut R,
-    output: &mut W,
-) -> Result<(), ToolFault>
-    ensures { IsEditWithRun (C.remaining cart.old) (C.remaining cart.new) (S.remaining script.old)
-        (S.remaining script.new) (O.remaining other.old) (O.remaining other.new)
-        (R.remaining input.old) (R.remaining input.new) (W.contents output.old)
-        (W.contents output.new) result }
-{
-    let image = read_input(alloc, cart)?;
-    let read = read_three(alloc, script, other, input)?;
-    let answer = edited_text_with(alloc, &image, &read.first, &read.second, &read.third);
-    write_answer(output, answer)
+/// Faults, in order: `Size`, then `Text` of the second movie and of the first one, then those of the script as of [`Edit`]. `Memory` at any
+/// point.
+#[derive(Clone, Copy)]
+pub struct EditWith;
+
+impl Text for EditWith {
+    // `tas edit --with` does what `tas edit` does, with a second movie of the cartridge, whose text is read before the
+    // first movie's, and whose faults come before its faults: of another cartridge the fault `digest`.
+    // Refused: fourth_input_is_the_third*, first_movie_is_the_second_one_too.
+    ghost answers = { λ _. OfFour IsEditWithAnswer };
+
+    fn text<A: Allocator + Copy>(
+        &self,
+        alloc: A,
+        inputs: &[Vec<u8, A>],
+    ) -> Result<Vec<u8, A>, RunFault> {
+        edited_text_with(
+            alloc,
+            bytes_of(inputs, 0),
+            bytes_of(inputs, 1),
+            bytes_of(inputs, 2),
+            bytes_of(inputs, 3),
+        )
+    }
 }

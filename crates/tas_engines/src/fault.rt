@@ -1,4 +1,10 @@
 //! Why an engine ended without its answer.
+//!
+//! An engine has two parts: it reads its inputs, whose only faults are those of `ReadFault`, and runs on the bytes,
+//! whose only faults are those of `RunFault`. No contract can see whether a reader failed, so no clause can refuse
+//! `Read` where an engine has read: the type of the second part does. `ScriptFault` and `ChangeError` have no text: an
+//! engine turns them into `RunFault`, which has one. A film's halt has a line of its own, since what was written
+//! doesn't show the frame to somebody at the end of a pipe.
 
 ghost use Rattle.std.specs.Prelude.{◌≡◌};
 ghost use Rattle.tas_engines.specs.declared.fault.RunFault.TheVariants.{Write as WriteFailed, Memory as Refused};
@@ -175,6 +181,7 @@ impl From<CartError> for RunFault {
 impl From<ReadError> for RunFault {
     ghost from_gives = { λ error fault. fault ≡ text_fault error };
 
+    // Refused: text_error_becomes_a_size*.
     fn from(error: ReadError) -> RunFault {
         match error {
             ReadError::Text(error) => RunFault::Text(error),
@@ -194,6 +201,8 @@ impl From<AllocError> for RunFault {
 impl From<WriteFault> for RunFault {
     ghost from_gives = { λ error fault. fault ≡ WriteFailed error.written };
 
+    // Of a failed write the number of bytes alone is passed on.
+    // Refused: write_error_becomes_half_its_bytes*.
     fn from(error: WriteFault) -> RunFault {
         RunFault::Write {
             written: error.written,
@@ -204,6 +213,8 @@ impl From<WriteFault> for RunFault {
 impl From<ReadFault> for ToolFault {
     ghost from_gives = { λ fault e. e ≡ Unread fault };
 
+    // A fault of reading is passed on as it is.
+    // Refused: long_input_reported_as_out_of_memory*.
     fn from(fault: ReadFault) -> ToolFault {
         ToolFault::Read(fault)
     }
@@ -212,6 +223,8 @@ impl From<ReadFault> for ToolFault {
 impl From<RunFault> for ToolFault {
     ghost from_gives = { λ fault e. e ≡ Ran fault };
 
+    // A fault of running is passed on as it is.
+    // Refused: text_fault_reported_as_a_failed_read.
     fn from(fault: RunFault) -> ToolFault {
         ToolFault::Run(fault)
     }

@@ -2,13 +2,13 @@
 
 ghost use Rattle.std.specs.Prelude.{◌≡◌, ◌+◌, ◌^◌, ◌<◌, ◌≤◌, [], ◌++◌, if◌then◌else◌, Ok, Err, length, OnOk, IfOk, IfErr};
 ghost use Rattle.tas_green.specs.Run.{state_after};
-ghost use Rattle.tas_engines.specs.Lag.{is_lag, lag_lines, lag_lines_between, stretch_or_none, LagFramesIgnoreInput, IsLagAnswer, IsLagRun};
+ghost use Rattle.tas_engines.specs.Commands.{OfTwo};
+ghost use Rattle.tas_engines.specs.Lag.{is_lag, lag_lines, lag_lines_between, stretch_or_none, LagFramesIgnoreInput, IsLagAnswer};
 
+use crate::commands::{Text, bytes_of};
 use crate::digest::push_number;
-use crate::writing::write_answer;
-use crate::{RunFault, ToolFault, movie_of, read_two};
+use crate::{RunFault, movie_of};
 use std::alloc::{AllocError, Allocator};
-use std::io::{Read, Write};
 use tas_movie::Movie;
 use vcs_machine::{Meter, State, play_for_lag};
 
@@ -73,6 +73,7 @@ pub fn lag_between<A: Allocator, B: Allocator>(
     requires order { from ≤ to }
     requires within { to ≤ length movie.now.inputs }
     requires begin { begin ≡ state_after movie.now from }
+    // Refused: frame_that_reads_is_taken_for_lag, stretch_begins_at_power_on*.
     ensures lines { IfOk result (λ text. text.items ≡ lag_lines_between movie.now from to) }
     ensures law { OnOk result (LagFramesIgnoreInput movie.now) }
 {
@@ -109,22 +110,24 @@ fn lag_answer<A: Allocator + Copy>(
     Ok(lag_text(alloc, &movie)?)
 }
 
-/// Reads a cartridge and a movie text, and writes a line `A B` for each longest stretch of lag frames, those from A to
-/// B - 1: frames that come to the same whatever their input. A halted machine reads nothing, so its frames are
-/// among them.
+/// `tas lag`: a line `A B` for each longest stretch of lag frames, those from A to B - 1, of a cartridge and a movie's text. A lag frame comes
+/// to the same whatever its input. A halted machine reads nothing, so its frames are among them.
 ///
-/// Faults, in order: those of [`read_two`] and those of [`movie_of`], each with nothing written; `Memory` with nothing
-/// written; `Write` with the first bytes of the lines written, and how many.
-pub fn lag_run<A: Allocator + Copy, C: Read, R: Read, W: Write>(
-    alloc: A,
-    cart: &mut C,
-    input: &mut R,
-    output: &mut W,
-) -> Result<(), ToolFault>
-    ensures { IsLagRun (C.remaining cart.old) (C.remaining cart.new) (R.remaining input.old)
-        (R.remaining input.new) (W.contents output.old) (W.contents output.new) result }
-{
-    let (image, bytes) = read_two(alloc, cart, input)?;
-    let answer = lag_answer(alloc, &image, &bytes);
-    write_answer(output, answer)
+/// Faults: those of [`movie_of`]. `Memory` at any point.
+#[derive(Clone, Copy)]
+pub struct Lag;
+
+impl Text for Lag {
+    // `tas lag` reads cartridge and text whole, and writes the lines of the movie's stretches of lag frames, or ends
+    // with a fault of the reading or of the movie and nothing written, or with `Write`.
+    // Refused: last_stretch_is_left_out*, stretch_of_no_frames_is_reported*.
+    ghost answers = { λ _. OfTwo IsLagAnswer };
+
+    fn text<A: Allocator + Copy>(
+        &self,
+        alloc: A,
+        inputs: &[Vec<u8, A>],
+    ) -> Result<Vec<u8, A>, RunFault> {
+        lag_answer(alloc, bytes_of(inputs, 0), bytes_of(inputs, 1))
+    }
 }

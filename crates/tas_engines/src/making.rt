@@ -24,6 +24,8 @@ pub enum ChangeError {
 
 /// Whether a change is allowed on a movie of `len` frames, as `tas_movie::check` decides it for its edit.
 pub fn check_change(len: usize, change: Change) -> Result<(), EditRefusal>
+    // A change is refused by a movie's length alone, as its edit is; the edit that is made of it is the definition's.
+    // Refused: insertion_at_the_end_is_refused.
     ensures { (movie : MovieContent) → length movie.inputs ≡ len
         → result ≡ check_answer (refusal movie (edit_of change)) }
 {
@@ -37,6 +39,7 @@ pub fn check_change(len: usize, change: Change) -> Result<(), EditRefusal>
 
 /// The edit that a change asks for. `AllocError` where the room for the copies of the input is refused.
 pub fn edit_of<A: Allocator>(alloc: A, change: Change) -> Result<Edit<A>, AllocError>
+    // Refused: half_of_the_copies_are_put_in*.
     ensures edit { IfOk result (λ edit. edit ≡ edit_on A change) }
     ensures memory { OnErr result (BringsCopies change) }
 {
@@ -112,8 +115,11 @@ pub fn make_line<A: Allocator, B: Allocator, C: Allocator>(
     other: &Option<Movie<B>>,
     line: EditLine,
 ) -> Result<(), ChangeError>
+    // A line of `tas edit` is made where it is allowed: what is made is the edit that the line stands for, given the
+    // movie so far and the second one. Else it is refused, with nothing changed. It is out of memory only where it is
+    // allowed and puts frames in or overwrites some, possibly none.
+    // Refused: memory_is_asked_for_before_the_change*, copy_other_takes_from_the_own_movie.
     ensures made { Makes other.now movie.old line result movie.new }
-    // A deletion asks for none.
     ensures memory { result ≡ Err ChangeError.Memory → BringsFrames line }
 {
     check_line(movie, other, line).map_err(ChangeError::Refused)?;

@@ -1,13 +1,13 @@
 //! `tas migrate`.
 
 ghost use Rattle.std.specs.Prelude.{Ok, IfOk, IfErr};
-ghost use Rattle.tas_engines.specs.Movies.{IsMovieFault, IsMovieRun};
+ghost use Rattle.tas_engines.specs.Commands.{OfTwo};
+ghost use Rattle.tas_engines.specs.Movies.{IsMovieFault};
 ghost use Rattle.tas_engines.specs.Migrating.{IsMigrateAnswer};
 
-use crate::writing::write_answer;
-use crate::{RunFault, ToolFault, movie_of, read_two};
+use crate::commands::{Text, bytes_of};
+use crate::{RunFault, movie_of};
 use std::alloc::Allocator;
-use std::io::{Read, Write};
 use tas_movie::print_text;
 
 /// The text of runs of the movie whose cartridge and text these are, or why there is none.
@@ -23,22 +23,23 @@ fn migrated_text<A: Allocator + Copy>(
     Ok(print_text(alloc, &movie)?)
 }
 
-/// Reads a cartridge and a movie text of either kind, and writes the text of runs of the movie that it
-/// is one of.
+/// `tas migrate`: the text of runs of the movie, of a cartridge and a movie's text of either kind.
 ///
-/// Faults: those of [`read_two`], then those of [`movie_of`], with nothing written; `Write` with the first
-/// bytes of the answer written, and how many.
-pub fn migrate_run<A: Allocator + Copy, C: Read, R: Read, W: Write>(
-    alloc: A,
-    cart: &mut C,
-    input: &mut R,
-    output: &mut W,
-) -> Result<(), ToolFault>
-    ensures { IsMovieRun IsMigrateAnswer (C.remaining cart.old) (C.remaining cart.new)
-        (R.remaining input.old) (R.remaining input.new) (W.contents output.old)
-        (W.contents output.new) result }
-{
-    let (image, bytes) = read_two(alloc, cart, input)?;
-    let answer = migrated_text(alloc, &image, &bytes);
-    write_answer(output, answer)
+/// Faults: those of [`movie_of`].
+#[derive(Clone, Copy)]
+pub struct Migrate;
+
+impl Text for Migrate {
+    // `tas migrate` reads cartridge and text, of either kind, whole and writes the movie's text of runs, or ends with
+    // such a fault.
+    // Refused: first_byte_of_a_migrated_text_is_left_out, text_is_migrated_as_it_was_read*.
+    ghost answers = { λ _. OfTwo IsMigrateAnswer };
+
+    fn text<A: Allocator + Copy>(
+        &self,
+        alloc: A,
+        inputs: &[Vec<u8, A>],
+    ) -> Result<Vec<u8, A>, RunFault> {
+        migrated_text(alloc, bytes_of(inputs, 0), bytes_of(inputs, 1))
+    }
 }

@@ -16,6 +16,10 @@ pub fn movie_of<A: Allocator + Copy>(
     image: &[u8],
     bytes: &[u8],
 ) -> Result<Movie<A>, RunFault>
+    // `movie_of` returns the movie of a cartridge and a text, or why there is none: a wrong size comes before the text
+    // and before out of memory; the cartridge has the size of one, and the movie at most 262,144 inputs.
+    // Refused: wrong_size_reported_as_out_of_memory, text_fault_reported_as_size*,
+    // blank_cartridge_in_place_of_a_wrong_size*.
     ensures { MatchResult result (IsMovieOf image.now bytes.now)
         (IsMovieFault image.now bytes.now) }
 {

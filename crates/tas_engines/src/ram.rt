@@ -1,4 +1,7 @@
 //! `tas ram`.
+//!
+//! The place is a number of frames, not a frame, so power-on has a line. A range may be empty, and it may be longer
+//! than an export's, since each line is written before the next frame is played.
 
 ghost use Rattle.std.specs.Prelude.{◌≡◌, ◌+◌, ◌-◌, ◌≤◌, ◌<◌, ◌^◌, Ok, Err, length, IfOk, IfErr, OnOk};
 ghost use Rattle.std.specs.List.{flat_map};
@@ -6,15 +9,17 @@ ghost use Rattle.std.specs.Io.KnownBytes.{Appends};
 ghost use Rattle.byte_text.specs.CutOff.{IsCutOff};
 ghost use Rattle.byte_text.specs.Digits.{hex_byte};
 ghost use Rattle.tas_movie.specs.Content.{most_inputs};
+ghost use Rattle.tas_engines.specs.Commands.{OfTwo};
 ghost use Rattle.tas_engines.specs.Output.{Ends, StopsWriting};
-ghost use Rattle.tas_engines.specs.Ram.{numbered_bytes, ram_lines, IsRamRange, IsRamAnswer, IsRamRun};
+ghost use Rattle.tas_engines.specs.Ram.{numbered_bytes, ram_lines, IsRamRange, IsRamAnswer};
 
+use crate::commands::{Command, bytes_of};
 use crate::passing::{pass_frame, pass_frames};
-use crate::{RunFault, ToolFault, movie_of, read_two};
+use crate::{RunFault, movie_of};
 use byte_text::{WriteFault, hex_digits, write_counted};
 use itoa::write_digits;
 use std::alloc::Allocator;
-use std::io::{Read, Write};
+use std::io::Write;
 use tas_movie::Movie;
 
 /// How many bytes of RAM there are.
@@ -127,23 +132,40 @@ fn show_ram<A: Allocator + Copy, W: Write>(
     write_ram_lines(&movie, from, to, output)
 }
 
-/// Reads a cartridge and a movie text, and writes RAM after K frames of the movie for each K from `from` to `to` - 1: a line
-/// `K DIGITS` with 256 upper case hexadecimal digits, written before the next frame is played. K is a number of frames, so 0
-/// is power-on, and `to` is at most one more than the movie's length. A halted machine keeps its RAM.
+/// `tas ram`: RAM after K frames of the movie for each K from `from` to `to` - 1, of a cartridge and a movie's text: a line `K DIGITS` with
+/// 256 upper case hexadecimal digits, written before the next frame is played. K is a number of frames, so 0 is power-on, and `to` is at
+/// most one more than the movie's length. A halted machine keeps its RAM.
 ///
-/// Faults, in order: those of [`read_two`], those of [`movie_of`], then `Range`, each with nothing written; `Write` with
-/// the first bytes of the lines written, and how many.
-pub fn ram_run<A: Allocator + Copy, C: Read, R: Read, W: Write>(
-    alloc: A,
-    from: usize,
-    to: usize,
-    cart: &mut C,
-    input: &mut R,
-    output: &mut W,
-) -> Result<(), ToolFault>
-    ensures { IsRamRun from to (C.remaining cart.old) (C.remaining cart.new) (R.remaining input.old)
-        (R.remaining input.new) (W.contents output.old) (W.contents output.new) result }
-{
-    let (image, bytes) = read_two(alloc, cart, input)?;
-    Ok(show_ram(alloc, from, to, image.as_slice(), bytes.as_slice(), output)?)
+/// Faults, in order: those of [`movie_of`], then `Range`. `Memory` before anything is written.
+#[derive(Clone, Copy)]
+pub struct Ram {
+    /// The first number of frames.
+    pub from: usize,
+    /// The number after the last one.
+    pub to: usize,
+}
+
+impl Command for Ram {
+    // `tas ram` writes the line of RAM after K frames from power-on for each K from FROM to TO - 1, halted or
+    // not; `Range` only where FROM is past TO or TO past the length and one, where it is this fault or `Memory`, with
+    // nothing written. After `Write` the first bytes are out, as many as it reports.
+    // Refused: ram_lines_begin_at_power_on, ram_of_the_frame_before*, digits_of_ram_are_lower_case*,
+    // ram_line_has_no_newline*, last_line_of_ram_is_out_of_range*.
+    ghost answers = { λ ram. OfTwo (IsRamAnswer ram.from ram.to) };
+
+    fn answer<A: Allocator + Copy, W: Write>(
+        &self,
+        alloc: A,
+        inputs: &[Vec<u8, A>],
+        output: &mut W,
+    ) -> Result<(), RunFault> {
+        show_ram(
+            alloc,
+            self.from,
+            self.to,
+            bytes_of(inputs, 0),
+            bytes_of(inputs, 1),
+            output,
+        )
+    }
 }

@@ -1,9 +1,11 @@
 //! Reading an input whole.
+//!
+//! A read that fails is never tried again, also where its kind is `Interrupted`; nor is a write. One read asks for at
+//! most 4,096 bytes, and never for more than the limit and one byte in all.
 
-ghost use Rattle.std.specs.Prelude.{◌≡◌, ◌≤◌, ◌<◌, length, take, IfOk, IfErr, IfSome, IfNone};
+ghost use Rattle.std.specs.Prelude.{◌≡◌, ◌≤◌, ◌<◌, length, take, map, IfOk, OnOk, IfErr, IfSome, IfNone};
 ghost use Rattle.std.specs.Io.KnownBytes.{Consumes, Keeps, IsAtEnd};
-ghost use Rattle.tas_engines.specs.Input.{IsReadWhole, StopsReading, StopsReadingTwo};
-ghost use Rattle.tas_engines.specs.ThreeInputs.{StopsReadingThree};
+ghost use Rattle.tas_engines.specs.Input.{IsReadWhole, IsReadOnto, AreReadWhole, StopsReading, StopsReadingTwo, StopsReadingAll};
 
 use crate::ReadFault;
 use std::alloc::Allocator;
@@ -34,8 +36,13 @@ fn read_some<R: Read>(reader: &mut R, buffer: &mut [u8]) -> Option<usize>
 /// limit (`TooLong`); at most the limit and one byte leave the reader. No read is tried again (no
 /// clause says so; a test does). `Memory` where a growth was refused.
 pub fn read_input<A: Allocator, R: Read>(alloc: A, reader: &mut R) -> Result<Vec<u8, A>, ReadFault>
+    // An input is read to its end: all of its bytes, at most 16,777,216, and none is left in the reader.
+    // Refused: stops_at_a_short_read.
     ensures whole { IfOk result
         (λ bytes. IsReadWhole (R.remaining reader.old) (R.remaining reader.new) bytes.items) }
+    // Where reading stops, it has taken just the byte past the limit (`TooLong`), else at most the limit; nothing else
+    // comes of reading.
+    // Refused: one_byte_less_is_too_long, input_limit_is_one_byte_less*, long_input_reported_as_a_failed_read*.
     ensures fault { IfErr result (StopsReading (R.remaining reader.old) (R.remaining reader.new)) }
 {
     let mut bytes = Vec::new(alloc);
@@ -65,6 +72,9 @@ pub fn read_two<A: Allocator + Copy, C: Read, R: Read>(
     first: &mut C,
     second: &mut R,
 ) -> Result<(Vec<u8, A>, Vec<u8, A>), ReadFault>
+    // Two inputs are read whole; where reading stops at the first, the second is untouched, and where it stops at the
+    // second, the first was read whole.
+    // Refused: second_input_is_not_read.
     ensures first { IfOk result
         (λ read. IsReadWhole (C.remaining first.old) (C.remaining first.new) read.0.items) }
     ensures second { IfOk result
@@ -78,40 +88,40 @@ pub fn read_two<A: Allocator + Copy, C: Read, R: Read>(
     Ok((bytes, more))
 }
 
-/// The bytes of three inputs that were read whole.
-#[derive(Drop)]
-pub struct ThreeInputs<A: Allocator> {
-    /// Those of the input that was read first.
-    pub first: Vec<u8, A>,
-    /// Those of the next one.
-    pub second: Vec<u8, A>,
-    /// Those of the last one.
-    pub third: Vec<u8, A>,
+/// Reads an input as [`read_input`] does, and puts its bytes after those of others. Where that fails, the others' bytes are of no use.
+pub(crate) fn read_onto<A: Allocator + Copy, R: Read>(
+    alloc: A,
+    inputs: &mut Vec<Vec<u8, A>, A>,
+    reader: &mut R,
+) -> Result<(), ReadFault>
+    ensures whole { OnOk result (IsReadOnto (R.remaining reader.old) (R.remaining reader.new)
+        (map (λ bytes. bytes.items) inputs.old.items)
+        (map (λ bytes. bytes.items) inputs.new.items)) }
+    ensures fault { IfErr result (StopsReading (R.remaining reader.old) (R.remaining reader.new)) }
+{
+    let bytes = read_input(alloc, reader)?;
+    let Ok(()) = inputs.push(bytes) else {
+        return Err(ReadFault::Memory);
+    };
+    Ok(())
 }
 
-/// Reads three inputs, each as [`read_input`] does. Where reading one fails, those after it are
-/// left untouched.
-pub fn read_three<A: Allocator + Copy, F: Read, S: Read, T: Read>(
+/// Reads some inputs, one after the other, each as [`read_input`] does. Where reading one fails, those after it are left untouched.
+pub(crate) fn read_all<A: Allocator + Copy, R: Read>(
     alloc: A,
-    first: &mut F,
-    second: &mut S,
-    third: &mut T,
-) -> Result<ThreeInputs<A>, ReadFault>
-    ensures first { IfOk result
-        (λ read. IsReadWhole (F.remaining first.old) (F.remaining first.new) read.first.items) }
-    ensures second { IfOk result
-        (λ read. IsReadWhole (S.remaining second.old) (S.remaining second.new) read.second.items) }
-    ensures third { IfOk result
-        (λ read. IsReadWhole (T.remaining third.old) (T.remaining third.new) read.third.items) }
+    readers: &mut [R],
+) -> Result<Vec<Vec<u8, A>, A>, ReadFault>
+    // Some inputs are read so, too, whatever their number: all whole and in order; where reading stops at one, those
+    // before it were read whole, and those after it are untouched.
+    // Refused: first_file_is_not_read.
+    ensures whole { IfOk result (λ inputs. AreReadWhole (map R.remaining readers.old)
+        (map R.remaining readers.new) (map (λ bytes. bytes.items) inputs.items)) }
     ensures fault { IfErr result
-        (StopsReadingThree (F.remaining first.old) (F.remaining first.new) (S.remaining second.old)
-        (S.remaining second.new) (T.remaining third.old) (T.remaining third.new)) }
+        (StopsReadingAll (map R.remaining readers.old) (map R.remaining readers.new)) }
 {
-    let first = read_input(alloc, first)?;
-    let (second, third) = read_two(alloc, second, third)?;
-    Ok(ThreeInputs {
-        first,
-        second,
-        third,
-    })
+    let mut inputs = Vec::new(alloc);
+    for k in 0..readers.len() {
+        read_onto(alloc, &mut inputs, &mut readers[k])?;
+    }
+    Ok(inputs)
 }

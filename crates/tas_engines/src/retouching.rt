@@ -1,4 +1,9 @@
 //! Changes that depend on a movie's frames: the edits that they are.
+//!
+//! `press`, `release`, `repeat` and `copy` are a replacement or an insertion of frames that depend on the movie, so a
+//! history has no further kind of entry. `repeat` is refused as `place` by the frames that it repeats, `copy` by the
+//! frames that it copies and then by its place. Frames are copied before the edit is made, and only once nothing
+//! refuses the line. A `repeat` of no frames takes TIMES turns of a loop that does nothing, ten million at most.
 
 ghost use Rattle.std.specs.Prelude.{◌≡◌, ◌+◌, ◌<◌, ◌^◌, map, length, IfOk};
 ghost use Rattle.vcs_inputs.specs.declared.input.Input.{Input};
@@ -54,6 +59,7 @@ fn stick_released(stick: Stick, less: Stick) -> Stick
 
 /// The input with all pressed that another one has pressed; the rest stays.
 pub fn pressed_too(input: Input, more: Input) -> Input
+    // Refused: left_stick_is_pressed_by_the_right_one*.
     ensures { result ≡ pressed_too input more }
 {
     Input {
@@ -69,6 +75,7 @@ pub fn pressed_too(input: Input, more: Input) -> Input
 
 /// The input with all released that another one has pressed; the rest stays.
 pub fn released(input: Input, less: Input) -> Input
+    // Refused: none, see `retouch_edit`.
     ensures { result ≡ released input less }
 {
     Input {
@@ -113,6 +120,9 @@ fn check_repeat(len: usize, at: usize, count: usize, times: usize) -> Result<(),
 /// Whether a retouch is allowed on a movie of `len` frames: `Place` where the frames that it takes, or its place, are past
 /// the last one, and then `Long` where the movie would have more than `MAX_FRAMES`.
 pub fn check_retouch(len: usize, retouch: Retouch) -> Result<(), EditRefusal>
+    // `press`, `release`, `repeat` and `copy` are refused exactly where the frames that they take aren't there, where a
+    // copy's place isn't, or else where the movie would be too long; by the movie's length alone.
+    // Refused: repeat_is_as_long_as_one_time*, frames_past_the_end_are_copied.
     ensures { (movie : MovieContent) → length movie.inputs ≡ len
         → result ≡ check_answer (retouch_refusal movie retouch) }
 {
@@ -205,6 +215,10 @@ pub fn retouch_edit<A: Allocator>(
     retouch: Retouch,
 ) -> Result<Edit<A>, AllocError>
     requires { IsAllowedOn inputs.now retouch }
+    // `press` and `release` change the switches of FRAME in each of their frames, and no other; `repeat` puts its
+    // frames in again after themselves, TIMES times; `copy` puts a copy of its frames in.
+    // Refused: press_writes_over_the_other_letters, repeat_repeats_once_less, release_releases_all*,
+    // fire_is_not_released*, copy_takes_from_its_own_place*.
     ensures { IfOk result (λ edit. edit ≡ retouch_on A inputs.now retouch) }
 {
     let (from, count) = taken_frames(retouch);

@@ -1,4 +1,8 @@
 //! Scripts of `tas edit`, and the scripts of changes that `tas diff` writes.
+//!
+//! A script of `tas edit` has no `load` and no looks: a movie's text names its cartridge, so `load` would make the text
+//! of another game, and looks have no output to go to. `copy other` without a second movie isn't understood, as a line
+//! of another command isn't; it isn't refused as `place`, since there is no movie to be too short.
 
 ghost use Rattle.std.specs.Prelude.{◌≡◌, ◌++◌, ◌↔◌, Err, Option, IsTrue, IfOk, OnOk, IfSome, IfNone};
 ghost use Rattle.std.specs.List.{flat_map};
@@ -99,6 +103,14 @@ pub fn edit_movie<A: Allocator, B: Allocator, C: Allocator + Copy>(
     other: &Option<Movie<B>>,
     bytes: &[u8],
 ) -> Result<(), ScriptFault>
+    // A script's lines are all made, in order, up to its first line at fault, whose number is reported, or up to a line
+    // that is out of memory, which is allowed and brings frames, possibly none: so a first line that is at fault or
+    // deletes is never out of memory. What a line asks for is what its words say: it without its remark, which is the
+    // first `#` and all after it, and without the spaces before that; a line without words asks for nothing, and
+    // counts. A line `copy other` is understood only beside a second movie.
+    // Refused: remark_begins_at_a_line_only, spaces_before_a_remark_stay*, line_without_words_is_unclear*,
+    // second_line_is_left_out*, second_line_is_made_first*, refused_line_is_skipped*, fault_reports_the_line_before*,
+    // copy_other_is_understood_alone.
     ensures { MakesAll other.now movie.old bytes.now movie.new result }
 {
     let mut rest = bytes;
@@ -136,6 +148,8 @@ pub fn print_changes<A: Allocator + Copy>(
     alloc: A,
     changes: &[Change],
 ) -> Result<Vec<u8, A>, AllocError>
+    // A script of changes is the definition's text of each, in order.
+    // Refused: no_change_is_printed, first_change_is_printed_on_each_line*, lines_are_printed_in_the_wrong_order*.
     ensures { IfOk result (λ bytes. bytes.items ≡ flat_map change_line changes.now) }
 {
     let mut bytes = Vec::new(alloc);

@@ -1,4 +1,9 @@
 //! The hunks of a difference, one after the other.
+//!
+//! A hunk ends at the nearest four runs in a row that both movies have: those with the fewest runs before them in the
+//! two together, fewer than 512. A search over all pairs of its runs would take the square of its length. A longer hunk
+//! ends at a stretch that occurs once in both movies, as in patience diff. A shortest script would need a table of both
+//! lengths, or a search that grows with the number of differing frames.
 
 ghost use Rattle.std.specs.Prelude.{◌≡◌, ◌≤◌, ◌-◌, ◌+◌, length, IfOk};
 ghost use Rattle.tas_movie.specs.Content.{most_inputs};

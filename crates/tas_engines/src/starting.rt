@@ -1,14 +1,14 @@
 //! `tas new`.
 
-ghost use Rattle.std.specs.Prelude.{◌≡◌, ◌≤◌, Ok, Err, IfOk, IfErr};
+ghost use Rattle.std.specs.Prelude.{◌≡◌, ◌≤◌, min, Ok, Err, IfOk, IfErr};
 ghost use Rattle.tas_movie.specs.Content.{most_inputs};
-ghost use Rattle.tas_engines.specs.Starting.{quiet_movie, IsNewAnswer, IsNewRun};
+ghost use Rattle.tas_engines.specs.Commands.{OfOne};
+ghost use Rattle.tas_engines.specs.Starting.{quiet_movie, IsNewAnswer};
 
-use crate::writing::write_answer;
-use crate::{RunFault, ToolFault, read_input};
+use crate::RunFault;
+use crate::commands::{Text, bytes_of};
 use std::alloc::{AllocError, Allocator};
-use std::io::{Read, Write};
-use tas_movie::{Edit, Inputs, Movie, apply, print_text};
+use tas_movie::{Edit, Inputs, MAX_FRAMES, Movie, apply, print_text};
 use vcs_machine::{Cart, Input};
 
 /// The movie of a cartridge and so many frames in which nothing is pressed.
@@ -41,22 +41,26 @@ fn new_text<A: Allocator + Copy>(
     Ok(print_text(alloc, &movie)?)
 }
 
-/// Reads a cartridge, and writes the text of the movie of it and `frames` frames in which nothing is pressed, 0 to
-/// [`MAX_FRAMES`](tas_movie::MAX_FRAMES).
+/// `tas new`: the text of the movie in which nothing is pressed, of a cartridge.
 ///
-/// Faults, in order: those of [`read_input`], then `Size`, each with nothing written; `Memory` with nothing written at any point;
-/// `Write` with the first bytes of the text written, and how many.
-pub fn new_run<A: Allocator + Copy, C: Read, W: Write>(
-    alloc: A,
-    frames: usize,
-    cart: &mut C,
-    output: &mut W,
-) -> Result<(), ToolFault>
-    requires { frames ≤ most_inputs }
-    ensures { IsNewRun frames (C.remaining cart.old) (C.remaining cart.new) (W.contents output.old)
-        (W.contents output.new) result }
-{
-    let image = read_input(alloc, cart)?;
-    let answer = new_text(alloc, frames, image.as_slice());
-    write_answer(output, answer)
+/// Faults: `Size`. `Memory` at any point.
+#[derive(Clone, Copy)]
+pub struct New {
+    /// How many frames it has, 0 to [`MAX_FRAMES`]; more count as so many.
+    pub frames: usize,
+}
+
+impl Text for New {
+    // `tas new` reads a cartridge whole and writes the text of the movie of it and so many frames in which nothing is
+    // pressed, or ends with a fault whose cause holds and nothing written, or with `Write`.
+    // Refused: new_movie_lacks_a_frame.
+    ghost answers = { λ new. OfOne (IsNewAnswer (min new.frames most_inputs)) };
+
+    fn text<A: Allocator + Copy>(
+        &self,
+        alloc: A,
+        inputs: &[Vec<u8, A>],
+    ) -> Result<Vec<u8, A>, RunFault> {
+        new_text(alloc, self.frames.min(MAX_FRAMES), bytes_of(inputs, 0))
+    }
 }

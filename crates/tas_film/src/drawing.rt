@@ -48,6 +48,7 @@ pub fn draw_frames<A: Allocator, B: Allocator>(
     requires start { state.old ≡ state_after movie.now first }
     requires empty { pixmaps.old ≡ [] }
     requires meter { meter.old + (end - first) < 2 ^ 64 }
+    // Refused: none, see `Pixmaps::append_frame`.
     ensures shows { Shows movie.now first end pixmaps.new result }
     ensures meter { result ≡ None → meter.new ≡ meter.old + (end - first) }
     ensures most { meter.new ≤ meter.old + (end - first) }

@@ -53,6 +53,13 @@ pub fn export_frames<
 ) -> Result<u64, ExportFault>
     requires lawful { IsLawful movie.now zone.now }
     requires plan { IsPlan movie.now plan }
+    // The pixmaps of a plan's frames are written one after the other, whatever the number of workers, and none of the
+    // frames is halted; the number that it returns is the sum over the runs of the frames after the nearest kept state.
+    // After out of memory and after a halt, which is the least one, nothing is written; after a failed write the first
+    // `written` bytes, and no frame is halted.
+    // Refused: runs_drop_the_rest_of_a_division, each_run_plays_the_frames_of_the_first*,
+    // only_the_first_run_is_played*, last_halted_frame_is_reported*, halted_frames_are_written*,
+    // written_bytes_of_pictures_before_forgotten*.
     ensures ok { OnOk result (Appends (W.contents to.old) (W.contents to.new)
         (pixmaps_of movie.now plan.from (plan.to - plan.from))) }
     ensures drawn { OnOk result (AllDrawn movie.now plan.from plan.to) }
@@ -84,6 +91,9 @@ fn export_runs<A: Allocator + Send + Sync, R: Threads + Sync, G: Gate + Sync, W:
         (pixmaps_of movie.now plan.from (plan.to - plan.from))) }
     ensures drawn { OnOk result (AllDrawn movie.now plan.from plan.to) }
     ensures played { IfOk result (λ played. played ≡ costs zone.now plan 0 plan.workers) }
+    // Once the room for the pixmaps is there, an export is out of memory only where it has a frame and its first one
+    // isn't halted.
+    // Refused: halt_is_reported_as_out_of_memory*.
     ensures fault { IfErr result
         (IsRunsFault movie.now plan (W.contents to.old) (W.contents to.new)) }
 {

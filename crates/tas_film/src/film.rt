@@ -1,4 +1,9 @@
 //! Films: frames drawn and written one after the other, in one pass.
+//!
+//! A film needs no desk: the movie is played once on the calling thread, with one picture. A picture goes out in one
+//! write, since standard output isn't buffered and 210 writes take longer than the frame. The pixmap's room is asked
+//! for before the first frame. A refusal after that isn't expected, but no contract of a writer excludes it; the rows
+//! are written one by one then, so no frame fails for memory.
 
 ghost use Rattle.std.specs.Prelude.{◌≡◌, ◌+◌, ◌-◌, ◌≤◌, ◌<◌, ◌^◌, length, OnOk, IfErr};
 ghost use Rattle.std.specs.Io.KnownBytes.{Appends};
@@ -122,6 +127,12 @@ pub fn write_film<A: Allocator, B: Allocator + Copy, W: Write>(
 ) -> Result<(), FilmStop>
     requires order { from ≤ to }
     requires within { to ≤ length movie.now.inputs }
+    // `write_film` has written the pixmaps of the movie's frames from `from` to `to` - 1, in order and each once; or
+    // those before the least halted frame, which it names; or, after a failed write, the first `written` bytes: all
+    // pixmaps but the last of them are whole, and none of their frames is halted. After `Memory` nothing is written.
+    // Refused: film_goes_on_after_a_halted_frame, film_starts_at_power_on*, film_leaves_out_the_last_frame*,
+    // film_names_the_next_frame*, film_counts_the_last_picture_alone*,
+    // picture_written_row_by_row_is_not_counted_with_those_before*.
     ensures { IsFilm movie.now from to (W.contents output.old) (W.contents output.new) result }
 {
     let Ok(mut screen) = Screen::new(alloc) else {

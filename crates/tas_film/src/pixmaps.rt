@@ -1,4 +1,10 @@
 //! Pixmaps of frames, one after the other.
+//!
+//! The workers make the pixmaps, so the caller's thread only writes bytes: while one thread made them, it bounded what
+//! more workers could save. It takes 103 MB for 1,024 frames (100,815 bytes each), since nothing may be written before
+//! the last frame is drawn. A run's pixmaps are one reserved block that its worker is the first to touch. A run can end
+//! with `Memory` where a write to that list fails. None does, but `ppm` is proved for every writer, and no clause of a
+//! writer says when it succeeds.
 
 ghost use Rattle.std.specs.Prelude.{◌≡◌, ◌+◌, ◌^◌, ◌<◌, ◌≤◌, ◌++◌, List, ℕ, [], length, IfOk, IfErr, OnOk};
 ghost use Rattle.vcs_tia.specs.Image.{ppm_bytes};
@@ -80,6 +86,8 @@ impl<A: Allocator> Pixmaps<A> {
         ensures state { OnOk result (state.new ≡ state_after movie.now (frame + 1)) }
         ensures pixmap { OnOk result
             (self.new ≡ self.old ++ ppm_bytes (picture_of movie.now frame)) }
+        // A frame that is played and halted is reported as halted and as nothing else.
+        // Refused: halted_frame_is_reported_as_out_of_memory.
         ensures stop { IfErr result (IsStopAt movie.now frame) }
         ensures meter { meter.new ≡ meter.old + 1 }
     {

@@ -1,4 +1,7 @@
 //! Frames split into runs, one for each worker.
+//!
+//! `play_run` has seven arguments: it takes the first frame and the place after the last one, so its contract speaks of
+//! no plan.
 
 ghost use Rattle.std.specs.Prelude.{◌≡◌, ℕ, ◌+◌, ◌^◌, ◌≤◌, ◌<◌, [], length, slice_index_or, vec_len, IfOk};
 ghost use Rattle.std.specs.List.{All};
@@ -196,6 +199,7 @@ pub fn play_runs<A: Allocator + Send + Sync, R: Threads + Sync, G: Gate + Sync>(
     requires lawful { IsLawful movie.now zone.now }
     requires count { length runs.old ≡ plan.workers }
     requires empty { All (λ run. run.pixmaps ≡ []) runs.old }
+    // Refused: none, see `Pixmaps::append_frame`.
     ensures { AreRunsEnd movie.now zone.now plan plan.workers (pixmaps_in runs.new) result }
 {
     play_each(rt, movie, zone, gate, plan, runs);

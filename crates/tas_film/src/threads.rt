@@ -1,4 +1,9 @@
 //! Calls on threads of their own.
+//!
+//! One call with each item, on a thread of its own; the contract says what it left there. The library's `for_each_mut`
+//! says the same, but makes one of the calls on its caller's thread. A call whose thread can't be started is made by
+//! the caller's thread, after all others were started. No test can refuse a thread; by hand, under `prlimit`, the bytes
+//! were the same.
 
 ghost use Rattle.std.specs.Prelude.{◌≡◌, ℕ, ◌+◌, ◌<◌, length, slice_index_or};
 ghost use Rattle.std.specs.Fork.{AcceptsAt, ChangesAt, AcceptsEach, ChangesEach};
@@ -14,6 +19,8 @@ pub fn for_each_on_threads<R: Threads + Sync, T: Send, F: Fn(usize, &mut T) + Sy
     f: &F,
 )
     requires { AcceptsEach F.Fn f.now items.old }
+    // Each item is changed as a call with its place and the item changes it.
+    // Refused: each_call_gets_the_next_place.
     ensures { ChangesEach F.Fn f.now items.old items.new }
 {
     on_threads_from(rt, f, 0, items.len(), items);

@@ -12,7 +12,7 @@ use Rattle.tas_green.specs.Run.{state_after}
 use Rattle.tas_green.specs.Zone.{state_at, nearest, first_of, where_true, is_passed}
 use Rattle.tas_green.specs.Grid.{stride}
 use Rattle.tas_green.specs.Green.{HoldsGrid, IsMoved}
-use Rattle.tas_green.specs.Window.{is_near, is_gained, BothContent, both, start_between, view_start, IsWindowMoved, IsFilled, IsViewFrom, IsOneAway}
+use Rattle.tas_green.specs.Window.{is_near, is_gained, BothContent, both, start_between, view_start, IsWindowMoved, IsFilled, IsPlayedNear, IsOneAway}
 use Rattle.tas_green.proofs.ZoneLemmas.{at_same, at_other}
 use Rattle.tas_green.proofs.GridLemmas.{stride_rare, div_mono}
 use Rattle.tas_green.proofs.BoundLemmas.{nearest_close, nearest_ge, next_row}
@@ -133,23 +133,23 @@ passed_same s kept start to f pos le row =
     not_far from lt far = tested_far (grid_test s) from to f far
 
 -- what a view has done, from the lists of states that the cuts left
-pub view_is : (old new : MovieContent) (k ran start : ℕ) (green left green' window near window' : List Savestate)
-    → IsMoved old new green left → IsWindowMoved old new window near → start ≡ view_start new k (both left near) → ran + start ≡ k + 1
-    → ((f : ℕ) → state_at f green' ≡ first_of (state_at f left) (where_true (is_passed (stride (length new.inputs)) start (k + 1) f) (Some (state_after new f))))
-    → IsFilled new start (k + 1) near window'
-    → IsViewFrom old new k (both green window) (both green' window') ran
-view_is old new k ran start green left green' window near window' moved cut is count passed filled =
+pub view_is : (old new : MovieContent) (k end ran start : ℕ) (green left green' window near window' : List Savestate)
+    → IsMoved old new green left → IsWindowMoved old new window near → start ≡ view_start new k (both left near) → ran + start ≡ end
+    → ((f : ℕ) → state_at f green' ≡ first_of (state_at f left) (where_true (is_passed (stride (length new.inputs)) start end f) (Some (state_after new f))))
+    → IsFilled new start end near window'
+    → IsPlayedNear old new k end (both green window) (both green' window') ran
+view_is old new k end ran start green left green' window near window' moved cut is count passed filled =
     let s = stride (length new.inputs) in
     let pos : 0 < s = (stride_rare (length new.inputs)).0 in
     let low : nearest k left ≤ start = rw is (start_ge s (nearest k left) (nearest k near)) in
     let row : start / s ≡ nearest k left / s = ap (λ (n : ℕ). n / s) is ∙ start_row s (nearest k left) (nearest k near) in
     record {
       rose = ran + (start - nearest k left);
-      shot = record {
+      played = record {
         left = left;
         moved = moved;
         rise = omega (arith, count, low);
-        kept = λ f. passed f ∙ ap (λ (b : Bool). first_of (state_at f left) (where_true b (Some (state_after new f)))) (passed_same s (nearest k left) start (k + 1) f pos low row);
+        kept = λ f. passed f ∙ ap (λ (b : Bool). first_of (state_at f left) (where_true b (Some (state_after new f)))) (passed_same s (nearest k left) start end f pos low row);
       };
       left = near;
       moved = cut;
@@ -157,12 +157,12 @@ view_is old new k ran start green left green' window near window' moved cut is c
       filled = rw is at filled;
     }
 
--- no more frames are played than a shot would play
-pub view_less : (old new : MovieContent) (k : ℕ) (before now : BothContent) (ran : ℕ) (v : IsViewFrom old new k before now ran) → ran ≤ v.rose
-view_less old new k before now ran v =
-    let rise = v.shot.rise in
+-- no more frames are played than from the greenzone alone
+pub view_less : (old new : MovieContent) (k end : ℕ) (before now : BothContent) (ran : ℕ) (v : IsPlayedNear old new k end before now ran) → ran ≤ v.rose
+view_less old new k end before now ran v =
+    let rise = v.played.rise in
     let start = v.start in
-    omega (arith, rise, start, start_ge (stride (length new.inputs)) (nearest k v.shot.left) (nearest k v.left))
+    omega (arith, rise, start, start_ge (stride (length new.inputs)) (nearest k v.played.left) (nearest k v.left))
 
 -- ---- how many frames the next view plays
 
@@ -200,46 +200,46 @@ same_row n j s pos le ge =
     omega (arith, up, rw (mul-div_cancel (j / s) pos) at down)
 
 -- each near place whose state was played is one away
-pub played_away : (movie : MovieContent) (k start j : ℕ) (left green near window : List Savestate)
+pub played_away : (movie : MovieContent) (k end start j : ℕ) (left green near window : List Savestate)
     → start ≡ view_start movie k (both left near) → start ≤ k
-    → ((f : ℕ) → state_at f green ≡ first_of (state_at f left) (where_true (is_passed (stride (length movie.inputs)) start (k + 1) f) (Some (state_after movie f))))
-    → IsFilled movie start (k + 1) near window → is_near (k + 1) j ≡ true → start < j → IsOneAway movie j (both green window)
-played_away movie k start j left green near window is le passed filled here lt =
+    → ((f : ℕ) → state_at f green ≡ first_of (state_at f left) (where_true (is_passed (stride (length movie.inputs)) start end f) (Some (state_after movie f))))
+    → IsFilled movie start end near window → is_near end j ≡ true → start < j → IsOneAway movie j (both green window)
+played_away movie k end start j left green near window is le passed filled here lt =
     let s = stride (length movie.inputs) in
     let pos : 0 < s = (stride_rare (length movie.inputs)).0 in
     let n = nearest k left in
-    let within = near_parts (k + 1) j here in
+    let within = near_parts end j here in
     let low : n ≤ start = rw is (start_ge s n (nearest k near)) in
     let row : start / s ≡ n / s = ap (λ (m : ℕ). m / s) is ∙ start_row s n (nearest k near) in
-    let gained : is_gained (k + 1) start (k + 1) j ≡ true = tested_in (near_test (k + 1)) start (k + 1) j lt within.0 ∙ within.1 in
-    let there : is_some (state_at j window) ≡ true = ap is_some (filled j) ∙ (rw gained (some_second (where_true (is_near (k + 1) j) (state_at j near)) (state_after movie j))) in
+    let gained : is_gained end start end j ≡ true = tested_in (near_test end) start end j lt within.0 ∙ within.1 in
+    let there : is_some (state_at j window) ≡ true = ap is_some (filled j) ∙ (rw gained (some_second (where_true (is_near end j) (state_at j near)) (state_after movie j))) in
     let at : nearest j window ≡ j = nearest_here j window there in
     let grid : j / s * s ≤ nearest j green =
     elim (cases_lt start (j / s * s)) [
       | inl past ↦
           let below : j / s * s ≤ j = div-mul-le_self j s in
-          let hit : is_passed s start (k + 1) (j / s * s) ≡ true = tested_in (grid_test s) start (k + 1) (j / s * s) past (omega (arith, below, within.0)) ∙ eq-eqb (j / s * s % s) 0 (row_on j s pos) in
+          let hit : is_passed s start end (j / s * s) ≡ true = tested_in (grid_test s) start end (j / s * s) past (omega (arith, below, within.0)) ∙ eq-eqb (j / s * s % s) 0 (row_on j s pos) in
           nearest_ge green j (j / s * s) (ap is_some (passed (j / s * s)) ∙ (rw hit (some_second (state_at (j / s * s) left) (state_after movie (j / s * s))))) below
       | inr before ↦
           let up : j / s ≤ start / s = rw (mul-div_cancel (j / s) pos) at (div_mono (j / s * s) start s pos before) in
           let down : start / s ≤ j / s = div_mono start j s pos (omega (arith, lt)) in
           let same : n / s ≡ j / s = omega (arith, up, down, row) in
           let most : n / s * s ≤ n = div-mul-le_self n s in
-          let stay : n ≤ nearest j green = nearest_stays j left green (λ f. where_true (is_passed s start (k + 1) f) (Some (state_after movie f))) passed n (omega (arith, low, lt)) (nearest_there k left) in
+          let stay : n ≤ nearest j green = nearest_stays j left green (λ f. where_true (is_passed s start end f) (Some (state_after movie f))) passed n (omega (arith, low, lt)) (nearest_there k left) in
           omega (arith, stay, rw same at most)
     ]
     in
     at_window s (nearest j green) (nearest j window) j (nearest_le j green) at (same_row (nearest j green) j s pos (nearest_le j green) grid)
 
 -- each near place that was one away still is
-pub still_away : (movie : MovieContent) (k start j : ℕ) (left green near window : List Savestate)
-    → ((f : ℕ) → state_at f green ≡ first_of (state_at f left) (where_true (is_passed (stride (length movie.inputs)) start (k + 1) f) (Some (state_after movie f))))
-    → IsFilled movie start (k + 1) near window → is_near (k + 1) j ≡ true → IsOneAway movie j (both left near) → IsOneAway movie j (both green window)
-still_away movie k start j left green near window passed filled here away =
+pub still_away : (movie : MovieContent) (k end start j : ℕ) (left green near window : List Savestate)
+    → ((f : ℕ) → state_at f green ≡ first_of (state_at f left) (where_true (is_passed (stride (length movie.inputs)) start end f) (Some (state_after movie f))))
+    → IsFilled movie start end near window → is_near end j ≡ true → IsOneAway movie j (both left near) → IsOneAway movie j (both green window)
+still_away movie k end start j left green near window passed filled here away =
     let s = stride (length movie.inputs) in
     let pos : 0 < s = (stride_rare (length movie.inputs)).0 in
     let n = nearest j left in
-    let stay : n ≤ nearest j green = nearest_stays j left green (λ f. where_true (is_passed s start (k + 1) f) (Some (state_after movie f))) passed n (nearest_le j left) (nearest_there j left) in
+    let stay : n ≤ nearest j green = nearest_stays j left green (λ f. where_true (is_passed s start end f) (Some (state_after movie f))) passed n (nearest_le j left) (nearest_there j left) in
     elim (start_parts s n (nearest j near) j away) [
       | inl grid ↦ at_grid s (nearest j green) (nearest j window) j (omega (arith, stay, grid, nearest_le j green)) (nearest_le j window)
       | inr at ↦ elim (cases_eq j 0) [

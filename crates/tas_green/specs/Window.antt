@@ -7,7 +7,7 @@ use Rattle.tas_green.specs.Run.{state_after}
 use Rattle.tas_green.specs.Zone.{state_at, nearest, first_of, where_true}
 use Rattle.tas_green.specs.Grid.{stride}
 use Rattle.tas_green.specs.Front.{IsSharedFront}
-use Rattle.tas_green.specs.Green.{IsShotFrom}
+use Rattle.tas_green.specs.Green.{IsPlayedFrom}
 use Rattle.tas_green.specs.Batch.{AreStatesOf}
 
 -- how many frames, up to the one shown last, have the state before them kept
@@ -71,15 +71,23 @@ abbrev pub IsFilled : MovieContent → ℕ → ℕ → List Savestate → List S
 IsFilled movie start end left now =
     (f : ℕ) → state_at f now ≡ first_of (where_true (is_near end f) (state_at f left)) (where_true (is_gained end start end f) (Some (state_after movie f)))
 
--- what a view of frame k does to a greenzone and a window of the old movie. Both are cut for the new one. The greenzone is then as a shot leaves it,
--- wherever the frames were played from; `ran` were played from `view_start`; and the window is filled
-pub record IsViewFrom (old new : MovieContent) (k : ℕ) (before now : BothContent) (ran : ℕ) : Type 0 where
+-- what playing up to the place `end` does to a greenzone and a window of the old movie. Both are cut for the new one. `ran` frames were played from
+-- `view_start`, for k. The greenzone is then as if they had been played from its nearest state, and the window is filled
+pub record IsPlayedNear (old new : MovieContent) (k end : ℕ) (before now : BothContent) (ran : ℕ) : Type 0 where
   pub rose : ℕ
-  pub shot : IsShotFrom old new k before.green now.green 0 rose
+  pub played : IsPlayedFrom old new k end before.green now.green 0 rose
   pub left : List Savestate
   pub moved : IsWindowMoved old new before.window left
-  pub start : ran + view_start new k (both shot.left left) ≡ k + 1
-  pub filled : IsFilled new (view_start new k (both shot.left left)) (k + 1) left now.window
+  pub start : ran + view_start new k (both played.left left) ≡ end
+  pub filled : IsFilled new (view_start new k (both played.left left)) end left now.window
+
+-- what a view of frame k does to both
+abbrev pub IsViewFrom : MovieContent → MovieContent → ℕ → BothContent → BothContent → ℕ → Type 0
+IsViewFrom old new k before now ran = IsPlayedNear old new k (k + 1) before now ran
+
+-- what reaching the state after k frames does to both
+abbrev pub IsStateFrom : MovieContent → MovieContent → ℕ → BothContent → BothContent → ℕ → Type 0
+IsStateFrom old new k before now ran = IsPlayedNear old new k k before now ran
 
 -- a view of frame j would play one frame
 abbrev pub IsOneAway : MovieContent → ℕ → BothContent → Type 0

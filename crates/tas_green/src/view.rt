@@ -1,26 +1,36 @@
 //! A movie with its kept states and its window: lawful by its type, with room for all states that it may keep.
+//!
+//! A view takes all its room when it is made, as a movie does: 513 states and 99 of the window, 230 KB beside 3.9 MB of
+//! inputs. So no look is out of memory, and no call but `gain` has a condition on states. The room is for one state
+//! more than is kept: a proof that a state to be put in is there already isn't worth 376 bytes.
+//!
+//! `picture` and `state` leave the kept states as if played from the nearest of these: where a place of the grid comes
+//! after it, up to the window's, they start at the kept one, which comes only where the grid got finer. `follow`
+//! compares the inputs and goes by the exact common front, not by the places of the edits between: an edit that is
+//! undone before the next look costs no state. Looks make their own meters and return how many frames they played.
 
 ghost use Rattle.std.specs.Prelude.{◌≡◌, ◌≢◌, ◌↔◌, IsErr, take, ◌⊎◌, ℕ, ◌+◌, ◌<◌, ◌≤◌, [], length, min, nat_le, filter, is_some, true, IsSome, IfOk, OnOk, OnErr};
 ghost use Rattle.tas_movie.specs.Front.{IsCommonFront};
 ghost use Rattle.tas_green.specs.Run.{state_after, picture_of, answer_of};
-ghost use Rattle.tas_green.specs.Green.{HoldsGrid, IsLawful, IsReachedFrom, IsShotFrom, is_left};
+ghost use Rattle.tas_green.specs.Green.{HoldsGrid, IsLawful, IsShotFrom, is_left};
 ghost use Rattle.tas_movie.specs.Edit.{refusal, check_answer, edited, edited_place};
 ghost use Rattle.tas_green.specs.Grid.{most_states, stride};
 ghost use Rattle.tas_green.specs.Zone.{first_of, is_on_grid, nearest, state_at, where_true};
-ghost use Rattle.tas_green.specs.Window.{AreMovieStates, IsOneAway, IsViewFrom, both, is_near, view_start};
+ghost use Rattle.tas_green.specs.Window.{AreMovieStates, IsOneAway, IsStateFrom, IsViewFrom, both, is_near, view_start};
 ghost use Rattle.tas_green.specs.View.{AreOfMovie, IsBrought, both_of, view_of};
 
 use crate::green::batch_front;
-use crate::playing::{Span, kept_at, pass_span, play_span};
-use crate::viewing::{play_near, retain_up_to};
-use crate::window::{MAX_NEAR, Viewed};
+use crate::playing::{Span, kept_at, play_span};
+use crate::viewing::{pass_near, play_near, retain_up_to};
+use crate::window::{MAX_NEAR, ReachedState, Viewed};
 use crate::zone::{absorb, holds_at, nearest_of, retain_on_grid};
 use crate::{Batch, Green, Job, MAX_STATES, Merged, Savestate, shared_front, stride};
 use std::alloc::{AllocError, Allocator, Global};
 use std::marker::Model;
 use std::mem::size_of;
 use tas_movie::{Edit, EditRefusal, Movie, apply, check};
-use vcs_machine::{Meter, State};
+use thiserror::Error;
+use vcs_machine::Meter;
 use vcs_tia::Picture;
 
 /// Room for the kept states, and for one more: that is easier to show than that a state to be put is there already.
@@ -32,20 +42,13 @@ const NEAR: usize = MAX_NEAR + 1;
 const _: () = prove!(NEAR * size_of::<Savestate>() < 65_536);
 
 /// The movie has no such frame.
-#[derive(Clone, Copy, Debug, PartialEq, Eq)]
+#[derive(Clone, Copy, Debug, PartialEq, Eq, Error)]
+#[error("no such frame")]
 pub struct NoFrame;
 
-/// A state that was reached, and how many frames were played for it.
-#[derive(Clone, Copy, Debug)]
-pub struct ReachedState {
-    /// How many frames were played.
-    pub ran: u64,
-    /// The state.
-    pub state: State,
-}
-
 /// The batch's cartridge has other bytes than the movie's.
-#[derive(Clone, Copy, Debug, PartialEq, Eq)]
+#[derive(Clone, Copy, Debug, PartialEq, Eq, Error)]
+#[error("another cartridge")]
 pub struct OtherCartridge;
 
 /// A movie with its kept states and its window.
@@ -64,6 +67,9 @@ impl<A: Allocator> Model for View<A> {
 
     ghost view = { λ v. view_of v.movie v.states.items v.near.items };
 
+    // Whatever was called, a view's kept states are its movie's machine and stand on its grid, and its window's states
+    // are its movie's machine. No call has a condition on them.
+    // Refused: none, see `View::follow`.
     ghost invariant = { λ v. IsView (view_of v.movie v.states.items v.near.items) (vec_capacity v.states) (vec_capacity v.near) };
 }
 
@@ -94,6 +100,9 @@ fn start_of<A: Allocator>(
 impl<A: Allocator + Copy> View<A> {
     /// A view of a movie of which no state is kept yet. It takes all its room here.
     pub fn new(alloc: A, movie: Movie<A>) -> Result<View<A>, AllocError>
+        // A new view has its movie and no states. The other calls, but `copy`, `copy_states` and `job`, take no memory:
+        // their types have no such error.
+        // Refused: none, what a view is made of leaves nothing else to make.
         ensures { IfOk result (λ view. view ≡ view_of movie [] []) }
     {
         let states = Vec::with_capacity(alloc, STATES)?;
@@ -109,6 +118,7 @@ impl<A: Allocator + Copy> View<A> {
 impl<A: Allocator> View<A> {
     /// The movie.
     pub fn movie(&self) -> &Movie<A>
+        // Refused: none, see `View`.
         ensures movie { result.now ≡ self.now.movie }
         ensures lawful { AreOfMovie self.now }
     {
@@ -117,6 +127,8 @@ impl<A: Allocator> View<A> {
 
     /// How many states are kept.
     pub fn count(&self) -> usize
+        // How many states are kept, at most 512, after which frames, and the nearest place.
+        // Refused: view_counts_half_of_its_states.
         ensures count { result ≡ length self.now.states }
         ensures bounded { result ≤ most_states }
     {
@@ -125,6 +137,7 @@ impl<A: Allocator> View<A> {
 
     /// Whether a state is kept after `frame` frames.
     pub fn holds(&self, frame: usize) -> bool
+        // Refused: view_holds_looks_one_frame_later*.
         ensures { result ≡ is_some (state_at frame self.now.states) }
     {
         holds_at(self.states.as_slice(), frame)
@@ -133,44 +146,43 @@ impl<A: Allocator> View<A> {
     /// The greatest place of a kept state that is at most `k`, in frames from power-on; 0 where
     /// there is none.
     pub fn nearest(&self, k: usize) -> usize
+        // Refused: nearest_of_a_view_is_that_of_half_the_frames*.
         ensures value { result ≡ nearest k self.now.states }
         ensures bound { result ≤ k }
     {
         kept_at(&self.movie, self.states.as_slice(), k).frame
     }
 
-    /// The machine after `frames` frames, played from the nearest kept state. It takes no memory.
+    /// The machine after `frames` frames, played from the nearest of the kept states and the window's, which is filled as by a
+    /// picture of the frame before. It takes no memory.
     pub fn state(&mut self, frames: usize) -> Result<ReachedState, NoFrame>
         ensures movie { self.new.movie ≡ self.old.movie }
-        ensures near { self.new.near ≡ self.old.near }
         ensures state { IfOk result (λ reached. (frames ≤ length self.new.movie.inputs)
             × (reached.state ≡ state_after self.new.movie frames)) }
-        ensures kept { IfOk result (λ reached. IsReachedFrom self.old.movie self.old.movie frames
-            self.old.states self.new.states 0 reached.ran) }
+        // A look at a frame that the movie has is answered, and at another one `NoFrame` leaves the view as it was.
+        // `state` returns the machine, `shot` and `picture` return the frame's halt or draw its picture, whatever is
+        // kept. `state` is played from where `picture` is; it leaves the kept states as if played from the nearest of
+        // these, and of the window exactly the near states, those that were there and those that were played.
+        // Refused: state_is_played_from_the_kept_states_alone, state_of_a_view_counts_no_frame*,
+        // state_of_a_view_loses_the_near_states.
+        ensures kept { IfOk result (λ reached. IsStateFrom self.old.movie self.new.movie frames
+            (both_of self.old) (both_of self.new) reached.ran) }
         ensures lawful { AreOfMovie self.new }
+        // The same state again plays no frame then, and the next one plays one.
+        ensures forward { OnOk result (IsOneAway self.new.movie frames (both_of self.new)) }
         ensures past { OnErr result (length self.old.movie.inputs < frames) }
         ensures unchanged { OnErr result (self.new ≡ self.old) }
     {
         if frames > self.movie.len() {
             return Err(NoFrame);
         }
-        let span = Span {
-            start: kept_at(&self.movie, self.states.as_slice(), frames),
-            end: frames,
-            stride: stride(self.movie.len()),
-        };
-        let mut meter = Meter::new();
-        let state = pass_span(
-            self.movie.cart(),
-            self.movie.inputs(),
-            span,
-            &mut self.states,
-            &mut meter,
+        let start = start_of(
+            &self.movie,
+            self.states.as_slice(),
+            self.near.as_slice(),
+            frames,
         );
-        Ok(ReachedState {
-            ran: meter.count(),
-            state,
-        })
+        Ok(pass_near(&self.movie, start, frames, &mut self.states, &mut self.near))
     }
 
     /// Draws frame `k`, played from the nearest kept state; the window isn't used, and stays. It takes no memory.
@@ -180,6 +192,8 @@ impl<A: Allocator> View<A> {
         picture: &mut Picture<B>,
     ) -> Result<Viewed, NoFrame>
         ensures movie { self.new.movie ≡ self.old.movie }
+        // A shot is played from the nearest kept state, keeps the states of the grid on its way and leaves the window.
+        // Refused: shot_of_a_view_counts_no_frame*, picture_of_a_view_is_of_another_input.
         ensures near { self.new.near ≡ self.old.near }
         ensures answer { IfOk result (λ viewed. (k < length self.new.movie.inputs)
             × (viewed.end ≡ answer_of (state_after self.new.movie (k + 1)).halt)) }
@@ -229,6 +243,11 @@ impl<A: Allocator> View<A> {
             × (viewed.end ≡ answer_of (state_after self.new.movie (k + 1)).halt)) }
         ensures picture { IfOk result
             (λ viewed. OnOk viewed.end (picture.new ≡ picture_of self.new.movie k)) }
+        // `picture` is played from the nearest state of kept states and window, unless a place of the grid comes after
+        // the kept one, up to the window's; it leaves the kept states as a shot does, and of the window exactly the
+        // near states, those that were there and those that were played.
+        // Refused: picture_is_played_from_the_kept_states_alone, view_starts_past_a_place_of_the_grid*,
+        // state_after_the_frame_is_not_near, each_state_is_a_mark*, frames_of_a_view_are_counted_from_its_last*.
         ensures kept { IfOk result (λ viewed. IsViewFrom self.old.movie self.new.movie k
             (both_of self.old) (both_of self.new) viewed.ran) }
         ensures lawful { AreOfMovie self.new }
@@ -266,6 +285,9 @@ impl<A: Allocator> View<A> {
     /// Makes an edit, where the movie allows it: the states up to the edited place are left, those kept on the grid of the new length. It
     /// takes no memory.
     pub fn edit<B: Allocator>(&mut self, edit: &Edit<B>) -> Result<(), EditRefusal>
+        // An edit is made where the movie allows it: the kept states up to its place are left, on the new grid, and the
+        // window's up to it. A refusal leaves the view as it was.
+        // Refused: edit_leaves_a_view_s_window_uncut, refused_edit_of_a_view_empties_it*.
         ensures answer { result ≡ check_answer (refusal self.old.movie edit.now) }
         ensures movie { self.new.movie ≡ edited self.old.movie edit.now }
         ensures states { OnOk result (self.new.states
@@ -287,6 +309,10 @@ impl<A: Allocator> View<A> {
     /// Becomes a view of another movie: the states up to the end of the common beginning of the two movies' inputs are left, the
     /// kept ones where they stand on the new one's grid, and none where the bytes of the cartridges differ. It takes no memory.
     pub fn follow(&mut self, movie: Movie<A>)
+        // `movie`, `brought`: a view follows any other movie: both lists are cut at the exact common front of the two,
+        // the kept states are those on the new grid, and of another cartridge nothing is left. So an edit that is
+        // undone before the next look costs no state.
+        // Refused: follow_leaves_the_states_uncut, follow_leaves_the_window_uncut, window_keeps_a_state_past_the_cut.
         ensures movie { self.new.movie ≡ movie }
         ensures brought { IsBrought self.old self.new }
         ensures lawful { AreOfMovie self.new }
@@ -300,6 +326,7 @@ impl<A: Allocator> View<A> {
     /// Gains exactly the states of a greenzone of the same movie that it lacks, and returns how many. It takes no memory.
     pub fn gain<B: Allocator>(&mut self, other: &Green<B>) -> usize
         requires { IsLawful self.old.movie other.now }
+        // Refused: view_gains_nothing_of_the_second_half.
         ensures movie { self.new.movie ≡ self.old.movie }
         ensures near { self.new.near ≡ self.old.near }
         ensures states { (f : ℕ) → state_at f self.new.states
@@ -311,8 +338,27 @@ impl<A: Allocator> View<A> {
         absorb(&mut self.states, other.states.as_slice(), end, stride(end))
     }
 
+    /// A copy of all of it. `AllocError` where memory is refused.
+    pub fn copy<B: Allocator + Copy>(&self, alloc: B) -> Result<View<B>, AllocError>
+        // A copy of a view is equal to it.
+        // Refused: copy_of_a_view_has_no_window.
+        ensures { IfOk result (λ view. view ≡ self.now) }
+    {
+        let movie = self.movie.copy(alloc)?;
+        let mut states = Vec::with_capacity(alloc, STATES)?;
+        states.extend_from_slice(self.states.as_slice())?;
+        let mut near = Vec::with_capacity(alloc, NEAR)?;
+        near.extend_from_slice(self.near.as_slice())?;
+        Ok(View {
+            movie,
+            states,
+            near,
+        })
+    }
+
     /// A greenzone with a copy of the kept states. `AllocError` where memory is refused.
     pub fn copy_states<B: Allocator>(&self, alloc: B) -> Result<Green<B>, AllocError>
+        // Refused: view_copies_no_states.
         ensures same { IfOk result (λ green. green ≡ self.now.states) }
         ensures lawful { IfOk result (λ green. IsLawful self.now.movie green) }
     {
@@ -323,6 +369,7 @@ impl<A: Allocator> View<A> {
     /// A job for the movie's first `near` frames, or for all where there are fewer, from the nearest
     /// kept state among them. `AllocError` where memory is refused.
     pub fn job<B: Allocator + Copy>(&self, alloc: B, near: usize) -> Result<Job<B>, AllocError>
+        // Refused: job_of_a_view_of_half_the_frames*.
         ensures cart { IfOk result (λ job. job.cart ≡ self.now.movie.cart) }
         ensures inputs { IfOk result (λ job. job.inputs
             ≡ take (min near (length self.now.movie.inputs)) self.now.movie.inputs) }
@@ -337,6 +384,7 @@ impl<A: Allocator> View<A> {
     /// of the batch's inputs and the movie's. `OtherCartridge` comes exactly where the two
     /// cartridges' bytes differ, and leaves the view unchanged. It takes no memory.
     pub fn merge<B: Allocator>(&mut self, batch: &Batch<B>) -> Result<Merged, OtherCartridge>
+        // Refused: view_merge_stops_before_the_front.
         ensures movie { self.new.movie ≡ self.old.movie }
         ensures near { self.new.near ≡ self.old.near }
         ensures cartridge { IsErr result ↔ (batch.now.cart ≢ self.old.movie.cart) }

@@ -9,7 +9,7 @@ ghost use Rattle.tas_green.specs.Green.{IsLawful};
 ghost use Rattle.tas_green.specs.Window.{most_near, is_near, is_gained, AreNear, AreMovieStates, IsFilled};
 
 use crate::playing::Span;
-use crate::window::{MARK_DISTANCE, MAX_BEFORE, MAX_MARKED, Viewed};
+use crate::window::{MARK_DISTANCE, MAX_BEFORE, MAX_MARKED, ReachedState, Viewed};
 use crate::zone::{put, put_on_grid};
 use crate::{Savestate, stride};
 use std::alloc::Allocator;
@@ -60,19 +60,21 @@ fn put_near<A: Allocator>(states: &mut Vec<Savestate, A>, kept: &Savestate, end:
     }
 }
 
-/// Plays the frames of a span, of which there is one at least, but for the last one, without pictures, and returns the state
-/// after them. The states on the way are kept: in the greenzone's list those on the grid, in the window's those near the
-/// span's end. Both have room for them.
+/// Plays the frames of a span without pictures, and returns the state after them. The states on the way are kept: in the
+/// greenzone's list those on the grid, in the window's those near a place, which isn't before the span's end. Both have room
+/// for them.
 fn pass_both<A: Allocator, B: Allocator, C: Allocator>(
     cart: &Cart<A>,
     inputs: &[Input],
     span: Span,
+    place: usize,
     green: &mut Vec<Savestate, B>,
     window: &mut Vec<Savestate, C>,
     meter: &mut Meter,
 ) -> State
     requires stride { 0 < span.stride }
-    requires order { span.start.frame < span.end }
+    requires order { span.start.frame ≤ span.end }
+    requires place { span.end ≤ place }
     requires within { span.end ≤ length inputs.now }
     requires start { span.start.state ≡ after cart.now (take span.start.frame inputs.now) }
     requires meter { meter.old + (span.end - span.start.frame) < 2 ^ 64 }
@@ -80,32 +82,32 @@ fn pass_both<A: Allocator, B: Allocator, C: Allocator>(
     requires room { vec_len green.old + span.end / span.stride
         ≤ vec_capacity green.old + span.start.frame / span.stride }
     requires window_rising { IsRising 0 window.old.items }
-    requires window_near { AreNear span.end window.old.items }
+    requires window_near { AreNear place window.old.items }
     requires window_room { most_near < vec_capacity window.old }
-    ensures state { result ≡ after cart.now (take (span.end - 1) inputs.now) }
+    ensures state { result ≡ after cart.now (take span.end inputs.now) }
     ensures rising { IsRising 0 green.new.items }
     ensures passed { (f : ℕ) → state_at f green.new.items ≡ first_of (state_at f green.old.items)
-        (where_true (is_passed span.stride span.start.frame (span.end - 1) f)
+        (where_true (is_passed span.stride span.start.frame span.end f)
         (Some (after cart.now (take f inputs.now)))) }
     ensures most { vec_len green.new + span.start.frame / span.stride
-        ≤ vec_len green.old + (span.end - 1) / span.stride }
+        ≤ vec_len green.old + span.end / span.stride }
     ensures capacity { vec_capacity green.old ≤ vec_capacity green.new }
     ensures window_rising { IsRising 0 window.new.items }
     ensures filled { (f : ℕ) → state_at f window.new.items ≡ first_of (state_at f window.old.items)
-        (where_true (is_gained span.end span.start.frame (span.end - 1) f)
+        (where_true (is_gained place span.start.frame span.end f)
         (Some (after cart.now (take f inputs.now)))) }
     ensures window_capacity { vec_capacity window.old ≤ vec_capacity window.new }
-    ensures meter { meter.new + 1 ≡ meter.old + (span.end - span.start.frame) }
+    ensures meter { meter.new ≡ meter.old + (span.end - span.start.frame) }
 {
     let mut state = span.start.state;
-    for frame in span.start.frame..span.end - 1 {
+    for frame in span.start.frame..span.end {
         // A halted machine stays as it is: its state has the halt.
         let _ = play_unseen(cart, &mut state, inputs[frame], meter);
         let kept = Savestate {
             frame: frame + 1,
             state,
         };
-        put_near(window, &kept, span.end);
+        put_near(window, &kept, place);
         put_on_grid(green, kept, span.end, span.stride);
     }
     state
@@ -150,7 +152,8 @@ fn play_both<A: Allocator, B: Allocator, C: Allocator, D: Allocator>(
     let place = span.end;
     let step = span.stride;
     let last = place - 1;
-    let mut state = pass_both(cart, inputs, span, green, window, &mut meter);
+    let before = Span { end: last, ..span };
+    let mut state = pass_both(cart, inputs, before, place, green, window, &mut meter);
     let end = play(cart, &mut state, inputs[last], picture, &mut meter);
     let kept = Savestate {
         frame: place,
@@ -202,4 +205,55 @@ pub fn play_near<A: Allocator, B: Allocator, C: Allocator, D: Allocator>(
     };
     retain_near(window, span.end);
     play_both(movie.cart(), movie.inputs(), span, green, window, picture)
+}
+
+/// Plays a movie from a state on up to a place, without pictures, and keeps states as [`play_near`] does for the frame before
+/// that place. Both lists have room for them.
+pub fn pass_near<A: Allocator, B: Allocator, C: Allocator>(
+    movie: &Movie<A>,
+    start: Savestate,
+    end: usize,
+    green: &mut Vec<Savestate, B>,
+    window: &mut Vec<Savestate, C>,
+) -> ReachedState
+    requires within { (start.frame ≤ end) × (end ≤ length movie.now.inputs) }
+    requires start { start.state ≡ state_after movie.now start.frame }
+    requires lawful { IsLawful movie.now green.old.items }
+    requires states { AreMovieStates movie.now window.old.items }
+    requires room { vec_len green.old + end / stride (length movie.now.inputs)
+        ≤ vec_capacity green.old + start.frame / stride (length movie.now.inputs) }
+    requires window_room { most_near < vec_capacity window.old }
+    ensures ran { result.ran + start.frame ≡ end }
+    ensures state { result.state ≡ state_after movie.now end }
+    ensures passed { (f : ℕ) → state_at f green.new.items ≡ first_of (state_at f green.old.items)
+        (where_true (is_passed (stride (length movie.now.inputs)) start.frame end f)
+        (Some (state_after movie.now f))) }
+    ensures filled { IsFilled movie.now start.frame end window.old.items window.new.items }
+    ensures lawful { IsLawful movie.now green.new.items }
+    ensures states { AreMovieStates movie.now window.new.items }
+    ensures few { vec_len window.new ≤ most_near }
+    ensures capacity { vec_capacity green.old ≤ vec_capacity green.new }
+    ensures window_capacity { vec_capacity window.old ≤ vec_capacity window.new }
+{
+    let step = stride(movie.len());
+    let span = Span {
+        start,
+        end,
+        stride: step,
+    };
+    retain_near(window, end);
+    let mut meter = Meter::new();
+    let state = pass_both(
+        movie.cart(),
+        movie.inputs(),
+        span,
+        end,
+        green,
+        window,
+        &mut meter,
+    );
+    ReachedState {
+        ran: meter.count(),
+        state,
+    }
 }

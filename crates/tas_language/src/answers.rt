@@ -35,6 +35,8 @@ pub fn picture_answer<A: Allocator + Copy, B: Allocator>(
     frame: usize,
     picture: &Picture<B>,
 ) -> Result<Vec<u8, A>, AllocError>
+    // Answers are the definitions' texts: a line that says how many bytes follow, and these; frames of states.
+    // Refused: half_of_the_pictures_bytes_are_reported*.
     ensures { IfOk result (λ bytes. bytes.items ≡ picture_text at frame (ppm_bytes picture.now)) }
 {
     let mut bytes = format!(in alloc; "picture {at} {frame} {PIXMAP_SIZE}\n")?.into_bytes();
@@ -49,6 +51,7 @@ pub fn movie_answer<A: Allocator + Copy, B: Allocator>(
     at: u64,
     movie: &Movie<B>,
 ) -> Result<Vec<u8, A>, AllocError>
+    // Refused: half_of_the_movies_text_is_reported*.
     ensures { IfOk result (λ bytes. bytes.items ≡ movie_text at (text2 movie.now)) }
 {
     let text = print_text(alloc, movie)?;
@@ -84,6 +87,7 @@ pub fn states_answer<A: Allocator>(
     at: u64,
     frames: &[usize],
 ) -> Result<Vec<u8, A>, AllocError>
+    // Refused: half_of_the_states_are_reported.
     ensures { IfOk result (λ bytes. bytes.items ≡ states_text at frames.now) }
 {
     let count = frames.len();
@@ -100,6 +104,9 @@ pub fn share_answer<A: Allocator>(
     at: u64,
     gained: usize,
 ) -> Result<Vec<u8, A>, AllocError>
+    // `share` and `history FROM` are answered by the definitions' texts: how many states were gained; a line that says
+    // how many edits and how many bytes follow, and these.
+    // Refused: gained_states_are_reported_as_the_edits.
     ensures { IfOk result (λ bytes. bytes.items ≡ share_text at gained) }
 {
     Ok(format!(in alloc; "share {at} {gained}\n")?.into_bytes())

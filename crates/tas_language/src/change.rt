@@ -1,4 +1,7 @@
 //! Changes of a movie, and the lines that say them.
+//!
+//! `insert`, `replace` and `delete` are one command, `Edit`, of a `Change`: a difference has these three alone, and a
+//! desk answers them by one function.
 
 ghost use Rattle.std.specs.Prelude.{◌≡◌, ◌++◌, ◌∷◌, IfOk, IfSome, IfNone};
 ghost use Rattle.tas_movie.specs.Text.{line};
@@ -44,6 +47,8 @@ pub enum Change {
 /// The change that a line, without its newline, says; nothing where it says none. The lines are
 /// those of `tas script`, of which only these three kinds are changes.
 pub fn read_change(line: &[u8]) -> Option<Change>
+    // A line says a change exactly where it is the text of one.
+    // Refused: deletion_has_its_numbers_swapped, insert_line_is_no_change*.
     ensures some { IfSome result (IsChangeLine line.now) }
     ensures none { IfNone result ((change : Asked) → IsChangeLine line.now change → ⊥) }
 {
@@ -82,6 +87,8 @@ fn delete_line<A: Allocator>(alloc: A, at: usize, count: usize) -> Result<Vec<u8
 
 /// The line that says a change, with its newline. `AllocError` where memory is refused.
 pub fn change_line<A: Allocator>(alloc: A, change: Change) -> Result<Vec<u8, A>, AllocError>
+    // A change's line is the definition's text of it.
+    // Refused: replacement_is_said_as_insertion.
     ensures { IfOk result (λ bytes. bytes.items ≡ line (change_text change)) }
 {
     match change {

@@ -56,6 +56,8 @@ fn moved_line<A: Allocator>(alloc: A, at: u64) -> Result<Vec<u8, A>, AllocError>
 
 /// The line of an answer about a draft, with its newline. `AllocError` where memory is refused.
 pub fn draft_reply_line<A: Allocator>(alloc: A, reply: DraftReply) -> Result<Vec<u8, A>, AllocError>
+    // An answer about a draft is the definition's text of it.
+    // Refused: commit_is_answered_with_its_numbers_swapped.
     ensures { IfOk result (λ bytes. bytes.items ≡ draft_reply_text reply) }
 {
     match reply {

@@ -27,6 +27,7 @@ pub enum EditLine {
 
 /// What a line of `tas edit`, without its newline, says; nothing where it isn't understood. Takes no memory.
 pub fn read_edit_line(line: &[u8]) -> Option<EditLine>
+    // Refused: copy_other_line_is_read_as_a_copy.
     ensures some { IfSome result (IsEditLine line.now) }
     ensures none { IfNone result ((said : Asked) → IsEditLine line.now said → ⊥) }
 {

@@ -126,6 +126,12 @@ pub fn push_edit_lines<A: Allocator, B: Allocator>(
     prefix: &[u8],
     edit: &Edit<B>,
 ) -> Result<(), AllocError>
+    // An edit of a history is reported by a line for each run of its frames, by one line where it has no frames, loads
+    // a cartridge or deletes; each after the edit's number and that of its seat. What it loads is an image of 2,048 or
+    // 4,096 bytes.
+    // Refused: runs_after_the_first_are_left_out, small_image_is_loaded_by_another_word, run_of_no_frames_is_left_out*,
+    // runs_are_all_at_the_first_place*, replacement_of_a_history_is_reported_as_insertion*,
+    // deletion_of_a_history_has_its_place_twice*.
     ensures text { OnOk result
         (text.new.items ≡ text.old.items ++ edit_lines prefix.now edit.now) }
     ensures cartridge { LoadsCartridge edit.now }
@@ -151,6 +157,7 @@ pub fn push_entry<A: Allocator, B: Allocator>(
     seat: u32,
     edit: &Edit<B>,
 ) -> Result<(), AllocError>
+    // Refused: seat_and_number_of_an_entry_are_swapped*, entry_is_numbered_by_its_seat*.
     ensures text { OnOk result
         (text.new.items ≡ text.old.items ++ entry_text number seat edit.now) }
     ensures cartridge { OnOk result (LoadsCartridge edit.now) }
@@ -181,6 +188,7 @@ pub fn history_answer<A: Allocator>(
     count: usize,
     lines: &[u8],
 ) -> Result<Vec<u8, A>, AllocError>
+    // Refused: half_of_the_historys_bytes_are_reported*.
     ensures { IfOk result (λ bytes. bytes.items ≡ history_text at from count lines.now) }
 {
     let mut bytes = history_head(alloc, at, from, count, lines.len())?;

@@ -1,4 +1,7 @@
 //! The image that a line loads.
+//!
+//! `load` and `load2` are one command, since they make one edit: which of the two words a line has is the image's size.
+//! The image is an array of that size, so understanding a line takes no memory.
 
 ghost use Rattle.std.specs.Prelude.{◌≡◌};
 
@@ -18,6 +21,8 @@ impl Image {
 
     /// The bytes, as many as the cartridge has.
     pub fn bytes(&self) -> &[u8]
+        // The bytes of an image of either size are those that it holds.
+        // Refused: small_image_without_its_first_byte.
         ensures { result.now ≡ image_bytes self.now }
     {
         match self {

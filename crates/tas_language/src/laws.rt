@@ -18,22 +18,29 @@ use std::alloc::Allocator;
 
 /// A line is the text of at most one command.
 pub fn one_command_per_line()
+    // Refused: none, it has no code to edit.
     ensures { (line : List ℕ) (a b : Command) → Says line a → Says line b → a ≡ b }
 {}
 
 /// A line is the text of at most one request.
 pub fn one_request_per_line()
+    // Refused: none, it has no code to edit.
     ensures { (line : List ℕ) (a b : Request) → Asks line a → Asks line b → a ≡ b }
 {}
 
 /// A line of `tas edit` says one thing at most.
 pub fn one_edit_line_per_line()
+    // Refused: none, it has no code to edit.
     ensures { (line : List ℕ) (a b : EditLine) → IsEditLine line a → IsEditLine line b → a ≡ b }
 {}
 
 /// The lines of an edit that a movie allows: a conversation understands each of them as a command, each command's edit is allowed on
 /// the movie that those before it made, and together they make what the edit makes.
 pub fn edit_lines_make_the_edit<A: Allocator>()
+    // Where a movie allows an edit, a conversation understands each of its lines once the two numbers before it are
+    // taken off, the edit of each is allowed on the movie that those before it made, and together they make what the
+    // edit makes.
+    // Refused: none, it has no code to edit.
     ensures heard { (movie : MovieContent) (edit : Edit A) → length movie.inputs ≤ most_inputs
         → IsAllowed movie edit → LoadsCartridge edit → AreHeard (edit_commands edit) }
     ensures allowed { (movie : MovieContent) (edit : Edit A) → IsAllowed movie edit

@@ -4,6 +4,11 @@
 //! A script has the lines of [`Command`]; a conversation has those and some more ([`Request`]). A script's replies are those of
 //! [`Reply`]; the other lines of a conversation have these, too, and answers of their own. A script of `tas edit` has the lines of
 //! [`EditLine`]. A line says what it is the printed text of.
+//!
+//! That a line is one request is proved by its words: the first word, the numbers and the frame after it make the
+//! request again (`OneRequest`), so a further request costs three rows. Scripts have a table of each kind against each
+//! other (`OneCommand`). Definitions name no allocator: an edit's content (`EditContent`) is the edit over none, and
+//! `same_refusal` and `same_edited` prove that an edit on any allocator is refused and made as its content is.
 #![tactic(auto)]
 
 mod answers;

@@ -1,4 +1,7 @@
 //! A line that comes in pieces.
+//!
+//! A line may have 16,384 bytes: a whole cartridge is a `load` line of 8,201. Of a longer line only the fact that it is
+//! too long is kept, so no line takes more memory.
 
 ghost use Rattle.std.specs.Prelude.{◌≡◌, ◌<◌, ◌++◌, ℕ, [], List, length, true, false, IfOk, OnOk, OnErr};
 ghost use Rattle.tas_language.specs.Requests.{IsHeard};
@@ -23,6 +26,9 @@ pub struct Line<A: Allocator = Global> {
 impl<A: Allocator> Line<A> {
     /// No bytes yet, and room for the longest line that is understood. `AllocError` where that room is refused.
     pub fn new(alloc: A) -> Result<Line<A>, AllocError>
+        // A line that comes in pieces is held as it is up to 16,384 bytes, and a longer one is known to be longer; when
+        // out of memory it is as before.
+        // Refused: new_line_is_too_long.
         ensures { IfOk result (λ line. HoldsLine [] line.bytes.items line.long) }
     {
         let bytes = Vec::with_capacity(alloc, MAX_LINE)?;
@@ -31,6 +37,7 @@ impl<A: Allocator> Line<A> {
 
     /// Takes the line's next bytes. After `AllocError` the line is as before.
     pub fn add(&mut self, more: &[u8]) -> Result<(), AllocError>
+        // Refused: line_of_16384_bytes_is_too_long*, long_line_is_held_as_an_empty_one.
         ensures added { OnOk result
             ((said : List ℕ) → HoldsLine said self.old.bytes.items self.old.long
             → HoldsLine (said ++ more.now) self.new.bytes.items self.new.long) }
@@ -50,6 +57,7 @@ impl<A: Allocator> Line<A> {
 
     /// Begins the next line.
     pub fn clear(&mut self)
+        // Refused: line_after_a_long_one_is_too_long*.
         ensures { HoldsLine [] self.new.bytes.items self.new.long }
     {
         self.bytes.clear();
@@ -58,6 +66,7 @@ impl<A: Allocator> Line<A> {
 
     /// Whether there are no bytes.
     pub fn is_empty(&self) -> bool
+        // Refused: last_line_is_reported_as_none*.
         ensures none { result ≡ true → (said : List ℕ)
             → HoldsLine said self.now.bytes.items self.now.long → said ≡ [] }
         ensures some { result ≡ false → (said : List ℕ)
@@ -71,6 +80,8 @@ impl<A: Allocator> Line<A> {
 
     /// What the line asks for; nothing where it isn't understood or is too long.
     pub fn request(&self) -> Option<Request>
+        // What is held asks for what the line says, and for nothing where it is too long.
+        // Refused: half_of_a_line_is_heard.
         ensures { (said : List ℕ) → HoldsLine said self.now.bytes.items self.now.long
             → IsHeard said result }
     {

@@ -1,4 +1,6 @@
 //! The parts of a `load` or `load2` line.
+//!
+//! A digit is the trace's, of `byte_text`, in definitions and code; an image is as long as a cartridge.
 
 ghost use Rattle.std.specs.Prelude.{◌≡◌, ◌≢◌, ◌<◌, ◌≤◌, ◌*◌, ◌++◌, ◌∷◌, [], ℕ, List, length, IfSome, IfNone, true, false};
 ghost use Rattle.byte_text.specs.Splitting.{NoByte};

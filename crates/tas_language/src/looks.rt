@@ -30,6 +30,9 @@ pub fn ram_answer<A: Allocator>(
     frames: usize,
     ram: &[u8],
 ) -> Result<Vec<u8, A>, AllocError>
+    // RAM is reported by two upper case digits for each byte, and a frame's digests are the SHA-256 of these bytes and
+    // of the pixmap; lag frames by a line that says how many bytes follow, and their lines.
+    // Refused: half_of_ram_is_reported*.
     ensures { IfOk result (λ bytes. bytes.items ≡ ram_text at frames ram.now) }
 {
     let mut bytes = format!(in alloc; "ram {at} {frames} ")?.into_bytes();
@@ -47,6 +50,7 @@ pub fn digest_answer<A: Allocator + Copy, B: Allocator>(
     ram: &[u8],
     picture: &Picture<B>,
 ) -> Result<Vec<u8, A>, AllocError>
+    // Refused: digest_of_ram_is_the_pictures.
     ensures { IfOk result
         (λ bytes. bytes.items ≡ frame_digest_text at frame ram.now (ppm_bytes picture.now)) }
 {
@@ -79,6 +83,7 @@ pub fn lag_answer<A: Allocator>(
     to: usize,
     lines: &[u8],
 ) -> Result<Vec<u8, A>, AllocError>
+    // Refused: half_of_the_lag_lines_are_reported*.
     ensures { IfOk result (λ bytes. bytes.items ≡ lag_text at from to lines.now) }
 {
     let mut bytes = lag_head(alloc, at, from, to, lines.len())?;

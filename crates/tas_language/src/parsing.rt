@@ -1,4 +1,7 @@
 //! Parsing a line.
+//!
+//! The numbers of `pictures FROM TO` are checked here: a strip of no frames would be a line without an answer, so it
+//! isn't understood, and neither is one of more than 1,024.
 
 ghost use Rattle.std.specs.Prelude.{◌≡◌, ◌≢◌, ◌++◌, ℕ, codes, decimal, IfSome, IfNone};
 ghost use Rattle.tas_language.specs.declared.command.Command.{Command as Asked};
@@ -12,6 +15,10 @@ use crate::{Change, Command, Image, Request, read_retouch};
 
 /// What a line, without its newline, asks for; nothing where it isn't understood. Takes no memory.
 pub fn parse_line(line: &[u8]) -> Option<Command>
+    // A script's line is understood exactly where it is a text of a command; the definitions have no grammar.
+    // Refused: greatest_number_has_six_digits*, part_up_to_the_images_end_is_refused*, letter_g_is_a_digit*,
+    // delete_line_with_its_numbers_swapped*, work_line_is_read_as_a_shot*,
+    // bytes_of_a_part_go_to_the_image_with_nibbles_swapped*.
     ensures some { IfSome result (Says line.now) }
     ensures none { IfNone result ((command : Asked) → Says line.now command → ⊥) }
 {
@@ -119,6 +126,12 @@ fn one_word(line: &[u8]) -> Option<Request>
 
 /// What a line of any length, without its newline, asks for; nothing where it isn't understood. Takes no memory.
 pub fn parse_request(line: &[u8]) -> Option<Request>
+    // A conversation's line is understood exactly where it is the text of a request: a command, or one of what only
+    // conversations have; the definitions have no grammar.
+    // Refused: picture_line_asks_for_another_frame*, movie_line_asks_for_the_states, lag_line_has_its_numbers_swapped*,
+    // history_line_asks_for_half_its_number*, share_line_asks_for_the_states*.
+    // A strip has one frame at least and 1,024 at most.
+    // Refused: strip_of_1023_pictures, strip_line_with_its_numbers_swapped*.
     ensures some { IfSome result (Asks line.now) }
     ensures none { IfNone result ((request : AskedFor) → Asks line.now request → ⊥) }
 {

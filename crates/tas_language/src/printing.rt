@@ -101,6 +101,8 @@ fn out_of_memory_line<A: Allocator>(alloc: A) -> Result<Vec<u8, A>, AllocError>
 
 /// The line of a reply, with its newline. `AllocError` where memory is refused.
 pub fn reply_line<A: Allocator>(alloc: A, reply: Reply) -> Result<Vec<u8, A>, AllocError>
+    // A reply's line is the definition's text of it.
+    // Refused: halt_is_reported_at_another_address, shot_reply_with_its_numbers_swapped*.
     ensures { IfOk result (λ bytes. bytes.items ≡ reply_text reply) }
 {
     match reply {

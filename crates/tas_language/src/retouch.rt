@@ -1,4 +1,7 @@
 //! Changes that depend on what the movie has, and their lines.
+//!
+//! A line that depends on the movie's frames is a type of its own and no variant of `Change`: a difference has changes
+//! alone, and `tas script` keeps its language.
 
 ghost use Rattle.std.specs.Prelude.{IfSome, IfNone};
 ghost use Rattle.tas_language.specs.declared.retouch.Retouch.{Retouch as Asked};
@@ -50,6 +53,9 @@ pub enum Retouch {
 
 /// The retouch that a line, without its newline, says; nothing where it says none. Takes no memory.
 pub fn read_retouch(line: &[u8]) -> Option<Retouch>
+    // A line that depends on the movie's frames, and a line of `tas edit`, are understood exactly where they are the
+    // text of what they say.
+    // Refused: press_line_is_read_as_a_release*, copy_line_has_its_places_swapped*.
     ensures some { IfSome result (IsRetouchLine line.now) }
     ensures none { IfNone result ((retouch : Asked) → IsRetouchLine line.now retouch → ⊥) }
 {

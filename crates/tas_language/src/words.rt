@@ -1,4 +1,7 @@
 //! The words of a line.
+//!
+//! A number is the word that `itoa` prints for it: a word of digits is read, printed again and compared. So signs and
+//! leading zeros are refused without a grammar and without memory.
 
 ghost use Rattle.std.specs.Prelude.{◌≡◌, ◌≢◌, ◌++◌, ◌∷◌, ℕ, List, decimal, IfSome, IfNone};
 ghost use Rattle.vcs_inputs.specs.declared.input.Input.{Input as Pressed};
@@ -14,6 +17,8 @@ pub const MAX_NUMBER: usize = 9_999_999;
 
 /// The bytes of `line` after `front`; nothing where the line doesn't begin with it.
 pub fn after_prefix<'a>(line: &'a [u8], front: &[u8]) -> Option<&'a [u8]>
+    // A line's beginning is taken off where it is there.
+    // Refused: beginning_is_left_on_a_line.
     ensures some { IfSome result (λ rest. line.entry.now ≡ front.now ++ rest.now) }
     ensures none { IfNone result ((rest : List ℕ) → line.entry.now ≢ front.now ++ rest) }
 {
@@ -23,6 +28,8 @@ pub fn after_prefix<'a>(line: &'a [u8], front: &[u8]) -> Option<&'a [u8]>
 /// The number of one to seven digits without leading zeros that these bytes write; nothing where they
 /// write none.
 pub fn number(word: &[u8]) -> Option<usize>
+    // A number is read exactly where its decimal digits are there, up to 9,999,999.
+    // Refused: greatest_number_is_not_read.
     ensures some { IfSome result (λ n. (word.now ≡ decimal n) × IsNumber n) }
     ensures none { IfNone result ((n : ℕ) → IsNumber n → word.now ≢ decimal n) }
 {

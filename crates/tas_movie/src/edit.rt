@@ -1,4 +1,7 @@
 //! Edits of a movie, and why one is refused.
+//!
+//! `Edit::copy` keeps the allocator's type: two edits of different allocators have different types in a clause, and `≡`
+//! speaks of one type.
 
 ghost use Rattle.std.specs.Prelude.{◌≡◌, IfOk};
 
@@ -60,6 +63,7 @@ impl<A: Allocator> Edit<A> {
 
     /// An equal edit, on an allocator of the same type. `AllocError` where memory is refused.
     pub fn copy(&self, alloc: A) -> Result<Edit<A>, AllocError>
+        // Refused: deletion_copied_with_one_less*.
         ensures { IfOk result (λ edit. edit ≡ self.now) }
     {
         match self {
@@ -81,6 +85,7 @@ impl<A: Allocator> Edit<A> {
 
     /// The edited place: the inputs before it stay as they are. For another cartridge it is 0.
     pub fn place(&self) -> usize
+        // Refused: place_of_delete_is_its_count.
         ensures { result ≡ edited_place self.now }
     {
         match self {

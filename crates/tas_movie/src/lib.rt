@@ -1,4 +1,8 @@
 //! Movies: a cartridge and one input for each frame, edits of them, and their texts.
+//!
+//! Contracts see a movie as the record `MovieContent`. `read_frame`, `print_frame` and `run_length` are public since
+//! scripts and differences use them, `FrameRun` and `MAX_FRAMES1` since public laws name them. Calls that make several
+//! growths have an allocator that is `Copy`.
 #![tactic(auto)]
 
 mod edit;

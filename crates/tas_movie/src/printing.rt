@@ -1,4 +1,7 @@
 //! Printing the text of a movie.
+//!
+//! The room for a text is asked for at once, 18 bytes for each frame, also where few lines come of it: one growth, and
+//! pages that are never touched cost nothing.
 
 ghost use Rattle.std.specs.Prelude.{◌≡◌, ◌≤◌, ◌++◌, length, IfOk, OnOk};
 ghost use Rattle.std.specs.List.{flat_map};
@@ -36,6 +39,8 @@ fn mark(letter: u8, pressed: bool) -> u8
 
 /// The 17 characters of a frame, as `RLDUF RLDUF rsbAB`: left stick, right stick, switches.
 pub fn print_frame(input: Input) -> [u8; FRAME_TEXT_SIZE]
+    // 17 characters show one input.
+    // Refused: frame_printed_with_sticks_swapped.
     ensures { result ≡ frame_text input }
 {
     let left = input.left;
@@ -107,6 +112,9 @@ pub fn print_text<A: Allocator, B: Allocator>(
     alloc: B,
     movie: &Movie<A>,
 ) -> Result<Vec<u8, B>, AllocError>
+    // `print_text` writes the text of the movie's runs, and no other text.
+    // Refused: text_without_its_last_frame*, runs_are_printed_without_their_counts, each_frame_is_a_run_of_its_own*,
+    // count_of_a_run_is_not_printed*, image_doubled_before_its_digest*.
     ensures { IfOk result (λ bytes. bytes.items ≡ text2 movie.now) }
 {
     let mut out = Vec::with_capacity(alloc, HEAD_SIZE + FRAME_LINE_SIZE * movie.len())?;

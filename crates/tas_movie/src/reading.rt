@@ -1,4 +1,6 @@
 //! Reading a text of a movie.
+//!
+//! The second line is compared with the digest's text, so capitals and spaces need no rule of their own.
 
 ghost use Rattle.std.specs.Prelude.{◌≡◌, ◌++◌, ◌∷◌, [], ℕ, List, Option, ◌≤◌, length, MatchResult, OnOk, OnSome, IfOk, IfNone, IfSome, None, Some, true, false, vec_len, vec_capacity};
 ghost use Rattle.std.specs.List.{flat_map};
@@ -65,6 +67,8 @@ fn shown_input(line: &[u8]) -> Input
 /// The input of which these bytes are the 17 characters, without a newline; nothing where there is
 /// none.
 pub fn read_frame(line: &[u8]) -> Option<Input>
+    // The 17 characters of an input are read as that input and no other, and nothing else is read.
+    // Refused: any_letter_is_a_frame*, black_and_white_frame_is_refused*.
     ensures some { IfSome result (λ input. line.now ≡ frame_text input) }
     ensures all { (input : Input) → line.now ≡ frame_text input → result ≡ Some input }
     ensures is_frame { OnSome result (is_frame line.now ≡ true) }
@@ -172,13 +176,19 @@ pub fn read_text<A: Allocator + Copy, B: Allocator>(
     bytes: &[u8],
     cart: &Cart<B>,
 ) -> Result<Movie<A>, ReadError>
-    // What is read is the movie of this text.
+    // What is read is the movie of which these bytes are a text, of either kind, with the given cartridge.
+    // Refused: last_newline_missing_is_accepted, last_newline_of_an_older_text_is_accepted,
+    // capitals_in_the_digest_are_accepted, run_of_one_is_read_with_its_count*, equal_neighbours_are_read.
     ensures found { IfOk result (λ movie. (movie.cart ≡ cart.now) × IsText bytes.now movie) }
-    // A text is refused only out of memory.
+    // A text of a movie is refused only when out of memory, and else gives its own movie.
+    // Refused: text_without_frames_is_refused, longest_run_is_refused*.
     ensures all { (movie : MovieContent) → movie.cart ≡ cart.now →
         length movie.inputs ≤ most_inputs → IsText bytes.now movie →
         MatchResult result (λ read. read ≡ movie) (λ e. e ≡ ReadError.Memory) }
-    // Which line is at fault, and how.
+    // Bytes with a fault aren't read, and an error other than `Memory` names the first line at fault and its kind.
+    // Refused: second_line_at_fault_is_reported_as_the_first, wrong_run_is_reported_as_too_many*,
+    // run_of_262145_frames_is_reported_as_too_many*, frames_past_the_most_are_read*,
+    // one_frame_too_many_is_read_in_a_run*.
     ensures fault { MatchResult result
         (λ _. fault bytes.now cart.now ≡ None)
         (IsReadError (fault bytes.now cart.now)) }

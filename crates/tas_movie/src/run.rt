@@ -15,6 +15,8 @@ pub struct FrameRun {
 
 /// How many inputs at the beginning are this one.
 pub fn run_length(inputs: &[Input], input: Input) -> usize
+    // How many inputs at the beginning are equal to a given one, and no more are.
+    // Refused: run_ends_at_the_last_frame_but_one.
     ensures bound { result ≤ length inputs.now }
     ensures same { take result inputs.now ≡ replicate result input }
     ensures longest { result < length inputs.now → slice_get inputs.now result ≢ Some input }

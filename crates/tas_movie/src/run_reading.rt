@@ -1,4 +1,9 @@
 //! Reading the runs of a text.
+//!
+//! A line is a frame or a run where it is the text of what it shows: letters and number are read, printed again and
+//! compared. So wrong letters, lengths and spaces, leading zeros, signs and a number of 1 are `Frame`, without a
+//! grammar. The definition of a fault carries the frames before the line along, since the fault depends on how many
+//! they are and on the last one.
 
 ghost use Rattle.std.specs.Prelude.{◌≡◌, ◌≢◌, ◌+◌, ◌-◌, ◌≤◌, [], ℕ, length, slice_get, MatchResult, OnOk, IfOk, IfSome, IfNone, None, Some, false, vec_len, vec_capacity};
 ghost use Rattle.std.specs.List.{flat_map};

@@ -103,7 +103,7 @@ fn shots_of_a_view(rt: HostRuntime) {
 fn states_of_a_view(rt: HostRuntime) {
     let alloc = rt.alloc();
     let mut view = view_of(&rt, alloc, HALTING, 100);
-    for (frames, ran, is_halted) in [(3, 3, false), (100, 100, true), (70, 6, true)] {
+    for (frames, ran, is_halted) in [(3, 3, false), (100, 97, true), (70, 0, true)] {
         let reached = expect_ok(&rt, view.state(frames));
         let found = (reached.ran, reached.state.halted());
         let wanted = if is_halted { Some(HALT) } else { None };
@@ -111,6 +111,50 @@ fn states_of_a_view(rt: HostRuntime) {
     }
     check_that(&rt, "past the end", view.state(101).is_err());
     check_kept(&rt, "after the states", &view, &[64]);
+}
+
+/// Numbers of frames of a movie of 200, each reached after the one before it, and how many frames are played for it: one for a step
+/// forward, none for a step back.
+static STATES: [(usize, u64); 9] = [
+    (100, 100),
+    (101, 1),
+    (102, 1),
+    (102, 0),
+    (101, 0),
+    (100, 0),
+    (50, 0),
+    (150, 86),
+    (127, 0),
+];
+
+#[test]
+fn states_step_by_one_frame(rt: HostRuntime) {
+    let alloc = rt.alloc();
+    let mut view = view_of(&rt, alloc, PLAYFIELD, 200);
+    for (frames, ran) in STATES.iter() {
+        let reached = expect_ok(&rt, view.state(*frames));
+        check_same(&rt, *frames, reached.ran, *ran);
+    }
+    check_kept(&rt, "after the states", &view, &[64, 128]);
+}
+
+/// A picture and a state use one window, and a copy of a view has it.
+#[test]
+fn pictures_and_states_share_a_window(rt: HostRuntime) {
+    let alloc = rt.alloc();
+    let mut view = view_of(&rt, alloc, PLAYFIELD, 200);
+    let drawn = picture(&rt, alloc, &mut view, 100);
+    check_same(&rt, "picture", drawn, Ok((101, Ok(1680))));
+    check_same(&rt, "after it", expect_ok(&rt, view.state(101)).ran, 0);
+    check_same(&rt, "next", expect_ok(&rt, view.state(102)).ran, 1);
+    let mut copy = expect_ok(&rt, view.copy(alloc));
+    check_same(
+        &rt,
+        "copy",
+        picture(&rt, alloc, &mut copy, 102),
+        Ok((1, Ok(1680))),
+    );
+    check_kept(&rt, "copy", &copy, &[64]);
 }
 
 #[test]

@@ -2,3 +2,4 @@ pub mod DoorEndLemmas
 pub mod FileWordLemmas
 pub mod PairLemmas
 pub mod ProgramLemmas
+pub mod SavingLemmas

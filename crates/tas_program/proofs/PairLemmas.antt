@@ -16,7 +16,7 @@ use Rattle.tas_words.specs.declared.task.Pair.{Pair}
 use Rattle.tas_words.specs.declared.task.Pairs.{Pairs}
 use Rattle.tas_program.specs.declared.folder.OrdinaryFile.{OrdinaryFile}
 use Rattle.tas_program.specs.Files.{files_by}
-use Rattle.tas_program.specs.Program.{EndsOverTwo, IsDeskTask, ends_by, ends_of}
+use Rattle.tas_program.specs.Program.{EndsOver, OverTwo, IsDeskTask, ends_by, ends_of}
 use Rattle.tas_program.specs.Streams.{StreamBytes}
 use Rattle.tas_program.proofs.DoorEndLemmas.{desk_run_ends, door_ends}
 use Rattle.tas_program.proofs.ProgramLemmas.{over_two}
@@ -57,13 +57,13 @@ ends_are {D = D} {F = F} read held shown folder_of pair_of folder doors pairs al
 
 -- a desk was run over two files and the ends of these doors
 pub over_ends : {D : Type 0} (facts : DoorFacts D) (doors doors' : List D) (ends : List DoorEnds) (one two file left file' left' : Option (List ℕ)) (old new : StreamBytes) (end : Result (Unit {0}) ToolFault) → file ≡ one → file' ≡ two
-    → new.input ≡ old.input → map (door_ends facts) doors ≡ ends → IsDeskRun GlobalType facts doors doors' file left file' left' old.output new.output end → EndsOverTwo one two (IsDeskTask ends) old new end
+    → new.input ≡ old.input → map (door_ends facts) doors ≡ ends → IsDeskRun GlobalType facts doors doors' file left file' left' old.output new.output end → EndsOver (one ∷ two ∷ []) (OverTwo (IsDeskTask ends)) old new end
 over_ends facts doors doors' ends one two file left file' left' old new end is is' unread are ran =
     over_two (IsDeskTask ends) one two file left file' left' old new end is is'
     (unread, subst (λ l. IsDeskRun GlobalType end_facts l l file left file' left' old.output new.output end) are (desk_run_ends facts doors doors' file left file' left' old.output new.output end ran))
 
 -- memory was refused for the doors, and nothing is read or written
-pub no_doors : (ends : List DoorEnds) (one two file file' : Option (List ℕ)) (old : StreamBytes) → file ≡ one → file' ≡ two → EndsOverTwo one two (IsDeskTask ends) old old (Err (Read Memory))
+pub no_doors : (ends : List DoorEnds) (one two file file' : Option (List ℕ)) (old : StreamBytes) → file ≡ one → file' ≡ two → EndsOver (one ∷ two ∷ []) (OverTwo (IsDeskTask ends)) old old (Err (Read Memory))
 no_doors ends one two file file' old is is' =
     over_two (IsDeskTask ends) one two file file file' file' old old (Err (Read Memory)) is is' (refl, inl (Memory, refl, inl (([], unread file, omega arith), refl), (refl, Keeps-refl old.output)))
   where

@@ -10,7 +10,7 @@ use Rattle.tas_words.specs.declared.task.Start.{Start}
 use Rattle.tas_words.specs.declared.task.Start.TheVariants.{Blank, Cart, Movie}
 use Rattle.tas_program.specs.declared.folder.OrdinaryFile.{OrdinaryFile}
 use Rattle.tas_program.specs.declared.file_words.FileWord.{FileWord}
-use Rattle.tas_program.specs.declared.file_words.FileWord.TheVariants.{Cart as CartWord, Movie as MovieWord, In, Out, Input, Output}
+use Rattle.tas_program.specs.declared.file_words.FileWord.TheVariants.{Cart as CartWord, Movie as MovieWord, Script, Other, Old, File as FileOut, In, Out, Input, Output}
 use Rattle.tas_program.specs.declared.file_words.SeenWord.{SeenWord}
 use Rattle.tas_program.specs.declared.file_words.Permit.{Permit}
 use Rattle.tas_program.specs.declared.file_words.WordFault.{WordFault}
@@ -39,10 +39,9 @@ movie_name (Movie files) = Some files.movie.now
 abbrev pub talk_name : Start → FileWord → Option (List ℕ)
 talk_name start CartWord = cart_name start
 talk_name start MovieWord = movie_name start
-talk_name start (In k) = None
-talk_name start (Out k) = None
 talk_name start Input = Some (codes "/dev/stdin")
 talk_name start Output = Some (codes "/dev/stdout")
+talk_name start word = None
 
 -- the same of a desk, which doesn't read standard input
 abbrev pub desk_name : Bor (List ℕ) → Bor (List ℕ) → Pairs → FileWord → Option (List ℕ)
@@ -50,8 +49,8 @@ desk_name cart movie pairs CartWord = Some cart.now
 desk_name cart movie pairs MovieWord = Some movie.now
 desk_name cart movie pairs (In k) = option_map (λ pair. pair.input.now) (pair_at pairs k)
 desk_name cart movie pairs (Out k) = option_map (λ pair. pair.output.now) (pair_at pairs k)
-desk_name cart movie pairs Input = None
 desk_name cart movie pairs Output = Some (codes "/dev/stdout")
+desk_name cart movie pairs word = None
 
 -- the same of each task; other tasks read their inputs whole before they write, so their files aren't looked at
 abbrev pub name_of : Task → FileWord → Option (List ℕ)

@@ -2,3 +2,6 @@ pub mod Streams
 pub mod FileWords
 pub mod Files
 pub mod Program
+pub mod Waiting
+pub mod Saving
+pub mod OutputWords

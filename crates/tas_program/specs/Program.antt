@@ -1,32 +1,34 @@
 -- How the program ends: what it writes, and its status.
-use Rattle.std.specs.Prelude.{◌≡◌, ℕ, max, min, map, List, ◌⊎◌, Option, Some, None, Result, Ok, Err, String, string_bytes}
+use Rattle.std.specs.Prelude.{◌≡◌, ℕ, max, min, map, List, [], ◌∷◌, ◌⊎◌, Option, Some, None, Result, Ok, Err, String, string_bytes}
 use Rattle.std.specs.declared.vec.IntoIter.{IntoIter}
 use Rattle.std.specs.declared.io.Error.{Error}
 use Rattle.std.specs.Io.KnownBytes.{Appends}
 use Rattle.tas_engines.specs.declared.fault.RunFault.{RunFault}
 use Rattle.tas_engines.specs.declared.fault.ToolFault.{ToolFault}
-use Rattle.tas_engines.specs.declared.fault.ToolFault.TheVariants.{Read}
+use Rattle.tas_engines.specs.declared.fault.ToolFault.TheVariants.{Read, Run}
 use Rattle.tas_engines.specs.declared.fault.ReadFault.TheVariants.{Failed}
+use Rattle.tas_engines.specs.declared.fault.RunFault.TheVariants.{Write, Memory}
 use Rattle.tas_engines.specs.Movies.{IsMovieRun}
 use Rattle.tas_engines.specs.Checking.{IsCheckAnswer}
 use Rattle.tas_engines.specs.Migrating.{IsMigrateAnswer}
-use Rattle.tas_engines.specs.Starting.{IsNewRun}
+use Rattle.tas_engines.specs.Starting.{IsNewAnswer}
 use Rattle.tas_movie.specs.Content.{most_inputs}
 use Rattle.tas_engines.specs.Shooting.{IsShotAnswer}
 use Rattle.tas_engines.specs.Output.{StopsWriting}
-use Rattle.tas_engines.specs.Tracing.{IsTraceRun}
+use Rattle.tas_engines.specs.Tracing.{IsTraceAnswer}
 use Rattle.tas_tool.specs.Scripts.{IsScriptRun}
 use Rattle.tas_tool.specs.Talk.{talk_state_from, IsTalk, IsCartTalk, IsMovieTalk}
 use Rattle.tas_tool.specs.Pixmaps.{IsExportAnswer}
 use Rattle.tas_tool.specs.MovieScripts.{IsMovieScriptRun}
-use Rattle.tas_engines.specs.Diffing.{IsDiffRun}
-use Rattle.tas_engines.specs.Comparing.{IsCompareRun}
-use Rattle.tas_engines.specs.Lag.{IsLagRun}
-use Rattle.tas_engines.specs.Digests.{IsDigestRun}
-use Rattle.tas_engines.specs.Ram.{IsRamRun}
+use Rattle.tas_engines.specs.Commands.{Answers, OfOne, OfTwo, OfThree, OfFour, IsRun, IsRunOn}
+use Rattle.tas_engines.specs.Diffing.{IsDiffAnswer}
+use Rattle.tas_engines.specs.Comparing.{IsCompareAnswer}
+use Rattle.tas_engines.specs.Lag.{IsLagAnswer}
+use Rattle.tas_engines.specs.Digests.{IsDigestAnswer}
+use Rattle.tas_engines.specs.Ram.{IsRamAnswer}
 use Rattle.tas_tool.specs.Films.{IsFilmRun}
-use Rattle.tas_engines.specs.Editing.{IsEditRun, IsEditWithRun}
-use Rattle.tas_engines.specs.Cutting.{IsCutRun}
+use Rattle.tas_engines.specs.Editing.{IsEditAnswer, IsEditWithAnswer}
+use Rattle.tas_engines.specs.Cutting.{IsCutAnswer}
 use Rattle.std.specs.Global.{Global as GlobalType}
 use Rattle.tas_seat.specs.Lines.{DoorEnds, end_facts}
 use Rattle.tas_tool.specs.Desks.{IsDeskRun}
@@ -34,7 +36,7 @@ use Rattle.tas_words.specs.Task.{pairs_in}
 use Rattle.tas_words.specs.declared.task.Pair.{Pair}
 use Rattle.tas_words.specs.declared.task.Pairs.{Pairs}
 use Rattle.tas_words.specs.declared.invocation.Invocation.{Invocation}
-use Rattle.tas_words.specs.declared.invocation.Invocation.TheVariants.{Do, Show, Refuse, NoMemory}
+use Rattle.tas_words.specs.declared.invocation.Invocation.TheVariants.{Do, Save, Show, Refuse, NoMemory}
 use Rattle.tas_program.specs.declared.status.Status.{Status}
 use Rattle.tas_program.specs.declared.status.Status.TheVariants.{Done, Fault, Misuse}
 use Rattle.tas_words.specs.declared.task.Task.{Task}
@@ -43,10 +45,14 @@ use Rattle.tas_words.specs.declared.task.Start.TheVariants.{Blank, Cart, Movie}
 use Rattle.clap.specs.Walk.{Text}
 use Rattle.tas_words.specs.Invocations.{AreGiven, IsInvocation}
 use Rattle.tas_program.specs.declared.status.TaskFault.{TaskFault}
-use Rattle.tas_program.specs.declared.status.TaskFault.TheVariants.{Word, Tool}
+use Rattle.tas_program.specs.declared.status.TaskFault.TheVariants.{Word, Tool, Save as NotSaved}
 use Rattle.tas_program.specs.declared.file_words.WordFault.{WordFault}
 use Rattle.tas_program.specs.declared.file_words.SeenWord.{SeenWord}
-use Rattle.tas_program.specs.FileWords.{AreSeen, first_fault}
+use Rattle.tas_program.specs.declared.saving.SaveFault.{SaveFault}
+use Rattle.tas_program.specs.declared.folder.OrdinaryFile.{OrdinaryFile}
+use Rattle.tas_program.specs.FileWords.{AreSeen, IsSeen, fault_or, first_fault}
+use Rattle.tas_program.specs.OutputWords.{AreInputsSeen, output_fault}
+use Rattle.tas_program.specs.Saving.{Files, SaveEnds}
 use Rattle.tas_program.specs.Files.{FileBytes}
 use Rattle.tas_program.specs.Streams.{StreamBytes}
 
@@ -61,33 +67,36 @@ abbrev pub end_status : Result (Unit {0}) TaskFault → Status
 end_status (Ok _) = Done
 end_status (Err (Word fault)) = Misuse
 end_status (Err (Tool fault)) = Fault
+end_status (Err (NotSaved fault)) = Fault
 
--- an engine over a file and the streams: what is left of the file, and the bytes of the input and of the output, before and after
-abbrev pub FileEngine : Type 1
-FileEngine = (file left input input' output output' : Option (List ℕ)) → Result (Unit {0}) ToolFault → Type 0
+-- what runs over files and the streams: what the files have and what is left of them, and the bytes of the input and of the output, before and after
+abbrev pub FilesRun : Type 1
+FilesRun = (files left : List (Option (List ℕ))) → (input input' output output' : Option (List ℕ)) → Result (Unit {0}) ToolFault → Type 0
 
--- the same over two files
-abbrev pub TwoFilesEngine : Type 1
-TwoFilesEngine = (file left : Option (List ℕ)) → FileEngine
+-- files are opened first, where there are any: one can't be, and the streams are as before; or a run over them ends, whatever it leaves of them
+abbrev pub EndsOver : List (Option (List ℕ)) → FilesRun → StreamBytes → StreamBytes → Result (Unit {0}) ToolFault → Type 0
+EndsOver [] ran old new end = (left : List (Option (List ℕ))) × ran [] left old.input new.input old.output new.output end
+EndsOver (file ∷ files) ran old new end =
+    ((end ≡ Err (Read Failed)) × (new ≡ old)) ⊎ ((left : List (Option (List ℕ))) × ran (file ∷ files) left old.input new.input old.output new.output end)
 
--- the same over three files
-abbrev pub ThreeFilesEngine : Type 1
-ThreeFilesEngine = (file left : Option (List ℕ)) → TwoFilesEngine
+-- a run over one file, and one over two, each named for itself
+abbrev pub OneFileRun : Type 1
+OneFileRun = (file left input input' output output' : Option (List ℕ)) → Result (Unit {0}) ToolFault → Type 0
 
--- a file is opened first: it can't be, and the streams are as before; or an engine ends over it, whatever it leaves of it
-abbrev pub EndsOver : Option (List ℕ) → FileEngine → StreamBytes → StreamBytes → Result (Unit {0}) ToolFault → Type 0
-EndsOver file engine old new end = ((end ≡ Err (Read Failed)) × (new ≡ old)) ⊎ ((left : Option (List ℕ)) × engine file left old.input new.input old.output new.output end)
+abbrev pub OverOne : OneFileRun → FilesRun
+OverOne ran (file ∷ []) (left ∷ []) input input' output output' end = ran file left input input' output output' end
+OverOne ran _ _ input input' output output' end = ⊥
 
--- the same of two files
-abbrev pub EndsOverTwo : Option (List ℕ) → Option (List ℕ) → TwoFilesEngine → StreamBytes → StreamBytes → Result (Unit {0}) ToolFault → Type 0
-EndsOverTwo one two engine old new end =
-    ((end ≡ Err (Read Failed)) × (new ≡ old)) ⊎ ((left left' : Option (List ℕ)) × engine one left two left' old.input new.input old.output new.output end)
+abbrev pub TwoFilesRun : Type 1
+TwoFilesRun = (file left : Option (List ℕ)) → OneFileRun
 
--- the same of three files
-abbrev pub EndsOverThree : Option (List ℕ) → Option (List ℕ) → Option (List ℕ) → ThreeFilesEngine → StreamBytes → StreamBytes → Result (Unit {0}) ToolFault → Type 0
-EndsOverThree one two three engine old new end =
-    ((end ≡ Err (Read Failed)) × (new ≡ old))
-    ⊎ ((left left' left'' : Option (List ℕ)) × engine one left two left' three left'' old.input new.input old.output new.output end)
+abbrev pub OverTwo : TwoFilesRun → FilesRun
+OverTwo ran (file ∷ file' ∷ []) (left ∷ left' ∷ []) input input' output output' end = ran file left file' left' input input' output output' end
+OverTwo ran _ _ input input' output output' end = ⊥
+
+-- a command that reads its files alone, and nothing of the input
+abbrev pub IsRunOfFiles : Answers → FilesRun
+IsRunOfFiles answers files left input input' output output' end = (input' ≡ input) × IsRunOn answers files left output output' end
 
 -- the ends of a desk's pair: the bytes of its first file, and those that its second one holds
 abbrev pub ends_by : FileBytes → Pair → DoorEnds
@@ -98,37 +107,33 @@ abbrev pub ends_of : FileBytes → Pairs → List DoorEnds
 ends_of files pairs = map (ends_by files) (pairs_in pairs)
 
 -- a desk whose doors have these ends, over a cartridge and a movie; it reads nothing of the input
-abbrev pub IsDeskTask : List DoorEnds → TwoFilesEngine
+abbrev pub IsDeskTask : List DoorEnds → TwoFilesRun
 IsDeskTask ends cart cart' movie movie' input input' output output' end = (input' ≡ input) × IsDeskRun GlobalType end_facts ends ends cart cart' movie movie' output output' end
-
--- a new movie is made of a cartridge alone; nothing of the input is read
-abbrev pub IsNewTask : ℕ → FileEngine
-IsNewTask frames cart cart' input input' output output' end = (input' ≡ input) × IsNewRun frames cart cart' output output' end
 
 -- a task ends as the definition of its command says, over its files and the streams
 abbrev pub DoesTask : FileBytes → Task → StreamBytes → StreamBytes → Result (Unit {0}) ToolFault → Type 0
-DoesTask files (Trace n) old new end = IsTraceRun n old.input new.input old.output new.output end
-DoesTask files (Check cart) old new end = EndsOver (files.read cart.now) (IsMovieRun IsCheckAnswer) old new end
-DoesTask files (Migrate cart) old new end = EndsOver (files.read cart.now) (IsMovieRun IsMigrateAnswer) old new end
-DoesTask files (New cart frames) old new end = EndsOver (files.read cart.now) (IsNewTask (min frames most_inputs)) old new end
-DoesTask files (Shot cart k) old new end = EndsOver (files.read cart.now) (IsMovieRun (IsShotAnswer k)) old new end
-DoesTask files (Film cart from to) old new end = EndsOver (files.read cart.now) (IsFilmRun from to) old new end
-DoesTask files (Export cart from to workers) old new end = EndsOver (files.read cart.now) (IsMovieRun (IsExportAnswer from to)) old new end
-DoesTask files (Ram cart from to) old new end = EndsOver (files.read cart.now) (IsRamRun from to) old new end
-DoesTask files (Digest cart every) old new end = EndsOver (files.read cart.now) (IsDigestRun (max every 1)) old new end
-DoesTask files (Compare cart before) old new end = EndsOverTwo (files.read cart.now) (files.read before.now) IsCompareRun old new end
-DoesTask files (Lag cart) old new end = EndsOver (files.read cart.now) IsLagRun old new end
-DoesTask files (Edit cart script None) old new end = EndsOverTwo (files.read cart.now) (files.read script.now) IsEditRun old new end
+DoesTask files (Trace n) old new end = EndsOver [] (IsRun (OfOne (λ image. IsTraceAnswer image n))) old new end
+DoesTask files (Check cart) old new end = EndsOver (files.read cart.now ∷ []) (IsRun (OfTwo IsCheckAnswer)) old new end
+DoesTask files (Migrate cart) old new end = EndsOver (files.read cart.now ∷ []) (IsRun (OfTwo IsMigrateAnswer)) old new end
+DoesTask files (New cart frames) old new end = EndsOver (files.read cart.now ∷ []) (IsRunOfFiles (OfOne (IsNewAnswer (min frames most_inputs)))) old new end
+DoesTask files (Shot cart k) old new end = EndsOver (files.read cart.now ∷ []) (IsRun (OfTwo (IsShotAnswer k))) old new end
+DoesTask files (Film cart from to) old new end = EndsOver (files.read cart.now ∷ []) (OverOne (IsFilmRun from to)) old new end
+DoesTask files (Export cart from to workers) old new end = EndsOver (files.read cart.now ∷ []) (OverOne (IsMovieRun (IsExportAnswer from to))) old new end
+DoesTask files (Ram cart from to) old new end = EndsOver (files.read cart.now ∷ []) (IsRun (OfTwo (IsRamAnswer from to))) old new end
+DoesTask files (Digest cart every) old new end = EndsOver (files.read cart.now ∷ []) (IsRun (OfTwo (IsDigestAnswer (max every 1)))) old new end
+DoesTask files (Compare cart before) old new end = EndsOver (files.read cart.now ∷ files.read before.now ∷ []) (IsRun (OfThree IsCompareAnswer)) old new end
+DoesTask files (Lag cart) old new end = EndsOver (files.read cart.now ∷ []) (IsRun (OfTwo IsLagAnswer)) old new end
+DoesTask files (Edit cart script None) old new end = EndsOver (files.read cart.now ∷ files.read script.now ∷ []) (IsRun (OfThree IsEditAnswer)) old new end
 DoesTask files (Edit cart script (Some other)) old new end =
-    EndsOverThree (files.read cart.now) (files.read script.now) (files.read other.now) IsEditWithRun old new end
-DoesTask files (Cut cart from to) old new end = EndsOver (files.read cart.now) (IsCutRun from to) old new end
-DoesTask files (Diff cart before) old new end = EndsOverTwo (files.read cart.now) (files.read before.now) IsDiffRun old new end
+    EndsOver (files.read cart.now ∷ files.read script.now ∷ files.read other.now ∷ []) (IsRun (OfFour IsEditWithAnswer)) old new end
+DoesTask files (Cut cart from to) old new end = EndsOver (files.read cart.now ∷ []) (IsRun (OfTwo (IsCutAnswer from to))) old new end
+DoesTask files (Diff cart before) old new end = EndsOver (files.read cart.now ∷ files.read before.now ∷ []) (IsRun (OfThree IsDiffAnswer)) old new end
 DoesTask files (Script None) old new end = IsScriptRun old.input new.input old.output new.output end
-DoesTask files (Script (Some start)) old new end = EndsOverTwo (files.read start.cart.now) (files.read start.movie.now) IsMovieScriptRun old new end
+DoesTask files (Script (Some start)) old new end = EndsOver (files.read start.cart.now ∷ files.read start.movie.now ∷ []) (OverTwo IsMovieScriptRun) old new end
 DoesTask files (Talk Blank) old new end = IsTalk (talk_state_from None) old.input new.input old.output new.output end
-DoesTask files (Talk (Cart cart)) old new end = EndsOver (files.read cart.now) IsCartTalk old new end
-DoesTask files (Talk (Movie start)) old new end = EndsOverTwo (files.read start.cart.now) (files.read start.movie.now) IsMovieTalk old new end
-DoesTask files (Desk cart movie pairs) old new end = EndsOverTwo (files.read cart.now) (files.read movie.now) (IsDeskTask (ends_of files pairs)) old new end
+DoesTask files (Talk (Cart cart)) old new end = EndsOver (files.read cart.now ∷ []) (OverOne IsCartTalk) old new end
+DoesTask files (Talk (Movie start)) old new end = EndsOver (files.read start.cart.now ∷ files.read start.movie.now ∷ []) (OverTwo IsMovieTalk) old new end
+DoesTask files (Desk cart movie pairs) old new end = EndsOver (files.read cart.now ∷ files.read movie.now ∷ []) (OverTwo (IsDeskTask (ends_of files pairs))) old new end
 
 -- the end of a task whose engine was run
 abbrev pub tool_end : Result (Unit {0}) ToolFault → Result (Unit {0}) TaskFault
@@ -145,6 +150,44 @@ RunsAfter files chosen None old new end = (done : Result (Unit {0}) ToolFault) �
 abbrev pub IsTaskRun : FileBytes → Task → StreamBytes → StreamBytes → Result (Unit {0}) TaskFault → Type 0
 IsTaskRun files chosen old new end = (seen : List SeenWord) × AreSeen files.shown chosen seen × RunsAfter files chosen (first_fault seen) old new end
 
+-- the fault of an engine whose output is held in memory: a write fails only where memory is refused
+abbrev pub held_fault : ToolFault → ToolFault
+held_fault (Run (Write written)) = Run Memory
+held_fault fault = fault
+
+-- the end of a task whose output was to replace a file
+abbrev pub saved_end : Result (Unit {0}) SaveFault → Result (Unit {0}) TaskFault
+saved_end (Ok u) = Ok u
+saved_end (Err fault) = Err (NotSaved fault)
+
+-- what comes of the file once an engine has ended, with this text as its output: it is replaced by the text, where the engine's task is done
+abbrev pub SavedAfter : Result (Unit {0}) ToolFault → (name text : List ℕ) → (files files' : Option Files) → Result (Unit {0}) TaskFault → Type 0
+SavedAfter (Ok _) name text files files' end = (saved : Result (Unit {0}) SaveFault) × (end ≡ saved_end saved) × SaveEnds name text files files' saved
+SavedAfter (Err fault) name text files files' end = (end ≡ Err (Tool (held_fault fault))) × (files' ≡ files)
+
+-- a task is done, and its output replaces a file: nothing is written to standard output
+pub record SavesTask (read : FileBytes) (chosen : Task) (name : List ℕ) (old new : StreamBytes) (files files' : Option Files) (end : Result (Unit {0}) TaskFault) : Type 0 where
+  pub done : Result (Unit {0}) ToolFault
+  pub text : List ℕ
+  pub does : DoesTask read chosen (record { input = old.input; output = Some [] }) (record { input = new.input; output = Some text }) done
+  pub silent : new.output ≡ old.output
+  pub saved : SavedAfter done name text files files' end
+
+-- what is done after the words were looked at: where one is at fault, the task ends with that, and nothing is read or written; else it is
+-- done and saved, in a directory of some files. These may be files that aren't known, as those of the system's folder are: of them it
+-- says nothing
+abbrev pub SavesAfter : FileBytes → Task → List ℕ → Option WordFault → StreamBytes → StreamBytes → Result (Unit {0}) TaskFault → Type 0
+SavesAfter read chosen name (Some fault) old new end = (end ≡ Err (Word fault)) × (new ≡ old)
+SavesAfter read chosen name None old new end = (files files' : Option Files) × SavesTask read chosen name old new files files' end
+
+-- a task is run whose output replaces a file: its words are seen as the folder shows their files, and the first one at fault decides, as for
+-- a task whose output replaces none; then one that is this file does, or this file
+abbrev pub IsSaveRun : FileBytes → Task → List ℕ → StreamBytes → StreamBytes → Result (Unit {0}) TaskFault → Type 0
+IsSaveRun read chosen name old new end =
+    (named : List SeenWord) × (seen : List SeenWord) × (file : Option OrdinaryFile)
+    × AreSeen read.shown chosen named × AreInputsSeen read.shown chosen seen × IsSeen read.shown (Some name) file
+    × SavesAfter read chosen name (fault_or (first_fault named) (output_fault chosen seen file)) old new end
+
 -- the program's end after a task: done where the task is, else a fault of its engine or of a word
 abbrev pub TaskEnds : FileBytes → Task → StreamBytes → StreamBytes → Status → Type 0
 TaskEnds files chosen old new Done = IsTaskRun files chosen old new (Ok tt)
@@ -157,9 +200,10 @@ TextEnds text old new Done = Appends old new text
 TextEnds text old new Fault = (fault : RunFault) × StopsWriting old new text fault
 TextEnds text old new Misuse = ⊥
 
--- the program's end after an invocation: that of its task; or it shows a text, and reads nothing; else nothing is read and nothing written
+-- the program's end after an invocation: that of its task, whose output may replace a file; or it shows a text, and reads nothing; else nothing is read and nothing written
 abbrev pub CarriesOut : {A : Type 0} → FileBytes → Invocation A → StreamBytes → StreamBytes → Status → Type 0
 CarriesOut files (Do chosen) old new status = TaskEnds files chosen old new status
+CarriesOut files (Save chosen file) old new status = (end : Result (Unit {0}) TaskFault) × (status ≡ end_status end) × IsSaveRun files chosen file.now old new end
 CarriesOut files (Show text) old new status = (new.input ≡ old.input) × TextEnds (string_bytes text) old.output new.output status
 CarriesOut files (Refuse text) old new status = (status ≡ Misuse) × (new ≡ old)
 CarriesOut files NoMemory old new status = (status ≡ Fault) × (new ≡ old)
@@ -167,6 +211,7 @@ CarriesOut files NoMemory old new status = (status ≡ Fault) × (new ≡ old)
 -- what may be asked for by what the system gave: a task by its words alone
 abbrev pub IsAskedBy : {A : Type 0} → Result (IntoIter (String A) A) Error → Invocation A → Type 0
 IsAskedBy {A = A} given (Do chosen) = (words : List Text) × AreGiven given words × IsInvocation {A = A} words (Do chosen)
+IsAskedBy {A = A} given (Save chosen file) = (words : List Text) × AreGiven given words × IsInvocation {A = A} words (Save chosen file)
 IsAskedBy given _ = Unit {0}
 
 -- the program carries out what the words may ask for

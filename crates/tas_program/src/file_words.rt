@@ -1,4 +1,13 @@
 //! The words that name files: which of them a desk or a conversation refuses before it opens any.
+//!
+//! What the folder shows decides before any file is opened, in the order of the words: a fault names one word. Two
+//! words of a desk that are only read count, too: each is most likely a slip, and a copy of the file serves whoever
+//! means it. Pipes and devices lose nothing and may stand for several words. Standard streams are looked at by their
+//! names in /dev, so that a folder in memory shows them, too.
+//!
+//! No contract can say that a file wasn't opened, since opening leaves a folder as it was. So `open_to_write` takes a
+//! `Permit`, which only `check_words` makes. It is bound to no task: that `run_task` asks for its own task's is seen by
+//! reading.
 
 ghost use Rattle.std.specs.Prelude.{◌≡◌, option_map};
 ghost use Rattle.tas_program.specs.FileWords.{AreSeen, IsSeen, WordsEnd, are_same, cart_name, desk_name, first_fault, first_same};
@@ -17,6 +26,14 @@ pub enum FileWord {
     Cart,
     /// The movie.
     Movie,
+    /// The script of edits.
+    Script,
+    /// The second movie.
+    Other,
+    /// The older movie.
+    Old,
+    /// The file that the output replaces.
+    File,
     /// The lines of the pair of this number, counted from 0.
     In(usize),
     /// The answers to the pair of this number.
@@ -32,6 +49,10 @@ impl Display for FileWord {
         match self {
             FileWord::Cart => f.write_str("CART"),
             FileWord::Movie => f.write_str("MOVIE"),
+            FileWord::Script => f.write_str("SCRIPT"),
+            FileWord::Other => f.write_str("OTHER"),
+            FileWord::Old => f.write_str("OLD"),
+            FileWord::File => f.write_str("FILE"),
             FileWord::In(pair) => write!(f, "IN{pair}"),
             FileWord::Out(pair) => write!(f, "OUT{pair}"),
             FileWord::Input => f.write_str("standard input"),
@@ -60,8 +81,9 @@ pub enum WordFault {
     },
 }
 
-/// The permit to open files for writing. [`check_words`] gives one where no word of a task is at fault, and nothing else does. It is bound
-/// to no task: whoever opens files by it must have asked for the task that names them.
+/// The permit to open files for writing. [`check_words`] makes one where no word of a task is at fault, and nothing else does;
+/// [`check_output`](crate::check_output) passes it on. It is bound to no task: whoever opens files by it must have asked for the task that
+/// names them.
 #[derive(Clone, Copy)]
 pub struct Permit {
     _given: (),
@@ -69,11 +91,11 @@ pub struct Permit {
 
 /// A word, with the ordinary file that it was seen to stand for.
 #[derive(Clone, Copy)]
-pub struct SeenWord {
+pub(crate) struct SeenWord {
     /// The word.
-    pub word: FileWord,
+    pub(crate) word: FileWord,
     /// Its file; none where the task hasn't the word, or where it stands for no ordinary file.
-    pub file: Option<OrdinaryFile>,
+    pub(crate) file: Option<OrdinaryFile>,
 }
 
 /// How many words there are.
@@ -149,10 +171,9 @@ fn in_talk(start: Start<'_>, word: FileWord) -> Option<&str>
     match word {
         FileWord::Cart => cart_of(start),
         FileWord::Movie => movie_of(start),
-        FileWord::In(_) => None,
-        FileWord::Out(_) => None,
         FileWord::Input => Some("/dev/stdin"),
         FileWord::Output => Some("/dev/stdout"),
+        _ => None,
     }
 }
 
@@ -172,8 +193,8 @@ fn in_desk<'a>(cart: &'a str, movie: &'a str, pairs: Pairs<'a>, word: FileWord) 
             Some(pair) => Some(pair.output),
             None => None,
         },
-        FileWord::Input => None,
         FileWord::Output => Some("/dev/stdout"),
+        _ => None,
     }
 }
 
@@ -229,7 +250,7 @@ fn is_same(one: SeenWord, other: SeenWord) -> bool
 }
 
 /// The first of these words that stands for the same file as another one.
-fn same_among(others: &[SeenWord], word: SeenWord) -> Option<FileWord>
+pub(crate) fn same_among(others: &[SeenWord], word: SeenWord) -> Option<FileWord>
     ensures { result ≡ first_same others.now word }
 {
     for other in others {
@@ -246,11 +267,7 @@ fn is_output(word: FileWord) -> bool
 {
     match word {
         FileWord::Out(_) => true,
-        FileWord::Cart => false,
-        FileWord::Movie => false,
-        FileWord::In(_) => false,
-        FileWord::Input => false,
-        FileWord::Output => false,
+        _ => false,
     }
 }
 
@@ -299,6 +316,8 @@ fn fault_among(seen: &[SeenWord; WORDS]) -> Option<WordFault>
 /// word, or that is an OUT and names an ordinary file with bytes. Standard input and output count as words after those of the command
 /// line. Only the words of [`Task::Talk`] and [`Task::Desk`] are looked at: other tasks read their inputs whole before they write.
 pub fn check_words<F: Folder>(folder: &F, task: Task<'_>) -> Result<Permit, WordFault>
+    // A permit to open files for writing is given where no word is at fault.
+    // Refused: words_at_fault_are_run.
     ensures { WordsEnd (F.shown folder.now) task.entry result }
 {
     match fault_among(&see_all(folder, task)) {

@@ -5,7 +5,7 @@ ghost use Rattle.tas_program.specs.FileWords.{IsShown};
 
 use crate::Permit;
 use std::fs::{File, OpenOptions};
-use std::io::{Read, Write};
+use std::io::{ErrorKind, IsTerminal, Read, Write};
 use std::os::unix::fs::MetadataExt;
 use std::{fs, io};
 
@@ -50,6 +50,31 @@ pub trait Folder {
     /// is made. It may wait for somebody who reads from it.
     fn open_to_write(&self, permit: Permit, name: &str) -> io::Result<Self::Sink>
         ensures { IfOk result (λ sink. Self.Sink.contents sink ≡ held_by self.now name.now) };
+
+    /// Makes a file without bytes, and opens it for writing. An error where there is something of that name, or no file can be made.
+    fn create_new(&self, _permit: Permit, _name: &str) -> io::Result<Self::Sink> {
+        Err(io::Error::from(ErrorKind::Unsupported))
+    }
+
+    /// Brings all that was written to a file to the disk.
+    fn sync(&self, _sink: &mut Self::Sink) -> io::Result<()> {
+        Err(io::Error::from(ErrorKind::Unsupported))
+    }
+
+    /// Gives a file another name, in one step; an ordinary file that had this name is gone then, and the new one has its permissions. An
+    /// error where something else has it, as a link, or a file without a write permission; or where that fails, or the permissions can't be
+    /// set: then both names stand for the files that they stood for.
+    fn rename(&self, _permit: Permit, _from: &str, _to: &str) -> io::Result<()> {
+        Err(io::Error::from(ErrorKind::Unsupported))
+    }
+
+    /// Removes a file. One that can't be removed stays.
+    fn remove(&self, _permit: Permit, _name: &str) {}
+
+    /// Whether standard input and standard error are both a terminal's: whoever may type the one reads the other.
+    fn has_terminal(&self) -> bool {
+        false
+    }
 }
 
 /// The files of the system, of which nothing is known.
@@ -77,5 +102,43 @@ impl Folder for HostRuntime {
 
     fn open_to_write(&self, _permit: Permit, name: &str) -> io::Result<File> {
         OpenOptions::new().write(true).open(self, name)
+    }
+
+    fn create_new(&self, _permit: Permit, name: &str) -> io::Result<File> {
+        OpenOptions::new()
+            .write(true)
+            .create_new(true)
+            .open(self, name)
+    }
+
+    fn sync(&self, sink: &mut File) -> io::Result<()> {
+        sink.sync_data()
+    }
+
+    fn rename(&self, _permit: Permit, from: &str, to: &str) -> io::Result<()> {
+        // A link is looked at itself: the rename would replace it, and not what it leads to.
+        match fs::symlink_metadata(self, to) {
+            // A device, a folder or a link must not be replaced by a file.
+            Ok(found) if !found.is_file() => Err(io::Error::from(ErrorKind::Unsupported)),
+            // Nor a file that nobody may write.
+            Ok(found) if found.permissions().readonly() => {
+                Err(io::Error::from(ErrorKind::PermissionDenied))
+            }
+            // The new file has the permissions of the old one, or it doesn't replace it.
+            Ok(found) => {
+                fs::set_permissions(self, from, found.permissions())?;
+                fs::rename(self, from, to)
+            }
+            Err(error) if error.kind() == ErrorKind::NotFound => fs::rename(self, from, to),
+            Err(error) => Err(error),
+        }
+    }
+
+    fn remove(&self, _permit: Permit, name: &str) {
+        let _ = fs::remove_file(self, name);
+    }
+
+    fn has_terminal(&self) -> bool {
+        self.stdin().is_terminal() && self.stderr().is_terminal()
     }
 }

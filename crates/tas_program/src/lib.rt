@@ -5,16 +5,26 @@
 //! hands it the real arguments, files and streams; tests hand it others.
 #![tactic(auto)]
 
+mod directory;
 mod file_words;
 mod folder;
+mod output_words;
 mod pipes;
 mod running;
+mod saved_runs;
+mod saving;
 mod status;
 mod streams;
+mod waiting;
 
-pub use file_words::{FileWord, Permit, SeenWord, WordFault, check_words};
+pub use directory::Directory;
+pub use file_words::{FileWord, Permit, WordFault, check_words};
 pub use folder::{Folder, OrdinaryFile};
+pub use output_words::check_output;
 pub use running::{carry_out, run_program, run_task};
+pub use saved_runs::{save_run, save_task};
+pub use saving::{SaveFault, save};
 pub use status::{Status, TaskFault};
 pub use streams::Streams;
-pub use tas_words::{Invocation, Pair, Start, Task, read_words};
+pub use tas_words::{Invocation, Order, Pair, Start, Task, read_words};
+pub use waiting::tell_waiting;

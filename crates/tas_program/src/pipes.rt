@@ -30,6 +30,8 @@ impl<F: Folder> Door for Pipes<'_, F> {
       refused = λ pipes. Unit {0};
     } };
 
+    // A pair's first file is opened for reading, and the second one for writing.
+    // Refused: answers_are_written_over_the_lines.
     fn open(&mut self) -> io::Result<(F::File, F::Sink)> {
         let input = self.folder.open(self.pair.input)?;
         let output = self.folder.open_to_write(self.permit, self.pair.output)?;

@@ -1,27 +1,31 @@
 //! Carrying an invocation out.
+//!
+//! What words make which invocation is clap's parse, of which contracts say the command's name, its files and numbers
+//! and their ranges; `carry_out` says exactly how each one ends. A failed write to standard error changes no status,
+//! and a fault's line is made whole before it is written, so that lines of programs with one log don't mix; where
+//! memory is refused for it, it is written piece by piece.
 
-ghost use Rattle.std.specs.Prelude.{◌≡◌, ℕ, List, Option, IfOk, IfErr, OnOk, OnErr};
+ghost use Rattle.std.specs.Prelude.{◌≡◌, ◌<◌, ◌⊎◌, ℕ, List, length, map, Option, IfOk, IfErr, OnOk, OnErr};
 ghost use Rattle.std.specs.Io.KnownBytes.{Appends};
 ghost use Rattle.tas_engines.specs.declared.fault.RunFault.{RunFault};
+ghost use Rattle.tas_engines.specs.Commands.{IsRun};
 ghost use Rattle.tas_engines.specs.Output.{StopsWriting};
 ghost use Rattle.tas_words.specs.declared.task.Task.TheVariants.{Desk, Edit, Script, Talk};
 ghost use Rattle.tas_program.specs.Files.{files_by};
-ghost use Rattle.tas_program.specs.Program.{DoesTask, IsTaskRun, CarriesOut, ProgramEnds, end_status, tool_end};
+ghost use Rattle.tas_program.specs.Program.{EndsOver, DoesTask, IsTaskRun, CarriesOut, ProgramEnds, end_status, tool_end};
 
 use crate::pipes::pipes_of;
-use crate::{Folder, Permit, Status, Streams, TaskFault, check_words};
+use crate::{Folder, Permit, Status, Streams, TaskFault, check_words, save_task, tell_waiting};
 use std::alloc::{Allocator, Global};
 use std::env::Args;
 use std::io;
 use std::io::{Read, Write};
 use std::sync::Wait;
 use std::thread::Threads;
-use tas_movie::MAX_FRAMES;
+use tas_engines::{Command, Whole, commands, run};
 use tas_tool::{
-    ReadFault, RunFault, ToolFault, cart_talk_run, check_run, compare_run, cut_run, desk_run,
-    diff_run, digest_run, edit_run, edit_with_run, export_run, film_run, lag_run, migrate_run,
-    movie_script_run, movie_talk_run, new_run, ram_run, script_run, shot_run, talk_run, trace_run,
-    write_all,
+    ReadFault, RunFault, ToolFault, cart_talk_run, desk_run, export_run, film_run,
+    movie_script_run, movie_talk_run, script_run, talk_run, write_all,
 };
 use tas_words::{Invocation, MovieFiles, Pairs, Start, Task, collect_words, read_invocation};
 
@@ -58,6 +62,47 @@ fn run_script<T: Wait, A: Allocator + Copy, F: Folder, R: Read, W: Write>(
     }
 }
 
+/// Opens the files of these names, in order.
+fn open_all<A: Allocator, F: Folder>(
+    alloc: A,
+    folder: &F,
+    names: &[&str],
+) -> Result<Vec<F::File, A>, ToolFault>
+    ensures files { IfOk result (λ files. map F.File.remaining files.items
+        ≡ map (λ name. F.bytes_of folder.now name.now) names.now) }
+    ensures some { IfErr result (λ fault. 0 < length names.now) }
+    ensures fault { IfErr result
+        (λ fault. (fault ≡ ToolFault.Read ReadFault.Failed)
+        ⊎ (fault ≡ ToolFault.Read ReadFault.Memory)) }
+{
+    let mut files = Vec::new(alloc);
+    for k in 0..names.len() {
+        let file = open(folder, names[k])?;
+        let Ok(()) = files.push(file) else {
+            return Err(ToolFault::Read(ReadFault::Memory));
+        };
+    }
+    Ok(files)
+}
+
+/// Runs a command over the files of these names and the input.
+fn run_over<C: Command, A: Allocator + Copy, F: Folder, R: Read, W: Write>(
+    alloc: A,
+    command: &C,
+    names: &[&str],
+    folder: &F,
+    input: &mut R,
+    output: &mut W,
+) -> Result<(), ToolFault>
+    ensures { EndsOver (map (λ name. F.bytes_of folder.now name.now) names.now)
+        (IsRun (C.answers command.now))
+        (record { input = R.remaining input.old; output = W.contents output.old })
+        (record { input = R.remaining input.new; output = W.contents output.new }) result }
+{
+    let mut files = open_all(alloc, folder, names)?;
+    run(alloc, command, files.as_mut_slice(), input, output)
+}
+
 /// Makes the edits of a script on the movie whose text is the input.
 fn run_edit<A: Allocator + Copy, F: Folder, R: Read, W: Write>(
     alloc: A,
@@ -73,12 +118,21 @@ fn run_edit<A: Allocator + Copy, F: Folder, R: Read, W: Write>(
         (record { input = R.remaining input.old; output = W.contents output.old })
         (record { input = R.remaining input.new; output = W.contents output.new }) result }
 {
-    let (mut cart, mut script) = (open(folder, cart)?, open(folder, script)?);
     match other {
-        None => edit_run(alloc, &mut cart, &mut script, input, output),
+        None => {
+            let command = Whole(commands::Edit);
+            run_over(alloc, &command, &[cart, script], folder, input, output)
+        }
         Some(other) => {
-            let mut other = open(folder, other)?;
-            edit_with_run(alloc, &mut cart, &mut script, &mut other, input, output)
+            let command = Whole(commands::EditWith);
+            run_over(
+                alloc,
+                &command,
+                &[cart, script, other],
+                folder,
+                input,
+                output,
+            )
         }
     }
 }
@@ -133,7 +187,7 @@ fn run_desk<T: Wait + Threads + Sync, F: Folder + Sync, W: Write>(
 
 /// Does a task by its engine, over the two streams that engines know. `Task::Desk` takes its memory from `global`, each other task from
 /// `alloc`.
-fn run_engine<
+pub(crate) fn run_engine<
     T: Wait + Threads + Sync,
     A: Allocator + Copy + Send + Sync,
     F: Folder + Sync,
@@ -155,19 +209,23 @@ fn run_engine<
         (record { input = R.remaining input.new; output = W.contents output.new }) result }
 {
     match task {
-        Task::Trace { instructions } => trace_run(alloc, instructions, input, output),
-        Task::Check { cart } => check_run(alloc, &mut open(folder, cart)?, input, output),
-        Task::Migrate { cart } => migrate_run(alloc, &mut open(folder, cart)?, input, output),
+        Task::Trace { instructions } => {
+            let command = commands::Trace { instructions };
+            run_over(alloc, &command, &[], folder, input, output)
+        }
+        Task::Check { cart } => run_over(alloc, &commands::Check, &[cart], folder, input, output),
+        Task::Migrate { cart } => {
+            let command = Whole(commands::Migrate);
+            run_over(alloc, &command, &[cart], folder, input, output)
+        }
         Task::New { cart, frames } => {
-            new_run(
-                alloc,
-                frames.min(MAX_FRAMES),
-                &mut open(folder, cart)?,
-                output,
-            )
+            let mut cart = open(folder, cart)?;
+            let command = Whole(commands::New { frames });
+            run_over(alloc, &command, &[], folder, &mut cart, output)
         }
         Task::Shot { cart, frame } => {
-            shot_run(alloc, frame, &mut open(folder, cart)?, input, output)
+            let command = commands::Shot { frame };
+            run_over(alloc, &command, &[cart], folder, input, output)
         }
         Task::Film { cart, from, to } => {
             film_run(alloc, from, to, &mut open(folder, cart)?, input, output)
@@ -182,27 +240,33 @@ fn run_engine<
             export_run(rt, alloc, from, to, workers, &mut cart, input, output)
         }
         Task::Ram { cart, from, to } => {
-            ram_run(alloc, from, to, &mut open(folder, cart)?, input, output)
+            let command = commands::Ram { from, to };
+            run_over(alloc, &command, &[cart], folder, input, output)
         }
         Task::Digest { cart, every } => {
-            digest_run(alloc, every.max(1), &mut open(folder, cart)?, input, output)
+            let command = Whole(commands::Digest { every });
+            run_over(alloc, &command, &[cart], folder, input, output)
         }
         Task::Compare { cart, old } => {
-            let (mut cart, mut old) = (open(folder, cart)?, open(folder, old)?);
-            compare_run(alloc, &mut cart, &mut old, input, output)
+            let command = Whole(commands::Compare);
+            run_over(alloc, &command, &[cart, old], folder, input, output)
         }
-        Task::Lag { cart } => lag_run(alloc, &mut open(folder, cart)?, input, output),
+        Task::Lag { cart } => {
+            let command = Whole(commands::Lag);
+            run_over(alloc, &command, &[cart], folder, input, output)
+        }
         Task::Edit {
             cart,
             script,
             other,
         } => run_edit(alloc, cart, script, other, folder, input, output),
         Task::Cut { cart, from, to } => {
-            cut_run(alloc, from, to, &mut open(folder, cart)?, input, output)
+            let command = Whole(commands::Cut { from, to });
+            run_over(alloc, &command, &[cart], folder, input, output)
         }
         Task::Diff { cart, old } => {
-            let (mut cart, mut old) = (open(folder, cart)?, open(folder, old)?);
-            diff_run(alloc, &mut cart, &mut old, input, output)
+            let command = Whole(commands::Diff);
+            run_over(alloc, &command, &[cart, old], folder, input, output)
         }
         Task::Script(start) => run_script(rt, alloc, start, folder, input, output),
         Task::Talk(start) => run_talk(rt, alloc, start, folder, input, output),
@@ -240,6 +304,21 @@ pub fn run_task<
     folder: &F,
     streams: &mut Streams<R, W, E>,
 ) -> Result<(), TaskFault>
+    // A command is done by its engine, over its files and standard input, with its own numbers, but for an export's
+    // WORKERS, on which no answer depends.
+    // Refused: check_draws_the_first_frame*, each_file_is_the_first, migration_is_answered_as_check*,
+    // talk_is_run_as_a_script*, shot_of_the_frame_before, script_and_cartridge_are_swapped*,
+    // movie_and_cartridge_of_a_script_are_swapped*, film_starts_at_its_end, ram_ends_before_its_last_line*,
+    // digest_ignores_every*, new_movie_has_one_frame*, compare_is_answered_as_diff*, cut_ends_before_its_last_frame*,
+    // script_and_second_movie_are_swapped*.
+    // A desk's conversations are those of its pairs, in order: their bytes are those of the first file of each, and the
+    // answers begin after what the second one holds when it is opened. Nothing of standard input is read.
+    // Refused: second_pair_is_left_out, movie_and_cartridge_of_a_desk_are_swapped*.
+    // Where two words of `tas desk` or `tas talk` stand for one ordinary file, or an OUT for one that has bytes, by
+    // what the folder showed of each word, the task isn't begun: it ends with the fault of the first such word, and
+    // neither stream is read or written. Else it is done, and has no fault of a word.
+    // Refused: words_are_compared_with_none, device_is_not_compared, file_of_one_byte_is_written_over,
+    // answers_may_go_into_the_lines, second_output_is_not_looked_at*, word_is_reported_as_its_own_file*.
     ensures { IsTaskRun (files_by (F.bytes_of folder.now) (F.held_by folder.now) (F.shown folder.now))
         task.entry streams.old streams.new result }
 {
@@ -285,6 +364,7 @@ fn report<A: Allocator, E: Write>(alloc: A, errors: &mut E, end: Result<(), Task
             match fault {
                 TaskFault::Word(_) => Status::Misuse,
                 TaskFault::Tool(_) => Status::Fault,
+                TaskFault::Save(_) => Status::Fault,
             }
         }
     }
@@ -317,12 +397,22 @@ pub fn carry_out<
     folder: &F,
     streams: &mut Streams<R, W, E>,
 ) -> Status
+    // The program ends with 0 exactly where the task is done, or the text that was asked for is written whole, with 1
+    // after a fault, and with 2, nothing read and nothing written to standard output, where a word is at fault or the
+    // words aren't understood. Where the output replaces a file, the end is 0 only where the engine is done; what comes of
+    // the file in this folder is no part of the clause.
+    // Refused: fault_ends_with_status_0, word_at_fault_ends_with_status_1*, misuse_ends_with_status_1*,
+    // misuse_is_shown_as_help*.
     ensures { CarriesOut (files_by (F.bytes_of folder.now) (F.held_by folder.now) (F.shown folder.now))
         invocation.entry streams.old streams.new result }
 {
     match invocation {
         Invocation::Do(task) => {
             let end = run_task(rt, global, alloc, task, folder, streams);
+            report(alloc, &mut streams.errors, end)
+        }
+        Invocation::Save { task, file } => {
+            let end = save_task(rt, global, alloc, task, file, folder, streams);
             report(alloc, &mut streams.errors, end)
         }
         Invocation::Show(text) => {
@@ -342,7 +432,7 @@ pub fn carry_out<
 }
 
 /// The whole program: reads the words, the first of which is its name, and does what they ask for. clap and `Task::Desk` take their
-/// memory from `global` alone, all else from `alloc`.
+/// memory from `global` alone, all else from `alloc`. Somebody at a terminal is told first what a task waits for ([`tell_waiting`]).
 pub fn run_program<
     T: Wait + Threads + Sync,
     A: Allocator + Copy + Send + Sync,
@@ -358,12 +448,22 @@ pub fn run_program<
     folder: &F,
     streams: &mut Streams<R, W, E>,
 ) -> Status
+    // The whole program carries out what the system's words may ask for: a task only where they name its command; where
+    // the system gave no words, none. What comes of a file that an output replaces is no part of it, either.
+    // Refused: any_words_run_a_script.
     ensures { ProgramEnds words (files_by (F.bytes_of folder.now) (F.held_by folder.now) (F.shown folder.now))
         streams.old streams.new result }
 {
     match collect_words(alloc, words) {
         Ok(words) => {
             let invocation = read_invocation(global, alloc, words.as_slice());
+            // A hint that can't be written changes nothing.
+            let _ = tell_waiting(
+                alloc,
+                folder.has_terminal(),
+                &invocation,
+                &mut streams.errors,
+            );
             carry_out(rt, global, alloc, invocation, folder, streams)
         }
         Err(invocation) => carry_out(rt, global, alloc, invocation, folder, streams),

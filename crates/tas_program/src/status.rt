@@ -3,7 +3,7 @@
 ghost use Rattle.std.specs.Prelude.{◌≡◌};
 ghost use Rattle.tas_program.specs.Program.{status_code};
 
-use crate::WordFault;
+use crate::{SaveFault, WordFault};
 use tas_tool::ToolFault;
 use thiserror::Error;
 
@@ -16,6 +16,9 @@ pub enum TaskFault {
     /// Its engine ended with a fault: the status is 1.
     #[error("{0}")]
     Tool(ToolFault),
+    /// Its engine is done, but its output didn't replace the file: the status is 1.
+    #[error("{0}")]
+    Save(SaveFault),
 }
 
 /// How the program ended.
@@ -32,6 +35,8 @@ pub enum Status {
 impl Status {
     /// The number that is reported to the system.
     pub fn code(self) -> u8
+        // The numbers of the three ends.
+        // Refused: misuse_is_status_1.
         ensures { result ≡ status_code self }
     {
         match self {

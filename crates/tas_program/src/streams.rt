@@ -1,4 +1,7 @@
 //! The program's three streams.
+//!
+//! Contracts see the three as one value, `Streams`: the bytes left of the input and those that the output holds. Of
+//! standard error they say nothing.
 
 use std::io::{Read, Write};
 use std::marker::Model;

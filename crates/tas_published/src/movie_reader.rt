@@ -52,6 +52,10 @@ impl<A: Allocator> MovieReader<A> {
 
     /// How many edits there are, and how many inputs. `NoEntry` where the writer is gone; the reader is as it was.
     pub fn len(&mut self) -> Result<(u64, usize), NoEntry>
+        // A reader's `len` and `input` return the length and an input of the published movie, that of a history that
+        // begins with all that the reader had seen; of an input `NoFrame` exactly where the movie hasn't the frame; or
+        // `NoEntry` with the reader as it was.
+        // Refused: reader_makes_up_an_edit, length_of_the_opening_movie*.
         ensures { FoundLen self.old self.new result }
     {
         replace_with(
@@ -66,6 +70,7 @@ impl<A: Allocator> MovieReader<A> {
     /// How many edits there are, and the input of frame `k`, counted from 0. `NoFrame` where the movie has no such frame; `NoEntry` where
     /// the writer is gone, with the reader as it was.
     pub fn input(&mut self, k: usize) -> Result<(u64, Input), InputError>
+        // Refused: input_of_the_opening_movie, input_is_made_up.
         ensures { FoundInput self.old self.new k result }
     {
         replace_with(
@@ -92,6 +97,10 @@ impl<A: Allocator + Copy> MovieReader<A> {
         k: usize,
     ) -> Result<(u64, Option<MovieCopy<A>>), ShotError>
         requires { KnowsRegistry self.old known.now.registry }
+        // `copy` returns a copy of the published movie where this has the frame, or none, but only where its history is
+        // the known one; `copy_of` the same where it has that many frames; `NoFrame` exactly where it hasn't; out of
+        // memory only where it has.
+        // Refused: shot_of_the_movie_that_was_known, state_after_the_last_frame_is_no_frame*.
         ensures { FoundCopy self.old self.new known.now k result }
     {
         // The greatest number stays as it is: no movie has that many frames.
@@ -109,6 +118,7 @@ impl<A: Allocator + Copy> MovieReader<A> {
         frames: usize,
     ) -> Result<(u64, Option<MovieCopy<A>>), StateError>
         requires { KnowsRegistry self.old known.now.registry }
+        // Refused: none, see `MovieReader::copy`.
         ensures { FoundMovie self.old self.new known.now frames result }
     {
         replace_with(

@@ -1,5 +1,15 @@
 //! What readers see: a movie, the number of edits that made it, and the version of their history; and the rule that ties it to
 //! what each reader has seen.
+//!
+//! A rule of `left_right` says what holds at each moment; what a step may do is said by its kind. `PublishStep`: the
+//! writer appends just the entries of one step, one or two, at once. `Look`: a reader's view, a beginning of what is
+//! published, becomes all of it. `TellAll`: a writer's view stays, and a reader that learns it keeps the longer of both
+//! (`learned`). `PublishNothing`: nothing changes; it comes only when a reader is made, since a writer starts with a
+//! view that doesn't know the registry, and would have nothing to pass on.
+//!
+//! Two entries are one operation (`PublishedStep`) where nobody may see one without the other. Two publishes under the
+//! lock wouldn't do, since readers take no lock; and the writer takes no operation back, so the second could be refused
+//! memory when the first can't be undone. All growths, the journal's too, come before the publish.
 
 ghost use Rattle.std.specs.Prelude.{◌≡◌};
 ghost use Rattle.tas_movie.specs.Edit.{edited};

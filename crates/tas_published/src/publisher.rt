@@ -1,4 +1,12 @@
 //! The history, and what is published of it.
+//!
+//! The publisher keeps that nothing waits to be published, that the published version is the journal, and that the
+//! writer's view is the journal: by the rule the published movie is then the journal's.
+//!
+//! A number is tried until it works (`renew`): nobody else has the counter, so the first try does it, as long as
+//! numbers are below 2^62; no clause says that. Under the lock a seat's reader enters, and the version that it finds is
+//! compared with the one published last (`read_latest`). Nobody publishes meanwhile, so the first entry finds it. No
+//! proof can see that, so the code would enter again.
 
 ghost use Rattle.std.specs.Prelude.{◌≡◌, ◌<◌, ◌^◌, [], ◌∷◌, ◌++◌, drop, fold, IfOk, OnOk, OnErr, MatchResult};
 ghost use Rattle.left_right.specs.Sides.{view};
@@ -76,6 +84,9 @@ where
           p.writer.desk.shown.value.movie;
     } };
 
+    // The movie is the one that the journal makes (edits folded from the blank cartridge with no inputs). It is what is
+    // published, with nothing pending, and the writer's view is the journal.
+    // Refused: edit_writes_the_journal_alone, edit_is_published_twice.
     ghost invariant = { λ p. IsCurrent p.writer.desk.shown.value
         (drop p.writer.behind p.writer.log.items) p.latest.registry p.journal.items
         (known_by p.writer.desk.place).seen };
@@ -136,6 +147,8 @@ fn publish_nothing<A: Allocator, R: Wait>(writer: MovieWriter<A>, rt: &R) -> Mov
     requires none { drop writer.behind writer.log.items ≡ [] }
     requires known { HasSeenAll writer.desk.shown.value (view writer.desk.place) }
     ensures none { drop result.behind result.log.items ≡ [] }
+    // When a reader is made, the writer publishes with nothing pending, which changes nothing.
+    // Refused: nothing_is_published_as_an_edit.
     ensures same { result.desk.shown.value ≡ writer.desk.shown.value }
     ensures view { view result.desk.place ≡ view_of writer.desk.shown.value.version }
 {
@@ -156,6 +169,8 @@ fn publish<A: Allocator, R: Wait>(
     ensures value { MatchResult result.1
         (λ _. result.0.desk.shown.value ≡ after writer.desk.shown.value change)
         (λ _. result.0.desk.shown.value ≡ writer.desk.shown.value) }
+    // What is published changes by one step at a time: the writer, which has seen all that is published, appends just
+    // the step's entries, one or two, at once.
     ensures more { OnOk result.1 (HasStepMore writer.desk.shown.value result.0.desk.shown.value) }
     ensures view { MatchResult result.1
         (λ _. view result.0.desk.place ≡ view_of result.0.desk.shown.value.version)
@@ -178,6 +193,8 @@ fn tell_all<A: Allocator>(writer: &mut MovieWriter<A>, reader: &mut RuledReader<
     ensures view { view writer.new.desk.place ≡ view writer.old.desk.place }
     ensures learned { view reader.new.place
         ≡ learned (view reader.old.place) (view writer.old.desk.place) }
+    // A reader that learns has seen no less than before.
+    // Refused: reader_forgets_what_it_had_seen*.
     ensures grows { IsPrefix (view reader.old.place).seen (view reader.new.place).seen }
 {
     reader.learn::<TellAll>(writer.tell::<TellAll>());
@@ -209,6 +226,8 @@ impl<A: Allocator + Copy> Publisher<A> {
     /// The blank movie, with no edits, with places for this many readers. The writer is made last.
     pub fn new(alloc: A, readers: usize) -> Result<Publisher<A>, AllocError>
         requires { (0 < readers) × (readers < 2 ^ 32) }
+        // A new publisher has the blank movie and no edits.
+        // Refused: none, see `Publisher`.
         ensures { IfOk result
             (λ publisher. publisher
             ≡ record { registry = publisher.registry; journal = []; movie = blank_movie }) }
@@ -225,6 +244,8 @@ impl<A: Allocator + Copy> Publisher<A> {
     /// Adds an entry that can come next, and publishes it. All growths come first, and then nothing can fail.
     pub fn push<R: Wait>(&mut self, rt: &R, next: Entry<A>) -> Result<(), AllocError>
         requires { IsNextEntry self.old.journal next }
+        // An entry is added to the journal and its edit made in the movie; where memory is refused all stays as it was.
+        // Refused: none, it is `push_step` of one entry.
         ensures done { OnOk result
             (self.new
             ≡ record {
@@ -242,6 +263,9 @@ impl<A: Allocator + Copy> Publisher<A> {
     /// then nothing can fail.
     pub fn push_step<R: Wait>(&mut self, rt: &R, step: Step<A>) -> Result<(), AllocError>
         requires { AreNext self.old.journal (entries_in step) }
+        // The entries of a step are added to the journal and their edits made in the movie; where memory is refused,
+        // also between two entries, all stays as it was.
+        // Refused: first_edit_stays_where_the_second_is_refused.
         ensures done { OnOk result (self.new ≡ pushed_by self.old (entries_in step)) }
         ensures refused { OnErr result (self.new ≡ self.old) }
     {
@@ -347,6 +371,9 @@ impl<A: Allocator> Publisher<A> {
 
     /// A reader that has seen the history. An error comes where there is no place for it.
     pub fn reader<R: Wait>(&mut self, rt: &R) -> Result<MovieReader<A>, AllocError>
+        // A reader is made with the whole history seen, and one that is shown the history has seen all of it, which
+        // begins with what it had seen.
+        // Refused: none, see `Publisher::show_to`.
         ensures same { self.new ≡ self.old }
         ensures seen { IfOk result
             (λ reader. reader ≡ view_of (version_of self.old.registry self.old.journal)) }
@@ -358,6 +385,7 @@ impl<A: Allocator> Publisher<A> {
     /// Lets a reader see the history, which begins with all that it had seen.
     pub fn show_to<R: Wait>(&self, rt: &R, reader: &mut MovieReader<A>)
         requires { KnowsRegistry reader.old self.now.registry }
+        // Refused: any_version_is_the_latest.
         ensures seen { reader.new ≡ view_of (version_of self.now.registry self.now.journal) }
         ensures begins { IsPrefix reader.old.seen self.now.journal }
     {
@@ -375,6 +403,7 @@ impl<A: Allocator> Publisher<A> {
 
     /// Ends it, and returns its movie and history.
     pub fn close<R: Wait>(self, rt: &R) -> Closed<A>
+        // Refused: session_closes_without_its_journal.
         ensures journal { result.journal.items ≡ self.journal }
         ensures movie { result.movie ≡ self.movie }
     {
@@ -392,6 +421,8 @@ impl<A: Allocator> Publisher<A> {
 
     /// The movie.
     pub fn movie(&self) -> &Movie<A>
+        // `movie`, `version` and `journal` show what there is, and `close` returns movie and journal.
+        // Refused: none, see `Publisher::journal` and `Publisher::close`.
         ensures { result.now ≡ self.now.movie }
     {
         self.writer.published().movie()
@@ -399,6 +430,7 @@ impl<A: Allocator> Publisher<A> {
 
     /// The version of the history.
     pub fn version(&self) -> &Version<A>
+        // Refused: none, see `Publisher::movie`.
         ensures { result.now ≡ version_of self.now.registry self.now.journal }
     {
         self.writer.published().version()
@@ -406,6 +438,7 @@ impl<A: Allocator> Publisher<A> {
 
     /// The history, in order.
     pub fn journal(&self) -> &[Entry<A>]
+        // Refused: journal_without_its_first_half*.
         ensures { result.now ≡ self.now.journal }
     {
         self.journal.as_slice()

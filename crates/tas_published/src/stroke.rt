@@ -22,6 +22,9 @@ pub enum Stroke<A: Allocator = Global> {
 impl<A: Allocator> Stroke<A> {
     /// How many edits it has.
     pub fn count(&self) -> u64
+        // `Stroke` reports how many edits it has, and whether a movie allows them one after the other; it is never out
+        // of memory.
+        // Refused: stroke_of_two_counts_one.
         ensures { result ≡ length (edits_of self.now) }
     {
         match self {
@@ -33,6 +36,7 @@ impl<A: Allocator> Stroke<A> {
 
     /// Whether a movie allows its edits, one after the other; else why it refuses the first that it refuses. It takes no memory.
     pub fn check<B: Allocator>(&self, movie: &Movie<B>) -> Result<(), EditRefusal>
+        // Refused: second_edit_is_checked_in_the_movie_before*.
         ensures { result ≡ check_answer (refusal_in movie.now (edits_of self.now)) }
     {
         match self {
@@ -62,6 +66,7 @@ fn check_length<A: Allocator>(len: usize, edit: &Edit<A>) -> Result<(), EditRefu
 /// How long a movie is after an edit that it allows.
 pub fn len_after<A: Allocator, B: Allocator>(movie: &Movie<A>, edit: &Edit<B>) -> usize
     requires { IsAllowed movie.now edit.now }
+    // Refused: none, see `Stroke::check`, which calls it.
     ensures { result ≡ length (edited movie.now edit.now).inputs }
 {
     let len = movie.len();

@@ -3,6 +3,16 @@
 //! they are equal, without looking at an entry.
 //!
 //! The registry exists in proofs alone: at run time a version is its number, and the registry is a counter.
+//!
+//! Versions are needed since no contract of `left_right` says, after a publish or an entry, which table a writer or
+//! reader belongs to. So `tell` and `learn`, which require one table, are used once for each seat, as the desk opens,
+//! and a call under the lock must show otherwise that the seat's reader sees the session's journal: by equal numbers.
+//! Two tokens of one registry speak of beginnings of one list of histories, so equal numbers are one history.
+//! `Version::is_same` says so where it returns true, and nothing where it returns false.
+//!
+//! What is published carries its registry as data, not as a type. The name in the types of desk and seats (`Name`) has
+//! the registry, and what lies under the lock keeps that its session's is the name's, and each seat that its reader's
+//! and its zone's are.
 
 ghost use Rattle.std.specs.Prelude.{◌≡◌, ◌+◌, ◌==◌, ◌<◌, [], length, true};
 ghost use Rattle.tas_published.specs.Inside.Registry.{counter_of, latest};
@@ -115,6 +125,7 @@ where
 impl<A: Allocator> Version<A> {
     /// A copy. It takes no memory.
     pub fn copy(&self) -> Version<A>
+        // Refused: none, see `Entry::copy`.
         ensures { result ≡ self.now }
     {
         Version {
@@ -126,6 +137,8 @@ impl<A: Allocator> Version<A> {
     /// Whether the other version of the same registry has the same number. The two are one history then.
     pub fn is_same(&self, other: &Version<A>) -> bool
         requires { self.now.registry ≡ other.now.registry }
+        // Two versions of one registry that it reports as the same are one history.
+        // Refused: versions_with_two_numbers_are_the_same.
         ensures { result ≡ true → self.now ≡ other.now }
     {
         if self.number != other.number {

@@ -11,10 +11,10 @@ use Rattle.tas_search.specs.declared.arrival.Arrival.{Arrival}
 use Rattle.tas_search.specs.declared.arrival.Step.{Step}
 use Rattle.tas_search.specs.Space.{SpaceContent, after_choice}
 use Rattle.tas_search.specs.Inside.Layers.{Reached, with_reached, with_all, next_reached, next_from, next_of, grown_from, grown, layers_from, root, layer_of}
-use Rattle.tas_search.specs.Inside.Arrivals.{are_same_arrivals, arrivals_from, arrivals_of, grown_arrivals, no_step, way, with_way, AreWithin, steps_of, IsFront}
+use Rattle.tas_search.specs.Inside.Arrivals.{are_same_arrivals, arrivals_from, arrivals_of, grown_arrivals, no_step, path, with_path, AreWithin, steps_of, IsFrontier}
 use Rattle.tas_search.proofs.LayerLemmas.{layers_more}
 
--- ---- ways
+-- ---- paths
 
 pub within_more : (a b : ℕ) (steps : List Step) → a ≤ b → AreWithin a steps → AreWithin b steps
 within_more a b [] le h = tt
@@ -29,21 +29,21 @@ within_at n [] i h lt = absurd (omega arith)
 within_at n (x ∷ xs) zero h lt = h.0
 within_at n (x ∷ xs) (suc i) h lt = within_at n xs i h.1 (omega arith)
 
--- a way within a trail stays where the trail gets longer
-pub way_stays : (trail more : List Step) (d : ℕ) (step : Step) → AreWithin (length trail) trail → step.parent < length trail
-    → way (trail ++ more) d step ≡ way trail d step
-way_stays trail more zero step h lt = refl
-way_stays trail more (suc d) step h lt =
-    let at : slice_index_or (trail ++ more) step.parent no_step ≡ slice_index_or trail step.parent no_step = get_or_append_left trail more no_step step.parent lt in
-    ap (λ (x : Step). way (trail ++ more) d x ++ step.choice ∷ []) at
-    ∙ ap (λ (ks : List ℕ). ks ++ step.choice ∷ []) (way_stays trail more d (slice_index_or trail step.parent no_step) h (within_at (length trail) trail step.parent h lt))
+-- a path stays where more parent links come after those that it takes
+pub path_stays : (parents more : List Step) (d : ℕ) (step : Step) → AreWithin (length parents) parents → step.parent < length parents
+    → path (parents ++ more) d step ≡ path parents d step
+path_stays parents more zero step h lt = refl
+path_stays parents more (suc d) step h lt =
+    let at : slice_index_or (parents ++ more) step.parent no_step ≡ slice_index_or parents step.parent no_step = get_or_append_left parents more no_step step.parent lt in
+    ap (λ (x : Step). path (parents ++ more) d x ++ step.choice ∷ []) at
+    ∙ ap (λ (ks : List ℕ). ks ++ step.choice ∷ []) (path_stays parents more d (slice_index_or parents step.parent no_step) h (within_at (length parents) parents step.parent h lt))
 
-pub ways_stay : (trail more : List Step) (d : ℕ) (bs : List Arrival) → AreWithin (length trail) trail → AreWithin (length trail) (steps_of bs)
-    → map (with_way (trail ++ more) d) bs ≡ map (with_way trail d) bs
-ways_stay trail more d [] h g = refl
-ways_stay trail more d (a ∷ bs) h g =
-    ap (λ (ks : List ℕ). record { machine = a.state; sequence = ks } ∷ map (with_way (trail ++ more) d) bs) (way_stays trail more d a.step h g.0)
-    ∙ ap (λ (rs : List Reached). with_way trail d a ∷ rs) (ways_stay trail more d bs h g.1)
+pub paths_stay : (parents more : List Step) (d : ℕ) (bs : List Arrival) → AreWithin (length parents) parents → AreWithin (length parents) (steps_of bs)
+    → map (with_path (parents ++ more) d) bs ≡ map (with_path parents d) bs
+paths_stay parents more d [] h g = refl
+paths_stay parents more d (a ∷ bs) h g =
+    ap (λ (ks : List ℕ). record { machine = a.state; sequence = ks } ∷ map (with_path (parents ++ more) d) bs) (path_stays parents more d a.step h g.0)
+    ∙ ap (λ (rs : List Reached). with_path parents d a ∷ rs) (paths_stay parents more d bs h g.1)
 
 -- ---- arrivals
 
@@ -51,45 +51,45 @@ map_choice : (f : Arrival → Reached) (b : Bool) (ks : List Arrival) (a : Arriv
 map_choice f true ks a = refl
 map_choice f false ks a = map-append f ks (a ∷ [])
 
-module _ (s : SpaceContent) (trail : List Step) (d : ℕ) where
-  same_known : (a : Arrival) (ks : List Arrival) → list_any (are_same_arrivals a) ks ≡ list_any (λ o. are_same_machines a.state o.machine) (map (with_way trail d) ks)
+module _ (s : SpaceContent) (parents : List Step) (d : ℕ) where
+  same_known : (a : Arrival) (ks : List Arrival) → list_any (are_same_arrivals a) ks ≡ list_any (λ o. are_same_machines a.state o.machine) (map (with_path parents d) ks)
   same_known a [] = refl
   same_known a (k ∷ ks) = ap (λ (b : Bool). are_same_machines a.state k.state || b) (same_known a ks)
 
-  pub insert_is : (ks : List Arrival) (a : Arrival) → map (with_way trail d) (insert_key are_same_arrivals ks a) ≡ with_reached (map (with_way trail d) ks) (with_way trail d a)
+  pub insert_is : (ks : List Arrival) (a : Arrival) → map (with_path parents d) (insert_key are_same_arrivals ks a) ≡ with_reached (map (with_path parents d) ks) (with_path parents d a)
   insert_is ks a =
-      map_choice (with_way trail d) (list_any (are_same_arrivals a) ks) ks a
-      ∙ ap (λ (b : Bool). if b then map (with_way trail d) ks else map (with_way trail d) ks ++ with_way trail d a ∷ []) (same_known a ks)
+      map_choice (with_path parents d) (list_any (are_same_arrivals a) ks) ks a
+      ∙ ap (λ (b : Bool). if b then map (with_path parents d) ks else map (with_path parents d) ks ++ with_path parents d a ∷ []) (same_known a ks)
 
-  pub insert_all_is : (ks bs : List Arrival) → map (with_way trail d) (insert_all are_same_arrivals ks bs) ≡ with_all (map (with_way trail d) ks) (map (with_way trail d) bs)
+  pub insert_all_is : (ks bs : List Arrival) → map (with_path parents d) (insert_all are_same_arrivals ks bs) ≡ with_all (map (with_path parents d) ks) (map (with_path parents d) bs)
   insert_all_is ks [] = refl
   insert_all_is ks (a ∷ bs) =
       insert_all_is (insert_key are_same_arrivals ks a) bs
-      ∙ ap (λ (rs : List Reached). with_all rs (map (with_way trail d) bs)) (insert_is ks a)
+      ∙ ap (λ (rs : List Reached). with_all rs (map (with_path parents d) bs)) (insert_is ks a)
 
-module _ (s : SpaceContent) (trail : List Step) (d : ℕ) where
-  pub from_is : (a : Arrival) (place k n : ℕ) → slice_index_or trail place no_step ≡ a.step
-      → map (with_way trail (suc d)) (arrivals_from s a.state place k n) ≡ next_from s (with_way trail d a) k n
+module _ (s : SpaceContent) (parents : List Step) (d : ℕ) where
+  pub from_is : (a : Arrival) (place k n : ℕ) → slice_index_or parents place no_step ≡ a.step
+      → map (with_path parents (suc d)) (arrivals_from s a.state place k n) ≡ next_from s (with_path parents d a) k n
   from_is a place k zero e = refl
   from_is a place k (suc n) e =
-      ap (λ (x : Step). record { machine = after_choice s a.state k; sequence = way trail d x ++ k ∷ [] } ∷ map (with_way trail (suc d)) (arrivals_from s a.state place (suc k) n)) e
-      ∙ ap (λ (rs : List Reached). next_reached s (with_way trail d a) k ∷ rs) (from_is a place (suc k) n e)
+      ap (λ (x : Step). record { machine = after_choice s a.state k; sequence = path parents d x ++ k ∷ [] } ∷ map (with_path parents (suc d)) (arrivals_from s a.state place (suc k) n)) e
+      ∙ ap (λ (rs : List Reached). next_reached s (with_path parents d a) k ∷ rs) (from_is a place (suc k) n e)
 
   map_halted : (f : Arrival → Reached) (h : Option Halt) (bs : List Arrival) → map f (unless_halted h bs []) ≡ unless_halted h (map f bs) []
   map_halted f None bs = refl
   map_halted f (Some x) bs = refl
 
-  pub of_is : (a : Arrival) (place : ℕ) → slice_index_or trail place no_step ≡ a.step → map (with_way trail (suc d)) (arrivals_of s a.state place) ≡ next_of s (with_way trail d a)
+  pub of_is : (a : Arrival) (place : ℕ) → slice_index_or parents place no_step ≡ a.step → map (with_path parents (suc d)) (arrivals_of s a.state place) ≡ next_of s (with_path parents d a)
   of_is a place e =
-      map_halted (with_way trail (suc d)) a.state.halt (arrivals_from s a.state place 0 (length s.choices))
+      map_halted (with_path parents (suc d)) a.state.halt (arrivals_from s a.state place 0 (length s.choices))
       ∙ ap (λ (rs : List Reached). unless_halted a.state.halt rs []) (from_is a place 0 (length s.choices) e)
 
   plus : (n : ℕ) → n + 0 ≡ n
   plus n = omega arith
 
-  head_at : (steps : List Step) (step : Step) (place : ℕ) → drop place trail ≡ step ∷ steps → slice_index_or trail place no_step ≡ step
+  head_at : (steps : List Step) (step : Step) (place : ℕ) → drop place parents ≡ step ∷ steps → slice_index_or parents place no_step ≡ step
   head_at steps step place e =
-      sym (get_or-drop place trail 0 no_step ∙ ap (λ (n : ℕ). slice_index_or trail n no_step) (plus place)) ∙ ap (λ (xs : List Step). slice_index_or xs 0 no_step) e
+      sym (get_or-drop place parents 0 no_step ∙ ap (λ (n : ℕ). slice_index_or parents n no_step) (plus place)) ∙ ap (λ (xs : List Step). slice_index_or xs 0 no_step) e
 
   tail_at : (xs : List Step) (place : ℕ) (y : Step) (ys : List Step) → drop place xs ≡ y ∷ ys → drop (suc place) xs ≡ ys
   tail_at [] zero y ys e = absurd cc
@@ -97,15 +97,15 @@ module _ (s : SpaceContent) (trail : List Step) (d : ℕ) where
   tail_at (x ∷ xs) zero y ys e = cc
   tail_at (x ∷ xs) (suc place) y ys e = tail_at xs place y ys e
 
-  -- what some arrivals reach, whose steps are in the trail from a place on, before others
-  pub grown_is : (bs next : List Arrival) (place : ℕ) (others : List Step) → drop place trail ≡ steps_of bs ++ others
-      → map (with_way trail (suc d)) (grown_arrivals s next place bs) ≡ grown_from s (map (with_way trail (suc d)) next) (map (with_way trail d) bs)
+  -- what some arrivals reach, whose steps are among the parent links from a place on, before others
+  pub grown_is : (bs next : List Arrival) (place : ℕ) (others : List Step) → drop place parents ≡ steps_of bs ++ others
+      → map (with_path parents (suc d)) (grown_arrivals s next place bs) ≡ grown_from s (map (with_path parents (suc d)) next) (map (with_path parents d) bs)
   grown_is [] next place others e = refl
   grown_is (a ∷ bs) next place others e =
-      grown_is bs (insert_all are_same_arrivals next (arrivals_of s a.state place)) (suc place) others (tail_at trail place a.step (steps_of bs ++ others) e)
-      ∙ ap (λ (rs : List Reached). grown_from s rs (map (with_way trail d) bs))
-      (insert_all_is s trail (suc d) next (arrivals_of s a.state place)
-      ∙ ap (λ (rs : List Reached). with_all (map (with_way trail (suc d)) next) rs) (of_is a place (head_at (steps_of bs ++ others) a.step place e))
+      grown_is bs (insert_all are_same_arrivals next (arrivals_of s a.state place)) (suc place) others (tail_at parents place a.step (steps_of bs ++ others) e)
+      ∙ ap (λ (rs : List Reached). grown_from s rs (map (with_path parents d) bs))
+      (insert_all_is s parents (suc d) next (arrivals_of s a.state place)
+      ∙ ap (λ (rs : List Reached). with_all (map (with_path parents (suc d)) next) rs) (of_is a place (head_at (steps_of bs ++ others) a.step place e))
       )
 
 -- ---- the parents of what was added
@@ -142,27 +142,27 @@ module _ (s : SpaceContent) (n : ℕ) where
 
 -- ---- from layer to layer
 
-pub root_front : (s : SpaceContent) → IsFront s 0 0 (no_step ∷ []) (record { state = s.start; step = no_step } ∷ [])
+pub root_frontier : (s : SpaceContent) → IsFrontier s 0 0 (no_step ∷ []) (record { state = s.start; step = no_step } ∷ [])
 unfolding layers_from
-root_front s = record { layer = refl; within = (omega arith, tt); steps = refl; count = refl }
+root_frontier s = record { layer = refl; within = (omega arith, tt); steps = refl; count = refl }
 
--- the arrivals after those of a front, whose steps come to the end of the trail
-pub next_front : (s : SpaceContent) (depth place : ℕ) (trail : List Step) (bs next : List Arrival) → IsFront s depth place trail bs
-    → next ≡ grown_arrivals s [] place bs → IsFront s (depth + 1) (length trail) (trail ++ steps_of next) next
-next_front s depth place trail bs next front e =
-    let parents : AreWithin (length trail) (steps_of next) =
-    subst (λ (ns : List Arrival). AreWithin (length trail) (steps_of ns)) (sym e) (grown_within s (length trail) bs [] place tt (omega (arith, front.count))) in
-    let count : length (trail ++ steps_of next) ≡ length trail + length next = length-append trail (steps_of next) ∙ ap (λ (n : ℕ). length trail + n) (length-map next (λ a. a.step)) in
-    let is : map (with_way trail (suc depth)) next ≡ layer_of s (suc depth) =
-    ap (map (with_way trail (suc depth))) e
-    ∙ grown_is s trail depth bs [] place [] (front.steps ∙ sym (append-nil (steps_of bs)))
-    ∙ ap (grown s) front.layer
+-- the arrivals after those of a frontier, whose steps come to the end of the parent links
+pub next_frontier : (s : SpaceContent) (depth place : ℕ) (parents : List Step) (bs next : List Arrival) → IsFrontier s depth place parents bs
+    → next ≡ grown_arrivals s [] place bs → IsFrontier s (depth + 1) (length parents) (parents ++ steps_of next) next
+next_frontier s depth place parents bs next frontier e =
+    let added : AreWithin (length parents) (steps_of next) =
+    subst (λ (ns : List Arrival). AreWithin (length parents) (steps_of ns)) (sym e) (grown_within s (length parents) bs [] place tt (omega (arith, frontier.count))) in
+    let count : length (parents ++ steps_of next) ≡ length parents + length next = length-append parents (steps_of next) ∙ ap (λ (n : ℕ). length parents + n) (length-map next (λ a. a.step)) in
+    let is : map (with_path parents (suc depth)) next ≡ layer_of s (suc depth) =
+    ap (map (with_path parents (suc depth))) e
+    ∙ grown_is s parents depth bs [] place [] (frontier.steps ∙ sym (append-nil (steps_of bs)))
+    ∙ ap (grown s) frontier.layer
     ∙ sym (subst (λ (n : ℕ). layers_from s (root s ∷ []) n ≡ grown s (layer_of s depth)) (add-one depth) (layers_more s depth (root s ∷ []))) in
     record {
-      layer = rw add-one (ways_stay trail (steps_of next) (suc depth) next front.within parents ∙ is);
-      within = subst (λ (n : ℕ). AreWithin n (trail ++ steps_of next)) (sym count)
-          (within_append (length trail + length next) trail (steps_of next) (within_more (length trail) (length trail + length next) trail (omega arith) front.within) (within_more (length trail) (length trail + length next) (steps_of next) (omega arith) parents));
-      steps = drop_at trail (steps_of next) (length trail) refl;
+      layer = rw add-one (paths_stay parents (steps_of next) (suc depth) next frontier.within added ∙ is);
+      within = subst (λ (n : ℕ). AreWithin n (parents ++ steps_of next)) (sym count)
+          (within_append (length parents + length next) parents (steps_of next) (within_more (length parents) (length parents + length next) parents (omega arith) frontier.within) (within_more (length parents) (length parents + length next) (steps_of next) (omega arith) added));
+      steps = drop_at parents (steps_of next) (length parents) refl;
       count = sym count;
     }
 
@@ -176,17 +176,17 @@ step_within n [] i d h lt = absurd (omega arith)
 step_within n (a ∷ bs) zero d h lt = h.0
 step_within n (a ∷ bs) (suc i) d h lt = step_within n bs i d h.1 (omega arith)
 
--- the last step of each way leads into the trail
-pub last_within : (s : SpaceContent) (depth place : ℕ) (trail : List Step) (bs : List Arrival) (i : ℕ) (d : Arrival) → IsFront s depth place trail bs → i < length bs
-    → (get_or bs i d).step.parent < length trail
-last_within s depth place trail bs i d front lt =
-    step_within (length trail) bs i d (subst (AreWithin (length trail)) front.steps (within_drop (length trail) place trail front.within)) lt
+-- the last step of each path leads into the parent links
+pub last_within : (s : SpaceContent) (depth place : ℕ) (parents : List Step) (bs : List Arrival) (i : ℕ) (d : Arrival) → IsFrontier s depth place parents bs → i < length bs
+    → (get_or bs i d).step.parent < length parents
+last_within s depth place parents bs i d frontier lt =
+    step_within (length parents) bs i d (subst (AreWithin (length parents)) frontier.steps (within_drop (length parents) place parents frontier.within)) lt
 
--- the front of the empty sequence
-pub first_front_is : (s : SpaceContent) (start : Machine) (trail : List Step) (none keys : List Arrival) → start ≡ s.start → trail ≡ no_step ∷ [] → none ≡ []
-    → keys ≡ insert_key are_same_arrivals none (record { state = start; step = no_step }) → IsFront s 0 0 trail keys
-first_front_is s start trail none keys at is empty e =
-    subst (λ (xs : List Step). IsFront s 0 0 xs keys) (sym is) (subst (λ (ks : List Arrival). IsFront s 0 0 (no_step ∷ []) ks) (sym keys_are) (root_front s))
+-- the frontier of the empty sequence
+pub first_frontier_is : (s : SpaceContent) (start : Machine) (parents : List Step) (none keys : List Arrival) → start ≡ s.start → parents ≡ no_step ∷ [] → none ≡ []
+    → keys ≡ insert_key are_same_arrivals none (record { state = start; step = no_step }) → IsFrontier s 0 0 parents keys
+first_frontier_is s start parents none keys at is empty e =
+    subst (λ (xs : List Step). IsFrontier s 0 0 xs keys) (sym is) (subst (λ (ks : List Arrival). IsFrontier s 0 0 (no_step ∷ []) ks) (sym keys_are) (root_frontier s))
   where
     keys_are : keys ≡ record { state = s.start; step = no_step } ∷ []
     keys_are =
@@ -194,10 +194,10 @@ first_front_is s start trail none keys at is empty e =
         ∙ ap (λ (ks : List Arrival). insert_key are_same_arrivals ks (record { state = start; step = no_step })) empty
         ∙ ap (λ (m : Machine). record { state = m; step = no_step } ∷ []) at
 
--- the front after it, by what the code has at hand
-pub moved_front : (s : SpaceContent) (depth place end : ℕ) (trail after : List Step) (bs given next : List Arrival) → IsFront s depth place trail bs → given ≡ bs → end ≡ length trail
-    → after ≡ trail ++ steps_of next → next ≡ grown_arrivals s [] place given → IsFront s (depth + 1) end after next
-moved_front s depth place end trail after bs given next front same at is e =
-    subst (λ (n : ℕ). IsFront s (depth + 1) n after next) (sym at)
-    (subst (λ (xs : List Step). IsFront s (depth + 1) (length trail) xs next) (sym is)
-    (next_front s depth place trail bs next front (e ∙ ap (grown_arrivals s [] place) same)))
+-- the frontier after it, by what the code has at hand
+pub moved_frontier : (s : SpaceContent) (depth place end : ℕ) (parents after : List Step) (bs given next : List Arrival) → IsFrontier s depth place parents bs → given ≡ bs → end ≡ length parents
+    → after ≡ parents ++ steps_of next → next ≡ grown_arrivals s [] place given → IsFrontier s (depth + 1) end after next
+moved_frontier s depth place end parents after bs given next frontier same at is e =
+    subst (λ (n : ℕ). IsFrontier s (depth + 1) n after next) (sym at)
+    (subst (λ (xs : List Step). IsFrontier s (depth + 1) (length parents) xs next) (sym is)
+    (next_frontier s depth place parents bs next frontier (e ∙ ap (grown_arrivals s [] place) same)))

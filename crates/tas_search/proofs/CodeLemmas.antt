@@ -11,7 +11,7 @@ use Rattle.indexmap.specs.IndexSet.{insert_key, insert_all}
 use Rattle.tas_search.specs.declared.arrival.Arrival.{Arrival}
 use Rattle.tas_search.specs.declared.arrival.Step.{Step}
 use Rattle.tas_search.specs.Space.{SpaceContent, after_choice}
-use Rattle.tas_search.specs.Inside.Arrivals.{are_same_arrivals, arrivals_from, arrivals_of, arrival_at, grown_arrivals, no_step, way, steps_of}
+use Rattle.tas_search.specs.Inside.Arrivals.{are_same_arrivals, arrivals_from, arrivals_of, arrival_at, grown_arrivals, no_step, path, steps_of}
 
 pub halted_none : {A : Type 0} (h : Option Halt) (xs : List A) → is_some h ≡ true → unless_halted h xs [] ≡ []
 halted_none None xs e = absurd cc
@@ -78,19 +78,19 @@ steps_more old now after bs j a lt is e f =
     )
 
 -- one step back
-pub way_back : (trail : List Step) (depth k : ℕ) (step last : Step) (found : List ℕ) → k < depth → way trail (depth - k) step ++ reverse found ≡ way trail depth last
-    → way trail (depth - (k + 1)) (slice_index_or trail step.parent no_step) ++ reverse (found ++ step.choice ∷ []) ≡ way trail depth last
-way_back trail depth k step last found lt e =
-    ap (λ (xs : List ℕ). way trail (depth - (k + 1)) (slice_index_or trail step.parent no_step) ++ xs) (reverse-append found (step.choice ∷ []))
-    ∙ sym (append_assoc (way trail (depth - (k + 1)) (slice_index_or trail step.parent no_step)) (step.choice ∷ []) (reverse found))
-    ∙ ap (λ (n : ℕ). way trail n step ++ reverse found) left
+pub path_back : (parents : List Step) (depth k : ℕ) (step last : Step) (found : List ℕ) → k < depth → path parents (depth - k) step ++ reverse found ≡ path parents depth last
+    → path parents (depth - (k + 1)) (slice_index_or parents step.parent no_step) ++ reverse (found ++ step.choice ∷ []) ≡ path parents depth last
+path_back parents depth k step last found lt e =
+    ap (λ (xs : List ℕ). path parents (depth - (k + 1)) (slice_index_or parents step.parent no_step) ++ xs) (reverse-append found (step.choice ∷ []))
+    ∙ sym (append_assoc (path parents (depth - (k + 1)) (slice_index_or parents step.parent no_step)) (step.choice ∷ []) (reverse found))
+    ∙ ap (λ (n : ℕ). path parents n step ++ reverse found) left
     ∙ e
   where
     left : suc (depth - (k + 1)) ≡ depth - k
     left = omega arith
 
-pub way_over : (trail : List Step) (depth : ℕ) (step : Step) (found : List ℕ) → way trail (depth - depth) step ++ reverse found ≡ reverse found
-way_over trail depth step found = ap (λ (n : ℕ). way trail n step ++ reverse found) left
+pub path_over : (parents : List Step) (depth : ℕ) (step : Step) (found : List ℕ) → path parents (depth - depth) step ++ reverse found ≡ reverse found
+path_over parents depth step found = ap (λ (n : ℕ). path parents n step ++ reverse found) left
   where
     left : depth - depth ≡ 0
     left = omega arith
@@ -106,24 +106,24 @@ choice_added s m reached place k n now next final lt at e inv =
     ∙ inv
 
 -- the same by what the code has at hand
-pub way_back_at : (trail : List Step) (depth k : ℕ) (step last next : Step) (found pushed : List ℕ) → k < depth → next ≡ slice_index_or trail step.parent no_step
-    → pushed ≡ found ++ step.choice ∷ [] → way trail (depth - k) step ++ reverse found ≡ way trail depth last
-    → way trail (depth - (k + 1)) next ++ reverse pushed ≡ way trail depth last
-way_back_at trail depth k step last next found pushed lt at is e =
-    ap (λ (x : Step). way trail (depth - (k + 1)) x ++ reverse pushed) at
-    ∙ ap (λ (xs : List ℕ). way trail (depth - (k + 1)) (slice_index_or trail step.parent no_step) ++ reverse xs) is
-    ∙ way_back trail depth k step last found lt e
+pub path_back_at : (parents : List Step) (depth k : ℕ) (step last next : Step) (found pushed : List ℕ) → k < depth → next ≡ slice_index_or parents step.parent no_step
+    → pushed ≡ found ++ step.choice ∷ [] → path parents (depth - k) step ++ reverse found ≡ path parents depth last
+    → path parents (depth - (k + 1)) next ++ reverse pushed ≡ path parents depth last
+path_back_at parents depth k step last next found pushed lt at is e =
+    ap (λ (x : Step). path parents (depth - (k + 1)) x ++ reverse pushed) at
+    ∙ ap (λ (xs : List ℕ). path parents (depth - (k + 1)) (slice_index_or parents step.parent no_step) ++ reverse xs) is
+    ∙ path_back parents depth k step last found lt e
 
--- what was found is the whole way
-pub way_found : (trail : List Step) (depth k : ℕ) (step last : Step) (found turned : List ℕ) → k ≡ depth → turned ≡ reverse found
-    → way trail (depth - k) step ++ reverse found ≡ way trail depth last → turned ≡ way trail depth last
-way_found trail depth k step last found turned all is e =
-    is ∙ sym (way_over trail depth step found) ∙ ap (λ (n : ℕ). way trail (depth - n) step ++ reverse found) (sym all) ∙ e
+-- what was found is the whole path
+pub path_found : (parents : List Step) (depth k : ℕ) (step last : Step) (found turned : List ℕ) → k ≡ depth → turned ≡ reverse found
+    → path parents (depth - k) step ++ reverse found ≡ path parents depth last → turned ≡ path parents depth last
+path_found parents depth k step last found turned all is e =
+    is ∙ sym (path_over parents depth step found) ∙ ap (λ (n : ℕ). path parents (depth - n) step ++ reverse found) (sym all) ∙ e
 
 -- before the first step back
-pub way_first : (trail : List Step) (depth : ℕ) (last : Step) (found : List ℕ) → found ≡ [] → way trail (depth - 0) last ++ reverse found ≡ way trail depth last
-way_first trail depth last found empty =
-    ap (λ (xs : List ℕ). way trail (depth - 0) last ++ reverse xs) empty ∙ append-nil (way trail (depth - 0) last) ∙ ap (λ (n : ℕ). way trail n last) same
+pub path_first : (parents : List Step) (depth : ℕ) (last : Step) (found : List ℕ) → found ≡ [] → path parents (depth - 0) last ++ reverse found ≡ path parents depth last
+path_first parents depth last found empty =
+    ap (λ (xs : List ℕ). path parents (depth - 0) last ++ reverse xs) empty ∙ append-nil (path parents (depth - 0) last) ∙ ap (λ (n : ℕ). path parents n last) same
   where
     same : depth - 0 ≡ depth
     same = omega arith

@@ -11,7 +11,7 @@ use Rattle.tas_search.specs.declared.extremes.Aim.TheVariants.{Most, Least}
 use Rattle.tas_search.specs.Space.{SpaceContent, AreChoices, reached, rank}
 use Rattle.tas_search.specs.Extreme.{IsAsGood, IsExtreme}
 use Rattle.tas_search.specs.Inside.Layers.{Reached, layer_of}
-use Rattle.tas_search.specs.Inside.Arrivals.{no_step, way, with_way, IsFront}
+use Rattle.tas_search.specs.Inside.Arrivals.{no_step, path, with_path, IsFrontier}
 use Rattle.tas_search.specs.Inside.Extremes.{beats, IsExtremeAt}
 use Rattle.tas_search.proofs.LayerLemmas.{Covers, Ascends, layer_covers, layer_ascends}
 use Rattle.tas_search.proofs.SoundLemmas.{IsRight, right_layer}
@@ -65,63 +65,63 @@ module _ (s : SpaceContent) where
 
 -- ---- the best sequence
 
--- where a machine that sequences of a front's length reach is among its arrivals
-found_at : (s : SpaceContent) (depth place : ℕ) (trail : List Step) (bs : List Arrival) (d : Arrival) (other : List ℕ) (m : Machine) → IsFront s depth place trail bs
+-- where a machine that sequences of a frontier's length reach is among its arrivals
+found_at : (s : SpaceContent) (depth place : ℕ) (parents : List Step) (bs : List Arrival) (d : Arrival) (other : List ℕ) (m : Machine) → IsFrontier s depth place parents bs
     → AreChoices s other → length other ≡ depth → reached s other ≡ Some m
-    → (k : ℕ) × (k < length bs) × ((get_or bs k d).state ≡ m) × (rank s (way trail depth (get_or bs k d).step) ≤ rank s other)
-found_at s depth place trail bs d other m front are same is =
+    → (k : ℕ) × (k < length bs) × ((get_or bs k d).state ≡ m) × (rank s (path parents depth (get_or bs k d).step) ≤ rank s other)
+found_at s depth place parents bs d other m frontier are same is =
     let covered : Covers s (layer_of s depth) m (rank s other) = subst (λ (n : ℕ). Covers s (layer_of s n) m (rank s other)) same (layer_covers s other m are is) in
-    let there = covered_at s (layer_of s depth) m (rank s other) (with_way trail depth d) covered in
-    let member = member_is s depth place trail bs there.0 d front in (
+    let there = covered_at s (layer_of s depth) m (rank s other) (with_path parents depth d) covered in
+    let member = member_is s depth place parents bs there.0 d frontier in (
       there.0,
-      omega (arith, there.1, layer_length s depth place trail bs front),
+      omega (arith, there.1, layer_length s depth place parents bs frontier),
       sym (ap (λ (r : Reached). r.machine) member) ∙ there.2,
       subst (λ (r : Reached). rank s r.sequence ≤ rank s other) member there.3,
     )
 
-pub extreme_found : (s : SpaceContent) (aim : Aim) (value : Machine → ℤ) (depth place : ℕ) (trail : List Step) (bs : List Arrival) (i : ℕ) (d : Arrival) → IsFront s depth place trail bs
-    → IsExtremeAt aim value bs i → IsExtreme s aim value depth (way trail depth (get_or bs i d).step)
-extreme_found s aim value depth place trail bs i d front h =
-    let size : length (layer_of s depth) ≡ length bs = layer_length s depth place trail bs front in
-    let right : IsRight s depth (with_way trail depth (get_or bs i d)) =
-    subst (IsRight s depth) (member_is s depth place trail bs i d front)
-    (right_at s (λ m. true) depth i (layer_of s depth) (with_way trail depth d) (right_layer s depth) (omega (arith, size, h.within))) in
+pub extreme_found : (s : SpaceContent) (aim : Aim) (value : Machine → ℤ) (depth place : ℕ) (parents : List Step) (bs : List Arrival) (i : ℕ) (d : Arrival) → IsFrontier s depth place parents bs
+    → IsExtremeAt aim value bs i → IsExtreme s aim value depth (path parents depth (get_or bs i d).step)
+extreme_found s aim value depth place parents bs i d frontier h =
+    let size : length (layer_of s depth) ≡ length bs = layer_length s depth place parents bs frontier in
+    let right : IsRight s depth (with_path parents depth (get_or bs i d)) =
+    subst (IsRight s depth) (member_is s depth place parents bs i d frontier)
+    (right_at s (λ m. true) depth i (layer_of s depth) (with_path parents depth d) (right_layer s depth) (omega (arith, size, h.within))) in
     record {
       choices = right.choices;
       count = right.count;
       machine = (get_or bs i d).state;
       reaches = right.machine;
       best = λ other m are same is.
-          let there = found_at s depth place trail bs d other m front are same is in
+          let there = found_at s depth place parents bs d other m frontier are same is in
           subst (λ (x : Machine). IsAsGood aim (value (get_or bs i d).state) (value x)) there.2
           (as_good aim (value (get_or bs i d).state) (value (get_or bs there.0 d).state) (h.best there.0 d there.1));
       first = λ other m are same is tie.
-          let there = found_at s depth place trail bs d other m front are same is in
+          let there = found_at s depth place parents bs d other m frontier are same is in
           elim (cases_lt there.0 i) [
             | inl before ↦ absurd (none_beats_itself aim (value (get_or bs i d).state) (value (get_or bs there.0 d).state) (sym tie ∙ ap value (sym there.2)) (h.first there.0 d before))
             | inr after ↦
-                let later : rank s (way trail depth (get_or bs i d).step) ≤ rank s (way trail depth (get_or bs there.0 d).step) =
-                subst (λ (r : Reached). rank s (way trail depth (get_or bs i d).step) ≤ rank s r.sequence) (member_is s depth place trail bs there.0 d front)
-                (subst (λ (r : Reached). rank s r.sequence ≤ rank s (get_or (layer_of s depth) there.0 (with_way trail depth d)).sequence) (member_is s depth place trail bs i d front)
-                (later_rank s (layer_of s depth) 0 i there.0 (with_way trail depth d) (layer_ascends s depth) (omega (arith, size, there.1)) after)) in
+                let later : rank s (path parents depth (get_or bs i d).step) ≤ rank s (path parents depth (get_or bs there.0 d).step) =
+                subst (λ (r : Reached). rank s (path parents depth (get_or bs i d).step) ≤ rank s r.sequence) (member_is s depth place parents bs there.0 d frontier)
+                (subst (λ (r : Reached). rank s r.sequence ≤ rank s (get_or (layer_of s depth) there.0 (with_path parents depth d)).sequence) (member_is s depth place parents bs i d frontier)
+                (later_rank s (layer_of s depth) 0 i there.0 (with_path parents depth d) (layer_ascends s depth) (omega (arith, size, there.1)) after)) in
                 omega (arith, later, there.3)
           ];
     }
 
--- no sequence of a front's length reaches a machine where the front has no arrival
-pub none_reached : (s : SpaceContent) (depth place : ℕ) (trail : List Step) (bs : List Arrival) → IsFront s depth place trail bs → length bs ≡ 0
+-- no sequence of a frontier's length reaches a machine where the frontier has no arrival
+pub none_reached : (s : SpaceContent) (depth place : ℕ) (parents : List Step) (bs : List Arrival) → IsFrontier s depth place parents bs → length bs ≡ 0
     → (ks : List ℕ) → AreChoices s ks → length ks ≡ depth → reached s ks ≡ None
-none_reached s depth place trail bs front empty ks are same = split (reached s ks) refl
+none_reached s depth place parents bs frontier empty ks are same = split (reached s ks) refl
   where
     split : (o : Option Machine) → reached s ks ≡ o → o ≡ None
     split None e = refl
     split (Some m) e =
-        let there = found_at s depth place trail bs (record { state = s.start; step = no_step }) ks m front are same e in
+        let there = found_at s depth place parents bs (record { state = s.start; step = no_step }) ks m frontier are same e in
         absurd (omega (arith, there.1))
 
 -- the answer, by what the code has at hand
-pub extreme_answer : (s : SpaceContent) (aim : Aim) (value : Machine → ℤ) (n depth place : ℕ) (trail : List Step) (bs : List Arrival) (i : ℕ) (d : Arrival) (last : Step) (ks : List ℕ)
-    → IsFront s depth place trail bs → IsExtremeAt aim value bs i → last ≡ (get_or bs i d).step → ks ≡ way trail depth last → depth ≡ n → IsExtreme s aim value n ks
-extreme_answer s aim value n depth place trail bs i d last ks front h at is same =
+pub extreme_answer : (s : SpaceContent) (aim : Aim) (value : Machine → ℤ) (n depth place : ℕ) (parents : List Step) (bs : List Arrival) (i : ℕ) (d : Arrival) (last : Step) (ks : List ℕ)
+    → IsFrontier s depth place parents bs → IsExtremeAt aim value bs i → last ≡ (get_or bs i d).step → ks ≡ path parents depth last → depth ≡ n → IsExtreme s aim value n ks
+extreme_answer s aim value n depth place parents bs i d last ks frontier h at is same =
     subst (λ (k : ℕ). IsExtreme s aim value k ks) same
-    (subst (IsExtreme s aim value depth) (sym (is ∙ ap (way trail depth) at)) (extreme_found s aim value depth place trail bs i d front h))
+    (subst (IsExtreme s aim value depth) (sym (is ∙ ap (path parents depth) at)) (extreme_found s aim value depth place parents bs i d frontier h))

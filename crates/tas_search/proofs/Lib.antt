@@ -1,4 +1,11 @@
 pub mod ExpressionLemmas
+pub mod GrammarLemmas
+pub mod OperandLemmas
+pub mod OneGoal
+pub mod TextLemmas
+pub mod NameLemmas
+pub mod ChangeLemmas
+pub mod MovieSearchLemmas
 pub mod HeldLemmas
 pub mod LayerLemmas
 pub mod OrderLemmas

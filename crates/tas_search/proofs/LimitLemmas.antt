@@ -8,7 +8,7 @@ use Rattle.tas_search.specs.declared.arrival.Step.{Step}
 use Rattle.tas_search.specs.Space.{SpaceContent, AreChoices, reached, rank}
 use Rattle.tas_search.specs.Best.{Passes, NeedsAtLeast, AllReach, IsApart, AreApart, ReachMoreThan, FitsBelow}
 use Rattle.tas_search.specs.Inside.Layers.{Reached, grown, root, layer_of}
-use Rattle.tas_search.specs.Inside.Arrivals.{IsFront}
+use Rattle.tas_search.specs.Inside.Arrivals.{IsFrontier}
 use Rattle.tas_search.proofs.LayerLemmas.{Covers, layer_covers, layers_more}
 use Rattle.tas_search.proofs.ReachLemmas.{layer_length}
 
@@ -146,9 +146,9 @@ module _ (s : SpaceContent) where
   needs_after goal d n e least = λ ks are meets.
       absurd (none_passes goal (reached s ks) (nothing_after d ks e are (least ks are meets)) meets)
 
--- ---- fronts
+-- ---- frontiers
 
--- a front within the limit
-pub front_fits : (s : SpaceContent) (depth place most : ℕ) (trail : List Step) (bs : List Arrival) → IsFront s depth place trail bs → length bs ≤ most → ReachMoreThan s depth most → ⊥
-front_fits s depth place most trail bs front le over =
-    layer_fits s depth most (omega (arith, layer_length s depth place trail bs front)) over
+-- a frontier within the limit
+pub frontier_fits : (s : SpaceContent) (depth place most : ℕ) (parents : List Step) (bs : List Arrival) → IsFrontier s depth place parents bs → length bs ≤ most → ReachMoreThan s depth most → ⊥
+frontier_fits s depth place most parents bs frontier le over =
+    layer_fits s depth most (omega (arith, layer_length s depth place parents bs frontier)) over

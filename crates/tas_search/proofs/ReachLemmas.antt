@@ -11,7 +11,7 @@ use Rattle.tas_search.specs.declared.arrival.Step.{Step}
 use Rattle.tas_search.specs.Space.{SpaceContent, reached, rank}
 use Rattle.tas_search.specs.Best.{Passes, NeedsAtLeast, IsShortest, AllReach, IsApart, AreApart, ReachMoreThan, FitsBelow}
 use Rattle.tas_search.specs.Inside.Layers.{Reached, grown_from, layer_of}
-use Rattle.tas_search.specs.Inside.Arrivals.{grown_arrivals, no_step, way, with_way, steps_of, IsFront, IsOver}
+use Rattle.tas_search.specs.Inside.Arrivals.{grown_arrivals, no_step, path, with_path, steps_of, IsFrontier, IsOver}
 use Rattle.tas_search.proofs.LayerLemmas.{Covers, Ascends, covers_from, layer_covers, layer_ascends}
 use Rattle.tas_search.proofs.SoundLemmas.{IsRight, AreRight, IsNew, AreDifferent, right_layer, right_grown, different_grown}
 use Rattle.tas_search.proofs.ArrivalLemmas.{grown_is}
@@ -70,24 +70,24 @@ module _ (s : SpaceContent) (test : Machine → Bool) where
 
 -- ---- the shortest sequence
 
--- a member of a front's layer, as the definitions have it
-pub member_is : (s : SpaceContent) (depth place : ℕ) (trail : List Step) (bs : List Arrival) (i : ℕ) (d : Arrival) → IsFront s depth place trail bs
-    → get_or (layer_of s depth) i (with_way trail depth d) ≡ with_way trail depth (get_or bs i d)
-member_is s depth place trail bs i d front =
-    ap (λ (rs : List Reached). get_or rs i (with_way trail depth d)) (sym front.layer) ∙ get_or-map (with_way trail depth) bs i d
+-- a member of a frontier's layer, as the definitions have it
+pub member_is : (s : SpaceContent) (depth place : ℕ) (parents : List Step) (bs : List Arrival) (i : ℕ) (d : Arrival) → IsFrontier s depth place parents bs
+    → get_or (layer_of s depth) i (with_path parents depth d) ≡ with_path parents depth (get_or bs i d)
+member_is s depth place parents bs i d frontier =
+    ap (λ (rs : List Reached). get_or rs i (with_path parents depth d)) (sym frontier.layer) ∙ get_or-map (with_path parents depth) bs i d
 
-pub layer_length : (s : SpaceContent) (depth place : ℕ) (trail : List Step) (bs : List Arrival) → IsFront s depth place trail bs → length (layer_of s depth) ≡ length bs
-layer_length s depth place trail bs front = ap length (sym front.layer) ∙ length-map bs (with_way trail depth)
+pub layer_length : (s : SpaceContent) (depth place : ℕ) (parents : List Step) (bs : List Arrival) → IsFrontier s depth place parents bs → length (layer_of s depth) ≡ length bs
+layer_length s depth place parents bs frontier = ap length (sym frontier.layer) ∙ length-map bs (with_path parents depth)
 
-pub shortest_found : (s : SpaceContent) (test : Machine → Bool) (depth place : ℕ) (trail : List Step) (bs : List Arrival) (i : ℕ) (d : Arrival) → IsFront s depth place trail bs
-    → NeedsAtLeast s test depth → position (λ a. test a.state) bs ≡ Some i → IsShortest s test (way trail depth (get_or bs i d).step) × (length (way trail depth (get_or bs i d).step) ≡ depth)
-shortest_found s test depth place trail bs i d front least found =
+pub shortest_found : (s : SpaceContent) (test : Machine → Bool) (depth place : ℕ) (parents : List Step) (bs : List Arrival) (i : ℕ) (d : Arrival) → IsFrontier s depth place parents bs
+    → NeedsAtLeast s test depth → position (λ a. test a.state) bs ≡ Some i → IsShortest s test (path parents depth (get_or bs i d).step) × (length (path parents depth (get_or bs i d).step) ≡ depth)
+shortest_found s test depth place parents bs i d frontier least found =
     let first = position-Some (λ a. test a.state) bs i d found in
-    let size : length (layer_of s depth) ≡ length bs = layer_length s depth place trail bs front in
-    let right : IsRight s depth (with_way trail depth (get_or bs i d)) =
-    subst (IsRight s depth) (member_is s depth place trail bs i d front) (right_at s test depth i (layer_of s depth) (with_way trail depth d) (right_layer s depth) (omega (arith, size, first.0))) in
-    let before : (k : ℕ) → k < i → test (get_or (layer_of s depth) k (with_way trail depth d)).machine ≡ false =
-    λ k l. ap (λ (r : Reached). test r.machine) (member_is s depth place trail bs k d front) ∙ first.2 k l in (
+    let size : length (layer_of s depth) ≡ length bs = layer_length s depth place parents bs frontier in
+    let right : IsRight s depth (with_path parents depth (get_or bs i d)) =
+    subst (IsRight s depth) (member_is s depth place parents bs i d frontier) (right_at s test depth i (layer_of s depth) (with_path parents depth d) (right_layer s depth) (omega (arith, size, first.0))) in
+    let before : (k : ℕ) → k < i → test (get_or (layer_of s depth) k (with_path parents depth d)).machine ≡ false =
+    λ k l. ap (λ (r : Reached). test r.machine) (member_is s depth place parents bs k d frontier) ∙ first.2 k l in (
       record {
         choices = right.choices;
         meets = some_passes test _ _ right.machine first.1;
@@ -96,26 +96,26 @@ shortest_found s test depth place trail bs i d front least found =
             let there = passes_some test (reached s other) meets in
             let covered : Covers s (layer_of s depth) there.0 (rank s other) =
             subst (λ (n : ℕ). Covers s (layer_of s n) there.0 (rank s other)) (same ∙ right.count) (layer_covers s other there.0 are there.1) in
-            subst (λ (r : Reached). rank s r.sequence ≤ rank s other) (member_is s depth place trail bs i d front)
-            (first_least s test (layer_of s depth) 0 i (with_way trail depth d) there.0 (rank s other) (layer_ascends s depth) (omega (arith, size, first.0)) before there.2 covered);
+            subst (λ (r : Reached). rank s r.sequence ≤ rank s other) (member_is s depth place parents bs i d frontier)
+            (first_least s test (layer_of s depth) 0 i (with_path parents depth d) there.0 (rank s other) (layer_ascends s depth) (omega (arith, size, first.0)) before there.2 covered);
       },
       right.count,
     )
 
-pub none_found : (s : SpaceContent) (test : Machine → Bool) (depth place : ℕ) (trail : List Step) (bs : List Arrival) → IsFront s depth place trail bs
+pub none_found : (s : SpaceContent) (test : Machine → Bool) (depth place : ℕ) (parents : List Step) (bs : List Arrival) → IsFrontier s depth place parents bs
     → NeedsAtLeast s test depth → position (λ a. test a.state) bs ≡ None → NeedsAtLeast s test (depth + 1)
-none_found s test depth place trail bs front least none = λ ks are meets.
+none_found s test depth place parents bs frontier least none = λ ks are meets.
     let le : depth ≤ length ks = least ks are meets in
     elim (cases_eq depth (length ks)) [
       | inl same ↦
           let there = passes_some test (reached s ks) meets in
           let d : Arrival = record { state = s.start; step = no_step } in
-          let size : length (layer_of s depth) ≡ length bs = layer_length s depth place trail bs front in
+          let size : length (layer_of s depth) ≡ length bs = layer_length s depth place parents bs frontier in
           let covered : Covers s (layer_of s depth) there.0 (rank s ks) =
           subst (λ (n : ℕ). Covers s (layer_of s n) there.0 (rank s ks)) (sym same) (layer_covers s ks there.0 are there.1) in
-          let fail : (k : ℕ) → k < length (layer_of s depth) → test (get_or (layer_of s depth) k (with_way trail depth d)).machine ≡ false =
-          λ k l. ap (λ (r : Reached). test r.machine) (member_is s depth place trail bs k d front) ∙ position_none (λ a. test a.state) bs k d none (omega (arith, size)) in
-          absurd (none_covered s test (layer_of s depth) (with_way trail depth d) there.0 (rank s ks) fail there.2 covered)
+          let fail : (k : ℕ) → k < length (layer_of s depth) → test (get_or (layer_of s depth) k (with_path parents depth d)).machine ≡ false =
+          λ k l. ap (λ (r : Reached). test r.machine) (member_is s depth place parents bs k d frontier) ∙ position_none (λ a. test a.state) bs k d none (omega (arith, size)) in
+          absurd (none_covered s test (layer_of s depth) (with_path parents depth d) there.0 (rank s ks) fail there.2 covered)
       | inr other ↦ omega arith
     ]
 
@@ -147,24 +147,24 @@ unfolding sequences_of
 are_apart s d [] h new = tt
 are_apart s d (r ∷ rs) h new = (is_apart s d r rs h.0 h.1 new.0, are_apart s d rs h.1 new.1)
 
-pub crowded : (s : SpaceContent) (depth place most : ℕ) (trail : List Step) (bs : List Arrival) → IsFront s depth place trail bs → IsOver s bs place most → ReachMoreThan s (depth + 1) most
+pub crowded : (s : SpaceContent) (depth place most : ℕ) (parents : List Step) (bs : List Arrival) → IsFrontier s depth place parents bs → IsOver s bs place most → ReachMoreThan s (depth + 1) most
 unfolding sequences_of
-crowded s depth place most trail bs front over =
+crowded s depth place most parents bs frontier over =
     let j = over.0 in
-    let steps : drop place trail ≡ steps_of (take j bs) ++ steps_of (drop j bs) =
-    front.steps ∙ ap steps_of (sym (take-append-drop j bs)) ∙ map-append (λ a. a.step) (take j bs) (drop j bs) in
-    let is : map (with_way trail (suc depth)) (grown_arrivals s [] place (take j bs)) ≡ grown_from s [] (map (with_way trail depth) (take j bs)) =
-    grown_is s trail depth (take j bs) [] place (steps_of (drop j bs)) steps in
-    let layer : AreRight s depth (map (with_way trail depth) (take j bs)) =
-    subst (AreRight s depth) (ap (take j) (sym front.layer) ∙ take-map (with_way trail depth) j bs) (right_take s depth j (layer_of s depth) (right_layer s depth)) in
-    let right : AreRight s (depth + 1) (grown_from s [] (map (with_way trail depth) (take j bs))) = right_grown s (map (with_way trail depth) (take j bs)) [] depth tt layer in
-    let apart : AreDifferent s (grown_from s [] (map (with_way trail depth) (take j bs))) = different_grown s (map (with_way trail depth) (take j bs)) [] tt in
-    let count : length (sequences_of (grown_from s [] (map (with_way trail depth) (take j bs)))) ≡ length (grown_arrivals s [] place (take j bs)) =
-    length-map (grown_from s [] (map (with_way trail depth) (take j bs))) (λ r. r.sequence) ∙ ap length (sym is) ∙ length-map (grown_arrivals s [] place (take j bs)) (with_way trail (suc depth)) in
+    let steps : drop place parents ≡ steps_of (take j bs) ++ steps_of (drop j bs) =
+    frontier.steps ∙ ap steps_of (sym (take-append-drop j bs)) ∙ map-append (λ a. a.step) (take j bs) (drop j bs) in
+    let is : map (with_path parents (suc depth)) (grown_arrivals s [] place (take j bs)) ≡ grown_from s [] (map (with_path parents depth) (take j bs)) =
+    grown_is s parents depth (take j bs) [] place (steps_of (drop j bs)) steps in
+    let layer : AreRight s depth (map (with_path parents depth) (take j bs)) =
+    subst (AreRight s depth) (ap (take j) (sym frontier.layer) ∙ take-map (with_path parents depth) j bs) (right_take s depth j (layer_of s depth) (right_layer s depth)) in
+    let right : AreRight s (depth + 1) (grown_from s [] (map (with_path parents depth) (take j bs))) = right_grown s (map (with_path parents depth) (take j bs)) [] depth tt layer in
+    let apart : AreDifferent s (grown_from s [] (map (with_path parents depth) (take j bs))) = different_grown s (map (with_path parents depth) (take j bs)) [] tt in
+    let count : length (sequences_of (grown_from s [] (map (with_path parents depth) (take j bs)))) ≡ length (grown_arrivals s [] place (take j bs)) =
+    length-map (grown_from s [] (map (with_path parents depth) (take j bs))) (λ r. r.sequence) ∙ ap length (sym is) ∙ length-map (grown_arrivals s [] place (take j bs)) (with_path parents (suc depth)) in
     record {
-      sequences = sequences_of (grown_from s [] (map (with_way trail depth) (take j bs)));
-      reach = all_reach s (depth + 1) (grown_from s [] (map (with_way trail depth) (take j bs))) right;
-      apart = are_apart s (depth + 1) (grown_from s [] (map (with_way trail depth) (take j bs))) right apart;
+      sequences = sequences_of (grown_from s [] (map (with_path parents depth) (take j bs)));
+      reach = all_reach s (depth + 1) (grown_from s [] (map (with_path parents depth) (take j bs))) right;
+      apart = are_apart s (depth + 1) (grown_from s [] (map (with_path parents depth) (take j bs))) right apart;
       more = omega (arith, count, over.1);
     }
 
@@ -184,11 +184,11 @@ start_fails s test fail (k ∷ ks) are meets = omega arith
 
 -- ---- the answers
 
-pub best_answer : (s : SpaceContent) (test : Machine → Bool) (most states depth place : ℕ) (trail : List Step) (bs : List Arrival) (i : ℕ) (d : Arrival) (last : Step) (ks : List ℕ)
-    → IsFront s depth place trail bs → NeedsAtLeast s test depth → position (λ a. test a.state) bs ≡ Some i → last ≡ (get_or bs i d).step → ks ≡ way trail depth last → depth ≤ most → FitsBelow s states (depth + 1)
+pub best_answer : (s : SpaceContent) (test : Machine → Bool) (most states depth place : ℕ) (parents : List Step) (bs : List Arrival) (i : ℕ) (d : Arrival) (last : Step) (ks : List ℕ)
+    → IsFrontier s depth place parents bs → NeedsAtLeast s test depth → position (λ a. test a.state) bs ≡ Some i → last ≡ (get_or bs i d).step → ks ≡ path parents depth last → depth ≤ most → FitsBelow s states (depth + 1)
     → IsShortest s test ks × (length ks ≤ most) × FitsBelow s states (length ks + 1)
-best_answer s test most states depth place trail bs i d last ks front least found at is le fits =
-    let same : ks ≡ way trail depth (get_or bs i d).step = is ∙ ap (way trail depth) at in
-    let both = shortest_found s test depth place trail bs i d front least found in
+best_answer s test most states depth place parents bs i d last ks frontier least found at is le fits =
+    let same : ks ≡ path parents depth (get_or bs i d).step = is ∙ ap (path parents depth) at in
+    let both = shortest_found s test depth place parents bs i d frontier least found in
     let count : length ks ≡ depth = ap length same ∙ both.1 in
     (subst (IsShortest s test) (sym same) both.0, omega (arith, count), subst (λ (n : ℕ). FitsBelow s states (n + 1)) (sym count) fits)

@@ -2,3 +2,6 @@
 pub mod Layers
 pub mod Arrivals
 pub mod Extremes
+pub mod Operands
+pub mod Lines
+pub mod FoundChanges

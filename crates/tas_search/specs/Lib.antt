@@ -1,6 +1,15 @@
 pub mod Space
 pub mod Goal
 pub mod Expression
+pub mod Grammar
+pub mod Words
+pub mod GoalText
+pub mod NamesFile
+pub mod ChoicesFile
+pub mod StickChoices
+pub mod GoalAnswer
+pub mod AnswerChanges
+pub mod MovieSearch
 pub mod Best
 pub mod Extreme
 pub mod Inside

@@ -5,11 +5,11 @@ ghost use Rattle.std.specs.Prelude.{◌≡◌};
 use std::hash::{Hash, Hasher};
 use vcs_machine::State;
 
-/// One step of a path, a parent pointer: the place in the trail of the step before it, and the number of the choice
+/// One step of a path, a parent link: the place among the links of the step before it, and the number of the choice
 /// that was made.
 #[derive(Clone, Copy, Debug)]
 pub(crate) struct Step {
-    /// The place in the trail of the step before it.
+    /// The place of the step before it.
     pub parent: usize,
     /// The number of the choice that was made.
     pub choice: usize,
@@ -33,6 +33,8 @@ impl PartialEq for Arrival {
     ghost laws = { on_per (λ a. a.state) (partial_equiv_from_equiv machines_equivalence) };
 
     /// Whether the states are equal.
+    // States are merged only where they are equal in all their parts.
+    // Refused: arrivals_of_equal_ram_are_merged, arrivals_of_one_hash_are_merged.
     fn eq(&self, other: &Arrival) -> bool {
         self.state == other.state
     }

@@ -1,4 +1,8 @@
 //! Expressions over RAM.
+//!
+//! Values have 64 bits, and an expression whose weight, an upper bound of its values, is 2 to the power of 63 or more
+//! is refused beforehand: some that never overflow are, too, and none overflows during a search. Every number but 0
+//! counts as true, and a comparison is 1 or 0: so the sum of some conditions is an expression, too.
 
 ghost use Rattle.std.specs.Prelude.{◌≡◌, ◌^◌, ◌<◌, ◌≤◌, unsigned_abs, FitsSigned, MatchOption};
 ghost use mir.Syntax.{w64};
@@ -126,6 +130,9 @@ impl Expression {
     /// overflows; a [`Formula`](crate::Formula) has such a weight.
     pub fn value(&self, ram: &[u8; 128]) -> i64
         requires { weight self.now < 2 ^ 63 }
+        // What an expression makes of RAM is its meaning, a whole number without a limit, where its weight is below 2
+        // to the power of 63. A formula is an expression of such a weight, and there is none of any other.
+        // Refused: bcd_has_sixteen_to_a_digit, at_most_is_less, pair_has_its_high_byte_first.
         ensures value { result ≡ value_of self.now ram.now }
         ensures below { unsigned_abs result < weight self.now }
     {
@@ -150,6 +157,8 @@ impl Expression {
     /// it makes, whatever is in RAM. `None` where it is 2 to the power of 63 or more. That of a product is the product
     /// of the operands' weights, that of any other operator their sum, also of a comparison.
     pub fn weight(&self) -> Option<u64>
+        // The weight of an expression is the definition's, or at least 2 to the power of 63 where there is none.
+        // Refused: weight_of_a_product_is_a_sum.
         ensures { MatchOption result (2 ^ 63 ≤ weight self.now)
             (λ n. (n ≡ weight self.now) × (n < 2 ^ 63)) }
     {

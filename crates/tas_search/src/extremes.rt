@@ -6,11 +6,11 @@ ghost use Rattle.tas_search.specs.Goal.{value_in};
 ghost use Rattle.tas_search.specs.Inside.Extremes.{IsExtremeAt, beats};
 
 use crate::arrival::Arrival;
-use crate::front::{advance, first_front};
+use crate::frontier::{advance, first_frontier};
 use crate::measure::{Measure, value_in};
+use crate::parents::path;
 use crate::searching::Found;
 use crate::space::Space;
-use crate::trail::way;
 use std::alloc::{AllocError, Allocator};
 
 /// Which value is the best one.
@@ -63,23 +63,28 @@ pub fn find_extreme<M: Measure, A: Allocator + Copy, C: Allocator>(
     count: usize,
     states: usize,
 ) -> Result<Found<A>, AllocError>
+    // A search for the greatest or the least value returns the sequence of exactly `count` choices whose machine has
+    // the best value, and of those with that value the first. `Nothing`: each sequence of as many choices halts before
+    // its end. `Stopped`: the least number of choices, `count` at most, whose sequences reach more than `states`
+    // different machines; the other two come only where there is no such number.
+    // Refused: later_of_equal_values_wins, last_of_equally_low_values_wins.
     ensures { IfOk result
         (IsExtremeAnswer space.now aim (value_in (M.value measure.now)) count states) }
 {
-    let mut front = first_front(alloc, space)?;
+    let mut frontier = first_frontier(alloc, space)?;
     for depth in 0..count {
-        if !advance(alloc, space, &mut front, states)? {
+        if !advance(alloc, space, &mut frontier, states)? {
             return Ok(Found::Stopped(depth + 1));
         }
-        if front.layer.is_empty() {
+        if frontier.layer.is_empty() {
             return Ok(Found::Nothing);
         }
     }
-    match best_place(aim, measure, front.layer.as_slice()) {
+    match best_place(aim, measure, frontier.layer.as_slice()) {
         None => Ok(Found::Nothing),
         Some(i) => {
-            let last = front.layer.as_slice()[i].step;
-            let choices = way(alloc, &front.trail, front.depth, last)?;
+            let last = frontier.layer.as_slice()[i].step;
+            let choices = path(alloc, &frontier.parents, frontier.depth, last)?;
             Ok(Found::Best(choices))
         }
     }

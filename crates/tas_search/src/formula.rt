@@ -31,6 +31,7 @@ impl Formula {
     /// The expression as a formula; `None` where its weight, an upper bound of all its values, is 2 to the power of 63
     /// or more. See [`Expression::weight`].
     pub fn new(expression: Expression) -> Option<Self>
+        // Refused: formula_of_a_number_is_refused.
         ensures { MatchOption result (2 ^ 63 ≤ weight expression)
             (λ formula. formula ≡ expression) }
     {

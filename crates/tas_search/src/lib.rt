@@ -2,23 +2,41 @@
 #![tactic(auto)]
 
 mod arrival;
+mod changes;
+mod choices;
 mod expression;
 mod extremes;
 mod formula;
-mod front;
+mod frontier;
+mod goal;
+mod goal_search;
 mod growing;
 mod laws;
 mod measure;
+mod movie_search;
+mod name;
+mod names;
+mod operands;
+mod parents;
+mod reading_words;
 mod searching;
 mod space;
 mod starting;
-mod trail;
+mod word;
 
+pub use changes::changes_write_the_sequence;
+pub use choices::{ChoicesError, ChoicesFaultKind, read_choices, stick_choices};
 pub use expression::{Expression, Operator};
 pub use extremes::{Aim, find_extreme};
 pub use formula::Formula;
-pub use laws::first_difference_decides;
+pub use goal::{Goal, GoalFault, GoalKind, read_goal};
+pub use goal_search::find_goal;
+pub use laws::{first_difference_decides, one_goal_per_text, one_value_per_tree};
 pub use measure::Measure;
+pub use movie_search::{SearchFault, SearchRange, search_movie};
+pub use name::Name;
+pub use names::{NamesError, NamesFaultKind, read_names};
 pub use searching::{Found, find_shortest};
 pub use space::Space;
 pub use starting::state_at;
+pub use word::Wanted;

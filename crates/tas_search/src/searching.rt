@@ -6,10 +6,10 @@ ghost use Rattle.tas_search.specs.Best.{IsReachAnswer};
 ghost use Rattle.tas_search.specs.Goal.{holds_of};
 
 use crate::arrival::Arrival;
-use crate::front::{advance, first_front};
+use crate::frontier::{advance, first_frontier};
 use crate::measure::{Measure, holds};
+use crate::parents::path;
 use crate::space::Space;
-use crate::trail::way;
 use std::alloc::{AllocError, Allocator, Global};
 
 /// What a search found. [`find_shortest`] and [`find_extreme`](crate::find_extreme) say what each means for them.
@@ -42,22 +42,30 @@ pub fn find_shortest<M: Measure, A: Allocator + Copy, C: Allocator>(
     most: usize,
     states: usize,
 ) -> Result<Found<A>, AllocError>
+    // A search for the shortest sequence ends with one of three answers. The sequence that it returns is of the space
+    // and of at most `most` choices; the machine after it meets the goal; no sequence of fewer choices meets it, and of
+    // those with as many that do it is the first in the order of the choices. `Nothing`: no sequence of at most `most`
+    // choices meets it. `Stopped`: none of fewer choices than it says meets it, and this is the least number of choices
+    // whose sequences reach more than `states` different machines. So the other two come only where no number of
+    // choices up to the answer's, or up to `most`, reaches more.
+    // Refused: goal_is_not_looked_at_before_the_first_choice, stop_is_reported_as_none, stop_names_the_layer_before,
+    // layer_over_the_limit_is_kept, search_ends_one_choice_early.
     ensures { IfOk result (IsReachAnswer space.now (holds_of (M.value goal.now)) most states) }
 {
     if holds(goal, &space.start()) {
         return Ok(Found::Best(Vec::new(alloc)));
     }
-    let mut front = first_front(alloc, space)?;
+    let mut frontier = first_frontier(alloc, space)?;
     for depth in 0..most {
-        if !advance(alloc, space, &mut front, states)? {
+        if !advance(alloc, space, &mut frontier, states)? {
             return Ok(Found::Stopped(depth + 1));
         }
-        if let Some(i) = first_meeting(goal, front.layer.as_slice()) {
-            let last = front.layer.as_slice()[i].step;
-            let choices = way(alloc, &front.trail, front.depth, last)?;
+        if let Some(i) = first_meeting(goal, frontier.layer.as_slice()) {
+            let last = frontier.layer.as_slice()[i].step;
+            let choices = path(alloc, &frontier.parents, frontier.depth, last)?;
             return Ok(Found::Best(choices));
         }
-        if front.layer.is_empty() {
+        if frontier.layer.is_empty() {
             return Ok(Found::Nothing);
         }
     }

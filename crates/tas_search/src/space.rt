@@ -1,4 +1,10 @@
 //! A space of sequences of choices.
+//!
+//! A sequence is a list of numbers of choices, and its place among those of its length is the number with these digits:
+//! so 'the first' is a comparison of two numbers, also where two choices are the same input. By a law it is the order
+//! of a dictionary (`first_difference_decides`). A goal is looked at after each choice, every `hold` frames, and at the
+//! start; so a layer is what sequences of one length reach. A sequence ends where the machine halts: with its last
+//! choice it may meet the goal, before that it has no value.
 
 ghost use Rattle.std.specs.Prelude.{◌≡◌, ℕ, length, replicate, slice_index_or, true};
 ghost use Rattle.vcs_inputs.specs.declared.input.Input.{Input};
@@ -38,6 +44,8 @@ impl<'a, C: Allocator> Space<'a, C> {
     /// The sequences of these choices from a state on, each choice held for `hold` frames. Where `hold` is 0 every
     /// sequence leads to the start; where there are no choices there is the empty sequence alone.
     pub fn new(cart: &'a Cart<C>, start: State, choices: &'a [Input], hold: usize) -> Self
+        // A space has the cartridge, the start, the choices and the frames for each that it was made of.
+        // Refused: choices_are_held_one_frame_longer.
         ensures { result ≡ record {
           cart = cart.now;
           start = start;
@@ -55,6 +63,7 @@ impl<'a, C: Allocator> Space<'a, C> {
 
     /// How many choices there are.
     pub fn choice_count(&self) -> usize
+        // Refused: one_choice_is_not_counted.
         ensures { result ≡ length self.now.choices }
     {
         self.choices.len()
@@ -62,13 +71,23 @@ impl<'a, C: Allocator> Space<'a, C> {
 
     /// The state that the search starts from.
     pub fn start(&self) -> State
+        // Refused: space_starts_at_power_on.
         ensures { result ≡ self.now.start }
     {
         self.start
     }
 
+    /// For how many frames a choice is held.
+    pub fn hold(&self) -> usize
+        // Refused: none, what a search plays by it is refused at `Space::after_choice`.
+        ensures { result ≡ self.now.hold }
+    {
+        self.hold
+    }
+
     /// The input of choice number `k`; nothing is pressed where there is no such choice.
-    fn choice(&self, k: usize) -> Input
+    pub fn choice(&self, k: usize) -> Input
+        // Refused: none, what a search plays by it is refused at `Space::after_choice`.
         ensures { result ≡ slice_index_or self.now.choices k no_input }
     {
         self.choices.get(k).copied().unwrap_or(Input::none())
@@ -77,6 +96,9 @@ impl<'a, C: Allocator> Space<'a, C> {
     /// The state after choice number `k` was held, and whether all its frames were lag frames: then every choice leads
     /// to this state. A halted machine's frames are lag frames.
     pub(crate) fn after_choice_noted(&self, state: &State, k: usize) -> (State, bool)
+        // It is noted whether all frames of a choice were lag frames; where they were, every choice leads to the same
+        // state.
+        // Refused: frames_after_the_first_are_taken_for_lag, no_frames_are_noted_as_lag.
         ensures state { result.0 ≡ after_choice self.now state.now k }
         ensures lag { result.1 ≡ are_lag_frames self.now.cart state.now
             (slice_index_or self.now.choices k no_input) self.now.hold }
@@ -89,6 +111,8 @@ impl<'a, C: Allocator> Space<'a, C> {
 
     /// The state after choice number `k` was held.
     pub fn after_choice(&self, state: &State, k: usize) -> State
+        // A choice is held for as many frames as the space says.
+        // Refused: choice_is_held_for_one_frame.
         ensures { result ≡ after_choice self.now state.now k }
     {
         let input = self.choice(k);

@@ -9,6 +9,8 @@ use vcs_machine::{Meter, State, play_unseen};
 
 /// The state after a movie's first `from` frames, from power-on, or after all of them where it has fewer.
 pub fn state_at<A: Allocator>(movie: &Movie<A>, from: usize) -> State
+    // A search of a movie starts from the machine after its first frames.
+    // Refused: search_starts_one_frame_early.
     ensures { result ≡ after movie.now.cart (take from movie.now.inputs) }
 {
     let inputs = movie.inputs();

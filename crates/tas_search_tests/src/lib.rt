@@ -6,6 +6,10 @@ mod checks;
 #[cfg(test)]
 mod expression_tests;
 #[cfg(test)]
+mod goal_search_tests;
+#[cfg(test)]
+mod goal_text_tests;
+#[cfg(test)]
 mod goals;
 #[cfg(test)]
 mod plain;

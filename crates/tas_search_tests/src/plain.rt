@@ -3,6 +3,7 @@
 use crate::checks::expect_ok;
 use std::alloc::Global;
 use std::process::Abort;
+use tas_search::Aim;
 use vcs_machine::{Cart, Input, Meter, State, play_unseen};
 
 /// How many sequences of three choices there are of each length.
@@ -60,20 +61,29 @@ pub fn shortest<R: Abort>(
     None
 }
 
-/// The first of the sequences of five choices after which the byte at 80 is greatest.
-pub fn greatest<R: Abort>(
+/// The first of the sequences of five choices after which the byte at 80 is greatest, or least.
+pub fn extreme<R: Abort>(
     rt: &R,
     alloc: Global,
     cart: &Cart,
     inputs: &[Input; 3],
+    hold: usize,
+    aim: Aim,
 ) -> Option<Vec<usize>> {
     let mut best = None;
-    let mut value = None;
+    let mut value: Option<u8> = None;
     for k in 0..243 {
         let choices = sequence(rt, alloc, k, 5);
-        let other = counter_after(cart, inputs, 1, &choices);
-        if other > value {
-            value = other;
+        let Some(other) = counter_after(cart, inputs, hold, &choices) else {
+            continue;
+        };
+        let is_better = match (value, aim) {
+            (None, _) => true,
+            (Some(known), Aim::Most) => other > known,
+            (Some(known), Aim::Least) => other < known,
+        };
+        if is_better {
+            value = Some(other);
             best = Some(choices);
         }
     }

@@ -2,7 +2,7 @@
 
 use crate::checks::{check_same, check_that, expect_ok};
 use crate::goals::{COUNTER, HIDDEN, TRAP, cart_of, counter, counter_is, three_choices};
-use crate::plain::{greatest, shortest};
+use crate::plain::{extreme, shortest};
 use std::alloc::Global;
 use std::process::Abort;
 use tas_movie::{Edit, Inputs, Movie, apply, check};
@@ -67,7 +67,7 @@ fn the_greatest_is_that_of_the_plain_search(rt: HostRuntime) {
         check_that(
             &rt,
             program.len(),
-            is_same(&found, &greatest(&rt, alloc, &cart, &inputs)),
+            is_same(&found, &extreme(&rt, alloc, &cart, &inputs, 1, Aim::Most)),
         );
     }
 }
@@ -236,4 +236,56 @@ fn an_empty_layer_ends_a_search(rt: HostRuntime) {
             check_that(&rt, count, matches!(found, Found::Nothing));
         }
     }
+}
+
+/// The eight bytes of the next number of a linear congruential generator.
+fn next_bytes(seed: &mut u64) -> [u8; 8] {
+    *seed = seed
+        .wrapping_mul(6_364_136_223_846_793_005)
+        .wrapping_add(1_442_695_040_888_963_407);
+    seed.to_le_bytes()
+}
+
+/// The counter's program, with two bytes changed.
+fn changed_program<R: Abort>(rt: &R, alloc: Global, seed: &mut u64) -> Vec<u8> {
+    let mut program = expect_ok(rt, Vec::from_slice(alloc, COUNTER));
+    for _ in 0..2 {
+        let bytes = next_bytes(seed);
+        if let Some(byte) = program.get_mut(usize::from(bytes[7] % 32)) {
+            *byte = bytes[6];
+        }
+    }
+    program
+}
+
+#[test]
+fn changed_programs(rt: HostRuntime) {
+    let alloc = rt.alloc();
+    let inputs = three_choices();
+    let mut seed = 1u64;
+    let mut chosen = 0u32;
+    for case in 0..4u32 {
+        let program = changed_program(&rt, alloc, &mut seed);
+        let cart = cart_of(&rt, alloc, program.as_slice());
+        let hold = 1 + (case % 2) as usize;
+        let space = Space::new(&cart, State::power_on(&cart), &inputs, hold);
+        let number = next_bytes(&mut seed)[5] % 4;
+        let goal = counter_is(&rt, alloc, u32::from(number));
+        let found = expect_ok(&rt, find_shortest(alloc, &space, &goal, 5, 1_000));
+        let wanted = shortest(&rt, alloc, &cart, &inputs, hold, number);
+        check_that(&rt, case, is_same(&found, &wanted));
+        for aim in [Aim::Most, Aim::Least] {
+            let best = expect_ok(
+                &rt,
+                find_extreme(alloc, &space, aim, &counter(&rt), 5, 1_000),
+            );
+            let wanted = extreme(&rt, alloc, &cart, &inputs, hold, aim);
+            check_that(&rt, case, is_same(&best, &wanted));
+            if choices_of(&best).is_some_and(|choices| choices.iter().any(|k| *k > 0)) {
+                chosen = chosen.saturating_add(1);
+            }
+        }
+    }
+    // Not every answer is that of programs which make nothing of their choices.
+    check_that(&rt, chosen, chosen >= 1);
 }

@@ -32,7 +32,7 @@ pub record BeganAs (draft next : DraftContent) : Type 0 where
   pub base : next.base ≡ draft.base
 
 began_as_in : (draft next : DraftContent) (request : Request) (answer : List ℕ) → IsAnsweredInDraft draft request answer next → BeganAs draft next
-began_as_in draft next request answer (state, told, after) = record { at = after.at; base = after.base }
+began_as_in draft next request answer is = record { at = is.after.at; base = is.after.base }
 
 began_as_pictures : (draft last : DraftContent) (from : ℕ) (strip : List DraftPicture) → AreDraftPictures draft from strip last → BeganAs draft last
 unfolding AreDraftPictures
@@ -93,7 +93,7 @@ tied_still seat now draft more tied = tied_later seat now draft draft more (reco
 tied_outside : (A : Type 0) (before : SeatContent A) (now : TalkingSeat A) (request : Request) (answer : List ℕ) (edits : List (Edit A)) → IsAnsweredOutside A before now request answer edits → IsTied now.seat now.draft
 tied_outside A before now Begin answer edits (is, none) = go is.answered.no_memory is.answered.draft_is
   where
-    go : (no_memory : Bool) → now.draft ≡ begun_draft no_memory (talk_state_at now.seat.front now.seat.zone) → IsTied now.seat now.draft
+    go : (no_memory : Bool) → now.draft ≡ begun_draft no_memory (talk_state_at now.seat.front now.seat.zone) is.answered.near → IsTied now.seat now.draft
     go true is = tied_as now.seat None now.draft is tt
     go false is = tied_as now.seat _ now.draft is (record { began = now.seat.front; begins = ([], append-nil now.seat.front); long = refl; base = refl })
 tied_outside A before now Commit answer edits is = tied_as now.seat None now.draft is.1 tt

@@ -15,7 +15,7 @@ use Rattle.tas_session.specs.declared.replies.Receipt.{Receipt}
 use Rattle.tas_published.specs.History.{most_edits, movie_of, entries_of}
 use Rattle.tas_session.specs.Session.{error_at}
 use Rattle.tas_desk.specs.Seats.{SeatContent, HasSeen, KeepsZone, seat_of}
-use Rattle.tas_desk.specs.Zones.{IsShared}
+use Rattle.tas_desk.specs.Zones.{IsShared, view_in}
 use Rattle.tas_engines.specs.declared.fault.RunFault.{RunFault}
 use Rattle.tas_engines.specs.declared.fault.RunFault.TheVariants.{Memory, Foreign}
 use Rattle.tas_language.specs.declared.reply.Reply.{Reply}
@@ -33,6 +33,8 @@ use Rattle.tas_session.specs.declared.replies.CommitError.TheVariants.{Moved, Re
 use Rattle.tas_seat.specs.Turns.{standing_of, refusal_reply}
 use Rattle.tas_seat.specs.Requests.{GainsUnless}
 use Rattle.tas_seat.specs.Seats.{entries_from, talk_state_at, IsSeatAfter, KeepsWindow}
+use Rattle.tas_green.specs.View.{view_of}
+use Rattle.tas_green.specs.Window.{AreMovieStates}
 use Rattle.tas_seat.specs.Drafts.{DraftContent, fresh_draft, IsStroke, LeadsTo, HasStroke}
 use Rattle.tas_seat.specs.Conversations.{TalkingSeat, talking, text_of, uncommitted_answer, commit_answer, committed_edits, draft_after_commit}
 use Rattle.tas_seat.specs.Inside.Conversing.{HasMoved, HasNoOutcome}
@@ -68,9 +70,18 @@ begin_refused A before now None is seen gains window = (
   [],
   (
     record {
-      answered = record { no_memory = true; answer_is = refl; stands = refl; gains = gains; draft_is = refl };
+      answered = record {
+        no_memory = true;
+        answer_is = refl;
+        stands = refl;
+        gains = gains;
+        near = [];
+        window = record { rising = tt; within = λ f s e. absurd (cc e); each = λ f s e. absurd (cc e) };
+        draft_is = refl;
+      };
       seat = looked_at before now seen;
       zone = window;
+      window = tt;
     },
     refl,
   ),
@@ -84,7 +95,7 @@ pub begin_unopened : (A : Type 0) (before now : SeatContent A) (draft : Option D
 begin_unopened A before now draft gained is seen shared = begin_refused A before now draft is seen (shared_still before now gained shared) (inr shared.cut)
 
 pub begin_opened : (A : Type 0) (before now : SeatContent A) (draft : Option DraftContent) (opened : DraftContent) (at len gained : ℕ) → is_some draft ≡ false → HasSeen before now → at ≡ length now.front → IsShared before.zone now.zone now.front gained
-    → opened ≡ fresh_draft at now.zone.movie now.zone.states → len ≡ length now.zone.movie.inputs → HasTalkAnswer A (talking before draft) (talking now (Some opened)) Begin (draft_reply_text (Began at len))
+    → opened ≡ fresh_draft at (view_in now.zone) → len ≡ length now.zone.movie.inputs → HasTalkAnswer A (talking before draft) (talking now (Some opened)) Begin (draft_reply_text (Began at len))
 begin_opened A before now (Some draft) opened at len gained is seen here shared fresh long = absurd (false≢true (sym is))
 begin_opened A before now None opened at len gained is seen here shared fresh long = (
   [],
@@ -95,11 +106,14 @@ begin_opened A before now None opened at len gained is seen here shared fresh lo
         answer_is = ap (λ (n : ℕ). draft_reply_text (Began n len)) here ∙ ap (λ (n : ℕ). draft_reply_text (Began (length now.front) n)) (long ∙ ap (λ (m : MovieContent). length m.inputs) shared.made.movie);
         stands = refl;
         gains = record { green = record { kept_for = shared.made.movie; lawful = shared.made.lawful }; other = shared.other; others = shared.others; gained = gained; gain = shared.gain };
+        near = now.zone.window;
+        window = subst (λ (m : MovieContent). AreMovieStates m now.zone.window) shared.made.movie shared.made.near;
         draft_is = ap (λ (d : DraftContent). Some d)
-            (fresh ∙ ap (λ (n : ℕ). fresh_draft n now.zone.movie now.zone.states) here ∙ ap (λ (m : MovieContent). fresh_draft (length now.front) m now.zone.states) shared.made.movie);
+            (fresh ∙ ap (λ (n : ℕ). fresh_draft n (view_in now.zone)) here ∙ ap (λ (m : MovieContent). fresh_draft (length now.front) (view_of m now.zone.states now.zone.window)) shared.made.movie);
       };
       seat = looked_at before now seen;
       zone = inr shared.cut;
+      window = ap (λ (d : DraftContent). d.near) fresh;
     },
     refl,
   ),

@@ -1,6 +1,6 @@
 -- Changes of drafts, and lines of a script at drafts.
-use Rattle.std.proofs.Common.{◌≡◌, ℕ, ◌+◌, ◌≤◌, List, [], ◌∷◌, length, min, filter, Bool, true, false, Option, Some, None, inl, inr, refl, sym, ap, subst, ◌∙◌, arith}
-use Rattle.std.specs.Prelude.{◌==◌, ◌⊎◌, if◌then◌else◌, slice_get}
+use Rattle.std.proofs.Common.{◌≡◌, ℕ, ◌+◌, ◌≤◌, List, [], ◌∷◌, length, min, filter, Bool, true, false, Option, Some, None, Result, Ok, inl, inr, refl, sym, ap, subst, ◌∙◌, arith}
+use Rattle.std.specs.Prelude.{◌==◌, ◌⊎◌, nat_le, if◌then◌else◌, slice_get, OnOk}
 use Rattle.std.proofs.lemmas.Bool.{eq-eqb, eqb-true}
 use Rattle.std.proofs.lemmas.Option.{slice_get_past}
 use Rattle.vcs_inputs.specs.declared.input.Input.{Input}
@@ -11,6 +11,7 @@ use Rattle.tas_movie.specs.declared.edit.EditRefusal.TheVariants.{Place, Long}
 use Rattle.tas_movie.specs.Edit.{edited, edited_unless, edited_place, refusal}
 use Rattle.tas_green.specs.declared.savestate.Savestate.{Savestate}
 use Rattle.tas_green.specs.Green.{is_left, IsReachedFrom}
+use Rattle.tas_green.specs.View.{ViewContent, view_of}
 use Rattle.tas_published.specs.History.{most_edits}
 use Rattle.tas_session.specs.Session.{left_by}
 use Rattle.tas_engines.specs.Changes.{edit_of, BringsCopies}
@@ -28,13 +29,13 @@ use Rattle.tas_seat.specs.declared.edit_requests.EditRequest.{EditRequest}
 use Rattle.tas_seat.specs.declared.edit_requests.EditRequest.TheVariants.{Load, Change, Retouch}
 use Rattle.tas_seat.specs.Turns.{Standing, refused_reply, refusal_reply, edit_reply, standing_unless, input_reply}
 use Rattle.tas_seat.specs.Requests.{Gains}
-use Rattle.tas_seat.specs.Drafts.{DraftContent, draft_standing, draft_state, left_by_edits, IsDraftEdit}
+use Rattle.tas_seat.specs.Drafts.{DraftContent, draft_of, draft_standing, draft_state, left_by_edits, near_left_by_edits, IsDraftEdit}
 use Rattle.tas_seat.specs.Inside.EditRequests.{requested_refusal, requested_edit, TakesMemory}
 use Rattle.tas_seat.specs.Outcomes.{IsTurnOf}
 use Rattle.tas_seat.specs.Inside.Drafting.{with_states, draft_after, KeepsCart, IsDraftChanged, IsDraftReply}
 use Rattle.tas_seat.proofs.SeatLemmas.{made_none, made_all}
 use Rattle.tas_seat.proofs.EditLemmas.{unforeseen, turn_refused, turn_without_memory, turn_made, asked_edited}
-use Rattle.tas_seat.proofs.DraftLemmas.{looked, rests, same_states, state_with}
+use Rattle.tas_seat.proofs.DraftLemmas.{glanced, rests, same_window, state_with}
 
 -- ---- the same edit on any allocator
 
@@ -73,6 +74,22 @@ asked_cart A asked movie edit keeps is =
 
 -- ---- changes
 
+-- an edit of a draft's view makes the draft after it
+pub made_in : {A X E : Type 0} (at made : ℕ) (base : MovieContent) (old new : ViewContent) (edit : Edit A) (r : Result X E) (x : X) → r ≡ Ok x → new.movie ≡ edited old.movie edit
+    → OnOk r (new.states ≡ filter (is_left (edited_place edit) (length new.movie.inputs)) old.states)
+    → OnOk r (new.near ≡ filter (λ (kept : Savestate). nat_le kept.frame (min (edited_place edit) (length new.movie.inputs))) old.near)
+    → draft_of at base (made + 1) new ≡ draft_after (draft_of at base made old) edit
+made_in {A} {X} {E} at made base old new edit r x is movie states near =
+    ap (λ (s : List Savestate). draft_of at base (made + 1) (view_of new.movie s new.near)) (subst (λ (a : Result X E). OnOk a (new.states ≡ left new.movie)) is states)
+    ∙ ap (λ (s : List Savestate). draft_of at base (made + 1) (view_of new.movie (left new.movie) s)) (subst (λ (a : Result X E). OnOk a (new.near ≡ close new.movie)) is near)
+    ∙ ap (λ (m : MovieContent). draft_of at base (made + 1) (view_of m (left m) (close m))) movie
+  where
+    left : MovieContent → List Savestate
+    left m = filter (is_left (edited_place edit) (length m.inputs)) old.states
+
+    close : MovieContent → List Savestate
+    close m = filter (λ (kept : Savestate). nat_le kept.frame (min (edited_place edit) (length m.inputs))) old.near
+
 -- nothing was changed
 unchanged : (before : DraftContent) (asked : EditRequest) (reply : Reply)
     → IsTurnOf (draft_standing before) (requested_refusal asked before.movie) (requested_edit (Unit {0}) asked before.movie) reply (draft_standing before) → (reply ≡ OutOfMemory → TakesMemory asked)
@@ -83,6 +100,7 @@ unchanged before asked reply turn memory = record {
   at = refl;
   base = refl;
   states = ap (λ (l : List (Edit (Unit {0}))). left_by_edits before.movie l before.states) (made_none (draft_standing before) (draft_standing before) (requested_edit (Unit {0}) asked before.movie ∷ []) refl);
+  near = ap (λ (l : List (Edit (Unit {0}))). near_left_by_edits before.movie l before.near) (made_none (draft_standing before) (draft_standing before) (requested_edit (Unit {0}) asked before.movie ∷ []) refl);
 }
 
 refused_as_full : (made : ℕ) (refused : Option EditRefusal) → made ≡ most_edits → refused_reply made refused ≡ Some (Full made)
@@ -142,6 +160,9 @@ change_made A before now asked edit at len is room free edit_is made long =
     let size : len ≡ length (edited movie content).inputs = long ∙ ap (λ (d : DraftContent). length d.movie.inputs) made ∙ ap (λ (m : MovieContent). length m.inputs) same in
     let left : left_by movie edit before.states ≡ left_by movie content before.states =
     ap (λ (n : ℕ). filter (is_left n (length (edited movie edit).inputs)) before.states) place ∙ ap (λ (m : MovieContent). filter (is_left (edited_place content) (length m.inputs)) before.states) same in
+    let close : near_left_by_edits movie (edit ∷ []) before.near ≡ near_left_by_edits movie (content ∷ []) before.near =
+    ap (λ (n : ℕ). filter (λ (kept : Savestate). nat_le kept.frame (min n (length (edited movie edit).inputs))) before.near) place
+    ∙ ap (λ (m : MovieContent). filter (λ (kept : Savestate). nat_le kept.frame (min (edited_place content) (length m.inputs))) before.near) same in
     record {
       turn = (
         turn.0,
@@ -155,6 +176,10 @@ change_made A before now asked edit at len is room free edit_is made long =
           ap (λ (d : DraftContent). d.states) made
           ∙ left
           ∙ ap (λ (l : List (Edit (Unit {0}))). left_by_edits movie l before.states) (made_all s (draft_standing now) (content ∷ []) (ap (λ (t : Standing). t.made) stands));
+      near =
+          ap (λ (d : DraftContent). d.near) made
+          ∙ close
+          ∙ ap (λ (l : List (Edit (Unit {0}))). near_left_by_edits movie l before.near) (made_all s (draft_standing now) (content ∷ []) (ap (λ (t : Standing). t.made) stands));
     }
 
 -- ---- lines
@@ -171,55 +196,53 @@ change_edit before now change reply e = go (refused_reply (before.at + before.ma
 
 pub change_answered : (before now : DraftContent) (change : ChangeLine) (reply : Reply) → IsDraftChanged before now (Change change) reply → IsDraftReply before now (Do (EditCommand change)) reply
 change_answered before now change reply e = (
-  (
-    record { stands = draft_standing now; kept_for = before.movie; states = before.states },
-    (reply, (unforeseen e.turn.0, e.turn.1, e.turn.2), refl, record { kept_for = refl; states = refl }),
-    record { at = e.at; base = e.base; stands = refl; states = e.states },
-  ),
+  record {
+    next = record { stands = draft_standing now; kept_for = before.movie; states = before.states };
+    answered = (reply, (unforeseen e.turn.0, e.turn.1, e.turn.2), refl, record { kept_for = refl; states = refl });
+    after = record { at = e.at; base = e.base; stands = refl; states = e.states };
+    window = e.near;
+  },
   change_edit before now change reply e,
 )
 
 pub retouch_answered : (before now : DraftContent) (retouch : RetouchLine) (reply : Reply) → IsDraftChanged before now (Retouch retouch) reply → IsDraftReply before now (RetouchRequest retouch) reply
-retouch_answered before now retouch reply e = (
-  record { stands = draft_standing now; kept_for = before.movie; states = before.states },
-  (reply, e.turn, refl, record { kept_for = refl; states = refl }),
-  record { at = e.at; base = e.base; stands = refl; states = e.states },
-)
+retouch_answered before now retouch reply e = record {
+  next = record { stands = draft_standing now; kept_for = before.movie; states = before.states };
+  answered = (reply, e.turn, refl, record { kept_for = refl; states = refl });
+  after = record { at = e.at; base = e.base; stands = refl; states = e.states };
+  window = e.near;
+}
 
 pub length_answered : (draft : DraftContent) (at len : ℕ) → at ≡ draft.at + draft.made → len ≡ length draft.movie.inputs → IsDraftReply draft draft (Do Length) (Measured at len)
 length_answered draft at len here long =
-    looked draft draft (Do Length) (reply_text (Measured at len)) refl
-    (Measured at len, (unforeseen false, ap (λ (n : ℕ). Measured n len) here ∙ ap (Measured (draft.at + draft.made)) long, refl), refl, rests draft draft refl)
+    glanced draft draft (Do Length) (reply_text (Measured at len)) refl
+    (Measured at len, (unforeseen false, ap (λ (n : ℕ). Measured n len) here ∙ ap (Measured (draft.at + draft.made)) long, refl), refl, rests draft draft refl) (λ near. near)
 
 pub input_answered : (draft : DraftContent) (k at : ℕ) (input : Input) → at ≡ draft.at + draft.made → slice_get draft.movie.inputs k ≡ Some input → IsDraftReply draft draft (Do (InputAt k)) (Pressed at input)
 input_answered draft k at input here there =
-    looked draft draft (Do (InputAt k)) (reply_text (Pressed at input)) refl
-    (Pressed at input, (unforeseen false, ap (λ (n : ℕ). Pressed n input) here ∙ ap (input_reply (draft_standing draft)) (sym there), refl), refl, rests draft draft refl)
+    glanced draft draft (Do (InputAt k)) (reply_text (Pressed at input)) refl
+    (Pressed at input, (unforeseen false, ap (λ (n : ℕ). Pressed n input) here ∙ ap (input_reply (draft_standing draft)) (sym there), refl), refl, rests draft draft refl) (λ near. near)
 
 pub no_input_answered : (draft : DraftContent) (k at len : ℕ) → at ≡ draft.at + draft.made → len ≡ length draft.movie.inputs → len ≤ k → IsDraftReply draft draft (Do (InputAt k)) (NoFrame at len)
 no_input_answered draft k at len here long past =
     let none : slice_get draft.movie.inputs k ≡ None = slice_get_past draft.movie.inputs k (subst (λ (n : ℕ). n ≤ k) long past) in
-    looked draft draft (Do (InputAt k)) (reply_text (NoFrame at len)) refl (
+    glanced draft draft (Do (InputAt k)) (reply_text (NoFrame at len)) refl (
       NoFrame at len,
       (unforeseen false, ap (λ (n : ℕ). NoFrame n len) here ∙ ap (NoFrame (draft.at + draft.made)) long ∙ ap (input_reply (draft_standing draft)) (sym none), refl),
       refl,
       rests draft draft refl,
-    )
+    ) (λ near. near)
 
 pub work_refused : (before now : DraftContent) (k : ℕ) → now ≡ before → IsDraftReply before now (Do (Work k)) OutOfMemory
 work_refused before now k same = (
-  looked before now (Do (Work k)) (reply_text OutOfMemory) (same_states before now same) (OutOfMemory, (unforeseen true, refl, refl), refl, rests before now same),
+  glanced before now (Do (Work k)) (reply_text OutOfMemory) (same_window before now same) (OutOfMemory, (unforeseen true, refl, refl), refl, rests before now same) (λ near. near),
   inl (refl, ap (λ (d : DraftContent). d.states) same),
 )
 
--- the draft with its states as they were
-pub work_kept : (before d : DraftContent) (states : List Savestate) (k : ℕ) → d ≡ before → states ≡ d.states → IsDraftReply before (with_states d states) (Do (Work k)) OutOfMemory
-work_kept before d states k is same = work_refused before (with_states d states) k (ap (with_states d) same ∙ is)
-
-pub work_answered : (before d : DraftContent) (states : List Savestate) (k kept : ℕ) → d ≡ before → length states ≡ length d.states + kept → Gains (draft_state d) (state_with d states)
-    → (ran : ℕ) × IsReachedFrom d.movie d.movie (min k (length d.movie.inputs)) d.states states 0 ran → IsDraftReply before (with_states d states) (Do (Work k)) (Worked 1 kept 0)
-work_answered before d states k kept is count gains reached =
-    subst (λ (x : DraftContent). IsDraftReply x (with_states d states) (Do (Work k)) (Worked 1 kept 0)) is (
-      looked d (with_states d states) (Do (Work k)) (reply_text (Worked 1 kept 0)) refl (Worked 1 kept 0, (record { refused = false; ran = 0; kept = kept; stale = 0 }, refl, refl), refl, gains),
+pub work_answered : (before d now : DraftContent) (k kept : ℕ) → d ≡ before → now ≡ with_states d now.states d.near → length now.states ≡ length d.states + kept → Gains (draft_state d) (state_with d now.states)
+    → (ran : ℕ) × IsReachedFrom d.movie d.movie (min k (length d.movie.inputs)) d.states now.states 0 ran → IsDraftReply before now (Do (Work k)) (Worked 1 kept 0)
+work_answered before d now k kept is rest count gains reached =
+    subst (λ (x : DraftContent). IsDraftReply x now (Do (Work k)) (Worked 1 kept 0)) is (
+      glanced d now (Do (Work k)) (reply_text (Worked 1 kept 0)) rest (Worked 1 kept 0, (record { refused = false; ran = 0; kept = kept; stale = 0 }, refl, refl), refl, gains) (λ near. near),
       inr (kept, reached.0, refl, count, reached.1),
     )

@@ -1,6 +1,6 @@
 -- Answers at drafts.
 use Rattle.std.proofs.Common.{◌≡◌, ℕ, ◌+◌, ◌%◌, ◌^◌, ◌<◌, ◌≤◌, List, length, Bool, true, false, Option, Some, None, Result, Ok, Err, IfOk, inl, inr, refl, sym, ap, subst, ◌∙◌, arith}
-use Rattle.std.specs.Prelude.{MatchResult, OnOk, IfErr}
+use Rattle.std.specs.Prelude.{MatchResult, OnOk, OnErr, IfErr, IsOk}
 use Rattle.std.proofs.lemmas.Bool.{cases_lt}
 use Rattle.std.proofs.lemmas.Result.{MatchResult-weaker}
 use Rattle.vcs_cpu.specs.declared.halt.Halt.{Halt}
@@ -12,7 +12,9 @@ use Rattle.tas_movie.specs.Content.{MovieContent, most_inputs}
 use Rattle.tas_movie.specs.Text.{text2}
 use Rattle.tas_movie.specs.declared.edit.Edit.{Edit}
 use Rattle.tas_green.specs.declared.savestate.Savestate.{Savestate}
-use Rattle.tas_green.specs.Green.{IsLawful, IsPlayedFrom}
+use Rattle.tas_green.specs.Green.{IsLawful, IsPlayedFrom, IsShotFrom}
+use Rattle.tas_green.specs.View.{ViewContent, view_of, AreOfMovie, both_of}
+use Rattle.tas_green.specs.Window.{IsPlayedNear}
 use Rattle.tas_green.specs.Grid.{stride}
 use Rattle.tas_green.specs.Run.{state_after, picture_of, answer_of}
 use Rattle.tas_green.specs.Zone.{state_at, nearest, first_of, where_true, is_passed}
@@ -35,10 +37,10 @@ use Rattle.tas_language.specs.declared.request.Request.{Request}
 use Rattle.tas_language.specs.declared.request.Request.TheVariants.{Do, Picture, Ram, Digest, Lag, Movie, States}
 use Rattle.tas_language.specs.Answers.{picture_text, ram_text, lag_text, movie_text, states_text}
 use Rattle.tas_seat.specs.Turns.{Standing, Unforeseen, halted_reply, shot_reply}
-use Rattle.tas_seat.specs.Edits.{requested_edits}
+use Rattle.tas_seat.specs.Edits.{requested_edits, made_between}
 use Rattle.tas_seat.specs.Requests.{TalkState, Rests, Plays, Reaches, Gains, IsAnswerTo, PictureLeaves, LookLeaves, answer_to_picture, answer_ram, answer_to_ram, answer_to_digest, drawn_digest, answer_lag, answer_to_lag, kept_frames}
-use Rattle.tas_seat.specs.Drafts.{DraftContent, draft_standing, draft_state, left_by_edits, IsAnsweredInDraft, IsDraftAnswered}
-use Rattle.tas_seat.specs.Inside.Drafting.{with_states, IsDraftPlayed, IsDraftShot, IsDraftReached, IsDraftStateFor, HasNoDraftAnswer}
+use Rattle.tas_seat.specs.Drafts.{DraftContent, draft_of, draft_standing, draft_state, left_by_edits, near_left_by_edits, LookLeavesDraft, LeavesNear, IsAnsweredInDraft, IsDraftAnswered}
+use Rattle.tas_seat.specs.Inside.Drafting.{with_states, IsDraftPlayed, IsDraftViewed, IsDraftDrawn, IsDraftShot, IsDraftPicture, IsDraftStateFor, HasNoDraftAnswer}
 use Rattle.tas_seat.specs.Outcomes.{unshown_as, IsDigest}
 use Rattle.tas_seat.proofs.SeatLemmas.{made_none}
 use Rattle.tas_seat.proofs.EditLemmas.{unforeseen}
@@ -78,21 +80,42 @@ shown_answered before now request shown r bytes_of is told =
 abbrev pub state_with : DraftContent → List Savestate → TalkState
 state_with draft states = record { stands = draft_standing draft; kept_for = draft.movie; states = states }
 
-pub looked : (before now : DraftContent) (request : Request) (answer : List ℕ) → now ≡ with_states before now.states → IsAnswerTo (draft_state before) request answer (state_with before now.states) → IsAnsweredInDraft before request answer now
-looked before now request answer rest is = (
-  state_with before now.states,
-  is,
-  record {
+pub looked : (before now : DraftContent) (request : Request) (answer : List ℕ) → now ≡ with_states before now.states now.near → IsAnswerTo (draft_state before) request answer (state_with before now.states) → LeavesNear before request answer now
+    → IsAnsweredInDraft before request answer now
+looked before now request answer rest is window = record {
+  next = state_with before now.states;
+  answered = is;
+  after = record {
     at = ap (λ (d : DraftContent). d.at) rest;
     base = ap (λ (d : DraftContent). d.base) rest;
     stands = ap draft_standing rest;
     states = ap (λ (l : List (Edit (Unit {0}))). left_by_edits before.movie l now.states) (made_none (draft_standing before) (draft_standing before) (requested_edits (Unit {0}) before.movie request) refl);
-  },
-)
+  };
+  window = window;
+}
 
 -- the draft is as it was
-pub same_states : (before now : DraftContent) → now ≡ before → now ≡ with_states before now.states
-same_states before now is = is ∙ ap (with_states before) (ap (λ (d : DraftContent). d.states) (sym is))
+pub same_states : (before now : DraftContent) → now ≡ before → now ≡ with_states before now.states now.near
+same_states before now is = subst (λ (d : DraftContent). d ≡ with_states before d.states d.near) (sym is) refl
+
+pub same_window : (before now : DraftContent) → now ≡ before → now ≡ with_states before now.states before.near
+same_window before now is = subst (λ (d : DraftContent). d ≡ with_states before d.states before.near) (sym is) refl
+
+-- its window is
+pub window_kept : (before now : DraftContent) → now ≡ with_states before now.states before.near → now ≡ with_states before now.states now.near
+window_kept before now rest = rest ∙ ap (with_states before now.states) (sym (ap (λ (d : DraftContent). d.near) rest))
+
+pub near_kept : (before now : DraftContent) (edits : List (Edit (Unit {0}))) → now ≡ with_states before now.states before.near
+    → now.near ≡ near_left_by_edits before.movie (made_between (draft_standing before) (draft_standing now) edits) before.near
+near_kept before now edits rest =
+    ap (λ (d : DraftContent). d.near) rest
+    ∙ ap (λ (l : List (Edit (Unit {0}))). near_left_by_edits before.movie l before.near) (made_none (draft_standing before) (draft_standing now) edits (ap (λ (d : DraftContent). d.at + d.made) rest))
+
+-- so is its window after a line that doesn't use it
+pub glanced : (before now : DraftContent) (request : Request) (answer : List ℕ) → now ≡ with_states before now.states before.near → IsAnswerTo (draft_state before) request answer (state_with before now.states)
+    → (now.near ≡ near_left_by_edits before.movie (made_between (draft_standing before) (draft_standing now) (requested_edits (Unit {0}) before.movie request)) before.near → LeavesNear before request answer now)
+    → IsAnsweredInDraft before request answer now
+glanced before now request answer rest is leaves = looked before now request answer (window_kept before now rest) is (leaves (near_kept before now (requested_edits (Unit {0}) before.movie request) rest))
 
 pub rests : (before now : DraftContent) → now ≡ before → Rests (draft_state before) (state_with before now.states)
 rests before now is = record { kept_for = refl; states = ap (λ (d : DraftContent). d.states) is }
@@ -111,8 +134,11 @@ played_over movie near end ran old now lawful rise kept = record {
 plays : (before now : DraftContent) (k ran : ℕ) → IsDraftPlayed before now k ran → Plays (draft_state before) (state_with before now.states) k ran
 plays before now k ran is = record { green = record { kept_for = refl; lawful = is.lawful }; shot = is.shot }
 
-reaches : (before now : DraftContent) (k : ℕ) → (is : IsDraftReached before now k) → Reaches (draft_state before) (state_with before now.states) k is.ran
-reaches before now k is = record { green = record { kept_for = refl; lawful = is.lawful }; reach = is.reach }
+views : (before now : DraftContent) (k ran : ℕ) → (is : IsDraftViewed before now k (k + 1) ran) → Plays (draft_state before) (state_with before now.states) k is.view.rose
+views before now k ran is = record { green = record { kept_for = refl; lawful = is.lawful }; shot = is.view.played }
+
+reaches : (before now : DraftContent) (k ran : ℕ) → (is : IsDraftViewed before now k k ran) → Reaches (draft_state before) (state_with before now.states) k is.view.rose
+reaches before now k ran is = record { green = record { kept_for = refl; lawful = is.lawful }; reach = is.view.played }
 
 -- states were gained
 pub gains : (before : DraftContent) (states : List Savestate) (more : ℕ → Option State) (gained : ℕ) → IsLawful before.movie before.states → IsLawful before.movie states → ((f : ℕ) → state_at f states ≡ first_of (state_at f before.states) (more f))
@@ -144,7 +170,7 @@ shot_told : (before now : DraftContent) (k at frame ran lit : ℕ) (picture : Li
 shot_told before now k at frame ran lit picture is l =
     let u : Unforeseen = record { refused = false; ran = ran; kept = 0; stale = 0 } in
     let stands : Standing = draft_standing before in
-    looked before now (Do (Shot k)) (reply_text (Drawn at frame ran lit)) is.3.rest (
+    glanced before now (Do (Shot k)) (reply_text (Drawn at frame ran lit)) is.3.rest (
       Drawn at frame ran lit,
       (
         u,
@@ -153,7 +179,7 @@ shot_told before now k at frame ran lit picture is l =
       ),
       refl,
       plays before now k ran is.3,
-    )
+    ) (λ near. near)
 
 pub shot_answered : (before now : DraftContent) (k at frame ran lit : ℕ) (picture : List ℕ) → (answer_shot before.movie k ≡ Some (Ok picture)) × (at ≡ before.at + before.made) × (frame ≡ k) × IsDraftPlayed before now k ran → lit ≡ lit_count picture
     → IsDraftAnswered before (Do (Shot k)) (reply_text (Drawn at frame ran lit)) now
@@ -162,61 +188,65 @@ shot_answered before now k at frame ran lit picture is l = shot_told before now 
 halted_shot : (before now : DraftContent) (k at ran : ℕ) (halt : Halt) → answer_shot before.movie k ≡ Some (Err halt) → at ≡ before.at + before.made → IsDraftPlayed before now k ran → IsDraftAnswered before (Do (Shot k)) (reply_text (halted_reply at halt)) now
 halted_shot before now k at ran (Undocumented address opcode) there here played =
     let stands : Standing = draft_standing before in
-    looked before now (Do (Shot k)) (reply_text (halted_reply at (Undocumented address opcode))) played.rest (
+    glanced before now (Do (Shot k)) (reply_text (halted_reply at (Undocumented address opcode))) played.rest (
       halted_reply at (Undocumented address opcode),
       (unforeseen false, ap (λ (n : ℕ). halted_reply n (Undocumented address opcode)) here ∙ ap (shot_reply (unforeseen false) stands k) (sym there), refl),
       refl,
       (ran, plays before now k ran played),
-    )
+    ) (λ near. near)
 
 pub unshot : (B : Type 0) (before now : DraftContent) (k : ℕ) (error : ShotError) → IsDraftShot {B = B} before now k (Err error) → MatchResult (unshown_as error) (λ reply. IsDraftAnswered before (Do (Shot k)) (reply_text reply) now) (λ fault. ⊥)
 unshot B before now k NoShotEntry is = absurd is
 unshot B before now k (NoShotFrame at len) is =
     let stands : Standing = draft_standing before in
-    looked before now (Do (Shot k)) (reply_text (NoFrame at len)) (same_states before now is.3) (
+    glanced before now (Do (Shot k)) (reply_text (NoFrame at len)) (same_window before now is.3) (
       NoFrame at len,
       (unforeseen false, ap (λ (n : ℕ). NoFrame n len) is.1 ∙ ap (NoFrame stands.made) is.2 ∙ ap (shot_reply (unforeseen false) stands k) (sym is.0), refl),
       refl,
       rests before now is.3,
-    )
+    ) (λ near. near)
 unshot B before now k NoShotMemory is =
     let stands : Standing = draft_standing before in
-    looked before now (Do (Shot k)) (reply_text OutOfMemory) (same_states before now is.1) (
+    glanced before now (Do (Shot k)) (reply_text OutOfMemory) (same_window before now is.1) (
       OutOfMemory,
       (unforeseen true, ap (shot_reply (unforeseen true) stands k) (sym (shown_frame before.movie k is.0)), refl),
       refl,
       rests before now is.1,
-    )
+    ) (λ near. near)
 unshot B before now k (ShotHalted at halt) is = halted_shot before now k at is.2 halt is.0 is.1 is.3
 
 -- ---- `picture K`
 
-picture_told : (before now : DraftContent) (k : ℕ) (no_memory : Bool) (found : Option (Result (List ℕ) Halt)) (answer : List ℕ) → now ≡ with_states before now.states → answer_shot before.movie k ≡ found
-    → answer ≡ answer_to_picture no_memory (draft_standing before) k found → PictureLeaves no_memory (draft_state before) (state_with before now.states) k found → IsDraftAnswered before (Picture k) answer now
-picture_told before now k no_memory found answer rest there is leaves =
+picture_told : (before now : DraftContent) (k : ℕ) (no_memory : Bool) (found : Option (Result (List ℕ) Halt)) (answer : List ℕ) → now ≡ with_states before now.states now.near → answer_shot before.movie k ≡ found
+    → answer ≡ answer_to_picture no_memory (draft_standing before) k found → PictureLeaves no_memory (draft_state before) (state_with before now.states) k found → LookLeavesDraft k (k + 1) before now answer found
+    → IsDraftAnswered before (Picture k) answer now
+picture_told before now k no_memory found answer rest there is leaves window =
     looked before now (Picture k) answer rest (
       no_memory,
       is ∙ ap (answer_to_picture no_memory (draft_standing before) k) (sym there),
       refl,
       subst (PictureLeaves no_memory (draft_state before) (state_with before now.states) k) (sym there) leaves,
-    )
+    ) (subst (λ (f : Option (Result (List ℕ) Halt)). LookLeavesDraft k (k + 1) before now answer f) (sym there) window)
 
-pub picture_answered : (before now : DraftContent) (k at ran : ℕ) (picture : List ℕ) → answer_shot before.movie k ≡ Some (Ok picture) → at ≡ before.at + before.made → IsDraftPlayed before now k ran
+pub picture_answered : (before now : DraftContent) (k at ran : ℕ) (picture : List ℕ) → answer_shot before.movie k ≡ Some (Ok picture) → at ≡ before.at + before.made → IsDraftViewed before now k (k + 1) ran
     → IsDraftAnswered before (Picture k) (picture_text at k (ppm_bytes picture)) now
-picture_answered before now k at ran picture there here played =
-    picture_told before now k false (Some (Ok picture)) (picture_text at k (ppm_bytes picture)) played.rest there (ap (λ (n : ℕ). picture_text n k (ppm_bytes picture)) here) (ran, plays before now k ran played)
+picture_answered before now k at ran picture there here viewed =
+    picture_told before now k false (Some (Ok picture)) (picture_text at k (ppm_bytes picture)) viewed.rest there (ap (λ (n : ℕ). picture_text n k (ppm_bytes picture)) here) (viewed.view.rose, views before now k ran viewed) (inl (ran, viewed.view))
 
-pub lost_picture : (before now : DraftContent) (k ran : ℕ) (picture : List ℕ) → answer_shot before.movie k ≡ Some (Ok picture) → IsDraftPlayed before now k ran → IsDraftAnswered before (Picture k) (reply_text OutOfMemory) now
-lost_picture before now k ran picture there played = picture_told before now k true (Some (Ok picture)) (reply_text OutOfMemory) played.rest there refl (inr (ran, plays before now k ran played))
+pub lost_picture : (before now : DraftContent) (k ran : ℕ) (picture : List ℕ) → answer_shot before.movie k ≡ Some (Ok picture) → IsDraftViewed before now k (k + 1) ran → IsDraftAnswered before (Picture k) (reply_text OutOfMemory) now
+lost_picture before now k ran picture there viewed =
+    picture_told before now k true (Some (Ok picture)) (reply_text OutOfMemory) viewed.rest there refl (inr (viewed.view.rose, views before now k ran viewed)) (inl (ran, viewed.view))
 
-pub undrawn : (B : Type 0) (before now : DraftContent) (k : ℕ) (error : ShotError) → IsDraftShot {B = B} before now k (Err error) → MatchResult (unshown_as error) (λ reply. IsDraftAnswered before (Picture k) (reply_text reply) now) (λ fault. ⊥)
+pub undrawn : (B : Type 0) (before now : DraftContent) (k : ℕ) (error : ShotError) → IsDraftPicture {B = B} before now k (Err error) → MatchResult (unshown_as error) (λ reply. IsDraftAnswered before (Picture k) (reply_text reply) now) (λ fault. ⊥)
 undrawn B before now k NoShotEntry is = absurd is
 undrawn B before now k (NoShotFrame at len) is =
     picture_told before now k false None (reply_text (NoFrame at len)) (same_states before now is.3) is.0
-    (ap (λ (n : ℕ). reply_text (NoFrame n len)) is.1 ∙ ap (λ (n : ℕ). reply_text (NoFrame (before.at + before.made) n)) is.2) (rests before now is.3)
-undrawn B before now k NoShotMemory is = picture_told before now k true _ (reply_text OutOfMemory) (same_states before now is.1) (shown_frame before.movie k is.0) refl (inl (rests before now is.1))
+    (ap (λ (n : ℕ). reply_text (NoFrame n len)) is.1 ∙ ap (λ (n : ℕ). reply_text (NoFrame (before.at + before.made) n)) is.2) (rests before now is.3) is.3
+undrawn B before now k NoShotMemory is =
+    picture_told before now k true _ (reply_text OutOfMemory) (same_states before now is.1) (shown_frame before.movie k is.0) refl (inl (rests before now is.1)) (inr (refl, is.1))
 undrawn B before now k (ShotHalted at halt) is =
-    picture_told before now k false (Some (Err halt)) (reply_text (halted_reply at halt)) is.3.rest is.0 (ap (λ (n : ℕ). reply_text (halted_reply n halt)) is.1) (is.2, plays before now k is.2 is.3)
+    picture_told before now k false (Some (Err halt)) (reply_text (halted_reply at halt)) is.3.rest is.0 (ap (λ (n : ℕ). reply_text (halted_reply n halt)) is.1)
+    (is.3.view.rose, views before now k is.2 is.3) (inl (is.2, is.3.view))
 
 -- ---- looks at the machine
 
@@ -236,21 +266,21 @@ pub unshown_error : (before now : DraftContent) (request : Request) (shown : Sho
     → MatchResult (unshown_as (shot_error error)) (λ reply. IsDraftAnswered before request (reply_text reply) now) (λ fault. ⊥) → MatchResult (unshown_as shown) (λ reply. IsDraftAnswered before request (reply_text reply) now) (λ fault. ⊥)
 unshown_error before now request shown error is told = subst (λ (e : ShotError). MatchResult (unshown_as e) (λ reply. IsDraftAnswered before request (reply_text reply) now) (λ fault. ⊥)) (sym is) told
 
-ram_told : (before now : DraftContent) (k : ℕ) (no_memory : Bool) (found : Option (List ℕ)) (answer : List ℕ) → now ≡ with_states before now.states → answer_ram before.movie k ≡ found → answer ≡ answer_to_ram no_memory (draft_standing before) k found
-    → LookLeaves no_memory (draft_state before) (state_with before now.states) k found → IsDraftAnswered before (Ram k) answer now
-ram_told before now k no_memory found answer rest there is leaves =
+ram_told : (before now : DraftContent) (k : ℕ) (no_memory : Bool) (found : Option (List ℕ)) (answer : List ℕ) → now ≡ with_states before now.states now.near → answer_ram before.movie k ≡ found → answer ≡ answer_to_ram no_memory (draft_standing before) k found
+    → LookLeaves no_memory (draft_state before) (state_with before now.states) k found → LookLeavesDraft k k before now answer found → IsDraftAnswered before (Ram k) answer now
+ram_told before now k no_memory found answer rest there is leaves window =
     looked before now (Ram k) answer rest (
       no_memory,
       is ∙ ap (answer_to_ram no_memory (draft_standing before) k) (sym there),
       refl,
       subst (LookLeaves no_memory (draft_state before) (state_with before now.states) k) (sym there) leaves,
-    )
+    ) (subst (λ (f : Option (List ℕ)). LookLeavesDraft k k before now answer f) (sym there) window)
 
 pub unreached_ram : (before now : DraftContent) (k : ℕ) (error : StateError) → IsDraftStateFor before now k k (Err error) → MatchResult (unshown_as (shot_error error)) (λ reply. IsDraftAnswered before (Ram k) (reply_text reply) now) (λ fault. ⊥)
 unreached_ram before now k error is =
     unreached before now (Ram k) k k error is
-    (λ never few same. ram_told before now k false None _ (same_states before now same) (ram_none before.movie k (past never)) refl (rests before now same))
-    (λ order within same. ram_told before now k true _ _ (same_states before now same) (ram_there before.movie k within) refl (inl (rests before now same)))
+    (λ never few same. ram_told before now k false None _ (same_states before now same) (ram_none before.movie k (past never)) refl (rests before now same) same)
+    (λ order within same. ram_told before now k true _ _ (same_states before now same) (ram_there before.movie k within) refl (inl (rests before now same)) (inr (refl, same)))
   where
     past : (k ≤ k → k ≤ length before.movie.inputs → ⊥) → length before.movie.inputs < k
     past never = elim (cases_lt (length before.movie.inputs) k) [
@@ -258,89 +288,91 @@ unreached_ram before now k error is =
       | inr le ↦ absurd (never (omega arith) le)
     ]
 
-pub ram_answered : (before now : DraftContent) (k at : ℕ) (state : State) (ram : List ℕ) → k ≤ length before.movie.inputs → at ≡ before.at + before.made → state ≡ state_after before.movie k → IsDraftReached before now k → ram ≡ state.riot.ram
+pub ram_answered : (before now : DraftContent) (k at ran : ℕ) (state : State) (ram : List ℕ) → k ≤ length before.movie.inputs → at ≡ before.at + before.made → state ≡ state_after before.movie k → IsDraftViewed before now k k ran → ram ≡ state.riot.ram
     → IsDraftAnswered before (Ram k) (ram_text at k ram) now
-ram_answered before now k at state ram within here is reached r =
+ram_answered before now k at ran state ram within here is reached r =
     ram_told before now k false _ (ram_text at k ram) reached.rest (ram_there before.movie k within)
-    (ap (λ (n : ℕ). ram_text n k ram) here ∙ ap (ram_text (before.at + before.made) k) (r ∙ ap (λ (s : State). s.riot.ram) is)) (reached.ran, reaches before now k reached)
+    (ap (λ (n : ℕ). ram_text n k ram) here ∙ ap (ram_text (before.at + before.made) k) (r ∙ ap (λ (s : State). s.riot.ram) is)) (reached.view.rose, reaches before now k ran reached) (inl (ran, reached.view))
 
-pub lost_ram : (before now : DraftContent) (k : ℕ) → k ≤ length before.movie.inputs → IsDraftReached before now k → IsDraftAnswered before (Ram k) (reply_text OutOfMemory) now
-lost_ram before now k within reached = ram_told before now k true _ (reply_text OutOfMemory) reached.rest (ram_there before.movie k within) refl (inr (reached.ran, reaches before now k reached))
+pub lost_ram : (before now : DraftContent) (k ran : ℕ) → k ≤ length before.movie.inputs → IsDraftViewed before now k k ran → IsDraftAnswered before (Ram k) (reply_text OutOfMemory) now
+lost_ram before now k ran within reached = ram_told before now k true _ (reply_text OutOfMemory) reached.rest (ram_there before.movie k within) refl (inr (reached.view.rose, reaches before now k ran reached)) (inl (ran, reached.view))
 
 -- ---- `digest K`
 
-digest_told : (before now : DraftContent) (k : ℕ) (no_memory : Bool) (found : Option (Result (List ℕ) Halt)) (answer : List ℕ) → now ≡ with_states before now.states → answer_shot before.movie k ≡ found
-    → answer ≡ answer_to_digest no_memory (draft_standing before) k found → LookLeaves no_memory (draft_state before) (state_with before now.states) k found → IsDraftAnswered before (Digest k) answer now
-digest_told before now k no_memory found answer rest there is leaves =
+digest_told : (before now : DraftContent) (k : ℕ) (no_memory : Bool) (found : Option (Result (List ℕ) Halt)) (answer : List ℕ) → now ≡ with_states before now.states now.near → answer_shot before.movie k ≡ found
+    → answer ≡ answer_to_digest no_memory (draft_standing before) k found → LookLeaves no_memory (draft_state before) (state_with before now.states) k found → LookLeavesDraft k k before now answer found
+    → IsDraftAnswered before (Digest k) answer now
+digest_told before now k no_memory found answer rest there is leaves window =
     looked before now (Digest k) answer rest (
       no_memory,
       is ∙ ap (answer_to_digest no_memory (draft_standing before) k) (sym there),
       refl,
       subst (LookLeaves no_memory (draft_state before) (state_with before now.states) k) (sym there) leaves,
-    )
+    ) (subst (λ (f : Option (Result (List ℕ) Halt)). LookLeavesDraft k k before now answer f) (sym there) window)
 
 pub unreached_digest : (before now : DraftContent) (k to : ℕ) (error : StateError) → k < 2 ^ 64 → to ≡ (k + 1) % 2 ^ 64 → IsDraftStateFor before now k to (Err error)
     → MatchResult (unshown_as (shot_error error)) (λ reply. IsDraftAnswered before (Digest k) (reply_text reply) now) (λ fault. ⊥)
 unreached_digest before now k to error fits next is =
     let is' = subst (λ (n : ℕ). IsDraftStateFor before now k n (Err error)) next is in
     unreached before now (Digest k) k ((k + 1) % 2 ^ 64) error is'
-    (λ never few same. digest_told before now k false None _ (same_states before now same) (shot_none before.movie k (no_next_place k (length before.movie.inputs) few never)) refl (rests before now same))
-    (λ order within same. digest_told before now k true _ _ (same_states before now same) (shown_frame before.movie k (next_place k (length before.movie.inputs) fits order within)) refl (inl (rests before now same)))
+    (λ never few same. digest_told before now k false None _ (same_states before now same) (shot_none before.movie k (no_next_place k (length before.movie.inputs) few never)) refl (rests before now same) same)
+    (λ order within same. digest_told before now k true _ _ (same_states before now same) (shown_frame before.movie k (next_place k (length before.movie.inputs) fits order within)) refl (inl (rests before now same)) (inr (refl, same)))
 
 pub frame_within : (movie : MovieContent) (k to : ℕ) → k < 2 ^ 64 → to ≡ (k + 1) % 2 ^ 64 → k ≤ to → to ≤ length movie.inputs → k < length movie.inputs
 frame_within movie k to fits next order within = next_place k (length movie.inputs) fits (subst (λ (n : ℕ). k ≤ n) next order) (subst (λ (n : ℕ). n ≤ length movie.inputs) next within)
 
-pub digest_answered : (before now : DraftContent) (k at : ℕ) (answer : List ℕ) → at ≡ before.at + before.made → IsDraftReached before now k → IsDigest at before.movie k answer → IsDraftAnswered before (Digest k) answer now
-digest_answered before now k at answer here reached digest =
-    digest_told before now k false (Some digest.shown) answer reached.rest digest.there (digest.text_is ∙ ap (λ (n : ℕ). drawn_digest (record { movie = before.movie; made = n }) k digest.shown) here) (reached.ran, reaches before now k reached)
+pub digest_answered : (before now : DraftContent) (k at ran : ℕ) (answer : List ℕ) → at ≡ before.at + before.made → IsDraftViewed before now k k ran → IsDigest at before.movie k answer → IsDraftAnswered before (Digest k) answer now
+digest_answered before now k at ran answer here reached digest =
+    digest_told before now k false (Some digest.shown) answer reached.rest digest.there (digest.text_is ∙ ap (λ (n : ℕ). drawn_digest (record { movie = before.movie; made = n }) k digest.shown) here) (reached.view.rose, reaches before now k ran reached) (inl (ran, reached.view))
 
-pub lost_digest : (before now : DraftContent) (k : ℕ) → k < length before.movie.inputs → IsDraftReached before now k → IsDraftAnswered before (Digest k) (reply_text OutOfMemory) now
-lost_digest before now k within reached = digest_told before now k true _ _ reached.rest (shown_frame before.movie k within) refl (inr (reached.ran, reaches before now k reached))
+pub lost_digest : (before now : DraftContent) (k ran : ℕ) → k < length before.movie.inputs → IsDraftViewed before now k k ran → IsDraftAnswered before (Digest k) (reply_text OutOfMemory) now
+lost_digest before now k ran within reached = digest_told before now k true _ _ reached.rest (shown_frame before.movie k within) refl (inr (reached.view.rose, reaches before now k ran reached)) (inl (ran, reached.view))
 
 -- ---- `lag A B`
 
-lag_told : (before now : DraftContent) (a b : ℕ) (no_memory : Bool) (found : Option (List ℕ)) (answer : List ℕ) → now ≡ with_states before now.states → answer_lag before.movie a b ≡ found
-    → answer ≡ answer_to_lag no_memory (draft_standing before) a b found → LookLeaves no_memory (draft_state before) (state_with before now.states) a found → IsDraftAnswered before (Lag a b) answer now
-lag_told before now a b no_memory found answer rest there is leaves =
+lag_told : (before now : DraftContent) (a b : ℕ) (no_memory : Bool) (found : Option (List ℕ)) (answer : List ℕ) → now ≡ with_states before now.states now.near → answer_lag before.movie a b ≡ found
+    → answer ≡ answer_to_lag no_memory (draft_standing before) a b found → LookLeaves no_memory (draft_state before) (state_with before now.states) a found → LookLeavesDraft a a before now answer found
+    → IsDraftAnswered before (Lag a b) answer now
+lag_told before now a b no_memory found answer rest there is leaves window =
     looked before now (Lag a b) answer rest (
       no_memory,
       is ∙ ap (answer_to_lag no_memory (draft_standing before) a b) (sym there),
       refl,
       subst (LookLeaves no_memory (draft_state before) (state_with before now.states) a) (sym there) leaves,
       lag_ignored before.movie,
-    )
+    ) (subst (λ (f : Option (List ℕ)). LookLeavesDraft a a before now answer f) (sym there) window)
 
 pub unreached_lag : (before now : DraftContent) (a b : ℕ) (error : StateError) → IsDraftStateFor before now a b (Err error) → MatchResult (unshown_as (shot_error error)) (λ reply. IsDraftAnswered before (Lag a b) (reply_text reply) now) (λ fault. ⊥)
 unreached_lag before now a b error is =
     unreached before now (Lag a b) a b error is
-    (λ never few same. lag_told before now a b false None _ (same_states before now same) (lag_none before.movie a b never) refl (rests before now same))
-    (λ order within same. lag_told before now a b true _ _ (same_states before now same) (lag_there before.movie a b order within) refl (inl (rests before now same)))
+    (λ never few same. lag_told before now a b false None _ (same_states before now same) (lag_none before.movie a b never) refl (rests before now same) same)
+    (λ order within same. lag_told before now a b true _ _ (same_states before now same) (lag_there before.movie a b order within) refl (inl (rests before now same)) (inr (refl, same)))
 
-pub lag_answered : (before now : DraftContent) (a b at : ℕ) → a ≤ b → b ≤ length before.movie.inputs → at ≡ before.at + before.made → IsDraftReached before now a → IsDraftAnswered before (Lag a b) (lag_text at a b (lag_lines_between before.movie a b)) now
-lag_answered before now a b at order within here reached =
+pub lag_answered : (before now : DraftContent) (a b at ran : ℕ) → a ≤ b → b ≤ length before.movie.inputs → at ≡ before.at + before.made → IsDraftViewed before now a a ran → IsDraftAnswered before (Lag a b) (lag_text at a b (lag_lines_between before.movie a b)) now
+lag_answered before now a b at ran order within here reached =
     lag_told before now a b false _ (lag_text at a b (lag_lines_between before.movie a b)) reached.rest (lag_there before.movie a b order within) (ap (λ (n : ℕ). lag_text n a b (lag_lines_between before.movie a b)) here)
-    (reached.ran, reaches before now a reached)
+    (reached.view.rose, reaches before now a ran reached) (inl (ran, reached.view))
 
-pub lost_lag : (before now : DraftContent) (a b : ℕ) → a ≤ b → b ≤ length before.movie.inputs → IsDraftReached before now a → IsDraftAnswered before (Lag a b) (reply_text OutOfMemory) now
-lost_lag before now a b order within reached = lag_told before now a b true _ _ reached.rest (lag_there before.movie a b order within) refl (inr (reached.ran, reaches before now a reached))
+pub lost_lag : (before now : DraftContent) (a b ran : ℕ) → a ≤ b → b ≤ length before.movie.inputs → IsDraftViewed before now a a ran → IsDraftAnswered before (Lag a b) (reply_text OutOfMemory) now
+lost_lag before now a b ran order within reached = lag_told before now a b true _ _ reached.rest (lag_there before.movie a b order within) refl (inr (reached.view.rose, reaches before now a ran reached)) (inl (ran, reached.view))
 
 -- ---- `movie` and `states`
 
 pub movie_answered : (draft : DraftContent) (at : ℕ) → IsLawful draft.movie draft.states → at ≡ draft.at + draft.made → IsDraftAnswered draft Movie (movie_text at (text2 draft.movie)) draft
 movie_answered draft at lawful here =
-    (looked draft draft Movie (movie_text at (text2 draft.movie)) refl (false, ap (λ (n : ℕ). movie_text n (text2 draft.movie)) here, refl, gains_none draft lawful), refl)
+    (glanced draft draft Movie (movie_text at (text2 draft.movie)) refl (false, ap (λ (n : ℕ). movie_text n (text2 draft.movie)) here, refl, gains_none draft lawful) (λ near. near), refl)
 
 pub lost_movie : (draft : DraftContent) → IsDraftAnswered draft Movie (reply_text OutOfMemory) draft
-lost_movie draft = (looked draft draft Movie (reply_text OutOfMemory) refl (true, refl, refl, inl (rests draft draft refl)), refl)
+lost_movie draft = (glanced draft draft Movie (reply_text OutOfMemory) refl (true, refl, refl, inl (rests draft draft refl)) (λ near. near), refl)
 
 pub states_answered : (draft : DraftContent) (at : ℕ) → IsLawful draft.movie draft.states → at ≡ draft.at + draft.made
     → IsDraftAnswered draft States (states_text at (kept_frames (length draft.movie.inputs) draft.states)) draft
 states_answered draft at lawful here =
     let frames = kept_frames (length draft.movie.inputs) draft.states in
-    (looked draft draft States (states_text at (kept_frames (length draft.movie.inputs) draft.states)) refl (false, ap (λ (n : ℕ). states_text n frames) here, refl, gains_none draft lawful), refl)
+    (glanced draft draft States (states_text at (kept_frames (length draft.movie.inputs) draft.states)) refl (false, ap (λ (n : ℕ). states_text n frames) here, refl, gains_none draft lawful) (λ near. near), refl)
 
 pub lost_states : (draft : DraftContent) → IsDraftAnswered draft States (reply_text OutOfMemory) draft
-lost_states draft = (looked draft draft States (reply_text OutOfMemory) refl (true, refl, refl, inl (rests draft draft refl)), refl)
+lost_states draft = (glanced draft draft States (reply_text OutOfMemory) refl (true, refl, refl, inl (rests draft draft refl)) (λ near. near), refl)
 
 -- ---- of what was computed
 
@@ -354,24 +386,53 @@ halted_there movie k None error within is e = absurd (cc e)
 halted_there movie k (Some halt) error within is e =
     let same : halt ≡ error = cc e in shown_frame movie k within ∙ ap (λ (h : Option Halt). Some (shown_of h (picture_of movie k))) is ∙ ap (λ (h : Halt). Some (shown_of (Some h) (picture_of movie k))) same
 
-pub draft_shot : (B : Type 0) (d : DraftContent) (states : List Savestate) (k at ran : ℕ) (picture : List ℕ) (end : Result (Unit {0}) Halt) (r : Result (ShotOf B) ShotError) → at ≡ d.at + d.made → k < length d.movie.inputs
-    → end ≡ answer_of (state_after d.movie (k + 1)).halt → OnOk end (picture ≡ picture_of d.movie k) → IsLawful d.movie states → IsPlayedFrom d.movie d.movie k (k + 1) d.states states 0 ran
-    → OnOk end (r ≡ Ok (record { at = at; frame = k; ran = ran; picture = picture })) → IfErr end (λ halt. r ≡ Err (ShotHalted at halt)) → IsDraftShot d (with_states d states) k r
-draft_shot B d states k at ran picture (Ok u) r here within is drawn lawful played ok err =
-    subst (IsDraftShot d (with_states d states) k) (sym ok) (
-      shown_there d.movie k (state_after d.movie (k + 1)).halt picture u within refl is drawn,
+-- a drawing of the frame, which the view's movie has
+pub draft_drawn : (B : Type 0) (left : ℕ → Type 0) (before now : DraftContent) (movie : MovieContent) (k at ran : ℕ) (picture : List ℕ) (end : Result (Unit {0}) Halt) (r : Result (ShotOf B) ShotError) → movie ≡ before.movie → at ≡ before.at + before.made
+    → (k < length movie.inputs) × (end ≡ answer_of (state_after movie (k + 1)).halt) → OnOk end (picture ≡ picture_of movie k) → left ran
+    → OnOk end (r ≡ Ok (record { at = at; frame = k; ran = ran; picture = picture })) → IfErr end (λ halt. r ≡ Err (ShotHalted at halt)) → IsDraftDrawn left before now k r
+draft_drawn B left before now movie k at ran picture (Ok u) r same here is drawn played ok err =
+    subst (IsDraftDrawn left before now k) (sym ok) (
+      ap (λ (m : MovieContent). answer_shot m k) (sym same) ∙ shown_there movie k (state_after movie (k + 1)).halt picture u is.0 refl is.1 drawn,
       here,
       refl,
-      record { rest = refl; lawful = lawful; shot = played },
+      played,
     )
-draft_shot B d states k at ran picture (Err halt) r here within is drawn lawful played ok err =
-    subst (IsDraftShot d (with_states d states) k) (sym err)
-    (halted_there d.movie k (state_after d.movie (k + 1)).halt halt within refl is, here, ran, record { rest = refl; lawful = lawful; shot = played })
+draft_drawn B left before now movie k at ran picture (Err halt) r same here is drawn played ok err =
+    subst (IsDraftDrawn left before now k) (sym err)
+    (ap (λ (m : MovieContent). answer_shot m k) (sym same) ∙ halted_there movie k (state_after movie (k + 1)).halt halt is.0 refl is.1, here, ran, played)
 
-pub draft_state_for : (d : DraftContent) (states : List Savestate) (from to at ran : ℕ) (state : State) → from ≤ to → to ≤ length d.movie.inputs → at ≡ d.at + d.made → state ≡ state_after d.movie from → IsLawful d.movie states
-    → IsPlayedFrom d.movie d.movie from from d.states states 0 ran → IsDraftStateFor d (with_states d states) from to (Ok (record { at = at; ran = ran; state = state }))
-draft_state_for d states from to at ran state order within here is lawful played = (order, within, here, is, record { rest = refl; lawful = lawful; ran = ran; reach = played })
+-- what calls of a draft's view leave of the draft
+pub view_rest : (at made : ℕ) (base : MovieContent) (old new : ViewContent) → new.movie ≡ old.movie → draft_of at base made new ≡ with_states (draft_of at base made old) new.states new.near
+view_rest at made base old new movie = ap (λ (m : MovieContent). draft_of at base made (view_of m new.states new.near)) movie
+
+pub states_rest : (at made : ℕ) (base : MovieContent) (old new : ViewContent) → new.movie ≡ old.movie → new.near ≡ old.near → draft_of at base made new ≡ with_states (draft_of at base made old) new.states old.near
+states_rest at made base old new movie near = view_rest at made base old new movie ∙ ap (with_states (draft_of at base made old) new.states) near
+
+pub shot_in : (at made : ℕ) (base : MovieContent) (old new : ViewContent) (k ran : ℕ) → new.movie ≡ old.movie → new.near ≡ old.near → AreOfMovie new → IsShotFrom old.movie old.movie k old.states new.states 0 ran
+    → IsDraftPlayed (draft_of at base made old) (draft_of at base made new) k ran
+shot_in at made base old new k ran movie near lawful shot = record {
+  rest = states_rest at made base old new movie near;
+  lawful = subst (λ (m : MovieContent). IsLawful m new.states) movie lawful.states;
+  shot = shot;
+}
+
+pub viewed_in : (at made : ℕ) (base : MovieContent) (old new : ViewContent) (k end ran : ℕ) → new.movie ≡ old.movie → AreOfMovie new → IsPlayedNear old.movie new.movie k end (both_of old) (both_of new) ran
+    → IsDraftViewed (draft_of at base made old) (draft_of at base made new) k end ran
+viewed_in at made base old new k end ran movie lawful view = record {
+  rest = view_rest at made base old new movie;
+  lawful = subst (λ (m : MovieContent). IsLawful m new.states) movie lawful.states;
+  view = subst (λ (m : MovieContent). IsPlayedNear old.movie m k end (both_of old) (both_of new) ran) movie view;
+}
+
+-- a draft's movie has the frame
+pub has_frame : {X E : Type 0} (r : Result X E) (n k : ℕ) → OnErr r (n ≤ k) → k < n → IsOk r
+has_frame (Ok x) n k past within = refl
+has_frame (Err e) n k past within = absurd (omega (arith, past, within))
+
+pub has_place : {X E : Type 0} (r : Result X E) (n k : ℕ) → OnErr r (n < k) → k ≤ n → IsOk r
+has_place (Ok x) n k past within = refl
+has_place (Err e) n k past within = absurd (omega (arith, past, within))
 
 -- another name of a draft's movie after a look
-pub movie_kept : (before now : DraftContent) (k : ℕ) → IsDraftReached before now k → now.movie ≡ before.movie
-movie_kept before now k is = ap (λ (d : DraftContent). d.movie) is.rest
+pub movie_kept : (before now : DraftContent) (k ran : ℕ) → IsDraftViewed before now k k ran → now.movie ≡ before.movie
+movie_kept before now k ran is = ap (λ (d : DraftContent). d.movie) is.rest

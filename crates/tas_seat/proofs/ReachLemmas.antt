@@ -27,7 +27,6 @@ use Rattle.tas_published.specs.History.{movie_from, movie_of}
 use Rattle.tas_published.specs.Errors.{shot_error}
 use Rattle.tas_desk.specs.Seats.{SeatContent, HasSeen}
 use Rattle.tas_desk.specs.States.{IsStateFor, IsReached, IsZoneReached}
-use Rattle.tas_desk.specs.Zones.{CutsWindow}
 use Rattle.tas_engines.specs.Lag.{lag_lines_between, LagFramesIgnoreInput}
 use Rattle.tas_engines.specs.declared.fault.RunFault.{RunFault}
 use Rattle.tas_language.specs.declared.reply.Reply.{Reply}
@@ -38,7 +37,7 @@ use Rattle.tas_language.specs.declared.request.Request.TheVariants.{Ram, Digest,
 use Rattle.tas_language.specs.Answers.{ram_text, lag_text}
 use Rattle.tas_seat.specs.Turns.{standing_of}
 use Rattle.tas_seat.specs.Requests.{LookLeaves, answer_ram, answer_to_ram, answer_to_digest, drawn_digest, has_frames, answer_lag, answer_to_lag}
-use Rattle.tas_seat.specs.Seats.{talk_state_at, KeepsWindow}
+use Rattle.tas_seat.specs.Seats.{talk_state_at, StateLeavesZone}
 use Rattle.tas_seat.specs.Outcomes.{unshown_as, IsDigest, HasAnswer, KeepsSeat, HasNoAnswer}
 use Rattle.tas_seat.proofs.SeatLemmas.{rests, reaches_at, answered_here}
 use Rattle.tas_seat.proofs.AnswerLemmas.{shown_frame}
@@ -156,7 +155,7 @@ shown_as shown error P Q is found = subst (λ (x : ShotError). MatchResult (unsh
 -- ---- `ram K`
 
 ram_answered_as : (A : Type 0) (before now : SeatContent A) (k : ℕ) (no_memory : Bool) (found : Option (List ℕ)) (answer : List ℕ) → HasSeen before now → answer_ram (movie_of now.front) k ≡ found
-    → answer ≡ answer_to_ram no_memory (standing_of now.front) k found → LookLeaves no_memory (talk_state_at now.front before.zone) (talk_state_at now.front now.zone) k found → KeepsWindow before.zone now.zone
+    → answer ≡ answer_to_ram no_memory (standing_of now.front) k found → LookLeaves no_memory (talk_state_at now.front before.zone) (talk_state_at now.front now.zone) k found → StateLeavesZone before now k answer found
     → HasAnswer A before now (Ram k) answer
 ram_answered_as A before now k no_memory found answer seen there is leaves window = (
   [],
@@ -165,15 +164,15 @@ ram_answered_as A before now k no_memory found answer seen there is leaves windo
     is ∙ ap (answer_to_ram no_memory (standing_of now.front) k) (sym there),
     refl,
     subst (LookLeaves no_memory (talk_state_at now.front before.zone) (talk_state_at now.front now.zone) k) (sym there) leaves,
-  ) window tt,
+  ) (subst (λ (f : Option (List ℕ)). StateLeavesZone before now k answer f) (sym there) window) tt,
 )
 
 pub unreached_ram : (A : Type 0) (before now : SeatContent A) (k : ℕ) (error : StateError) → HasSeen before now → IsStateFor now.front k k (Err error) → IsZoneReached before now k (Err error)
     → MatchResult (unshown_as (shot_error error)) (λ reply. HasAnswer A before now (Ram k) (reply_text reply)) (HasNoAnswer before now (Ram k))
 unreached_ram A before now k error seen reply zone =
     unreached A before now (Ram k) k k error seen reply zone (λ same. same)
-    (λ never same. ram_answered_as A before now k false None _ seen (ram_none (movie_of now.front) k (past never)) refl (rests before now now.front now.front same) (inl same))
-    (λ order within same. ram_answered_as A before now k true _ _ seen (ram_there (movie_of now.front) k within) refl (inl (rests before now now.front now.front same)) (inl same))
+    (λ never same. ram_answered_as A before now k false None _ seen (ram_none (movie_of now.front) k (past never)) refl (rests before now now.front now.front same) same)
+    (λ order within same. ram_answered_as A before now k true _ _ seen (ram_there (movie_of now.front) k within) refl (inl (rests before now now.front now.front same)) (inr (refl, same)))
   where
     past : (k ≤ k → k ≤ length (movie_of now.front).inputs → ⊥) → length (movie_of now.front).inputs < k
     past never = elim (cases_lt (length (movie_of now.front).inputs) k) [
@@ -182,19 +181,19 @@ unreached_ram A before now k error seen reply zone =
     ]
 
 pub ram_answered : (A : Type 0) (before now : SeatContent A) (k at ran : ℕ) (state : State) (ram : List ℕ) → HasSeen before now → k ≤ length (movie_of now.front).inputs → state ≡ state_after (movie_of now.front) k → at ≡ length now.front
-    → IsReached before.zone now.zone now.front k ran → CutsWindow before.zone now.zone → ram ≡ state.riot.ram → HasAnswer A before now (Ram k) (ram_text at k ram)
-ram_answered A before now k at ran state ram seen within is here reached cut same =
+    → IsReached before.zone now.zone now.front k ran → ram ≡ state.riot.ram → HasAnswer A before now (Ram k) (ram_text at k ram)
+ram_answered A before now k at ran state ram seen within is here reached same =
     ram_answered_as A before now k false _ (ram_text at k ram) seen (ram_there (movie_of now.front) k within)
-    (ap (λ (n : ℕ). ram_text n k ram) here ∙ ap (ram_text (length now.front) k) (same ∙ ap (λ (s : State). s.riot.ram) is)) (ran, reaches_at before now now.front k ran reached) (inr cut)
+    (ap (λ (n : ℕ). ram_text n k ram) here ∙ ap (ram_text (length now.front) k) (same ∙ ap (λ (s : State). s.riot.ram) is)) (reached.reach.rose, reaches_at before now now.front k ran reached) (inl (ran, reached))
 
-pub lost_ram : (A : Type 0) (before now : SeatContent A) (k ran : ℕ) → HasSeen before now → k ≤ length (movie_of now.front).inputs → IsReached before.zone now.zone now.front k ran → CutsWindow before.zone now.zone → HasAnswer A before now (Ram k) (reply_text OutOfMemory)
-lost_ram A before now k ran seen within reached cut =
-    ram_answered_as A before now k true _ _ seen (ram_there (movie_of now.front) k within) refl (inr (ran, reaches_at before now now.front k ran reached)) (inr cut)
+pub lost_ram : (A : Type 0) (before now : SeatContent A) (k ran : ℕ) → HasSeen before now → k ≤ length (movie_of now.front).inputs → IsReached before.zone now.zone now.front k ran → HasAnswer A before now (Ram k) (reply_text OutOfMemory)
+lost_ram A before now k ran seen within reached =
+    ram_answered_as A before now k true _ _ seen (ram_there (movie_of now.front) k within) refl (inr (reached.reach.rose, reaches_at before now now.front k ran reached)) (inl (ran, reached))
 
 -- ---- `digest K`
 
 digest_answered_as : (A : Type 0) (before now : SeatContent A) (k : ℕ) (no_memory : Bool) (found : Option (Result (List ℕ) Halt)) (answer : List ℕ) → HasSeen before now → answer_shot (movie_of now.front) k ≡ found
-    → answer ≡ answer_to_digest no_memory (standing_of now.front) k found → LookLeaves no_memory (talk_state_at now.front before.zone) (talk_state_at now.front now.zone) k found → KeepsWindow before.zone now.zone
+    → answer ≡ answer_to_digest no_memory (standing_of now.front) k found → LookLeaves no_memory (talk_state_at now.front before.zone) (talk_state_at now.front now.zone) k found → StateLeavesZone before now k answer found
     → HasAnswer A before now (Digest k) answer
 digest_answered_as A before now k no_memory found answer seen there is leaves window = (
   [],
@@ -203,7 +202,7 @@ digest_answered_as A before now k no_memory found answer seen there is leaves wi
     is ∙ ap (answer_to_digest no_memory (standing_of now.front) k) (sym there),
     refl,
     subst (LookLeaves no_memory (talk_state_at now.front before.zone) (talk_state_at now.front now.zone) k) (sym there) leaves,
-  ) window tt,
+  ) (subst (λ (f : Option (Result (List ℕ) Halt)). StateLeavesZone before now k answer f) (sym there) window) tt,
 )
 
 pub unreached_digest : (A : Type 0) (before now : SeatContent A) (k to : ℕ) (error : StateError) → k < 2 ^ 64 → to ≡ (k + 1) % 2 ^ 64 → HasSeen before now → IsStateFor now.front k to (Err error) → IsZoneReached before now k (Err error)
@@ -211,8 +210,8 @@ pub unreached_digest : (A : Type 0) (before now : SeatContent A) (k to : ℕ) (e
 unreached_digest A before now k to error fits next seen reply zone =
     let reply' = subst (λ (n : ℕ). IsStateFor now.front k n (Err error)) next reply in
     unreached A before now (Digest k) k ((k + 1) % 2 ^ 64) error seen reply' zone (λ same. same)
-    (λ never same. digest_answered_as A before now k false None _ seen (shot_none (movie_of now.front) k (no_next_place k (length (movie_of now.front).inputs) (few_inputs now.front) never)) refl (rests before now now.front now.front same) (inl same))
-    (λ order within same. digest_answered_as A before now k true _ _ seen (shown_frame (movie_of now.front) k (next_place k (length (movie_of now.front).inputs) fits order within)) refl (inl (rests before now now.front now.front same)) (inl same))
+    (λ never same. digest_answered_as A before now k false None _ seen (shot_none (movie_of now.front) k (no_next_place k (length (movie_of now.front).inputs) (few_inputs now.front) never)) refl (rests before now now.front now.front same) same)
+    (λ order within same. digest_answered_as A before now k true _ _ seen (shown_frame (movie_of now.front) k (next_place k (length (movie_of now.front).inputs) fits order within)) refl (inl (rests before now now.front now.front same)) (inr (refl, same)))
 
 -- the frame was reached, and the movie is the zone's
 pub frame_within : (A : Type 0) (now : SeatContent A) (movie : MovieContent) (k to : ℕ) → k < 2 ^ 64 → to ≡ (k + 1) % 2 ^ 64 → k ≤ to → to ≤ length (movie_of now.front).inputs → movie ≡ movie_of now.front → k < length movie.inputs
@@ -220,16 +219,16 @@ frame_within A now movie k to fits next order within is =
     next_place k (length movie.inputs) fits (subst (λ (n : ℕ). k ≤ n) next order) (subst (λ (m : MovieContent). (k + 1) % 2 ^ 64 ≤ length m.inputs) (sym is) (subst (λ (n : ℕ). n ≤ length (movie_of now.front).inputs) next within))
 
 pub digest_answered : (A : Type 0) (before now : SeatContent A) (k at ran : ℕ) (movie : MovieContent) (answer : List ℕ) → HasSeen before now → at ≡ length now.front → movie ≡ movie_of now.front
-    → IsReached before.zone now.zone now.front k ran → CutsWindow before.zone now.zone → IsDigest at movie k answer → HasAnswer A before now (Digest k) answer
-digest_answered A before now k at ran movie answer seen here is reached cut digest =
+    → IsReached before.zone now.zone now.front k ran → IsDigest at movie k answer → HasAnswer A before now (Digest k) answer
+digest_answered A before now k at ran movie answer seen here is reached digest =
     digest_answered_as A before now k false (Some digest.shown) answer seen (ap (λ (m : MovieContent). answer_shot m k) (sym is) ∙ digest.there)
     (digest.text_is ∙ ap (λ (n : ℕ). drawn_digest (record { movie = movie; made = n }) k digest.shown) here ∙ ap (λ (m : MovieContent). drawn_digest (record { movie = m; made = length now.front }) k digest.shown) is)
-    (ran, reaches_at before now now.front k ran reached) (inr cut)
+    (reached.reach.rose, reaches_at before now now.front k ran reached) (inl (ran, reached))
 
-pub lost_digest : (A : Type 0) (before now : SeatContent A) (k ran : ℕ) (movie : MovieContent) → HasSeen before now → k < length movie.inputs → movie ≡ movie_of now.front → IsReached before.zone now.zone now.front k ran → CutsWindow before.zone now.zone
+pub lost_digest : (A : Type 0) (before now : SeatContent A) (k ran : ℕ) (movie : MovieContent) → HasSeen before now → k < length movie.inputs → movie ≡ movie_of now.front → IsReached before.zone now.zone now.front k ran
     → HasAnswer A before now (Digest k) (reply_text OutOfMemory)
-lost_digest A before now k ran movie seen within is reached cut =
-    digest_answered_as A before now k true _ _ seen (shown_frame (movie_of now.front) k (subst (λ (m : MovieContent). k < length m.inputs) is within)) refl (inr (ran, reaches_at before now now.front k ran reached)) (inr cut)
+lost_digest A before now k ran movie seen within is reached =
+    digest_answered_as A before now k true _ _ seen (shown_frame (movie_of now.front) k (subst (λ (m : MovieContent). k < length m.inputs) is within)) refl (inr (reached.reach.rose, reaches_at before now now.front k ran reached)) (inl (ran, reached))
 
 -- ---- `lag A B`
 
@@ -243,7 +242,7 @@ pub lag_none : (movie : MovieContent) (a b : ℕ) → (a ≤ b → b ≤ length 
 lag_none movie a b never = ap (λ (t : Bool). if t then Some (lag_lines_between movie a b) else None) (frames_none (length movie.inputs) a b never)
 
 lag_answered_as : (A : Type 0) (before now : SeatContent A) (a b : ℕ) (no_memory : Bool) (found : Option (List ℕ)) (answer : List ℕ) → HasSeen before now → answer_lag (movie_of now.front) a b ≡ found
-    → answer ≡ answer_to_lag no_memory (standing_of now.front) a b found → LookLeaves no_memory (talk_state_at now.front before.zone) (talk_state_at now.front now.zone) a found → KeepsWindow before.zone now.zone
+    → answer ≡ answer_to_lag no_memory (standing_of now.front) a b found → LookLeaves no_memory (talk_state_at now.front before.zone) (talk_state_at now.front now.zone) a found → StateLeavesZone before now a answer found
     → HasAnswer A before now (Lag a b) answer
 lag_answered_as A before now a b no_memory found answer seen there is leaves window = (
   [],
@@ -253,22 +252,22 @@ lag_answered_as A before now a b no_memory found answer seen there is leaves win
     refl,
     subst (LookLeaves no_memory (talk_state_at now.front before.zone) (talk_state_at now.front now.zone) a) (sym there) leaves,
     lag_ignored (movie_of now.front),
-  ) window tt,
+  ) (subst (λ (f : Option (List ℕ)). StateLeavesZone before now a answer f) (sym there) window) tt,
 )
 
 pub unreached_lag : (A : Type 0) (before now : SeatContent A) (a b : ℕ) (error : StateError) → HasSeen before now → IsStateFor now.front a b (Err error) → IsZoneReached before now a (Err error)
     → MatchResult (unshown_as (shot_error error)) (λ reply. HasAnswer A before now (Lag a b) (reply_text reply)) (HasNoAnswer before now (Lag a b))
 unreached_lag A before now a b error seen reply zone =
     unreached A before now (Lag a b) a b error seen reply zone (λ same. same)
-    (λ never same. lag_answered_as A before now a b false None _ seen (lag_none (movie_of now.front) a b never) refl (rests before now now.front now.front same) (inl same))
-    (λ order within same. lag_answered_as A before now a b true _ _ seen (lag_there (movie_of now.front) a b order within) refl (inl (rests before now now.front now.front same)) (inl same))
+    (λ never same. lag_answered_as A before now a b false None _ seen (lag_none (movie_of now.front) a b never) refl (rests before now now.front now.front same) same)
+    (λ order within same. lag_answered_as A before now a b true _ _ seen (lag_there (movie_of now.front) a b order within) refl (inl (rests before now now.front now.front same)) (inr (refl, same)))
 
 pub lag_answered : (A : Type 0) (before now : SeatContent A) (a b at ran : ℕ) (movie : MovieContent) → HasSeen before now → a ≤ b → b ≤ length (movie_of now.front).inputs → at ≡ length now.front → movie ≡ movie_of now.front
-    → IsReached before.zone now.zone now.front a ran → CutsWindow before.zone now.zone → HasAnswer A before now (Lag a b) (lag_text at a b (lag_lines_between movie a b))
-lag_answered A before now a b at ran movie seen order within here is reached cut =
+    → IsReached before.zone now.zone now.front a ran → HasAnswer A before now (Lag a b) (lag_text at a b (lag_lines_between movie a b))
+lag_answered A before now a b at ran movie seen order within here is reached =
     lag_answered_as A before now a b false _ (lag_text at a b (lag_lines_between movie a b)) seen (lag_there (movie_of now.front) a b order within)
-    (ap (λ (n : ℕ). lag_text n a b (lag_lines_between movie a b)) here ∙ ap (λ (m : MovieContent). lag_text (length now.front) a b (lag_lines_between m a b)) is) (ran, reaches_at before now now.front a ran reached) (inr cut)
+    (ap (λ (n : ℕ). lag_text n a b (lag_lines_between movie a b)) here ∙ ap (λ (m : MovieContent). lag_text (length now.front) a b (lag_lines_between m a b)) is) (reached.reach.rose, reaches_at before now now.front a ran reached) (inl (ran, reached))
 
-pub lost_lag : (A : Type 0) (before now : SeatContent A) (a b ran : ℕ) → HasSeen before now → a ≤ b → b ≤ length (movie_of now.front).inputs → IsReached before.zone now.zone now.front a ran → CutsWindow before.zone now.zone → HasAnswer A before now (Lag a b) (reply_text OutOfMemory)
-lost_lag A before now a b ran seen order within reached cut =
-    lag_answered_as A before now a b true _ _ seen (lag_there (movie_of now.front) a b order within) refl (inr (ran, reaches_at before now now.front a ran reached)) (inr cut)
+pub lost_lag : (A : Type 0) (before now : SeatContent A) (a b ran : ℕ) → HasSeen before now → a ≤ b → b ≤ length (movie_of now.front).inputs → IsReached before.zone now.zone now.front a ran → HasAnswer A before now (Lag a b) (reply_text OutOfMemory)
+lost_lag A before now a b ran seen order within reached =
+    lag_answered_as A before now a b true _ _ seen (lag_there (movie_of now.front) a b order within) refl (inr (reached.reach.rose, reaches_at before now now.front a ran reached)) (inl (ran, reached))

@@ -88,10 +88,10 @@ plays_at before now one k ran is = record { green = green_at now.zone now.front 
 
 -- a view leaves the zone as a shot does
 pub views_at : {A : Type 0} (before now : SeatContent A) (one : List (Entry A)) (k ran : ℕ) → (v : IsViewed before.zone now.zone now.front k ran) → Plays (talk_state_at one before.zone) (talk_state_at now.front now.zone) k v.view.rose
-views_at before now one k ran v = record { green = green_at now.zone now.front v.made; shot = v.view.shot }
+views_at before now one k ran v = record { green = green_at now.zone now.front v.made; shot = v.view.played }
 
-pub reaches_at : {A : Type 0} (before now : SeatContent A) (one : List (Entry A)) (k ran : ℕ) → IsReached before.zone now.zone now.front k ran → Reaches (talk_state_at one before.zone) (talk_state_at now.front now.zone) k ran
-reaches_at before now one k ran is = record { green = green_at now.zone now.front is.made; reach = is.reach }
+pub reaches_at : {A : Type 0} (before now : SeatContent A) (one : List (Entry A)) (k ran : ℕ) → (is : IsReached before.zone now.zone now.front k ran) → Reaches (talk_state_at one before.zone) (talk_state_at now.front now.zone) k is.reach.rose
+reaches_at before now one k ran is = record { green = green_at now.zone now.front is.made; reach = is.reach.played }
 
 pub gains_at : {A : Type 0} (before now : SeatContent A) (one : List (Entry A)) (gained : ℕ) → IsShared before.zone now.zone now.front gained → Gains (talk_state_at one before.zone) (talk_state_at now.front now.zone)
 gains_at before now one gained is = record { green = green_at now.zone now.front is.made; other = is.other; others = is.others; gained = gained; gain = is.gain }

@@ -1,6 +1,9 @@
 -- Drafts of conversations: `begin`, `commit` and `drop`, and what the other lines are answered outside a draft and in one.
-use Rattle.std.specs.Prelude.{◌≡◌, ℕ, ◌+◌, ◌<◌, ◌≤◌, ◌==◌, nat_lt, List, [], length, Bool, if◌then◌else◌, Option, Some, None, ◌⊎◌}
+use Rattle.std.specs.Prelude.{◌≡◌, ℕ, ◌+◌, ◌<◌, ◌≤◌, ◌==◌, nat_lt, List, [], length, Bool, if◌then◌else◌, Option, Some, None, IfSome, ◌⊎◌}
 use Rattle.tas_movie.specs.declared.edit.Edit.{Edit}
+use Rattle.tas_green.specs.declared.savestate.Savestate.{Savestate}
+use Rattle.tas_green.specs.View.{view_of}
+use Rattle.tas_green.specs.Window.{AreMovieStates}
 use Rattle.tas_published.specs.declared.entry.Entry.{Entry}
 use Rattle.tas_published.specs.History.{most_edits}
 use Rattle.tas_desk.specs.Seats.{SeatContent}
@@ -24,9 +27,9 @@ use Rattle.tas_seat.specs.Drafts.{DraftContent, fresh_draft, IsDraft, IsDraftAns
 abbrev pub begin_answer : Bool → Standing → List ℕ
 begin_answer no_memory stands = if no_memory then reply_text OutOfMemory else draft_reply_text (Began stands.made (length stands.movie.inputs))
 
--- the draft that it opens: of the movie that was made, with the states that the greenzone then has
-abbrev pub begun_draft : Bool → TalkState → Option DraftContent
-begun_draft no_memory next = if no_memory then None else Some (fresh_draft next.stands.made next.stands.movie next.states)
+-- the draft that it opens: of the movie that was made, with the states that the greenzone then has, and a window
+abbrev pub begun_draft : Bool → TalkState → List Savestate → Option DraftContent
+begun_draft no_memory next near = if no_memory then None else Some (fresh_draft next.stands.made (view_of next.stands.movie next.states near))
 
 -- the answer to `begin` at what was made and kept so far, and what is made and kept then: the greenzone is brought up to the movie. It opens
 -- a draft, or memory was refused
@@ -35,7 +38,9 @@ pub record IsBeginAnswer (state : TalkState) (answer : List ℕ) (next : TalkSta
   pub answer_is : answer ≡ begin_answer no_memory state.stands
   pub stands : next.stands ≡ state.stands
   pub gains : GainsUnless no_memory state next
-  pub draft_is : draft ≡ begun_draft no_memory next
+  pub near : List Savestate
+  pub window : AreMovieStates next.stands.movie near
+  pub draft_is : draft ≡ begun_draft no_memory next near
 
 -- ---- `commit`
 
@@ -102,11 +107,12 @@ pub record TalkingSeat (A : Type 0) : Type 0 where
 abbrev pub talking : {A : Type 0} → SeatContent A → Option DraftContent → TalkingSeat A
 talking seat draft = record { seat = seat; draft = draft }
 
--- `begin` is answered at the history that the seat has seen then
+-- `begin` is answered at the history that the seat has seen then, and the draft begins with the seat's window
 pub record IsBegun {A : Type 0} (before : SeatContent A) (now : TalkingSeat A) (answer : List ℕ) : Type 0 where
   pub answered : IsBeginAnswer (talk_state_at now.seat.front before.zone) answer (talk_state_at now.seat.front now.seat.zone) now.draft
   pub seat : IsSeatAfter before now.seat.front [] now.seat
   pub zone : KeepsWindow before.zone now.seat.zone
+  pub window : IfSome now.draft (λ draft. draft.near ≡ now.seat.zone.window)
 
 -- `commit` is answered at some history, after which its edits stand, with no other between them
 pub record IsCommitted {A : Type 0} (before : SeatContent A) (draft : DraftContent) (now : TalkingSeat A) (answer : List ℕ) (edits : List (Edit A)) : Type 0 where

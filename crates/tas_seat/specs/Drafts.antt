@@ -1,14 +1,17 @@
 -- Drafts: changes of a movie that a conversation gathers before it makes them as one step, and the answers to lines meanwhile.
-use Rattle.std.specs.Prelude.{codes, ◌≡◌, ℕ, ◌+◌, ◌-◌, ◌<◌, ◌≤◌, ◌==◌, List, [], ◌∷◌, length, take, drop, reverse, min, false, if◌then◌else◌, ◌⊎◌}
+use Rattle.std.specs.Prelude.{codes, ◌≡◌, ℕ, ◌+◌, ◌-◌, ◌<◌, ◌≤◌, ◌==◌, nat_le, List, [], ◌∷◌, length, take, drop, reverse, min, filter, Option, None, Some, false, if◌then◌else◌, ◌⊎◌}
 use Rattle.std.specs.List.{flat_map}
 use Rattle.vcs_inputs.specs.declared.input.Input.{Input}
 use Rattle.tas_movie.specs.Content.{MovieContent}
 use Rattle.tas_movie.specs.declared.edit.Edit.{Edit}
 use Rattle.tas_movie.specs.declared.edit.Edit.TheVariants.{Insert, Replace, Delete}
-use Rattle.tas_movie.specs.Edit.{IsAllowed, edited}
+use Rattle.tas_movie.specs.Edit.{IsAllowed, edited, edited_place}
 use Rattle.tas_movie.specs.Front.{IsCommonFront}
 use Rattle.tas_green.specs.declared.savestate.Savestate.{Savestate}
 use Rattle.tas_green.specs.Green.{IsLawful, IsReachedFrom}
+use Rattle.tas_green.specs.View.{ViewContent}
+use Rattle.tas_green.specs.Window.{AreMovieStates, IsPlayedNear, both}
+use Rattle.tas_session.specs.Answers.{answer_shot}
 use Rattle.tas_published.specs.History.{most_edits}
 use Rattle.tas_session.specs.Session.{left_by}
 use Rattle.tas_language.specs.declared.change.Change.{Change}
@@ -16,11 +19,11 @@ use Rattle.tas_language.specs.declared.command.Command.TheVariants.{Load, Edit a
 use Rattle.tas_language.specs.declared.reply.Reply.TheVariants.{Worked, OutOfMemory}
 use Rattle.tas_language.specs.Replies.{reply_text}
 use Rattle.tas_language.specs.declared.request.Request.{Request}
-use Rattle.tas_language.specs.declared.request.Request.TheVariants.{Do, Picture, Pictures, Movie, States, Share, History, Begin, Commit, Drop, Quit}
+use Rattle.tas_language.specs.declared.request.Request.TheVariants.{Do, Picture, Pictures, Ram, Digest, Lag, Movie, States, Share, History, Begin, Commit, Drop, Quit}
 use Rattle.tas_engines.specs.Changes.{edit_of, BringsCopies}
 use Rattle.tas_seat.specs.Turns.{Standing, reply_to_edit, standing_after_edit}
 use Rattle.tas_seat.specs.Edits.{requested_edits, made_between}
-use Rattle.tas_seat.specs.Requests.{TalkState, IsAnswerTo}
+use Rattle.tas_seat.specs.Requests.{TalkState, IsAnswerTo, answer_ram, answer_lag}
 
 -- ---- a draft
 
@@ -29,17 +32,22 @@ abbrev pub in_draft_text : List ℕ
 in_draft_text = codes "in draft\n"
 
 -- a draft: how many edits the history had when it began, the movie then, the movie as it would be, how many changes were made in the
--- draft, and its greenzone, the states that are kept of the movie as it would be
+-- draft, and its greenzone and window, the states that are kept of the movie as it would be
 pub record DraftContent : Type 0 where
   pub at : ℕ
   pub base : MovieContent
   pub movie : MovieContent
   pub made : ℕ
   pub states : List Savestate
+  pub near : List Savestate
 
--- a draft that begins at this many edits of a history with this movie
-abbrev pub fresh_draft : ℕ → MovieContent → List Savestate → DraftContent
-fresh_draft at movie states = record { at = at; base = movie; movie = movie; made = 0; states = states }
+-- with a view of the movie as it would be
+abbrev pub draft_of : ℕ → MovieContent → ℕ → ViewContent → DraftContent
+draft_of at base made view = record { at = at; base = base; movie = view.movie; made = made; states = view.states; near = view.near }
+
+-- a draft that begins at this many edits of a history, with a view of its movie
+abbrev pub fresh_draft : ℕ → ViewContent → DraftContent
+fresh_draft at view = draft_of at view.movie 0 view
 
 -- what it comes to: the movie, and the history's edits with one more for each change
 abbrev pub draft_standing : DraftContent → Standing
@@ -49,11 +57,12 @@ abbrev pub draft_state : DraftContent → TalkState
 draft_state draft = record { stands = draft_standing draft; kept_for = draft.movie; states = draft.states }
 
 -- what each draft keeps: there are at most as many edits as a history may have, the cartridge is the one that it began with, and the kept
--- states are its movie's
+-- states and the window's are its movie's
 pub record IsDraft (draft : DraftContent) : Type 0 where
   pub most : draft.at + draft.made ≤ most_edits
   pub cart : draft.movie.cart ≡ draft.base.cart
   pub lawful : IsLawful draft.movie draft.states
+  pub window : AreMovieStates draft.movie draft.near
 
 -- ---- answers
 
@@ -62,6 +71,12 @@ abbrev pub left_by_edits : {A : Type 0} → MovieContent → List (Edit A) → L
 left_by_edits movie [] states = states
 left_by_edits movie (edit ∷ edits) states = left_by_edits (edited movie edit) edits (left_by movie edit states)
 
+-- the window's states that they leave: those up to the edited place
+abbrev pub near_left_by_edits : {A : Type 0} → MovieContent → List (Edit A) → List Savestate → List Savestate
+near_left_by_edits movie [] near = near
+near_left_by_edits movie (edit ∷ edits) near =
+    near_left_by_edits (edited movie edit) edits (filter (λ kept. nat_le kept.frame (min (edited_place edit) (length (edited movie edit).inputs))) near)
+
 -- a draft after a line that comes to this: it began where it did, and what the line changed is cut off its greenzone at once
 pub record IsDraftAfter (draft : DraftContent) (request : Request) (next : TalkState) (draft' : DraftContent) : Type 0 where
   pub at : draft'.at ≡ draft.at
@@ -69,9 +84,28 @@ pub record IsDraftAfter (draft : DraftContent) (request : Request) (next : TalkS
   pub stands : draft_standing draft' ≡ next.stands
   pub states : draft'.states ≡ left_by_edits draft.movie (made_between (draft_standing draft) next.stands (requested_edits (Unit {0}) draft.movie request)) next.states
 
+-- what a line that plays up to the place `end`, for k, leaves of a draft's states and its window, where the definition answers this: the frames were played
+-- from both, or memory was refused and the draft is as it was; so it is where the movie hasn't the frames
+abbrev pub LookLeavesDraft : {X : Type 0} → ℕ → ℕ → DraftContent → DraftContent → List ℕ → Option X → Type 0
+LookLeavesDraft k end draft draft' answer None = draft' ≡ draft
+LookLeavesDraft k end draft draft' answer (Some shown) =
+    ((ran : ℕ) × IsPlayedNear draft.movie draft.movie k end (both draft.states draft.near) (both draft'.states draft'.near) ran) ⊎ ((answer ≡ reply_text OutOfMemory) × (draft' ≡ draft))
+
+-- what a line leaves of them: the looks that use the window fill it, and what the line changed is cut off it at once
+abbrev pub LeavesNear : DraftContent → Request → List ℕ → DraftContent → Type 0
+LeavesNear draft (Picture k) answer draft' = LookLeavesDraft k (k + 1) draft draft' answer (answer_shot draft.movie k)
+LeavesNear draft (Ram k) answer draft' = LookLeavesDraft k k draft draft' answer (answer_ram draft.movie k)
+LeavesNear draft (Digest k) answer draft' = LookLeavesDraft k k draft draft' answer (answer_shot draft.movie k)
+LeavesNear draft (Lag a b) answer draft' = LookLeavesDraft a a draft draft' answer (answer_lag draft.movie a b)
+LeavesNear draft request answer draft' =
+    draft'.near ≡ near_left_by_edits draft.movie (made_between (draft_standing draft) (draft_standing draft') (requested_edits (Unit {0}) draft.movie request)) draft.near
+
 -- a request is answered at a draft as at a history with its movie, its number of edits and its greenzone
-abbrev pub IsAnsweredInDraft : DraftContent → Request → List ℕ → DraftContent → Type 0
-IsAnsweredInDraft draft request answer draft' = (next : TalkState) × IsAnswerTo (draft_state draft) request answer next × IsDraftAfter draft request next draft'
+pub record IsAnsweredInDraft (draft : DraftContent) (request : Request) (answer : List ℕ) (draft' : DraftContent) : Type 0 where
+  pub next : TalkState
+  pub answered : IsAnswerTo (draft_state draft) request answer next
+  pub after : IsDraftAfter draft request next draft'
+  pub window : LeavesNear draft request answer draft'
 
 -- a picture of a strip: its answer, and the draft then
 pub record DraftPicture : Type 0 where

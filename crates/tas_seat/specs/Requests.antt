@@ -46,8 +46,8 @@ pub record Plays (old new : TalkState) (k ran : ℕ) : Type 0 where
   pub green : IsGreen new
   pub shot : IsShotFrom old.kept_for new.kept_for k old.states new.states 0 ran
 
--- the state after k frames was reached: the greenzone was cut for the movie, `ran` frames were played from the nearest state that was left, and the
--- states on the way that stand on the grid are kept, too
+-- the state after k frames was reached: the greenzone was cut for the movie, and is as if `ran` frames were played from the nearest state that was
+-- left: the states on the way that stand on the grid are kept, too. Fewer may have been played, from the window
 pub record Reaches (old new : TalkState) (k ran : ℕ) : Type 0 where
   pub green : IsGreen new
   pub reach : IsReachedFrom old.kept_for new.kept_for k old.states new.states 0 ran

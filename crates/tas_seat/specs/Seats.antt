@@ -8,6 +8,7 @@ use Rattle.tas_published.specs.declared.entry.Entry.{Entry}
 use Rattle.tas_session.specs.Answers.{answer_shot}
 use Rattle.tas_published.specs.History.{movie_of}
 use Rattle.tas_desk.specs.Seats.{SeatContent, entry_of}
+use Rattle.tas_desk.specs.States.{IsReached}
 use Rattle.tas_desk.specs.Work.{IsTally, KeepsCart}
 use Rattle.tas_desk.specs.Zones.{ZoneContent, CutsWindow, IsViewed}
 use Rattle.tas_language.specs.declared.command.Command.{Command}
@@ -16,10 +17,10 @@ use Rattle.tas_language.specs.declared.reply.Reply.{Reply}
 use Rattle.tas_language.specs.declared.reply.Reply.TheVariants.{Worked, OutOfMemory}
 use Rattle.tas_language.specs.Replies.{reply_text}
 use Rattle.tas_language.specs.declared.request.Request.{Request}
-use Rattle.tas_language.specs.declared.request.Request.TheVariants.{Do, Retouch, Picture, Pictures, History}
+use Rattle.tas_language.specs.declared.request.Request.TheVariants.{Do, Retouch, Picture, Pictures, Ram, Digest, Lag, History}
 use Rattle.tas_seat.specs.Edits.{edits_by_command, requested_edits, made_between}
 use Rattle.tas_seat.specs.Turns.{standing_of, IsTurn}
-use Rattle.tas_seat.specs.Requests.{TalkState, CommandLeaves, IsAnswerTo}
+use Rattle.tas_seat.specs.Requests.{TalkState, CommandLeaves, IsAnswerTo, answer_ram, answer_lag}
 use Rattle.tas_seat.specs.HistoryText.{history_reply_text}
 
 -- a seat's edits as entries of the history, from this serial on
@@ -49,17 +50,28 @@ CommandLeavesZone before now (Shot k) = KeepsWindow before now
 CommandLeavesZone before now (Work k) = KeepsWindow before now
 CommandLeavesZone before now _ = now ≡ before
 
--- what `picture K` leaves of both, where the definition answers this: the frame was viewed from them, or memory was refused and they are as they
--- were; so they are where the movie has no such frame
+-- what a line that plays from both leaves of them, where the definition answers this: `left` says it after this many played frames; or memory was
+-- refused, and they are as they were. So they are where the movie hasn't the frames
+abbrev pub LookLeavesZone : {A X : Type 0} → (ℕ → Type 0) → SeatContent A → SeatContent A → List ℕ → Option X → Type 0
+LookLeavesZone left before now answer None = now.zone ≡ before.zone
+LookLeavesZone left before now answer (Some shown) = ((ran : ℕ) × left ran) ⊎ ((answer ≡ reply_text OutOfMemory) × (now.zone ≡ before.zone))
+
+-- what `picture K` leaves of both, where the definition answers this: the frame was viewed from them
 abbrev pub PictureLeavesZone : {A : Type 0} → SeatContent A → SeatContent A → ℕ → List ℕ → Option (Result (List ℕ) Halt) → Type 0
-PictureLeavesZone before now k answer None = now.zone ≡ before.zone
-PictureLeavesZone before now k answer (Some shown) = ((ran : ℕ) × IsViewed before.zone now.zone now.front k ran) ⊎ ((answer ≡ reply_text OutOfMemory) × (now.zone ≡ before.zone))
+PictureLeavesZone before now k answer found = LookLeavesZone (IsViewed before.zone now.zone now.front k) before now answer found
+
+-- what `ram K`, `digest K` and `lag K B` leave of both: the state after K frames was reached from them
+abbrev pub StateLeavesZone : {A X : Type 0} → SeatContent A → SeatContent A → ℕ → List ℕ → Option X → Type 0
+StateLeavesZone before now k answer found = LookLeavesZone (IsReached before.zone now.zone now.front k) before now answer found
 
 -- what a request leaves of both
 abbrev pub LeavesZone : {A : Type 0} → SeatContent A → SeatContent A → Request → List ℕ → Type 0
 LeavesZone before now (Do command) answer = CommandLeavesZone before.zone now.zone command
 LeavesZone before now (Retouch retouch) answer = now.zone ≡ before.zone
 LeavesZone before now (Picture k) answer = PictureLeavesZone before now k answer (answer_shot (movie_of now.front) k)
+LeavesZone before now (Ram k) answer = StateLeavesZone before now k answer (answer_ram (movie_of now.front) k)
+LeavesZone before now (Digest k) answer = StateLeavesZone before now k answer (answer_shot (movie_of now.front) k)
+LeavesZone before now (Lag a b) answer = StateLeavesZone before now a answer (answer_lag (movie_of now.front) a b)
 LeavesZone before now _ answer = KeepsWindow before.zone now.zone
 
 -- what the reply to `work` counts is one job's: it gained no more states than a zone can have, or it was stale and gained none; it isn't stale where

@@ -1,4 +1,8 @@
 //! Seats with their doors.
+//!
+//! Several conversations take any allocator that threads may share, so tests refuse each growth of a whole desk. That a
+//! thread's work may cross to it is proved part by part in `converse_all`: the prover's search finds it for one
+//! allocator, and gives up over any.
 
 ghost use Rattle.std.specs.Prelude.{◌≡◌, ℕ, ◌<◌, length, slice_index_or};
 ghost use Rattle.tas_seat.specs.Lines.{WasHeld, seat_end};
@@ -34,6 +38,7 @@ impl<N: Name, D: Door + Drop, A: Allocator + Copy> Caller<N, D, A> {
 
 /// How a conversation's end is reported as its seat's.
 pub fn seat_end(end: Result<(), ToolFault>) -> Result<(), SeatFault>
+    // Refused: failed_read_ends_well*, no_entry_is_reported_as_out_of_memory*.
     ensures { result ≡ seat_end end }
 {
     match end {
@@ -74,6 +79,11 @@ pub fn converse_all<
     T: Wait + Threads + Sync,
     D: Door + Drop + Send,
 >(rt: &T, alloc: A, desk: &Desk<N, &T, A>, callers: &mut [Caller<N, D, A>])
+    // A conversation is held at a door: from the bytes that its input has and its output holds when it is opened, to
+    // what is left of the one and held by the other when it is closed; or the door couldn't be opened, and the seat is
+    // as it was. How it ended is reported, each fault as what it was.
+    // Refused: unopened_door_ends_well*, door_is_not_opened*, conversation_is_not_held,
+    // end_of_a_conversation_is_dropped, edit_outside_the_conversation.
     ensures { (k : ℕ) (d : _) → k < length callers.old
         → WasHeld D.facts (slice_index_or callers.old k d).door
         (slice_index_or callers.new k d).door (slice_index_or callers.old k d).seat

@@ -1,4 +1,6 @@
 //! Answering a command.
+//!
+//! `work` shares the states that it filled with the seat, so that the shots after it start from them.
 
 ghost use Rattle.std.specs.Prelude.{◌≡◌, IfErr, MatchResult};
 ghost use Rattle.tas_language.specs.declared.command.Command.TheVariants.{Length as LengthLine, InputAt as InputLine, Shot as ShotLine, Work as WorkLine};
@@ -106,6 +108,8 @@ impl Gate for OpenGate {
 
 /// The reply to a `work` line: what was done.
 fn worked_reply(worked: Worked) -> Reply
+    // A `work` line's reply has the numbers that the desk counted.
+    // Refused: work_is_never_stale.
     ensures { result ≡ WorkedReply worked.jobs worked.kept worked.stale }
 {
     Reply::Worked {
@@ -146,8 +150,35 @@ pub fn reply_to_command<N: Name, W: CloseOnDrop, A: Allocator + Copy, R: Wait>(
     seat: &mut Seat<N, A>,
     command: Command,
 ) -> Result<Reply, RunFault>
+    // Refused: edit_at_a_strange_history_is_answered, wrong_serial_is_reported_as_full*,
+    // wrong_serial_is_reported_as_no_entry*.
+    // A line of a script is answered at one history, which begins with all that the seat had seen, by the reply that
+    // cartridge and inputs alone give at this history's movie and number of edits; the seat has then seen this history
+    // and, after it, the edit that the line made.
+    // Refused: input_line_shows_the_first_frame*, len_line_reports_half_the_length,
+    // edit_is_reported_at_the_front_before*, loaded_cartridge_is_blank*, insert_line_replaces*,
+    // half_of_the_copies_are_put_in*.
+    // The numbers of a `work` line are those of one job: it gained 512 states at most, or it was stale and gained none.
+    // It is stale only where another cartridge is loaded after what the seat had seen.
+    // Refused: work_outside_a_draft_reports_stale_states.
+    // Refusals are replies, and change nothing; each comes where it is due, `out of memory` only where no refusal of
+    // the edit and no `no frame` is due; it may come in place of `halted`.
+    // Refused: full_history_is_reported_as_out_of_memory, place_is_reported_as_too_long*,
+    // memory_is_asked_for_before_the_place*, full_is_reported_at_one_edit_less*,
+    // insertion_up_to_the_most_inputs_is_refused*.
+    // A halted frame is reported as such; a shot reports the number of pixels that aren't black in the definition's
+    // picture, and how many frames it played.
+    // Refused: halted_frame_is_reported_before_all_edits, halted_frame_is_shown_with_nothing_lit*,
+    // half_of_the_lit_pixels_are_reported*, half_of_the_played_frames_are_reported*.
+    // `work` cuts the seat's kept states for the movie and lets them gain states of it.
+    // Refused: work_does_not_share_its_states.
+    // `len`, `input` and edits leave the zone and its window as they were. `shot` and `work` do so, too, or may change
+    // the kept states, and then cut the window for the movie and do no more to it.
+    // Refused: len_line_brings_the_zone.
     ensures answer { MatchResult result (IsAnswered A seat.old seat.new command)
         (IsUnanswered seat.old seat.new) }
+    // `NoEntry` comes only of `len`, `input` or `shot`, which look through the seat's reader.
+    // Refused: none, see `answer_request`.
     ensures entry { IfErr result (λ fault. fault ≡ NoEntry → IsLook (ScriptLine command)) }
 {
     match command {

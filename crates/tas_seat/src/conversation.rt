@@ -1,9 +1,15 @@
 //! Answering a request of a conversation, in a draft or outside one.
+//!
+//! A commit is refused as `moved` where others have edited, and not merged: the draft was answered by a movie that is
+//! no longer the desk's. It stays open, to be looked at. The history is looked at first, by a commit of no edits, so
+//! `out of memory` never hides `moved` or `full`; the number of edits is counted without memory. Others may still edit
+//! before the step, which is then refused as `moved` itself. `share` and `history` are about the desk, in a draft too,
+//! since they are what others see.
 
 ghost use Rattle.std.specs.Prelude.{◌≡◌, ◌≢◌, ◌≤◌, length, Some, None, Ok, IfOk, IfErr, MatchOption, MatchResult};
-ghost use Rattle.tas_green.specs.Green.{IsLawful};
 ghost use Rattle.tas_published.specs.History.{most_edits};
 ghost use Rattle.tas_desk.specs.Seats.{SeatContent, KeepsZone};
+ghost use Rattle.tas_desk.specs.Zones.{view_in};
 ghost use Rattle.tas_engines.specs.declared.fault.RunFault.TheVariants.{NoEntry, Memory};
 ghost use Rattle.tas_language.specs.Drafts.{draft_reply_text};
 ghost use Rattle.tas_language.specs.declared.request.Request.TheVariants.{Begin as BeginLine, Commit as CommitLine, Drop as DropLine, Quit as QuitLine};
@@ -62,21 +68,18 @@ fn answer_about_draft<A: Allocator>(alloc: A, reply: DraftReply) -> Result<Vec<u
     Ok(draft_reply_line(alloc, reply)?)
 }
 
-/// A draft of the movie of a seat's greenzone, with a copy of its states.
+/// A draft of the movie of a seat's greenzone, with a copy of its states and its window.
 fn open_draft<N: Name, A: Allocator + Copy>(
     alloc: A,
     seat: &Seat<N, A>,
     at: u64,
 ) -> Result<Draft<A>, AllocError>
-    requires lawful { IsLawful seat.now.zone.movie seat.now.zone.states }
-    requires most { at ≤ most_edits }
-    ensures { IfOk result
-        (λ draft. draft ≡ fresh_draft at seat.now.zone.movie seat.now.zone.states) }
+    requires { at ≤ most_edits }
+    ensures { IfOk result (λ draft. draft ≡ fresh_draft at (view_in seat.now.zone)) }
 {
     let base = seat.zone_movie().copy(alloc)?;
-    let movie = seat.zone_movie().copy(alloc)?;
-    let green = seat.copy_zone(alloc)?;
-    Ok(Draft::new(base, movie, green, at))
+    let view = seat.view().copy(alloc)?;
+    Ok(Draft::new(base, view, at))
 }
 
 /// A `begin` line.
@@ -251,13 +254,37 @@ pub fn answer_talk<N: Name, W: CloseOnDrop, A: Allocator + Copy, R: Wait>(
     draft: &mut Option<Draft<A>>,
     request: Request,
 ) -> Result<Option<Vec<u8, A>>, RunFault>
+    // A line that isn't answered leaves an open draft as it was, or, of a strip, as its first pictures left it, fewer
+    // than it asks for; or, where memory was refused, the line was carried out.
+    // Refused: draft_is_lost_by_a_fault.
+    // Where no draft is open, `begin` is answered at a history that begins with all that the seat had seen: it opens a
+    // draft of that movie, with a copy of the states that the seat's greenzone then keeps of it and of its window, or
+    // memory is refused and none is opened. `commit` and `drop` are answered `no draft` and change nothing; each other
+    // line is answered as it is without drafts.
+    // Refused: draft_begins_one_edit_early.
+    // In a draft a line about a movie is answered at the draft, and the seat stays as it is; `share` and `history` are
+    // answered at a history that begins with all that the seat had seen, and the draft stays as it is; `begin` is
+    // answered `in draft`; `drop` gives the draft up and changes nothing else.
+    // Refused: line_in_a_draft_is_answered_by_the_desk, drop_leaves_the_draft_open.
+    // `commit` is answered at one such history. Where this has as many edits as when the draft began, room for those
+    // that the draft comes to, and a movie that allows them, these stand next in it, all of them, with no other
+    // between, and no draft is open then. Else nothing is made and the draft stays open; so it does where memory is
+    // refused, which is answered only where the draft comes to an edit and the history has that number of edits and
+    // that room. In a conversation the movie allows them: it is the one at which the draft began
+    // (`commits_make_drafts`).
+    // Refused: commit_is_made_where_others_have_edited, memory_is_asked_for_where_others_have_edited*,
+    // memory_is_asked_for_where_there_is_no_room*, draft_is_lost_by_a_refused_commit.
     ensures answer { MatchResult result
         (λ found. MatchOption found
         ((request ≡ QuitLine) × (talking seat.new draft.new ≡ talking seat.old draft.old))
         (λ bytes. HasTalkAnswer A (talking seat.old draft.old) (talking seat.new draft.new) request
         bytes.items))
         (HasNoTalkAnswer (talking seat.old draft.old) (talking seat.new draft.new) request) }
+    // `quit` gets no answer and no fault, however little memory there is.
+    // Refused: quit_is_reported_as_out_of_memory*.
     ensures quit { request ≡ QuitLine → result ≡ Ok None }
+    // `NoEntry` comes only of a line of which `answer_request` has it, and of none in a draft.
+    // Refused: none, see `answer_request` and `Draft::answer`.
     ensures entry { IfErr result
         (λ fault. fault ≡ NoEntry → IsLook request × (draft.old ≡ None)) }
 {

@@ -1,4 +1,8 @@
 //! Connections to the programs that seats talk to.
+//!
+//! A door may say what is known of its ends (`DoorFacts`), before it is opened and once it is closed: so a contract can
+//! tell a conversation that was held from one that wasn't, though both ends are opened and closed inside. Of files
+//! nothing is known.
 
 ghost use Rattle.std.specs.Prelude.{◌≡◌, IfOk, OnErr};
 ghost use Rattle.tas_seat.specs.Lines.{DoorFacts, unknown_facts};

@@ -12,7 +12,6 @@ use crate::edit_requests::EditRequest;
 use crate::requests::{answer_of_reply, unshown_answer};
 use std::alloc::Allocator;
 use tas_engines::RunFault;
-use tas_green::Job;
 use tas_language::{Change, Command, Reply, Request, Retouch};
 
 impl<A: Allocator + Copy> Draft<A> {
@@ -59,11 +58,11 @@ impl<A: Allocator + Copy> Draft<A> {
     fn work(&mut self, alloc: A, frame: usize) -> Reply
         ensures { IsDraftReply self.old self.new (ScriptLine (WorkLine frame)) result }
     {
-        let Ok(job) = Job::take(alloc, &self.movie, &self.green, frame) else {
+        let Ok(job) = self.view.job(alloc, frame) else {
             return Reply::OutOfMemory;
         };
         let batch = job.run();
-        let Ok(merged) = self.green.merge(&self.movie, &batch) else {
+        let Ok(merged) = self.view.merge(&batch) else {
             return Reply::OutOfMemory;
         };
         Reply::Worked {
@@ -178,11 +177,30 @@ impl<A: Allocator + Copy> Draft<A> {
     /// The one fault is `Memory`, where it is refused for an answer of one short line, once the request is carried out, or for a strip
     /// of pictures, the first of which may be drawn then.
     pub fn answer(&mut self, alloc: A, request: Request) -> Result<Option<Vec<u8, A>>, RunFault>
+        // Each line that is about a movie is answered at a draft by the definition for a history with the draft's
+        // movie, its number of edits and its greenzone; a change is made in the draft alone, is counted on, and leaves
+        // exactly the states up to the edited place, the kept ones on the new grid; `picture`, `ram`, `digest` and
+        // `lag` are played from the nearest state of kept states and window and fill both, as at a seat, and no other
+        // line changes the window; a deletion is never answered `out of memory`; `movie` and `states` leave
+        // all; `work K` keeps exactly what playing the first K frames, or all that there are, leaves, and reports as
+        // many as are gained, and none stale, or is `out of memory` with the kept states as they were; `load` is
+        // answered `in draft` and changes nothing.
+        // Refused: change_in_a_draft_is_made_twice, window_of_a_draft_is_lost_before_a_picture,
+        // deletion_in_a_draft_is_out_of_memory*, work_in_a_draft_reports_stale_states*, work_in_a_draft_fills_half.
+        // The pictures of a strip are answered one after the other; `share`, `history` and `quit` aren't about a
+        // draft's movie, nor are `begin`, `commit` and `drop`: they get no answer from the draft, and nothing is
+        // changed.
+        // Refused: strip_in_a_draft_leaves_out_its_last_frame.
+        // The one fault at a draft is `Memory`: the draft is as it was then; or, of a strip, as its first pictures left
+        // it, fewer than it asks for; or the line was carried out.
+        // Refused: strip_out_of_memory_is_no_entry, failed_strip_in_a_draft_leaves_no_states*.
         ensures answer { MatchResult result
             (λ found. MatchOption found (IsAboutDesk request × (self.new ≡ self.old))
             (λ bytes. IsDraftAnswered self.old request bytes.items self.new))
             (λ fault. (fault ≡ Memory) × IsDraftUnanswered self.old request self.new) }
         ensures kept { IsDraft self.new }
+        // `share`, `history`, `begin`, `commit`, `drop` and `quit` get no answer and no fault from a draft.
+        // Refused: share_in_a_draft_is_reported_as_out_of_memory.
         ensures desk { IsAboutDesk request → result ≡ Ok None }
     {
         let answer = self.answer_about_movie(alloc, request);

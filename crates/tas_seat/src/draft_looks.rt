@@ -3,7 +3,7 @@
 ghost use Rattle.std.specs.Prelude.{MatchResult};
 ghost use Rattle.tas_language.specs.declared.request.Request.TheVariants.{Picture as PictureLine, Ram as RamLine, Digest as DigestLine, Lag as LagLine, Movie as MovieLine, States as StatesLine};
 ghost use Rattle.tas_seat.specs.Drafts.{IsDraftAnswered};
-ghost use Rattle.tas_seat.specs.Inside.Drafting.{IsDraftShot, IsDraftStateFor, HasNoDraftAnswer};
+ghost use Rattle.tas_seat.specs.Inside.Drafting.{IsDraftShot, IsDraftPicture, IsDraftStateFor, HasNoDraftAnswer};
 
 use crate::Draft;
 use crate::looks::{digest_frame, find_lag};
@@ -13,11 +13,10 @@ use tas_desk::{Reached, Shot, ShotError, StateError};
 use tas_engines::RunFault;
 use tas_language::{movie_answer, picture_answer, ram_answer};
 use tas_session::shown;
-use vcs_machine::Meter;
 use vcs_tia::Picture;
 
 impl<A: Allocator + Copy> Draft<A> {
-    /// Draws frame `k` from the draft's greenzone.
+    /// Draws frame `k` from the draft's greenzone; the window isn't used.
     pub(crate) fn shot(&mut self, alloc: A, k: usize) -> Result<Shot<A>, ShotError>
         ensures { IsDraftShot self.old self.new k result }
     {
@@ -29,14 +28,27 @@ impl<A: Allocator + Copy> Draft<A> {
         let Ok(mut picture) = Picture::blank(alloc) else {
             return Err(ShotError::Memory);
         };
-        let mut meter = Meter::new();
-        let Ok(end) = self.green.shot(&self.movie, k, &mut picture, &mut meter) else {
-            return Err(ShotError::Memory);
-        };
-        shown(at, k, meter.count(), picture, end)
+        let played = self.view.shot(k, &mut picture).unwrap();
+        shown(at, k, played.ran, picture, played.end)
     }
 
-    /// The machine after `from` frames, from the draft's greenzone, where `from` is at most `to`, and `to` at most the movie's length.
+    /// Draws frame `k` from the draft's greenzone and its window.
+    fn picture(&mut self, alloc: A, k: usize) -> Result<Shot<A>, ShotError>
+        ensures { IsDraftPicture self.old self.new k result }
+    {
+        let at = self.edits();
+        let len = self.movie().len();
+        if k >= len {
+            return Err(ShotError::NoFrame { at, len });
+        }
+        let Ok(mut picture) = Picture::blank(alloc) else {
+            return Err(ShotError::Memory);
+        };
+        let viewed = self.view.picture(k, &mut picture).unwrap();
+        shown(at, k, viewed.ran, picture, viewed.end)
+    }
+
+    /// The machine after `from` frames, from the draft's greenzone and its window, where `from` is at most `to`, and `to` at most the movie's length.
     fn state_for(&mut self, from: usize, to: usize) -> Result<Reached, StateError>
         ensures { IsDraftStateFor self.old self.new from to result }
     {
@@ -45,14 +57,11 @@ impl<A: Allocator + Copy> Draft<A> {
         if from > to || to > len {
             return Err(StateError::NoFrame { at, len });
         }
-        let mut meter = Meter::new();
-        let Ok(state) = self.green.reach(&self.movie, from, &mut meter) else {
-            return Err(StateError::Memory);
-        };
+        let reached = self.view.state(from).unwrap();
         Ok(Reached {
             at,
-            ran: meter.count(),
-            state,
+            ran: reached.ran,
+            state: reached.state,
         })
     }
 
@@ -62,7 +71,7 @@ impl<A: Allocator + Copy> Draft<A> {
             (λ bytes. IsDraftAnswered self.old (PictureLine frame) bytes.items self.new)
             (HasNoDraftAnswer self.old self.new (PictureLine frame)) }
     {
-        let shot = match self.shot(alloc, frame) {
+        let shot = match self.picture(alloc, frame) {
             Ok(shot) => shot,
             Err(error) => return unshown_answer(alloc, error),
         };
@@ -134,7 +143,7 @@ impl<A: Allocator + Copy> Draft<A> {
             (λ bytes. IsDraftAnswered self.old StatesLine bytes.items self.new)
             (HasNoDraftAnswer self.old self.new StatesLine) }
     {
-        let bytes = list_states(alloc, self.green(), self.movie(), self.edits());
+        let bytes = list_states(alloc, self.view(), self.edits());
         answer_or_refusal(alloc, bytes)
     }
 }

@@ -1,4 +1,8 @@
 //! What a draft comes to: the edits that make one movie of another.
+//!
+//! A commit is made of edits that exist: the history has no new kind of entry, and a client that follows it need know
+//! nothing of drafts. Frames in the place of another number of frames are a `Delete` and an `Insert`, in one step under
+//! one version. That no reader sees the movie between them is tested, not proved.
 
 ghost use Rattle.std.specs.Prelude.{◌≡◌, ◌<◌, ◌≤◌, ℕ, IfOk, OnErr, length, reverse};
 ghost use Rattle.tas_movie.specs.Content.{most_inputs};
@@ -102,6 +106,7 @@ pub fn stroke_between<A: Allocator, B: Allocator>(
     movie: &Movie<B>,
 ) -> Result<Stroke<A>, AllocError>
     requires { movie.now.cart ≡ base.now.cart }
+    // Refused: stroke_of_a_deletion_is_out_of_memory*.
     ensures stroke { IfOk result (λ stroke. IsStroke base.now movie.now (edits_of stroke)) }
     ensures leads { IfOk result (λ stroke. LeadsTo base.now (edits_of stroke) movie.now) }
     ensures memory { OnErr result (PutsIn base.now movie.now) }

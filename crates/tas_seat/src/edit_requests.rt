@@ -1,4 +1,8 @@
 //! The edits that lines ask for.
+//!
+//! An edit takes the movie's frames under the lock (`EditRequest`, a `Plan`), not from the zone's copy, which would
+//! have to be cut first: so an edit that is undone before the next look costs the zone no state. What refuses an edit
+//! whatever memory there is comes before memory is asked for, so `out of memory` never hides it.
 
 ghost use Rattle.std.specs.Prelude.{◌≡◌, None, IfOk, OnErr, MatchResult};
 ghost use Rattle.tas_movie.specs.Edit.{IsAllowed};

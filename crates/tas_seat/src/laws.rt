@@ -21,6 +21,10 @@ use std::alloc::Allocator;
 /// The history that a closed desk leaves shows of each seat just the edits of its conversation, in order, after those with which it
 /// began; nobody else's are counted as its own, and no conversation ends with `Foreign`.
 pub fn talks_are_in_history<A: Allocator>()
+    // The history that a closed desk leaves has of each seat just the edits of its conversation, in order, after those
+    // with which it began; and no conversation ends with `Foreign`. The seat is one that had seen as many of its own
+    // entries as it had made when the conversation began.
+    // Refused: none, it has no code to edit.
     ensures shows { (start last : SeatContent A) (input input' output output' : Option (List ℕ))
         (end : Result (Unit {0}) ToolFault)
         (talk : IsTalk start last input input' output output' end) (history : List (Entry A))
@@ -36,6 +40,9 @@ pub fn talks_are_in_history<A: Allocator>()
 /// Each line of a conversation is answered at a beginning of the history that its desk leaves, and these never get shorter from line to
 /// line.
 pub fn answers_are_at_beginnings<A: Allocator>()
+    // Each answer that isn't given at a draft is at a beginning of that history, and these never get shorter from line
+    // to line.
+    // Refused: none, it has no code to edit.
     ensures at { (before now : SeatContent A) (history : List (Entry A)) (edits : List (Edit A))
         → IsSeatAfter before history edits now → IsPrefix history now.front }
     ensures begins { (start last : TalkingSeat A) (before after : List (Exchange A))
@@ -51,6 +58,9 @@ pub fn answers_are_at_beginnings<A: Allocator>()
 /// begins with what the seat has seen, and has as many edits as when the draft began, has the movie from which it began; and where a
 /// `commit` leaves no draft, the movie of the history that the seat has then seen is the draft's.
 pub fn commits_make_drafts<A: Allocator>()
+    // A draft is one of the movie at which it began, and a `commit` after which no draft is open has made just the
+    // draft's movie.
+    // Refused: none, it has no code to edit.
     ensures base { (start : SeatContent A) (last : TalkingSeat A) (exchanges : List (Exchange A))
         (draft : DraftContent) (history : List (Entry A))
         → AreExchanges (talking start None) exchanges last → last.draft ≡ Some draft

@@ -3,6 +3,11 @@
 //! edits that the line made. In a draft a line about the movie is answered at the draft.
 //!
 //! Nothing here asks whether other seats edit the movie, too: a desk of one seat is the case in which nobody else does.
+//!
+//! A conversation is made of the script's parts, so one definition says what a line means in both. Definitions follow
+//! what is kept from line to line (`TalkState`), so `states` can't leave out what is kept and the number after `ran` is
+//! right. Only the desk's own states, which `work` fills, aren't followed: `movie`, `states`, `share`, `work` and
+//! `begin` gain some, and tests check which.
 #![tactic(auto)]
 
 mod callers;
@@ -15,7 +20,6 @@ mod draft_looks;
 mod draft_stroke;
 mod edit_requests;
 mod histories;
-mod kept;
 mod laws;
 mod looks;
 mod requests;

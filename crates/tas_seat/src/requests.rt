@@ -1,7 +1,12 @@
 //! Answering a request.
+//!
+//! `movie` and `states` first let the desk share its states: that cuts the seat's zone for the present movie, so the
+//! frames listed are those of lawful states, and the movie is the zone's own copy. The answers of a strip go out
+//! together, so a strip has one end: else a fault in its middle would have to say which answers had gone out. The price
+//! is 100,839 bytes a frame. `picture` has a window and `shot` has none: the number after `ran` is a script's, too,
+//! where it follows from the greenzone alone.
 
 ghost use Rattle.std.specs.Prelude.{◌≡◌, ◌≢◌, ◌++◌, ◌∷◌, [], length, is_some, if◌then◌else◌, Ok, Err, None, IfOk, IfErr, OnOk, MatchOption, MatchResult};
-ghost use Rattle.tas_green.specs.Green.{IsLawful};
 ghost use Rattle.tas_green.specs.Zone.{state_at};
 ghost use Rattle.tas_engines.specs.declared.fault.RunFault.TheVariants.{NoEntry, Memory};
 ghost use Rattle.tas_language.specs.declared.reply.Reply.TheVariants.{OutOfMemory};
@@ -14,18 +19,16 @@ ghost use Rattle.tas_seat.specs.Outcomes.{unshown_as, HasAnswer, HasNoAnswer, Is
 use crate::commands::{reply_to_command, unshown_as};
 use crate::edit_requests::{EditRequest, make_edit};
 use crate::histories::answer_history;
-use crate::kept::Kept;
 use crate::looks::{answer_digest, answer_lag, answer_ram};
 use std::alloc::{AllocError, Allocator};
 use std::sync::Wait;
 use tas_desk::{CloseOnDrop, Desk, Name, Seat, ShotError};
 use tas_engines::RunFault;
-use tas_green::stride;
+use tas_green::{View, stride};
 use tas_language::{
     Command, Reply, Request, Retouch, movie_answer, picture_answer, reply_line, share_answer,
     states_answer,
 };
-use tas_movie::Movie;
 
 /// A reply as an answer.
 pub fn answer_of_reply<A: Allocator>(alloc: A, reply: Reply) -> Result<Vec<u8, A>, RunFault>
@@ -154,56 +157,52 @@ fn answer_movie<N: Name, W: CloseOnDrop, A: Allocator + Copy, R: Wait>(
 }
 
 /// Appends a frame, where a state is kept after it.
-fn push_kept<K: Kept, B: Allocator>(
+fn push_kept<A: Allocator, B: Allocator>(
     frames: &mut Vec<usize, B>,
-    kept: &K,
+    view: &View<A>,
     frame: usize,
 ) -> Result<(), AllocError>
     ensures { OnOk result
         (frames.new.items
         ≡ frames.old.items
-        ++ (if is_some (state_at frame (K.states kept.now)) then frame ∷ [] else [])) }
+        ++ (if is_some (state_at frame view.now.states) then frame ∷ [] else [])) }
 {
-    if !kept.holds(frame) {
+    if !view.holds(frame) {
         return Ok(());
     }
     frames.push(frame)?;
     Ok(())
 }
 
-/// The frames from 1 to the movie's length at which a state of it is kept. Only places of the grid need a look, since a lawful
-/// greenzone has no states elsewhere.
-fn frames_kept<K: Kept, A: Allocator, B: Allocator>(
+/// The frames from 1 to the movie's length at which a state of it is kept. Only places of the grid need a look, since no state is
+/// kept elsewhere.
+fn frames_kept<A: Allocator, B: Allocator>(
     alloc: B,
-    kept: &K,
-    movie: &Movie<A>,
+    view: &View<A>,
 ) -> Result<Vec<usize, B>, AllocError>
-    requires { IsLawful movie.now (K.states kept.now) }
     ensures { IfOk result
-        (λ frames. frames.items ≡ kept_frames (length movie.now.inputs) (K.states kept.now)) }
+        (λ frames. frames.items ≡ kept_frames (length view.now.movie.inputs) view.now.states) }
 {
-    let len = movie.len();
+    let len = view.movie().len();
     let step = stride(len);
     let mut frames = Vec::new(alloc);
     for before in 0..len / step {
-        push_kept(&mut frames, kept, (before + 1) * step)?;
+        push_kept(&mut frames, view, (before + 1) * step)?;
     }
     Ok(frames)
 }
 
-/// The answer to `states`, for what keeps states of this movie.
-pub fn list_states<K: Kept, A: Allocator, B: Allocator + Copy>(
+/// The answer to `states`, for a view.
+pub fn list_states<A: Allocator, B: Allocator + Copy>(
     alloc: B,
-    kept: &K,
-    movie: &Movie<A>,
+    view: &View<A>,
     at: u64,
 ) -> Result<Vec<u8, B>, AllocError>
-    requires { IsLawful movie.now (K.states kept.now) }
     ensures { IfOk result
         (λ bytes. bytes.items
-        ≡ states_text at (kept_frames (length movie.now.inputs) (K.states kept.now))) }
+        ≡ states_text at (kept_frames (length view.now.movie.inputs) view.now.states)) }
 {
-    let frames = frames_kept(alloc, kept, movie)?;
+    let frames = frames_kept(alloc, view)?;
     states_answer(alloc, at, frames.as_slice())
 }
 
@@ -222,7 +221,7 @@ fn answer_states<N: Name, W: CloseOnDrop, A: Allocator + Copy, R: Wait>(
     let Ok(shared) = desk.bring(rt, seat) else {
         return answer_of_reply(alloc, Reply::OutOfMemory);
     };
-    let bytes = list_states(alloc, seat, seat.zone_movie(), shared.at);
+    let bytes = list_states(alloc, seat.view(), shared.at);
     answer_or_refusal(alloc, bytes)
 }
 
@@ -259,11 +258,44 @@ pub fn answer_request<N: Name, W: CloseOnDrop, A: Allocator + Copy, R: Wait>(
     seat: &mut Seat<N, A>,
     request: Request,
 ) -> Result<Option<Vec<u8, A>>, RunFault>
+    // Each request that is no line of a script is answered at a history that begins with all that the seat had seen,
+    // too: `picture` with the definition's pixmap, `ram`, `digest` and `lag` with what the movie's machine has, `movie`
+    // with the movie's text, `states` with the frames of the states that are kept then, `share` with how many states
+    // were gained; each of them names the number of this history's edits.
+    // Refused: share_is_reported_to_have_gained_nothing*, digest_of_ram_before_the_frame,
+    // movie_is_reported_at_one_edit_less, movie_before_is_reported_where_memory_is_refused*,
+    // picture_line_shows_the_first_frame*, picture_is_reported_at_one_edit_less*,
+    // states_are_reported_up_to_half_the_length*, state_after_the_last_frame_is_reported_as_no_frame*,
+    // ram_is_reported_at_one_edit_less*, halted_digest_is_reported_as_out_of_memory*,
+    // lag_is_played_from_another_frame*, lag_of_missing_frames_is_reported*.
+    // A picture, also one of a strip, is played from the seat's zone and window, and fills the window: it is the desk's
+    // view. So are the frames before the first one that `ram`, `digest` or `lag` looks at: it is the desk's state. Where
+    // the movie hasn't these frames, both are as they were; where the answer is `out of memory`, they may be.
+    // `press`, `release`, `repeat`, `copy` and `history` leave both as they were. `movie`, `states` and `share` do so,
+    // too, or may change the kept states, and then cut the window for the movie and do no more to it.
+    // Refused: window_is_lost_before_a_picture.
+    // The pictures of a strip are answered one after the other, each at a history that begins with all that the seat
+    // had seen.
+    // Refused: strip_leaves_out_its_last_frame, first_answer_of_a_strip_alone*.
+    // `history FROM` is answered with up to 256 entries of a history that begins with all that the seat had seen, by
+    // the lines of a script that make them.
+    // Refused: history_begins_one_entry_later.
+    // `press`, `release`, `repeat` and `copy` are each one edit of what this history's movie has, refused and made as a
+    // script's edit is.
+    // Refused: retouch_takes_half_of_its_frames, retouch_is_refused_by_half_the_length*.
+    // A line that isn't answered leaves the seat as it was; or, of a strip, as its first pictures left it, fewer than
+    // it asks for; or, where memory was refused, the line was carried out. At `Foreign` alone the seat may have seen
+    // more; it has made as many edits as before.
+    // Refused: none, see `answer_talk`.
     ensures answer { MatchResult result
         (λ found. MatchOption found (IsAboutTalk request × (seat.new ≡ seat.old))
         (λ bytes. HasAnswer A seat.old seat.new request bytes.items))
         (HasNoAnswer seat.old seat.new request) }
+    // `begin`, `commit`, `drop` and `quit` get no answer and no fault from a seat.
     ensures talk { IsAboutTalk request → result ≡ Ok None }
+    // `NoEntry` comes only of a line that looks through the seat's reader: `len`, `input`, `shot`, `picture`,
+    // `pictures`, `ram`, `digest` or `lag`.
+    // Refused: copy_line_ends_with_no_entry*.
     ensures entry { IfErr result (λ fault. fault ≡ NoEntry → IsLook request) }
 {
     match request {

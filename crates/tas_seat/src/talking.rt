@@ -1,4 +1,13 @@
 //! A seat's conversation: its lines, one after the other.
+//!
+//! An answer is made whole before its first byte goes out, so `out of memory` never comes in a picture's middle; then
+//! it is flushed. A flush that fails isn't reported: the next write may fail, and after the last answer there is none.
+//! A write's fault counts the bytes of the whole conversation, as far as 64 bits can count.
+//!
+//! The loop has no end of its own (`forever`), since a reader that always gives bytes would never let it end; what is
+//! promised is promised of where it returns. A fault can be `Read` wherever no whole line is unanswered, since no
+//! contract sees whether a reader failed. Bytes after the last newline aren't a fault: a front-end may stop in the
+//! middle of a line. `answer_part` takes seven arguments, what one turn of a conversation has.
 
 ghost use Rattle.std.specs.Prelude.{◌≡◌, ◌+◌, ◌++◌, ℕ, List, length, min, IfOk, IfErr, OnOk, MatchResult};
 ghost use Rattle.std.specs.Io.KnownBytes.{Appends};
@@ -143,6 +152,23 @@ pub fn converse<N: Name, C: CloseOnDrop, A: Allocator + Copy, T: Wait, R: Read, 
     input: &mut R,
     output: &mut W,
 ) -> Result<(), ToolFault>
+    // Refused: quit_ends_with_no_entry.
+    // A conversation answers each line as the seat does, and `unknown` where it isn't understood, which changes
+    // nothing.
+    // Refused: unknown_is_answered_nothing, part_of_a_line_is_dropped*.
+    // What left the reader is the lines that were answered and the rest before which it ended: a `quit` line, or no
+    // whole line where no more bytes come or a read failed; after a failed write one that begins with the line whose
+    // answer was cut off, or no whole line; after `NoEntry` one that begins with a line that looks; after `Memory` any.
+    // Refused: conversation_goes_on_after_quit, lines_after_quit_are_answered*,
+    // last_line_without_a_newline_is_dropped*.
+    // After a failed write the answers before it are out, and the first bytes of this one, fewer than all; the fault
+    // reports how many these are together, up to 2^64 - 1. Where memory is refused for an answer, or its write fails,
+    // the line may have been carried out, and its edit is the seat's; `history` and the movie have it.
+    // Refused: answers_before_a_failed_write_are_not_counted, carried_out_line_is_answered_nothing*,
+    // bytes_are_counted_from_the_last_answer*.
+    // A conversation begins with no draft, each line is answered with the draft that the lines before it left, and one
+    // that is open at the end is lost.
+    // Refused: conversation_forgets_its_draft.
     ensures { IsTalk seat.old seat.new (R.remaining input.old) (R.remaining input.new)
         (W.contents output.old) (W.contents output.new) result }
 {

@@ -4,7 +4,7 @@ use crate::checks::{check_that, expect_ok, expect_some};
 use std::alloc::Global;
 use std::process::Abort;
 use tas_desk::Stroke;
-use tas_green::Green;
+use tas_green::View;
 use tas_language::{parse_request, push_edit_lines};
 use tas_movie::Movie;
 use tas_seat::Draft;
@@ -19,14 +19,16 @@ type Drawn = (&'static str, &'static str, &'static str);
 fn blank_draft<R: Abort>(rt: &R, alloc: Global) -> Draft {
     let base = expect_ok(rt, Movie::blank(alloc));
     let movie = expect_ok(rt, base.copy(alloc));
-    Draft::new(base, movie, Green::new(alloc), 0)
+    let view = expect_ok(rt, View::new(alloc, movie));
+    Draft::new(base, view, 0)
 }
 
 /// A draft of what another one comes to.
 fn next_draft<R: Abort>(rt: &R, alloc: Global, draft: &Draft) -> Draft {
     let base = expect_ok(rt, draft.movie().copy(alloc));
     let movie = expect_ok(rt, base.copy(alloc));
-    Draft::new(base, movie, Green::new(alloc), draft.edits())
+    let view = expect_ok(rt, View::new(alloc, movie));
+    Draft::new(base, view, draft.edits())
 }
 
 /// Fails where a line is answered in another way.
@@ -71,6 +73,32 @@ fn lines_are_answered_by_what_the_movie_would_be(rt: HostRuntime) {
     let share = expect_some(&rt, parse_request(b"share"));
     let found = expect_ok(&rt, draft.answer(rt.alloc(), share));
     check_that(&rt, "share", found.is_none());
+}
+
+/// Lines in a draft of 200 frames, one after the other: how many frames are played then for the state after so many.
+static STEPS: [(&str, usize, u64); 6] = [
+    ("picture 100", 102, 1),
+    ("picture 101", 103, 1),
+    ("ram 103", 104, 1),
+    ("digest 104", 105, 1),
+    ("lag 105 106", 106, 1),
+    ("replace 90 1 R.... ..... .....", 93, 3),
+];
+
+/// A picture in a draft is played from its window, and fills it, and so are the other looks; a change cuts it at once.
+#[test]
+fn looks_in_a_draft_step_by_one_frame(rt: HostRuntime) {
+    let alloc = rt.alloc();
+    let mut draft = blank_draft(&rt, alloc);
+    let insert = expect_some(&rt, parse_request(b"insert 0 200 ..... ..... ....."));
+    expect_some(&rt, expect_ok(&rt, draft.answer(alloc, insert)));
+    for (line, frames, ran) in &STEPS {
+        let request = expect_some(&rt, parse_request(line.as_bytes()));
+        expect_some(&rt, expect_ok(&rt, draft.answer(alloc, request)));
+        let mut view = expect_ok(&rt, draft.view().copy(alloc));
+        let reached = expect_ok(&rt, view.state(*frames));
+        check_that(&rt, *line, reached.ran == *ran);
+    }
 }
 
 /// The edits that a draft comes to, as lines of a script.

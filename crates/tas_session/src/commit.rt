@@ -29,6 +29,13 @@ impl<A: Allocator + Copy> Session<A> {
         at: u64,
         stroke: Stroke<A>,
     ) -> Result<Receipt, CommitError>
+        // `commit` makes none, one or two edits as one step, where the history has as many edits as the caller says. It
+        // refuses in the order Serial, `Moved`, Full (no room for all of them), Place and Long of the first edit that
+        // is refused in the movie that those before it leave, Memory; each of the others exactly where it is due,
+        // Memory only where nothing else is and there is an edit. A refusal, also out of memory between the two, leaves
+        // history, movie and kept states as they were. A receipt: the session is as after the edits one after the
+        // other, with the seat's next serials.
+        // Refused: moved_is_not_checked, second_edit_is_lost, no_edits_are_out_of_memory.
         ensures receipt { IfOk result
             (λ receipt. receipt
             ≡ record {

@@ -1,4 +1,6 @@
 //! The replies of a session or a desk. In every reply `at` is the number of edits of the history that the reply is about.
+//!
+//! `OfferError` holds the batch that it hands back, so it is neither copied nor made with `thiserror`.
 
 ghost use Rattle.std.specs.Prelude.{◌≡◌, Some, Ok, Err, OnOk, IfErr};
 ghost use Rattle.tas_published.specs.declared.errors.ShotError.TheVariants.{Halted};
@@ -76,6 +78,8 @@ pub enum EditError {
 impl EditError {
     /// The movie refuses an edit, at a history of `at` edits.
     pub fn refused(at: u64, refusal: EditRefusal) -> EditError
+        // A movie's refusal is the edit's error with the number of edits.
+        // Refused: place_and_length_are_swapped.
         ensures { error_at at (Some refusal) ≡ Some result }
     {
         match refusal {
@@ -132,6 +136,8 @@ pub fn shown<A: Allocator>(
     picture: Picture<A>,
     end: Result<(), Halt>,
 ) -> Result<Shot<A>, ShotError>
+    // A frame that was played is answered by its picture, with the numbers as they are given, or by its halt.
+    // Refused: halted_frame_is_shown_as_the_last_picture.
     ensures shot { OnOk end
         (result ≡ Ok (record { at = at; frame = frame; ran = ran; picture = picture })) }
     ensures halted { IfErr end (λ halt. result ≡ Err (Halted at halt)) }

@@ -1,4 +1,15 @@
 //! The editor for one caller.
+//!
+//! A session's contract value has the registry of versions, the journal, and the movie beside it, which the type ties
+//! to the journal: so clauses read without a fold, and can say that what lies under a lock is of the desk's own
+//! registry.
+//!
+//! All growths come before the edit is made: the seat's count, the copy for the published movies, the journal's place,
+//! the writer's list. If the last is refused, the entry is taken out again; nothing after the publish can fail. `shot`
+//! asks for its picture before it looks at kept states, so `Memory` may come for a frame that would be `Halted`.
+//!
+//! A session can't be dropped, since its writer can't: `close` ends it and is marked as waiting. Whoever opens one
+//! lends it to the calls that may fail.
 
 ghost use Rattle.std.specs.Prelude.{◌≡◌, ◌≢◌, ◌↔◌, ◌⊎◌, ℕ, ◌+◌, ◌<◌, ◌≤◌, ◌^◌, [], length, take, min, Option, Some, None, IfOk, IfErr, OnOk, OnErr, MatchResult};
 ghost use mathlib.Core.List.{IsPrefix};
@@ -60,6 +71,16 @@ impl<A: Allocator> Model for Session<A> {
       zone = a.green;
     } };
 
+    // The journal is a legal history of at most 1,000,000 edits: each edit is allowed where it stands, its serial is
+    // the number of its seat's entries before it.
+    // Refused: none, see `Session::check_turn` and `Session::at`.
+    // The movie is the history's (edits folded from the blank cartridge with no inputs), and the publisher's.
+    // Refused: none, the publisher makes it (tas_published).
+    // Each kept state is the machine's after that many frames under the present movie, on its grid.
+    // Refused: none, see `Session::edit`.
+    // Each seat's number of entries is kept beside the journal (a map). That no edit looks through the journal then is
+    // read off the code.
+    // Refused: entry_of_another_seat_is_counted.
     ghost invariant = { λ a. IsSound a.publisher.journal a.publisher.movie a.green
         × ((seat : ℕ) → count_in a.counts seat ≡ entries_of seat a.publisher.journal) };
 }
@@ -67,6 +88,8 @@ impl<A: Allocator> Model for Session<A> {
 impl<A: Allocator> Session<A> {
     /// Ends the session, and returns its movie and history.
     pub fn close<R: Wait>(self, rt: &R) -> Closed<A>
+        // `close` returns journal and movie, and the movie is the one that the journal makes.
+        // Refused: none, the publisher does it.
         ensures journal { result.journal.items ≡ self.journal }
         ensures movie { result.movie ≡ self.movie }
         ensures history { self.movie ≡ movie_of self.journal }
@@ -83,6 +106,9 @@ impl<A: Allocator> Session<A> {
     /// A reader of the published movie that has seen the whole history. It takes no memory: `AllocError` where no place for a reader is
     /// left. The session is as it was.
     pub fn reader<R: Wait>(&mut self, rt: &R) -> Result<MovieReader<A>, AllocError>
+        // A reader is made with the whole history seen, and one that is shown the history has seen all of it, which
+        // begins with what it had seen. The kept states are then lawful for the movie that it makes.
+        // Refused: none, the publisher does it (tas_published).
         ensures same { self.new ≡ self.old }
         ensures seen { IfOk result
             (λ reader. reader ≡ view_of (version_of self.old.registry self.old.journal)) }
@@ -94,6 +120,7 @@ impl<A: Allocator> Session<A> {
     /// `reader` made are.
     pub fn show_to<R: Wait>(&self, rt: &R, reader: &mut MovieReader<A>)
         requires { KnowsRegistry reader.old self.now.registry }
+        // Refused: none, the publisher does it (tas_published).
         ensures seen { reader.new ≡ view_of (version_of self.now.registry self.now.journal) }
         ensures begins { IsPrefix reader.old.seen self.now.journal }
         ensures history { self.now.movie ≡ movie_of self.now.journal }
@@ -106,6 +133,9 @@ impl<A: Allocator> Session<A> {
 impl<A: Allocator + Copy> Session<A> {
     /// The blank cartridge with no inputs, an empty history and no kept states. `Memory` where memory is refused.
     pub fn new(alloc: A) -> Result<Session<A>, OpenError>
+        // A new session has the blank cartridge, no inputs, no history and no kept states; the only error is out of
+        // memory.
+        // Refused: out_of_memory_is_reported_as_no_place.
         ensures fresh { IfOk result
             (λ session. (session.journal ≡ []) × (session.movie ≡ blank_movie)
             × (session.zone ≡ [])) }
@@ -121,6 +151,7 @@ impl<A: Allocator + Copy> Session<A> {
     /// The writer is made last: it can't be dropped, so nothing that may fail follows it.
     pub fn with_places(alloc: A, readers: usize) -> Result<Session<A>, AllocError>
         requires { (0 < readers) × (readers < 2 ^ 32) }
+        // Refused: none, see `Session::new`, which calls it.
         ensures { IfOk result
             (λ session. session
             ≡ record
@@ -147,6 +178,10 @@ impl<A: Allocator + Copy> Session<A> {
         made: u64,
         edit: Edit<A>,
     ) -> Result<Receipt, EditError>
+        // `receipt`, `done`: a receipt means: old journal and the entry, edited movie, exactly the old states up to the
+        // edited place on the new grid; `at` and `len` are those after it.
+        // Refused: edit_empties_the_greenzone, states_after_the_edited_place_are_kept,
+        // receipt_reports_the_seats_edits_before*.
         ensures receipt { IfOk result
             (λ receipt. receipt
             ≡ record {
@@ -154,12 +189,16 @@ impl<A: Allocator + Copy> Session<A> {
                   + 1;
               len = length (edited self.old.movie edit).inputs;
             }) }
+        // `edit` refuses in the order Serial, Full, Place, Long, Memory; each of the first four exactly where it is
+        // due, Memory only where nothing else is.
+        // Refused: at_most_999999_edits*.
         ensures refusal { MatchResult result (λ _. edit_refusal self.old seat made edit ≡ None)
             (IsEditError (edit_refusal self.old seat made edit)) }
         ensures done { OnOk result
             (self.new ≡ after_entry self.old (record { seat = seat; serial = made; edit = edit })) }
         ensures next { OnOk result
             (IsNextEntry self.old.journal (record { seat = seat; serial = made; edit = edit })) }
+        // Refused: refused_edit_empties_the_greenzone.
         ensures refused { OnErr result (self.new ≡ self.old) }
     {
         self.check_edit(seat, made, &edit)?;
@@ -197,6 +236,9 @@ impl<A: Allocator + Copy> Session<A> {
     ///
     /// `Serial` comes first, where the history has another number of the seat's entries, and then `Full`.
     pub fn check_turn(&self, seat: u32, made: u64) -> Result<(), EditError>
+        // `check_turn` is the first half of the checks of `edit`: `Serial` exactly where the history has another number
+        // of the seat's entries, then `Full`, whatever the movie says; else the movie alone decides.
+        // Refused: serial_is_not_checked, full_is_not_checked.
         ensures turn { OnOk result
             ((made ≡ entries_of seat self.now.journal)
             × (length self.now.journal < most_edits)) }
@@ -243,6 +285,10 @@ impl<A: Allocator + Copy> Session<A> {
         meter: &mut Meter,
     ) -> Result<Shot<B>, ShotError>
         requires { meter.old + length self.old.movie.inputs < 2 ^ 64 }
+        // `reply`, `same`, `meter`, `kept`: `shot` shows the definition's picture, halt or `NoFrame`; `ran`, the
+        // meter's rise and the gained states are those after the nearest kept state, after `Halted` too; else nothing
+        // changes.
+        // Refused: last_frame_is_no_frame*, frames_played_are_counted_from_power_on.
         ensures reply { MatchResult result (IsShot self.old k) (IsShotError self.old k) }
         ensures same { (self.new.journal ≡ self.old.journal) × (self.new.movie ≡ self.old.movie) }
         ensures registry { self.new.registry ≡ self.old.registry }
@@ -282,6 +328,8 @@ impl<A: Allocator + Copy> Session<A> {
     /// A job for the movie's first `near` frames, or for all where there are fewer, from the nearest kept state among them.
     /// `AllocError` where memory is refused.
     pub fn job<B: Allocator + Copy>(&self, alloc: B, near: usize) -> Result<Job<B>, AllocError>
+        // `job` changes nothing and has cartridge, first inputs, stride and start.
+        // Refused: job_of_half_the_frames.
         ensures cart { IfOk result (λ job. job.cart ≡ self.now.movie.cart) }
         ensures inputs { IfOk result
             (λ job. job.inputs
@@ -299,6 +347,9 @@ impl<A: Allocator + Copy> Session<A> {
     /// `Cartridge` comes exactly where the two cartridges' bytes differ; `Memory` hands the same batch back. Both leave the
     /// session as it was.
     pub fn offer<B: Allocator>(&mut self, batch: Batch<B>) -> Result<Offered, OfferError<B>>
+        // `Cartridge` exactly where the bytes differ; `Memory` hands the same batch back; else exactly the batch's
+        // states on the present grid up to the common front are gained and counted.
+        // Refused: gained_states_are_not_counted, other_cartridge_is_reported_as_out_of_memory*.
         ensures cartridge { (result ≡ Err (Cartridge (length self.old.journal)))
             ↔ (batch.cart ≢ self.old.movie.cart) }
         ensures error { IfErr result
@@ -342,6 +393,7 @@ impl<A: Allocator> Session<A> {
     /// How many edits the history has.
     pub fn at(&self) -> u64
         ensures at { result ≡ length self.now.journal }
+        // Refused: history_is_half_as_long*.
         ensures most { result ≤ most_edits }
     {
         self.publisher.journal().len() as u64
@@ -349,6 +401,7 @@ impl<A: Allocator> Session<A> {
 
     /// The movie: that of the history.
     pub fn movie(&self) -> &Movie<A>
+        // Refused: none, its result's type leaves nothing else to return.
         ensures movie { result.now ≡ self.now.movie }
         ensures history { self.now.movie ≡ movie_of self.now.journal }
     {
@@ -357,6 +410,7 @@ impl<A: Allocator> Session<A> {
 
     /// The version of the history.
     pub fn version(&self) -> &Version<A>
+        // Refused: none, the publisher has it.
         ensures { result.now ≡ version_of self.now.registry self.now.journal }
     {
         self.publisher.version()
@@ -364,6 +418,7 @@ impl<A: Allocator> Session<A> {
 
     /// The history, in order.
     pub fn journal(&self) -> &[Entry<A>]
+        // Refused: none, see `Session`.
         ensures journal { result.now ≡ self.now.journal }
         ensures legal { IsLegal self.now.journal }
     {
@@ -372,6 +427,7 @@ impl<A: Allocator> Session<A> {
 
     /// The greenzone.
     pub fn green(&self) -> &Green<A>
+        // Refused: none, its result's type leaves nothing else to return.
         ensures zone { result.now ≡ self.now.zone }
         ensures lawful { IsLawful self.now.movie self.now.zone }
     {

@@ -7,7 +7,8 @@ use Rattle.tas_movie.specs.declared.edit.Edit.TheVariants.{Load, Insert}
 use Rattle.tas_engines.specs.declared.fault.RunFault.{RunFault}
 use Rattle.tas_engines.specs.declared.fault.ToolFault.{ToolFault}
 use Rattle.tas_engines.specs.Movies.{IsMovieOf, IsMovieFault}
-use Rattle.tas_engines.specs.ThreeInputs.{EndsAfterThree}
+use Rattle.tas_engines.specs.Input.{AreReadWhole, StopsReadingAll}
+use Rattle.tas_engines.specs.Output.{EndsAfter}
 use Rattle.tas_seat.specs.Turns.{Standing}
 use Rattle.tas_tool.specs.Scripts.{AnswersFrom, EndsWithReplies}
 
@@ -34,4 +35,6 @@ RunsOver image said bytes old new (Err fault) =
 -- what they have and hold afterwards
 abbrev pub IsMovieScriptRun : (cart cart' movie movie' input input' output output' : Option (List ℕ)) → Result (Unit {0}) ToolFault → Type 0
 IsMovieScriptRun cart cart' movie movie' input input' output output' result =
-    EndsAfterThree (λ image said bytes end. RunsOver image said bytes output output' end) cart cart' movie movie' input input' output output' result
+    EndsAfter (StopsReadingAll (cart ∷ movie ∷ input ∷ []) (cart' ∷ movie' ∷ input' ∷ []))
+    (λ end. (image said bytes : List ℕ) × AreReadWhole (cart ∷ movie ∷ input ∷ []) (cart' ∷ movie' ∷ input' ∷ []) (image ∷ said ∷ bytes ∷ []) × RunsOver image said bytes output output' end)
+    output output' result

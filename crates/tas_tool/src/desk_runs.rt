@@ -1,4 +1,9 @@
 //! `tas desk`.
+//!
+//! Each pair of files is opened on its seat's thread: opening all before the first thread starts would wait for the
+//! clients one after the other. IN is opened for reading and OUT for writing. Opening for both never waits, but then
+//! the program holds the clients' ends, too: an input would never end when its client is gone, and a write would never
+//! fail.
 
 ghost use Rattle.std.specs.Prelude.{◌≡◌, ◌≤◌, ◌⊎◌, length, IfOk, IfErr, OnErr, MatchResult};
 ghost use Rattle.std.specs.Io.KnownBytes.{Appends};
@@ -162,6 +167,21 @@ pub fn desk_run<
 ) -> Result<(), ToolFault>
     requires some { 1 ≤ length doors.old.items }
     requires few { length doors.old.items ≤ most_seats }
+    // Refused: desk_writes_the_movie_without_its_inputs.
+    // Several conversations on one movie leave one legal history. Its first two entries are seat 0's: they load the
+    // cartridge that was read and put the movie's inputs in at 0, which makes this movie. Each seat's conversation
+    // begins once the seat has seen these two, with an empty greenzone. The history begins with all that the seat has
+    // seen in the end, and has of the seat just these two, of seat 0, and then the edits of its conversation, in order,
+    // also of a last line whose answer didn't get out. Nobody else has entries. So each answer at a door that isn't
+    // given at a draft is the definition's at a beginning of this history, and these never get shorter from line to
+    // line (tas_seat).
+    // Refused: seats_meet_before_the_movie_is_made, desk_begins_without_the_inputs,
+    // first_seat_looks_before_its_conversation.
+    // Faults come in this order: of reading, of the cartridge and the movie; out of memory or no place for the desk,
+    // each of these with no door opened and nothing written; then, with nothing undone, out of memory for the text and
+    // a failed write, whose fault reports how many bytes went out; and with the movie written whole the fault of the
+    // least seat whose conversation ended with one.
+    // Refused: fault_of_the_last_seat_is_named, faults_of_seats_are_dropped, seats_end_is_lost.
     ensures { IsDeskRun A D.facts doors.old.items doors.new.items (C.remaining cart.old)
         (C.remaining cart.new) (M.remaining movie.old) (M.remaining movie.new)
         (W.contents output.old) (W.contents output.new) result }

@@ -1,4 +1,9 @@
 //! `tas export`.
+//!
+//! The front that the desk's answer names is compared with the two edits that made the movie. A failed write names no
+//! front, so there the closed desk shows that the bytes are the movie's. `export_run` has no condition on the number of
+//! workers: 0 counts as 1 and more than 16 as 16, since the bytes don't depend on it. It takes an allocator that
+//! threads may share, as its desk's export does.
 
 ghost use Rattle.std.specs.Prelude.{◌≡◌, ◌≤◌, [], length, IfErr};
 ghost use Rattle.tas_film.specs.Runs.{most_workers};
@@ -33,6 +38,9 @@ impl Gate for OpenGate {
 /// How a desk's answer is reported. One about the movie's frames has to name just the two edits that made the movie; else it is
 /// `Foreign`.
 fn export_end(from: usize, to: usize, answer: Result<Exported, ExportError>) -> Result<(), RunFault>
+    // What the desk's answer names is compared with the two edits that made the movie; a halt and a range are reported
+    // as the desk says them.
+    // Refused: halted_export_is_given_as_memory*, faulty_range_is_given_as_memory*.
     ensures { result ≡ export_end from to answer }
 {
     match answer {
@@ -68,11 +76,13 @@ fn write_frames<
 ) -> Result<(), RunFault>
     requires two { (seat.old.made ≡ 2) × (2 ≤ length seat.old.front) }
     requires workers { (1 ≤ frames.workers) × (frames.workers ≤ most_workers) }
+    // Refused: export_at_a_foreign_edit_is_reported*.
     ensures seen { HasSeen seat.old seat.new }
     ensures own { StandsAtOwn seat.new result }
     ensures ends { length seat.new.front ≤ seat.new.made
         → Ends (IsPixmapsAnswer (movie_of seat.new.front) frames.from frames.to)
         (W.contents output.old) (W.contents output.new) result }
+    // `Memory` comes only where the movie has the frames.
     ensures memory { IfErr result
         (λ fault. fault ≡ Memory
         → IsInRange (length (movie_of seat.new.front).inputs) frames.from frames.to) }
@@ -178,6 +188,16 @@ pub fn export_run<
     input: &mut R,
     output: &mut W,
 ) -> Result<(), ToolFault>
+    // An export reads cartridge and text whole and writes the pixmaps of the range's frames of the movie that it read,
+    // one after the other, whatever the number of workers.
+    // Refused: last_frame_of_the_range_is_not_exported*, half_of_the_movie_is_put_in.
+    // The faults of an export have their cause: `Range` only where the movie hasn't these frames or they are more than
+    // 1,024, `Halted` only with the least halted frame's halt; nothing is written then, nor after `Memory` and
+    // `NoPlace`; `Write` reports how many of the first bytes went out.
+    // Refused: halted_frame_is_reported_as_a_faulty_range, faulty_range_is_reported_with_its_ends_swapped*,
+    // half_of_the_written_bytes_are_reported*.
+    // An export never ends with `Foreign`: its own two edits are all that the desk has when it is closed.
+    // Refused: foreign_after_an_export.
     ensures { IsMovieRun (IsExportAnswer from to) (C.remaining cart.old) (C.remaining cart.new)
         (R.remaining input.old) (R.remaining input.new) (W.contents output.old)
         (W.contents output.new) result }

@@ -78,6 +78,14 @@ pub fn film_run<A: Allocator + Copy, C: Read, R: Read, W: Write>(
     input: &mut R,
     output: &mut W,
 ) -> Result<(), ToolFault>
+    // A film reads cartridge and text whole and writes the pixmaps of the frames FROM to TO - 1 of the movie that it
+    // read, in order and each once: 0 and the movie's length where they aren't given. `Range` comes only where the
+    // movie hasn't these frames, where it is this fault or `Memory`, and nothing is written then, nor after
+    // `Memory`; `HaltedFrame` names the least halted frame, and the pixmaps of those before it are written; `Write`
+    // reports how many of the first bytes went out.
+    // Refused: film_without_an_end_leaves_out_the_last_frame, film_without_a_beginning_is_of_its_last_frames*,
+    // film_of_no_frames_at_the_end_is_refused*, halted_film_is_reported_as_out_of_memory*,
+    // film_counts_half_of_its_bytes*.
     ensures { IsFilmRun from to (C.remaining cart.old) (C.remaining cart.new)
         (R.remaining input.old) (R.remaining input.new) (W.contents output.old)
         (W.contents output.new) result }

@@ -1,4 +1,8 @@
 //! Conversations on one desk, from seats and doors to the closed desk.
+//!
+//! Seat 0 makes the movie, and each other seat sees it before a thread starts, so no line is answered without it. The
+//! room for what comes back is made before the first conversation begins: nothing may be lost for lack of a few bytes
+//! once a client has edited.
 
 ghost use Rattle.std.specs.Prelude.{◌≡◌, ◌<◌, ℕ, length, map, IfOk, IfErr, OnOk, slice_index_or};
 ghost use mathlib.Core.List.{IsPrefix};

@@ -1,8 +1,16 @@
-//! The engines of the program `tas`: a public function for each form of a command, over any readers and
+//! The engines of the program `tas` that need a desk, and `film`: a public function for each form of a command, over any readers and
 //! any writer.
 //!
-//! Those that need no desk are in `tas_engines`, and this crate hands them out with what they share. Here are those that need a desk, and
+//! Those that need no desk are in `tas_engines`; this crate hands out what engines share. Here are those that need a desk, and
 //! `film`.
+//!
+//! An engine of a desk closes its desk before it ends. A closed desk shows that its history has just the edits that its
+//! seats made: so the answers were at the engine's own edits, and `foreign edit` is proved never to come.
+//!
+//! Four functions open a desk, borrow its seat, work and close it alike (`answer_script`, `answer_over`, `talk_on`,
+//! `export_from_desk`). One for all would take the work as a trait's method, with a type and a definition for each, to
+//! save five lines. A struct of desk and seat was tried: the drop of a seat that is moved out of its list is proved
+//! anew in the crate above, with all that it owns.
 #![tactic(auto)]
 
 mod desk_runs;
@@ -23,8 +31,7 @@ pub use scripting::script_run;
 pub use talk_runs::{cart_talk_run, movie_talk_run, talk_run};
 pub use tas_desk::MAX_SEATS;
 pub use tas_engines::{
-    INPUT_LIMIT, ReadFault, RunFault, SeatFault, ToolFault, check_run, compare_run, cut_run,
-    diff_run, digest_run, edit_run, edit_with_run, lag_run, migrate_run, new_run, ram_run,
-    shot_run, trace_run, write_all,
+    INPUT_LIMIT, ReadFault, RunFault, SeatFault, ToolFault, check_run, shot_run, trace_run,
+    write_all,
 };
 pub use tas_seat::Door;

@@ -1,4 +1,7 @@
 //! The movie that a desk begins with: it is read, and a seat makes it by its first two edits.
+//!
+//! There are two edits whatever the files are, a load and an insertion, so AT begins at 2. If memory is refused for
+//! them the fault is `out of memory`; another refusal would be `foreign edit`, which never comes.
 
 ghost use Rattle.std.specs.Prelude.{◌≡◌, ◌≤◌, [], length, OnOk, IfOk, IfErr};
 ghost use Rattle.tas_movie.specs.Content.{most_inputs};
@@ -78,10 +81,15 @@ pub fn put_movie<N: Name, W: CloseOnDrop, A: Allocator + Copy, R: Wait>(
     movie: &Movie<A>,
 ) -> Result<(), RunFault>
     requires first { (seat.old.number ≡ 0) × (seat.old.made ≡ 0) × (seat.old.front ≡ []) }
+    // A desk's movie is made by two edits, which load its cartridge and put its inputs in. The front of the second is
+    // compared with these two, and `Foreign` is reported only where it has more.
+    // Refused: refused_edit_is_reported_as_out_of_memory.
     ensures number { seat.new.number ≡ 0 }
     ensures zone { seat.new.zone ≡ seat.old.zone }
     ensures holds { OnOk result (HoldsMovie seat.new movie.now) }
     ensures fault { IfErr result (IsMakingFault seat.new) }
+    // `Memory` comes only where the desk doesn't refuse the next of the two edits as it stands.
+    // Refused: refused_edits_are_given_as_memory.
     ensures memory { IfErr result (λ fault. fault ≡ Memory → IsUnrefused A seat.new movie.now) }
 {
     let (cart, inputs) = parts_of(alloc, movie)?;

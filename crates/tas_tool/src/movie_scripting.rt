@@ -13,7 +13,7 @@ use std::io::{Read, Write};
 use std::marker::Brand;
 use std::sync::Wait;
 use tas_desk::{CloseOnDrop, Desk, Name, Seat, Unopened};
-use tas_engines::{RunFault, ToolFault, movie_of, read_three, write_all};
+use tas_engines::{RunFault, ToolFault, movie_of, read_input, read_two, write_all};
 use tas_movie::Movie;
 
 /// Gives a desk without edits its movie, does what the lines ask for, and puts the replies into the empty text.
@@ -94,17 +94,22 @@ pub fn movie_script_run<A: Allocator + Copy, T: Wait, C: Read, M: Read, R: Read,
     input: &mut R,
     output: &mut W,
 ) -> Result<(), ToolFault>
+    // Refused: foreign_over_a_movie*.
+    // A script over a movie is answered in the same way from this movie and 2 edits on; faults of reading, size and
+    // text come first, with nothing written.
+    // Refused: blank_cartridge_stands_under_the_movie, movie_that_is_refused_is_dropped*.
     ensures { IsMovieScriptRun (C.remaining cart.old) (C.remaining cart.new) (M.remaining movie.old)
         (M.remaining movie.new) (R.remaining input.old) (R.remaining input.new)
         (W.contents output.old) (W.contents output.new) result }
 {
-    let read = read_three(alloc, cart, movie, input)?;
+    let (image, said) = read_two(alloc, cart, movie)?;
+    let bytes = read_input(alloc, input)?;
     run_over(
         rt,
         alloc,
-        read.first.as_slice(),
-        read.second.as_slice(),
-        read.third.as_slice(),
+        image.as_slice(),
+        said.as_slice(),
+        bytes.as_slice(),
         output,
     )?;
     Ok(())

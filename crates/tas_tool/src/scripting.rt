@@ -1,4 +1,9 @@
 //! `tas script`.
+//!
+//! No reply is checked as it comes: while a desk is open nothing that a caller can prove says that nobody else edits
+//! it. So the contract of `answer_lines` speaks of a seat that sees its own edits alone (`SeesOwn`). Replies are
+//! collected and written at the end: nothing may be written before all input is read, and the count of a failed write
+//! is exact.
 
 ghost use Rattle.std.specs.Prelude.{◌≡◌, ◌≤◌, [], length};
 ghost use Rattle.tas_desk.specs.Seats.{name_of};
@@ -103,6 +108,19 @@ pub fn script_run<A: Allocator + Copy, T: Wait, R: Read, W: Write>(
     input: &mut R,
     output: &mut W,
 ) -> Result<(), ToolFault>
+    // A script is read whole and answered line by line, up to the first line that isn't understood, whose number is
+    // reported; the replies before it are written.
+    // Refused: first_line_only_is_answered, fault_reports_the_line_before, last_line_without_its_newline_is_dropped*,
+    // replies_before_a_fault_are_lost*, long_script_reported_as_a_line_not_understood*,
+    // long_script_reported_as_out_of_memory*.
+    // A script, over a movie or not, stops with `NoEntry`, and with `Memory` once a line is answered, only at a line
+    // that is understood. `NoPlace` comes before the first line.
+    // Refused: line_not_understood_is_given_as_memory.
+    // Each reply is what a session of cartridge and inputs alone replies at the script's own edits so far.
+    // Refused: none, tas_seat has them.
+    // A script, over a movie or not, never ends with `Foreign`: its own edits are all that the desk has when it is
+    // closed.
+    // Refused: foreign_after_an_accepted_edit.
     ensures { IsScriptRun (R.remaining input.old) (R.remaining input.new) (W.contents output.old)
         (W.contents output.new) result }
 {

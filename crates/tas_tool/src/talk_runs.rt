@@ -125,6 +125,28 @@ pub fn talk_run<A: Allocator + Copy, T: Wait, R: Read, W: Write>(
     input: &mut R,
     output: &mut W,
 ) -> Result<(), ToolFault>
+    // A conversation is one of tas_seat on a desk of one seat: each line is answered at what the lines before it made
+    // and left. `history FROM` is answered with up to 256 of the edits that these lines made, in order, from number
+    // FROM on, or `out of memory`.
+    // Refused: none, tas_seat has them.
+    // A draft of a conversation is one of the movie that the lines before `begin` made. Lines in it leave what was made
+    // as it is; `commit` makes what the draft comes to, all of it or nothing.
+    // Refused: none, tas_seat has them.
+    // `pictures FROM TO` is answered as TO - FROM lines `picture` of its frames in order, each at what the one before
+    // left.
+    // Refused: none, tas_seat has them.
+    // What is kept is followed from line to line: it only loses what an edit took away. A picture or a shot cuts it for
+    // the movie and leaves it as if played from the nearest state that is left, with the states on the way that are on
+    // the grid; `ram` and `digest` do so with the frames before K, `lag` with those before A. `movie`, `states`,
+    // `share`, `work` and `begin` cut it and let it gain states of the movie. Other lines, and refusals but `halted`,
+    // leave it as it was; in a draft all lines but `share` do. Where `picture`, `ram`, `digest`, `lag`, `movie`,
+    // `states` or `begin` is answered `out of memory`, it may be as after its answer.
+    // Refused: none, tas_seat has them.
+    // What left the reader is the lines that were answered and the rest before which it ended; after `Memory` any rest,
+    // and after `NoEntry` one whose first line looks through the seat's reader, where no draft is open.
+    // Refused: none, tas_seat has them.
+    // A conversation never ends with `Foreign`: its own edits are all that the desk has when it is closed.
+    // Refused: foreign_at_the_end_of_a_conversation.
     ensures { IsTalk (talk_state_from None) (R.remaining input.old) (R.remaining input.new)
         (W.contents output.old) (W.contents output.new) result }
 {
@@ -143,6 +165,10 @@ pub fn cart_talk_run<A: Allocator + Copy, T: Wait, C: Read, R: Read, W: Write>(
     input: &mut R,
     output: &mut W,
 ) -> Result<(), ToolFault>
+    // Over a cartridge, or a movie, a conversation does the same as over none, from its movie and 2 edits on, which
+    // `history` has before those of the lines: the cartridge is loaded, and the inputs, none of a cartridge alone, are
+    // put in at 0. Faults of the files come first, with nothing read of the input and nothing written.
+    // Refused: blank_cartridge_stands_under_a_conversation.
     ensures { IsCartTalk (C.remaining cart.old) (C.remaining cart.new) (R.remaining input.old)
         (R.remaining input.new) (W.contents output.old) (W.contents output.new) result }
 {
@@ -163,6 +189,7 @@ pub fn movie_talk_run<A: Allocator + Copy, T: Wait, C: Read, M: Read, R: Read, W
     input: &mut R,
     output: &mut W,
 ) -> Result<(), ToolFault>
+    // Refused: cartridge_and_movie_of_a_conversation_are_swapped*.
     ensures { IsMovieTalk (C.remaining cart.old) (C.remaining cart.new) (M.remaining movie.old)
         (M.remaining movie.new) (R.remaining input.old) (R.remaining input.new)
         (W.contents output.old) (W.contents output.new) result }

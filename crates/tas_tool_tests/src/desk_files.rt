@@ -35,8 +35,8 @@ pub fn sends(lines: &[u8]) -> Client<'_> {
 /// A name that stands for an ordinary file: its device, its number there and its length.
 pub type Ordinary<'a> = (&'a str, (u64, u64, u64));
 
-/// A folder with the files `game.bin` and `other`, and of each of its pairs K the files `inK` and `outK`. The names of `ordinary` stand for
-/// ordinary files. It counts the files that were opened.
+/// A folder with the files `game.bin` and `other`, and of each of its pairs K the files `inK` and `outK`. What replaces the file `new` is on
+/// the first tape. The names of `ordinary` stand for ordinary files. It counts the files that were opened.
 #[derive(Drop)]
 pub struct DeskFolder<'a> {
     pub game: &'a [u8],
@@ -159,12 +159,35 @@ impl<'a> Folder for DeskFolder<'a> {
             None => Err(Error::from(ErrorKind::NotFound)),
         }
     }
+
+    fn create_new(&self, _permit: Permit, name: &str) -> io::Result<Sink<'a>> {
+        self.opened.fetch_add(1, Ordering::SeqCst);
+        match self.tapes.first() {
+            Some(tape) if name == "new.part0" => Ok(Sink {
+                tape,
+                room: usize::MAX,
+            }),
+            _ => Err(Error::from(ErrorKind::NotFound)),
+        }
+    }
+
+    fn sync(&self, _sink: &mut Sink<'a>) -> io::Result<()> {
+        Ok(())
+    }
+
+    fn rename(&self, _permit: Permit, from: &str, to: &str) -> io::Result<()> {
+        if from == "new.part0" && to == "new" {
+            Ok(())
+        } else {
+            Err(Error::from(ErrorKind::NotFound))
+        }
+    }
 }
 
-/// A tape of 64 bytes that has taken nothing.
+/// A tape of 128 bytes that has taken nothing.
 fn blank_tape<R: Abort>(rt: &R, alloc: Global) -> Tape {
     let mut bytes = Vec::new(alloc);
-    for _ in 0..64 {
+    for _ in 0..128 {
         expect_ok(rt, bytes.push(AtomicU8::new(0)).ok().ok_or("no memory"));
     }
     Tape {

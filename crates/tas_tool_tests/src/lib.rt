@@ -31,6 +31,10 @@ mod movie_script_tests;
 #[cfg(test)]
 mod movies;
 #[cfg(test)]
+mod output_file_tests;
+#[cfg(test)]
+mod output_word_tests;
+#[cfg(test)]
 mod pictures;
 #[cfg(test)]
 mod plain_editor;
@@ -46,6 +50,10 @@ mod program_tests;
 mod programs;
 #[cfg(test)]
 mod real_file_tests;
+#[cfg(test)]
+mod real_output_tests;
+#[cfg(test)]
+mod saving_tests;
 #[cfg(test)]
 mod script_tests;
 #[cfg(test)]
@@ -68,5 +76,7 @@ mod talks;
 mod tasks;
 #[cfg(test)]
 mod tip_tests;
+#[cfg(test)]
+mod waiting_tests;
 #[cfg(test)]
 mod word_tests;

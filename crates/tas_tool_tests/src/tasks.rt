@@ -4,96 +4,34 @@ use crate::checks::{check_same, expect_some};
 use crate::programs::words_of;
 use std::alloc::Global;
 use std::process::Abort;
-use tas_program::{Pair, Start, Task, read_words};
+use tas_program::{Order, Pair, Start, Task, read_words};
 
 /// The names of a pair's two files.
 pub type Names<'a> = (&'a str, &'a str);
 
-/// A task's command, the names of its files and its numbers, each in the order of its words, and a desk's pairs. Different tasks
-/// have different parts.
+/// A task's command, the names of its files and its numbers, each in the order of its words, a desk's pairs, and the file that its output
+/// replaces. Different tasks have different parts.
 type Parts<'a> = (
     &'a str,
     [Option<&'a str>; 3],
     [Option<usize>; 3],
     [Option<Names<'a>>; 8],
+    Option<&'a str>,
 );
 
-/// The command's name.
-fn command(task: Task<'_>) -> &'static str {
-    match task {
-        Task::Trace { .. } => "trace",
-        Task::Check { .. } => "check",
-        Task::Migrate { .. } => "migrate",
-        Task::New { .. } => "new",
-        Task::Shot { .. } => "shot",
-        Task::Film { .. } => "film",
-        Task::Export { .. } => "export",
-        Task::Ram { .. } => "ram",
-        Task::Digest { .. } => "digest",
-        Task::Compare { .. } => "compare",
-        Task::Lag { .. } => "lag",
-        Task::Edit { .. } => "edit",
-        Task::Cut { .. } => "cut",
-        Task::Diff { .. } => "diff",
-        Task::Script(_) => "script",
-        Task::Talk(_) => "talk",
-        Task::Desk { .. } => "desk",
-    }
+/// One number.
+fn one(number: usize) -> [Option<usize>; 3] {
+    [Some(number), None, None]
 }
 
-/// The names of the files.
-fn files<'a>(task: Task<'a>) -> [Option<&'a str>; 3] {
-    match task {
-        Task::Check { cart }
-        | Task::Migrate { cart }
-        | Task::New { cart, .. }
-        | Task::Shot { cart, .. }
-        | Task::Film { cart, .. }
-        | Task::Export { cart, .. }
-        | Task::Ram { cart, .. }
-        | Task::Digest { cart, .. }
-        | Task::Lag { cart }
-        | Task::Cut { cart, .. }
-        | Task::Talk(Start::Cart { cart }) => [Some(cart), None, None],
-        Task::Compare { cart, old } | Task::Diff { cart, old } => [Some(cart), Some(old), None],
-        Task::Edit {
-            cart,
-            script,
-            other,
-        } => [Some(cart), Some(script), other],
-        Task::Script(Some(movie)) | Task::Talk(Start::Movie(movie)) => {
-            [Some(movie.cart), Some(movie.movie), None]
-        }
-        Task::Desk { cart, movie, .. } => [Some(cart), Some(movie), None],
-        Task::Trace { .. } | Task::Script(None) | Task::Talk(Start::Blank) => [None; 3],
-    }
+/// Two numbers.
+fn two(first: usize, second: usize) -> [Option<usize>; 3] {
+    [Some(first), Some(second), None]
 }
 
-/// The numbers.
-fn numbers(task: Task<'_>) -> [Option<usize>; 3] {
-    match task {
-        Task::Trace { instructions } => [Some(instructions as usize), None, None],
-        Task::New { frames, .. } => [Some(frames), None, None],
-        Task::Shot { frame, .. } => [Some(frame), None, None],
-        Task::Film { from, to, .. } => [from, to, None],
-        Task::Export {
-            from,
-            to,
-            workers,
-            ..
-        } => [Some(from), Some(to), Some(workers)],
-        Task::Ram { from, to, .. } | Task::Cut { from, to, .. } => [Some(from), Some(to), None],
-        Task::Digest { every, .. } => [Some(every), None, None],
-        Task::Check { .. }
-        | Task::Migrate { .. }
-        | Task::Compare { .. }
-        | Task::Lag { .. }
-        | Task::Edit { .. }
-        | Task::Diff { .. }
-        | Task::Script(_)
-        | Task::Talk(_)
-        | Task::Desk { .. } => [None; 3],
-    }
+/// The names of a movie's files.
+fn movie<'a>(cart: &'a str, movie: &'a str) -> [Option<&'a str>; 3] {
+    [Some(cart), Some(movie), None]
 }
 
 /// The names of a pair's files, where there is a pair.
@@ -121,9 +59,44 @@ fn pairs<'a>(task: Task<'a>) -> [Option<Names<'a>>; 8] {
     }
 }
 
-/// The parts of a task.
-fn parts<'a>(task: Task<'a>) -> Parts<'a> {
-    (command(task), files(task), numbers(task), pairs(task))
+/// The parts of a task and its output.
+fn parts<'a>(order: Order<'a>) -> Parts<'a> {
+    let task = order.task;
+    let (command, files, numbers) = match task {
+        Task::Trace { instructions } => ("trace", [None; 3], one(instructions as usize)),
+        Task::Check { cart } => ("check", [Some(cart), None, None], [None; 3]),
+        Task::Migrate { cart } => ("migrate", [Some(cart), None, None], [None; 3]),
+        Task::New { cart, frames } => ("new", [Some(cart), None, None], one(frames)),
+        Task::Shot { cart, frame } => ("shot", [Some(cart), None, None], one(frame)),
+        Task::Film { cart, from, to } => ("film", [Some(cart), None, None], [from, to, None]),
+        Task::Export {
+            cart,
+            from,
+            to,
+            workers,
+        } => {
+            let numbers = [Some(from), Some(to), Some(workers)];
+            ("export", [Some(cart), None, None], numbers)
+        }
+        Task::Ram { cart, from, to } => ("ram", [Some(cart), None, None], two(from, to)),
+        Task::Digest { cart, every } => ("digest", [Some(cart), None, None], one(every)),
+        Task::Compare { cart, old } => ("compare", [Some(cart), Some(old), None], [None; 3]),
+        Task::Lag { cart } => ("lag", [Some(cart), None, None], [None; 3]),
+        Task::Edit {
+            cart,
+            script,
+            other,
+        } => ("edit", [Some(cart), Some(script), other], [None; 3]),
+        Task::Cut { cart, from, to } => ("cut", [Some(cart), None, None], two(from, to)),
+        Task::Diff { cart, old } => ("diff", [Some(cart), Some(old), None], [None; 3]),
+        Task::Script(None) => ("script", [None; 3], [None; 3]),
+        Task::Script(Some(files)) => ("script", movie(files.cart, files.movie), [None; 3]),
+        Task::Talk(Start::Blank) => ("talk", [None; 3], [None; 3]),
+        Task::Talk(Start::Cart { cart }) => ("talk", [Some(cart), None, None], [None; 3]),
+        Task::Talk(Start::Movie(files)) => ("talk", movie(files.cart, files.movie), [None; 3]),
+        Task::Desk { cart, movie, .. } => ("desk", [Some(cart), Some(movie), None], [None; 3]),
+    };
+    (command, files, numbers, pairs(task), order.output)
 }
 
 /// These items, and none after them.
@@ -135,20 +108,39 @@ fn padded<T: Copy, const N: usize>(items: &[T]) -> [Option<T>; N] {
     all
 }
 
-/// Fails where these words, the first of which is a command, aren't read as a task with it and with just these files, numbers and pairs.
-pub fn check_task<R: Abort>(
+/// Fails where these words, the first of which is a command, aren't read as a task with it and with just these files, numbers and pairs,
+/// and this file for its output.
+pub fn check_order<R: Abort>(
     rt: &R,
     alloc: Global,
     number: usize,
     words: &[&str],
     (files, numbers, pairs): (&[&str], &[usize], &[Names<'_>]),
+    output: Option<&str>,
 ) {
     let command = *expect_some(rt, words.first());
-    let wanted: Parts<'_> = (command, padded(files), padded(numbers), padded(pairs));
+    let wanted: Parts<'_> = (
+        command,
+        padded(files),
+        padded(numbers),
+        padded(pairs),
+        output,
+    );
     let words = words_of(rt, alloc, words);
     let read = match read_words(alloc, words.as_slice()) {
-        Ok(task) => Some(parts(task)),
+        Ok(order) => Some(parts(order)),
         Err(_) => None,
     };
     check_same(rt, ("words", number), read, Some(wanted));
+}
+
+/// The same with standard output for the output.
+pub fn check_task<R: Abort>(
+    rt: &R,
+    alloc: Global,
+    number: usize,
+    words: &[&str],
+    parts: (&[&str], &[usize], &[Names<'_>]),
+) {
+    check_order(rt, alloc, number, words, parts, None);
 }

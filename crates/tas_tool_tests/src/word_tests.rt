@@ -295,11 +295,11 @@ static HELPS: [Shown<'static>; 18] = [
     ),
     (
         &["migrate", "--help"],
-        b"Writes a movie text, older ones too, as a text of runs ('a26movie 2')\n\nUsage: tas migrate <CART> < MOVIE\n",
+        b"Writes a movie text, older ones too, as a text of runs ('a26movie 2')\n\nUsage: tas migrate [OPTIONS] <CART> < MOVIE\n",
     ),
     (
         &["new", "--help"],
-        b"Writes the text of a movie in which nothing is pressed\n\nUsage: tas new <CART> <FRAMES>\n",
+        b"Writes the text of a movie in which nothing is pressed\n\nUsage: tas new [OPTIONS] <CART> <FRAMES>\n",
     ),
     (
         &["shot", "--help"],
@@ -311,11 +311,11 @@ static HELPS: [Shown<'static>; 18] = [
     ),
     (
         &["cut", "--help"],
-        b"Writes the text of the movie of some frames of a movie alone\n\nUsage: tas cut <CART> <FROM> <TO> < MOVIE\n",
+        b"Writes the text of the movie of some frames of a movie alone\n\nUsage: tas cut [OPTIONS] <CART> <FROM> <TO> < MOVIE\n",
     ),
     (
         &["diff", "--help"],
-        b"Writes the script that turns one movie into another\n\nUsage: tas diff <CART> <OLD> < MOVIE\n",
+        b"Writes the script that turns one movie into another\n\nUsage: tas diff [OPTIONS] <CART> <OLD> < MOVIE\n",
     ),
     (
         &["script", "--help"],

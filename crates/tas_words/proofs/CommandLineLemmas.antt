@@ -96,23 +96,24 @@ has_names : names_of (built command_line) ≡ labels command_names
 has_names = refl
 
 -- the command that the words reach is the one that they name
-asked_at : (words : List Text) (reached : Option (Text × List Row)) (task : Task) → subcommand_of command_line words ≡ reached → HasWordsOf reached task → IsAsked words task
-asked_at words None task is has = absurd has
-asked_at words (Some p) task is has =
+asked_at : (words : List Text) (reached : Option (Text × List Row)) (task : Task) (output : Option (Bor Text)) → subcommand_of command_line words ≡ reached → HasWordsOf reached task output → IsAsked words task output
+asked_at words None task output is has = absurd has
+asked_at words (Some p) task output is has =
     let app : App = command_line in
     record {
       name = p.0;
       rows = p.1;
       named = entered_by (built app) (stop_after own_flags (labels command_names) (drop 1 words)) p.0 has_names (ap (option_map (λ (q : Text × List Row). q.0)) is);
       reached = is;
-      has = has;
+      has = has.0;
+      into = has.1;
     }
 
 -- the command that a parse met, with its words, is the one that the words reach
-pub met_asked : (line : Command) (words : List Text) (m : ArgMatches) (task : Task) → app_of line ≡ command_line → HasMatchesOf (app_of line) words m → HasWordsOf (subcommand_rows_of m) task → IsAsked words task
-met_asked line words m task is matches met =
+pub met_asked : (line : Command) (words : List Text) (m : ArgMatches) (task : Task) (output : Option (Bor Text)) → app_of line ≡ command_line → HasMatchesOf (app_of line) words m → HasWordsOf (subcommand_rows_of m) task output → IsAsked words task output
+met_asked line words m task output is matches met =
     let rows : subcommand_rows_of m ≡ subcommand_of command_line words = (matches (ap is_simple is ∙ is_simple_line)).1 ∙ ap (λ (a : App). subcommand_of a words) is in
-    asked_at words (subcommand_rows_of m) task (sym rows) met
+    asked_at words (subcommand_rows_of m) task output (sym rows) met
 
 -- ---- the words of a command
 

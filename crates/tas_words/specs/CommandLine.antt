@@ -1,5 +1,6 @@
 -- The command line, as clap's definitions see it.
 use Rattle.std.specs.Prelude.{◌≡◌, ℕ, pos, List, [], ◌∷◌, ◌++◌, Option, Some, None, true, false, codes, decimal, drop, fold, map, option_map}
+use Rattle.std.specs.Borrow.{Bor}
 use Rattle.std.specs.Int.{int_max, int_min}
 use Rattle.clap.specs.Values.{signed_between}
 use Rattle.clap.specs.Simple.{App, Shape, app_of, filled_from, help_rule, version_rule, new_rule, new_shape, on_top, subcommand_of, with_subcommand}
@@ -15,9 +16,9 @@ use Rattle.tas_film.specs.Runs.{most_workers}
 use Rattle.tas_words.specs.declared.subcommands.Subcommand.{Subcommand}
 use Rattle.tas_words.specs.declared.subcommands.Word.{Word}
 use Rattle.tas_words.specs.declared.subcommands.WordKind.{WordKind}
-use Rattle.tas_words.specs.declared.subcommands.WordKind.TheVariants.{File, OptionalFile, PairedFile, Flag, Number, OptionalNumber}
+use Rattle.tas_words.specs.declared.subcommands.WordKind.TheVariants.{File, OptionalFile, PairedFile, Flag, Output, Number, OptionalNumber}
 use Rattle.tas_words.specs.declared.task.Task.{Task}
-use Rattle.tas_words.specs.Task.{HasWords, most_traced, most_every}
+use Rattle.tas_words.specs.Task.{HasWords, IsOptionalWord, most_traced, most_every}
 
 -- what `tas --version` prints after the program's name: the program's version, and the number of the machine's profile
 abbrev pub version_text : Text
@@ -78,12 +79,26 @@ flag_rule name flag = record (new_rule name) {
   is_free = false;
 }
 
+-- a word after `-o` or `--output`
+abbrev pub output_rule : Text → Rule
+output_rule name = record (new_rule name) {
+  short = Some 111;
+  long = Some (codes "output");
+  action = Some Set;
+  value_names = 1;
+}
+
+-- the file that is replaced by the output
+abbrev pub file_output_rule : Rule
+file_output_rule = output_rule (codes "FILE")
+
 -- a word, as clap reads it
 abbrev pub kind_rule : Text → WordKind → Rule
 kind_rule name File = file_rule name
 kind_rule name OptionalFile = may_word_rule name
 kind_rule name (PairedFile other) = paired_word_rule name
 kind_rule name (Flag flag other) = flag_rule name flag.now
+kind_rule name Output = output_rule name
 kind_rule name (Number least most) = number_rule name least most
 kind_rule name (OptionalNumber least most) = may_number_rule name least most
 
@@ -137,7 +152,7 @@ abbrev pub first_shapes : List Shape
 first_shapes =
     shape_with (codes "trace") (number_rule (codes "N") 0 most_traced ∷ [])
     ∷ shape_with (codes "check") (cart_rule ∷ [])
-    ∷ shape_with (codes "migrate") (cart_rule ∷ [])
+    ∷ shape_with (codes "migrate") (cart_rule ∷ file_output_rule ∷ [])
     ∷ shape_with (codes "shot") (cart_rule ∷ frame_rule (codes "K") ∷ [])
     ∷ shape_with (codes "film") (cart_rule ∷ may_frame_rule (codes "FROM") ∷ may_frame_rule (codes "TO") ∷ [])
     ∷ shape_with (codes "export") (cart_rule ∷ frame_rule (codes "FROM") ∷ frame_rule (codes "TO") ∷ number_rule (codes "WORKERS") 1 most_workers ∷ [])
@@ -150,10 +165,10 @@ first_shapes =
 -- those after them
 abbrev pub later_shapes : List Shape
 later_shapes =
-    shape_with (codes "new") (cart_rule ∷ number_rule (codes "FRAMES") 0 most_inputs ∷ [])
-    ∷ shape_with (codes "edit") (cart_rule ∷ file_rule (codes "SCRIPT") ∷ flag_rule (codes "OTHER") (codes "with") ∷ [])
-    ∷ shape_with (codes "cut") (cart_rule ∷ frame_rule (codes "FROM") ∷ frame_rule (codes "TO") ∷ [])
-    ∷ shape_with (codes "diff") (cart_rule ∷ file_rule (codes "OLD") ∷ [])
+    shape_with (codes "new") (cart_rule ∷ number_rule (codes "FRAMES") 0 most_inputs ∷ file_output_rule ∷ [])
+    ∷ shape_with (codes "edit") (cart_rule ∷ file_rule (codes "SCRIPT") ∷ flag_rule (codes "OTHER") (codes "with") ∷ file_output_rule ∷ [])
+    ∷ shape_with (codes "cut") (cart_rule ∷ frame_rule (codes "FROM") ∷ frame_rule (codes "TO") ∷ file_output_rule ∷ [])
+    ∷ shape_with (codes "diff") (cart_rule ∷ file_rule (codes "OLD") ∷ file_output_rule ∷ [])
     ∷ shape_with (codes "script") (flag_rule (codes "CART") (codes "cart") ∷ flag_rule (codes "MOVIE") (codes "movie") ∷ [])
     ∷ shape_with (codes "talk") (may_word_rule (codes "CART") ∷ may_word_rule (codes "MOVIE") ∷ [])
     ∷ []
@@ -209,15 +224,16 @@ named_command words = option_map (λ p. p.0) (stop_after own_flags (labels comma
 
 -- ---- what they ask for
 
--- the command that was reached has a task's words
-abbrev pub HasWordsOf : Option (Text × List Row) → Task → Type 0
-HasWordsOf None chosen = ⊥
-HasWordsOf (Some reached) chosen = HasWords reached.0 reached.1 chosen
+-- the command that was reached has a task's words, and the word for the file of its output, where there is one
+abbrev pub HasWordsOf : Option (Text × List Row) → Task → Option (Bor Text) → Type 0
+HasWordsOf None chosen output = ⊥
+HasWordsOf (Some reached) chosen output = HasWords reached.0 reached.1 chosen × IsOptionalWord reached.1 (codes "FILE") output
 
--- the words name a command and reach it with the words after it, which are a task's
-pub record IsAsked (words : List Text) (chosen : Task) : Type 0 where
+-- the words name a command and reach it with the words after it, which are a task's and that for the file of its output, where there is one
+pub record IsAsked (words : List Text) (chosen : Task) (output : Option (Bor Text)) : Type 0 where
   pub name : Text
   pub rows : List Row
   pub named : named_command words ≡ Some name
   pub reached : subcommand_of command_line words ≡ Some (name, rows)
   pub has : HasWords name rows chosen
+  pub into : IsOptionalWord rows (codes "FILE") output

@@ -9,7 +9,7 @@ use Rattle.clap.specs.declared.builder.command.Command.TheViews.{out-Command}
 use Rattle.tas_words.specs.declared.subcommands.Subcommand.{Subcommand}
 use Rattle.tas_words.specs.declared.subcommands.Word.{Word}
 use Rattle.tas_words.specs.declared.subcommands.WordKind.{WordKind}
-use Rattle.tas_words.specs.declared.subcommands.WordKind.TheVariants.{File, OptionalFile, PairedFile, Flag, Number, OptionalNumber}
+use Rattle.tas_words.specs.declared.subcommands.WordKind.TheVariants.{File, OptionalFile, PairedFile, Flag, Output, Number, OptionalNumber}
 
 -- a command's name, its usage, its tip if it reads standard input, and of each word that stands after no flag whether it is a number
 pub record Guide : Type 0 where
@@ -27,6 +27,7 @@ kind_number File = Some false
 kind_number OptionalFile = Some false
 kind_number (PairedFile other) = Some false
 kind_number (Flag flag other) = None
+kind_number Output = None
 kind_number (Number least most) = Some true
 kind_number (OptionalNumber least most) = Some true
 
@@ -46,6 +47,7 @@ usage_word name File = codes " <" ++ name ++ codes ">"
 usage_word name OptionalFile = codes " [" ++ name ++ codes "]"
 usage_word name (PairedFile other) = codes " [" ++ name ++ codes "]"
 usage_word name (Flag flag other) = []
+usage_word name Output = []
 usage_word name (Number least most) = codes " <" ++ name ++ codes ">"
 usage_word name (OptionalNumber least most) = codes " [" ++ name ++ codes "]"
 
@@ -56,6 +58,7 @@ usage_words (word ∷ words) = usage_word word.name.now word.kind ++ usage_words
 -- a word stands after a flag
 abbrev pub is_flagged : WordKind → Bool
 is_flagged (Flag flag other) = true
+is_flagged Output = true
 is_flagged _ = false
 
 -- what a usage begins with: the command's name, whether it has flags, its words in order, and, where it has a tip, since it reads standard input, the sign of redirection
@@ -74,7 +77,7 @@ first_guides =
     (Some (codes "the cartridge is read from standard input: tas trace 3 < game.bin")) (true ∷ [])
     ∷ guide (codes "check") (codes "tas check <CART> < MOVIE")
     (Some (codes "the movie is read from standard input: tas check game.bin < game.movie")) (false ∷ [])
-    ∷ guide (codes "migrate") (codes "tas migrate <CART> < MOVIE")
+    ∷ guide (codes "migrate") (codes "tas migrate [OPTIONS] <CART> < MOVIE")
     (Some (codes "the movie is read from standard input: tas migrate game.bin < old.movie > new.movie")) (false ∷ [])
     ∷ guide (codes "shot") (codes "tas shot <CART> <K> < MOVIE")
     (Some (codes "the movie is read from standard input: tas shot game.bin 60 < game.movie > frame60.ppm")) (false ∷ true ∷ [])
@@ -95,12 +98,12 @@ first_guides =
 -- the guides of the commands after them
 abbrev pub later_guides : List Guide
 later_guides =
-    guide (codes "new") (codes "tas new <CART> <FRAMES>") None (false ∷ true ∷ [])
+    guide (codes "new") (codes "tas new [OPTIONS] <CART> <FRAMES>") None (false ∷ true ∷ [])
     ∷ guide (codes "edit") (codes "tas edit [OPTIONS] <CART> <SCRIPT> < MOVIE")
     (Some (codes "the movie is read from standard input: tas edit game.bin fix.script < game.movie > new.movie")) (false ∷ false ∷ [])
-    ∷ guide (codes "cut") (codes "tas cut <CART> <FROM> <TO> < MOVIE")
+    ∷ guide (codes "cut") (codes "tas cut [OPTIONS] <CART> <FROM> <TO> < MOVIE")
     (Some (codes "the movie is read from standard input: tas cut game.bin 60 120 < game.movie > new.movie")) (false ∷ true ∷ true ∷ [])
-    ∷ guide (codes "diff") (codes "tas diff <CART> <OLD> < MOVIE")
+    ∷ guide (codes "diff") (codes "tas diff [OPTIONS] <CART> <OLD> < MOVIE")
     (Some (codes "the newer movie is read from standard input: tas diff game.bin old.movie < new.movie")) (false ∷ false ∷ [])
     ∷ guide (codes "script") (codes "tas script [OPTIONS] < SCRIPT")
     (Some (codes "the script is read from standard input: tas script < game.script")) []

@@ -6,7 +6,7 @@ use Rattle.std.specs.Vec.Iter.{into_iter_steps}
 use Rattle.std.specs.declared.vec.IntoIter.{IntoIter}
 use Rattle.std.specs.declared.io.Error.{Error}
 use Rattle.tas_words.specs.declared.invocation.Invocation.{Invocation}
-use Rattle.tas_words.specs.declared.invocation.Invocation.TheVariants.{Do, NoMemory, Refuse, Show}
+use Rattle.tas_words.specs.declared.invocation.Invocation.TheVariants.{Do, NoMemory, Refuse, Save, Show}
 use Rattle.clap.specs.Walk.{Text}
 use Rattle.tas_words.specs.CommandLine.{IsAsked}
 use Rattle.tas_words.specs.Guides.{tip_of}
@@ -31,20 +31,23 @@ HasTip tip text = (old : Text) × (text ≡ tipped tip old)
 -- these words are refused with this text and the tip for them, or memory was
 abbrev pub IsRefusalWith : {A : Type 0} → List Text → Text → Invocation A → Type 0
 IsRefusalWith words text (Do chosen) = ⊥
+IsRefusalWith words text (Save chosen file) = ⊥
 IsRefusalWith words text (Show shown) = ⊥
 IsRefusalWith words text (Refuse new) = string_bytes new ≡ tipped (tip_of words) text
 IsRefusalWith words text NoMemory = Unit {0}
 
 -- what these words may ask for, the first of which is the program's name: the task of the command that they name, with its files and
--- numbers, these in their ranges; or a text, or nothing that is understood, with the tip for these words, or memory was refused
+-- numbers, these in their ranges, and that for the file of its output, exactly where it is to be saved; or a text, or nothing that is understood, with the tip for these words, or memory was refused
 abbrev pub IsInvocation : {A : Type 0} → List Text → Invocation A → Type 0
-IsInvocation words (Do chosen) = IsAsked words chosen
+IsInvocation words (Do chosen) = IsAsked words chosen None
+IsInvocation words (Save chosen file) = IsAsked words chosen (Some file)
 IsInvocation words (Refuse text) = HasTip (tip_of words) (string_bytes text)
 IsInvocation words _ = Unit {0}
 
 -- an invocation that is no task
 abbrev pub IsNoTask : {A : Type 0} → Invocation A → Type 0
 IsNoTask (Do chosen) = ⊥
+IsNoTask (Save chosen file) = ⊥
 IsNoTask _ = Unit {0}
 
 -- an iterator gives these words, one after the other, and then no more

@@ -2,3 +2,4 @@ pub mod Task
 pub mod CommandLine
 pub mod Invocations
 pub mod Guides
+pub mod Waiting

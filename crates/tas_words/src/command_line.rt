@@ -1,8 +1,12 @@
 //! The program's command line, as clap takes it.
+//!
+//! The commands are three lists with a contract each: the proof of one list with all texts met the checker's limit of
+//! steps. `help` and `version` as words are the script's: here they would be two commands with no engine, and clap's
+//! own definition, on which a contract rests, would have a case more for each.
 
 ghost use Rattle.std.specs.Prelude.{◌≡◌, IfOk, None, false, map};
 ghost use Rattle.clap.specs.Words.{app_of, rule_of};
-ghost use Rattle.tas_words.specs.CommandLine.{empty_line, flag_rule, may_number_rule, may_word_rule, number_rule, paired_word_rule, rule_of_word, version_text, with_commands, word_rule, HasRules, HasVersion, IsCommandLine};
+ghost use Rattle.tas_words.specs.CommandLine.{empty_line, flag_rule, may_number_rule, may_word_rule, number_rule, output_rule, paired_word_rule, rule_of_word, version_text, with_commands, word_rule, HasRules, HasVersion, IsCommandLine};
 ghost use Rattle.tas_words.specs.Guides.{HasUsage};
 
 use crate::subcommands::{
@@ -14,6 +18,7 @@ use std::alloc::{AllocError, Global};
 /// What `tas --version` prints after the program's name: the program's version, and the number of the machine's profile. The proof
 /// compares it with that of `vcs_machine`.
 fn version<'a>() -> &'a str
+    // Refused: version_has_the_profile_before.
     ensures { result.now ≡ version_text }
 {
     "0.3.0, machine profile 2"
@@ -79,6 +84,19 @@ fn flag<'a>(
         .requires_arg(other)
 }
 
+/// A word that names the file for the output, after `-o` or `--output`.
+fn output<'a>(alloc: Global, name: &'a str, help: &'a str) -> Arg<'a>
+    ensures local { result.global ≡ false }
+    ensures rule { rule_of result ≡ output_rule name.now }
+{
+    Arg::new(alloc, name)
+        .short('o')
+        .long("output")
+        .action(ArgAction::Set)
+        .value_name(name)
+        .help(help)
+}
+
 /// A required word that is a number in a range.
 fn number<'a>(alloc: Global, name: &'a str, help: &'a str, least: u32, most: u32) -> Arg<'a>
     ensures local { result.global ≡ false }
@@ -119,6 +137,7 @@ fn arg_of<'a>(alloc: Global, word: Word) -> Result<Arg<'a>, AllocError>
         WordKind::OptionalFile => Ok(optional_file(alloc, name, help)),
         WordKind::PairedFile { other } => paired_file(alloc, name, other, help),
         WordKind::Flag { flag: long, other } => flag(alloc, name, long, other, help),
+        WordKind::Output => Ok(output(alloc, name, help)),
         WordKind::Number { least, most } => Ok(number(alloc, name, help, least, most)),
         WordKind::OptionalNumber { least, most } => {
             Ok(optional_number(alloc, name, help, least, most))
@@ -143,6 +162,7 @@ fn with_words<'a>(alloc: Global, subcommand: Subcommand) -> Result<Command<'a>, 
 fn command_of<'a>(alloc: Global, subcommand: Subcommand) -> Result<Command<'a>, AllocError>
     ensures rules { IfOk result
         (HasRules subcommand.name.now (map rule_of_word subcommand.words.now)) }
+    // Refused: usage_is_the_summary*.
     ensures usage { IfOk result (λ command. HasUsage command subcommand.usage.now) }
 {
     // The usage is given last, since clap's `arg` says nothing of it.
@@ -181,6 +201,9 @@ fn with_commands<'a>(
 
 /// The program's command line.
 pub(crate) fn command_line<'a>(alloc: Global) -> Result<Command<'a>, AllocError>
+    // The text that clap is given as the program's version, with no long one beside it, has the number of the machine's
+    // profile.
+    // Refused: command_line_is_given_another_version.
     ensures line { IfOk result IsCommandLine }
     ensures version { IfOk result (λ line. HasVersion line version_text) }
 {

@@ -1,4 +1,12 @@
 //! The texts that explain the commands.
+//!
+//! A usage line is written out for each command, with what it reads from standard input: clap's own doesn't know of it,
+//! and lists the sixteen names of a desk's pairs.
+
+pub(crate) const LINES: &str = "A file that another program's lines are read from";
+
+pub(crate) const ANSWERS: &str =
+    "The file that their answers are written to; goes with the one before it";
 
 pub(crate) const TRACE_HELP: &str = "\
 Standard input is the cartridge: its image of 4096 or 2048 bytes, as an assembler writes it.
@@ -31,16 +39,16 @@ Standard output is the same movie as a text of runs: 'a26movie 2', and a line fo
 frames.
 
 Example:
-  ./tas migrate joystick.bin < examples/older.movie > new.movie";
+  ./tas migrate joystick.bin -o new.movie < examples/older.movie";
 
 pub(crate) const NEW_HELP: &str = "\
 Standard output is the text of a movie of this cartridge with FRAMES frames in which nothing is
 pressed, 262144 at most, which is 72 minutes. 'tas edit' presses something in it.
 
 Example:
-  ./tas new joystick.bin 600 > first.movie
+  ./tas new joystick.bin 600 -o first.movie
   echo press 60 30 R...F ..... ..... > first.script
-  ./tas edit joystick.bin first.script < first.movie > second.movie";
+  ./tas edit joystick.bin first.script -o first.movie < first.movie";
 
 pub(crate) const SHOT_HELP: &str = "\
 Standard input is the movie text, as for 'tas check'.
@@ -143,11 +151,15 @@ nothing, but count in the line numbers of faults.
 Frames are counted from 0. The lines are made in order, each on the movie that those before it made.
 Standard output is the text of the last one. A line that isn't understood, or that reaches past the
 last frame or makes the movie too long, ends the command with its fault and nothing written.
+With -o FILE the text is written to a new file beside FILE, which then takes FILE's name: so FILE is
+the old movie or the whole new one at every moment, and may be the file that the movie is read from.
+A shell empties the file after '>' before the program starts, so don't write the movie over itself
+that way.
 
 Examples:
-  ./tas edit joystick.bin examples/mend.script < examples/joystick.movie > mended.movie
+  ./tas edit joystick.bin examples/mend.script -o mended.movie < examples/joystick.movie
   echo press 30 5 ....F ..... ..... > fire.script
-  ./tas edit joystick.bin fire.script < examples/joystick.movie > fired.movie";
+  ./tas edit joystick.bin fire.script -o mended.movie < mended.movie";
 
 pub(crate) const CUT_HELP: &str = "\
 Standard input is the movie text, as for 'tas check'.
@@ -156,7 +168,7 @@ power-on as every movie does.
 
 Example, all but the first second:
   examples/cart joystick > joystick.bin
-  ./tas cut joystick.bin 60 120 < examples/joystick.movie > end.movie";
+  ./tas cut joystick.bin 60 120 -o end.movie < examples/joystick.movie";
 
 pub(crate) const DIFF_HELP: &str = "\
 Standard input is a movie text, as for 'tas check', and OLD is the file with the text of an older

@@ -16,6 +16,13 @@ use std::io;
 pub enum Invocation<'a, A: Allocator = Global> {
     /// A command.
     Do(Task<'a>),
+    /// A command whose output replaces a file.
+    Save {
+        /// The command.
+        task: Task<'a>,
+        /// The name of the file.
+        file: &'a str,
+    },
     /// This text on standard output: help, or the version.
     Show(String<A>),
     /// The words aren't understood; this text on standard error says why.
@@ -39,6 +46,7 @@ fn refusal_of<'a, A: Allocator + Copy>(
     text: String<A>,
     words: &[String<A>],
 ) -> Invocation<'a, A>
+    // Refused: refusal_has_no_tip, refusal_with_a_tip_loses_its_text.
     ensures { IsRefusalWith (map string_bytes words.now) (string_bytes text) result }
 {
     match tip_of(words) {
@@ -77,10 +85,22 @@ pub fn read_invocation<'a, A: Allocator + Copy>(
     alloc: A,
     words: &'a [String<A>],
 ) -> Invocation<'a, A>
+    // Refused: every_task_is_a_trace_of_nothing, output_goes_to_standard_output.
+    // A refusal of words with one too many, or with one in a number's place that can't be a number, no flag among them,
+    // has the tip of the command that they name, which says what is read from standard input and shows a call. The tip
+    // stands between the first line of a text and its rest, both whole; any other refusal is the text that was to be
+    // told.
+    // Refused: flags_get_a_tip*, word_too_many_gets_no_tip*, number_out_of_range_gets_a_tip*.
     ensures { IsInvocation (map string_bytes words.entry.now) result }
 {
     match read_words(global, words) {
-        Ok(task) => Invocation::Do(task),
+        Ok(order) => match order.output {
+            Some(file) => Invocation::Save {
+                task: order.task,
+                file,
+            },
+            None => Invocation::Do(order.task),
+        },
         Err(error) => invocation_of(alloc, &error, words),
     }
 }
@@ -90,6 +110,8 @@ pub fn collect_words<A: Allocator>(
     alloc: A,
     words: io::Result<Args<A>>,
 ) -> Result<Vec<String<A>, A>, Invocation<'static, A>>
+    // The words are those that the system gave, in order; where it gave none, nothing is asked for.
+    // Refused: last_word_is_dropped.
     ensures words { IfOk result (λ list. AreGiven words (map string_bytes list.items)) }
     ensures none { IfErr result IsNoTask }
 {

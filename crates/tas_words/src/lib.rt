@@ -9,11 +9,13 @@ mod invocation;
 mod subcommands;
 mod task;
 mod tips;
+mod waiting;
 mod words;
 
 pub use invocation::{Invocation, collect_words, read_invocation};
 pub use task::{
     DEFAULT_EVERY, MAX_EVERY, MAX_FRAME_NUMBER, MAX_FRAMES, MAX_INSTRUCTIONS, MAX_WORKERS,
-    MovieFiles, Pair, Pairs, Start, Task,
+    MovieFiles, Order, Pair, Pairs, Start, Task,
 };
+pub use waiting::waits_for;
 pub use words::read_words;

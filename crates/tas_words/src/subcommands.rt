@@ -6,9 +6,9 @@ ghost use Rattle.tas_words.specs.CommandLine.{empty_line, first_line, last_line,
 ghost use Rattle.tas_words.specs.Guides.{first_guides, guide_of, has_its_words, last_guides, later_guides};
 
 use crate::helps::{
-    CHECK_HELP, COMPARE_HELP, CUT_HELP, DESK_HELP, DIFF_HELP, DIGEST_HELP, EDIT_HELP, EXPORT_HELP,
-    FILM_HELP, LAG_HELP, MIGRATE_HELP, NEW_HELP, RAM_HELP, SCRIPT_HELP, SHOT_HELP, TALK_HELP,
-    TRACE_HELP,
+    ANSWERS, CHECK_HELP, COMPARE_HELP, CUT_HELP, DESK_HELP, DIFF_HELP, DIGEST_HELP, EDIT_HELP,
+    EXPORT_HELP, FILM_HELP, LAG_HELP, LINES, MIGRATE_HELP, NEW_HELP, RAM_HELP, SCRIPT_HELP,
+    SHOT_HELP, TALK_HELP, TRACE_HELP,
 };
 use crate::{MAX_EVERY, MAX_FRAME_NUMBER, MAX_FRAMES, MAX_INSTRUCTIONS, MAX_WORKERS};
 
@@ -28,6 +28,8 @@ pub(crate) enum WordKind {
         flag: &'static str,
         other: &'static str,
     },
+    /// The name of a file after `-o` or `--output`.
+    Output,
     /// A number from the least to the most.
     Number {
         least: u32,
@@ -95,9 +97,11 @@ const OLD: Word = Word {
     kind: WordKind::File,
 };
 
-const LINES: &str = "A file that another program's lines are read from";
-
-const ANSWERS: &str = "The file that their answers are written to; goes with the one before it";
+const OUTPUT: Word = Word {
+    name: "FILE",
+    help: "Replaces FILE by the output once that is whole; standard output stays empty",
+    kind: WordKind::Output,
+};
 
 /// The first of the three lists of commands: a proof over one list of all is too large.
 static FIRST_SUBCOMMANDS: [Subcommand; 10] = [
@@ -126,13 +130,13 @@ static FIRST_SUBCOMMANDS: [Subcommand; 10] = [
     },
     Subcommand {
         name: "migrate",
-        usage: "tas migrate <CART> < MOVIE",
+        usage: "tas migrate [OPTIONS] <CART> < MOVIE",
         tip: Some(
             "the movie is read from standard input: tas migrate game.bin < old.movie > new.movie",
         ),
         about: "Writes a movie text, older ones too, as a text of runs ('a26movie 2')",
         help: MIGRATE_HELP,
-        words: &[CARTRIDGE],
+        words: &[CARTRIDGE, OUTPUT],
     },
     Subcommand {
         name: "shot",
@@ -257,7 +261,7 @@ static FIRST_SUBCOMMANDS: [Subcommand; 10] = [
 static LATER_SUBCOMMANDS: [Subcommand; 6] = [
     Subcommand {
         name: "new",
-        usage: "tas new <CART> <FRAMES>",
+        usage: "tas new [OPTIONS] <CART> <FRAMES>",
         tip: None,
         about: "Writes the text of a movie in which nothing is pressed",
         help: NEW_HELP,
@@ -271,6 +275,7 @@ static LATER_SUBCOMMANDS: [Subcommand; 6] = [
                     most: MAX_FRAMES,
                 },
             },
+            OUTPUT,
         ],
     },
     Subcommand {
@@ -296,27 +301,28 @@ static LATER_SUBCOMMANDS: [Subcommand; 6] = [
                     other: "SCRIPT",
                 },
             },
+            OUTPUT,
         ],
     },
     Subcommand {
         name: "cut",
-        usage: "tas cut <CART> <FROM> <TO> < MOVIE",
+        usage: "tas cut [OPTIONS] <CART> <FROM> <TO> < MOVIE",
         tip: Some(
             "the movie is read from standard input: tas cut game.bin 60 120 < game.movie > new.movie",
         ),
         about: "Writes the text of the movie of some frames of a movie alone",
         help: CUT_HELP,
-        words: &[CARTRIDGE, FROM, TO],
+        words: &[CARTRIDGE, FROM, TO, OUTPUT],
     },
     Subcommand {
         name: "diff",
-        usage: "tas diff <CART> <OLD> < MOVIE",
+        usage: "tas diff [OPTIONS] <CART> <OLD> < MOVIE",
         tip: Some(
             "the newer movie is read from standard input: tas diff game.bin old.movie < new.movie",
         ),
         about: "Writes the script that turns one movie into another",
         help: DIFF_HELP,
-        words: &[CARTRIDGE, OLD],
+        words: &[CARTRIDGE, OLD, OUTPUT],
     },
     Subcommand {
         name: "script",
@@ -466,6 +472,10 @@ static LAST_SUBCOMMANDS: [Subcommand; 1] = [Subcommand {
 /// The program's first commands, which make the first part of its command line.
 pub(crate) fn first_subcommands() -> &'static [Subcommand]
     ensures line { with_commands empty_line result.now ≡ first_line }
+    // `guides`, `usages`: each command has the usage of a table beside the code, which ends with what it reads from
+    // standard input, where it reads it. Each but that of `desk` begins with the command's name, whether it has flags,
+    // and each of its words in order, as `<X>` where it is required and `[X]` where it may be left out.
+    // Refused: usage_of_a_shot_hides_the_movie.
     ensures guides { map guide_of result.now ≡ first_guides }
     ensures usages { list_all has_its_words result.now ≡ true }
 {

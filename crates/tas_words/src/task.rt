@@ -1,4 +1,8 @@
 //! What the program can be asked to do.
+//!
+//! `HasWords` is one table of what the words of a command ask for: name, words, the ranges of numbers, a row for each
+//! task. The commands as clap takes them are another one (`command_line`), since clap's definitions of what words reach
+//! are over it. An EVERY of 0 counts as 1 where a task is made without words; words can't say 0.
 
 use tas_language::MAX_NUMBER;
 
@@ -191,4 +195,13 @@ pub enum Task<'a> {
         /// The files of lines and of answers.
         pairs: Pairs<'a>,
     },
+}
+
+/// A task, and where its output goes.
+#[derive(Clone, Copy)]
+pub struct Order<'a> {
+    /// The task.
+    pub task: Task<'a>,
+    /// The name of the file that is replaced by its output; `None` for standard output.
+    pub output: Option<&'a str>,
 }

@@ -1,4 +1,7 @@
 //! Tips for those who take a command's standard input for one of its words.
+//!
+//! A tip is one line with made-up names: a call made of the given words would guess which of them is the movie. Words
+//! with a flag get none, since a flag may be what is wrong.
 
 ghost use Rattle.std.specs.Prelude.{◌≡◌, find, map, option_map, string_bytes};
 ghost use Rattle.std.specs.List.{list_all};
@@ -49,7 +52,7 @@ fn number_kind(kind: WordKind) -> Option<bool>
 {
     match kind {
         WordKind::File | WordKind::OptionalFile | WordKind::PairedFile { .. } => Some(false),
-        WordKind::Flag { .. } => None,
+        WordKind::Flag { .. } | WordKind::Output => None,
         WordKind::Number { .. } | WordKind::OptionalNumber { .. } => Some(true),
     }
 }
@@ -85,7 +88,7 @@ fn named(commands: &[Subcommand], name: &str) -> Option<Subcommand>
 }
 
 /// The command of this name.
-fn command_named(name: &str) -> Option<Subcommand>
+pub(crate) fn command_named(name: &str) -> Option<Subcommand>
     ensures { option_map guide_of result ≡ guide_named name.now }
 {
     if let Some(command) = named(first_subcommands(), name) {

@@ -1,4 +1,7 @@
 //! The words of the command line.
+//!
+//! `--with` is a flag that goes with SCRIPT, which `tas edit` requires anyway, so it needs no new kind of word. Where
+//! memory is refused while words are read the fault is `out of memory`, with status 1: the words may be right.
 
 ghost use Rattle.std.specs.Prelude.{◌≡◌, IfOk, IfSome, codes, map, option_map, string_bytes};
 ghost use Rattle.clap.specs.Words.{first_of, found_of, rows_of, subcommand_rows_of};
@@ -8,7 +11,7 @@ ghost use Rattle.tas_words.specs.CommandLine.{HasWordsOf, IsAsked, IsCommandLine
 use crate::command_line::command_line;
 use crate::{
     DEFAULT_EVERY, MAX_EVERY, MAX_FRAME_NUMBER, MAX_FRAMES, MAX_INSTRUCTIONS, MAX_WORKERS,
-    MovieFiles, Pair, Pairs, Start, Task,
+    MovieFiles, Order, Pair, Pairs, Start, Task,
 };
 use clap::error::ErrorKind;
 use clap::{ArgMatches, Command, Error};
@@ -230,38 +233,57 @@ fn command_task<'a>(name: &str, words: &ArgMatches<'a>) -> Option<Task<'a>>
 }
 
 /// What matched words ask for; `None` where they are no command of this program.
-fn task_of<'a>(matches: &ArgMatches<'a>) -> Option<Task<'a>>
-    ensures { IfSome result (HasWordsOf (subcommand_rows_of matches.now)) }
+fn order_of<'a>(matches: &ArgMatches<'a>) -> Option<Order<'a>>
+    ensures { IfSome result
+        (λ order. HasWordsOf (subcommand_rows_of matches.now) order.task order.output) }
 {
     let (name, words) = matches.subcommand()?;
-    command_task(name, words)
+    let task = command_task(name, words)?;
+    let output = word_of(words, "FILE");
+    Some(Order { task, output })
 }
 
 /// What the words ask of this command line.
-fn task_by<'a, A: Allocator>(
+fn order_by<'a, A: Allocator>(
     line: &mut Command<'a>,
     words: &'a [String<A>],
-) -> Result<Task<'a>, Error>
+) -> Result<Order<'a>, Error>
     requires { IsCommandLine line.now }
-    ensures { IfOk result (IsAsked (map string_bytes words.entry.now)) }
+    ensures { IfOk result
+        (λ order. IsAsked (map string_bytes words.entry.now) order.task order.output) }
 {
     let matches = line.try_get_matches_from_mut(words)?;
-    match task_of(&matches) {
-        Some(task) => Ok(task),
+    match order_of(&matches) {
+        Some(order) => Ok(order),
         // Not expected: clap has met the command's rules. Its clauses say so of the command's name alone, and of words that it `takes`.
         None => Err(line.error(ErrorKind::InvalidSubcommand, "no such command")?),
     }
 }
 
 /// What the words ask for; the first of them is the program's name. The task is that of the command that they name, with its files and
-/// numbers. An error is clap's: a text that was asked for, or words that aren't understood, or no memory. clap takes its memory from
-/// `global` alone.
+/// numbers, and its output goes to the file that they name for it, where they do. An error is clap's: a text that was asked for, or words
+/// that aren't understood, or no memory. clap takes its memory from `global` alone.
 pub fn read_words<'a, A: Allocator>(
     global: Global,
     words: &'a [String<A>],
-) -> Result<Task<'a>, Error>
-    ensures { IfOk result (IsAsked (map string_bytes words.entry.now)) }
+) -> Result<Order<'a>, Error>
+    // The task is that of the command that the words name, its numbers in their ranges. `named_command` is clap's own
+    // definition of the subcommand that words reach, over the commands' names and the flags for help and version.
+    // Refused: shot_is_read_as_check*, shot_is_answered_as_check*, new_is_read_as_check*, ram_is_read_as_export*,
+    // compare_is_read_as_diff*, cut_is_read_as_ram*.
+    // The task's files and numbers are the words of that command, by their names, as clap's own definition finds them
+    // after it; a number is read in decimal digits, before which there may be a plus. What may be left out is missing
+    // in the task exactly where it is in the words, as a pair of a desk's files, of which both names are there or
+    // none; EVERY of `digest` is 600 then.
+    // Refused: script_is_the_cartridges_file*, half_of_the_frame_is_asked*, film_starts_at_its_end*,
+    // number_that_is_said_is_left_out*, every_is_600_whatever_is_said,
+    // digest_is_of_single_frames_where_nothing_is_said*, second_movie_is_left_out*,
+    // first_names_of_two_pairs_are_swapped*.
+    // A command's output replaces the file FILE exactly where the words name one after `-o` or `--output`.
+    // Refused: file_of_the_output_is_left_out.
+    ensures { IfOk result
+        (λ order. IsAsked (map string_bytes words.entry.now) order.task order.output) }
 {
     let mut line = command_line(global)?;
-    task_by(&mut line, words)
+    order_by(&mut line, words)
 }

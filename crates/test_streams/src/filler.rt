@@ -21,6 +21,8 @@ pub struct Filler {
 impl Filler {
     /// Reads are counted from 1; at 0 none fails.
     pub fn new(byte: u8, left: usize, fails_at: usize) -> Filler
+        // A reader of n equal bytes has all of them left and was never read.
+        // Refused: half_of_the_bytes_are_given.
         ensures left { result.left ≡ left }
         ensures reads { result.reads ≡ 0 }
         ensures byte { result.byte ≡ byte }
@@ -39,6 +41,8 @@ impl Filler {
 impl Read for Filler {
     ghost remaining = { λ filler. Some (replicate filler.left filler.byte) };
 
+    // What it gives are these bytes, in order, to the last one; a read that fails gives none.
+    // Refused: zeros_are_given.
     fn read(&mut self, buf: &mut [u8]) -> io::Result<usize> {
         self.reads = self.reads.saturating_add(1);
         if self.reads == self.fails_at {

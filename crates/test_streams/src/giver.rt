@@ -22,6 +22,8 @@ pub struct Giver<'a> {
 impl<'a> Giver<'a> {
     /// Reads are counted from 1; at 0 none fails.
     pub fn new(bytes: &'a [u8], at_once: usize, fails_at: usize) -> Giver<'a>
+        // A reader of given bytes was never read.
+        // Refused: reads_start_at_1.
         ensures reads { result.reads ≡ 0 }
         ensures bytes { result.bytes.now ≡ bytes.now }
         ensures at_once { result.at_once ≡ at_once }

@@ -43,6 +43,8 @@ pub struct Taker {
 impl Taker {
     /// A writer that has taken nothing yet.
     pub fn new(alloc: Global, at_once: usize, room: Room, failure: Failure) -> Taker
+        // A writer has taken nothing, by no write.
+        // Refused: a_write_has_failed_before_the_first.
         ensures taken { result.taken.items ≡ [] }
         ensures writes { result.writes ≡ 0 }
         ensures failed { result.failed ≡ 0 }
@@ -73,6 +75,8 @@ impl Taker {
 impl Write for Taker {
     ghost contents = { λ taker. Some taker.taken.items };
 
+    // What it has taken are the bytes that its writes said to have written, in order; a write that fails takes none.
+    // Refused: write_counts_one_byte_less.
     fn write(&mut self, buf: &[u8]) -> io::Result<usize> {
         let n = buf.len().min(self.at_once).min(self.room());
         self.writes = self.writes.saturating_add(1);

@@ -11,6 +11,9 @@ use crate::bus::Bus;
 /// The word of four bytes, the first as the lowest.
 #[inline(always)]
 pub fn code_of(first: u8, second: u8, third: u8, fourth: u8) -> u32
+    // The word of four bytes has them in order, the first as its lowest; a bus that has no `fetch` of its own shows an
+    // instruction's bytes so.
+    // Refused: code_bytes_are_swapped.
     ensures { result ≡ first + 256 * second + 65536 * third + 16777216 * fourth }
 {
     first as u32 + 256 * second as u32 + 65536 * third as u32 + 16777216 * fourth as u32

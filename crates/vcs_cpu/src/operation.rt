@@ -1,4 +1,8 @@
 //! Operations: what an instruction does with its operand, and the cycles that this adds.
+//!
+//! Each class of operations is a type, so each has a contract of its own and only its own code is compiled into an arm.
+//! `extra_cycles` is alike in nine of eleven impls: as the trait's default body it would have to meet the clause for
+//! branches, too.
 #![tactic(auto)]
 
 ghost use Rattle.std.specs.Prelude.{◌≡◌, ◌≤◌};

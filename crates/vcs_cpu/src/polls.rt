@@ -1,4 +1,15 @@
 //! Polls: loops of an LDA and a BNE that wait for a byte to become 0, or of an LDA and a BEQ that wait for another byte.
+//!
+//! A game waits for the end of a blank by such a loop, hundreds of times a frame. Where a BNE or a BEQ back to it
+//! follows an LDA of an absolute address, `go_on_by_load` asks the bus how many polls take their branch before anything
+//! else happens, and these pass at once. The law: where each of n polls shows the same code, reads a byte on which the
+//! branch is taken and leaves the bus at rest (`IsPoll`), a run goes on 2n instructions later with the last byte in A,
+//! its N and Z, and the time of n polls passed. The definitions know of no polls, and a bus may let none pass.
+//!
+//! Other loops (LDX, LDY, BPL, BIT) are played one by one: no kernel of bench/ and no example has them at the timer.
+//! Only this LDA pays for the test: the fourth byte that `fetch` took is a hint at the next opcode. With a second fetch
+//! in the loop the compiler would keep two fields of the bus in registers, and all other instructions would pay (8% in
+//! the kernel `loop`).
 #![tactic(auto)]
 
 ghost use Rattle.std.specs.Prelude.{◌≡◌, ℕ, ◌+◌, ◌/◌, ◌%◌, ◌==◌, ◌<◌, not, true, if◌then◌else◌};

@@ -126,6 +126,8 @@ fn is_load_watched<B: Watch>(op: Op, operand: Operand, regs: &Regs, bus: &B) -> 
 /// Whether the instruction at the program counter reads at a watched address: its opcode, its operand and
 /// pointer bytes, its operand, or what it pulls. An undocumented opcode is read alone. Nothing changes.
 pub fn reads_watched<B: Watch>(regs: &Regs, bus: &B) -> bool
+    // Refused: pull_is_not_watched, opcode_is_not_watched*, jump_pointer_is_not_watched*,
+    // changed_operand_is_not_watched*.
     ensures { result
         ≡ list_any (B.is_watched bus.now)
         (addresses_read regs.now (B.device.byte_at (B.content bus.now))) }

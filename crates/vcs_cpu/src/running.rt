@@ -1,4 +1,17 @@
 //! Runs: instructions one after the other.
+//!
+//! The match over opcodes is in the loop itself (`run_by_value`), and no reference to the registers leaves the
+//! function, so the compiler keeps them in the processor's registers. With the arms in a function of their own, which
+//! the compiler doesn't inline, the kernel `loop` of bench/ takes twice the host's instructions. What is never inlined
+//! gets a copy of the registers (`perform_any`), or the program counter alone (`pass_polls_at`).
+//!
+//! 106 opcodes have an arm, with the code of one addressing mode and one class of operations; each must prove that it
+//! is the definition's row. The other 45 use the table, as `step` does for all: more than 132 rows are too many
+//! statements for the checker.
+//!
+//! No code counts instructions, which would cost 5%: the measure is the number that the run still takes
+//! (`length_within`). `IsNext` and `IsLedTo` say what holds before and after an arm; the search for a proof opens
+//! neither.
 #![tactic(auto)]
 
 ghost use Rattle.std.specs.Prelude.{◌≡◌, Some};
@@ -104,6 +117,13 @@ pub fn run_until_over<B: Settle>(regs: &mut Regs, bus: &mut B, most: u32) -> Opt
     requires ready { B.Ready bus.old }
     requires ends { (e : RunEnd B.Content)
         × (run_within B.device settling most regs.old (B.content bus.old) ≡ Some e) }
+    // Refused: opcode_of_a_run_is_loaded.
+    // A run is such instructions one after the other, with what the bus does by itself after each, up to the one after
+    // which the bus says that the run is over, or to a halt, which leaves registers and content as they were.
+    // Refused: run_goes_on_after_its_end, run_leaves_the_registers*.
+    // Polls that a bus lets pass at once leave registers, content and time as their instructions do one by one.
+    // Refused: polled_byte_is_not_loaded, poll_by_beq_goes_on_like_one_by_bne, polls_leave_z*,
+    // poll_ends_by_the_other_branch*, polls_that_cross_a_page_take_longer*.
     ensures ended { run_within B.device settling most regs.old (B.content bus.old)
         ≡ Some (record { regs = regs.new; content = B.content bus.new; halt = result }) }
     ensures fixed { B.fixed bus.new ≡ B.fixed bus.old }

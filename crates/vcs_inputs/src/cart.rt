@@ -1,4 +1,8 @@
 //! A cartridge.
+//!
+//! A cartridge has room for 4,096 bytes, however many it has, so a movie can take the bytes of any other one without
+//! memory. The number of its bytes is one of two by its type. The place of an address in it is the address's low lines,
+//! since both are powers of two. `==` compares cartridges of one allocator type; others are compared by their bytes.
 #![tactic(auto)]
 
 ghost use Rattle.std.specs.Prelude.{
@@ -69,6 +73,9 @@ impl<A: Allocator> Cart<A> {
     /// A cartridge with a copy of these bytes, as many as they are. [`CartError::Size`] comes exactly
     /// where there are neither 2,048 nor 4,096 of them, and it comes first.
     pub fn from_bytes(alloc: A, bytes: &[u8]) -> Result<Cart<A>, CartError>
+        // A cartridge is made of 2,048 or 4,096 bytes exactly, as they are given, and `Size` comes exactly for another
+        // number, which it has.
+        // Refused: short_cartridges_taken, small_cartridges_refused*, small_image_doubled*, size_is_always_4096*.
         ensures { MatchResult result (λ cart. cart ≡ bytes.now) (IsRightCartError bytes.now) }
     {
         if !is_cart_size(bytes.len()) {
@@ -89,6 +96,8 @@ impl<A: Allocator> Cart<A> {
 
     /// A cartridge of 4,096 zeros, or the allocator's refusal.
     pub fn blank(alloc: A) -> Result<Cart<A>, AllocError>
+        // A blank cartridge is 4,096 zeros. Copies, bytes and equality are those of the list of bytes.
+        // Refused: blank_cartridge_of_ones.
         ensures { IfOk result (λ cart. cart ≡ replicate cart_size 0) }
     {
         let bytes = vec![in alloc; 0; CART_SIZE]?;
@@ -97,6 +106,7 @@ impl<A: Allocator> Cart<A> {
 
     /// The 2,048 or 4,096 bytes.
     pub fn bytes(&self) -> &[u8]
+        // Refused: bytes_without_the_first*.
         ensures value { result.now ≡ self.now }
         ensures size { is_cart_size (length result.now) ≡ true }
     {
@@ -105,6 +115,7 @@ impl<A: Allocator> Cart<A> {
 
     /// Takes another cartridge's bytes, as many as they are, without memory.
     pub fn copy_from<B: Allocator>(&mut self, other: &Cart<B>)
+        // Refused: bytes_not_reused*.
         ensures { self.new ≡ other.now }
     {
         let bytes = other.bytes();
@@ -114,6 +125,7 @@ impl<A: Allocator> Cart<A> {
 
     /// An equal cartridge in memory of its own, or the allocator's refusal.
     pub fn copy<B: Allocator>(&self, alloc: B) -> Result<Cart<B>, AllocError>
+        // Refused: copy_of_zeros*.
         ensures { IfOk result (λ cart. cart ≡ self.now) }
     {
         Cart::copy_of(alloc, self.bytes())
@@ -132,6 +144,7 @@ impl<A: Allocator> PartialEq for Cart<A> {
 
     /// Whether the two have the same bytes.
     fn eq(&self, other: &Cart<A>) -> bool
+        // Refused: equal_by_the_first_byte*.
         ensures value { result ≡ pointwise nat_eq self.now other.now }
         ensures same { IsTrue result ↔ (self.now ≡ other.now) }
     {

@@ -69,6 +69,8 @@ impl Stick {
 impl Input {
     /// Nothing is pressed, the colour switch stands at colour and both difficulty switches at B.
     pub fn none() -> Self
+        // `Input::none` has nothing pressed, the colour switch at colour and both difficulty switches at B.
+        // Refused: none_is_black_and_white*.
         ensures { result ≡ no_input }
     {
         Input {
@@ -84,6 +86,10 @@ impl Input {
 
     /// What the pins of the RIOT's two ports show.
     pub fn pins(&self) -> Pins
+        // What the pins of the RIOT's two ports show: a pin of a joystick or of select and reset is 0 where it is
+        // pushed or pressed, the colour switch is 1 at colour, a difficulty switch 1 at A, and what nothing drives is
+        // 1.
+        // Refused: sticks_swapped, select_and_reset_swapped*, pressed_reads_1*.
         ensures { result ≡ pins_of self.now }
     {
         Pins {
@@ -139,6 +145,8 @@ impl PartialEq for Input {
     /// Whether all is pressed and set alike.
     fn eq(&self, other: &Input) -> bool
         ensures value { result ≡ are_same_inputs self.now other.now }
+        // Two inputs are equal if and only if all fifteen switches are.
+        // Refused: equality_ignores_fire.
         ensures same { IsTrue result ↔ (self.now ≡ other.now) }
     {
         self.switches() == other.switches()

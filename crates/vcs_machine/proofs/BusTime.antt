@@ -1,6 +1,5 @@
 -- The time on the bus and the beam's clocks.
-use Rattle.std.proofs.Common.{◌≡◌, ℕ, zero, suc, ◌+◌, ◌-◌, ◌*◌, ◌%◌, ◌<◌, ◌≤◌, Bool, true, false, nat_lt, ◌∙◌, ap, sym, refl, arith}
-use Rattle.std.proofs.lemmas.Bool.Decides.{nat_tests}
+use Rattle.std.proofs.Common.{◌≡◌, ℕ, zero, suc, ◌+◌, ◌-◌, ◌*◌, ◌%◌, ◌<◌, ◌≤◌, Bool, true, false, ◌∙◌, ap, sym, refl, arith}
 use Rattle.vcs_tia.specs.declared.chip.Tia.{Tia}
 use Rattle.vcs_tia.specs.Tia.{clocks_passed, clock_of, clocks_owed}
 use Rattle.vcs_tia.specs.Trace.{after_clocks}
@@ -46,17 +45,3 @@ module _ (t : Tia) (n now then : ℕ) (below : clock_of t < 228) (time : clocks_
   owed-time false is same start =
       let none : 3 * (then - now) ≡ 0 = omega (arith, same refl) in
       none ∙ clocks_owed-unowed n t (sym is)
-
--- ---- whether one is owed
-
-owes-by : (t : Tia) (r : ℕ) (owed : Bool) → t.sync.wait_owed ≡ owed → clock_of t % 3 ≡ 0 → clock_of t < 228 → r ≡ clocks_owed (after_clocks 1 t) → nat_lt 0 r ≡ t.sync.wait_owed
-owes-by t r true is thirds below e =
-    let lasts = e ∙ sym (clocks_owed-some 1 ((t.beam.clock + 1) % 228) t below refl is (λ z. omega (arith, z, thirds, below))) in
-    let some : 0 < r = omega (arith, lasts) in
-    let yes : nat_lt 0 r ≡ true = grind (arith, nat_tests, some) in
-    yes ∙ sym is
-owes-by t r false is thirds below e = ap (nat_lt 0) (e ∙ sym (clocks_owed-unowed 1 t is)) ∙ sym is
-
--- a beam on a multiple of three owes a wait just where it owes clocks a clock later
-pub owes-later : (t : Tia) (r : ℕ) → clock_of t % 3 ≡ 0 → clock_of t < 228 → r ≡ clocks_owed (after_clocks 1 t) → nat_lt 0 r ≡ t.sync.wait_owed
-owes-later t r thirds below e = owes-by t r t.sync.wait_owed refl thirds below e

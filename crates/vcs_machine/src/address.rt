@@ -1,4 +1,7 @@
 //! The address map: which part of the console an address selects.
+//!
+//! `selected` alone decodes the address map, in code and in definitions. Only whether several bytes of code are the
+//! cartridge's is asked by comparisons of their own (`fetch`, `is_in_cartridge`).
 #![tactic(auto)]
 
 ghost use Rattle.std.specs.Prelude.{◌≡◌};

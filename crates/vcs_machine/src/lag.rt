@@ -1,4 +1,13 @@
 //! Lag frames: frames whose input nothing reads.
+//!
+//! Whether a frame reads its input is found before each instruction: the addresses that it reads follow from registers
+//! and memory alone, and whether a read there shows the input doesn't change before its writes. So the bus notes
+//! nothing, a `peek` changes nothing, and `play` pays nothing. Once a read has shown the input the rest is played as
+//! any other frame.
+//!
+//! Three bytes are fetched for an instruction, but only the reads of its definition count. VBLANK's D6 counts at the
+//! frame's end alone: a latch that is set and not read is there in the next frame, and the write that turns D6 off
+//! clears it.
 #![tactic(auto)]
 
 ghost use Rattle.std.specs.Prelude.{◌≡◌, ◌+◌, ◌%◌, ◌^◌, ◌<◌, true, false, length, Some};
@@ -167,8 +176,15 @@ pub fn play_for_lag<C: Allocator>(
     meter: &mut Meter,
 ) -> bool
     requires { meter.old + 1 < 2 ^ 64 }
+    // `state`, `lag`, `meter`: `play_for_lag` makes the same next state, raises the meter, and returns whether the
+    // frame is a lag frame: no read of it, opcodes, operand and pointer bytes, operands and pulls alike, shows a pin or
+    // a fire button, and VBLANK's D6 is off at its end, so that no latch is kept.
+    // Refused: half_a_frame_of_instructions, read_of_inpt4_is_not_noted, latches_at_the_end_are_not_noted*,
+    // latches_at_a_halt_are_not_noted, last_step_alone_is_noted*, frame_that_reads_is_a_lag_frame*,
+    // rest_of_a_frame_that_reads_is_left_out*, port_with_a12_high_is_noted*.
     ensures state { state.new ≡ frame cart.now state.old input }
     ensures lag { result ≡ is_lag_frame cart.now state.old input }
+    // Refused: none, a body that breaks it breaks `lag`.
     ensures law { result ≡ true → (other : Input) → IsSameFrame cart.now state.old input other }
     ensures meter { meter.new ≡ meter.old + 1 }
 {

@@ -1,4 +1,8 @@
 //! Polls of the timer: where they are, and how many of them can pass at once.
+//!
+//! Those polls pass that read a count above 0, or no flag, and end before the bus has to settle. Once the flag was
+//! cleared after the underflow no cycle sets it again, so then polls pass up to the frame's end. Polls by code in RAM
+//! are played one by one: they are rare, and would take one more test of the place.
 #![tactic(auto)]
 
 ghost use Rattle.std.specs.Prelude.{◌≡◌, ℕ, ◌+◌, ◌*◌, ◌%◌, ◌<◌, ◌≤◌, true};

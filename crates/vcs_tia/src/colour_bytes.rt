@@ -1,4 +1,9 @@
 //! Eight pixels at once: the colour of each as a byte of a number, the first as the lowest.
+//!
+//! Layers are laid over one another: 32 pixels at a time the background, then playfield, player 1 and player 0, or with
+//! priority the playfield last. A table has a byte of ones for each of eight bits; by this mask the layer's colour
+//! takes the place of eight pixels. A layer without a bit costs one test. Where score divides the playfield, its own
+//! pixels are laid twice more.
 
 ghost use Rattle.std.specs.Prelude.{◌≡◌, ◌/◌, ◌%◌, ◌^◌, ◌<◌, ℕ, if◌then◌else◌};
 ghost use Rattle.vcs_tia.specs.Units.{has_bit};

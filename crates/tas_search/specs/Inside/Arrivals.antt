@@ -1,4 +1,4 @@
--- Arrivals: what the code keeps of a layer, and the trail that leads back from each of them.
+-- Arrivals: what the code keeps of a layer, and the parent links that lead back from each of them.
 use Rattle.std.specs.Prelude.{◌≡◌, ℕ, zero, suc, ◌+◌, ◌<◌, List, [], ◌∷◌, ◌++◌, length, map, take, drop, slice_index_or, Bool}
 use Rattle.vcs_machine.specs.Equality.{are_same_machines}
 use Rattle.vcs_machine.specs.Machine.{Machine, unless_halted}
@@ -12,11 +12,11 @@ use Rattle.tas_search.specs.Inside.Layers.{Reached, layer_of}
 abbrev pub are_same_arrivals : Arrival → Arrival → Bool
 are_same_arrivals a b = are_same_machines a.state b.state
 
--- the arrival at a machine by a choice, from the step at this place of the trail
+-- the arrival at a machine by a choice, from the step at this place of the parent links
 abbrev pub arrival_at : Machine → ℕ → ℕ → Arrival
 arrival_at m place k = record { state = m; step = record { parent = place; choice = k } }
 
--- what n choices from number k on reach from a machine, whose step is at this place of the trail
+-- what n choices from number k on reach from a machine, whose step is at this place of the parent links
 abbrev pub arrivals_from : SpaceContent → Machine → ℕ → ℕ → ℕ → List Arrival
 arrivals_from s m place k zero = []
 arrivals_from s m place k (suc n) = arrival_at (after_choice s m k) place k ∷ arrivals_from s m place (suc k) n
@@ -34,16 +34,16 @@ grown_arrivals s next place (a ∷ bs) = grown_arrivals s (insert_all are_same_a
 abbrev pub no_step : Step
 no_step = record { parent = 0; choice = 0 }
 
--- the choices on the way whose last step this is, after d choices
-abbrev pub way : List Step → ℕ → Step → List ℕ
-way trail zero step = []
-way trail (suc d) step = way trail d (slice_index_or trail step.parent no_step) ++ step.choice ∷ []
+-- the choices on the path whose last step this is, after d choices
+abbrev pub path : List Step → ℕ → Step → List ℕ
+path parents zero step = []
+path parents (suc d) step = path parents d (slice_index_or parents step.parent no_step) ++ step.choice ∷ []
 
--- an arrival with its whole way
-abbrev pub with_way : List Step → ℕ → Arrival → Reached
-with_way trail d a = record { machine = a.state; sequence = way trail d a.step }
+-- an arrival with its whole path
+abbrev pub with_path : List Step → ℕ → Arrival → Reached
+with_path parents d a = record { machine = a.state; sequence = path parents d a.step }
 
--- each step's parent is in the trail
+-- each step's parent is among the parent links
 abbrev pub AreWithin : ℕ → List Step → Type 0
 AreWithin n [] = Unit {0}
 AreWithin n (step ∷ steps) = (step.parent < n) × AreWithin n steps
@@ -51,12 +51,12 @@ AreWithin n (step ∷ steps) = (step.parent < n) × AreWithin n steps
 abbrev pub steps_of : List Arrival → List Step
 steps_of bs = map (λ a. a.step) bs
 
--- what is known between two layers: arrivals, whose steps are in the trail from `place` on, are the layer after this many choices
-pub record IsFront (s : SpaceContent) (depth place : ℕ) (trail : List Step) (arrivals : List Arrival) : Type 0 where
-  pub layer : map (with_way trail depth) arrivals ≡ layer_of s depth
-  pub within : AreWithin (length trail) trail
-  pub steps : drop place trail ≡ steps_of arrivals
-  pub count : place + length arrivals ≡ length trail
+-- what is known between two layers: arrivals, whose steps are among the parent links from `place` on, are the layer after this many choices
+pub record IsFrontier (s : SpaceContent) (depth place : ℕ) (parents : List Step) (arrivals : List Arrival) : Type 0 where
+  pub layer : map (with_path parents depth) arrivals ≡ layer_of s depth
+  pub within : AreWithin (length parents) parents
+  pub steps : drop place parents ≡ steps_of arrivals
+  pub count : place + length arrivals ≡ length parents
 
 -- what shows that the layer after some arrivals has more than so many members: a part of it has
 abbrev pub IsOver : SpaceContent → List Arrival → ℕ → ℕ → Type 0

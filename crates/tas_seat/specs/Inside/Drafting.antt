@@ -6,7 +6,8 @@ use Rattle.tas_movie.specs.Content.{MovieContent, most_inputs}
 use Rattle.tas_movie.specs.Front.{IsCommonFront}
 use Rattle.tas_movie.specs.Edit.{edited}
 use Rattle.tas_green.specs.declared.savestate.Savestate.{Savestate}
-use Rattle.tas_green.specs.Green.{IsLawful, IsShotFrom, IsReachedFrom}
+use Rattle.tas_green.specs.Green.{IsLawful, IsShotFrom}
+use Rattle.tas_green.specs.Window.{IsPlayedNear, both}
 use Rattle.tas_green.specs.Run.{state_after}
 use Rattle.tas_session.specs.declared.replies.Shot.{Shot}
 use Rattle.tas_published.specs.declared.errors.ShotError.TheVariants.{NoEntry, NoFrame, Memory as NoShotMemory, Halted}
@@ -25,17 +26,24 @@ use Rattle.tas_language.specs.declared.request.Request.{Request}
 use Rattle.tas_seat.specs.declared.edit_requests.EditRequest.{EditRequest}
 use Rattle.tas_seat.specs.declared.edit_requests.EditRequest.TheVariants.{Load, Change, Retouch}
 use Rattle.tas_seat.specs.Edits.{made_between}
-use Rattle.tas_seat.specs.Drafts.{DraftContent, draft_standing, left_by_edits, inner_inputs, IsDraftAnswered, IsDraftUnanswered}
+use Rattle.tas_seat.specs.Drafts.{DraftContent, draft_standing, left_by_edits, near_left_by_edits, inner_inputs, IsDraftAnswered, IsDraftUnanswered}
 use Rattle.tas_seat.specs.Inside.EditRequests.{requested_refusal, requested_edit, TakesMemory}
 use Rattle.tas_seat.specs.Outcomes.{IsTurnOf}
 
--- the draft with other states
-abbrev pub with_states : DraftContent → List Savestate → DraftContent
-with_states draft states = record { at = draft.at; base = draft.base; movie = draft.movie; made = draft.made; states = states }
+-- the draft with other states and another window
+abbrev pub with_states : DraftContent → List Savestate → List Savestate → DraftContent
+with_states draft states near = record { at = draft.at; base = draft.base; movie = draft.movie; made = draft.made; states = states; near = near }
 
 -- the draft after an edit
 abbrev pub draft_after : {A : Type 0} → DraftContent → Edit A → DraftContent
-draft_after draft edit = record { at = draft.at; base = draft.base; movie = edited draft.movie edit; made = draft.made + 1; states = left_by draft.movie edit draft.states }
+draft_after draft edit = record {
+  at = draft.at;
+  base = draft.base;
+  movie = edited draft.movie edit;
+  made = draft.made + 1;
+  states = left_by draft.movie edit draft.states;
+  near = near_left_by_edits draft.movie (edit ∷ []) draft.near;
+}
 
 -- an edit that a draft can make: it keeps the cartridge
 abbrev pub KeepsCart : EditRequest → Type 0
@@ -50,32 +58,39 @@ pub record IsDraftChanged (before now : DraftContent) (asked : EditRequest) (rep
   pub at : now.at ≡ before.at
   pub base : now.base ≡ before.base
   pub states : now.states ≡ left_by_edits before.movie (made_between (draft_standing before) (draft_standing now) (requested_edit (Unit {0}) asked before.movie ∷ [])) before.states
+  pub near : now.near ≡ near_left_by_edits before.movie (made_between (draft_standing before) (draft_standing now) (requested_edit (Unit {0}) asked before.movie ∷ [])) before.near
 
--- frame k of a draft's movie was played: this many frames, from the nearest kept state
+-- frame k of a draft's movie was played: this many frames, from the nearest kept state. The window is left
 pub record IsDraftPlayed (before now : DraftContent) (k ran : ℕ) : Type 0 where
-  pub rest : now ≡ with_states before now.states
+  pub rest : now ≡ with_states before now.states before.near
   pub lawful : IsLawful before.movie now.states
   pub shot : IsShotFrom before.movie before.movie k before.states now.states 0 ran
 
--- a shot at a draft
-abbrev pub IsDraftShot : {B : Type 0} → (before now : DraftContent) → ℕ → Result (Shot B) ShotError → Type 0
-IsDraftShot before now k (Ok shot) = (answer_shot before.movie k ≡ Some (Ok shot.picture)) × (shot.at ≡ before.at + before.made) × (shot.frame ≡ k) × IsDraftPlayed before now k shot.ran
-IsDraftShot before now k (Err NoEntry) = ⊥
-IsDraftShot before now k (Err (NoFrame at len)) = (answer_shot before.movie k ≡ None) × (at ≡ before.at + before.made) × (len ≡ length before.movie.inputs) × (now ≡ before)
-IsDraftShot before now k (Err NoShotMemory) = (k < length before.movie.inputs) × (now ≡ before)
-IsDraftShot before now k (Err (Halted at halt)) = (answer_shot before.movie k ≡ Some (Err halt)) × (at ≡ before.at + before.made) × (ran : ℕ) × IsDraftPlayed before now k ran
-
--- the state after k frames of a draft's movie was reached
-pub record IsDraftReached (before now : DraftContent) (k : ℕ) : Type 0 where
-  pub rest : now ≡ with_states before now.states
+-- a draft's movie was played up to the place `end`, for k: this many frames, from the nearest state of its greenzone and its window
+pub record IsDraftViewed (before now : DraftContent) (k end ran : ℕ) : Type 0 where
+  pub rest : now ≡ with_states before now.states now.near
   pub lawful : IsLawful before.movie now.states
-  pub ran : ℕ
-  pub reach : IsReachedFrom before.movie before.movie k before.states now.states 0 ran
+  pub view : IsPlayedNear before.movie before.movie k end (both before.states before.near) (both now.states now.near) ran
+
+-- a drawing at a draft, where `left` says what it leaves after this many played frames
+abbrev pub IsDraftDrawn : {B : Type 0} → (ℕ → Type 0) → (before now : DraftContent) → ℕ → Result (Shot B) ShotError → Type 0
+IsDraftDrawn left before now k (Ok shot) = (answer_shot before.movie k ≡ Some (Ok shot.picture)) × (shot.at ≡ before.at + before.made) × (shot.frame ≡ k) × left shot.ran
+IsDraftDrawn left before now k (Err NoEntry) = ⊥
+IsDraftDrawn left before now k (Err (NoFrame at len)) = (answer_shot before.movie k ≡ None) × (at ≡ before.at + before.made) × (len ≡ length before.movie.inputs) × (now ≡ before)
+IsDraftDrawn left before now k (Err NoShotMemory) = (k < length before.movie.inputs) × (now ≡ before)
+IsDraftDrawn left before now k (Err (Halted at halt)) = (answer_shot before.movie k ≡ Some (Err halt)) × (at ≡ before.at + before.made) × (ran : ℕ) × left ran
+
+-- a shot at a draft, and a picture
+abbrev pub IsDraftShot : {B : Type 0} → (before now : DraftContent) → ℕ → Result (Shot B) ShotError → Type 0
+IsDraftShot before now k result = IsDraftDrawn (IsDraftPlayed before now k) before now k result
+
+abbrev pub IsDraftPicture : {B : Type 0} → (before now : DraftContent) → ℕ → Result (Shot B) ShotError → Type 0
+IsDraftPicture before now k result = IsDraftDrawn (IsDraftViewed before now k (k + 1)) before now k result
 
 -- the state after `from` frames of a draft's movie, where it has `to` frames or more, and `from` of them
 abbrev pub IsDraftStateFor : (before now : DraftContent) → (from to : ℕ) → Result Reached StateError → Type 0
 IsDraftStateFor before now from to (Ok reached) =
-    (from ≤ to) × (to ≤ length before.movie.inputs) × (reached.at ≡ before.at + before.made) × (reached.state ≡ state_after before.movie from) × IsDraftReached before now from
+    (from ≤ to) × (to ≤ length before.movie.inputs) × (reached.at ≡ before.at + before.made) × (reached.state ≡ state_after before.movie from) × IsDraftViewed before now from from reached.ran
 IsDraftStateFor before now from to (Err NoStateEntry) = ⊥
 IsDraftStateFor before now from to (Err (FewFrames at len)) = (from ≤ to → to ≤ length before.movie.inputs → ⊥) × (at ≡ before.at + before.made) × (len ≡ length before.movie.inputs) × (len ≤ most_inputs) × (now ≡ before)
 IsDraftStateFor before now from to (Err NoStateMemory) = (from ≤ to) × (to ≤ length before.movie.inputs) × (now ≡ before)

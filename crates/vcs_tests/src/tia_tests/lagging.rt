@@ -57,7 +57,13 @@ impl Lagging {
 
     /// The clocks of a wait, which are owed then.
     fn wait(&mut self, picture: &mut Picture) -> u16 {
-        let clocks = self.tia.wait_after(self.owed);
+        let (_line, clock) = self.tia.beam();
+        let behind = (clock as u32 + self.owed as u32) % 228;
+        let clocks = if self.tia.take_wait() && behind != 0 {
+            228 - behind as u16
+        } else {
+            0
+        };
         self.owe(clocks, picture);
         clocks
     }

@@ -12,7 +12,7 @@ loop-frame-init g c = record {
   most = omega arith;
   capacity = omega arith;
   window_rising = c.requires.window_rising;
-  filled = kept_none (near_test c.args.span.end) c.args.window.now.items c.args.cart.now c.args.inputs.now c.args.span.start.frame;
+  filled = kept_none (near_test c.args.place) c.args.window.now.items c.args.cart.now c.args.inputs.now c.args.span.start.frame;
   window_capacity = omega arith;
   meter = omega arith;
 }
@@ -22,8 +22,8 @@ put_on_grid-requires-clause-room g c = room_now c.args.span.stride c.loop-frame.
 
 pub put_near-requires-clause-room : goal.put_near-requires-clause-room
 put_near-requires-clause-room g c =
-    let near = near_kept c.args.span.end c.args.span.start.frame c.loop-frame.frame c.args.cart.now c.args.inputs.now c.args.window.now.items c.loop-frame.window.items c.requires.window_near c.loop-frame.invariant.filled (omega (arith, c.loop-frame-test.true)) in
-    let few = few_near c.args.span.end c.loop-frame.window.items c.loop-frame.invariant.window_rising near in
+    let near = near_kept c.args.place c.args.span.start.frame c.loop-frame.frame c.args.cart.now c.args.inputs.now c.args.window.now.items c.loop-frame.window.items c.requires.window_near c.loop-frame.invariant.filled (omega (arith, c.loop-frame-test.true, c.requires.place)) in
+    let few = few_near c.args.place c.loop-frame.window.items c.loop-frame.invariant.window_rising near in
     omega (arith, few, c.requires.window_room, c.loop-frame.invariant.window_capacity)
 
 pub loop-frame-preserved : goal.loop-frame-preserved
@@ -41,27 +41,27 @@ loop-frame-preserved g c =
       most = most_more c.args.span.stride frame c.args.span.end _ _ _ _ c.requires.stride below c.loop-frame.invariant.most c.put_on_grid.ensures.most;
       capacity = omega (arith, c.loop-frame.invariant.capacity, c.put_on_grid.ensures.capacity);
       window_rising = c.put_near.ensures.rising;
-      filled = kept_more (near_test c.args.span.end) c.args.window.now.items c.loop-frame.window.items c.put_near.new.states.items cart inputs c.args.span.start.frame frame c.args.span.end c.play_unseen.new.state c.loop-frame.auto.frame below next c.loop-frame.invariant.filled c.put_near.ensures.states;
+      filled = kept_more (near_test c.args.place) c.args.window.now.items c.loop-frame.window.items c.put_near.new.states.items cart inputs c.args.span.start.frame frame c.args.place c.play_unseen.new.state c.loop-frame.auto.frame (omega (arith, below, c.requires.place)) next c.loop-frame.invariant.filled c.put_near.ensures.states;
       window_capacity = omega (arith, c.loop-frame.invariant.window_capacity, c.put_near.ensures.capacity);
       meter = omega (arith, c.play_unseen.ensures.meter, c.loop-frame.invariant.meter, c.loop-frame.auto.frame);
     }
 
 pub returns-clause-passed : goal.returns-clause-passed
 returns-clause-passed g c =
-    let ended : c.loop-frame.frame ≡ c.args.span.end - 1 = omega (arith, c.loop-frame-test.false, c.loop-frame.auto.frame-end, c.requires.order) in
+    let ended : c.loop-frame.frame ≡ c.args.span.end = omega (arith, c.loop-frame-test.false, c.loop-frame.auto.frame-end, c.requires.order) in
     subst (λ (to : ℕ). HasKept (grid_test c.args.span.stride) c.args.green.now.items c.args.cart.now c.args.inputs.now c.args.span.start.frame to c.loop-frame.green.items) ended c.loop-frame.invariant.passed
 
 pub returns-clause-filled : goal.returns-clause-filled
 returns-clause-filled g c =
-    let ended : c.loop-frame.frame ≡ c.args.span.end - 1 = omega (arith, c.loop-frame-test.false, c.loop-frame.auto.frame-end, c.requires.order) in
-    subst (λ (to : ℕ). HasKept (near_test c.args.span.end) c.args.window.now.items c.args.cart.now c.args.inputs.now c.args.span.start.frame to c.loop-frame.window.items) ended c.loop-frame.invariant.filled
+    let ended : c.loop-frame.frame ≡ c.args.span.end = omega (arith, c.loop-frame-test.false, c.loop-frame.auto.frame-end, c.requires.order) in
+    subst (λ (to : ℕ). HasKept (near_test c.args.place) c.args.window.now.items c.args.cart.now c.args.inputs.now c.args.span.start.frame to c.loop-frame.window.items) ended c.loop-frame.invariant.filled
 
 pub returns-clause-most : goal.returns-clause-most
 returns-clause-most g c =
-    let ended : c.loop-frame.frame ≡ c.args.span.end - 1 = omega (arith, c.loop-frame-test.false, c.loop-frame.auto.frame-end, c.requires.order) in
+    let ended : c.loop-frame.frame ≡ c.args.span.end = omega (arith, c.loop-frame-test.false, c.loop-frame.auto.frame-end, c.requires.order) in
     subst (λ (to : ℕ). vec_len c.loop-frame.green + c.args.span.start.frame / c.args.span.stride ≤ vec_len c.args.green.now + to / c.args.span.stride) ended c.loop-frame.invariant.most
 
 pub returns-clause-state : goal.returns-clause-state
 returns-clause-state g c =
-    let ended : c.loop-frame.frame ≡ c.args.span.end - 1 = omega (arith, c.loop-frame-test.false, c.loop-frame.auto.frame-end, c.requires.order) in
+    let ended : c.loop-frame.frame ≡ c.args.span.end = omega (arith, c.loop-frame-test.false, c.loop-frame.auto.frame-end, c.requires.order) in
     subst (λ (to : ℕ). c.loop-frame.state ≡ after c.args.cart.now (take to c.args.inputs.now)) ended c.loop-frame.invariant.state

@@ -12,7 +12,7 @@ invariant-loop-frame g l = record {
   most : vec_len l.green + l.span.start.frame / l.span.stride ≤ vec_len l.fn.green + l.frame / l.span.stride;
   capacity : vec_capacity l.fn.green ≤ vec_capacity l.green;
   window_rising : IsRising 0 l.window.items;
-  filled : HasKept (near_test l.span.end) l.fn.window.items l.cart l.inputs l.span.start.frame l.frame l.window.items;
+  filled : HasKept (near_test l.place) l.fn.window.items l.cart l.inputs l.span.start.frame l.frame l.window.items;
   window_capacity : vec_capacity l.fn.window ≤ vec_capacity l.window;
   meter : l.meter ≡ l.fn.meter + (l.frame - l.span.start.frame);
 }

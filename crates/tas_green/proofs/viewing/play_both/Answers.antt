@@ -1,6 +1,7 @@
 use Rattle.std.proofs.Common.{◌≡◌, ◌+◌, ◌-◌, ◌<◌, ◌≤◌, ◌∙◌, ap, length, take, arith, subst, ℕ, vec_len, vec_capacity}
 use Rattle.vcs_machine.specs.Machine.{after}
 use Rattle.tas_green.specs.Run.{answer_of}
+use Rattle.tas_green.proofs.GridLemmas.{div_mono}
 use Rattle.tas_green.proofs.RunLemmas.{HasKept, grid_test, near_test, after_more, answered, where_drawn, picture_drawn, kept_more, room_now}
 use Rattle.tas_green.proofs.WindowLemmas.{few_near, near_kept}
 use Rattle.tas_green.proofs.viewing.play_both.Goals as goal
@@ -66,3 +67,8 @@ returns-clause-filled g c =
     (kept_more (near_test c.args.span.end) c.args.window.now.items c.pass_both-state.new.window.items c.put_near.new.states.items cart inputs c.args.span.start.frame last c.args.span.end c.play-end.new.state from below next
     c.pass_both-state.ensures.filled
     (rw whole c.put_near.ensures.states))
+
+pub pass_both-state-requires-clause-room : goal.pass_both-state-requires-clause-room
+pass_both-state-requires-clause-room g c =
+    let less : c.args.span.end - 1 ≤ c.args.span.end = omega (arith, c.requires.order) in
+    omega (arith, c.requires.room, div_mono (c.args.span.end - 1) c.args.span.end c.args.span.stride c.requires.stride less)

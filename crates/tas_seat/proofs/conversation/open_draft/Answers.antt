@@ -1,12 +1,7 @@
-use Rattle.std.proofs.Common.{arith}
-use Rattle.std.proofs.lemmas.Grind.{common_steps}
+use Rattle.std.proofs.Common.{ap, ◌∙◌}
+use Rattle.tas_green.specs.View.{ViewContent}
+use Rattle.tas_seat.specs.Drafts.{fresh_draft}
 use Rattle.tas_seat.proofs.conversation.open_draft.Goals as goal
 
-pub new-requires-clause-lawful : goal.new-requires-clause-lawful
-new-requires-clause-lawful g c = grind (arith, common_steps)
-
-pub new-requires-clause-same : goal.new-requires-clause-same
-new-requires-clause-same g c = grind (arith, common_steps)
-
 pub returns : goal.returns
-returns g c = grind (arith, common_steps)
+returns g c = c.new.ensures ∙ ap (λ (v : ViewContent). fresh_draft c.args.at v) (c.in_ok-view.ensures ∙ c.view.ensures)

@@ -25,8 +25,8 @@ returns g c =
     let within = frame_within g.row.A.Denot c.state_for.new.seat c.zone_movie.result.now c.args.frame _ c.ranges.frame.fits refl reply.0 reply.1 movie in
     answered_or c.args.seat.now c.state_for.new.seat (Digest c.args.frame) c.digest_frame-bytes.result c.answer_or_refusal.result (λ bytes. bytes.items) c.answer_or_refusal.ensures
     (IfOk-weaker c.digest_frame-bytes.result _ _
-    (λ bytes is. digest_answered g.row.A.Denot c.args.seat.now c.state_for.new.seat c.args.frame reached.at reached.ran c.zone_movie.result.now bytes.items c.state_for.ensures.seat reply.3 movie c.in-Ok.ensures.zone c.in-Ok.ensures.window is) c.digest_frame-bytes.ensures)
-    (lost_digest g.row.A.Denot c.args.seat.now c.state_for.new.seat c.args.frame reached.ran c.zone_movie.result.now c.state_for.ensures.seat within movie c.in-Ok.ensures.zone c.in-Ok.ensures.window)
+    (λ bytes is. digest_answered g.row.A.Denot c.args.seat.now c.state_for.new.seat c.args.frame reached.at reached.ran c.zone_movie.result.now bytes.items c.state_for.ensures.seat reply.3 movie c.in-Ok.ensures.zone is) c.digest_frame-bytes.ensures)
+    (lost_digest g.row.A.Denot c.args.seat.now c.state_for.new.seat c.args.frame reached.ran c.zone_movie.result.now c.state_for.ensures.seat within movie c.in-Ok.ensures.zone)
 
 pub digest_frame-bytes-requires-clause-begin : goal.digest_frame-bytes-requires-clause-begin
 digest_frame-bytes-requires-clause-begin g c = grind (arith, common_steps)

@@ -21,10 +21,10 @@ pub returns : goal.returns
 returns g c =
     let reached = c.in-Ok.reached in
     let reply = c.in-Ok.ensures.reply in
-    let told = lag_answered g.row.A.Denot c.args.seat.now c.state_for.new.seat c.args.from c.args.to reached.at reached.ran c.zone_movie.result.now c.state_for.ensures.seat reply.0 reply.1 reply.3 (c.zone_movie.ensures ∙ c.in-Ok.ensures.zone.made.movie) c.in-Ok.ensures.zone c.in-Ok.ensures.window in
+    let told = lag_answered g.row.A.Denot c.args.seat.now c.state_for.new.seat c.args.from c.args.to reached.at reached.ran c.zone_movie.result.now c.state_for.ensures.seat reply.0 reply.1 reply.3 (c.zone_movie.ensures ∙ c.in-Ok.ensures.zone.made.movie) c.in-Ok.ensures.zone in
     answered_or c.args.seat.now c.state_for.new.seat (Lag c.args.from c.args.to) c.find_lag-bytes.result c.answer_or_refusal.result (λ bytes. bytes.items) c.answer_or_refusal.ensures
     (IfOk-weaker c.find_lag-bytes.result _ _ (λ bytes is. subst (HasAnswer g.row.A.Denot c.args.seat.now c.state_for.new.seat (Lag c.args.from c.args.to)) (sym is) told) c.find_lag-bytes.ensures)
-    (lost_lag g.row.A.Denot c.args.seat.now c.state_for.new.seat c.args.from c.args.to reached.ran c.state_for.ensures.seat reply.0 reply.1 c.in-Ok.ensures.zone c.in-Ok.ensures.window)
+    (lost_lag g.row.A.Denot c.args.seat.now c.state_for.new.seat c.args.from c.args.to reached.ran c.state_for.ensures.seat reply.0 reply.1 c.in-Ok.ensures.zone)
 
 pub find_lag-bytes-requires-clause-begin : goal.find_lag-bytes-requires-clause-begin
 find_lag-bytes-requires-clause-begin g c = grind (arith, common_steps)

@@ -15,7 +15,7 @@ pub returns : goal.returns
 returns g c =
     let reached = c.in-Ok.reached in
     let reply = c.in-Ok.ensures.reply in
-    let told = ram_answered g.row.A.Denot c.args.seat.now c.state_for.new.seat c.args.frames reached.at reached.ran reached.state c.ram.result c.state_for.ensures.seat reply.1 reply.2 reply.3 c.in-Ok.ensures.zone c.in-Ok.ensures.window c.ram.ensures in
+    let told = ram_answered g.row.A.Denot c.args.seat.now c.state_for.new.seat c.args.frames reached.at reached.ran reached.state c.ram.result c.state_for.ensures.seat reply.1 reply.2 reply.3 c.in-Ok.ensures.zone c.ram.ensures in
     answered_or c.args.seat.now c.state_for.new.seat (Ram c.args.frames) c.ram_answer-bytes.result c.answer_or_refusal.result (λ bytes. bytes.items) c.answer_or_refusal.ensures
     (IfOk-weaker c.ram_answer-bytes.result _ _ (λ bytes is. subst (HasAnswer g.row.A.Denot c.args.seat.now c.state_for.new.seat (Ram c.args.frames)) (sym is) told) c.ram_answer-bytes.ensures)
-    (lost_ram g.row.A.Denot c.args.seat.now c.state_for.new.seat c.args.frames reached.ran c.state_for.ensures.seat reply.1 c.in-Ok.ensures.zone c.in-Ok.ensures.window)
+    (lost_ram g.row.A.Denot c.args.seat.now c.state_for.new.seat c.args.frames reached.ran c.state_for.ensures.seat reply.1 c.in-Ok.ensures.zone)

@@ -1,7 +1,7 @@
 use Rattle.std.proofs.Common.{length, ap, subst, sym, ◌∙◌}
 use Rattle.std.proofs.lemmas.Result.{IfOk-weaker}
 use Rattle.tas_language.specs.declared.reply.Reply.TheVariants.{OutOfMemory}
-use Rattle.tas_movie.specs.Content.{MovieContent}
+use Rattle.tas_green.specs.View.{ViewContent}
 use Rattle.tas_language.specs.Answers.{states_text}
 use Rattle.tas_language.specs.Replies.{reply_text}
 use Rattle.tas_language.specs.declared.request.Request.TheVariants.{States}
@@ -21,11 +21,8 @@ returns-clause-answer g c =
     let told = states_answered g.row.A.Denot c.args.seat.now c.bring.new.seat c.in-Ok.shared.at c.in-Ok.shared.gained c.bring.ensures.seat c.in-Ok.ensures.at c.in-Ok.ensures.zone in
     answered_or c.args.seat.now c.bring.new.seat States c.list_states-bytes.result c.answer_or_refusal.result (λ bytes. bytes.items) c.answer_or_refusal.ensures
     (IfOk-weaker c.list_states-bytes.result _ _ (λ bytes is. subst (HasAnswer g.row.A.Denot c.args.seat.now c.bring.new.seat States)
-    (sym (is ∙ ap (λ (m : MovieContent). states_text c.in-Ok.shared.at (kept_frames (length m.inputs) c.bring.new.seat.zone.states)) c.zone_movie.ensures)) told) c.list_states-bytes.ensures)
+    (sym (is ∙ ap (λ (v : ViewContent). states_text c.in-Ok.shared.at (kept_frames (length v.movie.inputs) v.states)) c.view.ensures)) told) c.list_states-bytes.ensures)
     (unwritten_states g.row.A.Denot c.args.seat.now c.bring.new.seat c.in-Ok.shared.gained c.bring.ensures.seat c.in-Ok.ensures.zone)
-
-pub list_states-bytes-requires : goal.list_states-bytes-requires
-list_states-bytes-requires g c = rw c.zone_movie.ensures c.in-Ok.ensures.zone.made.lawful
 
 pub returns-in_default-clause-entry : goal.returns-in_default-clause-entry
 returns-in_default-clause-entry g c = memory_alone _ _ c.answer_of_reply.result c.answer_of_reply.ensures

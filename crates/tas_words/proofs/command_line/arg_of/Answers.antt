@@ -17,3 +17,6 @@ returns-in-OptionalNumber-clause-rule c = rw c.in-OptionalNumber.is c.optional_n
 
 pub returns-in-PairedFile-clause-rule : goal.returns-in-PairedFile-clause-rule
 returns-in-PairedFile-clause-rule c = rw c.in-PairedFile.is c.paired_file.ensures.rule
+
+pub returns-in-Output-clause-rule : goal.returns-in-Output-clause-rule
+returns-in-Output-clause-rule c = rw c.in-Output.is c.output.ensures.rule

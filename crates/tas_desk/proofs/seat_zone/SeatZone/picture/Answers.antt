@@ -1,7 +1,8 @@
+use Rattle.std.proofs.Common.{◌+◌}
 use Rattle.tas_desk.proofs.ZoneLemmas.{if_ok, viewed_in}
 use Rattle.tas_desk.proofs.seat_zone.SeatZone.picture.Goals as goal
 
 pub returns-clause-kept : goal.returns-clause-kept
 returns-clause-kept g c =
-    viewed_in c.self.inside.version c.self.inside.view c.follow.new.view c.picture.new.self c.args.self.now c.args.k c.unwrap.result.ran c.self.view_is c.follow.ensures.brought c.follow.ensures.lawful c.picture.ensures.movie
+    viewed_in c.self.inside.version c.self.inside.view c.follow.new.view c.picture.new.self c.args.self.now c.args.k (c.args.k + 1) c.unwrap.result.ran c.self.view_is c.follow.ensures.brought c.follow.ensures.lawful c.picture.ensures.movie
     (if_ok _ c.picture.result c.unwrap.result c.unwrap.ensures c.picture.ensures.kept)

@@ -15,20 +15,20 @@ returns-in-Err g c =
 pub digest_frame-bytes-requires-clause-within : goal.digest_frame-bytes-requires-clause-within
 digest_frame-bytes-requires-clause-within g c =
     let e = c.in-Ok.ensures in
-    let movie = c.movie.ensures.movie ∙ movie_kept c.args.self.now c.state_for.new.self c.args.frame e.4 in
+    let movie = c.movie.ensures.movie ∙ movie_kept c.args.self.now c.state_for.new.self c.args.frame c.in-Ok.reached.ran e.4 in
     subst (λ (m : MovieContent). c.args.frame < length m.inputs) (sym movie) (frame_within c.args.self.now.movie c.args.frame _ c.ranges.frame.fits refl e.0 e.1)
 
 pub digest_frame-bytes-requires-clause-begin : goal.digest_frame-bytes-requires-clause-begin
 digest_frame-bytes-requires-clause-begin g c =
     let e = c.in-Ok.ensures in
-    rw (c.movie.ensures.movie ∙ movie_kept c.args.self.now c.state_for.new.self c.args.frame e.4) e.3
+    rw (c.movie.ensures.movie ∙ movie_kept c.args.self.now c.state_for.new.self c.args.frame c.in-Ok.reached.ran e.4) e.3
 
 pub returns : goal.returns
 returns g c =
     let reached = c.in-Ok.reached in
     let e = c.in-Ok.ensures in
-    let movie = c.movie.ensures.movie ∙ movie_kept c.args.self.now c.state_for.new.self c.args.frame e.4 in
+    let movie = c.movie.ensures.movie ∙ movie_kept c.args.self.now c.state_for.new.self c.args.frame c.in-Ok.reached.ran e.4 in
     answered_or c.args.self.now c.state_for.new.self (Digest c.args.frame) c.digest_frame-bytes.result c.answer_or_refusal.result (λ bytes. bytes.items) c.answer_or_refusal.ensures
     (IfOk-weaker c.digest_frame-bytes.result _ _
-    (λ bytes is. digest_answered c.args.self.now c.state_for.new.self c.args.frame reached.at bytes.items e.2 e.4 (subst (λ (m : MovieContent). IsDigest reached.at m c.args.frame bytes.items) movie is)) c.digest_frame-bytes.ensures)
-    (lost_digest c.args.self.now c.state_for.new.self c.args.frame (frame_within c.args.self.now.movie c.args.frame _ c.ranges.frame.fits refl e.0 e.1) e.4)
+    (λ bytes is. digest_answered c.args.self.now c.state_for.new.self c.args.frame reached.at reached.ran bytes.items e.2 e.4 (subst (λ (m : MovieContent). IsDigest reached.at m c.args.frame bytes.items) movie is)) c.digest_frame-bytes.ensures)
+    (lost_digest c.args.self.now c.state_for.new.self c.args.frame reached.ran (frame_within c.args.self.now.movie c.args.frame _ c.ranges.frame.fits refl e.0 e.1) e.4)

@@ -15,7 +15,7 @@ pub returns : goal.returns
 returns g c =
     let reached = c.in-Ok.reached in
     let e = c.in-Ok.ensures in
-    let told = ram_answered c.args.self.now c.state_for.new.self c.args.frames reached.at reached.state c.ram.result e.1 e.2 e.3 e.4 c.ram.ensures in
+    let told = ram_answered c.args.self.now c.state_for.new.self c.args.frames reached.at reached.ran reached.state c.ram.result e.1 e.2 e.3 e.4 c.ram.ensures in
     answered_or c.args.self.now c.state_for.new.self (Ram c.args.frames) c.ram_answer-bytes.result c.answer_or_refusal.result (λ bytes. bytes.items) c.answer_or_refusal.ensures
     (IfOk-weaker c.ram_answer-bytes.result _ _ (λ bytes is. subst (λ (l : List ℕ). IsDraftAnswered c.args.self.now (Ram c.args.frames) l c.state_for.new.self) (sym is) told) c.ram_answer-bytes.ensures)
-    (lost_ram c.args.self.now c.state_for.new.self c.args.frames e.1 e.4)
+    (lost_ram c.args.self.now c.state_for.new.self c.args.frames reached.ran e.1 e.4)

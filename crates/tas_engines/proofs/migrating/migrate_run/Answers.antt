@@ -1,8 +1,0 @@
-use Rattle.tas_engines.specs.Migrating.{IsMigrateAnswer}
-use Rattle.tas_engines.proofs.EngineEnds.{movie_answered}
-use Rattle.tas_engines.proofs.migrating.migrate_run.Goals as goal
-
-pub returns : goal.returns
-returns g c =
-    movie_answered IsMigrateAnswer _ _ _ _ _ _ _ c.deref.result.now _ c.deref-2.result.now c.migrated_text-answer.result (λ text. text.items) _ c.in_ok-image.ensures.first c.deref.ensures.value c.in_ok-image.ensures.second
-    c.deref-2.ensures.value c.migrated_text-answer.ensures.text c.migrated_text-answer.ensures.fault c.write_answer.ensures

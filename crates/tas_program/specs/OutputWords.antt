@@ -1,0 +1,76 @@
+-- Which of the words that name files the file of an output may not stand for, and when it may not have bytes.
+use Rattle.std.specs.Prelude.{◌≡◌, ℕ, Bool, true, false, ◌&&◌, nat_lt, codes, List, [], ◌∷◌, All, map, Option, Some, None, option_map, Result}
+use Rattle.tas_words.specs.declared.task.Task.{Task}
+use Rattle.tas_words.specs.declared.task.Task.TheVariants.{Migrate, New, Edit, Cut, Diff}
+use Rattle.tas_program.specs.declared.folder.OrdinaryFile.{OrdinaryFile}
+use Rattle.tas_program.specs.declared.file_words.FileWord.{FileWord}
+use Rattle.tas_program.specs.declared.file_words.FileWord.TheVariants.{Cart as CartWord, Script as ScriptWord, Other as OtherWord, Old as OldWord, File as FileOut, Input as InputWord}
+use Rattle.tas_program.specs.declared.file_words.SeenWord.{SeenWord}
+use Rattle.tas_program.specs.declared.file_words.Permit.{Permit}
+use Rattle.tas_program.specs.declared.file_words.WordFault.{WordFault}
+use Rattle.tas_program.specs.FileWords.{AreSeen, IsSeen, fault_by, fault_in, fault_or, first_fault, first_same}
+
+-- the names of the files that a task reads whose output may replace a file
+abbrev pub cart_input : Task → Option (List ℕ)
+cart_input (Migrate cart) = Some cart.now
+cart_input (New cart frames) = Some cart.now
+cart_input (Cut cart from to) = Some cart.now
+cart_input (Edit cart script other) = Some cart.now
+cart_input (Diff cart old) = Some cart.now
+cart_input chosen = None
+
+abbrev pub script_input : Task → Option (List ℕ)
+script_input (Edit cart script other) = Some script.now
+script_input chosen = None
+
+abbrev pub other_input : Task → Option (List ℕ)
+other_input (Edit cart script other) = option_map (λ name. name.now) other
+other_input chosen = None
+
+abbrev pub old_input : Task → Option (List ℕ)
+old_input (Diff cart old) = Some old.now
+old_input chosen = None
+
+-- the same of standard input, which a diff reads as the newer movie: its output is no movie, so it may not replace it
+abbrev pub stream_input : Task → Option (List ℕ)
+stream_input (Diff cart old) = Some (codes "/dev/stdin")
+stream_input chosen = None
+
+-- the same by their words
+abbrev pub input_name : Task → FileWord → Option (List ℕ)
+input_name chosen CartWord = cart_input chosen
+input_name chosen ScriptWord = script_input chosen
+input_name chosen OtherWord = other_input chosen
+input_name chosen OldWord = old_input chosen
+input_name chosen InputWord = stream_input chosen
+input_name chosen word = None
+
+-- these words in their order
+abbrev pub input_words : List FileWord
+input_words = CartWord ∷ ScriptWord ∷ OtherWord ∷ OldWord ∷ InputWord ∷ []
+
+-- each of them is seen as the folder shows its file
+abbrev pub AreInputsSeen : (List ℕ → Option (Option OrdinaryFile)) → Task → List SeenWord → Type 0
+AreInputsSeen shown chosen seen = (map (λ s. s.word) seen ≡ input_words) × All (λ s. IsSeen shown (input_name chosen s.word) s.file) seen
+
+-- a task makes a movie from nothing that it reads of one
+abbrev pub starts_movie : Task → Bool
+starts_movie (New cart frames) = true
+starts_movie chosen = false
+
+-- an ordinary file has bytes
+abbrev pub has_some : Option OrdinaryFile → Bool
+has_some None = false
+has_some (Some file) = nat_lt 0 file.len
+
+-- the fault of a file that stands for the ordinary file of one of them, or whose bytes a new movie would replace
+abbrev pub output_fault : Task → List SeenWord → Option OrdinaryFile → Option WordFault
+output_fault chosen seen file =
+    fault_by FileOut (first_same seen (record { word = FileOut; file = file })) (starts_movie chosen && has_some file)
+
+-- a permit is given where the words have no fault, as for a task whose output replaces no file, and this file has none
+abbrev pub OutputEnds : (List ℕ → Option (Option OrdinaryFile)) → Task → List ℕ → Result Permit WordFault → Type 0
+OutputEnds shown chosen name end =
+    (named : List SeenWord) × (seen : List SeenWord) × (file : Option OrdinaryFile)
+    × AreSeen shown chosen named × AreInputsSeen shown chosen seen × IsSeen shown (Some name) file
+    × (fault_or (first_fault named) (output_fault chosen seen file) ≡ fault_in end)

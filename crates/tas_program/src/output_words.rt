@@ -1,0 +1,158 @@
+//! The words that a file of an output may not name.
+//!
+//! The file may be that of standard input where the output is a movie made of it, and none that a word names: a movie is
+//! edited in place on purpose, and a cartridge replaced by a movie by mistake. The output of `diff` is a script, so it
+//! doesn't replace the newer movie; that of `new` is a blank movie, so it replaces nothing. What isn't an ordinary file is
+//! refused at the rename, since root could replace a device.
+
+ghost use Rattle.std.specs.Prelude.{◌≡◌, Some, option_map};
+ghost use Rattle.tas_program.specs.FileWords.{IsSeen};
+ghost use Rattle.tas_program.specs.OutputWords.{AreInputsSeen, OutputEnds, cart_input, has_some, old_input, other_input};
+ghost use Rattle.tas_program.specs.OutputWords.{output_fault, script_input, starts_movie, stream_input};
+
+use crate::file_words::{SeenWord, same_among};
+use crate::{FileWord, Folder, OrdinaryFile, Permit, WordFault, check_words};
+use tas_words::Task;
+
+/// The name of the cartridge's file of a task whose output may replace a file.
+fn cart_of<'a>(task: Task<'a>) -> Option<&'a str>
+    ensures { option_map (λ name. name.now) result ≡ cart_input task.entry }
+{
+    match task {
+        Task::Migrate { cart } => Some(cart),
+        Task::New { cart, frames: _ } => Some(cart),
+        Task::Cut { cart, .. } => Some(cart),
+        Task::Edit { cart, .. } => Some(cart),
+        Task::Diff { cart, old: _ } => Some(cart),
+        _ => None,
+    }
+}
+
+/// The name of a script's file.
+fn script_of<'a>(task: Task<'a>) -> Option<&'a str>
+    ensures { option_map (λ name. name.now) result ≡ script_input task.entry }
+{
+    match task {
+        Task::Edit { script, .. } => Some(script),
+        _ => None,
+    }
+}
+
+/// The name of a second movie's file.
+fn other_of<'a>(task: Task<'a>) -> Option<&'a str>
+    ensures { option_map (λ name. name.now) result ≡ other_input task.entry }
+{
+    match task {
+        Task::Edit { other, .. } => other,
+        _ => None,
+    }
+}
+
+/// The name of an older movie's file.
+fn old_of<'a>(task: Task<'a>) -> Option<&'a str>
+    ensures { option_map (λ name. name.now) result ≡ old_input task.entry }
+{
+    match task {
+        Task::Diff { cart: _, old } => Some(old),
+        _ => None,
+    }
+}
+
+/// The name of standard input, where it may not be replaced.
+fn stream_of(task: Task<'_>) -> Option<&'static str>
+    ensures { option_map (λ name. name.now) result ≡ stream_input task.entry }
+{
+    match task {
+        Task::Diff { .. } => Some("/dev/stdin"),
+        _ => None,
+    }
+}
+
+/// A word as the folder shows its file.
+fn see<F: Folder>(folder: &F, word: FileWord, name: Option<&str>) -> SeenWord
+    ensures word { result.word ≡ word }
+    ensures file { IsSeen (F.shown folder.now) (option_map (λ text. text.now) name.entry) result.file }
+{
+    let file = match name {
+        Some(name) => folder.look(name),
+        None => None,
+    };
+    SeenWord { word, file }
+}
+
+/// The files that a task reads, as the folder shows them.
+fn see_inputs<F: Folder>(folder: &F, task: Task<'_>) -> [SeenWord; 5]
+    ensures { AreInputsSeen (F.shown folder.now) task.entry result }
+{
+    [
+        see(folder, FileWord::Cart, cart_of(task)),
+        see(folder, FileWord::Script, script_of(task)),
+        see(folder, FileWord::Other, other_of(task)),
+        see(folder, FileWord::Old, old_of(task)),
+        see(folder, FileWord::Input, stream_of(task)),
+    ]
+}
+
+/// Whether a task makes a movie from none.
+fn starts_movie(task: Task<'_>) -> bool
+    ensures { result ≡ starts_movie task.entry }
+{
+    match task {
+        Task::New { .. } => true,
+        _ => false,
+    }
+}
+
+/// Whether an ordinary file has bytes.
+fn has_some(file: Option<OrdinaryFile>) -> bool
+    ensures { result ≡ has_some file }
+{
+    match file {
+        Some(file) => file.len > 0,
+        None => false,
+    }
+}
+
+/// What is wrong with the file that an output replaces.
+fn output_fault(task: Task<'_>, inputs: &[SeenWord], file: SeenWord) -> Option<WordFault>
+    requires { file.word ≡ FileWord.File }
+    ensures { result ≡ output_fault task.entry inputs.now file.file }
+{
+    match same_among(inputs, file) {
+        Some(other) => Some(WordFault::SameFile {
+            word: FileWord::File,
+            other,
+        }),
+        None => {
+            if starts_movie(task) && has_some(file.file) {
+                Some(WordFault::NotEmpty {
+                    word: FileWord::File,
+                })
+            } else {
+                None
+            }
+        }
+    }
+}
+
+/// Looks at the files that a task's words name, before any is opened: first as [`check_words`] does for a task whose output replaces no
+/// file. Then it is an error where the file that the output replaces is the ordinary file of another word, or for [`Task::New`] an ordinary
+/// file with bytes. Standard input may be this file, since it is read whole before, but not for [`Task::Diff`].
+pub fn check_output<F: Folder>(folder: &F, task: Task<'_>, file: &str) -> Result<Permit, WordFault>
+    // Where a word of the task is at fault, the task ends with this fault, and no stream is read or written. So it does where
+    // the file is the ordinary file of CART, SCRIPT, OTHER or OLD, or for `diff` that of standard input, or for `new` has
+    // bytes, by what the folder showed. Else it is saved.
+    // Refused: script_may_be_replaced, output_may_replace_any_file, script_may_replace_the_newer_movie,
+    // blank_movie_may_replace_a_movie, words_at_fault_are_saved.
+    ensures { OutputEnds (F.shown folder.now) task.entry file.now result }
+{
+    let inputs = see_inputs(folder, task);
+    let output = see(folder, FileWord::File, Some(file));
+    match check_words(folder, task) {
+        Ok(permit) => match output_fault(task, &inputs, output) {
+            Some(fault) => Err(fault),
+            None => Ok(permit),
+        },
+        Err(fault) => Err(fault),
+    }
+}

@@ -1,0 +1,114 @@
+//! Tasks whose output replaces a file.
+
+ghost use Rattle.std.specs.Prelude.{◌≡◌};
+ghost use Rattle.tas_program.specs.Files.{files_by};
+ghost use Rattle.tas_program.specs.Program.{IsSaveRun, SavesTask, held_fault, saved_end};
+
+use crate::directory::Names;
+use crate::running::run_engine;
+use crate::{Directory, Folder, Permit, SaveFault, Streams, TaskFault, check_output, save};
+use std::alloc::{Allocator, Global};
+use std::io::{Read, Write};
+use std::sync::Wait;
+use std::thread::Threads;
+use tas_tool::{RunFault, ToolFault};
+use tas_words::Task;
+
+/// The fault of an engine whose output is held in memory.
+fn held_fault(fault: ToolFault) -> ToolFault
+    ensures { result ≡ held_fault fault }
+{
+    match fault {
+        ToolFault::Run(RunFault::Write { written: _ }) => ToolFault::Run(RunFault::Memory),
+        fault => fault,
+    }
+}
+
+/// The end of a task whose output was to replace a file.
+fn saved_end(end: Result<(), SaveFault>) -> Result<(), TaskFault>
+    ensures { result ≡ saved_end end }
+{
+    match end {
+        Ok(()) => Ok(()),
+        Err(fault) => Err(TaskFault::Save(fault)),
+    }
+}
+
+/// Does a task by its engine, as [`run_task`](crate::run_task) does, but its output replaces a file of this directory ([`save`]), and
+/// nothing is written to standard output. The output is held in memory until the engine is done; after a fault of the engine's no file is
+/// touched. The files that the task's words name must have been looked at ([`check_output`]).
+pub fn save_run<
+    T: Wait + Threads + Sync,
+    A: Allocator + Copy + Send + Sync,
+    F: Folder + Sync,
+    D: Directory,
+    R: Read,
+    W: Write,
+    E: Write,
+>(
+    rt: &T,
+    global: Global,
+    alloc: A,
+    task: Task<'_>,
+    file: &str,
+    permit: Permit,
+    folder: &F,
+    directory: &mut D,
+    streams: &mut Streams<R, W, E>,
+) -> Result<(), TaskFault>
+    // A task whose output replaces a file is done as without, but its output is the text that the file gets, and
+    // standard output has nothing. After an engine's fault no file is touched.
+    // Refused: output_of_a_fault_is_saved.
+    ensures { SavesTask (files_by (F.bytes_of folder.now) (F.held_by folder.now) (F.shown folder.now))
+        task.entry file.now streams.old streams.new
+        (D.files directory.old) (D.files directory.new) result }
+{
+    let mut text = Vec::new(alloc);
+    let end = run_engine(
+        rt,
+        global,
+        alloc,
+        task,
+        permit,
+        folder,
+        &mut streams.input,
+        &mut text,
+    );
+    match end {
+        Ok(()) => saved_end(save(alloc, directory, file, text.as_slice())),
+        Err(fault) => Err(TaskFault::Tool(held_fault(fault))),
+    }
+}
+
+/// Does a task whose output replaces a file: first the files that its words name are looked at ([`check_output`]); where one is at fault,
+/// as where this file is one of them, nothing is opened. Then it does as [`save_run`].
+pub fn save_task<
+    T: Wait + Threads + Sync,
+    A: Allocator + Copy + Send + Sync,
+    F: Folder + Sync,
+    R: Read,
+    W: Write,
+    E: Write,
+>(
+    rt: &T,
+    global: Global,
+    alloc: A,
+    task: Task<'_>,
+    file: &str,
+    folder: &F,
+    streams: &mut Streams<R, W, E>,
+) -> Result<(), TaskFault>
+    // Refused: none, see `check_output`.
+    ensures { IsSaveRun (files_by (F.bytes_of folder.now) (F.held_by folder.now) (F.shown folder.now))
+        task.entry file.now streams.old streams.new result }
+{
+    match check_output(folder, task, file) {
+        Ok(permit) => {
+            let mut names = Names::new(folder, permit);
+            save_run(
+                rt, global, alloc, task, file, permit, folder, &mut names, streams,
+            )
+        }
+        Err(fault) => Err(TaskFault::Word(fault)),
+    }
+}

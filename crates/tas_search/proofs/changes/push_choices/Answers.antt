@@ -1,0 +1,10 @@
+use Rattle.tas_search.proofs.ChangeLemmas.{pushed_more, place_more}
+use Rattle.tas_search.proofs.changes.push_choices.Goals as goal
+
+pub loop-number-preserved : goal.loop-number-preserved
+loop-number-preserved g c = record {
+  pushed =
+      pushed_more c.args.space.now.choices c.hold-hold.result c.loop-number.at c.loop-number.number-index c.args.numbers.now c.choice.result c.loop-number.changes.items c.push.new.self.items _ c.loop-number-test.true
+      c.loop-number.invariant.pushed c.choice.ensures c.in_ok-push.ensures.items;
+  fits = place_more c.loop-number.at c.hold-hold.result _ c.loop-number.number-index c.args.numbers.now c.loop-number-test.true c.loop-number.invariant.fits;
+}

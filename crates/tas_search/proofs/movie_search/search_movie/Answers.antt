@@ -1,0 +1,36 @@
+use Rattle.std.proofs.Common.{◌≡◌, ℕ, ◌+◌, ◌*◌, ◌≤◌, length, refl, ap, subst, ◌∙◌, arith}
+use Rattle.tas_movie.specs.Content.{most_inputs}
+use Rattle.tas_search.specs.Space.{SpaceContent}
+use Rattle.tas_search.specs.GoalAnswer.{IsGoalAnswer}
+use Rattle.tas_search.specs.MovieSearch.{space_of}
+use Rattle.tas_search.specs.Inside.FoundChanges.{AreChangesOf}
+use Rattle.tas_search.proofs.MovieSearchLemmas.{found_fits, writes_found}
+use Rattle.tas_search.proofs.movie_search.search_movie.Goals as goal
+
+pub found_changes-requires : goal.found_changes-requires
+found_changes-requires g c =
+    let range = c.args.range in
+    let hold : c.new-space.result.hold ≡ range.hold = ap (λ (s : SpaceContent). s.hold) c.new-space.ensures in
+    let le : range.from + range.count * range.hold ≤ most_inputs = c.fits.ensures.0 c.if-not-fits.false in
+    record { fits = found_fits c.new-space.result c.args.goal.now.kind c.args.goal.now.formula range.count range.states range.from c.in_ok-found.found (rw hold le) c.in_ok-found.ensures }
+
+pub returns-clause-found : goal.returns-clause-found
+returns-clause-found g c =
+    let movie = c.args.movie.now in
+    let choices = c.args.choices.now in
+    let range = c.args.range in
+    let kind = c.args.goal.now.kind in
+    let formula = c.args.goal.now.formula in
+    let found = c.in_ok-found.found in
+    let space : c.new-space.result ≡ space_of movie choices range = c.new-space.ensures ∙ rw (c.cart.ensures, c.state_at-start.ensures) refl in
+    let le : range.from + range.count * range.hold ≤ most_inputs = c.fits.ensures.0 c.if-not-fits.false in
+    let answer : IsGoalAnswer (space_of movie choices range) kind formula range.count range.states found =
+    subst (λ (s : SpaceContent). IsGoalAnswer s kind formula range.count range.states found) space c.in_ok-found.ensures in
+    let are : AreChangesOf (length movie.inputs) range.from (space_of movie choices range) found c.in_ok-changes.changes.items =
+    subst (λ (s : SpaceContent). AreChangesOf (length movie.inputs) range.from s found c.in_ok-changes.changes.items) space
+    (subst (λ (n : ℕ). AreChangesOf n range.from c.new-space.result found c.in_ok-changes.changes.items) c.len-2.ensures.len c.in_ok-changes.ensures) in (
+      (omega (arith, c.if-len-range.false, c.len.ensures.len), omega (arith, c.if-range-eq0.false), le),
+      answer,
+      writes_found movie choices range found c.in_ok-changes.changes.items c.changes_write_the_sequence.ensures (omega (arith, c.if-len-range.false, c.len.ensures.len))
+          (found_fits (space_of movie choices range) kind formula range.count range.states range.from found le answer) are,
+    )

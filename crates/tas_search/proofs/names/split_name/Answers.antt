@@ -1,0 +1,8 @@
+use Rattle.std.proofs.Common.{sym, ◌∙◌}
+use Rattle.tas_search.specs.Words.{names_of}
+use Rattle.tas_search.proofs.TextLemmas.{gives}
+use Rattle.tas_search.proofs.names.split_name.Goals as goal
+
+pub returns-clause-name : goal.returns-clause-name
+returns-clause-name g c =
+    gives (names_of c.args.names.now) c.args.line.now c.in-Some.name.now c.in-Some.digits.now c.in-Some-address_of.address c.in-Some.ensures.some.0 (sym c.in-Some-address_of.ensures) (sym c.is_name.ensures ∙ c.if-not-is_name.false)

@@ -1,6 +1,0 @@
-use Rattle.std.proofs.Common.{◌≡◌, ◌++◌, take}
-use Rattle.tas_search.specs.Inside.Arrivals.{steps_of}
-use Rattle.tas_search.proofs.trail.keep_steps.Given as goal
-
-abbrev pub invariant-loop-arrival : goal.invariant-loop-arrival
-invariant-loop-arrival g l = l.trail.items ≡ l.fn.trail.items ++ steps_of (take l.arrival-index l.layer)

@@ -1,0 +1,43 @@
+-- The search of a movie's space.
+use Rattle.std.specs.Prelude.{◌≡◌, ◌+◌, ◌*◌, ◌<◌, ◌≤◌, List, [], length, take}
+use Rattle.vcs_inputs.specs.declared.input.Input.{Input}
+use Rattle.vcs_machine.specs.Machine.{after}
+use Rattle.tas_movie.specs.Content.{MovieContent, most_inputs}
+use Rattle.tas_language.specs.declared.change.Change.{Change}
+use Rattle.tas_search.specs.declared.expression.Expression.{Expression}
+use Rattle.tas_search.specs.declared.goal.GoalKind.{GoalKind}
+use Rattle.tas_search.specs.declared.movie_search.SearchRange.{SearchRange}
+use Rattle.tas_search.specs.declared.movie_search.SearchFault.{SearchFault}
+use Rattle.tas_search.specs.declared.movie_search.SearchFault.TheVariants.{Short, Hold, Long, Memory}
+use Rattle.tas_search.specs.declared.searching.Found.{Found}
+use Rattle.tas_search.specs.declared.searching.Found.TheVariants.{Best, Nothing, Stopped}
+use Rattle.tas_search.specs.Space.{SpaceContent}
+use Rattle.tas_search.specs.GoalAnswer.{IsGoalAnswer}
+use Rattle.tas_search.specs.AnswerChanges.{answer_changes, Writes}
+
+-- the sequences of some choices after a movie's first `from` frames, each choice held for `hold` frames
+abbrev pub space_of : MovieContent → List Input → SearchRange → SpaceContent
+space_of movie choices range = record { cart = movie.cart; start = after movie.cart (take range.from movie.inputs); choices = choices; hold = range.hold }
+
+-- the changes are those that write the sequence that was found into the movie; where none was found there are none
+abbrev pub WritesFound : {Z : Type 0} → MovieContent → SearchRange → SpaceContent → Found Z → List Change → Type 0
+WritesFound movie range s (Best ks) changes = (changes ≡ answer_changes (length movie.inputs) range.from s.choices s.hold ks.items) × Writes movie range.from s ks.items
+WritesFound movie range s Nothing changes = changes ≡ []
+WritesFound movie range s (Stopped k) changes = changes ≡ []
+
+-- the space begins within the movie, each choice is held for a frame or more, and the movie can have the frames of the longest sequences
+abbrev pub CanSearch : MovieContent → SearchRange → Type 0
+CanSearch movie range = (range.from ≤ length movie.inputs) × (0 < range.hold) × (range.from + range.count * range.hold ≤ most_inputs)
+
+-- the answer: what the definitions say of the whole space, and the changes that write it into the movie
+abbrev pub IsMovieAnswer : {Z : Type 0} → MovieContent → List Input → GoalKind → Expression → SearchRange → Found Z → List Change → Type 0
+IsMovieAnswer movie choices kind e range found changes =
+    CanSearch movie range × IsGoalAnswer (space_of movie choices range) kind e range.count range.states found × WritesFound movie range (space_of movie choices range) found changes
+
+-- why there is none: the movie ends before the space begins; or a choice is held for no frame; or the movie would be too long with the longest
+-- sequences; or, where it is none of these, memory is
+abbrev pub IsSearchFault : MovieContent → SearchRange → SearchFault → Type 0
+IsSearchFault movie range (Short len) = (len ≡ length movie.inputs) × (len < range.from)
+IsSearchFault movie range Hold = (range.from ≤ length movie.inputs) × (range.hold ≡ 0)
+IsSearchFault movie range Long = (range.from ≤ length movie.inputs) × (0 < range.hold) × (most_inputs < range.from + range.count * range.hold)
+IsSearchFault movie range Memory = CanSearch movie range

@@ -1,0 +1,121 @@
+//! The search of a movie's space.
+
+ghost use Rattle.std.specs.Prelude.{◌≡◌, ◌+◌, ◌*◌, ◌≤◌, ◌↔◌, IsTrue, IfOk, IfErr};
+ghost use Rattle.tas_movie.specs.Content.{most_inputs};
+ghost use Rattle.tas_search.specs.declared.movie_search.SearchFault.TheVariants.{Memory as Refused};
+ghost use Rattle.tas_search.specs.MovieSearch.{IsMovieAnswer, IsSearchFault};
+ghost use Rattle.tas_search.specs.Inside.FoundChanges.{FitsMovie, AreChangesOf};
+
+use crate::changes::{answer_changes, changes_write_the_sequence};
+use crate::goal::Goal;
+use crate::goal_search::find_goal;
+use crate::searching::Found;
+use crate::space::Space;
+use crate::starting::state_at;
+use std::alloc::{AllocError, Allocator};
+use tas_language::Change;
+use tas_movie::{MAX_FRAMES, Movie};
+use vcs_inputs::Input;
+
+/// Where a search of a movie begins and how far it goes.
+#[derive(Clone, Copy, Debug, PartialEq, Eq)]
+pub struct SearchRange {
+    /// The first frame that a choice is made for, counted from 0.
+    pub from: usize,
+    /// How many choices a sequence has, or at most has.
+    pub count: usize,
+    /// For how many frames a choice is held: 1 or more.
+    pub hold: usize,
+    /// How many different states of one number of choices are kept at most.
+    pub states: usize,
+}
+
+/// Why a movie's space wasn't searched.
+#[derive(Clone, Copy, Debug, PartialEq, Eq)]
+pub enum SearchFault {
+    /// The movie is too short for the search to begin there. It has this many frames.
+    Short(usize),
+    /// A choice is held for no frame.
+    Hold,
+    /// With the longest sequences the movie would be too long.
+    Long,
+    /// Out of memory.
+    Memory,
+}
+
+impl From<AllocError> for SearchFault {
+    ghost from_gives = { λ _ fault. fault ≡ Refused };
+
+    fn from(_error: AllocError) -> SearchFault {
+        SearchFault::Memory
+    }
+}
+
+/// Whether a movie can have the frames up to the end of the longest sequences.
+fn fits(range: SearchRange) -> bool
+    ensures { IsTrue result ↔ range.from + range.count * range.hold ≤ most_inputs }
+{
+    match range.count.checked_mul(range.hold) {
+        Some(frames) => frames <= MAX_FRAMES && range.from <= MAX_FRAMES - frames,
+        None => false,
+    }
+}
+
+/// The changes that write what was found into a movie of `len` frames; none where no sequence was found.
+fn found_changes<A: Allocator, C: Allocator>(
+    alloc: A,
+    space: &Space<'_, C>,
+    len: usize,
+    from: usize,
+    found: &Found<A>,
+) -> Result<Vec<Change, A>, AllocError>
+    requires fits { FitsMovie from space.now.hold found.now }
+    ensures { IfOk result (λ changes. AreChangesOf len from space.now found.now changes.items) }
+{
+    match found {
+        Found::Best(numbers) => answer_changes(alloc, space, len, from, numbers.as_slice()),
+        Found::Nothing => Ok(Vec::new(alloc)),
+        Found::Stopped(_) => Ok(Vec::new(alloc)),
+    }
+}
+
+/// Searches the space of some choices after a movie's first frames for what a goal asks, and returns what was found with the changes
+/// that write it into the movie: none where no sequence was found.
+///
+/// Faults, in order: `Short` where the movie has fewer frames than the search begins after, `Hold` where a choice is held for no
+/// frame, `Long` where the movie would get too long; `Memory` at any point after these.
+pub fn search_movie<A: Allocator + Copy>(
+    alloc: A,
+    movie: &Movie<A>,
+    choices: &[Input],
+    goal: &Goal,
+    range: SearchRange,
+) -> Result<(Found<A>, Vec<Change, A>), SearchFault>
+    // A movie's space begins with the machine after its first frames, and is searched whole for what the goal
+    // asks; with the answer come the changes that write it into the movie. Where the movie has fewer frames, a choice
+    // is held for no frame, or the movie would get too long, this is the fault, and memory is one only where it is none
+    // of these.
+    // Refused: space_of_a_movie_begins_at_power_on, movie_that_gets_too_long_is_searched,
+    // start_after_the_end_is_searched, hold_of_no_frame_is_searched, short_movie_is_reported_by_its_start,
+    // long_movie_is_reported_as_memory.
+    ensures found { IfOk result (λ r. IsMovieAnswer movie.now choices.now goal.now.kind
+        goal.now.formula range r.0 r.1.items) }
+    ensures fault { IfErr result (IsSearchFault movie.now range) }
+{
+    if movie.len() < range.from {
+        return Err(SearchFault::Short(movie.len()));
+    }
+    if range.hold == 0 {
+        return Err(SearchFault::Hold);
+    }
+    if !fits(range) {
+        return Err(SearchFault::Long);
+    }
+    let start = state_at(movie, range.from);
+    let space = Space::new(movie.cart(), start, choices, range.hold);
+    let found = find_goal(alloc, &space, goal, range.count, range.states)?;
+    // Called for its law.
+    changes_write_the_sequence();
+    let changes = found_changes(alloc, &space, movie.len(), range.from, &found)?;
+    Ok((found, changes))
+}

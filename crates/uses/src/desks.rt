@@ -1,0 +1,64 @@
+//! Several editors of one movie.
+
+ghost use Rattle.std.specs.Prelude.{◌≡◌};
+ghost use Rattle.tas_desk.specs.Seats.{name_of};
+
+use anyhow::{Result, bail};
+use std::alloc::Global;
+use std::sync::Wait;
+use tas_desk::{CloseOnDrop, Closed, Desk, Name, Seat, Unopened};
+use tas_movie::{Edit, Inputs};
+use tas_seat::converse;
+use vcs_inputs::Input;
+
+/// One seat edits, and another sees it: how many edits and frames.
+pub fn two_seats<N: Name, W: CloseOnDrop, R: Wait>(
+    rt: &R,
+    alloc: Global,
+    desk: &Desk<N, W>,
+    seats: &mut [Seat<N>],
+) -> Result<(u64, usize)> {
+    let [one, other] = seats else {
+        bail!("a seat is missing")
+    };
+    let inputs = Inputs::repeated(alloc, Input::none(), 200)?;
+    desk.edit(rt, one, Edit::Insert { at: 0, inputs })?; // edit 1, 200 frames
+    let seen = desk.len(other)?; // takes no lock
+    Ok(seen) // (1, 200)
+}
+
+/// What a seat is answered to the lines `len` and `quit`.
+pub fn talk<N: Name, W: CloseOnDrop, R: Wait>(
+    rt: &R,
+    alloc: Global,
+    desk: &Desk<N, W>,
+    seat: &mut Seat<N>,
+) -> Result<Vec<u8>> {
+    let mut lines = b"len\nquit\n".as_slice();
+    let mut out = Vec::new(alloc);
+    if let Err(fault) = converse(rt, alloc, desk, seat, &mut lines, &mut out) {
+        bail!("{fault}")
+    }
+    Ok(out) // len 1 200
+}
+
+/// Opens a desk, edits, and closes it: what the other seat saw, what the first was answered, and the journal and the movie. The clause says that
+/// the desk's type has the name of what is opened, so that no other desk has it.
+pub fn open<N: Name, R: Wait>(
+    rt: &R,
+    alloc: Global,
+    unopened: Unopened,
+) -> Result<((u64, usize), Vec<u8>, Closed)>
+    requires name { unopened ≡ name_of N.registry N.name N.parts }
+{
+    let (desk, mut seats) = Desk::<N, &R>::open(rt, alloc, unopened)?;
+    let seen = two_seats(rt, alloc, &desk, seats.as_mut_slice())?;
+    let Some(seat) = seats.first_mut() else {
+        bail!("a seat is missing")
+    };
+    let said = talk(rt, alloc, &desk, seat)?;
+    if !desk.whole(seats.as_slice()) {
+        bail!("a seat is missing")
+    }
+    Ok((seen, said, desk.close(rt, seats)))
+}
