@@ -29,7 +29,7 @@ fn check_refused<R: Abort>(
 }
 
 /// `tas trace` of three instructions.
-fn traced<C: Read>(alloc: Global, cart: &mut C) -> Ran {
+fn traced<C: Read>(alloc: Global, cart: &mut [C; 1]) -> Ran {
     run(alloc, Engine::Trace, cart, &mut b"".as_slice())
 }
 
@@ -40,9 +40,8 @@ fn run_into(
     cart: &[u8],
     output: &mut Taker,
 ) -> Result<(), ToolFault> {
-    let mut cart = cart;
     let mut text = PLAYFIELD_MOVIE;
-    run_to(alloc, engine, &mut cart, &mut text, output)
+    run_to(alloc, engine, &mut [cart], &mut text, output)
 }
 
 /// Fails where an answer doesn't go out whole, this many bytes at a time.
@@ -90,7 +89,7 @@ static TRACE: &[u8] =
 fn a_trace_is_written_as_by_hand(rt: HostRuntime) {
     let alloc = rt.alloc();
     let bytes = image_of(&rt, alloc, STORES);
-    let ran = traced(alloc, &mut bytes.as_slice());
+    let ran = traced(alloc, &mut [bytes.as_slice()]);
     check_ran(&rt, "trace", ran, TRACE);
 }
 
@@ -108,7 +107,7 @@ fn a_trace_goes_out_in_small_pieces(rt: HostRuntime) {
 fn other_sizes_are_refused(rt: HostRuntime) {
     let alloc = rt.alloc();
     for size in [0, 1, 7, 2047, 4095, 4097, INPUT_LIMIT] {
-        let ran = traced(alloc, &mut Filler::new(0, size, 0));
+        let ran = traced(alloc, &mut [Filler::new(0, size, 0)]);
         let fault = ToolFault::Run(RunFault::Size(size));
         check_fault(&rt, ("size", size), ran, fault);
     }
@@ -118,9 +117,9 @@ fn other_sizes_are_refused(rt: HostRuntime) {
 fn one_byte_past_the_limit_is_too_long(rt: HostRuntime) {
     let alloc = rt.alloc();
     for more in [1, 100_000] {
-        let mut input = Filler::new(0, INPUT_LIMIT + more, 0);
+        let mut input = [Filler::new(0, INPUT_LIMIT + more, 0)];
         check_fault(&rt, more, traced(alloc, &mut input), TOO_LONG);
-        check_same(&rt, "input.left", input.left, more - 1);
+        check_same(&rt, "input.left", input[0].left, more - 1);
     }
 }
 
@@ -129,10 +128,10 @@ fn a_failed_read_is_the_last_one(rt: HostRuntime) {
     let alloc = rt.alloc();
     for kind in [ErrorKind::Other, ErrorKind::Interrupted] {
         for fails_at in 1..3 {
-            let mut input = Filler::new(0, 4096, fails_at);
-            input.kind = kind;
+            let mut input = [Filler::new(0, 4096, fails_at)];
+            input[0].kind = kind;
             check_fault(&rt, fails_at, traced(alloc, &mut input), FAILED);
-            check_same(&rt, "input.reads", input.reads, fails_at);
+            check_same(&rt, "input.reads", input[0].reads, fails_at);
         }
     }
 }
@@ -147,10 +146,10 @@ fn check_reads<R: Abort>(
     end: Result<(), ToolFault>,
     reads: (usize, usize),
 ) {
-    let mut cart = Giver::new(files.0, usize::MAX, fails_at.0);
+    let mut cart = [Giver::new(files.0, usize::MAX, fails_at.0)];
     let mut text = Giver::new(files.1, usize::MAX, fails_at.1);
     let (written, answer) = run(alloc, engine, &mut cart, &mut text);
-    let found = (answer, (cart.reads, text.reads), written.is_empty());
+    let found = (answer, (cart[0].reads, text.reads), written.is_empty());
     let wanted = (end, reads, end.is_err());
     check_same(rt, (engine, fails_at), found, wanted);
 }
@@ -304,7 +303,7 @@ fn a_movie_is_as_long_as_its_frames(rt: HostRuntime) {
 fn a_failed_read_comes_before_a_wrong_size(rt: HostRuntime) {
     let alloc = rt.alloc();
     for (fails_at, reads) in [(1, 0), (0, 1)] {
-        let mut cart = Filler::new(0, 7, fails_at);
+        let mut cart = [Filler::new(0, 7, fails_at)];
         let mut text = Filler::new(0, 10, 1);
         let ran = run(alloc, Engine::Check, &mut cart, &mut text);
         check_fault(&rt, ("cartridge", fails_at), ran, FAILED);

@@ -122,7 +122,7 @@ fn cut_lines_of_ram_are_told_by_their_bytes(rt: HostRuntime) {
     check_same(&rt, "whole", end, Ok(()));
     for room in [0, 1, 258, 259, 260, 700, 1553] {
         let mut lines = Taker::new(alloc, 100, Room::Bytes(room), Failure::Error);
-        let mut cart = image.as_slice();
+        let mut cart = [image.as_slice()];
         let mut text = movie.as_slice();
         let end = run_to(alloc, engine, &mut cart, &mut text, &mut lines);
         check_filled(&rt, &lines, end, whole.as_slice(), room);

@@ -47,55 +47,47 @@ pub enum FileEngine {
 /// What an engine wrote, and how it ended.
 pub type Ran = (Vec<u8>, Result<(), ToolFault>);
 
-/// Runs an engine that writes to this writer.
+/// Runs an engine over this cartridge, in a list of its own, that writes to this writer.
 pub fn run_to<C: Read, T: Read, W: Write>(
     alloc: Global,
     engine: Engine,
-    cart: &mut C,
+    cart: &mut [C; 1],
     text: &mut T,
     output: &mut W,
 ) -> Result<(), ToolFault> {
     match engine {
-        Engine::Trace => trace_run(alloc, 3, cart, output),
-        Engine::Check => check_run(alloc, cart, text, output),
-        Engine::Migrate => {
-            run_command(alloc, &Whole(commands::Migrate), &mut [cart], text, output)
-        }
+        Engine::Trace => trace_run(alloc, 3, &mut cart[0], output),
+        Engine::Check => check_run(alloc, &mut cart[0], text, output),
+        Engine::Migrate => run_command(alloc, &Whole(commands::Migrate), cart, text, output),
         Engine::New(frames) => {
             let mut none: [&[u8]; 0] = [];
             run_command(
                 alloc,
                 &Whole(commands::New { frames }),
                 &mut none,
-                cart,
+                &mut cart[0],
                 output,
             )
         }
-        Engine::Shot(frame) => shot_run(alloc, frame, cart, text, output),
+        Engine::Shot(frame) => shot_run(alloc, frame, &mut cart[0], text, output),
         Engine::Ram(from, to) => {
-            run_command(
-                alloc,
-                &commands::Ram { from, to },
-                &mut [cart],
-                text,
-                output,
-            )
+            run_command(alloc, &commands::Ram { from, to }, cart, text, output)
         }
         Engine::Digest(every) => {
             run_command(
                 alloc,
                 &Whole(commands::Digest { every }),
-                &mut [cart],
+                cart,
                 text,
                 output,
             )
         }
-        Engine::Lag => run_command(alloc, &Whole(commands::Lag), &mut [cart], text, output),
+        Engine::Lag => run_command(alloc, &Whole(commands::Lag), cart, text, output),
         Engine::Cut(from, to) => {
             run_command(
                 alloc,
                 &Whole(commands::Cut { from, to }),
-                &mut [cart],
+                cart,
                 text,
                 output,
             )
@@ -104,7 +96,12 @@ pub fn run_to<C: Read, T: Read, W: Write>(
 }
 
 /// Runs an engine.
-pub fn run<C: Read, T: Read>(alloc: Global, engine: Engine, cart: &mut C, text: &mut T) -> Ran {
+pub fn run<C: Read, T: Read>(
+    alloc: Global,
+    engine: Engine,
+    cart: &mut [C; 1],
+    text: &mut T,
+) -> Ran {
     let mut output = Vec::new(alloc);
     let end = run_to(alloc, engine, cart, text, &mut output);
     (output, end)
@@ -112,7 +109,7 @@ pub fn run<C: Read, T: Read>(alloc: Global, engine: Engine, cart: &mut C, text: 
 
 /// The same on bytes.
 pub fn run_on(alloc: Global, engine: Engine, cart: &[u8], text: &[u8]) -> Ran {
-    run(alloc, engine, &mut { cart }, &mut { text })
+    run(alloc, engine, &mut [cart], &mut { text })
 }
 
 /// Runs a command that reads files beside the movie, to this writer.

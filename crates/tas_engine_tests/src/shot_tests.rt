@@ -51,7 +51,7 @@ fn a_cut_picture_is_told_by_its_bytes(rt: HostRuntime) {
     for failure in FAILURES.iter() {
         for room in [0, 20, 300, 700, 1100] {
             let mut picture = Taker::new(alloc, 1000, Room::Bytes(room), *failure);
-            let mut cart = image.as_slice();
+            let mut cart = [image.as_slice()];
             let mut text = PLAYFIELD_MOVIE;
             let end = run_to(alloc, Engine::Shot(0), &mut cart, &mut text, &mut picture);
             check_filled(&rt, &picture, end, whole.as_slice(), room);
