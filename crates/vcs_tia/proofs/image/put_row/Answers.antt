@@ -1,3 +1,4 @@
+use Rattle.std.proofs.lemmas.Grind.{common_steps}
 use Rattle.std.proofs.Common.{◌∙◌, ◌*◌, ◌+◌, ◌-◌, arith}
 use Rattle.vcs_tia.proofs.Images.{row_done, row_left, row_above, length-put}
 use Rattle.vcs_tia.proofs.image.put_row.Goals as goal
@@ -17,3 +18,6 @@ loop-i-preserved c =
       done = row_done b c.args.pixels.now q i long c.requires.pixels (omega arith) size c.loop-i.invariant.done c.put_sixteen.ensures.bytes;
       left = row_left b c.args.above.now q i long c.requires.above (omega arith) size c.loop-i.invariant.left;
     }
+
+pub returns : goal.returns
+returns c = grind (arith, common_steps)
