@@ -1,4 +1,5 @@
-use Rattle.std.proofs.Common.{ap, subst, refl}
+use Rattle.std.proofs.lemmas.Grind.{common_steps}
+use Rattle.std.proofs.Common.{ap, subst, refl, arith}
 use Rattle.tas_desk.specs.Seats.{SeatContent}
 use Rattle.tas_desk.specs.Zones.{ZoneContent, IsShort, IsViewed}
 use Rattle.tas_desk.proofs.CutLemmas.{short_view}
@@ -38,3 +39,15 @@ invariant_of-self-in_default g c = seated_on _ _ _ _ _ _ _ c.self.inside.zone c.
 
 pub returns-clause-seat : goal.returns-clause-seat
 returns-clause-seat g c = seen_more c.self.inside.reader c.copy.new.self _ _ _ c.self.inside.zone c.picture-viewed.new.self c.self.view_is c.in_ok-at.ensures.0
+
+pub invariant_of-self : goal.invariant_of-self
+invariant_of-self g c = grind (arith, common_steps)
+
+pub returns-in_default-clause-seat : goal.returns-in_default-clause-seat
+returns-in_default-clause-seat g c = grind (arith, common_steps)
+
+pub returns-in_err-at-clause-seat : goal.returns-in_err-at-clause-seat
+returns-in_err-at-clause-seat g c = grind (arith, common_steps)
+
+pub returns-in_default-clause-zone : goal.returns-in_default-clause-zone
+returns-in_default-clause-zone g c = grind (arith, common_steps)

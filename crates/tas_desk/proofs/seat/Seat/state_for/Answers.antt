@@ -1,4 +1,5 @@
-use Rattle.std.proofs.Common.{ap, subst}
+use Rattle.std.proofs.lemmas.Grind.{common_steps}
+use Rattle.std.proofs.Common.{ap, subst, arith}
 use Rattle.tas_desk.specs.Seats.{SeatContent}
 use Rattle.tas_desk.specs.States.{IsReached}
 use Rattle.tas_desk.specs.Zones.{ZoneContent}
@@ -17,3 +18,24 @@ returns-clause-zone g c =
 
 pub returns-clause-seat : goal.returns-clause-seat
 returns-clause-seat g c = seen_more c.self.inside.reader c.copy_of.new.self _ _ _ c.self.inside.zone c.reach-reached.new.self c.self.view_is c.in_ok-at.ensures.0
+
+pub returns-clause-reply : goal.returns-clause-reply
+returns-clause-reply g c = grind (arith, common_steps)
+
+pub invariant_of-self : goal.invariant_of-self
+invariant_of-self g c = grind (arith, common_steps)
+
+pub returns-then-from-to-clause-forward : goal.returns-then-from-to-clause-forward
+returns-then-from-to-clause-forward g c = grind (arith, common_steps)
+
+pub returns-then-from-to-clause-seat : goal.returns-then-from-to-clause-seat
+returns-then-from-to-clause-seat g c = grind (arith, common_steps)
+
+pub returns-in_err-at-clause-seat : goal.returns-in_err-at-clause-seat
+returns-in_err-at-clause-seat g c = grind (arith, common_steps)
+
+pub invariant_of-self-in_err-at : goal.invariant_of-self-in_err-at
+invariant_of-self-in_err-at g c = grind (arith, common_steps)
+
+pub returns-then-from-to-clause-zone : goal.returns-then-from-to-clause-zone
+returns-then-from-to-clause-zone g c = grind (arith, common_steps)

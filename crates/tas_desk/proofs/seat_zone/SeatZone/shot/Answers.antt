@@ -1,4 +1,5 @@
-use Rattle.std.proofs.Common.{◌+◌}
+use Rattle.std.proofs.lemmas.Grind.{common_steps}
+use Rattle.std.proofs.Common.{◌+◌, arith}
 use Rattle.tas_desk.proofs.ZoneLemmas.{if_ok, played_in, cut_in}
 use Rattle.tas_desk.proofs.seat_zone.SeatZone.shot.Goals as goal
 
@@ -9,3 +10,6 @@ returns-clause-kept g c =
 
 pub returns-clause-cut : goal.returns-clause-cut
 returns-clause-cut g c = cut_in c.self.inside.version c.self.inside.view c.follow.new.view c.shot.new.self c.args.self.now c.self.view_is c.follow.ensures.brought c.shot.ensures.movie c.shot.ensures.near
+
+pub returns-clause-picture : goal.returns-clause-picture
+returns-clause-picture g c = grind (arith, common_steps)
