@@ -1,3 +1,4 @@
+use Rattle.std.proofs.lemmas.Grind.{common_steps}
 use Rattle.std.proofs.Common.{◌-◌, ◌∙◌, sym, refl, arith}
 use Rattle.std.proofs.lemmas.Bool.{not-true}
 use Rattle.vcs_machine.specs.Inside.Console.{content_of, clocks_of}
@@ -60,3 +61,12 @@ returns-then-not-noted-clause-ignored g c =
     let s = c.lag_step-noted in
     come-read g.O.Observer.observe c.args.regs.now (content_of b) l.regs s.new.regs (content_of l.bus) (content_of s.new.bus) l.left (l.left - 1) s.result
     l.invariant.come s.ensures.led (omega (arith, c.loop-left-test.true)) c.if-noted.false (not-true s.result.ignored c.if-not-noted.true)
+
+pub loop-left-init : goal.loop-left-init
+loop-left-init g c = grind (arith, common_steps)
+
+pub loop-left-preserved : goal.loop-left-preserved
+loop-left-preserved g c = grind (arith, common_steps)
+
+pub run_frame-requires : goal.run_frame-requires
+run_frame-requires g c = grind (arith, common_steps)

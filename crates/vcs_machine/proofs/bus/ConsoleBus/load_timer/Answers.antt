@@ -1,4 +1,5 @@
-use Rattle.std.proofs.Common.{◌∙◌, ap, sym}
+use Rattle.std.proofs.lemmas.Grind.{common_steps}
+use Rattle.std.proofs.Common.{◌∙◌, ap, sym, arith}
 use Rattle.vcs_riot.specs.Timer.{after_ticks}
 use Rattle.vcs_riot.specs.Chip.{byte_at, riot_after_load, riot_after_ticks}
 use Rattle.vcs_machine.specs.Bus.{Observed, byte_of}
@@ -23,3 +24,6 @@ returns-clause-content g c =
     lagging-no_ticks g.O.Observer.observe g.met.O.Observer.observe_nil g.met.O.Observer.observe_append (riot_after_load c.args.address) b.rom.now b.pins b.riot.now c.load.new.self b.tia.now seen (ticks_of b) (clocks_of b)
     c.catch_up_riot.ensures.ticks c.load.ensures.after
     ∙ ap (λ (o : Observed g.O.Observer.Seen). after_riot_load c.args.address o) c.catch_up_riot.ensures.content
+
+pub invariant_of-self : goal.invariant_of-self
+invariant_of-self g c = grind (arith, common_steps)

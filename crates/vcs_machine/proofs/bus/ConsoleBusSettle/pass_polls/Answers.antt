@@ -1,3 +1,4 @@
+use Rattle.std.proofs.lemmas.Grind.{common_steps}
 use Rattle.std.proofs.Common.{◌≡◌, ◌+◌, ◌-◌, ◌*◌, ◌∙◌, ap, sym, arith}
 use Rattle.vcs_cpu.specs.Polls.{polled_byte, after_polls}
 use Rattle.vcs_tia.proofs.Traces.{clocks_passed-after_clocks}
@@ -89,3 +90,30 @@ returns-clause-ready g c =
     let fit = c.polls_within-polls.ensures.fit in
     let behind = clocks_passed-after_clocks (3 * (b.count + cycles - b.offset - b.tia_at)) b.tia.now in
     (omega (arith, behind, fit, b.beam, b.tia_past, c.if-self-ge-END.false), λ n few. omega (arith, behind, fit, b.beam, b.tia_past, c.if-self-ge-END.false, few))
+
+pub overflow_add-period : goal.overflow_add-period
+overflow_add-period g c = grind (arith, common_steps)
+
+pub returns-then-not-is_wait-clause-polls : goal.returns-then-not-is_wait-clause-polls
+returns-then-not-is_wait-clause-polls g c = grind (arith, common_steps)
+
+pub returns-then-polls-eq0-clause-ready : goal.returns-then-polls-eq0-clause-ready
+returns-then-polls-eq0-clause-ready g c = grind (arith, common_steps)
+
+pub returns-then-self-ge-END-clause-ready : goal.returns-then-self-ge-END-clause-ready
+returns-then-self-ge-END-clause-ready g c = grind (arith, common_steps)
+
+pub returns-then-self-ge-END-clause-polls : goal.returns-then-self-ge-END-clause-polls
+returns-then-self-ge-END-clause-polls g c = grind (arith, common_steps)
+
+pub overflow_cast-last : goal.overflow_cast-last
+overflow_cast-last g c = grind (arith, common_steps)
+
+pub returns-then-polls-eq0-clause-polls : goal.returns-then-polls-eq0-clause-polls
+returns-then-polls-eq0-clause-polls g c = grind (arith, common_steps)
+
+pub overflow_cast-period : goal.overflow_cast-period
+overflow_cast-period g c = grind (arith, common_steps)
+
+pub overflow_sub-last : goal.overflow_sub-last
+overflow_sub-last g c = grind (arith, common_steps)
