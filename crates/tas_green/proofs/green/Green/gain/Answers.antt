@@ -28,3 +28,6 @@ absorb-requires-clause-stride g c = c.stride.ensures.positive
 
 pub absorb-requires-clause-room : goal.absorb-requires-clause-room
 absorb-requires-clause-room g c = λ now rising less each. grind (arith, common_steps)
+
+pub returns-clause-count : goal.returns-clause-count
+returns-clause-count g c = grind (arith, common_steps)

@@ -1,3 +1,4 @@
+use Rattle.std.proofs.lemmas.Grind.{common_steps}
 use Rattle.std.proofs.Common.{◌≡◌, ◌∙◌, ap, arith}
 use Rattle.tas_green.specs.Zone.{state_at, first_of}
 use Rattle.tas_green.specs.Grid.{stride}
@@ -45,3 +46,6 @@ invariant_of-self g c = record {
 
 pub returns-clause-lawful : goal.returns-clause-lawful
 returns-clause-lawful g c = record { states = states_lawful g c; near = c.self.invariant.lawful.near }
+
+pub returns-clause-near : goal.returns-clause-near
+returns-clause-near g c = grind (arith, common_steps)

@@ -1,3 +1,4 @@
+use Rattle.std.proofs.lemmas.Grind.{common_steps}
 use Rattle.std.proofs.Common.{◌∙◌, ap, arith}
 use Rattle.tas_green.specs.Zone.{state_at, where_true, is_on_grid}
 use Rattle.tas_green.specs.Grid.{stride}
@@ -30,3 +31,12 @@ invariant_of-self g c = record {
 
 pub returns-clause-lawful : goal.returns-clause-lawful
 returns-clause-lawful g c = record { states = states_lawful g c; near = c.self.invariant.lawful.near }
+
+pub returns-clause-states : goal.returns-clause-states
+returns-clause-states g c = grind (arith, common_steps)
+
+pub returns-clause-near : goal.returns-clause-near
+returns-clause-near g c = grind (arith, common_steps)
+
+pub returns-clause-kept : goal.returns-clause-kept
+returns-clause-kept g c = grind (arith, common_steps)

@@ -1,3 +1,4 @@
+use Rattle.std.proofs.lemmas.Grind.{common_steps}
 use Rattle.std.proofs.Common.{refl, ◌≡◌, ◌+◌, ◌∙◌, ap, arith, Some, take, length}
 use Rattle.vcs_machine.specs.Machine.{after}
 use Rattle.tas_green.specs.Zone.{where_true, is_passed, nearest}
@@ -68,3 +69,6 @@ returns-clause-short g c =
     rw (← c.self.view_is) (λ holds.
     let close = nearest_close c.self.inside.states.items c.args.k step (stride_rare (length c.self.inside.movie.inputs)).0 holds in
     omega (arith, close, c.play_span-end.ensures.meter, near, c.count.ensures, c.new-meter.ensures))
+
+pub returns-clause-near : goal.returns-clause-near
+returns-clause-near g c = grind (arith, common_steps)
