@@ -29,8 +29,9 @@ module _ {Bus Content : Type 0} (d : Device Content) (content_of : Bus → Conte
     pub is : content_of bus ≡ c
     pub settles : Settles bus bus false
 
-  -- a content on which a poll leads back to itself: its five bytes of code are those that another content shows, the byte that it
-  -- reads takes its branch, and the bus rests after each of its two instructions
+  -- a content on which a poll leads back to itself: its LDA's three bytes of code are those that another content shows, and so are
+  -- all five once the LDA is done, whose read may change the content; the byte that it reads takes its branch, and the bus rests
+  -- after each of its two instructions
   pub record IsPoll (poll : Poll) (start c : Content) : Type 0 where
     pub lda : (k : ℕ) → k < 3 → d.byte_at c (address_after poll.pc k) ≡ d.byte_at start (address_after poll.pc k)
     pub back : (k : ℕ) → k < 5 → d.byte_at (after_poll_read d poll c) (address_after poll.pc k) ≡ d.byte_at start (address_after poll.pc k)

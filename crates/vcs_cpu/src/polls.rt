@@ -1,4 +1,4 @@
-//! Polls: loops of an LDA and a BNE that wait for a byte to become 0, or of an LDA and a BEQ that wait for another byte.
+//! Polls: loops of an LDA and a BNE that wait until a byte is 0, or of an LDA and a BEQ that wait until one isn't.
 //!
 //! A game waits for the end of a blank by such a loop, hundreds of times a frame. Where a BNE or a BEQ back to it
 //! follows an LDA of an absolute address, `go_on_by_load` asks the bus how many polls take their branch before anything

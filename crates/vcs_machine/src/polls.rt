@@ -1,4 +1,4 @@
-//! Polls of the timer: where they are, and how many of them can pass at once.
+//! Polls of the timer's count and of its flag: where they are, and how many of them can pass at once.
 //!
 //! Those polls pass that read a count above 0, or no flag, and end before the bus has to settle. Once the flag was
 //! cleared after the underflow no cycle sets it again, so then polls pass up to the frame's end. Polls by code in RAM
