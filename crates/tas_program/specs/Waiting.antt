@@ -5,19 +5,17 @@ use Rattle.clap.specs.Walk.{Text}
 use Rattle.tas_engines.specs.declared.fault.RunFault.{RunFault}
 use Rattle.tas_engines.specs.declared.fault.RunFault.TheVariants.{Memory}
 use Rattle.tas_engines.specs.Output.{StopsWriting}
-use Rattle.tas_words.specs.declared.invocation.Invocation.{Invocation}
-use Rattle.tas_words.specs.declared.invocation.Invocation.TheVariants.{Do, Save, Show, Refuse, NoMemory}
+use Rattle.tas_words.specs.declared.task.Task.{Task}
 use Rattle.tas_words.specs.Waiting.{waits_for}
 
 -- the line for what is waited for
 abbrev pub waiting_line : Text → Text
 waiting_line text = codes "waiting: " ++ text ++ codes "\n"
 
--- the line before an invocation is carried out: at a terminal one of a task that reads standard input whole, else none
-abbrev pub line_before : {A : Type 0} → (at_terminal : Bool) → Invocation A → Option Text
-line_before true (Do chosen) = option_map waiting_line (waits_for chosen)
-line_before true (Save chosen file) = option_map waiting_line (waits_for chosen)
-line_before _ _ = None
+-- the line before a task reads: at a terminal one of a task that reads standard input whole, else none
+abbrev pub line_before : (at_terminal : Bool) → Task → Option Text
+line_before true chosen = option_map waiting_line (waits_for chosen)
+line_before false chosen = None
 
 -- a line is written, where there is one, and nothing else
 abbrev pub Tells : Option Text → Option (List ℕ) → Option (List ℕ) → Type 0

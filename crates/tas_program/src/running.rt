@@ -326,6 +326,8 @@ pub fn run_task<
         Ok(permit) => permit,
         Err(fault) => return Err(TaskFault::Word(fault)),
     };
+    // A line that can't be written changes nothing.
+    let _ = tell_waiting(alloc, folder.has_terminal(), task, &mut streams.errors);
     let end = run_engine(
         rt,
         global,
@@ -432,7 +434,8 @@ pub fn carry_out<
 }
 
 /// The whole program: reads the words, the first of which is its name, and does what they ask for. clap and `Task::Desk` take their
-/// memory from `global` alone, all else from `alloc`. Somebody at a terminal is told first what a task waits for ([`tell_waiting`]).
+/// memory from `global` alone, all else from `alloc`. Somebody at a terminal is told what a task waits for ([`tell_waiting`]), once no word
+/// of it is at fault.
 pub fn run_program<
     T: Wait + Threads + Sync,
     A: Allocator + Copy + Send + Sync,
@@ -457,13 +460,6 @@ pub fn run_program<
     match collect_words(alloc, words) {
         Ok(words) => {
             let invocation = read_invocation(global, alloc, words.as_slice());
-            // A hint that can't be written changes nothing.
-            let _ = tell_waiting(
-                alloc,
-                folder.has_terminal(),
-                &invocation,
-                &mut streams.errors,
-            );
             carry_out(rt, global, alloc, invocation, folder, streams)
         }
         Err(invocation) => carry_out(rt, global, alloc, invocation, folder, streams),

@@ -6,7 +6,9 @@ ghost use Rattle.tas_program.specs.Program.{IsSaveRun, SavesTask, held_fault, sa
 
 use crate::directory::Names;
 use crate::running::run_engine;
-use crate::{Directory, Folder, Permit, SaveFault, Streams, TaskFault, check_output, save};
+use crate::{
+    Directory, Folder, Permit, SaveFault, Streams, TaskFault, check_output, save, tell_waiting,
+};
 use std::alloc::{Allocator, Global};
 use std::io::{Read, Write};
 use std::sync::Wait;
@@ -64,6 +66,8 @@ pub fn save_run<
         (D.files directory.old) (D.files directory.new) result }
 {
     let mut text = Vec::new(alloc);
+    // A line that can't be written changes nothing.
+    let _ = tell_waiting(alloc, folder.has_terminal(), task, &mut streams.errors);
     let end = run_engine(
         rt,
         global,

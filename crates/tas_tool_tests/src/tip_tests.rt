@@ -38,7 +38,7 @@ static TIPS: [Refused<'static>; 9] = [
     ),
     (
         &["edit", "game.bin", "fix.script", "game.movie"],
-        b"error: unexpected argument 'game.movie' found\n\n  tip: the movie is read from standard input: tas edit game.bin fix.script < game.movie > new.movie\n\nUsage: tas edit [OPTIONS] <CART> <SCRIPT> < MOVIE\n\nFor more information, try '--help'.\n",
+        b"error: unexpected argument 'game.movie' found\n\n  tip: the movie is read from standard input: tas edit game.bin fix.script -o new.movie < game.movie\n\nUsage: tas edit [OPTIONS] <CART> <SCRIPT> < MOVIE\n\nFor more information, try '--help'.\n",
     ),
     (
         &["script", "game.script"],

@@ -16,7 +16,8 @@ use std::thread::Threads;
 use tas_program::{Folder, OrdinaryFile, Permit, Streams, run_program};
 use test_streams::{Failure, Room, Taker};
 
-/// A folder whose file `game.bin` is this cartridge, and each other one this movie; with a terminal, or without one.
+/// A folder whose file `game.bin` is this cartridge, and each other one this movie; `same` is a second name of the cartridge's file. It has a
+/// terminal, or none.
 #[derive(Clone, Copy)]
 struct Place<'a> {
     game: &'a [u8],
@@ -32,15 +33,21 @@ impl<'a> Folder for Place<'a> {
     ghost bytes_of = { λ s name. Some
         (if pointwise nat_eq name (codes "game.bin") then s.game.now else s.movie.now) };
 
-    fn look(&self, _name: &str) -> Option<OrdinaryFile> {
-        None
+    fn look(&self, name: &str) -> Option<OrdinaryFile> {
+        match name {
+            "game.bin" | "same" => Some(OrdinaryFile {
+                device: 1,
+                number: 1,
+                len: 4096,
+            }),
+            _ => None,
+        }
     }
 
     fn open(&self, name: &str) -> io::Result<&'a [u8]> {
-        if name == "game.bin" {
-            Ok(self.game)
-        } else {
-            Ok(self.movie)
+        match name {
+            "game.bin" => Ok(self.game),
+            _ => Ok(self.movie),
         }
     }
 
@@ -56,7 +63,8 @@ impl<'a> Folder for Place<'a> {
 /// The words, and the line, by hand.
 type Case<'a> = (&'a [&'a str], &'a str);
 
-static CASES: [Case<'static>; 21] = [
+/// A word at fault is reported without it.
+static CASES: [Case<'static>; 23] = [
     (
         &["trace", "3"],
         "waiting: the cartridge is read from standard input: tas trace 3 < game.bin\n",
@@ -67,7 +75,7 @@ static CASES: [Case<'static>; 21] = [
     ),
     (
         &["migrate", "game.bin"],
-        "waiting: the movie is read from standard input: tas migrate game.bin < old.movie > new.movie\n",
+        "waiting: the movie is read from standard input: tas migrate game.bin -o new.movie < old.movie\n",
     ),
     (
         &["shot", "game.bin", "0"],
@@ -99,11 +107,11 @@ static CASES: [Case<'static>; 21] = [
     ),
     (
         &["edit", "game.bin", "script"],
-        "waiting: the movie is read from standard input: tas edit game.bin fix.script < game.movie > new.movie\n",
+        "waiting: the movie is read from standard input: tas edit game.bin fix.script -o new.movie < game.movie\n",
     ),
     (
         &["cut", "game.bin", "0", "1"],
-        "waiting: the movie is read from standard input: tas cut game.bin 60 120 < game.movie > new.movie\n",
+        "waiting: the movie is read from standard input: tas cut game.bin 60 120 -o new.movie < game.movie\n",
     ),
     (
         &["diff", "game.bin", "old"],
@@ -122,6 +130,11 @@ static CASES: [Case<'static>; 21] = [
     (&["desk", "game.bin", "movie", "in0", "out0"], ""),
     (&["shot", "game.bin"], ""),
     (&["shot", "--help"], ""),
+    (&["cut", "game.bin", "0", "1", "-o", "same"], ""),
+    (
+        &["cut", "game.bin", "0", "1", "-o", "new"],
+        "waiting: the movie is read from standard input: tas cut game.bin 60 120 -o new.movie < game.movie\n",
+    ),
     (&["--version"], ""),
 ];
 

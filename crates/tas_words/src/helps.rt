@@ -118,7 +118,7 @@ are played as one.
 
 Example:
   examples/cart joystick > joystick.bin
-  ./tas edit joystick.bin examples/mend.script < examples/joystick.movie > mended.movie
+  ./tas edit joystick.bin examples/mend.script -o mended.movie < examples/joystick.movie
   ./tas compare joystick.bin examples/joystick.movie < mended.movie";
 
 pub(crate) const LAG_HELP: &str = "\

@@ -99,7 +99,7 @@ const OLD: Word = Word {
 
 const OUTPUT: Word = Word {
     name: "FILE",
-    help: "Replaces FILE by the output once that is whole; standard output stays empty",
+    help: "Replaces FILE with the output once that is whole; standard output stays empty",
     kind: WordKind::Output,
 };
 
@@ -132,7 +132,7 @@ static FIRST_SUBCOMMANDS: [Subcommand; 10] = [
         name: "migrate",
         usage: "tas migrate [OPTIONS] <CART> < MOVIE",
         tip: Some(
-            "the movie is read from standard input: tas migrate game.bin < old.movie > new.movie",
+            "the movie is read from standard input: tas migrate game.bin -o new.movie < old.movie",
         ),
         about: "Writes a movie text, older ones too, as a text of runs ('a26movie 2')",
         help: MIGRATE_HELP,
@@ -282,7 +282,7 @@ static LATER_SUBCOMMANDS: [Subcommand; 6] = [
         name: "edit",
         usage: "tas edit [OPTIONS] <CART> <SCRIPT> < MOVIE",
         tip: Some(
-            "the movie is read from standard input: tas edit game.bin fix.script < game.movie > new.movie",
+            "the movie is read from standard input: tas edit game.bin fix.script -o new.movie < game.movie",
         ),
         about: "Makes the edits of a script on a movie and writes its text",
         help: EDIT_HELP,
@@ -308,7 +308,7 @@ static LATER_SUBCOMMANDS: [Subcommand; 6] = [
         name: "cut",
         usage: "tas cut [OPTIONS] <CART> <FROM> <TO> < MOVIE",
         tip: Some(
-            "the movie is read from standard input: tas cut game.bin 60 120 < game.movie > new.movie",
+            "the movie is read from standard input: tas cut game.bin 60 120 -o new.movie < game.movie",
         ),
         about: "Writes the text of the movie of some frames of a movie alone",
         help: CUT_HELP,
