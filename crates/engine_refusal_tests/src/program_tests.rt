@@ -52,7 +52,7 @@ impl<'a> Folder for TwoFiles<'a> {
         Ok(Taker::new(self.alloc, 1000, Room::Bytes(1000), Failure::Error))
     }
 
-    fn sync(&self, _sink: &mut Taker) -> io::Result<()> {
+    fn sync(&self, _name: &str, _sink: &mut Taker) -> io::Result<()> {
         Ok(())
     }
 

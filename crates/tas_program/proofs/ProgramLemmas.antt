@@ -24,6 +24,7 @@ use Rattle.tas_program.specs.declared.file_words.WordFault.{WordFault}
 use Rattle.tas_program.specs.FileWords.{WordsEnd, first_fault}
 use Rattle.tas_program.specs.OutputWords.{OutputEnds}
 use Rattle.tas_program.specs.Files.{FileBytes}
+use Rattle.tas_program.specs.Saving.{FileSteps}
 use Rattle.tas_program.specs.Streams.{StreamBytes}
 
 -- a task isn't begun, since a word is at fault
@@ -32,9 +33,9 @@ pub not_begun : (files : FileBytes) (chosen : Task) (old : StreamBytes) (end : R
 not_begun files chosen old end fault is (seen, are, first) = (seen, are, rw (first, is) (refl, refl))
 
 -- the same of a task whose output replaces a file
-pub not_saved : (files : FileBytes) (chosen : Task) (name : List ℕ) (old : StreamBytes) (end : Result Permit WordFault) (fault : WordFault) → end ≡ Err fault
-    → OutputEnds files.shown chosen name end → IsSaveRun files chosen name old old (Err (Word fault))
-not_saved files chosen name old end fault is (named, seen, file, words, inputs, shown, first) =
+pub not_saved : (steps : FileSteps) (files : FileBytes) (chosen : Task) (name : List ℕ) (old : StreamBytes) (end : Result Permit WordFault) (fault : WordFault) → end ≡ Err fault
+    → OutputEnds files.shown chosen name end → IsSaveRun steps files chosen name old old (Err (Word fault))
+not_saved steps files chosen name old end fault is (named, seen, file, words, inputs, shown, first) =
     (named, seen, file, words, inputs, shown, rw (first, is) (refl, refl))
 
 pub task_ends : (files : FileBytes) (chosen : Task) (old new : StreamBytes) (end : Result (Unit {0}) TaskFault) → IsTaskRun files chosen old new end → TaskEnds files chosen old new (end_status end)

@@ -4,7 +4,7 @@ use Rattle.std.proofs.lemmas.Slice.Eq.{bytes_eq-Decides}
 use Rattle.std.specs.Io.KnownBytes.{Appends}
 use Rattle.std.specs.Str.{bytes_eq}
 use Rattle.clap.specs.Walk.{Text}
-use Rattle.tas_program.specs.Saving.{Files, AllStay, IsEmptyIn, IsPart, IsReplaced, WasAbsent, WhereKnown, made, moved, put}
+use Rattle.tas_program.specs.Saving.{Files, FileSteps, AllStay, IsEmptyIn, IsGiven, IsPart, IsReplaced, WasAbsent, WhereKnown, made, moved, put}
 
 -- a name is that of itself
 same_name : (name : Text) → bytes_eq name name ≡ true
@@ -90,3 +90,17 @@ pub is_replaced_named : (file part said : Text) (bytes : List ℕ) (old new kept
     → kept ≡ option_map (λ files. put files said (Some bytes)) new → last ≡ option_map (moved said file) kept → WhereKnown (IsReplaced file bytes) old last
 is_replaced_named file part said bytes old new kept last same beside absent makes keeps moves =
     is_replaced file said bytes old new kept last (subst (IsPart file) (sym same) beside) (subst (λ p. WasAbsent p old) (sym same) absent) (makes ∙ ap (λ p. option_map (made p) old) (sym same)) keeps moves
+
+-- the steps by which a file was given bytes
+pub given_named : (steps : FileSteps) (file part said : Text) (bytes : List ℕ) (held : Option (List ℕ)) → said ≡ part → IsPart file part → steps.made part held
+    → ((held' : Option (List ℕ)) × Appends held held' bytes × steps.kept said held') → steps.moved said file → IsGiven steps file bytes
+given_named steps file part said bytes held same beside makes (held', appends, keeps) moves = record {
+  part = part;
+  held = held;
+  held' = held';
+  beside = beside;
+  made = makes;
+  written = appends;
+  kept = subst (λ p. steps.kept p held') same keeps;
+  moved = subst (λ p. steps.moved p file) same moves;
+}

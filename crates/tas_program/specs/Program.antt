@@ -52,7 +52,7 @@ use Rattle.tas_program.specs.declared.saving.SaveFault.{SaveFault}
 use Rattle.tas_program.specs.declared.folder.OrdinaryFile.{OrdinaryFile}
 use Rattle.tas_program.specs.FileWords.{AreSeen, IsSeen, fault_or, first_fault}
 use Rattle.tas_program.specs.OutputWords.{AreInputsSeen, output_fault}
-use Rattle.tas_program.specs.Saving.{Files, SaveEnds}
+use Rattle.tas_program.specs.Saving.{Files, FileSteps, SaveEnds}
 use Rattle.tas_program.specs.Files.{FileBytes}
 use Rattle.tas_program.specs.Streams.{StreamBytes}
 
@@ -161,32 +161,32 @@ saved_end (Ok u) = Ok u
 saved_end (Err fault) = Err (NotSaved fault)
 
 -- what comes of the file once an engine has ended, with this text as its output: it is replaced by the text, where the engine's task is done
-abbrev pub SavedAfter : Result (Unit {0}) ToolFault → (name text : List ℕ) → (files files' : Option Files) → Result (Unit {0}) TaskFault → Type 0
-SavedAfter (Ok _) name text files files' end = (saved : Result (Unit {0}) SaveFault) × (end ≡ saved_end saved) × SaveEnds name text files files' saved
-SavedAfter (Err fault) name text files files' end = (end ≡ Err (Tool (held_fault fault))) × (files' ≡ files)
+abbrev pub SavedAfter : FileSteps → Result (Unit {0}) ToolFault → (name text : List ℕ) → (files files' : Option Files) → Result (Unit {0}) TaskFault → Type 0
+SavedAfter steps (Ok _) name text files files' end = (saved : Result (Unit {0}) SaveFault) × (end ≡ saved_end saved) × SaveEnds steps name text files files' saved
+SavedAfter steps (Err fault) name text files files' end = (end ≡ Err (Tool (held_fault fault))) × (files' ≡ files)
 
 -- a task is done, and its output replaces a file: nothing is written to standard output
-pub record SavesTask (read : FileBytes) (chosen : Task) (name : List ℕ) (old new : StreamBytes) (files files' : Option Files) (end : Result (Unit {0}) TaskFault) : Type 0 where
+pub record SavesTask (steps : FileSteps) (read : FileBytes) (chosen : Task) (name : List ℕ) (old new : StreamBytes) (files files' : Option Files) (end : Result (Unit {0}) TaskFault) : Type 0 where
   pub done : Result (Unit {0}) ToolFault
   pub text : List ℕ
   pub does : DoesTask read chosen (record { input = old.input; output = Some [] }) (record { input = new.input; output = Some text }) done
   pub silent : new.output ≡ old.output
-  pub saved : SavedAfter done name text files files' end
+  pub saved : SavedAfter steps done name text files files' end
 
 -- what is done after the words were looked at: where one is at fault, the task ends with that, and nothing is read or written; else it is
--- done and saved, in a directory of some files. These may be files that aren't known, as those of the system's folder are: of them it
--- says nothing
-abbrev pub SavesAfter : FileBytes → Task → List ℕ → Option WordFault → StreamBytes → StreamBytes → Result (Unit {0}) TaskFault → Type 0
-SavesAfter read chosen name (Some fault) old new end = (end ≡ Err (Word fault)) × (new ≡ old)
-SavesAfter read chosen name None old new end = (files files' : Option Files) × SavesTask read chosen name old new files files' end
+-- done and saved, by steps of the folder, in a directory of some files. These may be files that aren't known, as those of the system's folder
+-- are: of them it says nothing
+abbrev pub SavesAfter : FileSteps → FileBytes → Task → List ℕ → Option WordFault → StreamBytes → StreamBytes → Result (Unit {0}) TaskFault → Type 0
+SavesAfter steps read chosen name (Some fault) old new end = (end ≡ Err (Word fault)) × (new ≡ old)
+SavesAfter steps read chosen name None old new end = (files files' : Option Files) × SavesTask steps read chosen name old new files files' end
 
 -- a task is run whose output replaces a file: its words are seen as the folder shows their files, and the first one at fault decides, as for
 -- a task whose output replaces none; then one that is this file does, or this file
-abbrev pub IsSaveRun : FileBytes → Task → List ℕ → StreamBytes → StreamBytes → Result (Unit {0}) TaskFault → Type 0
-IsSaveRun read chosen name old new end =
+abbrev pub IsSaveRun : FileSteps → FileBytes → Task → List ℕ → StreamBytes → StreamBytes → Result (Unit {0}) TaskFault → Type 0
+IsSaveRun steps read chosen name old new end =
     (named : List SeenWord) × (seen : List SeenWord) × (file : Option OrdinaryFile)
     × AreSeen read.shown chosen named × AreInputsSeen read.shown chosen seen × IsSeen read.shown (Some name) file
-    × SavesAfter read chosen name (fault_or (first_fault named) (output_fault chosen seen file)) old new end
+    × SavesAfter steps read chosen name (fault_or (first_fault named) (output_fault chosen seen file)) old new end
 
 -- the program's end after a task: done where the task is, else a fault of its engine or of a word
 abbrev pub TaskEnds : FileBytes → Task → StreamBytes → StreamBytes → Status → Type 0
@@ -201,12 +201,12 @@ TextEnds text old new Fault = (fault : RunFault) × StopsWriting old new text fa
 TextEnds text old new Misuse = ⊥
 
 -- the program's end after an invocation: that of its task, whose output may replace a file; or it shows a text, and reads nothing; else nothing is read and nothing written
-abbrev pub CarriesOut : {A : Type 0} → FileBytes → Invocation A → StreamBytes → StreamBytes → Status → Type 0
-CarriesOut files (Do chosen) old new status = TaskEnds files chosen old new status
-CarriesOut files (Save chosen file) old new status = (end : Result (Unit {0}) TaskFault) × (status ≡ end_status end) × IsSaveRun files chosen file.now old new end
-CarriesOut files (Show text) old new status = (new.input ≡ old.input) × TextEnds (string_bytes text) old.output new.output status
-CarriesOut files (Refuse text) old new status = (status ≡ Misuse) × (new ≡ old)
-CarriesOut files NoMemory old new status = (status ≡ Fault) × (new ≡ old)
+abbrev pub CarriesOut : {A : Type 0} → FileSteps → FileBytes → Invocation A → StreamBytes → StreamBytes → Status → Type 0
+CarriesOut steps files (Do chosen) old new status = TaskEnds files chosen old new status
+CarriesOut steps files (Save chosen file) old new status = (end : Result (Unit {0}) TaskFault) × (status ≡ end_status end) × IsSaveRun steps files chosen file.now old new end
+CarriesOut steps files (Show text) old new status = (new.input ≡ old.input) × TextEnds (string_bytes text) old.output new.output status
+CarriesOut steps files (Refuse text) old new status = (status ≡ Misuse) × (new ≡ old)
+CarriesOut steps files NoMemory old new status = (status ≡ Fault) × (new ≡ old)
 
 -- what may be asked for by what the system gave: a task by its words alone
 abbrev pub IsAskedBy : {A : Type 0} → Result (IntoIter (String A) A) Error → Invocation A → Type 0
@@ -215,5 +215,5 @@ IsAskedBy {A = A} given (Save chosen file) = (words : List Text) × AreGiven giv
 IsAskedBy given _ = Unit {0}
 
 -- the program carries out what the words may ask for
-abbrev pub ProgramEnds : {A : Type 0} → Result (IntoIter (String A) A) Error → FileBytes → StreamBytes → StreamBytes → Status → Type 0
-ProgramEnds {A = A} given files old new status = (invocation : Invocation A) × IsAskedBy given invocation × CarriesOut files invocation old new status
+abbrev pub ProgramEnds : {A : Type 0} → Result (IntoIter (String A) A) Error → FileSteps → FileBytes → StreamBytes → StreamBytes → Status → Type 0
+ProgramEnds {A = A} given steps files old new status = (invocation : Invocation A) × IsAskedBy given invocation × CarriesOut steps files invocation old new status

@@ -1,7 +1,8 @@
 //! Opening files.
 
-ghost use Rattle.std.specs.Prelude.{◌≡◌, ℕ, List, Option, None, IfOk};
+ghost use Rattle.std.specs.Prelude.{◌≡◌, ℕ, List, Option, None, IfOk, OnOk};
 ghost use Rattle.tas_program.specs.FileWords.{IsShown};
+ghost use Rattle.tas_program.specs.Saving.{FileSteps, unknown_steps};
 
 use crate::Permit;
 use std::fs::{File, OpenOptions};
@@ -37,6 +38,9 @@ pub trait Folder {
 
     ghost shown: { Self → List ℕ → Option (Option OrdinaryFile) } = { λ _ _. None };
 
+    // The calls of such a folder that succeeded, where something is known of them.
+    ghost steps: { FileSteps } = { unknown_steps };
+
     /// The ordinary file with a name; none where it has another kind, or where there is none or it can't be looked at. Nothing is opened.
     fn look(&self, name: &str) -> Option<OrdinaryFile>
         ensures { IsShown (shown self.now name.now) result };
@@ -52,19 +56,25 @@ pub trait Folder {
         ensures { IfOk result (λ sink. Self.Sink.contents sink ≡ held_by self.now name.now) };
 
     /// Makes a file without bytes, and opens it for writing. An error where there is something of that name, or no file can be made.
-    fn create_new(&self, _permit: Permit, _name: &str) -> io::Result<Self::Sink> {
+    fn create_new(&self, _permit: Permit, _name: &str) -> io::Result<Self::Sink>
+        ensures { IfOk result (λ sink. steps.made _name.now (Self.Sink.contents sink)) }
+    {
         Err(io::Error::from(ErrorKind::Unsupported))
     }
 
-    /// Brings all that was written to a file to the disk.
-    fn sync(&self, _sink: &mut Self::Sink) -> io::Result<()> {
+    /// Brings all that was written to the file of this name to the disk.
+    fn sync(&self, _name: &str, _sink: &mut Self::Sink) -> io::Result<()>
+        ensures { OnOk result (steps.kept _name.now (Self.Sink.contents _sink.old)) }
+    {
         Err(io::Error::from(ErrorKind::Unsupported))
     }
 
     /// Gives a file another name, in one step; an ordinary file that had this name is gone then, and the new one has its permissions. An
     /// error where something else has it, as a link, or a file without a write permission; or where that fails, or the permissions can't be
     /// set: then both names stand for the files that they stood for.
-    fn rename(&self, _permit: Permit, _from: &str, _to: &str) -> io::Result<()> {
+    fn rename(&self, _permit: Permit, _from: &str, _to: &str) -> io::Result<()>
+        ensures { OnOk result (steps.moved _from.now _to.now) }
+    {
         Err(io::Error::from(ErrorKind::Unsupported))
     }
 
@@ -111,7 +121,7 @@ impl Folder for HostRuntime {
             .open(self, name)
     }
 
-    fn sync(&self, sink: &mut File) -> io::Result<()> {
+    fn sync(&self, _name: &str, sink: &mut File) -> io::Result<()> {
         sink.sync_data()
     }
 

@@ -401,11 +401,12 @@ pub fn carry_out<
 ) -> Status
     // The program ends with 0 exactly where the task is done, or the text that was asked for is written whole, with 1
     // after a fault, and with 2, nothing read and nothing written to standard output, where a word is at fault or the
-    // words aren't understood. Where the output replaces a file, the end is 0 only where the engine is done; what comes of
-    // the file in this folder is no part of the clause.
-    // Refused: fault_ends_with_status_0, word_at_fault_ends_with_status_1*, misuse_ends_with_status_1*,
+    // words aren't understood. Where the output replaces a file, the end is 0 only where the engine is done and the file was
+    // given the output, by calls of this folder that succeeded.
+    // Refused: fault_ends_with_status_0, program_saves_under_another_name, word_at_fault_ends_with_status_1*, misuse_ends_with_status_1*,
     // misuse_is_shown_as_help*.
-    ensures { CarriesOut (files_by (F.bytes_of folder.now) (F.held_by folder.now) (F.shown folder.now))
+    ensures { CarriesOut F.steps
+        (files_by (F.bytes_of folder.now) (F.held_by folder.now) (F.shown folder.now))
         invocation.entry streams.old streams.new result }
 {
     match invocation {
@@ -452,9 +453,10 @@ pub fn run_program<
     streams: &mut Streams<R, W, E>,
 ) -> Status
     // The whole program carries out what the system's words may ask for: a task only where they name its command; where
-    // the system gave no words, none. What comes of a file that an output replaces is no part of it, either.
+    // the system gave no words, none.
     // Refused: any_words_run_a_script.
-    ensures { ProgramEnds words (files_by (F.bytes_of folder.now) (F.held_by folder.now) (F.shown folder.now))
+    ensures { ProgramEnds words F.steps
+        (files_by (F.bytes_of folder.now) (F.held_by folder.now) (F.shown folder.now))
         streams.old streams.new result }
 {
     match collect_words(alloc, words) {

@@ -59,9 +59,10 @@ pub fn save_run<
     streams: &mut Streams<R, W, E>,
 ) -> Result<(), TaskFault>
     // A task whose output replaces a file is done as without, but its output is the text that the file gets, and
-    // standard output has nothing. After an engine's fault no file is touched.
+    // standard output has nothing. After an engine's fault no file is touched, in a directory whose files are known.
     // Refused: output_of_a_fault_is_saved.
-    ensures { SavesTask (files_by (F.bytes_of folder.now) (F.held_by folder.now) (F.shown folder.now))
+    ensures { SavesTask D.steps
+        (files_by (F.bytes_of folder.now) (F.held_by folder.now) (F.shown folder.now))
         task.entry file.now streams.old streams.new
         (D.files directory.old) (D.files directory.new) result }
 {
@@ -102,8 +103,12 @@ pub fn save_task<
     folder: &F,
     streams: &mut Streams<R, W, E>,
 ) -> Result<(), TaskFault>
-    // Refused: none, see `check_output`.
-    ensures { IsSaveRun (files_by (F.bytes_of folder.now) (F.held_by folder.now) (F.shown folder.now))
+    // What is wrong with a word comes first, as `check_output` says. A good end comes only after the engine is done and a
+    // new file was made beside this one, all of the output was written to that and brought to the disk, and it took this
+    // one's name: each by a call of this folder that succeeded.
+    // Refused: nothing_is_saved, output_is_saved_under_another_name.
+    ensures { IsSaveRun F.steps
+        (files_by (F.bytes_of folder.now) (F.held_by folder.now) (F.shown folder.now))
         task.entry file.now streams.old streams.new result }
 {
     match check_output(folder, task, file) {

@@ -11,6 +11,7 @@
 //! for its other end, so `talk` doesn't.
 
 ghost use Rattle.std.specs.Prelude.{◌≡◌, ◌⊎◌, ℕ, List, Option, Some, IfOk, IfErr, OnErr, OnOk, option_map, string_bytes};
+ghost use Rattle.std.specs.Io.KnownBytes.{Appends};
 ghost use Rattle.tas_engines.specs.declared.fault.RunFault.{RunFault};
 ghost use Rattle.tas_program.specs.declared.saving.SaveFault.TheVariants.{Memory};
 ghost use Rattle.tas_program.specs.Saving.{SaveEnds, IsEmptyIn, IsPart, WasAbsent, made, put};
@@ -83,6 +84,8 @@ fn create_beside<A: Allocator + Copy, D: Directory>(
         ≡ option_map (made (string_bytes part.name)) (D.files directory.old)) }
     ensures empty { IfOk result (λ part.
         IsEmptyIn (D.files directory.old) (D.Sink.contents part.sink)) }
+    ensures step { IfOk result (λ part.
+        D.steps.made (string_bytes part.name) (D.Sink.contents part.sink)) }
     ensures fault { OnErr result (D.files directory.new ≡ D.files directory.old) }
 {
     for number in 0..PARTS {
@@ -119,6 +122,8 @@ fn fill<D: Directory>(
     requires { IsEmptyIn (D.files directory.old) (D.Sink.contents sink) }
     ensures ok { OnOk result (D.files directory.new
         ≡ option_map (λ files. put files part.now (Some bytes.now)) (D.files directory.old)) }
+    ensures steps { OnOk result ((held : Option (List ℕ))
+        × Appends (D.Sink.contents sink) held bytes.now × D.steps.kept part.now held) }
     ensures fault { OnErr result ((D.files directory.new ≡ D.files directory.old)
         ⊎ ((some : Option (List ℕ)) × (D.files directory.new
         ≡ option_map (λ files. put files part.now some) (D.files directory.old)))) }
@@ -143,10 +148,12 @@ pub fn save<A: Allocator + Copy, D: Directory>(
     bytes: &[u8],
 ) -> Result<(), SaveFault>
     // A file that is replaced has the new bytes after a good end, and its old ones after any fault; no other file is
-    // changed, and the new file beside it is gone, in a directory whose files are known.
+    // changed, and the new file beside it is gone, in a directory whose files are known. In any directory a good end
+    // comes only after a new file was made beside it, the bytes were written to that and brought to the disk, and it took
+    // the file's name.
     // Refused: file_is_renamed_before_all_is_written, refused_write_is_a_good_end, new_file_is_left,
     // new_file_is_left_after_a_failed_rename.
-    ensures { SaveEnds file.now bytes.now (D.files directory.old) (D.files directory.new) result }
+    ensures { SaveEnds D.steps file.now bytes.now (D.files directory.old) (D.files directory.new) result }
 {
     let Part { name, sink } = create_beside(alloc, directory, file)?;
     let part = name.as_str();

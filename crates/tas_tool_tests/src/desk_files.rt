@@ -171,7 +171,7 @@ impl<'a> Folder for DeskFolder<'a> {
         }
     }
 
-    fn sync(&self, _sink: &mut Sink<'a>) -> io::Result<()> {
+    fn sync(&self, _name: &str, _sink: &mut Sink<'a>) -> io::Result<()> {
         Ok(())
     }
 
